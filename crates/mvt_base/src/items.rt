@@ -1,0 +1,40 @@
+//! A list that contracts see as its items.
+ghost use Rattle.std.specs.Prelude.{◌≡◌, length};
+
+use std::marker::Model;
+
+/// A `Vec` that contracts see as the list of its items.
+///
+/// It is made of a `Vec`, and gives it back, without memory.
+#[derive(Debug, Drop)]
+pub struct Items<T> {
+    vec: Vec<T>,
+}
+
+impl<T> Model for Items<T> {
+    ghost use Rattle.std.specs.Prelude.{List};
+
+    ghost Value = { List T };
+
+    ghost view = { λ l. l.vec.items };
+}
+
+impl<T> Items<T> {
+    pub fn new(vec: Vec<T>) -> Self
+        ensures { result ≡ vec.items }
+    {
+        Items { vec }
+    }
+
+    pub fn as_slice(&self) -> &[T]
+        ensures { result.now ≡ self.now }
+    {
+        self.vec.as_slice()
+    }
+
+    pub fn into_vec(self) -> Vec<T>
+        ensures { result.items ≡ self }
+    {
+        self.vec
+    }
+}

@@ -1,0 +1,13 @@
+//! What the crates of the codec share: the limit, texts and lists that contracts see by their
+//! contents, and the words in which every crate states its rules (`specs/Rules.antt`).
+#![tactic(auto)]
+
+mod items;
+pub mod laws;
+mod text;
+
+pub use items::Items;
+pub use text::Text;
+
+/// The most bytes that an input, canonical bytes or a list of pool entries may have: 2^26.
+pub const LIMIT: u64 = 67_108_864;

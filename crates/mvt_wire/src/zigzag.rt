@@ -1,0 +1,45 @@
+//! Signed numbers as unsigned ones (Protocol Buffers, Encoding, "Signed Integers").
+ghost use Rattle.std.specs.Prelude.{◌≡◌};
+ghost use Rattle.mvt_wire.specs.Zigzag.{zig};
+
+/// The zigzag code of a number.
+#[inline]
+pub fn zigzag32(number: i32) -> u32
+    ensures { result ≡ zig number }
+{
+    if number >= 0 {
+        2 * number.cast_unsigned()
+    } else {
+        2 * (!number).cast_unsigned() + 1
+    }
+}
+
+/// The number that has this zigzag code.
+#[inline]
+pub fn unzigzag32(code: u32) -> i32
+    ensures { zig result ≡ code }
+{
+    let half = (code / 2).cast_signed();
+    if code % 2 == 0 { half } else { !half }
+}
+
+/// The zigzag code of a number.
+#[inline]
+pub fn zigzag64(number: i64) -> u64
+    ensures { result ≡ zig number }
+{
+    if number >= 0 {
+        2 * number.cast_unsigned()
+    } else {
+        2 * (!number).cast_unsigned() + 1
+    }
+}
+
+/// The number that has this zigzag code.
+#[inline]
+pub fn unzigzag64(code: u64) -> i64
+    ensures { zig result ≡ code }
+{
+    let half = (code / 2).cast_signed();
+    if code % 2 == 0 { half } else { !half }
+}
