@@ -1,6 +1,7 @@
 //! The readers and writers of std.
 ghost use Rattle.std.specs.Prelude.{◌≡◌, None};
 
+use super::failures::Failures;
 use super::{Sink, Source};
 use std::io::{ErrorKind, Read, Write};
 use std::marker::Model;
@@ -16,8 +17,7 @@ use std::marker::Model;
 pub struct Host<T> {
     inner: T,
     reads: u64,
-    failed: u64,
-    fault: Option<ErrorKind>,
+    failures: Failures,
     flushes: u64,
 }
 
@@ -29,8 +29,8 @@ impl<T> Model for Host<T> {
     ghost view = { λ h. record {
       inner = h.inner;
       reads = h.reads;
-      failed = h.failed;
-      fault = h.fault;
+      failed = h.failures.count;
+      fault = h.failures.last;
       flushes = h.flushes;
     } };
 }
@@ -42,8 +42,7 @@ impl<T> Host<T> {
         Host {
             inner,
             reads: 0,
-            failed: 0,
-            fault: None,
+            failures: Failures::none(),
             flushes: 0,
         }
     }
@@ -64,8 +63,7 @@ impl<T: Read> Source for Host<T> {
             Ok(count) => Ok(count),
             Err(error) => {
                 let kind = error.kind();
-                self.failed = self.failed.saturating_add(1);
-                self.fault = Some(kind);
+                self.failures.add(kind);
                 Err(kind)
             }
         }
@@ -85,15 +83,13 @@ impl<T: Write> Sink for Host<T> {
         match self.inner.write(piece) {
             Ok(count) => {
                 if count == 0 && !piece.is_empty() {
-                    self.failed = self.failed.saturating_add(1);
-                    self.fault = Some(ErrorKind::WriteZero);
+                    self.failures.add(ErrorKind::WriteZero);
                 }
                 Ok(count)
             }
             Err(error) => {
                 let kind = error.kind();
-                self.failed = self.failed.saturating_add(1);
-                self.fault = Some(kind);
+                self.failures.add(kind);
                 Err(kind)
             }
         }
@@ -105,8 +101,7 @@ impl<T: Write> Sink for Host<T> {
             Ok(()) => Ok(()),
             Err(error) => {
                 let kind = error.kind();
-                self.failed = self.failed.saturating_add(1);
-                self.fault = Some(kind);
+                self.failures.add(kind);
                 Err(kind)
             }
         }

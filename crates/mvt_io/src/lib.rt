@@ -1,6 +1,7 @@
 //! Readers and writers that count their failed calls, over those of std or over memory.
 #![tactic(auto)]
 
+mod failures;
 mod host;
 mod memory_sink;
 mod memory_source;

@@ -6,6 +6,7 @@ ghost use Rattle.mvt_io.specs.Kinds.{fault_after, write_fault};
 ghost use Rattle.mvt_io.specs.Devices.{write_answer, after_write, flush_answer, after_flush};
 
 use super::Sink;
+use super::failures::Failures;
 use std::alloc::{AllocError, Global};
 use std::io::ErrorKind;
 use std::marker::Model;
@@ -25,8 +26,7 @@ pub struct MemorySink {
     flush_fails: bool,
     calls: u64,
     flushes: u64,
-    failed: u64,
-    fault: Option<ErrorKind>,
+    failures: Failures,
 }
 
 impl Model for MemorySink {
@@ -43,8 +43,8 @@ impl Model for MemorySink {
       flush_fails = s.flush_fails;
       calls = s.calls;
       flushes = s.flushes;
-      failed = s.failed;
-      fault = s.fault;
+      failed = s.failures.count;
+      fault = s.failures.last;
     } };
 
     ghost invariant = { λ s. (vec_len s.bytes ≤ s.room) × (s.room ≤ vec_capacity s.bytes) };
@@ -82,8 +82,7 @@ impl MemorySink {
             flush_fails,
             calls: 0,
             flushes: 0,
-            failed: 0,
-            fault: None,
+            failures: Failures::none(),
         })
     }
 
@@ -134,15 +133,13 @@ impl Sink for MemorySink {
         let left = self.room - self.bytes.len();
         self.calls = number.saturating_add(1);
         if number >= self.fails_from || (left == 0 && !piece.is_empty()) {
-            self.failed = self.failed.saturating_add(1);
-            self.fault = Some(ErrorKind::Other);
+            self.failures.add(ErrorKind::Other);
             return Err(ErrorKind::Other);
         }
         let count = self.step.min(piece.len()).min(left);
         self.bytes.extend_from_slice(&piece[..count]).unwrap();
         if count == 0 && !piece.is_empty() {
-            self.failed = self.failed.saturating_add(1);
-            self.fault = Some(ErrorKind::WriteZero);
+            self.failures.add(ErrorKind::WriteZero);
         }
         Ok(count)
     }
@@ -160,8 +157,7 @@ impl Sink for MemorySink {
     {
         self.flushes = self.flushes.saturating_add(1);
         if self.flush_fails {
-            self.failed = self.failed.saturating_add(1);
-            self.fault = Some(ErrorKind::Other);
+            self.failures.add(ErrorKind::Other);
             return Err(ErrorKind::Other);
         }
         Ok(())

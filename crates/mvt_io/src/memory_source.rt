@@ -6,6 +6,7 @@ ghost use Rattle.mvt_io.specs.Kinds.{fault_after};
 ghost use Rattle.mvt_io.specs.Devices.{read_answer, after_read};
 
 use super::Source;
+use super::failures::Failures;
 use std::io::ErrorKind;
 use std::marker::Model;
 
@@ -21,8 +22,7 @@ pub struct MemorySource {
     step: usize,
     fails_from: u64,
     calls: u64,
-    failed: u64,
-    fault: Option<ErrorKind>,
+    failures: Failures,
 }
 
 impl Model for MemorySource {
@@ -36,8 +36,8 @@ impl Model for MemorySource {
       step = s.step;
       fails_from = s.fails_from;
       calls = s.calls;
-      failed = s.failed;
-      fault = s.fault;
+      failed = s.failures.count;
+      fault = s.failures.last;
     } };
 
     ghost invariant = { λ s. (s.at ≤ vec_len s.bytes) × (1 ≤ s.step) };
@@ -63,8 +63,7 @@ impl MemorySource {
             step,
             fails_from,
             calls: 0,
-            failed: 0,
-            fault: None,
+            failures: Failures::none(),
         }
     }
 
@@ -100,8 +99,7 @@ impl Source for MemorySource {
         let number = self.calls;
         self.calls = number.saturating_add(1);
         if number >= self.fails_from {
-            self.failed = self.failed.saturating_add(1);
-            self.fault = Some(ErrorKind::Other);
+            self.failures.add(ErrorKind::Other);
             return Err(ErrorKind::Other);
         }
         let left = &self.bytes[self.at..];

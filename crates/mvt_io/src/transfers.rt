@@ -31,11 +31,11 @@ pub fn read_all<R: Source>(alloc: Global, reader: &mut R) -> Result<Vec<u8>, Rea
     ensures kind { IfErr result (λ error. IsFaultOf error (R.fault reader.new)) }
     ensures memory { result ≡ Err ReadError.Memory → R.failed reader.new ≡ R.failed reader.old }
 {
-    read_up_to(alloc, reader, LIMIT + 1)
+    read_up_to(alloc, reader, LIMIT as usize + 1)
 }
 
 // All bytes that the reader has left, but at most so many.
-fn read_up_to<R: Source>(alloc: Global, reader: &mut R, most: u64) -> Result<Vec<u8>, ReadError>
+fn read_up_to<R: Source>(alloc: Global, reader: &mut R, most: usize) -> Result<Vec<u8>, ReadError>
     ensures front { IfOk result (λ bytes. Consumes (R.left reader.old) (R.left reader.new) bytes.items) }
     ensures bytes { IfOk result (λ bytes. IfSome (R.left reader.old)
         (λ left. bytes.items ≡ take most left)) }
@@ -52,17 +52,13 @@ fn read_up_to<R: Source>(alloc: Global, reader: &mut R, most: u64) -> Result<Vec
     let mut piece = [0; PIECE];
     let mut missing = most;
     while missing > 0 {
-        let asked = if missing < PIECE as u64 {
-            missing as usize
-        } else {
-            PIECE
-        };
+        let asked = missing.min(PIECE);
         let count = reader.read(&mut piece[..asked]).map_err(ReadError::Read)?;
         if count == 0 {
             break;
         }
         bytes.extend_from_slice(&piece[..count])?;
-        missing -= count as u64;
+        missing -= count;
     }
     Ok(bytes)
 }
