@@ -5,7 +5,7 @@ use Rattle.clap.specs.declared.error.Error.{Error}
 use Rattle.clap.specs.declared.error.kind.ErrorKind.TheVariants.{OutOfMemory}
 use Rattle.clap.proofs.OnLiterals.{clap_on_literals}
 use Rattle.clap.specs.Words.{App, fault_of, is_simple_and_free, kind_of}
-use Rattle.mvt_cli.specs.Words.{mvt, faults_in}
+use Rattle.mvt_cli.specs.Words.{mvt, faults_in, IsPlainLine}
 
 pub mvt_free : is_simple_and_free mvt ≡ true
 unfolding clap_on_literals mvt
@@ -37,3 +37,9 @@ accepted a text words is some none =
 pub refused : {A : Type 0} → (a : App) (text : A → List ℕ) (words : List A) (e : Error) → a ≡ mvt → (length words == 0) ≡ false → (is_simple_and_free a ≡ true → HasKind (fault_of a (map text words)) e) → kind_of e ≢ OutOfMemory → faults_in (map text words) ≢ []
 refused a text words e is some kinds other none =
     some_fault (fault_of a (map text words)) e (kinds (ap is_simple_and_free is ∙ mvt_free)) other (ap (λ (x : App). fault_of x (map text words)) is ∙ sym (given_to_clap text words some) ∙ none)
+
+pub plain_taken : (words : List (List ℕ)) → IsPlainLine words → faults_in words ≡ []
+plain_taken [] h = refl
+plain_taken (name ∷ []) h = name_alone name
+plain_taken (name ∷ word ∷ []) h = rw h (fields_alone name)
+plain_taken (name ∷ word ∷ more ∷ words) h = absurd h

@@ -1,2 +1,4 @@
+pub mod Failures
 pub mod Refused
 pub mod Words
+pub mod Output

@@ -7,6 +7,8 @@ ghost use Rattle.mvt_cli.specs.Refused.{IsUsage};
 use clap::error::ErrorKind;
 use clap::{Command, Error};
 use std::alloc::{AllocError, Global};
+use std::rt::Env;
+use std::{env, io};
 
 /// What a line asks for.
 #[derive(Clone, Copy, Debug, PartialEq, Eq)]
@@ -30,6 +32,18 @@ impl From<AllocError> for Refusal {
 
     fn from(_: AllocError) -> Self {
         Refusal::Memory
+    }
+}
+
+/// The words that the program was started with.
+pub fn arguments(rt: &(impl Env + AllocGlobal)) -> Result<Vec<String>, Refusal> {
+    match env::args(rt) {
+        Ok(words) => Ok(words.collect(rt.alloc())?),
+        Err(error) if error.kind() == io::ErrorKind::InvalidData => {
+            let text = String::from_str(rt.alloc(), "error: an argument isn't UTF-8\n")?;
+            Err(Refusal::Usage(text))
+        }
+        Err(_) => Err(Refusal::Memory),
     }
 }
 
