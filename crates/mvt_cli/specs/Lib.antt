@@ -2,3 +2,4 @@ pub mod Failures
 pub mod Refused
 pub mod Words
 pub mod Output
+pub mod Fields

@@ -1,5 +1,6 @@
 -- What a run puts on its output and its error stream, and its status.
-use Rattle.std.specs.Prelude.{◌≡◌, ℕ, ◌⊎◌, nat_lt, List, [], length, take, if◌then◌else◌, codes, string_bytes}
+use Rattle.std.specs.Prelude.{◌≡◌, ℕ, ◌⊎◌, List, [], ◌++◌, is_some, if◌then◌else◌, codes, string_bytes}
+use Rattle.std.specs.Option.{option_map_or}
 use Rattle.mvt_base.specs.declared.TheConstants.{LIMIT}
 use Rattle.mvt_cli.specs.declared.reply.Reply.{Reply}
 use Rattle.mvt_cli.specs.declared.words.Task.{Task}
@@ -7,6 +8,7 @@ use Rattle.mvt_cli.specs.declared.words.Task.TheVariants.{Fields}
 use Rattle.mvt_cli.specs.declared.failure.Failure.{Failure}
 use Rattle.mvt_cli.specs.declared.failure.Failure.TheVariants.{Read, Write, Memory}
 use Rattle.mvt_cli.specs.Failures.{line_of}
+use Rattle.mvt_cli.specs.Fields.{fields_lines, fields_fault, fault_text}
 
 -- what a run answers: its output, the line on its error stream, and its status
 pub record Answer : Type 0 where
@@ -14,11 +16,12 @@ pub record Answer : Type 0 where
   pub told : List ℕ
   pub status : ℕ
 
+-- what `fields` answers: the lines; and the line of the fault, if there is one, with a line feed
 unfoldable pub fields_answer : ℕ → List ℕ → Answer
 fields_answer limit input = record {
-  written = take limit input;
-  told = [];
-  status = if nat_lt limit (length input) then 1 else 0;
+  written = fields_lines limit input;
+  told = option_map_or (λ fault. fault_text fault ++ codes "\n") (fields_fault limit input) [];
+  status = if is_some (fields_fault limit input) then 1 else 0;
 }
 
 -- what a task answers for an input

@@ -2,9 +2,13 @@
 #![tactic(auto)]
 
 mod failure;
+mod fields;
 mod reply;
 mod run;
 mod words;
+
+#[cfg(test)]
+mod tests;
 
 use mvt_io::Host;
 use run::{refuse, run};

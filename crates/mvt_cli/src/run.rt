@@ -7,6 +7,7 @@ ghost use Rattle.mvt_cli.specs.Refused.{IsUsage};
 ghost use Rattle.mvt_cli.specs.Output.{output, fields_answer, Gives, IsReply, IsFailureLine, FailsAsTold};
 
 use crate::failure::Failure;
+use crate::fields::{fault_text, fields_text};
 use crate::reply::{Reply, deliver, tell};
 use crate::words::{Refusal, Task, read_words};
 use mvt_base::LIMIT;
@@ -122,11 +123,22 @@ fn list_fields<R: Source, W: Sink>(
     Ok(reply)
 }
 
-/// What `fields` answers for an input.
+/// What `fields` answers for an input. The line of the fault is made before anything is put out.
 fn fields_reply(alloc: Global, input: &[u8]) -> Result<Reply, AllocError>
     ensures answer { IfOk result (IsReply (fields_answer LIMIT input.now)) }
     ensures status { IfOk result (λ reply. reply.status < 2) }
 {
-    let _ = Vec::<u8>::with_capacity(alloc, input.len())?;
-    Err(AllocError)
+    let text = fields_text(alloc, input)?;
+    let mut told = String::new(alloc);
+    let mut status = 0;
+    if let Some(fault) = text.fault {
+        told = fault_text(alloc, &fault)?;
+        told.push_str("\n")?;
+        status = 1;
+    }
+    Ok(Reply {
+        written: text.lines,
+        told,
+        status,
+    })
 }
