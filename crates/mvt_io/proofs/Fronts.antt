@@ -1,7 +1,7 @@
 -- A front of the bytes that a writer is to take, and the rest that stays to be written.
 use Rattle.std.proofs.Common.{◌≡◌, ℕ, ◌+◌, ◌-◌, ◌≤◌, List, [], ◌++◌, length, take, drop, Option, Result, Ok, Err, OnErr, refl, sym, ap, ap₂, ◌∙◌, subst, arith, append_assoc, append-nil, length-append, length-take, length-drop, take-append-drop}
-use Rattle.std.proofs.lemmas.List.{drop-drop}
-use Rattle.std.proofs.Math.Seq.{take-append_seam}
+use Rattle.std.proofs.lemmas.List.{drop-drop, take-append-le}
+use Rattle.std.proofs.Math.Seq.{take-append_seam, take-append-add}
 use Rattle.std.proofs.lemmas.Grind.{common_steps}
 use Rattle.std.specs.Io.KnownBytes.{Appends, Keeps}
 use Rattle.std.proofs.KnownBytes.{Appends-nil, Appends-trans, Appends-kept}
@@ -50,3 +50,15 @@ given left all front rest at n is e h =
 pub on_err : {T E P : Type 0} (r : Result T E) → P → OnErr r P
 on_err (Ok x) p = tt
 on_err (Err e) p = p
+
+pub nothing_taken : (a b : Option (List ℕ)) (bytes : List ℕ) → Keeps a b → TakesPrefix a b bytes
+nothing_taken a b bytes kept = (0, omega arith, Appends-kept a a b [] (Appends-nil a) kept)
+
+-- a front of the middle ends in the whole
+middle : (n : ℕ) (xs ys zs : List ℕ) → n ≤ length ys → take (length xs + n) (xs ++ (ys ++ zs)) ≡ xs ++ take n ys
+middle n xs ys zs h = take-append-add xs (ys ++ zs) n ∙ ap (λ l. xs ++ l) (take-append-le n ys zs h)
+
+pub taken_after : (a b c : Option (List ℕ)) (before bytes after : List ℕ) → Appends a b before → TakesPrefix b c bytes
+    → TakesPrefix a c (before ++ (bytes ++ after))
+taken_after a b c before bytes after p q =
+    (length before + q.0, omega (arith, q.1, length-append before (bytes ++ after), length-append bytes after), subst (Appends a c) (sym (middle q.0 before bytes after q.1)) (Appends-trans a b c before (take q.0 bytes) p q.2))
