@@ -1,5 +1,5 @@
-use Rattle.mvt_io.proofs.Fronts.{nothing_taken}
+use Rattle.mvt_io.proofs.Fronts.{TakesPrefix-nil}
 use Rattle.mvt_io.proofs.laws.nothing_is_a_prefix.Goals as goal
 
 pub returns : goal.returns
-returns c = nothing_taken
+returns c = TakesPrefix-nil
