@@ -52,10 +52,12 @@ TakesPrefix-nil a b bytes kept = (0, omega arith, Appends-kept a a b [] (Appends
 middle : (n : ℕ) (xs ys zs : List ℕ) → n ≤ length ys → take (length xs + n) (xs ++ (ys ++ zs)) ≡ xs ++ take n ys
 middle n xs ys zs h = take-append-add xs (ys ++ zs) n ∙ ap (λ l. xs ++ l) (take-append-le n ys zs h)
 
-pub TakesPrefix-after : (a b c : Option (List ℕ)) (before bytes after : List ℕ) → Appends a b before → TakesPrefix b c bytes
-    → TakesPrefix a c (before ++ (bytes ++ after))
-TakesPrefix-after a b c before bytes after p q =
+pub TakesPrefix-after : (a b c : Option (List ℕ)) (before bytes after whole : List ℕ) → whole ≡ before ++ (bytes ++ after)
+    → Appends a b before → TakesPrefix b c bytes → TakesPrefix a c whole
+TakesPrefix-after a b c before bytes after whole e p q =
     let within : length before + q.0 ≤ length (before ++ (bytes ++ after)) =
     omega (arith, q.1, length-append before (bytes ++ after), length-append bytes after) in
     let taken : Appends a c (before ++ take q.0 bytes) = Appends-trans a b c before (take q.0 bytes) p q.2 in
-    (length before + q.0, within, subst (Appends a c) (sym (middle q.0 before bytes after q.1)) taken)
+    let front : TakesPrefix a c (before ++ (bytes ++ after)) =
+    (length before + q.0, within, subst (Appends a c) (sym (middle q.0 before bytes after q.1)) taken) in
+    subst (TakesPrefix a c) (sym e) front
