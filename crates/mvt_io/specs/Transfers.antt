@@ -1,5 +1,5 @@
 -- What reading a whole reader and writing a whole slice answer.
-use Rattle.std.specs.Prelude.{◌≡◌, ℕ, ◌≤◌, List, length, take, Option, Some, ⊤}
+use Rattle.std.specs.Prelude.{◌≡◌, ℕ, ◌≤◌, List, length, take, Option, Some, ⊤, codes}
 use Rattle.std.specs.Io.KnownBytes.{Appends}
 use Rattle.std.specs.declared.io.ErrorKind.{ErrorKind}
 use Rattle.mvt_io.specs.declared.read_error.ReadError.{ReadError}
@@ -14,6 +14,11 @@ IsReadFault (Read kind) = ⊤
 abbrev pub IsFaultOf : ReadError → Option ErrorKind → Type 0
 IsFaultOf Memory fault = ⊤
 IsFaultOf (Read kind) fault = fault ≡ Some kind
+
+-- how the error is printed
+abbrev pub read_error_text : ReadError → List ℕ
+read_error_text Memory = codes "out of memory"
+read_error_text (Read kind) = codes "read failed"
 
 -- a front of the bytes was taken
 abbrev pub TakesPrefix : Option (List ℕ) → Option (List ℕ) → List ℕ → Type 0

@@ -3,11 +3,14 @@
 
 mod failures;
 mod host;
+pub mod laws;
 mod memory_sink;
 mod memory_source;
 mod read_error;
 mod sink;
 mod source;
+#[cfg(test)]
+mod tests;
 mod transfers;
 
 pub use host::Host;

@@ -1,5 +1,4 @@
 //! Why a reader could not be read whole.
-ghost use Rattle.std.specs.Prelude.{◌≡◌};
 
 use std::alloc::AllocError;
 use std::error::Error;
@@ -14,6 +13,7 @@ pub enum ReadError {
 }
 
 impl From<AllocError> for ReadError {
+    ghost use Rattle.std.specs.Prelude.{◌≡◌};
     ghost use Rattle.mvt_io.specs.declared.read_error.ReadError.TheVariants.{Memory};
 
     ghost from_gives = { λ _ e. e ≡ Memory };
@@ -24,10 +24,15 @@ impl From<AllocError> for ReadError {
 }
 
 impl fmt::Display for ReadError {
+    ghost use Rattle.std.specs.Prelude.{Some};
+    ghost use Rattle.mvt_io.specs.Transfers.{read_error_text};
+
+    ghost output = { λ e. Some (read_error_text e) };
+
     fn fmt<W: fmt::Write>(&self, f: &mut fmt::Formatter<W>) -> fmt::Result {
         match self {
-            ReadError::Memory => write!(f, "out of memory"),
-            ReadError::Read(kind) => write!(f, "read failed: {kind}"),
+            ReadError::Memory => f.write_str("out of memory"),
+            ReadError::Read(_) => f.write_str("read failed"),
         }
     }
 }
