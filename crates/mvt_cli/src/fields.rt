@@ -64,11 +64,16 @@ pub struct FieldsText {
 pub fn fields_text(alloc: Global, input: &[u8]) -> Result<FieldsText, AllocError>
     ensures { IfOk result (IsFieldsText LIMIT input.now) }
 {
-    let limit = LIMIT as usize;
+    fields_within(alloc, input, LIMIT as usize)
+}
+
+/// The same for any limit.
+fn fields_within(alloc: Global, input: &[u8], limit: usize) -> Result<FieldsText, AllocError>
+    ensures { IfOk result (IsFieldsText limit input.now) }
+{
     let is_longer = input.len() > limit;
-    let front = if is_longer { &input[..limit] } else { input };
     let mut lines = String::new(alloc);
-    for field in Fields::new(front) {
+    for field in Fields::new(&input[..limit.min(input.len())]) {
         match field {
             Ok(field) => push_line(&mut lines, &field)?,
             Err(fault) => {
@@ -77,11 +82,15 @@ pub fn fields_text(alloc: Global, input: &[u8]) -> Result<FieldsText, AllocError
             }
         }
     }
-    let fault = if is_longer { Some(Fault { at: LIMIT, cause: Cause::TooLarge }) } else { None };
+    let fault = is_longer.then_some(Fault {
+        at: limit as u64,
+        cause: Cause::TooLarge,
+    });
     Ok(FieldsText { lines, fault })
 }
 
 /// Appends the line of a field: its offset, its number, its form, and its number or its length.
+#[tactic(auto, unfolding(crate::specs::Fields::field_line))]
 fn push_line(lines: &mut String, field: &Field<'_>) -> Result<(), AllocError>
     ensures { OnOk result (string_bytes lines.new ≡ string_bytes lines.old ++ field_line (entry_of field.now)) }
 {
@@ -117,6 +126,7 @@ fn fault_of(fault: WireFault, is_longer: bool) -> Fault
 
 /// The line of a fault, without a line end. A top-level field's own fault has no layer and no
 /// feature.
+#[tactic(auto, unfolding(crate::specs::Fields::fault_text))]
 pub fn fault_text(alloc: Global, fault: &Fault) -> Result<String, AllocError>
     ensures { IfOk result (λ text. string_bytes text ≡ text_of fault.now) }
 {

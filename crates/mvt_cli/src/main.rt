@@ -5,10 +5,9 @@ mod failure;
 mod fields;
 mod reply;
 mod run;
-mod words;
-
 #[cfg(test)]
 mod tests;
+mod words;
 
 use mvt_io::Host;
 use run::{refuse, run};

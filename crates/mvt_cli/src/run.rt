@@ -7,7 +7,7 @@ ghost use Rattle.mvt_cli.specs.Refused.{IsUsage};
 ghost use Rattle.mvt_cli.specs.Output.{output, fields_answer, Gives, IsReply, IsFailureLine, FailsAsTold};
 
 use crate::failure::Failure;
-use crate::fields::{fault_text, fields_text};
+use crate::fields::{FieldsText, fault_text, fields_text};
 use crate::reply::{Reply, deliver, tell};
 use crate::words::{Refusal, Task, read_words};
 use mvt_base::LIMIT;
@@ -28,7 +28,7 @@ pub fn run<R: Source, W: Sink, E: Sink>(
         Gives (output (task_in (map string_bytes words.now)) input) result
         (Appends (W.taken writer.old) (W.taken writer.new))
         (λ told. NoneFailed (E.failed errors.old) (E.failed errors.new)
-            → Appends (E.taken errors.old) (E.taken errors.new) told)) }
+        → Appends (E.taken errors.old) (E.taken errors.new) told)) }
     ensures flushed { result < 2 → W.flushes writer.new ≡ counted (W.flushes writer.old) }
 
     // A status of 3 has its cause in the reader or the writer, and want of memory none there.
@@ -124,21 +124,26 @@ fn list_fields<R: Source, W: Sink>(
 }
 
 /// What `fields` answers for an input. The line of the fault is made before anything is put out.
+#[tactic(auto, unfolding(crate::specs::Output::fields_answer))]
 fn fields_reply(alloc: Global, input: &[u8]) -> Result<Reply, AllocError>
     ensures answer { IfOk result (IsReply (fields_answer LIMIT input.now)) }
     ensures status { IfOk result (λ reply. reply.status < 2) }
 {
-    let text = fields_text(alloc, input)?;
-    let mut told = String::new(alloc);
-    let mut status = 0;
-    if let Some(fault) = text.fault {
-        told = fault_text(alloc, &fault)?;
-        told.push_str("\n")?;
-        status = 1;
+    let FieldsText { lines, fault } = fields_text(alloc, input)?;
+    match fault {
+        None => Ok(Reply {
+            written: lines,
+            told: String::new(alloc),
+            status: 0,
+        }),
+        Some(fault) => {
+            let mut told = fault_text(alloc, &fault)?;
+            told.push_str("\n")?;
+            Ok(Reply {
+                written: lines,
+                told,
+                status: 1,
+            })
+        }
     }
-    Ok(Reply {
-        written: text.lines,
-        told,
-        status,
-    })
 }
