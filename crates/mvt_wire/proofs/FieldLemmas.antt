@@ -1,17 +1,17 @@
 -- Fields: that `entry_at` is `IsFieldAt` and `IsRestCause`.
-use Rattle.std.proofs.Common.{◌≡◌, ◌≢◌, ℕ, zero, suc, ◌+◌, ◌-◌, ◌*◌, ◌/◌, ◌%◌, ◌^◌, ◌<◌, ◌≤◌, ◌⊎◌, inl, inr, Bool, true, false, cond, ltb, leb, eqb, List, [], ◌∷◌, ◌++◌, length, take, drop, get_or, Result, Ok, Err, refl, sym, ap, subst, ◌∙◌, arith, add-zero, zero-add, append_assoc, append-nil, lt-ltb, le-ltb, ltb-true, ltb-false, leb-true, eqb-true}
-use Rattle.std.proofs.lemmas.Bool.{cases_lt, cases_eq, cond-true, cond-false, cond_both, ne_eqb, lt-leb, le-leb, leb-false, eqb-false}
-use Rattle.std.proofs.lemmas.List.{length-append, length-drop, length-take-le, take_at, drop_at, take-append-drop, append_cancel_left}
+use Rattle.std.proofs.Common.{◌≡◌, ℕ, ◌+◌, ◌-◌, ◌*◌, ◌/◌, ◌%◌, ◌^◌, ◌<◌, ◌≤◌, inl, inr, cond, ltb, leb, eqb, List, ◌++◌, length, take, drop, Result, Ok, Err, refl, sym, ap, subst, ◌∙◌, arith, zero-add, append_assoc, lt-ltb, le-ltb, ltb-true, ltb-false, leb-true, eqb-true}
+use Rattle.std.proofs.lemmas.Bool.{cond-true, cond-false, cond_both, ne_eqb, lt-leb, le-leb, leb-false, eqb-false}
+use Rattle.std.proofs.lemmas.List.{length-append, length-drop, length-take-le, take-append-drop}
 use Rattle.std.proofs.Math.Seq.{take-add, take-append_seam, drop-append_seam}
 use Rattle.byteorder.specs.Endian.{little_number}
 use Rattle.byteorder.specs.Numbers.{little_from-append}
 use Rattle.mvt_wire.specs.declared.fault.WireCause.{WireCause}
-use Rattle.mvt_wire.specs.declared.fault.WireCause.TheVariants.{Truncated, VarintRange, FieldNumber, WireType}
-use Rattle.mvt_wire.specs.Varint.{groups_from, Spells, SpellsNone, spell_cause}
+use Rattle.mvt_wire.specs.declared.fault.WireCause.TheVariants.{Truncated}
+use Rattle.mvt_wire.specs.Varint.{Spells}
 use Rattle.mvt_wire.specs.Field.{Content, varint, fixed64, bytes, fixed32, wire_type, IsPayload, IsField, StartsNoField, Entry, body_size, IsFieldAt}
 use Rattle.mvt_wire.specs.Fronts.{◌>>=◌, number_at, Load, bytes_at, load_at, entry_with, field_with_tag, entry_at, cause_of, rest_cause}
 use Rattle.mvt_wire.specs.Rest.{IsPayloadCause, no_type, no_varint, no_length, past_end, no_eight, no_four, IsRestCause, no_tag, no_number, no_payload}
-use Rattle.mvt_wire.proofs.VarintLemmas.{number_spelled, number_seen, number_none, number_none_from, same_ok, pair_of}
+use Rattle.mvt_wire.proofs.VarintLemmas.{number_spelled, number_seen, number_none, number_none_from, pair_of}
 
 -- a step by what the first gave
 pub then_holds : {A B : Type 0} (P : Result B WireCause → Type 0) (r : Result A WireCause) (f : A → Result B WireCause)

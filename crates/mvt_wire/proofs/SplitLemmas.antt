@@ -1,18 +1,17 @@
 -- Splits: that the function `split_from` is the relation `SplitFrom`, and what more bytes change.
-use Rattle.std.proofs.Common.{◌≡◌, ◌≢◌, ℕ, zero, suc, ◌+◌, ◌-◌, ◌*◌, ◌%◌, ◌^◌, ◌<◌, ◌≤◌, ◌⊎◌, inl, inr, cond, ltb, List, [], ◌∷◌, ◌++◌, length, take, drop, Result, Ok, Err, refl, sym, ap, subst, ◌∙◌, arith, add-zero, zero-add, append_assoc, append-nil, add_assoc, lt-ltb, le-ltb}
+use Rattle.std.proofs.Common.{◌≡◌, ◌≢◌, ℕ, zero, suc, ◌+◌, ◌-◌, ◌%◌, ◌<◌, ◌≤◌, inl, inr, cond, List, [], ◌∷◌, ◌++◌, length, take, drop, Result, Ok, Err, refl, sym, ap, subst, ◌∙◌, arith, append_assoc, lt-ltb, le-ltb}
 use Rattle.std.proofs.lemmas.Bool.{cases_lt}
-use Rattle.std.proofs.lemmas.List.{length-append, length-drop, length-take-le, take_at, drop_at, drop-append-le, take-append-drop, take-append-le, append_cancel_left}
+use Rattle.std.proofs.lemmas.List.{length-append, length-drop, length-take-le, drop-append-le, take-append-drop, take-append-le}
 use Rattle.std.proofs.Math.Seq.{take-append_seam, drop-append_seam}
 use Rattle.mvt_wire.specs.declared.fault.WireCause.{WireCause}
-use Rattle.mvt_wire.specs.declared.fault.WireCause.TheVariants.{Truncated, VarintRange, FieldNumber, WireType}
-use Rattle.mvt_wire.specs.Varint.{Spells, SpellsNone, spell_cause}
-use Rattle.mvt_wire.specs.Field.{Content, varint, fixed64, bytes, fixed32, IsPayload, StartsNoField, Entry, body_size, IsFieldAt}
+use Rattle.mvt_wire.specs.declared.fault.WireCause.TheVariants.{Truncated, VarintRange}
+use Rattle.mvt_wire.specs.Varint.{SpellsNone, spell_cause}
+use Rattle.mvt_wire.specs.Field.{Content, varint, fixed64, bytes, fixed32, StartsNoField, Entry, body_size, IsFieldAt}
 use Rattle.mvt_wire.specs.Fields.{bytes_size, EndsBy}
-use Rattle.mvt_wire.specs.Fronts.{entry_at, rest_cause}
+use Rattle.mvt_wire.specs.Fronts.{entry_at}
 use Rattle.mvt_wire.specs.Rest.{IsPayloadCause, no_type, no_varint, no_length, past_end, no_eight, no_four, IsRestCause, no_tag, no_number, no_payload}
 use Rattle.mvt_wire.specs.Split.{SplitFrom, Parts, behind, no_fields, split_within, split_from}
-use Rattle.mvt_wire.proofs.VarintLemmas.{number_spelled, same_ok, pair_of}
-use Rattle.mvt_wire.proofs.FieldLemmas.{EntryMeans, entry_found, entry_front, entry_cause, entry_none, entry_why, entry_none_from}
+use Rattle.mvt_wire.proofs.FieldLemmas.{entry_found, entry_front, entry_none, entry_none_from}
 
 -- ---- one step of the function
 

@@ -1,5 +1,5 @@
 -- What `next_field`, a step of `Fields` and `field_span` give.
-use Rattle.std.proofs.Common.{◌≡◌, ◌≢◌, ℕ, zero, suc, ◌+◌, ◌-◌, ◌<◌, ◌≤◌, List, [], ◌∷◌, ◌++◌, length, take, drop, Option, None, Some, Result, Ok, Err, refl, sym, ap, subst, ◌∙◌, arith, add-zero, zero-add, append_assoc}
+use Rattle.std.proofs.Common.{◌≡◌, ◌≢◌, ℕ, suc, ◌+◌, ◌-◌, ◌<◌, ◌≤◌, List, [], ◌∷◌, ◌++◌, length, take, drop, None, Some, Ok, Err, refl, sym, ap, subst, ◌∙◌, arith, append_assoc}
 use Rattle.std.specs.Prelude.{slice_range}
 use Rattle.std.proofs.lemmas.List.{length-append, length-drop, length-take-le, take-append-drop, take_rest, drop-drop, drop_all}
 use Rattle.std.proofs.Math.Seq.{take-append_seam, drop-append_seam}
@@ -7,13 +7,13 @@ use Rattle.mvt_wire.specs.declared.fault.WireCause.{WireCause}
 use Rattle.mvt_wire.specs.declared.fault.WireCause.TheVariants.{Truncated}
 use Rattle.mvt_wire.specs.declared.fault.WireFault.{WireFault}
 use Rattle.mvt_wire.specs.declared.field.Field.{Field}
-use Rattle.mvt_wire.specs.Varint.{Spells, SpellsNone}
-use Rattle.mvt_wire.specs.Field.{Content, varint, fixed64, bytes, fixed32, IsPayload, IsField, StartsNoField, Entry, body_size, IsFieldAt, IsSliceAt, entry_of}
-use Rattle.mvt_wire.specs.Fields.{IsNext, bytes_size, EndsBy, GivesField}
+use Rattle.mvt_wire.specs.Varint.{SpellsNone}
+use Rattle.mvt_wire.specs.Field.{Content, varint, fixed64, bytes, fixed32, IsPayload, StartsNoField, Entry, body_size, IsFieldAt, IsSliceAt, entry_of}
+use Rattle.mvt_wire.specs.Fields.{bytes_size, EndsBy, GivesField}
 use Rattle.mvt_wire.specs.Fronts.{entry_at, rest_cause}
 use Rattle.mvt_wire.specs.Rest.{no_tag}
 use Rattle.mvt_wire.specs.Split.{Parts, behind, no_fields, split_from}
-use Rattle.mvt_wire.proofs.FieldLemmas.{entry_found, entry_none, entry_none_from, entry_why, rest_cause_is}
+use Rattle.mvt_wire.proofs.FieldLemmas.{entry_found, entry_none, entry_why, rest_cause_is}
 use Rattle.mvt_wire.proofs.SplitLemmas.{split_front, split_none, split_ends, bytes_size-le}
 
 nil_spells : SpellsNone []

@@ -1,9 +1,9 @@
 -- Varints: the sum of groups, and that `number_at` is `Spells`.
-use Rattle.std.proofs.Common.{◌≡◌, ℕ, zero, suc, ◌+◌, ◌-◌, ◌*◌, ◌%◌, ◌^◌, ◌<◌, ◌≤◌, ◌⊎◌, inl, inr, Bool, true, false, cond, ◌&&◌, ltb, List, [], ◌∷◌, ◌++◌, length, take, drop, get_or, slice_index, bit_or, bit_and, Result, Ok, Err, refl, sym, ap, subst, ◌∙◌, arith, add-zero, zero-add, add-one, pow-suc, pow-add, mod-lt, mod-eq_of_lt, lt-ltb, le-ltb, ltb-true, ltb-false}
+use Rattle.std.proofs.Common.{◌≡◌, ℕ, zero, suc, ◌+◌, ◌-◌, ◌*◌, ◌%◌, ◌^◌, ◌<◌, ◌≤◌, inl, inr, true, false, cond, List, [], ◌∷◌, ◌++◌, length, take, drop, get_or, bit_or, bit_and, Result, Ok, Err, refl, sym, ap, subst, ◌∙◌, arith, add-zero, zero-add, pow-suc, pow-add, mod-eq_of_lt, lt-ltb, le-ltb, ltb-true}
 use Rattle.std.proofs.Math.Pow.{pow_mono}
 use Rattle.std.proofs.lemmas.Bool.{cases_lt, cases_Bool, cond-true, cond-false, and_parts, and_from, and_left, and_right}
 use Rattle.std.proofs.lemmas.Nat.{row_fits, mod_below, shl_whole, or_shifted, or_comm, mul-add-lt, and_mask}
-use Rattle.std.proofs.lemmas.List.{length-append, length-take-le, get_or-take, get_or_append_left, take_at, take-append-drop, take_more, drop_more, append_cancel_left}
+use Rattle.std.proofs.lemmas.List.{length-append, length-take-le, get_or-take, take_at, take-append-drop, take_more, drop_more, append_cancel_left}
 use Rattle.mvt_wire.specs.declared.fault.WireCause.{WireCause}
 use Rattle.mvt_wire.specs.declared.fault.WireCause.TheVariants.{Truncated, VarintRange}
 use Rattle.mvt_wire.specs.Varint.{groups_from, Spells, SpellsNone, spell_cause}

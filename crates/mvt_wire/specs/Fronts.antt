@@ -1,6 +1,6 @@
 -- What stands at the front of a list of bytes, as functions. The laws `number_function` and
 -- `field_function` say that these are the relations `Spells`, `IsFieldAt` and `IsRestCause`.
-use Rattle.std.specs.Prelude.{◌≡◌, ℕ, suc, ◌+◌, ◌/◌, ◌%◌, ◌^◌, Bool, ◌&&◌, List, [], ◌∷◌, length, take, drop, Result, Ok, Err, if◌then◌else◌, nat_lt, nat_le, ◌==◌}
+use Rattle.std.specs.Prelude.{ℕ, suc, ◌+◌, ◌/◌, ◌%◌, ◌^◌, Bool, ◌&&◌, List, [], ◌∷◌, length, take, drop, Result, Ok, Err, if◌then◌else◌, nat_lt, nat_le, ◌==◌}
 use Rattle.byteorder.specs.Endian.{little_number}
 use Rattle.mvt_wire.specs.declared.fault.WireCause.{WireCause}
 use Rattle.mvt_wire.specs.declared.fault.WireCause.TheVariants.{Truncated, FieldNumber, WireType}

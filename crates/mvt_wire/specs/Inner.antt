@@ -1,5 +1,5 @@
 -- What the contracts of private functions cite.
-use Rattle.std.specs.Prelude.{ℕ, ◌≤◌, ◌+◌, List, length, Result, Ok, Err}
+use Rattle.std.specs.Prelude.{ℕ, Result, Ok, Err}
 use Rattle.mvt_wire.specs.declared.fault.WireCause.{WireCause}
 use Rattle.mvt_wire.specs.declared.field.Field.{Field}
 use Rattle.mvt_wire.specs.declared.field.Loaded.{Loaded}

@@ -1,5 +1,5 @@
 -- What stands at the front of a stream.
-use Rattle.std.specs.Prelude.{◌≡◌, ◌≢◌, ℕ, ◌<◌, ◌≤◌, List, length, take}
+use Rattle.std.specs.Prelude.{◌≡◌, ◌≢◌, ℕ, ◌≤◌, List, length, take}
 use Rattle.mvt_wire.specs.declared.span.Span.{Span}
 use Rattle.mvt_wire.specs.declared.span.Span.TheVariants as spans
 use Rattle.mvt_wire.specs.declared.fault.WireCause.TheVariants.{Truncated}

@@ -1,4 +1,4 @@
-use Rattle.std.proofs.Common.{Ok, refl, sym, ap, ◌∙◌}
+use Rattle.std.proofs.Common.{Ok, refl, sym, ap}
 use Rattle.mvt_wire.proofs.VarintLemmas.{number_seen, number_none, same_found, none_found}
 use Rattle.mvt_wire.proofs.varint.read_varint.Goals as goal
 

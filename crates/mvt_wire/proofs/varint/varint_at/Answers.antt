@@ -1,4 +1,4 @@
-use Rattle.std.proofs.Common.{sym, arith}
+use Rattle.std.proofs.Common.{sym}
 use Rattle.mvt_wire.proofs.VarintLemmas.{one_byte, two_bytes}
 use Rattle.mvt_wire.proofs.varint.varint_at.Goals as goal
 

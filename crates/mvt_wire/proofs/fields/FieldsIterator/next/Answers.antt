@@ -1,4 +1,4 @@
-use Rattle.std.proofs.Common.{◌<◌, ◌+◌, length, Some, None, Ok, Err, subst}
+use Rattle.std.proofs.Common.{length, Some, None, Ok, Err, subst}
 use Rattle.mvt_wire.specs.Field.{entry_of}
 use Rattle.mvt_wire.specs.Fields.{GivesField}
 use Rattle.mvt_wire.specs.Split.{Parts}
