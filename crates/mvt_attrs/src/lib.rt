@@ -1,0 +1,15 @@
+//! The attributes of a feature (Mapbox Vector Tile Specification 2.1, 4.4): values, the pools of keys
+//! and values that a layer holds, and the tags that name entries of these pools.
+#![tactic(auto)]
+
+mod key_pool;
+mod pool_error;
+mod resolve;
+mod value;
+mod value_pool;
+
+pub use key_pool::KeyPool;
+pub use pool_error::PoolError;
+pub use resolve::{TagCause, TagError};
+pub use value::{Attribute, Value};
+pub use value_pool::ValuePool;
