@@ -1,2 +1,5 @@
 pub mod PoolLemmas
 pub mod EqualityLemmas
+pub mod SeenLemmas
+pub mod TagLemmas
+pub mod ResolvedLemmas

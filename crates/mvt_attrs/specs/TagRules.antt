@@ -4,10 +4,10 @@ use Rattle.std.specs.Prelude.{◌≡◌, ℕ, ◌+◌, ◌*◌, ◌%◌, ◌==�
 use Rattle.std.specs.List.{list_any}
 use Rattle.mvt_base.specs.Rules.{Rules, when, rows, each, first}
 use Rattle.mvt_attrs.specs.declared.value.Value.{Value}
-use Rattle.mvt_attrs.specs.declared.resolve.TagCause.{TagCause}
-use Rattle.mvt_attrs.specs.declared.resolve.TagCause.TheVariants.{OddTags, KeyIndex, ValueIndex, RepeatedKey}
-use Rattle.mvt_attrs.specs.declared.resolve.TagError.{TagError}
-use Rattle.mvt_attrs.specs.declared.resolve.TagError.TheVariants.{Memory, Fault}
+use Rattle.mvt_attrs.specs.declared.resolving.TagCause.{TagCause}
+use Rattle.mvt_attrs.specs.declared.resolving.TagCause.TheVariants.{OddTags, KeyIndex, ValueIndex, RepeatedKey}
+use Rattle.mvt_attrs.specs.declared.resolving.TagError.{TagError}
+use Rattle.mvt_attrs.specs.declared.resolving.TagError.TheVariants.{Memory, Fault}
 
 -- the tags two at a time; a last one alone is no pair
 abbrev pub pairs_of : List ℕ → List (ℕ × ℕ)

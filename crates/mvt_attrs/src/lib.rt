@@ -4,12 +4,13 @@
 
 mod key_pool;
 mod pool_error;
-mod resolve;
+mod resolving;
+mod seen;
 mod value;
 mod value_pool;
 
 pub use key_pool::KeyPool;
 pub use pool_error::PoolError;
-pub use resolve::{TagCause, TagError};
+pub use resolving::{TagCause, TagError, resolve};
 pub use value::{Attribute, Value};
 pub use value_pool::ValuePool;
