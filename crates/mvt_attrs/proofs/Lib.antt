@@ -1,5 +1,9 @@
-pub mod PoolLemmas
+pub mod BaseLemmas
 pub mod EqualityLemmas
+pub mod FirstUseLemmas
+pub mod PoolLemmas
 pub mod SeenLemmas
 pub mod TagLemmas
 pub mod ResolvedLemmas
+pub mod PlaceLemmas
+pub mod PlacingLemmas

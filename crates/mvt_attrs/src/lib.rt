@@ -3,6 +3,7 @@
 #![tactic(auto)]
 
 mod key_pool;
+mod placing;
 mod pool_error;
 mod resolving;
 mod seen;
@@ -10,6 +11,7 @@ mod value;
 mod value_pool;
 
 pub use key_pool::KeyPool;
+pub use placing::tags_of;
 pub use pool_error::PoolError;
 pub use resolving::{TagCause, TagError, resolve};
 pub use value::{Attribute, Value};
