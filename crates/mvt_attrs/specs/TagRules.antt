@@ -29,12 +29,15 @@ unfoldable pub count_rules : List ℕ → Rules (ℕ × TagCause)
 count_rules tags = when (length tags % 2 == 1) (length tags, OddTags)
 
 -- the rules of a pair behind others: its key is there, its value is there, no earlier pair has its key
-abbrev pub rules_of_pair : List (List ℕ) → List Value → List (ℕ × ℕ) → ℕ × ℕ → Rules (ℕ × TagCause)
-rules_of_pair keys values front pair =
-    rows ((0, when (nat_le (length keys) pair.0) (2 * length front, KeyIndex))
+abbrev pub rows_of_pair : List (List ℕ) → List Value → List (ℕ × ℕ) → ℕ × ℕ → List (ℕ × Rules (ℕ × TagCause))
+rows_of_pair keys values front pair =
+    (0, when (nat_le (length keys) pair.0) (2 * length front, KeyIndex))
     ∷ ((1, when (nat_le (length values) pair.1) (2 * length front + 1, ValueIndex))
     ∷ ((2, when (list_any (λ earlier. name_one_key keys earlier.0 pair.0) front) (2 * length front, RepeatedKey))
-    ∷ [])))
+    ∷ []))
+
+abbrev pub rules_of_pair : List (List ℕ) → List Value → List (ℕ × ℕ) → ℕ × ℕ → Rules (ℕ × TagCause)
+rules_of_pair keys values front pair = rows (rows_of_pair keys values front pair)
 
 -- the rules of all pairs, each under its number
 unfoldable pub pair_rules : List (List ℕ) → List Value → List ℕ → Rules (ℕ × TagCause)

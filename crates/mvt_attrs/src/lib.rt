@@ -3,6 +3,7 @@
 #![tactic(auto)]
 
 mod key_pool;
+pub mod laws;
 mod placing;
 mod pool_error;
 mod resolving;
