@@ -1,0 +1,6 @@
+pub mod TextLemmas
+pub mod WalkLemmas
+pub mod KindLemmas
+pub mod TableLemmas
+pub mod SelectionLemmas
+pub mod ValueLemmas

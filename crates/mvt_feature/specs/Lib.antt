@@ -1,0 +1,6 @@
+pub mod Causes
+pub mod Faults
+pub mod Selection
+pub mod Values
+pub mod ValueRules
+pub mod Inner

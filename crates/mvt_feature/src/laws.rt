@@ -1,0 +1,24 @@
+//! Laws about the definitions alone: functions without effect, whose contract is the law.
+ghost use Rattle.std.specs.Prelude.{◌≡◌, ◌↔◌, ℕ, List, None, Some};
+ghost use Rattle.mvt_base.specs.Rules.{AreOrdered, IsLeast};
+ghost use Rattle.mvt_attrs.specs.declared.value.Value.{Value};
+ghost use Rattle.mvt_feature.specs.Faults.{MessageFault};
+ghost use Rattle.mvt_feature.specs.Values.{IsValueOf};
+ghost use Rattle.mvt_feature.specs.ValueRules.{value_rules, value_fault};
+
+/// A payload without a fault is just one value, and a payload that is a value has no fault.
+pub fn value_or_fault()
+    ensures there { (payload : List ℕ) (base own : ℕ) → value_fault payload base own ≡ None
+        → (value : Value) × IsValueOf payload value }
+    ensures clean { (payload : List ℕ) (base own : ℕ) (value : Value) → IsValueOf payload value
+        → value_fault payload base own ≡ None }
+    ensures once { (payload : List ℕ) (value other : Value) → IsValueOf payload value
+        → IsValueOf payload other → value ≡ other }
+{}
+
+/// The fault of a value is that of the broken rule of least rank.
+pub fn value_fault_is_least()
+    ensures ordered { (payload : List ℕ) (base own : ℕ) → AreOrdered (value_rules payload base own) }
+    ensures least { (payload : List ℕ) (base own : ℕ) (fault : MessageFault) →
+        (value_fault payload base own ≡ Some fault) ↔ IsLeast (value_rules payload base own) fault }
+{}
