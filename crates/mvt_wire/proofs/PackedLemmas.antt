@@ -2,7 +2,7 @@
 use Rattle.std.proofs.Common.{◌≡◌, ◌≢◌, ℕ, zero, suc, ◌+◌, ◌-◌, ◌*◌, ◌^◌, ◌<◌, ◌≤◌, ◌⊎◌, inl, inr, Bool, true, false, not, cond, ltb, eqb, get_or, List, [], ◌∷◌, ◌++◌, length, take, drop, Option, None, Some, Result, Ok, Err, refl, sym, ap, subst, ◌∙◌, arith, append_assoc, append-nil, lt-ltb, le-ltb, eqb-true}
 use Rattle.std.specs.List.{AllByRecursion, flat_map}
 use Rattle.std.proofs.lemmas.Bool.{cases_lt, eqb-false}
-use Rattle.std.proofs.lemmas.List.{length-append, length-drop, length-take-le, take-append-drop, take_rest, take_more, nil_from_length}
+use Rattle.std.proofs.lemmas.List.{length-append, length-drop, take-append-drop, take_rest, take_more, nil_from_length}
 use Rattle.std.proofs.lemmas.List.Concat.{flat_map-append}
 use Rattle.std.proofs.lemmas.List.Folds.{length-flat_map-take}
 use Rattle.std.proofs.Math.Seq.{drop-append_seam}
@@ -11,7 +11,7 @@ use Rattle.mvt_base.proofs.RuleLemmas.{first-append, first-under, first-when, fi
 use Rattle.mvt_base.proofs.OrderLemmas.{AllFrom, all_later, under_from, from-append, under_ordered, under_then, when_ordered}
 use Rattle.mvt_wire.specs.declared.fault.WireCause.{WireCause}
 use Rattle.mvt_wire.specs.declared.fault.WireCause.TheVariants.{Truncated, VarintRange}
-use Rattle.mvt_wire.specs.Varint.{Spells, SpellsNone, spell_cause, short}
+use Rattle.mvt_wire.specs.Varint.{Spells, short}
 use Rattle.mvt_wire.specs.Fronts.{number_at}
 use Rattle.mvt_wire.specs.Inner.{error_of}
 use Rattle.mvt_wire.specs.Packed.{ArePacked, SplitNumbers, Numbers, ahead, packed_within, packed, PackedCause, truncated, varint_range, number_range, number_cause, is_nil, small_rules, packed_rules, TellsPacked}

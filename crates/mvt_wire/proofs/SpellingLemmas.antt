@@ -1,11 +1,11 @@
 -- The shortest spellings of fields: what they spell, and how long they are.
-use Rattle.std.proofs.Common.{◌≡◌, ℕ, ◌+◌, ◌*◌, ◌^◌, ◌<◌, ◌≤◌, List, [], ◌∷◌, ◌++◌, length, map, refl, sym, ap, ◌∙◌, arith, append-nil}
+use Rattle.std.proofs.Common.{◌≡◌, ℕ, ◌+◌, ◌*◌, ◌^◌, ◌<◌, ◌≤◌, List, [], ◌∷◌, length, map, refl, sym, ap, ◌∙◌, arith, append-nil}
 use Rattle.std.specs.List.{AllByRecursion}
 use Rattle.std.proofs.lemmas.List.{length-append}
 use Rattle.byteorder.specs.Endian.{little_number, little_bytes}
 use Rattle.byteorder.specs.Numbers.{little_number-reads_back, length-bytes_low_first}
 use Rattle.mvt_wire.specs.Varint.{short}
-use Rattle.mvt_wire.specs.Field.{Content, varint, fixed64, bytes, fixed32, wire_type, IsPayload, IsField, StartsNoField, Entry, body_size, IsFieldAt}
+use Rattle.mvt_wire.specs.Field.{Content, varint, fixed64, bytes, fixed32, wire_type, IsPayload, IsField, Entry, body_size, IsFieldAt}
 use Rattle.mvt_wire.specs.Spelling.{short_payload, short_field, short_numbers, Plain, plain_of, spelled, IsWholeAs, FitsContent, IsFit}
 use Rattle.mvt_wire.specs.Split.{SplitFrom}
 use Rattle.mvt_wire.proofs.ShortLemmas.{short_spells, short_some}

@@ -1,5 +1,5 @@
 -- Packed numbers: Protocol Buffers, Encoding, "Packed Repeated Fields".
-use Rattle.std.specs.Prelude.{◌≡◌, ℕ, zero, suc, ◌^◌, ◌<◌, Bool, true, false, not, List, [], ◌∷◌, ◌++◌, length, drop, Option, Some, None, Ok, Err, if◌then◌else◌, nat_lt, ⊤}
+use Rattle.std.specs.Prelude.{◌≡◌, ℕ, zero, suc, ◌^◌, ◌<◌, Bool, true, false, not, List, [], ◌∷◌, ◌++◌, length, drop, Option, Some, Ok, Err, if◌then◌else◌, nat_lt, ⊤}
 use Rattle.mvt_base.specs.Rules.{Rules, when, under, each}
 use Rattle.mvt_wire.specs.declared.packed.PackedError.{PackedError}
 use Rattle.mvt_wire.specs.declared.packed.PackedError.TheVariants as errors

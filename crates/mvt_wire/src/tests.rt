@@ -153,25 +153,25 @@ fn wire_calls(rt: HostRuntime) {
 /// Each call with one growth refused: the vector is then as it was, and the next call succeeds.
 #[test]
 fn refused_put(rt: HostRuntime) {
-    let mut refusals = 0;
+    let mut refusals = 0u32;
     for _ in 0..2 {
         let mut out = Vec::new(rt.alloc());
         if put_varint(&mut out, 4096).is_err() {
-            refusals += 1;
+            refusals = refusals.saturating_add(1);
             assert_eq!(rt; out.len(), 0);
         } else {
             assert_eq!(rt; out.as_slice(), [0x80, 0x20].as_slice());
         }
         let mut out = Vec::new(rt.alloc());
         if put_field(&mut out, 4, &Payload::Len(&[0x61; 40])).is_err() {
-            refusals += 1;
+            refusals = refusals.saturating_add(1);
             assert_eq!(rt; out.len(), 0);
         } else {
             assert_eq!(rt; out.len(), 42);
         }
         let mut out = Vec::new(rt.alloc());
         if put_packed(&mut out, 4, &[4294967290; 9]).is_err() {
-            refusals += 1;
+            refusals = refusals.saturating_add(1);
             assert_eq!(rt; out.len(), 0);
         } else {
             assert_eq!(rt; out.len(), 47);
@@ -182,20 +182,20 @@ fn refused_put(rt: HostRuntime) {
 
 #[test]
 fn refused_read_packed(rt: HostRuntime) {
-    let mut refusals = 0;
+    let mut refusals = 0u32;
     for _ in 0..2 {
         match read_packed(rt.alloc(), &[0x09, 0x32, 0x22]) {
             Ok(mut numbers) => {
                 let more = [0x07; 40];
                 if append_packed(&more, &mut numbers).is_err() {
-                    refusals += 1;
+                    refusals = refusals.saturating_add(1);
                     assert_eq!(rt; numbers.as_slice(), [9, 50, 34].as_slice());
                 } else {
                     assert_eq!(rt; numbers.len(), 43);
                 }
             }
             Err(error) => {
-                refusals += 1;
+                refusals = refusals.saturating_add(1);
                 assert_eq!(rt; error, PackedError::Memory);
             }
         }

@@ -1,4 +1,4 @@
-use Rattle.std.proofs.Common.{append_assoc, [], ◌∷◌, ◌++◌, arith, rules, sym, ap, ◌∙◌}
+use Rattle.std.proofs.Common.{append_assoc, [], ◌∷◌, ◌++◌, arith, sym, ap, ◌∙◌}
 use Rattle.mvt_wire.proofs.PackedLemmas.{read_large, read_smaller, read_on, read_clean, read_tells, read_all, nil_from_test, some_from_test}
 use Rattle.mvt_wire.proofs.packed.append_numbers.Goals as goal
 

@@ -1,5 +1,5 @@
-use Rattle.std.proofs.Common.{◌≡◌, get_or, arith}
-use Rattle.mvt_wire.proofs.PackedLemmas.{length_step, IsSmall}
+use Rattle.std.proofs.Common.{arith}
+use Rattle.mvt_wire.proofs.PackedLemmas.{length_step}
 use Rattle.mvt_wire.proofs.packed.packed_len.Goals as goal
 
 pub loop-number-preserved : goal.loop-number-preserved

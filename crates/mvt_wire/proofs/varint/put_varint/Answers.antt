@@ -1,4 +1,4 @@
-use Rattle.std.proofs.Common.{arith, rules}
+use Rattle.std.proofs.Common.{rules}
 use Rattle.mvt_wire.proofs.ShortLemmas.{short_is_one, short_is_two}
 use Rattle.mvt_wire.proofs.varint.put_varint.Goals as goal
 

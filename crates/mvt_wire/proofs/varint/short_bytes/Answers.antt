@@ -1,5 +1,5 @@
-use Rattle.std.proofs.Common.{sym, ◌∙◌, length-set}
-use Rattle.mvt_wire.specs.Varint.{short_within, short}
+use Rattle.std.proofs.Common.{◌∙◌, length-set}
+use Rattle.mvt_wire.specs.Varint.{short_within}
 use Rattle.mvt_wire.proofs.ShortLemmas.{spell_step, spell_end, short_within_is}
 use Rattle.mvt_wire.proofs.varint.short_bytes.Goals as goal
 
