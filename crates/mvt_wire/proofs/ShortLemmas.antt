@@ -1,9 +1,11 @@
 -- The shortest spelling of a number.
-use Rattle.std.proofs.Common.{◌≡◌, ℕ, zero, suc, ◌+◌, ◌-◌, ◌*◌, ◌/◌, ◌%◌, ◌^◌, ◌<◌, ◌≤◌, inl, inr, cond, List, [], ◌∷◌, length, get_or, refl, sym, ap, subst, ◌∙◌, arith, pow-suc, lt-ltb, le-ltb, mod-eq_of_lt}
+use Rattle.std.proofs.Common.{◌≡◌, ℕ, zero, suc, ◌+◌, ◌-◌, ◌*◌, ◌/◌, ◌%◌, ◌^◌, ◌<◌, ◌≤◌, max, ◌++◌, take, set, append_assoc, inl, inr, cond, List, [], ◌∷◌, length, get_or, refl, sym, ap, subst, ◌∙◌, arith, pow-suc, lt-ltb, le-ltb, mod-eq_of_lt}
 use Rattle.std.proofs.lemmas.Bool.{cases_lt}
-use Rattle.std.proofs.lemmas.Nat.{mod_below, div_below}
+use Rattle.std.proofs.lemmas.Nat.{mod_below, div_below, pow_pos, le-div}
+use Rattle.std.proofs.lemmas.List.{take_more_set}
+use Rattle.std.proofs.Math.Pow.{pow_mono}
 use Rattle.mvt_wire.specs.Varint.{groups_from, Spells, short_within, short}
-use Rattle.mvt_wire.proofs.VarintLemmas.{groups_from-lt}
+use Rattle.mvt_wire.proofs.VarintLemmas.{groups_from-lt, pow-128}
 
 -- the form of a spelling, without its number
 pub record IsSpelling (b : List ℕ) : Type 0 where
@@ -167,3 +169,100 @@ short_only b n bytes s size =
     let fits : n < 2 ^ 64 = s.fits in
     let small : n < 128 ^ 10 = omega arith in
     same_spelling b (short_within 9 n) size (record { some = s.some; goes_on = s.goes_on; ends = s.ends; bytes = bytes }) (short_spelling 9 n small) (sym s.sum ∙ sym (short_sum 9 n small))
+
+-- ---- lengths
+
+short_zero_some : (n : ℕ) → 1 ≤ length (short_within zero n)
+unfolding short_within
+short_zero_some n = omega arith
+
+pub short_within_some : (k n : ℕ) → 1 ≤ length (short_within k n)
+short_within_some zero n = short_zero_some n
+short_within_some (suc k) n =
+    elim (cases_lt n 128) [ inl small ↦ omega (arith, ap length (short_one (suc k) n small)) | inr large ↦ omega (arith, ap length (short_more k n large)) ]
+
+pub short_within_most : (k n : ℕ) → length (short_within k n) ≤ suc k
+short_within_most zero n = short_zero n 0
+short_within_most (suc k) n =
+    elim (cases_lt n 128) [
+      | inl small ↦ omega (arith, ap length (short_one (suc k) n small))
+      | inr large ↦ omega (arith, ap length (short_more k n large), short_within_most k (n / 128))
+    ]
+
+-- as many bytes as the number needs
+pub short_needs : (k m n : ℕ) → m ≤ k → 128 ^ m ≤ n → suc m ≤ length (short_within k n)
+short_needs k zero n within h = short_within_some k n
+short_needs zero (suc m) n within h = absurd (omega arith)
+short_needs (suc k) (suc m) n within h =
+    let power : 128 ^ suc m ≡ 128 ^ m * 128 = pow-suc 128 m in
+    let some : 1 ≤ 128 ^ m = subst (λ (q : ℕ). 1 ≤ q) (sym (pow-128 m)) (pow_pos (7 * m)) in
+    let large : 128 ≤ n = omega arith in
+    let rest : 128 ^ m ≤ n / 128 = le-div (128 ^ m) n 128 (omega arith) (omega arith) in
+    omega (arith, ap length (short_more k n large), short_needs k m (n / 128) (omega arith) rest)
+
+pub short_some : (n : ℕ) → 1 ≤ length (short n)
+unfolding short
+short_some n = short_within_some 9 n
+
+pub short_most : (n : ℕ) → length (short n) ≤ 10
+unfolding short
+short_most n = short_within_most 9 n
+
+pub short_is_one : (n : ℕ) → n < 128 → short n ≡ n ∷ []
+unfolding short
+short_is_one n small = short_one 9 n small
+
+pub short_is_two : (n : ℕ) → 128 ≤ n → n < 2 ^ 14 → short n ≡ (n % 128 + 128) ∷ n / 128 ∷ []
+unfolding short
+short_is_two n large small = short_more 8 n large ∙ ap (λ s. (n % 128 + 128) ∷ s) (short_one 8 (n / 128) (omega arith))
+
+-- the length from the highest bit
+pub short_len : (n j : ℕ) → j < 64 → 2 ^ j ≤ max n 1 → max n 1 < 2 * 2 ^ j → j / 7 + 1 ≡ length (short n)
+unfolding short
+short_len n j fits least most =
+    let double : 2 ^ suc j ≡ 2 ^ j * 2 = pow-suc 2 j in
+    let top : 2 ^ suc j ≤ 2 ^ (7 * suc (j / 7)) = pow_mono {i = suc j} {j = 7 * suc (j / 7)} (omega arith) in
+    let power : 128 ^ suc (j / 7) ≡ 2 ^ (7 * suc (j / 7)) = pow-128 (suc (j / 7)) in
+    let below : n < 128 ^ suc (j / 7) = omega arith in
+    let upper : length (short_within 9 n) ≤ suc (j / 7) = short_length 9 (j / 7) n below in
+    elim (cases_lt j 7) [
+      | inl small ↦ (let some = short_within_some 9 n in omega arith)
+      | inr large ↦
+          (let low : 2 ^ (7 * (j / 7)) ≤ 2 ^ j = pow_mono {i = 7 * (j / 7)} {j = j} (omega arith) in
+          let seven : 2 ^ 7 ≤ 2 ^ j = pow_mono {i = 7} {j = j} large in
+          let same : 128 ^ (j / 7) ≡ 2 ^ (7 * (j / 7)) = pow-128 (j / 7) in
+          let lower : suc (j / 7) ≤ length (short_within 9 n) = short_needs 9 (j / 7) n (omega arith) (omega arith) in
+          omega arith)
+    ]
+
+-- ---- the loop that spells: what is spelled, and what is left
+
+pub spell_step : (bytes number : List ℕ) (len rest : ℕ) → length bytes ≡ 10 → len ≤ 9 → 128 ≤ rest → rest < 128 ^ (10 - len) → take len bytes ++ short_within (9 - len) rest ≡ number
+    → (len + 1 ≤ 9) × (rest / 128 < 128 ^ (10 - (len + 1))) × (take (len + 1) (set bytes len (rest % 128 + 128)) ++ short_within (9 - (len + 1)) (rest / 128) ≡ number)
+spell_step bytes number len rest size within large small is =
+    elim (cases_lt len 9) [
+      | inl more ↦
+          (let left : 10 - len ≡ suc (9 - len) = omega arith in
+          let left' : 9 - len ≡ suc (9 - (len + 1)) = omega arith in
+          let left'' : 10 - (len + 1) ≡ 9 - len = omega arith in
+          let fits : rest / 128 < 128 ^ (9 - len) = quotient rest (9 - len) (subst (λ (k : ℕ). rest < 128 ^ k) left small) in
+          let spelled : short_within (9 - len) rest ≡ (rest % 128 + 128) ∷ short_within (9 - (len + 1)) (rest / 128) = ap (λ k. short_within k rest) left' ∙ short_more (9 - (len + 1)) rest large in (
+            omega arith,
+            subst (λ (k : ℕ). rest / 128 < 128 ^ k) (sym left'') fits,
+            ap (λ s. s ++ short_within (9 - (len + 1)) (rest / 128)) (take_more_set bytes len (rest % 128 + 128) (omega arith))
+                ∙ append_assoc (take len bytes) ((rest % 128 + 128) ∷ []) (short_within (9 - (len + 1)) (rest / 128))
+                ∙ ap (λ s. take len bytes ++ s) (sym spelled) ∙ is,
+          ))
+      | inr last ↦ absurd (let left : 10 - len ≡ 1 = omega arith in let few = subst (λ (k : ℕ). rest < 128 ^ k) left small in omega arith)
+    ]
+
+pub spell_end : (bytes number : List ℕ) (len rest : ℕ) → length bytes ≡ 10 → len ≤ 9 → rest < 128 → take len bytes ++ short_within (9 - len) rest ≡ number → take (len + 1) (set bytes len rest) ≡ number
+spell_end bytes number len rest size within small is =
+    take_more_set bytes len rest (omega arith) ∙ ap (λ s. take len bytes ++ s) (sym (short_one (9 - len) rest small)) ∙ is
+
+pub short_within_is : (n : ℕ) → short_within 9 n ≡ short n
+unfolding short
+short_within_is n = refl
+
+pub short_length_one : (n : ℕ) → n < 128 → length (short n) ≡ 1
+short_length_one n small = ap length (short_is_one n small)

@@ -213,3 +213,9 @@ split_joined at b more =
     ∙ ap (λ s. behind found.0 (split_from (at + found.1) s)) (drop-append-le found.1 b more seen.1)
     ∙ ap (behind found.0) (rec more))
     at b more
+
+-- a field has a byte at least
+pub split_count : (at : ℕ) (b : List ℕ) → length (split_from at b).fields + length (split_from at b).rest ≤ length b
+split_count =
+    split_induct (λ at b parts. length parts.fields + length parts.rest ≤ length b) (λ at b c e. omega arith)
+    (λ at b found parts e is more. let size = found_size at b found e in let rest = length-drop found.1 b in omega (arith, size.0, size.1, rest, more))

@@ -16,7 +16,7 @@ use Rattle.mvt_wire.specs.Split.{Parts, behind, no_fields, split_from}
 use Rattle.mvt_wire.proofs.FieldLemmas.{entry_found, entry_none, entry_why, rest_cause_is}
 use Rattle.mvt_wire.proofs.SplitLemmas.{split_front, split_none, split_ends, bytes_size-le}
 
-nil_spells : SpellsNone []
+pub nil_spells : SpellsNone []
 nil_spells front back n joined s =
     let none : 0 ≡ length front + length back = ap length joined ∙ length-append front back in
     let some : 1 ≤ length front = s.some in

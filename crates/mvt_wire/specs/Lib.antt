@@ -2,8 +2,10 @@ pub mod Field
 pub mod Fields
 pub mod Fronts
 pub mod Inner
+pub mod Packed
 pub mod Rest
 pub mod Span
+pub mod Spelling
 pub mod Split
 pub mod Varint
 pub mod Zigzag

@@ -1,11 +1,15 @@
 //! Laws about the definitions alone: functions without effect, whose contract is the law.
-ghost use Rattle.std.specs.Prelude.{◌≡◌, ◌≢◌, ℕ, ◌+◌, ◌^◌, ◌<◌, ◌≤◌, List, [], ◌++◌, length, take, slice_index, Ok, Err};
+ghost use Rattle.std.specs.Prelude.{◌≡◌, ◌≢◌, ◌↔◌, ℕ, ◌+◌, ◌*◌, ◌^◌, ◌<◌, ◌≤◌, List, [], ◌++◌, length, take, slice_index, None, Some, Ok, Err};
+ghost use Rattle.std.specs.List.{AllByRecursion};
+ghost use Rattle.mvt_base.specs.Rules.{AreOrdered, IsLeast, first};
 ghost use Rattle.mvt_wire.specs.declared.fault.WireCause.{WireCause};
 ghost use Rattle.mvt_wire.specs.declared.fault.WireCause.TheVariants.{Truncated};
 ghost use Rattle.mvt_wire.specs.Varint.{Spells, SpellsNone, spell_cause, short};
-ghost use Rattle.mvt_wire.specs.Field.{Entry, IsFieldAt, StartsNoField};
+ghost use Rattle.mvt_wire.specs.Field.{Content, Entry, IsField, IsFieldAt, StartsNoField, bytes, wire_type};
 ghost use Rattle.mvt_wire.specs.Fronts.{number_at, entry_at, rest_cause};
+ghost use Rattle.mvt_wire.specs.Packed.{ArePacked, PackedCause, SplitNumbers, packed, packed_rules};
 ghost use Rattle.mvt_wire.specs.Rest.{IsRestCause};
+ghost use Rattle.mvt_wire.specs.Spelling.{IsFit, IsWholeAs, Plain, short_field, short_numbers, short_payload, spelled};
 ghost use Rattle.mvt_wire.specs.Split.{Split, split, split_from, behind, no_fields};
 
 /// At most one prefix of a list spells a number, and it spells one number.
@@ -68,6 +72,7 @@ pub fn split_function()
     ensures place { (b : List ℕ) → (split b).rest_at + length (split b).rest ≡ length b }
     ensures cause { (b : List ℕ) (c : WireCause) → IsRestCause (split b).rest c
         → c ≡ rest_cause (split b).rest }
+    ensures count { (b : List ℕ) → length (split b).fields + length (split b).rest ≤ length b }
 {}
 
 /// A split goes step by step: the field at the front and then the split of what is behind it.
@@ -96,4 +101,52 @@ pub fn split_more()
         ≡ (split_from (split_from at b).rest_at ((split_from at b).rest ++ more)).rest }
     ensures place { (at : ℕ) (b more : List ℕ) → (split_from at (b ++ more)).rest_at
         ≡ (split_from (split_from at b).rest_at ((split_from at b).rest ++ more)).rest_at }
+{}
+
+/// `packed` is the numbers of a list and its rest.
+pub fn packed_split()
+    ensures is { (b : List ℕ) → SplitNumbers b (packed b).numbers (packed b).rest }
+    ensures only { (b ns rest : List ℕ) → SplitNumbers b ns rest
+        → (ns ≡ (packed b).numbers) × (rest ≡ (packed b).rest) }
+    ensures count { (b : List ℕ) → length (packed b).numbers + length (packed b).rest ≤ length b }
+{}
+
+/// A list breaks no rule of packed numbers exactly where it is packed numbers, and then it is those
+/// of `packed` alone.
+pub fn packed_function()
+    ensures clean { (b : List ℕ) → first (packed_rules b) ≡ None → ArePacked b (packed b).numbers }
+    ensures only { (b ns : List ℕ) → ArePacked b ns
+        → (first (packed_rules b) ≡ None) × ((packed b).numbers ≡ ns) }
+{}
+
+/// The first of the rules of packed numbers is the broken one of least rank.
+pub fn packed_is_least()
+    ensures ordered { (b : List ℕ) → AreOrdered (packed_rules b) }
+    ensures least { (b : List ℕ) (c : PackedCause) → (first (packed_rules b) ≡ Some c)
+        ↔ IsLeast (packed_rules b) c }
+{}
+
+/// The shortest spellings of numbers, joined, are packed just so, and only so.
+pub fn short_packed()
+    ensures packed { (ns : List ℕ) → AllByRecursion (λ n. n < 2 ^ 32) ns → ArePacked (short_numbers ns) ns }
+    ensures only { (ns ms : List ℕ) → AllByRecursion (λ n. n < 2 ^ 32) ns → ArePacked (short_numbers ns) ms → ms ≡ ns }
+{}
+
+/// The shortest spellings of fields, joined, are just these fields.
+pub fn spelled_whole()
+    ensures whole { (fs : List Plain) → AllByRecursion IsFit fs → IsWholeAs (spelled fs) fs }
+    ensures field { (f : Plain) → IsFit f → IsField (short_field f.number f.content) f.number f.content }
+    ensures only { (b : List ℕ) (fs gs : List Plain) → IsWholeAs b fs → IsWholeAs b gs → fs ≡ gs }
+{}
+
+/// How long the shortest spellings are.
+pub fn short_lengths()
+    ensures some { (n : ℕ) → 1 ≤ length (short n) }
+    ensures most { (n : ℕ) → length (short n) ≤ 10 }
+    ensures one { (n : ℕ) → n < 128 → length (short n) ≡ 1 }
+    ensures five { (n : ℕ) → n < 2 ^ 32 → length (short n) ≤ 5 }
+    ensures field { (number : ℕ) (c : Content) → length (short_field number c)
+        ≡ length (short (8 * number + wire_type c)) + length (short_payload c) }
+    ensures bytes { (number : ℕ) (d : List ℕ) → length d + 2 ≤ length (short_field number (bytes d)) }
+    ensures numbers { (ns : List ℕ) → length ns ≤ length (short_numbers ns) }
 {}

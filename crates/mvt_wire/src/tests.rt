@@ -1,6 +1,7 @@
 use crate::{
-    Field, Fields, Payload, Span, WireCause, WireFault, field_span, next_field, read_varint,
-    unzigzag32, unzigzag64, zigzag32, zigzag64,
+    Field, Fields, PackedError, Payload, Span, WireCause, WireFault, append_packed, field_len,
+    field_span, next_field, packed_len, put_field, put_packed, put_varint, read_packed,
+    read_varint, unzigzag32, unzigzag64, varint_len, zigzag32, zigzag64,
 };
 
 /// A layer with one point.
@@ -115,4 +116,118 @@ fn fields(rt: HostRuntime) {
     assert_eq!(rt; fields.next(), Some(Ok(eight)));
     assert_eq!(rt; fields.next(), None);
     assert_eq!(rt; next_field(&fixed, 14), Ok(None));
+}
+
+#[test]
+fn wire_calls(rt: HostRuntime) {
+    let alloc = rt.alloc();
+    let mut out = Vec::new(alloc);
+    assert!(rt; put_varint(&mut out, 4096).is_ok());
+    assert!(rt; put_field(&mut out, 15, &Payload::Varint(2)).is_ok());
+    assert!(rt; put_packed(&mut out, 4, &[9, 50, 34]).is_ok());
+    assert!(rt; put_packed(&mut out, 4, &[]).is_ok());
+    let want = [
+        0x80, 0x20, 0x78, 0x02, 0x22, 0x03, 0x09, 0x32, 0x22, 0x22, 0x00,
+    ];
+    assert_eq!(rt; out.as_slice(), want.as_slice());
+    assert_eq!(rt; packed_len(&[9, 50, 34]), 3);
+    assert_eq!(rt; field_len(4, 3), 5);
+
+    let large = [0x80, 0x80, 0x80, 0x80, 0x10];
+    assert_eq!(rt;
+        read_packed(alloc, &large).err(),
+        Some(PackedError::NumberRange)
+    );
+    assert_eq!(rt;
+        read_packed(alloc, &[0x80]).err(),
+        Some(PackedError::Truncated)
+    );
+    let Ok(mut numbers) = read_packed(alloc, &[0x09, 0x32, 0x22]) else {
+        assert!(rt; false);
+        return;
+    };
+    assert!(rt; append_packed(&[0x07], &mut numbers).is_ok());
+    assert_eq!(rt; numbers.as_slice(), [9, 50, 34, 7].as_slice());
+}
+
+/// Each call with one growth refused: the vector is then as it was, and the next call succeeds.
+#[test]
+fn refused_put(rt: HostRuntime) {
+    let mut refusals = 0u32;
+    for _ in 0..2 {
+        let mut out = Vec::new(rt.alloc());
+        if put_varint(&mut out, 4096).is_err() {
+            refusals = refusals.saturating_add(1);
+            assert_eq!(rt; out.len(), 0);
+        } else {
+            assert_eq!(rt; out.as_slice(), [0x80, 0x20].as_slice());
+        }
+        let mut out = Vec::new(rt.alloc());
+        if put_field(&mut out, 4, &Payload::Len(&[0x61; 40])).is_err() {
+            refusals = refusals.saturating_add(1);
+            assert_eq!(rt; out.len(), 0);
+        } else {
+            assert_eq!(rt; out.len(), 42);
+        }
+        let mut out = Vec::new(rt.alloc());
+        if put_packed(&mut out, 4, &[4294967290; 9]).is_err() {
+            refusals = refusals.saturating_add(1);
+            assert_eq!(rt; out.len(), 0);
+        } else {
+            assert_eq!(rt; out.len(), 47);
+        }
+    }
+    assert!(rt; refusals < 2);
+}
+
+#[test]
+fn refused_read_packed(rt: HostRuntime) {
+    let mut refusals = 0u32;
+    for _ in 0..2 {
+        match read_packed(rt.alloc(), &[0x09, 0x32, 0x22]) {
+            Ok(mut numbers) => {
+                let more = [0x07; 40];
+                if append_packed(&more, &mut numbers).is_err() {
+                    refusals = refusals.saturating_add(1);
+                    assert_eq!(rt; numbers.as_slice(), [9, 50, 34].as_slice());
+                } else {
+                    assert_eq!(rt; numbers.len(), 43);
+                }
+            }
+            Err(error) => {
+                refusals = refusals.saturating_add(1);
+                assert_eq!(rt; error, PackedError::Memory);
+            }
+        }
+    }
+    assert!(rt; refusals < 2);
+}
+
+/// Numbers and their shortest spellings.
+const SPELLED: [(u64, &[u8]); 10] = [
+    (0, &[0x00]),
+    (2, &[0x02]),
+    (4096, &[0x80, 0x20]),
+    (2147483648, &[0x80, 0x80, 0x80, 0x80, 0x08]),
+    (4294967290, &[0xFA, 0xFF, 0xFF, 0xFF, 0x0F]),
+    (4294967296, &[0x80, 0x80, 0x80, 0x80, 0x10]),
+    (67108852, &[0xF4, 0xFF, 0xFF, 0x1F]),
+    (67108859, &[0xFB, 0xFF, 0xFF, 0x1F]),
+    (67108860, &[0xFC, 0xFF, 0xFF, 0x1F]),
+    (
+        18446744073709551615,
+        &[0xFF, 0xFF, 0xFF, 0xFF, 0xFF, 0xFF, 0xFF, 0xFF, 0xFF, 0x01],
+    ),
+];
+
+#[test]
+fn spellings(rt: HostRuntime) {
+    let mut out = Vec::new(rt.alloc());
+    for (number, bytes) in SPELLED {
+        assert_eq!(rt; read_varint(bytes), Ok((number, bytes.len())));
+        assert_eq!(rt; varint_len(number), bytes.len());
+        out.clear();
+        assert!(rt; put_varint(&mut out, number).is_ok());
+        assert_eq!(rt; out.as_slice(), bytes);
+    }
 }

@@ -1,9 +1,10 @@
 //! Varints (Protocol Buffers, Encoding, "Base 128 Varints").
-ghost use Rattle.std.specs.Prelude.{◌≡◌, ℕ, ◌+◌, ◌≤◌, List, ◌++◌, length, take, IfOk, IfErr};
-ghost use Rattle.mvt_wire.specs.Varint.{Spells, SpellsNone, spell_cause};
+ghost use Rattle.std.specs.Prelude.{◌≡◌, ℕ, ◌+◌, ◌≤◌, List, ◌++◌, length, take, IfOk, IfErr, IsOk, OnOk, OnErr, vec_len, vec_capacity};
+ghost use Rattle.mvt_wire.specs.Varint.{Spells, SpellsNone, spell_cause, short};
 ghost use Rattle.mvt_wire.specs.Fronts.{number_at};
 
 use crate::fault::{WireCause, WireFault};
+use std::alloc::AllocError;
 
 /// The number at the front of a slice, and how many bytes spell it. A spelling may be longer than
 /// necessary.
@@ -56,4 +57,64 @@ fn long_varint_at(bytes: &[u8]) -> Result<(u64, usize), WireCause>
         }
     }
     Err(WireCause::Truncated)
+}
+
+/// How many bytes the shortest spelling of a number has.
+#[inline]
+pub fn varint_len(number: u64) -> usize
+    ensures len { result ≡ length (short number) }
+    ensures some { 1 ≤ result }
+    ensures most { result ≤ 10 }
+{
+    number.max(1).ilog2() as usize / 7 + 1
+}
+
+/// Appends the shortest spelling of a number.
+///
+/// # Errors
+///
+/// Where the vector has no room and none is found.
+#[inline(always)]
+pub fn put_varint(out: &mut Vec<u8>, number: u64) -> Result<(), AllocError>
+    ensures ok { OnOk result (out.new.items ≡ out.old.items ++ short number) }
+    ensures err { OnErr result (out.new.items ≡ out.old.items) }
+    ensures room { vec_len out.old + length (short number) ≤ vec_capacity out.old → IsOk result }
+    ensures capacity { vec_capacity out.old ≤ vec_capacity out.new }
+{
+    if number < 1 << 7 {
+        return out.extend_from_slice(&[number as u8]);
+    }
+    if number < 1 << 14 {
+        return out.extend_from_slice(&[(number % 128) as u8 + 128, (number / 128) as u8]);
+    }
+    put_long_varint(out, number)
+}
+
+/// The same, by the spelling in an array.
+#[inline(never)]
+fn put_long_varint(out: &mut Vec<u8>, number: u64) -> Result<(), AllocError>
+    ensures ok { OnOk result (out.new.items ≡ out.old.items ++ short number) }
+    ensures err { OnErr result (out.new.items ≡ out.old.items) }
+    ensures room { vec_len out.old + length (short number) ≤ vec_capacity out.old → IsOk result }
+    ensures capacity { vec_capacity out.old ≤ vec_capacity out.new }
+{
+    let (bytes, len) = short_bytes(number);
+    out.extend_from_slice(&bytes[..len])
+}
+
+/// The shortest spelling of a number, and its length.
+fn short_bytes(number: u64) -> ([u8; 10], usize)
+    ensures within { result.1 ≤ 10 }
+    ensures short { take result.1 result.0 ≡ short number }
+{
+    let mut bytes = [0u8; 10];
+    let mut rest = number;
+    let mut len = 0;
+    while rest >= 128 {
+        bytes[len] = (rest % 128) as u8 + 128;
+        rest /= 128;
+        len += 1;
+    }
+    bytes[len] = rest as u8;
+    (bytes, len + 1)
 }
