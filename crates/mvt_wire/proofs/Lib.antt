@@ -1,0 +1,5 @@
+pub mod FieldLemmas
+pub mod ShortLemmas
+pub mod SplitLemmas
+pub mod StepLemmas
+pub mod VarintLemmas

@@ -1,1 +1,9 @@
+pub mod Field
+pub mod Fields
+pub mod Fronts
+pub mod Inner
+pub mod Rest
+pub mod Span
+pub mod Split
+pub mod Varint
 pub mod Zigzag

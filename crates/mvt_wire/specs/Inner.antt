@@ -1,0 +1,16 @@
+-- What the contracts of private functions cite.
+use Rattle.std.specs.Prelude.{ℕ, Result, Ok, Err}
+use Rattle.mvt_wire.specs.declared.fault.WireCause.{WireCause}
+use Rattle.mvt_wire.specs.declared.field.Field.{Field}
+use Rattle.mvt_wire.specs.declared.field.Loaded.{Loaded}
+use Rattle.mvt_wire.specs.Field.{Entry, content_of, entry_of}
+use Rattle.mvt_wire.specs.Fronts.{Load}
+
+-- the program's values by what they hold
+abbrev pub load_of : Result Loaded WireCause → Result Load WireCause
+load_of (Ok l) = Ok (record { content = content_of l.payload; start = l.start; size = l.size })
+load_of (Err cause) = Err cause
+
+abbrev pub found_of : Result (Field × ℕ) WireCause → Result (Entry × ℕ) WireCause
+found_of (Ok found) = Ok (entry_of found.0, found.1)
+found_of (Err cause) = Err cause
