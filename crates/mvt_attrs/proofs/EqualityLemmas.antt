@@ -1,10 +1,6 @@
 -- The tests of equality decide it.
-use Rattle.std.proofs.Common.{◌≡◌, ℕ, Bool, true, false, List, Decides, bytes_eq, refl, sym, ap, ◌∙◌, rules}
-use Rattle.std.proofs.lemmas.Bool.{false≢true}
-use Rattle.std.proofs.lemmas.Bool.Decides.{Decides-eqb, Decides-int_eq, Decides-like}
-use Rattle.std.proofs.lemmas.Slice.Eq.{bytes_eq-Decides}
+use Rattle.std.proofs.Common.{◌≡◌, Decides, rules}
 use Rattle.mvt_attrs.specs.declared.value.Value.{Value}
-use Rattle.mvt_attrs.specs.declared.value.Value.TheVariants.{Text, Float, Double, Int, Uint, Sint, Bool as Truth}
 use Rattle.mvt_attrs.specs.Values.{equal_values}
 use Rattle.mvt_attrs.specs.contracts.value.ValuePartialEq.TheImpl.{ghosts}
 

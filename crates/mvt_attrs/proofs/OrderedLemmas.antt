@@ -1,7 +1,7 @@
 -- The rules of tags stand in order, so that the first is the least.
-use Rattle.std.proofs.Common.{◌≡◌, ℕ, ◌≤◌, List, [], ◌∷◌, length, Option, Some, refl, ap, ◌∙◌, arith, ◌↔◌}
+use Rattle.std.proofs.Common.{◌≡◌, ℕ, List, [], ◌∷◌, Some, ap, ◌∙◌, arith, ◌↔◌}
 use Rattle.std.specs.Option.{option_or}
-use Rattle.mvt_base.specs.Rules.{Rules, AreOrdered, IsLeast, when, rows, each, first}
+use Rattle.mvt_base.specs.Rules.{AreOrdered, IsLeast, first}
 use Rattle.mvt_base.proofs.RuleLemmas.{first-rows, option_or-right}
 use Rattle.mvt_base.proofs.OrderLemmas.{first_is_least, least_is_first, when_ordered, rows_ordered, each_ordered}
 use Rattle.mvt_attrs.specs.declared.value.Value.{Value}

@@ -1,8 +1,8 @@
 -- Tags as places in pools, which stay when pools grow.
-use Rattle.std.proofs.Common.{◌≡◌, ◌≢◌, ℕ, zero, suc, ◌+◌, ◌*◌, ◌%◌, ◌<◌, ◌≤◌, Bool, true, List, [], ◌∷◌, ◌++◌, length, map, take, get_or, Option, Some, None, Contains, Decides, bytes_eq, slice_get, slice_index, refl, sym, ap, ap₂, subst, ◌∙◌, arith, length-append, append_assoc, append-nil}
+use Rattle.std.proofs.Common.{◌≡◌, ℕ, zero, suc, ◌*◌, ◌%◌, ◌<◌, ◌≤◌, Bool, List, [], ◌∷◌, ◌++◌, length, map, Some, Contains, Decides, bytes_eq, slice_get, refl, sym, ap, subst, ◌∙◌, arith, length-append, append_assoc}
 use Rattle.std.specs.List.{AllByRecursion}
-use Rattle.std.proofs.lemmas.List.{map-append, map_push}
-use Rattle.std.proofs.lemmas.List.Elements.{Contains-append_left, Contains-append_right}
+use Rattle.std.proofs.lemmas.List.{map-append}
+use Rattle.std.proofs.lemmas.List.Elements.{Contains-append_right}
 use Rattle.std.proofs.lemmas.Slice.Eq.{bytes_eq-Decides}
 use Rattle.mvt_base.specs.Related.{AreRelated}
 use Rattle.mvt_base.proofs.ListLemmas.{related-append}
@@ -14,9 +14,8 @@ use Rattle.mvt_attrs.specs.Pools.{key_pool, value_pool}
 use Rattle.mvt_attrs.specs.Tags.{Names}
 use Rattle.mvt_attrs.specs.TagRules.{pairs_of}
 use Rattle.mvt_attrs.specs.TagPlaces.{place_in, tags_in, IsIn}
-use Rattle.mvt_attrs.proofs.BaseLemmas.{related_weaker}
 use Rattle.mvt_attrs.proofs.EqualityLemmas.{equal_values-Decides}
-use Rattle.mvt_attrs.proofs.FirstUseLemmas.{has, has-first_use, has_from_Contains, Contains_from_has, first_use-again, first_use-front, first_use-own, stands_at_place, place_in-distinct}
+use Rattle.mvt_attrs.proofs.FirstUseLemmas.{has-first_use, has_from_Contains, Contains_from_has, first_use-again, first_use-front, first_use-own, stands_at_place, place_in-distinct}
 use Rattle.std.proofs.lemmas.Option.{slice_get_within}
 use Rattle.mvt_attrs.proofs.TagLemmas.{NamesOne}
 use Rattle.mvt_attrs.proofs.ResolvedLemmas.{names_from_related, related_from_names}

@@ -1,7 +1,6 @@
 -- A loop that places the keys and values of attributes in pools.
-use Rattle.std.proofs.Common.{◌≡◌, ◌≢◌, ℕ, ◌+◌, ◌<◌, ◌≤◌, Bool, List, [], ◌∷◌, ◌++◌, length, map, take, get_or, Some, Result, Ok, Err, Contains, Decides, bytes_eq, slice_get, OnErr, refl, sym, ap, ap₂, subst, ◌∙◌, arith, append_assoc, append-nil}
+use Rattle.std.proofs.Common.{◌≡◌, ℕ, ◌+◌, ◌<◌, ◌≤◌, Bool, List, [], ◌∷◌, ◌++◌, length, map, take, get_or, Some, Result, Ok, Err, Contains, Decides, bytes_eq, slice_get, OnErr, refl, sym, ap, ap₂, subst, ◌∙◌, arith, append_assoc, append-nil}
 use Rattle.std.proofs.lemmas.List.{take_more, map_push, take_all}
-use Rattle.std.proofs.lemmas.Result.{on_err_weaker}
 use Rattle.mvt_attrs.specs.declared.value.Value.{Value}
 use Rattle.mvt_attrs.specs.declared.value.Attribute.{Attribute}
 use Rattle.mvt_attrs.specs.FirstUse.{first_use, AreDistinct}

@@ -1,5 +1,5 @@
 -- What a set's look-ups and insertions say of the list that its keys are seen as, by a view of each key.
-use Rattle.std.proofs.Common.{◌≡◌, ℕ, zero, suc, ◌<◌, ◌+◌, Bool, true, false, cond, ◌||◌, List, [], ◌∷◌, ◌++◌, length, map, get_or, Option, Some, None, Contains, Decides, inl, inr, refl, sym, ap, subst, ◌∙◌, is_some, slice_get, position, arith}
+use Rattle.std.proofs.Common.{◌≡◌, ℕ, zero, suc, ◌<◌, Bool, true, false, List, [], ◌∷◌, ◌++◌, length, map, get_or, Option, Some, None, Contains, Decides, inl, inr, sym, ap, ◌∙◌, is_some, slice_get, position, arith}
 use Rattle.std.specs.List.{list_any, IsDistinct}
 use Rattle.std.proofs.lemmas.Bool.{false≢true, or_left, or_right, or_cases, false_from_ne_true, cond-false, both_ways}
 use Rattle.std.proofs.lemmas.List.{map_push, get_or-map, length-map}

@@ -1,22 +1,19 @@
 -- Tags without a fault are resolved to just one list of attributes, and resolved tags have no fault.
-use Rattle.std.proofs.Common.{◌≡◌, ◌≢◌, ℕ, zero, suc, ◌+◌, ◌-◌, ◌*◌, ◌%◌, ◌<◌, ◌≤◌, ◌==◌, nat_le, Bool, true, false, ◌||◌, List, [], ◌∷◌, ◌++◌, length, map, get_or, Option, Some, None, bytes_eq, slice_get, slice_index, AllPairs, refl, sym, ap, ap₂, subst, ◌∙◌, inl, inr, arith, rules, length-append, append_assoc, append-nil}
+use Rattle.std.proofs.Common.{◌≡◌, ◌≢◌, ℕ, zero, suc, ◌+◌, ◌*◌, ◌%◌, ◌<◌, nat_le, Bool, true, false, List, [], ◌∷◌, ◌++◌, length, get_or, Some, None, bytes_eq, slice_get, slice_index, refl, sym, ap, subst, ◌∙◌, arith, length-append, append_assoc, append-nil}
 use Rattle.std.specs.List.{list_any}
-use Rattle.std.specs.Option.{option_or}
-use Rattle.std.proofs.lemmas.Bool.{leb-false, eqb-false, or_parts, or_from, false_from_ne_true, both_ways}
-use Rattle.std.proofs.lemmas.List.{length_push, get_or_append_left, get_or_at}
+use Rattle.std.proofs.lemmas.Bool.{leb-false, or_parts, or_from, false_from_ne_true, both_ways}
+use Rattle.std.proofs.lemmas.List.{get_or_append_left, get_or_at}
 use Rattle.std.proofs.lemmas.List.Quantifiers.{all_pairs_push}
-use Rattle.std.proofs.lemmas.Option.{slice_get-get_or, slice_get_within, get_or_from_slice_get}
+use Rattle.std.proofs.lemmas.Option.{slice_get-get_or}
 use Rattle.std.proofs.lemmas.Slice.Eq.{bytes_eq-Decides}
 use Rattle.mvt_base.specs.Related.{AreRelated}
-use Rattle.mvt_base.specs.Rules.{Rules, when, under, rows, each, first}
-use Rattle.mvt_base.proofs.RuleLemmas.{first-rows, first-append, first-under, option_or-nones, option_or-none, option_or-right}
-use Rattle.mvt_base.proofs.ListLemmas.{related-append, length-related, related_once}
+use Rattle.mvt_base.specs.Rules.{when, under, each, first}
+use Rattle.mvt_base.proofs.RuleLemmas.{first-append, first-under, option_or-nones, option_or-none}
+use Rattle.mvt_base.proofs.ListLemmas.{related-append, related_once}
 use Rattle.mvt_attrs.specs.declared.value.Value.{Value}
 use Rattle.mvt_attrs.specs.declared.value.Attribute.{Attribute}
-use Rattle.mvt_attrs.specs.declared.resolving.TagCause.{TagCause}
-use Rattle.mvt_attrs.specs.declared.resolving.TagCause.TheVariants.{OddTags, KeyIndex, ValueIndex, RepeatedKey}
 use Rattle.mvt_attrs.specs.Tags.{Names, HasDistinctKeys, Resolved}
-use Rattle.mvt_attrs.specs.TagRules.{pairs_of, name_one_key, count_rules, rules_of_pair, pair_rules, tag_rules, tag_fault}
+use Rattle.mvt_attrs.specs.TagRules.{pairs_of, name_one_key, rules_of_pair, tag_fault}
 use Rattle.mvt_attrs.proofs.SeenLemmas.{has_key}
 use Rattle.mvt_attrs.proofs.TagLemmas.{NamesOne, Progress, repeats-related, faultless_pair, no_pair_left, chain, tag_fault-even, tag_fault-odd}
 

@@ -1,21 +1,20 @@
 -- The tags read so far, and what each end of the reading shows.
-use Rattle.std.proofs.Common.{◌≡◌, ◌≢◌, ℕ, zero, suc, ◌+◌, ◌-◌, ◌*◌, ◌%◌, ◌<◌, ◌≤◌, ◌==◌, eqb, nat_le, Bool, true, false, ◌||◌, List, [], ◌∷◌, ◌++◌, length, map, Option, Some, None, Decides, bytes_eq, slice_get, slice_index, AllPairs, refl, sym, ap, ap₂, subst, ◌∙◌, inl, inr, arith, rules, length-append, length-drop, append_assoc, append-nil, get_or, take, drop}
+use Rattle.std.proofs.Common.{◌≡◌, ℕ, zero, suc, ◌+◌, ◌-◌, ◌*◌, ◌%◌, ◌<◌, ◌≤◌, ◌==◌, nat_le, Bool, true, false, ◌||◌, List, [], ◌∷◌, ◌++◌, length, Some, None, bytes_eq, slice_get, refl, sym, ap, ap₂, ◌∙◌, arith, rules, length-drop, append_assoc, get_or, drop}
 use Rattle.std.specs.List.{list_any}
 use Rattle.std.specs.Option.{option_or}
-use Rattle.std.proofs.lemmas.Bool.{false≢true, le-leb, lt-leb, eq-eqb, eqb-true, eqb-false, ne_eqb, or_left, or_from, cases_Bool, cases_lt, both_ways, leb-false}
+use Rattle.std.proofs.lemmas.Bool.{le-leb, lt-leb, eq-eqb, eqb-true, ne_eqb}
 use Rattle.std.proofs.lemmas.List.{length_push}
-use Rattle.std.proofs.lemmas.Option.{slice_get_within, slice_get_past}
+use Rattle.std.proofs.lemmas.Option.{slice_get_within}
 use Rattle.std.proofs.lemmas.Slice.Eq.{bytes_eq-Decides}
 use Rattle.mvt_base.specs.Related.{AreRelated}
-use Rattle.mvt_base.specs.Rules.{Rules, when, under, rows, each, first}
-use Rattle.mvt_base.proofs.RuleLemmas.{first-rows, first-when, first-when_not, option_or-none, option_or-some, option_or-nones, option_or-right, each_more, each_stops, first-under, first-append}
-use Rattle.mvt_base.proofs.ListLemmas.{related-append, length-related}
+use Rattle.mvt_base.specs.Rules.{Rules, when, each, first}
+use Rattle.mvt_base.proofs.RuleLemmas.{first-rows, first-when, first-when_not, option_or-none, option_or-some, option_or-right, each_more, each_stops}
+use Rattle.mvt_base.proofs.ListLemmas.{related-append}
 use Rattle.mvt_attrs.specs.declared.value.Value.{Value}
 use Rattle.mvt_attrs.specs.declared.value.Attribute.{Attribute}
 use Rattle.mvt_attrs.specs.declared.resolving.TagCause.{TagCause}
 use Rattle.mvt_attrs.specs.declared.resolving.TagCause.TheVariants.{OddTags, KeyIndex, ValueIndex, RepeatedKey}
-use Rattle.mvt_attrs.specs.Tags.{Names, HasDistinctKeys, Resolved}
-use Rattle.mvt_attrs.specs.TagRules.{pairs_of, are_same_texts, name_one_key, count_rules, rules_of_pair, pair_rules, tag_rules, tag_fault}
+use Rattle.mvt_attrs.specs.TagRules.{pairs_of, are_same_texts, name_one_key, count_rules, rules_of_pair, pair_rules, tag_fault}
 
 -- a pair of indices names an attribute
 abbrev pub NamesOne : List (List ℕ) → List Value → ℕ × ℕ → Attribute → Type 0

@@ -1,5 +1,5 @@
 -- Values (4.1, message Value): seven kinds, each with values of its own.
-use Rattle.std.specs.Prelude.{Bool, true, false, not, ◌==◌, bytes_eq, if◌then◌else◌}
+use Rattle.std.specs.Prelude.{Bool, false, not, ◌==◌, bytes_eq, if◌then◌else◌}
 use Rattle.std.specs.Ordering.{int_eq}
 use Rattle.mvt_attrs.specs.declared.value.Value.{Value}
 use Rattle.mvt_attrs.specs.declared.value.Value.TheVariants.{Text, Float, Double, Int, Uint, Sint, Bool as Truth}

@@ -82,7 +82,7 @@ impl KeyPool {
         if let Some(index) = place_of_key(&self.keys, key) {
             return Ok(index as u32);
         }
-        let index = self.keys.len();
+        let index = self.len();
         if index as u64 == LIMIT {
             return Err(PoolError::Full);
         }

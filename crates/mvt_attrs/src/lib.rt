@@ -17,3 +17,6 @@ pub use pool_error::PoolError;
 pub use resolving::{TagCause, TagError, resolve};
 pub use value::{Attribute, Value};
 pub use value_pool::ValuePool;
+
+#[cfg(test)]
+mod tests;

@@ -55,7 +55,7 @@ impl<T: Drop> From<AllocFailed<T>> for TagError {
 /// The attributes that a feature's tags name, in order (4.4).
 ///
 /// A repeated key is looked for among the keys before it: one by one where the tags can name at most
-/// eight, and by hashing where they can name more, so that the cost grows with the number of tags.
+/// sixteen, and by hashing where they can name more, so that the cost grows with the number of tags.
 ///
 /// # Errors
 /// The first broken rule, with its index into the tags. A growth may be refused before a fault that

@@ -8,7 +8,7 @@ use indexmap::IndexSet;
 use std::alloc::{AllocError, Global};
 
 /// The most pairs whose keys are compared one by one.
-const FEW: usize = 8;
+const FEW: usize = 16;
 
 /// Which keys the pairs so far have: a few are looked up among the attributes, many by hashing.
 #[derive(Drop)]

@@ -83,7 +83,7 @@ impl ValuePool {
         if let Some(index) = place_of_value(&self.values, value) {
             return Ok(index as u32);
         }
-        let index = self.values.len();
+        let index = self.len();
         if index as u64 == LIMIT {
             return Err(PoolError::Full);
         }

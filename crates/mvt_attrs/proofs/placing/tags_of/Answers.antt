@@ -1,4 +1,4 @@
-use Rattle.std.proofs.Common.{◌≡◌, ◌∙◌, ◌∷◌, [], ℕ, List, take, slice_get, Some, ap, bytes_eq, refl}
+use Rattle.std.proofs.Common.{◌≡◌, ◌∙◌, take, slice_get, Some, ap, bytes_eq, refl}
 use Rattle.mvt_attrs.specs.Pools.{key_pool, value_pool}
 use Rattle.mvt_attrs.specs.declared.value.Attribute.{Attribute}
 use Rattle.mvt_attrs.specs.Values.{equal_values}

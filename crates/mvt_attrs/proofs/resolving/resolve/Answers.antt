@@ -1,8 +1,6 @@
-use Rattle.std.proofs.Common.{rules, ◌≡◌, ◌≤◌, List, [], ◌∷◌, ◌++◌, length, map, slice_get, slice_index, option_copied, ℕ, ◌+◌, ◌-◌, ◌*◌, ◌<◌, ◌/◌, ◌%◌, Bool, true, false, Some, None, take, drop, get_or, not, sym, subst, ◌∙◌}
+use Rattle.std.proofs.Common.{◌≡◌, [], ◌∷◌, ◌++◌, length, ◌-◌, take, drop, sym, subst, ◌∙◌}
 use Rattle.mvt_attrs.specs.Inner.Following.{Follows}
 use Rattle.mvt_attrs.proofs.ResolvedLemmas.{read_resolved, read_faultless}
-use Rattle.mvt_attrs.specs.Tags.{Resolved}
-use Rattle.mvt_attrs.specs.TagRules.{tag_fault, Tells}
 use Rattle.mvt_attrs.proofs.TagLemmas.{Progress, tag_fault-odd, stops_without_key, stops_without_value, stops_at_repeat, progress_more}
 use Rattle.mvt_attrs.proofs.SeenLemmas.{repeated_from, new_from}
 use Rattle.std.proofs.lemmas.List.{take_rest}
