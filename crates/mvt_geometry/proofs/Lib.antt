@@ -1,0 +1,3 @@
+pub mod HeaderLemmas
+pub mod StepLemmas
+pub mod WalkLemmas

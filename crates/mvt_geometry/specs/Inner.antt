@@ -1,0 +1,2 @@
+-- Definitions between private functions, which no public contract cites.
+pub mod Judging
