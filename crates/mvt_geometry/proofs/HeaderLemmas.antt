@@ -1,6 +1,7 @@
 -- A command's rules up to its count and its room: when they are kept, and which is broken first.
-use Rattle.std.proofs.Common.{ne_eqb, ◌≡◌, ℕ, ◌+◌, ◌*◌, ◌/◌, ◌%◌, ◌<◌, ◌≤◌, Bool, true, false, not, ◌&&◌, ltb, eqb, List, length, get_or, Option, Some, None, refl, sym, ap, ◌∙◌, arith}
+use Rattle.std.proofs.Common.{ne_eqb, eq-eqb, ap₂, ◌⊎◌, inl, inr, ◌≡◌, ℕ, ◌+◌, ◌*◌, ◌/◌, ◌%◌, ◌<◌, ◌≤◌, Bool, true, false, not, ◌&&◌, ltb, eqb, List, length, get_or, Option, Some, None, refl, sym, ap, ◌∙◌, arith}
 use Rattle.std.specs.Option.{option_or}
+use Rattle.std.proofs.lemmas.Bool.{cases_lt, false≢true, true_from_ne_false}
 use Rattle.std.proofs.lemmas.Bool.Decides.{nat_tests}
 use Rattle.mvt_base.specs.Rules.{first, rows, when}
 use Rattle.mvt_base.proofs.RuleLemmas.{first-append, first-under, first-when, first-when_not, option_or-nones}
@@ -70,3 +71,46 @@ too_few must_not kind c g s h id allowed few =
 pub header_right : (must_not : Bool) (kind : Kind) (c : Command) (g : List ℕ) (s : ℕ) → IsHeader kind c g s → first (rows (header_rows must_not kind (Some c) g s)) ≡ None
 header_right must_not kind c g s h =
     rw (header_chain must_not kind (Some c) g s, not_at_end must_not g s h.within, command_right c g s h.id, count_right kind c g s h.allowed, room_there (Some c) g s h.room) refl
+
+-- nothing is broken behind the last integer where another command need not come
+pub header_over : (must_not : Bool) (kind : Kind) (c : Option Command) (g : List ℕ) (s : ℕ) → must_not ≡ false → length g ≤ s → first (rows (header_rows must_not kind c g s)) ≡ None
+unfolding ends_early wrong_command wrong_count no_room
+header_over must_not kind c g s m over =
+    let t : ltb s (length g) ≡ false = grind (arith, nat_tests) in
+    rw (header_chain must_not kind c g s, m, t, and-false (eqb s (length g))) refl
+  where
+    and-false : (b : Bool) → (b && false) ≡ false
+    and-false true = refl
+    and-false false = refl
+
+when_none : (b : Bool) (f : IndexedCause) → first (when b f) ≡ None → b ≡ false
+when_none true f e = cc
+when_none false f e = refl
+
+-- and the other way: where no rule is broken the header is there
+pub header_there : (must_not : Bool) (kind : Kind) (c : Command) (g : List ℕ) (s : ℕ) → (s ≡ length g → must_not ≡ true) → s ≤ length g → first (rows (header_rows must_not kind (Some c) g s)) ≡ None → IsHeader kind c g s
+unfolding ends_early wrong_command wrong_count no_room
+header_there must_not kind c g s must le none =
+    let e = sym (header_chain must_not kind (Some c) g s) ∙ none in
+    let ends = option_or-nones _ _ e in
+    let id = option_or-nones _ _ ends.1 in
+    let count = option_or-nones _ _ id.1 in
+    let room = option_or-nones _ _ count.1 in
+    let h = here (when_none _ _ ends.0) in
+    record { within = h; id = the_id h (when_none _ _ id.0); allowed = the_count h (when_none _ _ count.0); room = the_room h (when_none _ _ room.0) }
+  where
+    here : (eqb s (length g) && must_not) ≡ false → s < length g
+    here b = by_order (cases_lt s (length g))
+      where
+        by_order : (s < length g) ⊎ (length g ≤ s) → s < length g
+        by_order (inl h) = h
+        by_order (inr h) = let end : s ≡ length g = omega arith in let t : eqb s (length g) ≡ true = eq-eqb _ _ end in absurd (false≢true (sym b ∙ ap₂ ◌&&◌ t (must end)))
+
+    the_id : s < length g → (ltb s (length g) && not (eqb (get_or g s 0 % 8) (id_of c))) ≡ false → get_or g s 0 % 8 ≡ id_of c
+    the_id h b = grind (arith, nat_tests)
+
+    the_count : s < length g → (ltb s (length g) && not (is_allowed kind c (get_or g s 0 / 8))) ≡ false → is_allowed kind c (get_or g s 0 / 8) ≡ true
+    the_count h b = let t : ltb s (length g) ≡ true = grind (arith, nat_tests) in true_from_ne_false (is_allowed kind c (get_or g s 0 / 8)) (λ is. absurd (false≢true (sym b ∙ ap₂ (λ x y. x && not y) t is)))
+
+    the_room : s < length g → (ltb s (length g) && ltb (length g) (s + 1 + 2 * pair_count (Some c) (get_or g s 0 / 8))) ≡ false → s + 1 + 2 * pair_count (Some c) (get_or g s 0 / 8) ≤ length g
+    the_room h b = grind (arith, nat_tests)

@@ -51,8 +51,8 @@ module _ (line : Bool) (at : ℕ) (d : Pair) (to : Point) (x : d.dx ≢ 42949672
 
   pub leaves_y : InRange to.x → (InRange to.y → ⊥) → first (step_rules line at d to) ≡ Some (at + 1, causes.CoordinateRange)
   leaves_y in_x h =
-    rw (step_chain line at d to, x_accepted line at d to x, y_accepted line at d to x y, moves, first-when_not {F = IndexedCause} _ (at, causes.CoordinateRange) (inside to.x in_x), first-when {F = IndexedCause} _ (at + 1, causes.CoordinateRange) (outside to.y h)) refl
+      rw (step_chain line at d to, x_accepted line at d to x, y_accepted line at d to x y, moves, first-when_not {F = IndexedCause} _ (at, causes.CoordinateRange) (inside to.x in_x), first-when {F = IndexedCause} _ (at + 1, causes.CoordinateRange) (outside to.y h)) refl
 
   pub step_right : IsPlace to → first (step_rules line at d to) ≡ None
   step_right h =
-    rw (step_chain line at d to, x_accepted line at d to x, y_accepted line at d to x y, moves, first-when_not {F = IndexedCause} _ (at, causes.CoordinateRange) (inside to.x h.0), first-when_not {F = IndexedCause} _ (at + 1, causes.CoordinateRange) (inside to.y h.1)) refl
+      rw (step_chain line at d to, x_accepted line at d to x, y_accepted line at d to x y, moves, first-when_not {F = IndexedCause} _ (at, causes.CoordinateRange) (inside to.x h.0), first-when_not {F = IndexedCause} _ (at + 1, causes.CoordinateRange) (inside to.y h.1)) refl

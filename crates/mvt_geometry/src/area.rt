@@ -1,5 +1,5 @@
 //! Twice the area of a ring (section 4.3.3.3).
-ghost use Rattle.std.specs.Prelude.{◌≡◌, ◌≤◌, ◌^◌};
+ghost use Rattle.std.specs.Prelude.{◌≡◌, ◌≤◌, ◌^◌, ◌*ℤ◌};
 ghost use Rattle.std.specs.Int.RustNames.{unsigned_abs};
 ghost use Rattle.mvt_geometry.specs.Area.{area2, cross as the_cross};
 
@@ -10,11 +10,12 @@ use crate::shape::Point;
 pub fn twice_area(ring: &[Point]) -> i128
     ensures { result ≡ area2 ring.now }
 {
-    let Some(last) = ring.last() else {
+    let count = ring.len();
+    if count == 0 {
         return 0;
-    };
+    }
     let mut sum = 0;
-    let mut before = *last;
+    let mut before = ring[count - 1];
     for point in ring {
         sum += cross(before, *point);
         before = *point;
@@ -28,7 +29,13 @@ pub(crate) fn cross(from: Point, to: Point) -> i128
     ensures value { result ≡ the_cross from to }
     ensures small { unsigned_abs result ≤ 2 ^ 63 }
 {
-    let forth = i64::from(from.x) * i64::from(to.y);
-    let back = i64::from(to.x) * i64::from(from.y);
-    i128::from(forth) - i128::from(back)
+    i128::from(product(from.x, to.y)) - i128::from(product(to.x, from.y))
+}
+
+#[inline]
+fn product(a: i32, b: i32) -> i64
+    ensures value { result ≡ a *ℤ b }
+    ensures small { unsigned_abs result ≤ 2 ^ 62 }
+{
+    i64::from(a) * i64::from(b)
 }

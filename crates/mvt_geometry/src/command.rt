@@ -1,6 +1,7 @@
 //! Commands and the counts that they may have (sections 4.3.1 and 4.3.4).
 ghost use Rattle.std.specs.Prelude.{◌≡◌};
 ghost use Rattle.mvt_geometry.specs.Commands.{id_of, is_allowed};
+ghost use Rattle.mvt_geometry.specs.Table.{is_line_to};
 
 use crate::shape::Kind;
 
@@ -21,6 +22,14 @@ impl Command {
             Command::LineTo => 2,
             Command::ClosePath => 7,
         }
+    }
+
+    /// Whether its pairs draw lines.
+    #[inline]
+    pub(crate) fn is_line(self) -> bool
+        ensures { result ≡ is_line_to (Some self) }
+    {
+        matches!(self, Command::LineTo)
     }
 
     /// Whether a geometry of this type may have the command with this count.

@@ -1,5 +1,5 @@
 //! Whether integers draw a geometry: one pass over them, without memory.
-ghost use Rattle.std.specs.Prelude.{◌≡◌, ◌≢◌, ◌+◌, ◌*◌, ◌/◌, ◌%◌, ◌-◌, ◌<◌, ◌≤◌, ◌^◌, ℕ, suc, Bool, true, ℤ, pos, ◌≤ℤ◌, ◌<ℤ◌, ◌-ℤ◌, [], length, slice_index, ◌==◌, ◌&&◌, IfOk, IfErr, OnOk, IfSome, IfNone, ◌+ℤ◌};
+ghost use Rattle.std.specs.Prelude.{◌≡◌, ◌≢◌, ◌+◌, ◌*◌, ◌/◌, ◌%◌, ◌-◌, ◌<◌, ◌≤◌, ◌^◌, ℕ, suc, Bool, true, ℤ, pos, [], length, slice_index, ◌==◌, ◌&&◌, IfOk, IfErr, OnOk, IfSome, IfNone, ◌+ℤ◌};
 ghost use Rattle.std.specs.Int.RustNames.{unsigned_abs};
 ghost use Rattle.mvt_base.specs.Rules.{first, rows, each};
 ghost use Rattle.mvt_geometry.specs.Shape.{InRange};
@@ -34,7 +34,10 @@ pub(crate) fn judge(kind: Kind, integers: &[u32]) -> Result<usize, Fault>
         return Ok(0);
     }
     if integers.is_empty() {
-        return Err(Fault { index: 0, cause: GeometryCause::EndsEarly });
+        return Err(Fault {
+            index: 0,
+            cause: GeometryCause::EndsEarly,
+        });
     }
     match kind {
         Kind::Unknown => Ok(0),
@@ -49,10 +52,16 @@ fn judge_points(integers: &[u32]) -> Result<usize, Fault>
     ensures ok { OnOk result (geometry_fault Kind.Point integers.now ≡ None) }
     ensures err { IfErr result (λ f. geometry_fault Kind.Point integers.now ≡ Some (f.index, f.cause)) }
 {
-    let pen = Pen { at: 0, cursor: ORIGIN };
+    let pen = Pen {
+        at: 0,
+        cursor: ORIGIN,
+    };
     let pen = judge_command(Kind::Point, Command::MoveTo, integers, pen)?;
     if pen.at < integers.len() {
-        return Err(Fault { index: pen.at, cause: GeometryCause::Command });
+        return Err(Fault {
+            index: pen.at,
+            cause: GeometryCause::Command,
+        });
     }
     Ok(0)
 }
@@ -62,7 +71,10 @@ fn judge_lines(integers: &[u32]) -> Result<usize, Fault>
     ensures ok { OnOk result (geometry_fault Kind.LineString integers.now ≡ None) }
     ensures err { IfErr result (λ f. geometry_fault Kind.LineString integers.now ≡ Some (f.index, f.cause)) }
 {
-    let mut pen = Pen { at: 0, cursor: ORIGIN };
+    let mut pen = Pen {
+        at: 0,
+        cursor: ORIGIN,
+    };
     let mut lines = 0;
     while pen.at < integers.len() {
         let first = judge_command(Kind::LineString, Command::MoveTo, integers, pen)?;
@@ -77,13 +89,13 @@ fn judge_polygons(integers: &[u32]) -> Result<usize, Fault>
     ensures ok { OnOk result (geometry_fault Kind.Polygon integers.now ≡ None) }
     ensures err { IfErr result (λ f. geometry_fault Kind.Polygon integers.now ≡ Some (f.index, f.cause)) }
 {
-    let mut pen = Pen { at: 0, cursor: ORIGIN };
+    let mut pen = Pen {
+        at: 0,
+        cursor: ORIGIN,
+    };
     let mut polygons = 0;
     while pen.at < integers.len() {
         let (next, area) = judge_ring(integers, pen)?;
-        if polygons == 0 && area < 0 {
-            return Err(Fault { index: next.at - 1, cause: GeometryCause::FirstRing });
-        }
         if polygons == 0 || area > 0 {
             polygons += 1;
         }
@@ -96,20 +108,33 @@ fn judge_polygons(integers: &[u32]) -> Result<usize, Fault>
 fn judge_ring(integers: &[u32], pen: Pen) -> Result<(Pen, i128), Fault>
     requires { pen.at < length integers.now }
     ensures further { IfOk result (λ r. (pen.at < r.0.at) × (r.0.at ≤ length integers.now)) }
-    ensures ok { IfOk result (λ r. (k : ℕ) → k % 3 ≡ 0 → Reached Kind.Polygon integers.now k pen.at pen.cursor
-        → (k ≡ 0 → pos 0 ≤ℤ r.1) → Reached Kind.Polygon integers.now (k + 3) r.0.at r.0.cursor) }
-    ensures first_ring { IfOk result (λ r. Reached Kind.Polygon integers.now 0 pen.at pen.cursor
-        → r.1 <ℤ pos 0 → geometry_fault Kind.Polygon integers.now ≡ Some (r.0.at - 1, GeometryCause.FirstRing)) }
-    ensures err { IfErr result (λ f. (k : ℕ) → k % 3 ≡ 0 → Reached Kind.Polygon integers.now k pen.at pen.cursor
+    ensures ok { IfOk result (λ r. (k : ℕ) → k % 3 ≡ 0
+        → Reached Kind.Polygon integers.now k pen.at pen.cursor
+        → Reached Kind.Polygon integers.now (k + 3) r.0.at r.0.cursor) }
+    ensures err { IfErr result (λ f. (k : ℕ) → k % 3 ≡ 0
+        → Reached Kind.Polygon integers.now k pen.at pen.cursor
         → geometry_fault Kind.Polygon integers.now ≡ Some (f.index, f.cause)) }
 {
     let first = judge_command(Kind::Polygon, Command::MoveTo, integers, pen)?;
     let count = judge_header(Kind::Polygon, Command::LineTo, integers, first.at)?;
     let begin = first.at + 1;
     let end = begin + 2 * count;
-    let (last, area) = judge_edges(begin, first.cursor, &integers[begin..end])?;
+    let (last, path) = judge_edges(begin, first.cursor, &integers[begin..end])?;
     judge_header(Kind::Polygon, Command::ClosePath, integers, end)?;
-    Ok((Pen { at: end + 1, cursor: last }, area + cross(last, first.cursor)))
+    let area = path + cross(last, first.cursor);
+    if pen.at == 0 && area < 0 {
+        return Err(Fault {
+            index: end,
+            cause: GeometryCause::FirstRing,
+        });
+    }
+    Ok((
+        Pen {
+            at: end + 1,
+            cursor: last,
+        },
+        area,
+    ))
 }
 
 /// The pen behind a command that has parameters.
@@ -126,8 +151,7 @@ fn judge_command(kind: Kind, command: Command, integers: &[u32], pen: Pen) -> Re
     let count = judge_header(kind, command, integers, pen.at)?;
     let begin = pen.at + 1;
     let end = begin + 2 * count;
-    let is_line = command == Command::LineTo;
-    let cursor = judge_pairs(is_line, begin, pen.cursor, &integers[begin..end])?;
+    let cursor = judge_pairs(command.is_line(), begin, pen.cursor, &integers[begin..end])?;
     Ok(Pen { at: end, cursor })
 }
 
@@ -140,32 +164,39 @@ fn judge_header(kind: Kind, command: Command, integers: &[u32], at: usize) -> Re
         → first (rows (header_rows must_not kind (Some command) integers.now at)) ≡ Some (f.index, f.cause)) }
 {
     let Some(integer) = integers.get(at) else {
-        return Err(Fault { index: at, cause: GeometryCause::EndsEarly });
+        return Err(Fault {
+            index: at,
+            cause: GeometryCause::EndsEarly,
+        });
     };
     if *integer % 8 != command.id() {
-        return Err(Fault { index: at, cause: GeometryCause::Command });
+        return Err(Fault {
+            index: at,
+            cause: GeometryCause::Command,
+        });
     }
     let count = *integer / 8;
     if !command.allows(kind, count) {
-        return Err(Fault { index: at, cause: GeometryCause::Count });
+        return Err(Fault {
+            index: at,
+            cause: GeometryCause::Count,
+        });
     }
     if command == Command::ClosePath {
         return Ok(0);
     }
     let count = count as usize;
     if (integers.len() - at - 1) / 2 < count {
-        return Err(Fault { index: at, cause: GeometryCause::Parameters });
+        return Err(Fault {
+            index: at,
+            cause: GeometryCause::Parameters,
+        });
     }
     Ok(count)
 }
 
 /// The cursor behind pairs, the first of which is numbered `begin`.
-fn judge_pairs(
-    is_line: bool,
-    begin: usize,
-    from: Point,
-    parameters: &[u32],
-) -> Result<Point, Fault>
+fn judge_pairs(is_line: bool, begin: usize, from: Point, parameters: &[u32]) -> Result<Point, Fault>
     requires { begin + length parameters.now < 2 ^ 64 }
     ensures ok { OnOk result (first (each (pair_rules is_line begin from) [] (pairs_of parameters.now)) ≡ None) }
     ensures cursor { IfOk result (λ to. to ≡ pairs_moved from (pairs_of parameters.now)) }
@@ -216,19 +247,34 @@ fn step(is_line: bool, at: usize, from: Point, dx: u32, dy: u32) -> Result<Point
         IfErr result (λ f. first (step_rules is_line at d (stepped from d)) ≡ Some (f.index, f.cause)) }
 {
     if dx == REFUSED {
-        return Err(Fault { index: at, cause: GeometryCause::ParameterRange });
+        return Err(Fault {
+            index: at,
+            cause: GeometryCause::ParameterRange,
+        });
     }
     if dy == REFUSED {
-        return Err(Fault { index: at + 1, cause: GeometryCause::ParameterRange });
+        return Err(Fault {
+            index: at + 1,
+            cause: GeometryCause::ParameterRange,
+        });
     }
     if is_line && is_zero(dx, dy) {
-        return Err(Fault { index: at, cause: GeometryCause::ZeroSegment });
+        return Err(Fault {
+            index: at,
+            cause: GeometryCause::ZeroSegment,
+        });
     }
     let Some(x) = moved(from.x, dx) else {
-        return Err(Fault { index: at, cause: GeometryCause::CoordinateRange });
+        return Err(Fault {
+            index: at,
+            cause: GeometryCause::CoordinateRange,
+        });
     };
     let Some(y) = moved(from.y, dy) else {
-        return Err(Fault { index: at + 1, cause: GeometryCause::CoordinateRange });
+        return Err(Fault {
+            index: at + 1,
+            cause: GeometryCause::CoordinateRange,
+        });
     };
     Ok(Point { x, y })
 }

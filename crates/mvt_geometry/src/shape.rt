@@ -81,10 +81,7 @@ fn copy_line(alloc: Global, line: &Items<Point>) -> Result<Items<Point>, AllocEr
     Ok(Items::new(points))
 }
 
-fn copy_lines(
-    alloc: Global,
-    lines: &Items<Items<Point>>,
-) -> Result<Items<Items<Point>>, AllocError>
+fn copy_lines(alloc: Global, lines: &Items<Items<Point>>) -> Result<Items<Items<Point>>, AllocError>
     ensures { IfOk result (λ copy. copy ≡ lines.now) }
 {
     let lines = lines.as_slice();

@@ -26,9 +26,8 @@ pub record Reached (kind : Kind) (g : List ℕ) (k s : ℕ) (c : Point) : Type 0
   pub stands : Stands kind g k s c
   pub before : first (rules_of_first kind g k) ≡ None
 
--- a walk over pairs has come to c with what is left, and the pairs behind it break no rule
-pub record Walked (is_line : Bool) (begin : ℕ) (from : Point) (parameters rest : List ℕ) (c : Point) : Type 0 where
-  pub done : List Pair
+-- a walk over pairs has come to c with what is left, and the pairs done break no rule
+pub record Walked (is_line : Bool) (begin : ℕ) (from : Point) (parameters rest : List ℕ) (c : Point) (done : List Pair) : Type 0 where
   pub split : pairs_of parameters ≡ done ++ pairs_of rest
   pub cursor_is : c ≡ moved from done
   pub calm : first (each (pair_rules is_line begin from) [] done) ≡ None
@@ -38,3 +37,8 @@ pub record Walked (is_line : Bool) (begin : ℕ) (from : Point) (parameters rest
 abbrev pub edges : Point → List Point → ℤ
 edges c [] = pos 0
 edges c (p ∷ points) = cross c p +ℤ edges p points
+
+-- where a path ends
+abbrev pub last_of : Point → List Point → Point
+last_of c [] = c
+last_of c (p ∷ points) = last_of p points
