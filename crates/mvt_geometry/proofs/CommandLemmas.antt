@@ -271,3 +271,19 @@ module _ (kind : Kind) (g : List ℕ) (k s : ℕ) (c : Point) (stands : Stands k
 -- a command before one that is reached breaks no rule
 pub kept_before : {kind : Kind} {g : List ℕ} {k s t : ℕ} {c d : Point} → Reached kind g k s c → Reached kind g (suc k) t d → first (command_rules kind g k s) ≡ None
 kept_before {kind} {g} {k} {s} r next = sym (at_command kind g k (Some s) r.before r.stands.begins) ∙ next.before
+
+-- where the whole list has no fault, no command that is reached breaks a rule
+front_calm : (kind : Kind) (g : List ℕ) (k j : ℕ) → first (rules_of_first kind g (j + k)) ≡ None → first (rules_of_first kind g k) ≡ None
+unfolding rules_of_first
+front_calm kind g k zero none = let n : 0 + k ≡ k = omega arith in rw n at none
+front_calm kind g k (suc j) none =
+    let n : suc j + k ≡ suc (j + k) = omega arith in
+    let more = subst (λ m. first (rules_of_first kind g m) ≡ None) n none in
+    front_calm kind g k j (option_or-nones _ _ (sym (first-append (rules_of_first kind g (j + k)) (under (j + k) (rules_at kind g (j + k) (start kind g (j + k))))) ∙ more)).0
+
+pub reached_calm : {kind : Kind} {g : List ℕ} {k s : ℕ} {c : Point} → kind ≢ kinds.Unknown → geometry_fault kind g ≡ None → Reached kind g k s c → first (command_rules kind g k s) ≡ None
+reached_calm {kind} {g} {k} {s} known none r =
+    let least = start-least kind g k s r.stands.begins in
+    let n : (length g - k) + suc k ≡ suc (length g) = omega (arith, r.stands.within) in
+    let all = subst (λ m. first (rules_of_first kind g m) ≡ None) (sym n) (sym (fault_is kind g known) ∙ none) in
+    sym (at_command kind g k (Some s) r.before r.stands.begins) ∙ front_calm kind g (suc k) (length g - k) all

@@ -4,3 +4,8 @@ pub mod WalkLemmas
 pub mod CommandLemmas
 pub mod AreaLemmas
 pub mod RingLemmas
+pub mod PathLemmas
+pub mod FoundLemmas
+pub mod StrokeLemmas
+pub mod LineLemmas
+pub mod PolygonLemmas

@@ -4,7 +4,7 @@ use Rattle.std.specs.Option.{option_or}
 use Rattle.std.specs.Int.Signed.{lt_z}
 use Rattle.std.proofs.lemmas.Bool.{ne_eqb, cases_eq}
 use Rattle.std.proofs.lemmas.Bool.Decides.{nat_tests}
-use Rattle.std.proofs.lemmas.Int.{ints}
+use Rattle.std.proofs.lemmas.Int.{ints, by_lt_z}
 use Rattle.std.proofs.lemmas.Map.Views.{exact_unsigned_eq}
 use Rattle.mvt_base.specs.Rules.{first, rows, when, each}
 use Rattle.mvt_base.proofs.RuleLemmas.{first-when, first-when_not, option_or-nones}
@@ -98,6 +98,15 @@ ring_fine g k s fine = first-when_not {F = IndexedCause} (eqb k 2 && lt_z (area2
     by_place : (k ≡ 2) ⊎ (k ≢ 2) → (eqb k 2 && lt_z (area2 (first_ring g)) (pos 0)) ≡ false
     by_place (inl e) = rw (not_less (fine e)) (and-false (eqb k 2))
     by_place (inr n) = rw (ne_eqb k 2 n) refl
+
+pub fine_ring : (g : List ℕ) (s : ℕ) → first (wrong_ring kinds.Polygon g 2 s) ≡ None → pos 0 ≤ℤ area2 (first_ring g)
+unfolding wrong_ring
+fine_ring g s none = by_lt_z (area2 (first_ring g)) (pos 0) (λ h. let yes = first-when {F = IndexedCause} (lt_z (area2 (first_ring g)) (pos 0)) (s, causes.FirstRing) (less h) in absurd (not_both none yes)) (λ h. h)
+  where
+    less : {z : ℤ} → z <ℤ pos 0 → lt_z z (pos 0) ≡ true
+    less h = grind (arith, ints)
+    not_both : {o : Option IndexedCause} {f : IndexedCause} → o ≡ None → o ≡ Some f → ⊥
+    not_both e f = cc
 
 -- a ring whose pairs break no rule, and whose ClosePath stands there
 module _ {g : List ℕ} {k s t : ℕ} {c d : Point} (e : k % 3 ≡ 0) (r : Reached kinds.Polygon g k s c) (next : Reached kinds.Polygon g (suc k) t d) (line : IsHeader kinds.Polygon LineTo g t) (n : ℕ) (count : n ≡ get_or g t 0 / 8) (parameters : List ℕ) (behind : parameters ≡ take (2 * n) (drop (t + 1) g)) (none : first (each (pair_rules true (t + 1) d) [] (pairs_of parameters)) ≡ None) (last : Point) (last_is : last ≡ moved d (pairs_of parameters)) where

@@ -2,6 +2,7 @@
 use Rattle.std.proofs.Common.{◌≡◌, ◌≢◌, eq-eqb, pos, negsuc, ◌≤ℤ◌, ℕ, ◌+◌, ◌*◌, ◌<◌, ◌≤◌, Bool, true, false, not, ◌&&◌, ◌||◌, eqb, ℤ, List, length, Option, Some, None, refl, sym, ap, ◌∙◌, arith}
 use Rattle.std.specs.Option.{option_or}
 use Rattle.std.specs.Int.Signed.{lt_z}
+use Rattle.std.proofs.lemmas.Bool.{false≢true, eqb-false}
 use Rattle.std.proofs.lemmas.Bool.Decides.{nat_tests}
 use Rattle.std.proofs.lemmas.Int.{ints, by_lt_z}
 use Rattle.mvt_base.specs.Rules.{first, when}
@@ -56,3 +57,23 @@ module _ (line : Bool) (at : ℕ) (d : Pair) (to : Point) (x : d.dx ≢ 42949672
   pub step_right : IsPlace to → first (step_rules line at d to) ≡ None
   step_right h =
       rw (step_chain line at d to, x_accepted line at d to x, y_accepted line at d to x y, moves, first-when_not {F = IndexedCause} _ (at, causes.CoordinateRange) (inside to.x h.0), first-when_not {F = IndexedCause} _ (at + 1, causes.CoordinateRange) (inside to.y h.1)) refl
+
+inside_is : (z : ℤ) → is_outside wide z ≡ false → InRange z
+inside_is z e =
+    by_lt_z z (negsuc 2147483646) (λ low. let yes : is_outside wide z ≡ true = grind (arith, ints) in absurd (false≢true (sym e ∙ yes))) (λ low. by_lt_z (pos 2147483647) z (λ high. let yes : is_outside wide z ≡ true = grind (arith, ints) in absurd (false≢true (sym e ∙ yes))) (λ high. record { low = low; high = high }))
+
+none_false : (b : Bool) (f : IndexedCause) → first (when b f) ≡ None → b ≡ false
+none_false true f e = cc
+none_false false f e = refl
+
+-- what holds of a step that breaks no rule
+pub step_gives : (line : Bool) (at : ℕ) (d : Pair) (to : Point) → first (step_rules line at d to) ≡ None
+    → (d.dx ≢ 4294967295) × (d.dy ≢ 4294967295) × ((line && (eqb d.dx 0 && eqb d.dy 0)) ≡ false) × IsPlace to
+step_gives line at d to none =
+    let e = sym (step_chain line at d to) ∙ none in
+    let x = option_or-nones _ _ e in
+    let y = option_or-nones _ _ x.1 in
+    let goes = option_or-nones _ _ y.1 in
+    let to_x = option_or-nones _ _ goes.1 in
+    let to_y = option_or-nones _ _ to_x.1 in
+    (eqb-false d.dx 4294967295 (none_false _ _ x.0), eqb-false d.dy 4294967295 (none_false _ _ y.0), none_false _ _ goes.0, (inside_is to.x (none_false _ _ to_x.0), inside_is to.y (none_false _ _ to_y.0)))
