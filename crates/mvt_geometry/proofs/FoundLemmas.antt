@@ -116,7 +116,7 @@ command_found {kind} {g} {k} {s} {c} r command is_due known none must small =
     let whole : drop (s + 1) g ≡ parameters ++ drop (2 * n) (drop (s + 1) g) = sym (take-append-drop (2 * n) (drop (s + 1) g)) in
     let rest : drop (2 * n) (drop (s + 1) g) ≡ drop (s + 1 + 2 * length ps) g = drop-drop (2 * n) (s + 1) g ∙ ap (λ m. drop (s + 1 + 2 * m) g) (sym long) in
     let spelled : drop s g ≡ (id_of command + 8 * count) ∷ (path_from c ps ++ drop (s + 1 + 2 * length ps) g) =
-        drop_more g s 0 h.within ∙ ap₂ (λ x xs. x ∷ xs) (integer_is command (get_or g s 0) h.id) (whole ∙ ap₂ (λ xs ys. xs ++ ys) (sym (path-pairs c n parameters size)) rest) in
+    drop_more g s 0 h.within ∙ ap₂ (λ x xs. x ∷ xs) (integer_is command (get_or g s 0) h.id) (whole ∙ ap₂ (λ xs ys. xs ++ ys) (sym (path-pairs c n parameters size)) rest) in
     record {
       count = count;
       points = ps;

@@ -9,3 +9,7 @@ pub mod FoundLemmas
 pub mod StrokeLemmas
 pub mod LineLemmas
 pub mod PolygonLemmas
+pub mod GroupLemmas
+pub mod WholeLemmas
+pub mod BuildLemmas
+pub mod PutLemmas

@@ -84,9 +84,9 @@ ring_found g k s c r e none here small =
       spelled = f.spelled ∙ ap (λ xs. stroke [] c (f.head ∷ f.tail) ++ xs) closed ∙ stroke_closed c f.head f.tail (drop (f.end + 1 + 2 * 0) g);
       next = subst (λ qs. Reached kinds.Polygon g (suc (suc (suc k))) (f.end + 1 + 2 * length qs) (last_of (last_of f.head f.tail) qs)) empty close.next;
       fine = λ z o.
-        let kept = ring_kept kinds.Polygon g (suc (suc k)) f.end (last_of f.head f.tail) f.next.stands ClosePath is_due.2 (reached_calm (λ same. cc) none f.next) in
-        let two : suc (suc k) ≡ 2 = omega (arith, z) in
-        subst (λ ring. pos 0 ≤ℤ area2 ring) (first_ring_is g k c f.head f.tail z o f.first_moves f.other_moves) (fine_ring g f.end (subst (λ m. first (wrong_ring kinds.Polygon g m f.end) ≡ None) two kept));
+          let kept = ring_kept kinds.Polygon g (suc (suc k)) f.end (last_of f.head f.tail) f.next.stands ClosePath is_due.2 (reached_calm (λ same. cc) none f.next) in
+          let two : suc (suc k) ≡ 2 = omega (arith, z) in
+          subst (λ ring. pos 0 ≤ℤ area2 ring) (first_ring_is g k c f.head f.tail z o f.first_moves f.other_moves) (fine_ring g f.end (subst (λ m. first (wrong_ring kinds.Polygon g m f.end) ≡ None) two kept));
       further = let h = f.further in omega (arith, h);
     }
 

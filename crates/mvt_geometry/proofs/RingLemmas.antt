@@ -105,6 +105,7 @@ fine_ring g s none = by_lt_z (area2 (first_ring g)) (pos 0) (λ h. let yes = fir
   where
     less : {z : ℤ} → z <ℤ pos 0 → lt_z z (pos 0) ≡ true
     less h = grind (arith, ints)
+
     not_both : {o : Option IndexedCause} {f : IndexedCause} → o ≡ None → o ≡ Some f → ⊥
     not_both e f = cc
 

@@ -100,9 +100,9 @@ module _ {kind : Kind} {least : ℕ} (has : HasStrokes kind least) {g : List ℕ
       let ps = found.points in
       let long : length ps ≡ found.count = found.may.pairs in
       let spelled_first : drop s g ≡ 9 ∷ (path_from c (p ∷ []) ++ drop (s + 1 + 2 * 1) g) =
-          first_found.spelled ∙ ap₂ (λ n qs. (1 + 8 * n) ∷ (path_from c qs ++ drop (s + 1 + 2 * length qs) g)) count_one one.1 in
+      first_found.spelled ∙ ap₂ (λ n qs. (1 + 8 * n) ∷ (path_from c qs ++ drop (s + 1 + 2 * length qs) g)) count_one one.1 in
       let spelled_other : drop (s + 1 + 2 * 1) g ≡ (2 + 8 * length ps) ∷ (path_from p ps ++ drop (s + 1 + 2 * 1 + 1 + 2 * length ps) g) =
-          found.spelled ∙ ap (λ n. (2 + 8 * n) ∷ (path_from p ps ++ drop (s + 1 + 2 * 1 + 1 + 2 * length ps) g)) (sym long) in
+      found.spelled ∙ ap (λ n. (2 + 8 * n) ∷ (path_from p ps ++ drop (s + 1 + 2 * 1 + 1 + 2 * length ps) g)) (sym long) in
       record {
         head = p;
         tail = ps;

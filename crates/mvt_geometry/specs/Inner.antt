@@ -1,3 +1,6 @@
 -- Definitions between private functions, which no public contract cites.
 pub mod Judging
 pub mod Strokes
+pub mod Grouping
+pub mod Building
+pub mod Putting

@@ -16,7 +16,7 @@ use mvt_wire::unzigzag32;
 /// The parameter that would be -2^31.
 const REFUSED: u32 = 4_294_967_295;
 
-const ORIGIN: Point = Point { x: 0, y: 0 };
+pub(crate) const ORIGIN: Point = Point { x: 0, y: 0 };
 
 /// How far the integers are read: the index of the next one, and the cursor.
 #[derive(Clone, Copy, Debug)]

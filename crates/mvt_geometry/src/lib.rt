@@ -5,8 +5,12 @@ mod area;
 mod command;
 mod fault;
 mod judge;
+mod put;
+mod read;
 mod shape;
 
 pub use area::twice_area;
 pub use fault::{GeometryCause, GeometryError};
+pub use put::{append_geometry, put_geometry};
+pub use read::read_geometry;
 pub use shape::{Geometry, Kind, Point, Polygon, kind_of};
