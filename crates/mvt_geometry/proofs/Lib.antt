@@ -13,3 +13,4 @@ pub mod GroupLemmas
 pub mod WholeLemmas
 pub mod BuildLemmas
 pub mod PutLemmas
+pub mod ValidLemmas

@@ -4,3 +4,4 @@ pub mod Strokes
 pub mod Grouping
 pub mod Building
 pub mod Putting
+pub mod Validity
