@@ -35,7 +35,8 @@ impl<T> Items<T> {
     pub fn into_vec(self) -> Vec<T>
         ensures { result.items ≡ self }
     {
-        self.vec
+        let Items { vec } = self;
+        vec
     }
 }
 

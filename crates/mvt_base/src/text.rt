@@ -19,12 +19,15 @@ impl Model for Text {
     ghost Value = { List ℕ };
 
     ghost view = { λ t. string_bytes t.string };
+
+    ghost invariant = { λ t. IsUtf8 (string_bytes t.string) };
 }
 
 impl Text {
     pub fn new(string: String) -> Self
         ensures { result ≡ string_bytes string }
     {
+        let _is_utf8 = string.as_str();
         Text { string }
     }
 
@@ -44,7 +47,8 @@ impl Text {
     pub fn into_string(self) -> String
         ensures { string_bytes result ≡ self }
     {
-        self.string
+        let Text { string } = self;
+        string
     }
 
     /// A text of the same bytes.

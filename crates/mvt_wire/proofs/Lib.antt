@@ -1,0 +1,7 @@
+pub mod FieldLemmas
+pub mod PackedLemmas
+pub mod ShortLemmas
+pub mod SpellingLemmas
+pub mod SplitLemmas
+pub mod StepLemmas
+pub mod VarintLemmas

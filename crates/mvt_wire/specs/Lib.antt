@@ -1,1 +1,11 @@
+pub mod Field
+pub mod Fields
+pub mod Fronts
+pub mod Inner
+pub mod Packed
+pub mod Rest
+pub mod Span
+pub mod Spelling
+pub mod Split
+pub mod Varint
 pub mod Zigzag

@@ -1,6 +1,23 @@
 //! The wire format of Protocol Buffers: varints, zigzag numbers, fields and packed lists.
 #![tactic(auto)]
 
+mod fault;
+mod field;
+mod fields;
+pub mod laws;
+mod packed;
+mod span;
+mod spelling;
+#[cfg(test)]
+mod tests;
+mod varint;
 mod zigzag;
 
+pub use fault::{WireCause, WireFault};
+pub use field::{Field, Payload, next_field};
+pub use fields::Fields;
+pub use packed::{PackedError, append_packed, packed_len, put_packed, read_packed};
+pub use span::{Span, field_span};
+pub use spelling::{field_len, put_field};
+pub use varint::{put_varint, read_varint, varint_len};
 pub use zigzag::{unzigzag32, unzigzag64, zigzag32, zigzag64};

@@ -25,13 +25,13 @@ pub fn unzigzag32(code: u32) -> i32
 
 /// The zigzag code of a number.
 #[inline]
-pub fn zigzag64(number: i64) -> u64
-    ensures { result ≡ zig number }
+pub fn zigzag64(signed: i64) -> u64
+    ensures { result ≡ zig signed }
 {
-    if number >= 0 {
-        2 * number.cast_unsigned()
+    if signed >= 0 {
+        2 * signed.cast_unsigned()
     } else {
-        2 * (!number).cast_unsigned() + 1
+        2 * (!signed).cast_unsigned() + 1
     }
 }
 
@@ -40,6 +40,6 @@ pub fn zigzag64(number: i64) -> u64
 pub fn unzigzag64(code: u64) -> i64
     ensures { zig result ≡ code }
 {
-    let half = (code / 2).cast_signed();
-    if code % 2 == 0 { half } else { !half }
+    let magnitude = (code / 2).cast_signed();
+    if code % 2 == 0 { magnitude } else { !magnitude }
 }

@@ -1,0 +1,45 @@
+-- What clap makes of the command `mvt`, by computing.
+use Rattle.std.proofs.Common.{◌≡◌, ◌≢◌, ℕ, Bool, true, false, List, [], ◌∷◌, ◌==◌, length, map, refl, sym, ap, ◌∙◌, codes, inl, inr}
+use Rattle.clap.specs.Kinds.{HasKind, Kinds}
+use Rattle.clap.specs.declared.error.Error.{Error}
+use Rattle.clap.specs.declared.error.kind.ErrorKind.TheVariants.{OutOfMemory}
+use Rattle.clap.proofs.OnLiterals.{clap_on_literals}
+use Rattle.clap.specs.Words.{App, fault_of, is_simple_and_free, kind_of}
+use Rattle.mvt_cli.specs.Words.{mvt, faults_in, IsPlainLine}
+
+pub mvt_free : is_simple_and_free mvt ≡ true
+unfolding clap_on_literals mvt
+mvt_free = refl
+
+pub name_alone : (name : List ℕ) → fault_of mvt (name ∷ []) ≡ []
+unfolding clap_on_literals mvt
+name_alone name = refl
+
+pub fields_alone : (name : List ℕ) → fault_of mvt (name ∷ codes "fields" ∷ []) ≡ []
+unfolding clap_on_literals mvt
+fields_alone name = refl
+
+-- a list that isn't empty is given to clap
+pub given_to_clap : {A : Type 0} → (text : A → List ℕ) (words : List A) → (length words == 0) ≡ false → faults_in (map text words) ≡ fault_of mvt (map text words)
+given_to_clap text [] e = cc
+given_to_clap text (w ∷ ws) e = refl
+
+-- an error that isn't want of memory has one of the kinds of the fault
+pub some_fault : (kinds : Kinds) (e : Error) → HasKind kinds e → kind_of e ≢ OutOfMemory → kinds ≢ []
+some_fault [] e (inl memory) other is = other memory
+some_fault [] e (inr among) other is = among
+some_fault (k ∷ ks) e h other is = cc
+
+pub accepted : {A : Type 0} → (a : App) (text : A → List ℕ) (words : List A) → a ≡ mvt → (length words == 0) ≡ false → (is_simple_and_free a ≡ true → fault_of a (map text words) ≡ []) → faults_in (map text words) ≡ []
+accepted a text words is some none =
+    given_to_clap text words some ∙ ap (λ (x : App). fault_of x (map text words)) (sym is) ∙ none (ap is_simple_and_free is ∙ mvt_free)
+
+pub refused : {A : Type 0} → (a : App) (text : A → List ℕ) (words : List A) (e : Error) → a ≡ mvt → (length words == 0) ≡ false → (is_simple_and_free a ≡ true → HasKind (fault_of a (map text words)) e) → kind_of e ≢ OutOfMemory → faults_in (map text words) ≢ []
+refused a text words e is some kinds other none =
+    some_fault (fault_of a (map text words)) e (kinds (ap is_simple_and_free is ∙ mvt_free)) other (ap (λ (x : App). fault_of x (map text words)) is ∙ sym (given_to_clap text words some) ∙ none)
+
+pub plain_taken : (words : List (List ℕ)) → IsPlainLine words → faults_in words ≡ []
+plain_taken [] h = refl
+plain_taken (name ∷ []) h = name_alone name
+plain_taken (name ∷ word ∷ []) h = rw h (fields_alone name)
+plain_taken (name ∷ word ∷ more ∷ words) h = absurd h

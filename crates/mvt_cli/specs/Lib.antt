@@ -1,0 +1,5 @@
+pub mod Failures
+pub mod Refused
+pub mod Words
+pub mod Output
+pub mod Fields

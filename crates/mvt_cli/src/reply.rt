@@ -1,0 +1,41 @@
+//! What a command answers, and how it is put out.
+ghost use Rattle.std.specs.Prelude.{◌≡◌, string_bytes, OnOk, OnErr, IfErr};
+ghost use Rattle.std.specs.Io.KnownBytes.{Appends};
+ghost use Rattle.mvt_io.specs.Counts.{counted, HasFailed, NoneFailed};
+ghost use Rattle.mvt_io.specs.Transfers.{TakesPrefix};
+
+use crate::failure::Failure;
+use mvt_io::{Sink, write_all};
+
+/// What a command answers: the text for the output, the line for the error stream, if there is one,
+/// and the status.
+#[derive(Debug, Drop)]
+pub struct Reply {
+    pub written: String,
+    pub told: String,
+    pub status: u8,
+}
+
+/// Puts the text out whole and flushes once.
+///
+/// # Errors
+///
+/// Write, where a write or the flush fails; the writer has then taken a front of the text.
+pub fn deliver<W: Sink>(text: &str, writer: &mut W) -> Result<(), Failure>
+    ensures taken { OnOk result (Appends (W.taken writer.old) (W.taken writer.new) text.now) }
+    ensures flushed { OnOk result (W.flushes writer.new ≡ counted (W.flushes writer.old)) }
+    ensures prefix { OnErr result (TakesPrefix (W.taken writer.old) (W.taken writer.new) text.now) }
+    ensures failed { IfErr result (λ failure. (failure ≡ Failure.Write)
+        × HasFailed (W.failed writer.old) (W.failed writer.new)) }
+{
+    write_all(writer, text.as_bytes()).map_err(|_| Failure::Write)?;
+    writer.flush().map_err(|_| Failure::Write)
+}
+
+/// Puts a line on the error stream, whose faults are ignored.
+pub fn tell<E: Sink>(errors: &mut E, line: &str)
+    ensures { NoneFailed (E.failed errors.old) (E.failed errors.new)
+        → Appends (E.taken errors.old) (E.taken errors.new) line.now }
+{
+    let _ = write_all(errors, line.as_bytes());
+}

@@ -1,0 +1,63 @@
+-- Fronts of bytes: those that a source gives, and those that a writer takes.
+use Rattle.std.proofs.Common.{◌≡◌, ℕ, ◌+◌, ◌-◌, ◌≤◌, List, [], ◌++◌, length, take, drop, Option, Result, Ok, Err, OnErr, sym, ap, ap₂, ◌∙◌, subst, arith, append_assoc, length-append, length-take, take-append-drop}
+use Rattle.std.proofs.lemmas.List.{drop-drop, take-append-le}
+use Rattle.std.proofs.Math.Seq.{take-append_seam, take-append-add}
+use Rattle.std.proofs.lemmas.Grind.{common_steps}
+use Rattle.std.specs.Io.KnownBytes.{Appends, Keeps}
+use Rattle.std.proofs.KnownBytes.{Appends-nil, Appends-trans, Appends-kept}
+use Rattle.mvt_io.specs.Transfers.{TakesPrefix}
+
+-- the next n bytes stand at the front of a buffer, before bytes of its own
+pub front_given : (left all front rest : List ℕ) (at n : ℕ) → drop at all ≡ left → front ≡ take n left → n ≤ length left
+    → left ≡ take n (front ++ rest) ++ drop (at + n) all
+front_given left all front rest at n is e h =
+    let size : length front ≡ n = omega (arith, ap length e, length-take n left) in
+    let gone : drop (at + n) all ≡ drop n left = sym (drop-drop n at all) ∙ ap (drop n) is in
+    let there : take n (front ++ rest) ≡ take n left =
+    ap (λ k. take k (front ++ rest)) (sym size) ∙ take-append_seam front rest ∙ e in
+    sym (ap₂ (λ x y. x ++ y) there gone ∙ take-append-drop n left)
+
+-- the writer took a front of the bytes, and this rest is to come
+pub record TakesFront (old now : Option (List ℕ)) (bytes rest : List ℕ) : Type 0 where
+  pub front : List ℕ
+  pub splits : bytes ≡ front ++ rest
+  pub taken : Appends old now front
+
+back : (xs : List ℕ) (n : ℕ) → n ≤ length xs → xs ≡ take n xs ++ take (length xs - n) (drop n xs)
+back xs n h = grind (arith, common_steps)
+
+pub TakesFront-more : (a b c : Option (List ℕ)) (bytes rest : List ℕ) (n : ℕ) → TakesFront a b bytes rest
+    → Appends b c (take n rest) → n ≤ length rest → TakesFront a c bytes (take (length rest - n) (drop n rest))
+TakesFront-more a b c bytes rest n f more h = record {
+  front = f.front ++ take n rest;
+  splits = f.splits ∙ ap (λ r. f.front ++ r) (back rest n h) ∙ sym (append_assoc f.front (take n rest) (take (length rest - n) (drop n rest)));
+  taken = Appends-trans a b c f.front (take n rest) f.taken more;
+}
+
+pub TakesFront-kept : (a b c : Option (List ℕ)) (bytes rest : List ℕ) → TakesFront a b bytes rest → Keeps b c → TakesFront a c bytes rest
+TakesFront-kept a b c bytes rest f kept = record { front = f.front; splits = f.splits; taken = Appends-kept a b c f.front f.taken kept }
+
+pub TakesPrefix-from_front : (a b : Option (List ℕ)) (bytes rest : List ℕ) → TakesFront a b bytes rest → TakesPrefix a b bytes
+TakesPrefix-from_front a b bytes rest f =
+    let same : take (length f.front) bytes ≡ f.front = ap (take (length f.front)) f.splits ∙ take-append_seam f.front rest in
+    (length f.front, omega (arith, ap length f.splits, length-append f.front rest), subst (Appends a b) (sym same) f.taken)
+
+pub on_err : {T E P : Type 0} (r : Result T E) → P → OnErr r P
+on_err (Ok x) p = tt
+on_err (Err e) p = p
+
+pub TakesPrefix-nil : (a b : Option (List ℕ)) (bytes : List ℕ) → Keeps a b → TakesPrefix a b bytes
+TakesPrefix-nil a b bytes kept = (0, omega arith, Appends-kept a a b [] (Appends-nil a) kept)
+
+middle : (n : ℕ) (xs ys zs : List ℕ) → n ≤ length ys → take (length xs + n) (xs ++ (ys ++ zs)) ≡ xs ++ take n ys
+middle n xs ys zs h = take-append-add xs (ys ++ zs) n ∙ ap (λ l. xs ++ l) (take-append-le n ys zs h)
+
+pub TakesPrefix-after : (a b c : Option (List ℕ)) (before bytes after whole : List ℕ) → whole ≡ before ++ (bytes ++ after)
+    → Appends a b before → TakesPrefix b c bytes → TakesPrefix a c whole
+TakesPrefix-after a b c before bytes after whole e p q =
+    let within : length before + q.0 ≤ length (before ++ (bytes ++ after)) =
+    omega (arith, q.1, length-append before (bytes ++ after), length-append bytes after) in
+    let taken : Appends a c (before ++ take q.0 bytes) = Appends-trans a b c before (take q.0 bytes) p q.2 in
+    let front : TakesPrefix a c (before ++ (bytes ++ after)) =
+    (length before + q.0, within, subst (Appends a c) (sym (middle q.0 before bytes after q.1)) taken) in
+    subst (TakesPrefix a c) (sym e) front

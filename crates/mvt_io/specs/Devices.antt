@@ -1,0 +1,77 @@
+-- The devices over memory: what each of their calls answers, and their state after it.
+use Rattle.std.specs.Prelude.{ℕ, ◌-◌, ◌&&◌, ◌||◌, min, nat_lt, nat_le, Bool, List, ◌++◌, length, take, drop, Option, Some, Result, Ok, Err, if◌then◌else◌}
+use Rattle.std.specs.declared.io.ErrorKind.{ErrorKind}
+use Rattle.std.specs.declared.io.ErrorKind.TheVariants.{Other, WriteZero}
+use Rattle.mvt_io.specs.Counts.{counted}
+
+-- a source: the bytes that it has left, the most that it gives in a read, the number of the first
+-- read that fails
+pub record SourceState : Type 0 where
+  pub left : List ℕ
+  pub step : ℕ
+  pub fails_from : ℕ
+  pub calls : ℕ
+  pub failed : ℕ
+  pub fault : Option ErrorKind
+
+-- reads are numbered from 0
+abbrev pub read_fails : SourceState → Bool
+read_fails s = nat_le s.fails_from s.calls
+
+-- how many bytes a read into so much room gives
+abbrev pub given : SourceState → ℕ → ℕ
+given s room = min s.step (min room (length s.left))
+
+abbrev pub read_answer : SourceState → ℕ → Result ℕ ErrorKind
+read_answer s room = if read_fails s then Err Other else Ok (given s room)
+
+abbrev pub after_read : SourceState → ℕ → SourceState
+after_read s room = if read_fails s
+    then record s { calls = counted s.calls; failed = counted s.failed; fault = Some Other }
+    else record s { left = drop (given s room) s.left; calls = counted s.calls }
+
+-- a sink: the bytes that it took, the most that it takes in all and in a write, the number of the
+-- first write that fails
+pub record SinkState : Type 0 where
+  pub taken : List ℕ
+  pub room : ℕ
+  pub step : ℕ
+  pub fails_from : ℕ
+  pub flush_fails : Bool
+  pub calls : ℕ
+  pub flushes : ℕ
+  pub failed : ℕ
+  pub fault : Option ErrorKind
+
+-- writes are numbered from 0, and a nonempty one fails once the room is used up
+abbrev pub refuses : SinkState → List ℕ → Bool
+refuses s piece = nat_le s.fails_from s.calls || (nat_le s.room (length s.taken) && nat_lt 0 (length piece))
+
+-- how many bytes of the piece a write takes
+abbrev pub accepted : SinkState → List ℕ → ℕ
+accepted s piece = min s.step (min (length piece) (s.room - length s.taken))
+
+-- a write takes nothing of a nonempty piece
+abbrev pub stalls : SinkState → List ℕ → Bool
+stalls s piece = nat_lt 0 (length piece) && nat_le (accepted s piece) 0
+
+abbrev pub write_answer : SinkState → List ℕ → Result ℕ ErrorKind
+write_answer s piece = if refuses s piece then Err Other else Ok (accepted s piece)
+
+abbrev pub after_write : SinkState → List ℕ → SinkState
+after_write s piece = if refuses s piece
+    then record s { calls = counted s.calls; failed = counted s.failed; fault = Some Other }
+    else record s {
+      taken = s.taken ++ take (accepted s piece) piece;
+      calls = counted s.calls;
+      failed = if stalls s piece then counted s.failed else s.failed;
+      fault = if stalls s piece then Some WriteZero else s.fault;
+    }
+
+abbrev pub flush_answer : SinkState → Result (Unit {0}) ErrorKind
+flush_answer s = if s.flush_fails then Err Other else Ok tt
+
+abbrev pub after_flush : SinkState → SinkState
+after_flush s = if s.flush_fails
+    then record s { flushes = counted s.flushes; failed = counted s.failed; fault = Some Other }
+    else record s { flushes = counted s.flushes }

@@ -1,0 +1,109 @@
+//! The readers and writers of std.
+ghost use Rattle.std.specs.Prelude.{◌≡◌, None};
+
+use super::failures::Failures;
+use super::{Sink, Source};
+use std::io::{ErrorKind, Read, Write};
+use std::marker::Model;
+
+/// A reader or a writer of std, with the counts that a `Source` or a `Sink` keeps. It tells the
+/// bytes that the inner one tells.
+///
+/// ```
+/// let mut reader = Host::new(rt.stdin());
+/// let input = read_all(rt.alloc(), &mut reader);
+/// ```
+#[derive(Drop)]
+pub struct Host<T> {
+    inner: T,
+    reads: u64,
+    failures: Failures,
+    flushes: u64,
+}
+
+impl<T> Model for Host<T> {
+    ghost use Rattle.mvt_io.specs.Hosts.{HostState};
+
+    ghost Value = { HostState T };
+
+    ghost view = { λ h. record {
+      inner = h.inner;
+      reads = h.reads;
+      failed = h.failures.count;
+      fault = h.failures.last;
+      flushes = h.flushes;
+    } };
+}
+
+impl<T> Host<T> {
+    pub fn new(inner: T) -> Self
+        ensures { result ≡ record { inner = inner; reads = 0; failed = 0; fault = None; flushes = 0 } }
+    {
+        Host {
+            inner,
+            reads: 0,
+            failures: Failures::none(),
+            flushes: 0,
+        }
+    }
+}
+
+impl<T: Read> Source for Host<T> {
+    ghost left = { λ h. T.remaining h.inner };
+
+    ghost reads = { λ h. h.reads };
+
+    ghost failed = { λ h. h.failed };
+
+    ghost fault = { λ h. h.fault };
+
+    fn read(&mut self, buffer: &mut [u8]) -> Result<usize, ErrorKind> {
+        self.reads = self.reads.saturating_add(1);
+        match self.inner.read(buffer) {
+            Ok(count) => Ok(count),
+            Err(error) => {
+                let kind = error.kind();
+                self.failures.add(kind);
+                Err(kind)
+            }
+        }
+    }
+}
+
+impl<T: Write> Sink for Host<T> {
+    ghost taken = { λ h. T.contents h.inner };
+
+    ghost failed = { λ h. h.failed };
+
+    ghost fault = { λ h. h.fault };
+
+    ghost flushes = { λ h. h.flushes };
+
+    fn write(&mut self, piece: &[u8]) -> Result<usize, ErrorKind> {
+        match self.inner.write(piece) {
+            Ok(count) => {
+                if count == 0 && !piece.is_empty() {
+                    self.failures.add(ErrorKind::WriteZero);
+                }
+                Ok(count)
+            }
+            Err(error) => {
+                let kind = error.kind();
+                self.failures.add(kind);
+                Err(kind)
+            }
+        }
+    }
+
+    fn flush(&mut self) -> Result<(), ErrorKind> {
+        self.flushes = self.flushes.saturating_add(1);
+        match self.inner.flush() {
+            Ok(()) => Ok(()),
+            Err(error) => {
+                let kind = error.kind();
+                self.failures.add(kind);
+                Err(kind)
+            }
+        }
+    }
+}

@@ -1,0 +1,165 @@
+//! A writer into memory, for tests.
+ghost use Rattle.std.specs.Prelude.{◌≡◌, ◌≤◌, [], false, length, None, Some, IfOk, is_ok, if◌then◌else◌};
+ghost use Rattle.std.specs.Io.KnownBytes.{Keeps, WriteAppends};
+ghost use Rattle.mvt_io.specs.Counts.{counted, write_fails};
+ghost use Rattle.mvt_io.specs.Kinds.{fault_after, write_fault};
+ghost use Rattle.mvt_io.specs.Devices.{write_answer, after_write, flush_answer, after_flush};
+
+use super::Sink;
+use super::failures::Failures;
+use std::alloc::{AllocError, Global};
+use std::io::ErrorKind;
+use std::marker::Model;
+
+/// A writer into memory, which can take bytes in small steps, have little room, and fail from some
+/// write on.
+///
+/// ```
+/// let mut writer = MemorySink::new(alloc, 5, 2, u64::MAX, false)?; // two bytes a write, five in all
+/// ```
+#[derive(Drop)]
+pub struct MemorySink {
+    bytes: Vec<u8>,
+    room: usize,
+    step: usize,
+    fails_from: u64,
+    flush_fails: bool,
+    calls: u64,
+    flushes: u64,
+    failures: Failures,
+}
+
+impl Model for MemorySink {
+    ghost use Rattle.std.specs.Prelude.{◌≤◌, vec_len, vec_capacity};
+    ghost use Rattle.mvt_io.specs.Devices.{SinkState};
+
+    ghost Value = { SinkState };
+
+    ghost view = { λ s. record {
+      taken = s.bytes.items;
+      room = s.room;
+      step = s.step;
+      fails_from = s.fails_from;
+      flush_fails = s.flush_fails;
+      calls = s.calls;
+      flushes = s.flushes;
+      failed = s.failures.count;
+      fault = s.failures.last;
+    } };
+
+    ghost invariant = { λ s. (vec_len s.bytes ≤ s.room) × (s.room ≤ vec_capacity s.bytes) };
+}
+
+impl MemorySink {
+    /// At most `step` bytes pass in a write, and `room` in all; the room is reserved here, and no
+    /// other call takes memory. The writes numbered `fails_from` or later, from 0, fail with kind
+    /// `Other`, as do writes that aren't empty once the room is used up, and each flush where
+    /// `flush_fails`.
+    pub fn new(
+        alloc: Global,
+        room: usize,
+        step: usize,
+        fails_from: u64,
+        flush_fails: bool,
+    ) -> Result<Self, AllocError>
+        ensures { IfOk result (λ sink. sink ≡ record {
+          taken = [];
+          room = room;
+          step = step;
+          fails_from = fails_from;
+          flush_fails = flush_fails;
+          calls = 0;
+          flushes = 0;
+          failed = 0;
+          fault = None;
+        }) }
+    {
+        Ok(MemorySink {
+            bytes: Vec::with_capacity(alloc, room)?,
+            room,
+            step,
+            fails_from,
+            flush_fails,
+            calls: 0,
+            flushes: 0,
+            failures: Failures::none(),
+        })
+    }
+
+    /// How many writes there were, failed ones too, up to 2^64 - 1.
+    pub fn calls(&self) -> u64
+        ensures { result ≡ self.now.calls }
+    {
+        self.calls
+    }
+
+    /// How many flushes there were, failed ones too, up to 2^64 - 1.
+    pub fn flushes(&self) -> u64
+        ensures { result ≡ self.now.flushes }
+    {
+        self.flushes
+    }
+
+    /// The bytes of all writes so far.
+    pub fn taken(&self) -> &[u8]
+        ensures { result.now ≡ self.now.taken }
+    {
+        self.bytes.as_slice()
+    }
+}
+
+impl Sink for MemorySink {
+    ghost taken = { λ s. Some s.taken };
+
+    ghost failed = { λ s. s.failed };
+
+    ghost fault = { λ s. s.fault };
+
+    ghost flushes = { λ s. s.flushes };
+
+    fn write(&mut self, piece: &[u8]) -> Result<usize, ErrorKind>
+        ensures answer { result ≡ write_answer self.old piece.now }
+        ensures after { self.new ≡ after_write self.old piece.now }
+
+        // What every writer promises.
+        ensures within { IfOk result (λ n. n ≤ length piece.now) }
+        ensures bytes { WriteAppends (Some self.old.taken) (Some self.new.taken) result piece.now }
+        ensures fault { self.new.fault ≡ write_fault result piece.now self.old.fault }
+        ensures flushes { self.new.flushes ≡ self.old.flushes }
+        ensures failed { self.new.failed
+            ≡ (if write_fails result piece.now then counted self.old.failed else self.old.failed) }
+    {
+        let number = self.calls;
+        let left = self.room - self.bytes.len();
+        self.calls = number.saturating_add(1);
+        if number >= self.fails_from || (left == 0 && !piece.is_empty()) {
+            self.failures.add(ErrorKind::Other);
+            return Err(ErrorKind::Other);
+        }
+        let count = self.step.min(piece.len()).min(left);
+        self.bytes.extend_from_slice(&piece[..count]).unwrap();
+        if count == 0 && !piece.is_empty() {
+            self.failures.add(ErrorKind::WriteZero);
+        }
+        Ok(count)
+    }
+
+    fn flush(&mut self) -> Result<(), ErrorKind>
+        ensures answer { result ≡ flush_answer self.old }
+        ensures after { self.new ≡ after_flush self.old }
+
+        // What every writer promises.
+        ensures bytes { Keeps (Some self.old.taken) (Some self.new.taken) }
+        ensures fault { self.new.fault ≡ fault_after result self.old.fault }
+        ensures flushes { self.new.flushes ≡ counted self.old.flushes }
+        ensures failed { self.new.failed
+            ≡ (if is_ok result then self.old.failed else counted self.old.failed) }
+    {
+        self.flushes = self.flushes.saturating_add(1);
+        if self.flush_fails {
+            self.failures.add(ErrorKind::Other);
+            return Err(ErrorKind::Other);
+        }
+        Ok(())
+    }
+}

@@ -1,0 +1,111 @@
+//! A reader over memory, for tests.
+ghost use Rattle.std.specs.Prelude.{◌≡◌, ◌≤◌, length, None, Some, IfOk, is_ok, if◌then◌else◌};
+ghost use Rattle.std.specs.Io.KnownBytes.{ReadConsumes};
+ghost use Rattle.mvt_io.specs.Counts.{counted};
+ghost use Rattle.mvt_io.specs.Kinds.{fault_after};
+ghost use Rattle.mvt_io.specs.Devices.{read_answer, after_read};
+
+use super::Source;
+use super::failures::Failures;
+use std::io::ErrorKind;
+use std::marker::Model;
+
+/// A reader over bytes, which can give them in small steps and fail from some read on.
+///
+/// ```
+/// let mut reader = MemorySource::new(bytes, 1, 5); // one byte a read; the sixth read fails
+/// ```
+#[derive(Drop)]
+pub struct MemorySource {
+    bytes: Vec<u8>,
+    at: usize,
+    step: usize,
+    fails_from: u64,
+    calls: u64,
+    failures: Failures,
+}
+
+impl Model for MemorySource {
+    ghost use Rattle.std.specs.Prelude.{◌≤◌, drop, vec_len};
+    ghost use Rattle.mvt_io.specs.Devices.{SourceState};
+
+    ghost Value = { SourceState };
+
+    ghost view = { λ s. record {
+      left = drop s.at s.bytes.items;
+      step = s.step;
+      fails_from = s.fails_from;
+      calls = s.calls;
+      failed = s.failures.count;
+      fault = s.failures.last;
+    } };
+
+    ghost invariant = { λ s. (s.at ≤ vec_len s.bytes) × (1 ≤ s.step) };
+}
+
+impl MemorySource {
+    /// At most `step` bytes pass in a read, and the reads numbered `fails_from` or later, from 0,
+    /// fail with kind `Other`.
+    pub fn new(bytes: Vec<u8>, step: usize, fails_from: u64) -> Self
+        requires { 1 ≤ step }
+        ensures { result ≡ record {
+          left = bytes.items;
+          step = step;
+          fails_from = fails_from;
+          calls = 0;
+          failed = 0;
+          fault = None;
+        } }
+    {
+        MemorySource {
+            bytes,
+            at: 0,
+            step,
+            fails_from,
+            calls: 0,
+            failures: Failures::none(),
+        }
+    }
+
+    /// How many reads there were, failed ones too, up to 2^64 - 1.
+    pub fn calls(&self) -> u64
+        ensures { result ≡ self.now.calls }
+    {
+        self.calls
+    }
+}
+
+impl Source for MemorySource {
+    ghost left = { λ s. Some s.left };
+
+    ghost reads = { λ s. s.calls };
+
+    ghost failed = { λ s. s.failed };
+
+    ghost fault = { λ s. s.fault };
+
+    fn read(&mut self, buffer: &mut [u8]) -> Result<usize, ErrorKind>
+        ensures answer { result ≡ read_answer self.old (length buffer.old) }
+        ensures after { self.new ≡ after_read self.old (length buffer.old) }
+
+        // What every reader promises.
+        ensures within { IfOk result (λ n. n ≤ length buffer.new) }
+        ensures bytes { ReadConsumes (Some self.old.left) (Some self.new.left) result buffer.new }
+        ensures reads { self.new.calls ≡ counted self.old.calls }
+        ensures fault { self.new.fault ≡ fault_after result self.old.fault }
+        ensures failed { self.new.failed
+            ≡ (if is_ok result then self.old.failed else counted self.old.failed) }
+    {
+        let number = self.calls;
+        self.calls = number.saturating_add(1);
+        if number >= self.fails_from {
+            self.failures.add(ErrorKind::Other);
+            return Err(ErrorKind::Other);
+        }
+        let left = &self.bytes[self.at..];
+        let count = self.step.min(buffer.len()).min(left.len());
+        buffer[..count].copy_from_slice(&left[..count]);
+        self.at += count;
+        Ok(count)
+    }
+}

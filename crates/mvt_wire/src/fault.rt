@@ -1,0 +1,21 @@
+//! Why bytes aren't the spelling that is due.
+
+/// The kinds of broken spelling.
+#[derive(Clone, Copy, Debug, PartialEq, Eq)]
+pub enum WireCause {
+    /// The bytes end inside a number or a field.
+    Truncated,
+    /// A varint of more than ten bytes, or of a number of 2^64 or more.
+    VarintRange,
+    /// A tag of 2^32 or more, or of field number 0.
+    FieldNumber,
+    /// A wire type other than 0, 1, 2 and 5.
+    WireType,
+}
+
+/// A broken spelling, and the offset where it begins.
+#[derive(Clone, Copy, Debug, PartialEq, Eq)]
+pub struct WireFault {
+    pub at: usize,
+    pub cause: WireCause,
+}

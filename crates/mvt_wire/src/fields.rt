@@ -1,0 +1,70 @@
+//! The fields of a slice, one after the other.
+ghost use Rattle.std.specs.Prelude.{◌≡◌, ◌+◌, length};
+ghost use Rattle.mvt_wire.specs.Split.{split};
+
+use crate::fault::WireFault;
+use crate::field::{Field, next_field};
+use std::marker::Model;
+
+/// The fields of a slice in order. After a fault it ends.
+///
+/// ```ignore
+/// for field in Fields::new(payload) {
+///     let field = field?;
+///     println!(rt; "{} at {}", field.number, field.at)?;
+/// }
+/// ```
+///
+/// Contracts see the split that is still to come: the fields, then the rest and its place.
+#[derive(Debug, Drop)]
+pub struct Fields<'a> {
+    source: &'a [u8],
+    at: usize,
+}
+
+impl<'a> Model for Fields<'a> {
+    ghost use Rattle.std.specs.Prelude.{◌≤◌, length, drop};
+    ghost use Rattle.mvt_wire.specs.Split.{Parts, split_from};
+
+    ghost Value = { Parts };
+
+    ghost view = { λ s. split_from s.at (drop s.at s.source.now) };
+
+    ghost invariant = { λ s. s.at ≤ length s.source.now };
+}
+
+impl<'a> Fields<'a> {
+    /// The fields from the front on.
+    #[inline(always)]
+    pub fn new(source: &'a [u8]) -> Self
+        ensures fields { result ≡ split source.now }
+        ensures place { result.rest_at + length result.rest ≡ length source.now }
+    {
+        Fields { source, at: 0 }
+    }
+}
+
+impl<'a> Iterator for Fields<'a> {
+    ghost use Rattle.mvt_wire.specs.Fields.{GivesField, fields_at_most};
+
+    type Item = Result<Field<'a>, WireFault>;
+
+    ghost next_gives = { GivesField };
+
+    ghost remaining = { fields_at_most };
+
+    #[inline(always)]
+    fn next(&mut self) -> Option<Result<Field<'a>, WireFault>> {
+        match next_field(self.source, self.at) {
+            Ok(None) => None,
+            Ok(Some((field, after))) => {
+                self.at = after;
+                Some(Ok(field))
+            }
+            Err(fault) => {
+                self.at = self.source.len();
+                Some(Err(fault))
+            }
+        }
+    }
+}

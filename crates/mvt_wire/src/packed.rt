@@ -1,0 +1,156 @@
+//! Packed numbers (Protocol Buffers, Encoding, "Packed Repeated Fields").
+ghost use Rattle.std.specs.Prelude.{◌≡◌, ◌+◌, ◌^◌, ◌<◌, ◌≤◌, ◌++◌, None, length, IfOk, IfErr, IsOk, OnOk, OnErr, vec_len, vec_capacity};
+ghost use Rattle.mvt_base.specs.Rules.{first};
+ghost use Rattle.mvt_wire.specs.Field.{bytes};
+ghost use Rattle.mvt_wire.specs.Packed.{ArePacked, packed, packed_rules, TellsPacked};
+ghost use Rattle.mvt_wire.specs.Spelling.{short_field, short_numbers};
+ghost use Rattle.mvt_wire.specs.Inner.{Extends, error_of};
+
+use crate::fault::WireCause;
+use crate::varint::{put_varint, varint_at, varint_len};
+use std::alloc::{AllocError, Global};
+
+/// Why packed numbers can't be read: the first that holds, but for want of memory.
+#[derive(Clone, Copy, Debug, PartialEq, Eq)]
+pub enum PackedError {
+    Memory,
+    Truncated,
+    VarintRange,
+    /// A number of 2^32 or more.
+    NumberRange,
+}
+
+impl From<AllocError> for PackedError {
+    ghost use Rattle.std.specs.Prelude.{◌≡◌};
+    ghost use Rattle.mvt_wire.specs.declared.packed.PackedError.TheVariants as errors;
+
+    ghost from_gives = { λ e r. r ≡ errors.Memory };
+
+    fn from(_: AllocError) -> Self {
+        PackedError::Memory
+    }
+}
+
+/// The numbers of a packed field.
+///
+/// # Errors
+///
+/// Where the bytes aren't the spellings of numbers below 2^32, or no memory is found.
+pub fn read_packed(alloc: Global, bytes: &[u8]) -> Result<Vec<u32>, PackedError>
+    ensures ok { IfOk result (λ v. ArePacked bytes.now v.items) }
+    ensures err { IfErr result (λ e. TellsPacked e (first (packed_rules bytes.now))) }
+{
+    let mut numbers = Vec::new(alloc);
+    append_packed(bytes, &mut numbers)?;
+    Ok(numbers)
+}
+
+/// Appends the numbers of a packed field.
+///
+/// # Errors
+///
+/// As `read_packed`; the vector is then as it was.
+pub fn append_packed(bytes: &[u8], out: &mut Vec<u32>) -> Result<(), PackedError>
+    ensures ok { OnOk result (first (packed_rules bytes.now) ≡ None) }
+    ensures numbers { OnOk result (out.new.items ≡ out.old.items ++ (packed bytes.now).numbers) }
+    ensures err { IfErr result (λ e. TellsPacked e (first (packed_rules bytes.now))) }
+    ensures same { OnErr result (out.new.items ≡ out.old.items) }
+{
+    let len = out.len();
+    let done = append_numbers(bytes, out);
+    if done.is_err() {
+        out.truncate(len);
+    }
+    done
+}
+
+/// Appends the numbers, or the first of them.
+fn append_numbers(bytes: &[u8], out: &mut Vec<u32>) -> Result<(), PackedError>
+    ensures ok { OnOk result (first (packed_rules bytes.now) ≡ None) }
+    ensures numbers { OnOk result (out.new.items ≡ out.old.items ++ (packed bytes.now).numbers) }
+    ensures err { IfErr result (λ e. TellsPacked e (first (packed_rules bytes.now))) }
+    ensures front { OnErr result (Extends out.old.items out.new.items) }
+{
+    out.reserve(bytes.len())?;
+    let mut rest = bytes;
+    while !rest.is_empty() {
+        match varint_at(rest) {
+            Ok((number, size)) => {
+                if number >= 1 << 32 {
+                    return Err(PackedError::NumberRange);
+                }
+                if out.push(number as u32).is_err() {
+                    return Err(PackedError::Memory);
+                }
+                rest = &rest[size..];
+            }
+            Err(cause) => return Err(number_error(cause)),
+        }
+    }
+    Ok(())
+}
+
+/// Why a number can't be read, as an error of packed numbers.
+fn number_error(cause: WireCause) -> PackedError
+    ensures { result ≡ error_of cause }
+{
+    match cause {
+        WireCause::Truncated => PackedError::Truncated,
+        WireCause::VarintRange | WireCause::FieldNumber | WireCause::WireType => {
+            PackedError::VarintRange
+        }
+    }
+}
+
+/// How many bytes the shortest spellings of numbers have.
+pub fn packed_len(numbers: &[u32]) -> u64
+    ensures { result ≡ length (short_numbers numbers.now) }
+{
+    let mut len = 0;
+    for number in numbers {
+        len += varint_len(u64::from(*number)) as u64;
+    }
+    len
+}
+
+/// Appends a packed field of the numbers, in its shortest spelling.
+///
+/// # Errors
+///
+/// Where the vector has no room and none is found.
+pub fn put_packed(out: &mut Vec<u8>, number: u32, numbers: &[u32]) -> Result<(), AllocError>
+    requires first { 1 ≤ number }
+    requires last { number < 2 ^ 29 }
+    ensures ok { OnOk result
+        (out.new.items ≡ out.old.items ++ short_field number (bytes (short_numbers numbers.now))) }
+    ensures err { OnErr result (out.new.items ≡ out.old.items) }
+    ensures room { vec_len out.old + length (short_field number (bytes (short_numbers numbers.now)))
+        ≤ vec_capacity out.old → IsOk result }
+{
+    let len = out.len();
+    let done = put_packed_bytes(out, number, numbers);
+    if done.is_err() {
+        out.truncate(len);
+    }
+    done
+}
+
+/// Appends a packed field, or a front of it.
+#[tactic(auto, unfolding(crate::specs::Spelling::short_field))]
+fn put_packed_bytes(out: &mut Vec<u8>, number: u32, numbers: &[u32]) -> Result<(), AllocError>
+    requires { number < 2 ^ 29 }
+    ensures ok { OnOk result
+        (out.new.items ≡ out.old.items ++ short_field number (bytes (short_numbers numbers.now))) }
+    ensures err { OnErr result (Extends out.old.items out.new.items) }
+    ensures room { vec_len out.old + length (short_field number (bytes (short_numbers numbers.now)))
+        ≤ vec_capacity out.old → IsOk result }
+{
+    put_varint(out, 8 * u64::from(number) + 2)?;
+    let len = packed_len(numbers);
+    put_varint(out, len)?;
+    out.reserve(len as usize)?;
+    for number in numbers {
+        put_varint(out, u64::from(*number))?;
+    }
+    Ok(())
+}
