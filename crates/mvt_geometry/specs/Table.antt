@@ -32,13 +32,14 @@ abbrev pub has_allowed : Kind → Option Command → ℕ → Bool
 has_allowed kind command n = option_map_or (λ c. is_allowed kind c n) command true
 
 -- a pair whose dX is the integer numbered `at`, and which leads to the point `to`
-unfoldable pub step_rules : Bool → ℕ → Pair → Point → Rules IndexedCause
-step_rules is_line at d to =
-    rows ((0, when (d.dx == 4294967295) (at, causes.ParameterRange))
-    ∷ (1, when (d.dy == 4294967295) (at + 1, causes.ParameterRange))
+abbrev pub step_rows : Bool → ℕ → Pair → Point → List (ℕ × Rules IndexedCause)
+step_rows is_line at d to =
+    (0, when (d.dx == 4294967295) (at, causes.ParameterRange)) ∷ (1, when (d.dy == 4294967295) (at + 1, causes.ParameterRange))
     ∷ (2, when (is_line && ((d.dx == 0) && (d.dy == 0))) (at, causes.ZeroSegment))
-    ∷ (3, when (is_outside wide to.x) (at, causes.CoordinateRange))
-    ∷ (4, when (is_outside wide to.y) (at + 1, causes.CoordinateRange)) ∷ [])
+    ∷ (3, when (is_outside wide to.x) (at, causes.CoordinateRange)) ∷ (4, when (is_outside wide to.y) (at + 1, causes.CoordinateRange)) ∷ []
+
+unfoldable pub step_rules : Bool → ℕ → Pair → Point → Rules IndexedCause
+step_rules is_line at d to = rows (step_rows is_line at d to)
 
 -- a pair behind others, of a command whose pairs begin with the integer numbered `at` and move the
 -- cursor from the point `from`
@@ -78,10 +79,12 @@ wrong_ring kind g k s =
     when (is_first_close kind k && lt_z (area2 (first_ring g)) (pos 0)) (s, causes.FirstRing)
 
 -- command k, which begins at s
+abbrev pub command_rows : Kind → List ℕ → ℕ → ℕ → List (ℕ × Rules IndexedCause)
+command_rows kind g k s =
+    header_rows (may_not_end kind k) kind (due kind k) g s ++ ((4, wrong_pairs (due kind k) (cursor kind g k) g s) ∷ (5, wrong_ring kind g k s) ∷ [])
+
 unfoldable pub command_rules : Kind → List ℕ → ℕ → ℕ → Rules IndexedCause
-command_rules kind g k s =
-    rows (header_rows (may_not_end kind k) kind (due kind k) g s
-    ++ ((4, wrong_pairs (due kind k) (cursor kind g k) g s) ∷ (5, wrong_ring kind g k s) ∷ []))
+command_rules kind g k s = rows (command_rows kind g k s)
 
 abbrev pub rules_at : Kind → List ℕ → ℕ → Option ℕ → Rules IndexedCause
 rules_at kind g k None = []
