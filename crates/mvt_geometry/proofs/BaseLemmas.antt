@@ -1,7 +1,7 @@
 -- Tables that grow at their end: for the base crate.
-use Rattle.std.proofs.Common.{◌≡◌, ℕ, suc, ◌<◌, ◌≤◌, inl, inr, List, [], ◌∷◌, ◌++◌, refl, arith}
+use Rattle.std.proofs.Common.{ℕ, suc, ◌<◌, ◌≤◌, inl, List, [], ◌∷◌, ◌++◌, arith}
 use Rattle.std.specs.Prelude.{⊤}
-use Rattle.mvt_base.specs.Rules.{Rules, Precedes, PrecedesAll, AreOrdered, under}
+use Rattle.mvt_base.specs.Rules.{Rules, PrecedesAll, AreOrdered, under}
 use Rattle.mvt_base.proofs.OrderLemmas.{under_ordered}
 
 -- the number that a rank begins with is below n

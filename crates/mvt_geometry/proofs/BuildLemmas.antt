@@ -1,6 +1,5 @@
 -- What the builder has made so far.
-use Rattle.std.proofs.Common.{◌≡◌, ℕ, zero, suc, ◌+◌, ◌-◌, ◌*◌, ◌/◌, ◌<◌, ◌≤◌, ◌^◌, List, [], ◌∷◌, ◌++◌, length, get_or, take, drop, ℤ, pos, negsuc, ◌≤ℤ◌, to_z, of_z, w32, ◌+ℤ◌, refl, sym, ap, ap₂, subst, ◌∙◌, arith, append_assoc, append-nil, length-append}
-use Rattle.std.specs.List.{AllByRecursion}
+use Rattle.std.proofs.Common.{◌≡◌, ℕ, ◌+◌, ◌-◌, ◌*◌, ◌/◌, ◌<◌, ◌≤◌, ◌^◌, List, [], ◌∷◌, ◌++◌, length, get_or, take, drop, ℤ, pos, negsuc, ◌≤ℤ◌, to_z, of_z, w32, ◌+ℤ◌, refl, sym, ap, ap₂, subst, ◌∙◌, arith, append_assoc, append-nil, length-append}
 use Rattle.std.proofs.lemmas.List.{take_at, drop_at, take_rest}
 use Rattle.std.proofs.lemmas.Int.{ints, to_z-of_z}
 use Rattle.mvt_wire.specs.Zigzag.{zig}
@@ -13,9 +12,9 @@ use Rattle.mvt_geometry.specs.declared.shape.Kind.TheVariants as kinds
 use Rattle.mvt_geometry.specs.Shape.{InRange, IsPlace, origin, rings_of}
 use Rattle.mvt_geometry.specs.Valid.{IsStroke, Grouped}
 use Rattle.mvt_geometry.specs.Drawing.{path_from, Draws}
-use Rattle.mvt_geometry.specs.Commands.{Pair, pairs_of, unzig, stepped, moved, positions}
+use Rattle.mvt_geometry.specs.Commands.{pairs_of, unzig, stepped, moved, positions}
 use Rattle.mvt_geometry.specs.Inner.Judging.{last_of}
-use Rattle.mvt_geometry.specs.Inner.Strokes.{stroke, strokes_from}
+use Rattle.mvt_geometry.specs.Inner.Strokes.{strokes_from}
 use Rattle.mvt_geometry.specs.Inner.Building.{ArePlaces, IsFront, AreLines, AreRings}
 use Rattle.mvt_geometry.proofs.PathLemmas.{pairs-path, positions-between, moved-between, length-path, unzig-zig}
 use Rattle.mvt_geometry.proofs.StrokeLemmas.{stroke-more, strokes_are}

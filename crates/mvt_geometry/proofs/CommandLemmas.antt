@@ -1,13 +1,11 @@
 -- From one command to the next: where it begins, its pairs, and the fault of the whole list.
-use Rattle.std.proofs.Common.{◌≡◌, ◌≢◌, ℕ, zero, suc, ◌+◌, ◌-◌, ◌*◌, ◌/◌, ◌<◌, ◌≤◌, Bool, true, false, ◌&&◌, ◌||◌, ltb, eqb, List, [], ◌∷◌, ◌++◌, length, get_or, take, drop, Option, Some, None, ℤ, pos, ◌≤ℤ◌, ◌⊎◌, inl, inr, option_and_then, if◌then◌else◌, refl, sym, ap, ap₂, subst, ◌∙◌, arith, add-one}
-use Rattle.std.specs.Option.{option_or, option_map_or}
-use Rattle.std.specs.Int.Signed.{lt_z}
+use Rattle.std.proofs.Common.{◌≡◌, ◌≢◌, ℕ, zero, suc, ◌+◌, ◌-◌, ◌*◌, ◌/◌, ◌<◌, ◌≤◌, Bool, true, false, ltb, eqb, List, [], ◌∷◌, ◌++◌, length, get_or, take, drop, Option, Some, None, pos, ◌⊎◌, inl, inr, option_and_then, if◌then◌else◌, refl, sym, ap, ap₂, subst, ◌∙◌, arith}
+use Rattle.std.specs.Option.{option_or}
 use Rattle.std.proofs.lemmas.List.{get_or_past}
 use Rattle.std.proofs.lemmas.Bool.Decides.{nat_tests}
-use Rattle.std.proofs.lemmas.Bool.{cases_lt, cases_eq, ne_eqb}
-use Rattle.std.proofs.lemmas.Int.{ints}
-use Rattle.mvt_base.specs.Rules.{Rules, first, rows, under, when, each}
-use Rattle.mvt_base.proofs.RuleLemmas.{first-append, first-under, first-when, first-when_not, first_back, first_front, option_or-nones, option_or-right}
+use Rattle.std.proofs.lemmas.Bool.{cases_eq, ne_eqb}
+use Rattle.mvt_base.specs.Rules.{Rules, first, rows, under, each}
+use Rattle.mvt_base.proofs.RuleLemmas.{first-append, first-under, first_back, first_front, option_or-nones, option_or-right}
 use Rattle.mvt_geometry.proofs.HeaderLemmas.{header_right, header_there, header_over, ends, other_command}
 use Rattle.mvt_geometry.specs.declared.shape.Point.{Point}
 use Rattle.mvt_geometry.specs.declared.shape.Kind.{Kind}
@@ -16,9 +14,8 @@ use Rattle.mvt_geometry.specs.declared.command.Command.{Command}
 use Rattle.mvt_geometry.specs.declared.command.Command.TheVariants.{MoveTo, LineTo, ClosePath}
 use Rattle.mvt_geometry.specs.declared.fault.GeometryCause.TheVariants as causes
 use Rattle.mvt_geometry.specs.Shape.{origin}
-use Rattle.mvt_geometry.specs.Area.{area2}
-use Rattle.mvt_geometry.specs.Commands.{Pair, due, may_not_end, pair_count, pairs_of, pairs_at, start, moves, moved, cursor, first_ring}
-use Rattle.mvt_geometry.specs.Table.{IndexedCause, is_line_to, pair_rules, header_rows, ends_early, wrong_command, wrong_count, no_room, wrong_pairs, is_first_close, wrong_ring, command_rules, rules_at, rules_of_first, geometry_rules, geometry_fault}
+use Rattle.mvt_geometry.specs.Commands.{Pair, due, may_not_end, pair_count, pairs_of, pairs_at, start, moves, moved, cursor}
+use Rattle.mvt_geometry.specs.Table.{IndexedCause, is_line_to, pair_rules, header_rows, wrong_pairs, wrong_ring, command_rules, rules_at, rules_of_first, geometry_rules, geometry_fault}
 use Rattle.mvt_geometry.specs.Inner.Judging.{IsHeader, Stands, Reached}
 
 rows-append : {F : Type 0} → (xs ys : List (ℕ × Rules F)) → first (rows (xs ++ ys)) ≡ option_or (first (rows xs)) (first (rows ys))

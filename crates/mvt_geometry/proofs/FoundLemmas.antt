@@ -1,24 +1,21 @@
 -- One command against the points that it draws.
-use Rattle.std.proofs.Common.{◌≡◌, ◌≢◌, ℕ, zero, suc, ◌+◌, ◌-◌, ◌*◌, ◌/◌, ◌%◌, ◌^◌, ◌<◌, ◌≤◌, Bool, true, false, List, [], ◌∷◌, ◌++◌, length, get_or, take, drop, Option, Some, None, ℤ, refl, sym, ap, ap₂, subst, ◌∙◌, arith, append-nil, append_assoc, length-take-le, length-drop, length-append}
+use Rattle.std.proofs.Common.{◌≡◌, ◌≢◌, ℕ, zero, suc, ◌+◌, ◌-◌, ◌*◌, ◌/◌, ◌%◌, ◌^◌, ◌<◌, ◌≤◌, true, List, [], ◌∷◌, ◌++◌, length, get_or, take, drop, Option, Some, None, refl, sym, ap, ap₂, subst, ◌∙◌, arith, length-take-le, length-drop, length-append}
 use Rattle.std.specs.List.{AllByRecursion}
 use Rattle.std.proofs.lemmas.List.{take_at, drop_at, take-append-drop, drop-drop, drop_more}
-use Rattle.mvt_base.specs.Rules.{first, rows, each}
-use Rattle.mvt_base.proofs.RuleLemmas.{first-append, option_or-nones, first-under}
-use Rattle.mvt_wire.specs.Zigzag.{zig}
+use Rattle.mvt_base.specs.Rules.{first, each}
 use Rattle.mvt_geometry.specs.declared.shape.Point.{Point}
 use Rattle.mvt_geometry.specs.declared.shape.Kind.{Kind}
 use Rattle.mvt_geometry.specs.declared.shape.Kind.TheVariants as kinds
 use Rattle.mvt_geometry.specs.declared.command.Command.{Command}
 use Rattle.mvt_geometry.specs.declared.command.Command.TheVariants.{MoveTo, LineTo, ClosePath}
-use Rattle.mvt_geometry.specs.Shape.{InRange, IsPlace, AreSteps, Apart}
 use Rattle.mvt_geometry.specs.Drawing.{path_from}
-use Rattle.mvt_geometry.specs.Commands.{id_of, is_allowed, due, may_not_end, Pair, pair_count, pairs_of, pairs_at, start, moves, moved, positions, cursor}
-use Rattle.mvt_geometry.specs.Table.{IndexedCause, is_line_to, pair_rules, wrong_pairs, wrong_ring, command_rules, rules_of_first, geometry_fault}
-use Rattle.mvt_geometry.specs.Inner.Judging.{IsHeader, Stands, Reached, last_of}
+use Rattle.mvt_geometry.specs.Commands.{id_of, is_allowed, due, may_not_end, Pair, pair_count, pairs_of, pairs_at, moves, moved, positions}
+use Rattle.mvt_geometry.specs.Table.{is_line_to, pair_rules, wrong_pairs, wrong_ring, geometry_fault}
+use Rattle.mvt_geometry.specs.Inner.Judging.{IsHeader, Reached, last_of}
 use Rattle.mvt_geometry.specs.Inner.Strokes.{pairs_between, MayDraw, AreSmall, Found}
 use Rattle.mvt_geometry.proofs.CommandLemmas.{goes_on, pairs_behind, header_kept, pairs_kept, ring_kept, moves-are, reached_calm}
 use Rattle.mvt_geometry.proofs.RingLemmas.{header_pairs}
-use Rattle.mvt_geometry.proofs.PathLemmas.{positions-between, between-positions, moved-between, length-positions, length-path, pairs-path, path-pairs, path_calm, calm_path, SmallPair}
+use Rattle.mvt_geometry.proofs.PathLemmas.{moved-between, length-positions, length-path, pairs-path, path-pairs, path_calm, calm_path, SmallPair}
 
 -- what stands in front of a rest
 pub front_of_rest : (g : List ℕ) (s x : ℕ) (xs : List ℕ) → drop s g ≡ x ∷ xs → (s < length g) × (get_or g s 0 ≡ x) × (drop (s + 1) g ≡ xs)

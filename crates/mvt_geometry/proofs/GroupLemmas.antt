@@ -1,5 +1,5 @@
 -- A list of rings has one grouping.
-use Rattle.std.proofs.Common.{◌≡◌, Bool, true, false, ℤ, pos, ◌≤ℤ◌, ◌<ℤ◌, List, [], ◌∷◌, ◌++◌, refl, sym, ap, ap₂, ◌∙◌, arith, append_assoc, append-nil}
+use Rattle.std.proofs.Common.{◌≡◌, true, false, pos, ◌≤ℤ◌, ◌<ℤ◌, List, [], ◌∷◌, ◌++◌, refl, sym, ap, ◌∙◌, arith, append-nil}
 use Rattle.std.specs.List.{AllByRecursion}
 use Rattle.std.specs.Int.Signed.{lt_z}
 use Rattle.std.proofs.lemmas.Int.{ints, by_lt_z}
@@ -8,7 +8,7 @@ use Rattle.mvt_geometry.specs.declared.shape.Polygon.{Polygon}
 use Rattle.mvt_geometry.specs.Shape.{rings_of}
 use Rattle.mvt_geometry.specs.Area.{area2}
 use Rattle.mvt_geometry.specs.Valid.{AreInner, Grouped}
-use Rattle.mvt_geometry.specs.Inner.Grouping.{Groups, with_ring, groups_of, opened, polygons_of}
+use Rattle.mvt_geometry.specs.Inner.Grouping.{Groups, with_ring, groups_of, polygons_of}
 
 -- polygons that an exterior ring opens
 abbrev pub AreOpened : List Polygon → Type 0

@@ -1,13 +1,13 @@
 -- The table is in order.
-use Rattle.std.proofs.Common.{◌≡◌, ℕ, zero, suc, ◌≤◌, Bool, List, [], ◌∷◌, ◌++◌, length, Option, Some, None, refl, arith}
-use Rattle.mvt_base.specs.Rules.{Rules, AreOrdered, under, rows, when, each}
-use Rattle.mvt_base.proofs.OrderLemmas.{when_ordered, rows_ordered, each_ordered}
+use Rattle.std.proofs.Common.{◌≡◌, ◌↔◌, ℕ, zero, suc, Bool, List, [], length, Option, Some, None, arith}
+use Rattle.mvt_base.specs.Rules.{AreOrdered, IsLeast}
+use Rattle.mvt_base.proofs.OrderLemmas.{first_is_least, least_is_first, when_ordered, rows_ordered, each_ordered}
 use Rattle.mvt_geometry.specs.declared.shape.Point.{Point}
 use Rattle.mvt_geometry.specs.declared.shape.Kind.{Kind}
 use Rattle.mvt_geometry.specs.declared.shape.Kind.TheVariants as kinds
 use Rattle.mvt_geometry.specs.declared.command.Command.{Command}
 use Rattle.mvt_geometry.specs.Commands.{Pair, start}
-use Rattle.mvt_geometry.specs.Table.{IndexedCause, step_rows, command_rows, step_rules, pair_rules, ends_early, wrong_command, wrong_count, no_room, wrong_pairs, wrong_ring, command_rules, rules_at, rules_of_first, geometry_rules}
+use Rattle.mvt_geometry.specs.Table.{IndexedCause, step_rows, command_rows, step_rules, pair_rules, ends_early, wrong_command, wrong_count, no_room, wrong_pairs, wrong_ring, command_rules, rules_at, rules_of_first, geometry_rules, geometry_fault}
 use Rattle.mvt_geometry.proofs.BaseLemmas.{AllBelow, all_below_more, under_below, below-append, then_under}
 
 step_ordered : (line : Bool) (at : ℕ) (d : Pair) (to : Point) → AreOrdered (step_rules line at d to)
@@ -42,3 +42,7 @@ table_ordered kinds.Unknown g = tt
 table_ordered kinds.Point g = (first_ordered kinds.Point g (suc (length g))).0
 table_ordered kinds.LineString g = (first_ordered kinds.LineString g (suc (length g))).0
 table_ordered kinds.Polygon g = (first_ordered kinds.Polygon g (suc (length g))).0
+
+pub least_fault : (kind : Kind) (g : List ℕ) (f : IndexedCause) → (geometry_fault kind g ≡ Some f) ↔ IsLeast (geometry_rules kind g) f
+unfolding geometry_fault
+least_fault kind g f = (first_is_least (geometry_rules kind g) f (table_ordered kind g), least_is_first (geometry_rules kind g) f (table_ordered kind g))

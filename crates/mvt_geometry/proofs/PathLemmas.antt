@@ -1,17 +1,14 @@
 -- Pairs of parameters against the points that they lead to.
-use Rattle.std.proofs.Common.{◌≡◌, ◌≢◌, ℕ, zero, suc, ◌+◌, ◌-◌, ◌*◌, ◌/◌, ◌%◌, ◌^◌, ◌<◌, ◌≤◌, Bool, true, false, ◌&&◌, ◌||◌, eqb, List, [], ◌∷◌, ◌++◌, length, get_or, take, drop, Option, Some, None, ℤ, pos, negsuc, ◌+ℤ◌, ◌-ℤ◌, ◌≤ℤ◌, refl, sym, ap, ap₂, subst, ◌∙◌, ◌⊎◌, inl, inr, arith, append-nil, append_assoc}
+use Rattle.std.proofs.Common.{◌≡◌, ◌≢◌, ℕ, zero, suc, ◌+◌, ◌*◌, ◌/◌, ◌%◌, ◌^◌, ◌<◌, Bool, true, false, ◌&&◌, eqb, List, [], ◌∷◌, ◌++◌, length, None, ℤ, pos, negsuc, ◌+ℤ◌, ◌-ℤ◌, ◌≤ℤ◌, refl, sym, ap, ap₂, ◌∙◌, ◌⊎◌, inl, inr, arith}
 use Rattle.std.specs.Option.{option_or}
 use Rattle.std.specs.List.{AllByRecursion}
 use Rattle.std.proofs.lemmas.Bool.{cases_eq, ne_eqb, false≢true}
-use Rattle.std.proofs.lemmas.Bool.Decides.{nat_tests}
 use Rattle.std.proofs.lemmas.Int.{ints}
-use Rattle.std.proofs.lemmas.List.{length_push}
-use Rattle.mvt_base.specs.Rules.{Rules, first, rows, under, when, each}
-use Rattle.mvt_base.proofs.RuleLemmas.{first-append, first-under, first_back, option_or-nones}
+use Rattle.mvt_base.specs.Rules.{Rules, first, under, each}
+use Rattle.mvt_base.proofs.RuleLemmas.{first-append, first-under, option_or-nones}
 use Rattle.mvt_wire.specs.Zigzag.{zig}
 use Rattle.mvt_geometry.specs.declared.shape.Point.{Point}
-use Rattle.mvt_geometry.specs.declared.fault.GeometryCause.TheVariants as causes
-use Rattle.mvt_geometry.specs.Shape.{InRange, IsPlace, IsStep, AreSteps, Apart}
+use Rattle.mvt_geometry.specs.Shape.{InRange, IsPlace, AreSteps, Apart}
 use Rattle.mvt_geometry.specs.Drawing.{path_from}
 use Rattle.mvt_geometry.specs.Commands.{Pair, pairs_of, unzig, stepped, moved, positions}
 use Rattle.mvt_geometry.specs.Table.{IndexedCause, step_rules, pair_rules}

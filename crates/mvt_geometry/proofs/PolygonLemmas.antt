@@ -1,15 +1,14 @@
 -- Geometries of polygons: integers without a fault draw some rings, and integers that draw some have no
 -- fault.
-use Rattle.std.proofs.Common.{◌≡◌, ◌≢◌, ℕ, zero, suc, ◌+◌, ◌-◌, ◌*◌, ◌%◌, ◌<◌, ◌≤◌, Bool, false, eqb, List, [], ◌∷◌, ◌++◌, length, drop, Option, Some, None, ℤ, pos, ◌≤ℤ◌, refl, sym, ap, ap₂, subst, ◌∙◌, ◌⊎◌, inl, inr, arith, append_assoc, length-drop, ne_eqb}
+use Rattle.std.proofs.Common.{◌≡◌, ◌≢◌, ℕ, zero, suc, ◌+◌, ◌-◌, ◌*◌, ◌%◌, ◌<◌, ◌≤◌, false, eqb, List, [], ◌∷◌, ◌++◌, length, drop, Some, None, pos, ◌≤ℤ◌, refl, sym, ap, ap₂, subst, ◌∙◌, ◌⊎◌, inl, inr, arith, length-drop, ne_eqb}
 use Rattle.std.specs.List.{AllByRecursion}
 use Rattle.std.proofs.lemmas.Bool.{cases_lt}
 use Rattle.std.proofs.lemmas.List.{drop_all, nil_from_length}
 use Rattle.std.proofs.lemmas.Map.Views.{exact_unsigned_eq}
 use Rattle.mvt_base.specs.Rules.{first}
 use Rattle.mvt_geometry.specs.declared.shape.Point.{Point}
-use Rattle.mvt_geometry.specs.declared.shape.Kind.{Kind}
 use Rattle.mvt_geometry.specs.declared.shape.Kind.TheVariants as kinds
-use Rattle.mvt_geometry.specs.declared.command.Command.TheVariants.{MoveTo, LineTo, ClosePath}
+use Rattle.mvt_geometry.specs.declared.command.Command.TheVariants.{ClosePath}
 use Rattle.mvt_geometry.specs.Shape.{AreSteps, joined, origin}
 use Rattle.mvt_geometry.specs.Area.{area2}
 use Rattle.mvt_geometry.specs.Valid.{IsStroke}
@@ -17,7 +16,7 @@ use Rattle.mvt_geometry.specs.Drawing.{path_from}
 use Rattle.mvt_geometry.specs.Commands.{Pair, due, may_not_end, moves, positions, first_ring}
 use Rattle.mvt_geometry.specs.Table.{wrong_ring, geometry_fault}
 use Rattle.mvt_geometry.specs.Inner.Judging.{Reached, last_of}
-use Rattle.mvt_geometry.specs.Inner.Strokes.{pair_between, pairs_between, stroke, strokes_from, MayDraw, AreSmall, FoundStroke}
+use Rattle.mvt_geometry.specs.Inner.Strokes.{pair_between, pairs_between, stroke, strokes_from, MayDraw, AreSmall}
 use Rattle.mvt_geometry.proofs.CommandLemmas.{may_end, reached_calm, ring_kept}
 use Rattle.mvt_geometry.proofs.RingLemmas.{ring_due, ring_fine, fine_ring, must_draw}
 use Rattle.mvt_geometry.proofs.PathLemmas.{positions-between}

@@ -1,13 +1,13 @@
 -- What the writer has put so far.
-use Rattle.std.proofs.Common.{◌≡◌, ℕ, zero, suc, ◌+◌, ◌<◌, ◌≤◌, ◌^◌, List, [], ◌∷◌, ◌++◌, length, get_or, drop, ℤ, pos, negsuc, ◌-ℤ◌, ◌≤ℤ◌, FitsSigned, to_z, of_z, w32, refl, sym, ap, ap₂, subst, ◌∙◌, arith, append_assoc}
+use Rattle.std.proofs.Common.{◌≡◌, ℕ, ◌+◌, ◌<◌, List, [], ◌∷◌, ◌++◌, length, get_or, drop, ℤ, pos, negsuc, ◌-ℤ◌, ◌≤ℤ◌, FitsSigned, to_z, of_z, w32, refl, sym, ap, ap₂, subst, ◌∙◌, arith, append_assoc}
 use Rattle.std.specs.List.{AllByRecursion}
 use Rattle.std.proofs.lemmas.Int.{ints, to_z-of_z}
 use Rattle.std.proofs.lemmas.List.{drop_more}
-use Rattle.mvt_base.proofs.ListLemmas.{all_left, all_right, all_weaker}
+use Rattle.mvt_base.proofs.ListLemmas.{all_weaker}
 use Rattle.mvt_wire.specs.Zigzag.{zig}
 use Rattle.mvt_geometry.specs.declared.shape.Point.{Point}
 use Rattle.mvt_geometry.specs.declared.shape.Polygon.{Polygon}
-use Rattle.mvt_geometry.specs.Shape.{InRange, IsStep, AreSteps, joined, rings_of}
+use Rattle.mvt_geometry.specs.Shape.{InRange, AreSteps, joined, rings_of}
 use Rattle.mvt_geometry.specs.Valid.{IsStroke}
 use Rattle.mvt_geometry.specs.Drawing.{path_from}
 use Rattle.mvt_geometry.specs.Inner.Judging.{last_of}

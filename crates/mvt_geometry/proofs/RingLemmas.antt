@@ -1,13 +1,11 @@
 -- A ring is three commands, and the first one's area is judged at its ClosePath.
-use Rattle.std.proofs.Common.{◌≡◌, ◌≢◌, ℕ, zero, suc, ◌+◌, ◌-◌, ◌*◌, ◌/◌, ◌%◌, ◌<◌, ◌≤◌, Bool, true, false, ◌&&◌, ◌||◌, ◌==◌, eqb, List, [], ◌∷◌, ◌++◌, length, get_or, take, drop, Option, Some, None, ℤ, pos, ◌+ℤ◌, ◌≤ℤ◌, ◌<ℤ◌, refl, eq-eqb, ◌⊎◌, inl, inr, sym, ap, ap₂, subst, ◌∙◌, arith, length-take-le, length-drop}
-use Rattle.std.specs.Option.{option_or}
+use Rattle.std.proofs.Common.{◌≡◌, ◌≢◌, ℕ, zero, suc, ◌+◌, ◌*◌, ◌/◌, ◌%◌, ◌≤◌, Bool, true, false, ◌&&◌, ◌||◌, ◌==◌, eqb, List, [], ◌∷◌, ◌++◌, length, get_or, take, drop, Option, Some, None, ℤ, pos, ◌+ℤ◌, ◌≤ℤ◌, ◌<ℤ◌, refl, eq-eqb, ◌⊎◌, inl, inr, sym, ap, ap₂, subst, ◌∙◌, arith, length-drop}
 use Rattle.std.specs.Int.Signed.{lt_z}
 use Rattle.std.proofs.lemmas.Bool.{ne_eqb, cases_eq}
-use Rattle.std.proofs.lemmas.Bool.Decides.{nat_tests}
 use Rattle.std.proofs.lemmas.Int.{ints, by_lt_z}
 use Rattle.std.proofs.lemmas.Map.Views.{exact_unsigned_eq}
-use Rattle.mvt_base.specs.Rules.{first, rows, when, each}
-use Rattle.mvt_base.proofs.RuleLemmas.{first-when, first-when_not, option_or-nones}
+use Rattle.mvt_base.specs.Rules.{first, each}
+use Rattle.mvt_base.proofs.RuleLemmas.{first-when, first-when_not}
 use Rattle.mvt_geometry.specs.declared.shape.Point.{Point}
 use Rattle.mvt_geometry.specs.declared.shape.Kind.{Kind}
 use Rattle.mvt_geometry.specs.declared.shape.Kind.TheVariants as kinds
@@ -16,12 +14,11 @@ use Rattle.mvt_geometry.specs.declared.command.Command.TheVariants.{MoveTo, Line
 use Rattle.mvt_geometry.specs.declared.fault.GeometryCause.TheVariants as causes
 use Rattle.mvt_geometry.specs.Shape.{origin}
 use Rattle.mvt_geometry.specs.Area.{cross, area2}
-use Rattle.mvt_geometry.specs.Commands.{Pair, due, may_not_end, pair_count, pairs_of, pairs_at, start, moves, stepped, moved, positions, cursor, first_ring}
-use Rattle.mvt_geometry.specs.Table.{IndexedCause, is_line_to, pair_rules, header_rows, wrong_pairs, wrong_ring, command_rules, rules_of_first, geometry_fault}
-use Rattle.mvt_geometry.specs.Inner.Judging.{IsHeader, Stands, Reached, edges, last_of}
-use Rattle.mvt_geometry.proofs.HeaderLemmas.{header_there}
+use Rattle.mvt_geometry.specs.Commands.{Pair, due, may_not_end, pair_count, pairs_of, pairs_at, start, moves, stepped, moved, positions, first_ring}
+use Rattle.mvt_geometry.specs.Table.{IndexedCause, pair_rules, wrong_ring, command_rules, geometry_fault}
+use Rattle.mvt_geometry.specs.Inner.Judging.{IsHeader, Reached, edges}
 use Rattle.mvt_geometry.proofs.AreaLemmas.{area2-ring, last_of-positions}
-use Rattle.mvt_geometry.proofs.CommandLemmas.{chain_at, at_command, moves-are, cursor-next, stops, rules_left, goes_on, no_ring, pairs_behind, at_first, header_kept, kept_before, first_cursor}
+use Rattle.mvt_geometry.proofs.CommandLemmas.{moves-are, cursor-next, stops, rules_left, goes_on, no_ring, pairs_behind, at_first, header_kept, kept_before, first_cursor}
 
 -- which command is due in polygons
 pub ring_due : (k : ℕ) → k % 3 ≡ 0 → (due kinds.Polygon k ≡ Some MoveTo) × (due kinds.Polygon (suc k) ≡ Some LineTo) × (due kinds.Polygon (suc (suc k)) ≡ Some ClosePath)

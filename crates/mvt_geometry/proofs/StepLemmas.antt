@@ -1,7 +1,6 @@
 -- The rules of one pair of parameters.
-use Rattle.std.proofs.Common.{◌≡◌, ◌≢◌, eq-eqb, pos, negsuc, ◌≤ℤ◌, ℕ, ◌+◌, ◌*◌, ◌<◌, ◌≤◌, Bool, true, false, not, ◌&&◌, ◌||◌, eqb, ℤ, List, length, Option, Some, None, refl, sym, ap, ◌∙◌, arith}
+use Rattle.std.proofs.Common.{◌≡◌, ◌≢◌, eq-eqb, pos, negsuc, ◌≤ℤ◌, ℕ, ◌+◌, Bool, true, false, ◌&&◌, eqb, ℤ, Some, None, refl, sym, ◌∙◌, arith}
 use Rattle.std.specs.Option.{option_or}
-use Rattle.std.specs.Int.Signed.{lt_z}
 use Rattle.std.proofs.lemmas.Bool.{false≢true, eqb-false}
 use Rattle.std.proofs.lemmas.Bool.Decides.{nat_tests}
 use Rattle.std.proofs.lemmas.Int.{ints, by_lt_z}

@@ -1,29 +1,24 @@
 -- Lines and rings against their commands.
-use Rattle.std.proofs.Common.{◌≡◌, ◌≢◌, ℕ, zero, suc, ◌+◌, ◌-◌, ◌*◌, ◌/◌, ◌%◌, ◌^◌, ◌<◌, ◌≤◌, Bool, true, false, ltb, eqb, List, [], ◌∷◌, ◌++◌, length, get_or, take, drop, Option, Some, None, ℤ, pos, ◌≤ℤ◌, refl, sym, ap, ap₂, subst, ◌∙◌, ◌⊎◌, inl, inr, arith, append-nil, append_assoc, length-append}
+use Rattle.std.proofs.Common.{◌≡◌, ◌≢◌, ℕ, suc, ◌+◌, ◌-◌, ◌*◌, ◌<◌, ◌≤◌, true, List, [], ◌∷◌, ◌++◌, length, take, drop, Some, None, refl, sym, ap, ap₂, subst, ◌∙◌, arith, append_assoc}
 use Rattle.std.specs.List.{AllByRecursion}
-use Rattle.std.proofs.lemmas.Bool.{cases_lt}
 use Rattle.std.proofs.lemmas.Map.Views.{exact_unsigned_eq}
 use Rattle.std.proofs.lemmas.Bool.Decides.{nat_tests}
-use Rattle.std.proofs.lemmas.List.{drop_all, take_at, drop_at}
-use Rattle.mvt_base.specs.Rules.{first}
+use Rattle.std.proofs.lemmas.List.{take_at, drop_at}
 use Rattle.mvt_geometry.specs.declared.shape.Point.{Point}
 use Rattle.mvt_geometry.specs.declared.shape.Kind.{Kind}
 use Rattle.mvt_geometry.specs.declared.shape.Kind.TheVariants as kinds
-use Rattle.mvt_geometry.specs.declared.command.Command.{Command}
 use Rattle.mvt_geometry.specs.declared.command.Command.TheVariants.{MoveTo, LineTo, ClosePath}
-use Rattle.mvt_geometry.specs.Shape.{InRange, IsPlace, IsStep, AreSteps, Apart, joined, origin}
-use Rattle.mvt_geometry.specs.Area.{area2}
+use Rattle.mvt_geometry.specs.Shape.{IsPlace, AreSteps, joined}
 use Rattle.mvt_geometry.specs.Valid.{IsStroke}
 use Rattle.mvt_geometry.specs.Drawing.{path_from, strokes}
-use Rattle.mvt_geometry.specs.Commands.{id_of, is_allowed, due, may_not_end, Pair, pair_count, moves, positions, first_ring}
-use Rattle.mvt_geometry.specs.Table.{wrong_ring, command_rules, geometry_fault}
+use Rattle.mvt_geometry.specs.Commands.{is_allowed, due, moves}
+use Rattle.mvt_geometry.specs.Table.{geometry_fault}
 use Rattle.mvt_geometry.specs.Inner.Judging.{Reached, last_of}
-use Rattle.mvt_geometry.specs.Inner.Strokes.{pair_between, pairs_between, stroke, strokes_from, MayDraw, AreSmall, Found, FoundStroke}
-use Rattle.mvt_geometry.proofs.CommandLemmas.{no_ring, may_end, reached_calm, ring_kept}
+use Rattle.mvt_geometry.specs.Inner.Strokes.{pair_between, pairs_between, stroke, strokes_from, MayDraw, AreSmall, FoundStroke}
+use Rattle.mvt_geometry.proofs.CommandLemmas.{no_ring}
 use Rattle.mvt_geometry.proofs.RingLemmas.{must_draw}
-use Rattle.mvt_geometry.proofs.AreaLemmas.{last_of-append}
-use Rattle.mvt_geometry.proofs.PathLemmas.{length-path, path-append, positions-between}
-use Rattle.mvt_geometry.proofs.FoundLemmas.{front_of_rest, command_drawn, rest_drawn, moves_drawn, command_found}
+use Rattle.mvt_geometry.proofs.PathLemmas.{length-path, path-append}
+use Rattle.mvt_geometry.proofs.FoundLemmas.{command_drawn, rest_drawn, moves_drawn, command_found}
 
 -- steps and neighbours of joined paths
 pub steps-append : (c : Point) (ps qs : List Point) → AreSteps c ps → AreSteps (last_of c ps) qs → AreSteps c (ps ++ qs)

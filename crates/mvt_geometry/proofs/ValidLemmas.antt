@@ -1,7 +1,6 @@
 -- Being drawn from the cursor on, and validity.
-use Rattle.std.proofs.Common.{◌≡◌, ◌≢◌, ℕ, zero, suc, ◌+◌, ◌<◌, ◌≤◌, ◌^◌, Bool, true, false, List, [], ◌∷◌, ◌++◌, length, ℤ, pos, ◌≤ℤ◌, ◌<ℤ◌, refl, sym, ap, ap₂, subst, ◌∙◌, ◌⊎◌, inl, inr, arith}
+use Rattle.std.proofs.Common.{◌≡◌, ◌≢◌, ℕ, ◌<◌, Bool, true, false, List, [], ◌∷◌, ◌++◌, pos, ◌<ℤ◌, refl, ◌⊎◌, inl, inr, arith}
 use Rattle.std.specs.List.{AllByRecursion}
-use Rattle.mvt_base.proofs.ListLemmas.{all_left, all_right, all_joined}
 use Rattle.mvt_geometry.specs.declared.shape.Point.{Point}
 use Rattle.mvt_geometry.specs.declared.shape.Polygon.{Polygon}
 use Rattle.mvt_geometry.specs.declared.shape.Geometry.{Geometry}
@@ -9,12 +8,11 @@ use Rattle.mvt_geometry.specs.declared.shape.Geometry.TheVariants.{Unknown, Poin
 use Rattle.mvt_geometry.specs.declared.shape.Kind.{Kind}
 use Rattle.mvt_geometry.specs.Shape.{IsPlace, IsStep, AreSteps, Apart, joined, origin, rings_of, kind_of}
 use Rattle.mvt_geometry.specs.Area.{area2}
-use Rattle.mvt_geometry.specs.Valid.{IsStroke, AreInner, Grouped, IsValid}
+use Rattle.mvt_geometry.specs.Valid.{IsStroke, AreInner, IsValid}
 use Rattle.mvt_geometry.specs.Drawing.{drawn, Draws}
 use Rattle.mvt_geometry.specs.Inner.Judging.{last_of}
-use Rattle.mvt_geometry.specs.Inner.Validity.{IsStepTo, IsPath, IsLineFrom, AreLinesFrom, end_of_lines, HasArea, IsPolygonFrom, end_of_polygon, ArePolygonsFrom, CanBeDrawn}
+use Rattle.mvt_geometry.specs.Inner.Validity.{IsStepTo, IsPath, IsLineFrom, AreLinesFrom, end_of_lines, end_of_polygon, ArePolygonsFrom, CanBeDrawn}
 use Rattle.mvt_geometry.proofs.StrokeLemmas.{steps-append, steps-front, steps-back}
-use Rattle.mvt_geometry.proofs.AreaLemmas.{last_of-append}
 
 pub to_step : (is_line : Bool) (p q : Point) → ((is_line ≡ true) × (p ≢ q)) ⊎ (is_line ≡ false) → IsPlace q → IsStep p q → IsStepTo is_line p q
 to_step true p q apart place step = (away apart, place, step)

@@ -1,5 +1,5 @@
 -- Integers draw a geometry exactly where they have no fault.
-use Rattle.std.proofs.Common.{◌≡◌, ◌≢◌, ℕ, zero, suc, ◌+◌, ◌-◌, ◌*◌, ◌^◌, ◌<◌, ◌≤◌, List, [], ◌∷◌, ◌++◌, length, get_or, drop, Option, Some, None, ℤ, pos, ◌≤ℤ◌, refl, sym, ap, ap₂, subst, ◌∙◌, ◌⊎◌, inl, inr, arith, append-nil, length-drop}
+use Rattle.std.proofs.Common.{◌≡◌, ◌≢◌, ℕ, suc, ◌+◌, ◌*◌, ◌^◌, ◌<◌, ◌≤◌, List, [], ◌∷◌, ◌++◌, length, get_or, drop, Some, None, refl, sym, ap, ap₂, subst, ◌∙◌, ◌⊎◌, inl, inr, arith, append-nil, length-drop}
 use Rattle.std.specs.List.{AllByRecursion}
 use Rattle.std.proofs.lemmas.Bool.{cases_lt}
 use Rattle.std.proofs.lemmas.Bool.Decides.{nat_tests}
@@ -11,14 +11,13 @@ use Rattle.mvt_geometry.specs.declared.shape.Geometry.{Geometry}
 use Rattle.mvt_geometry.specs.declared.shape.Geometry.TheVariants.{Unknown, Points, Lines, Polygons}
 use Rattle.mvt_geometry.specs.declared.shape.Kind.{Kind}
 use Rattle.mvt_geometry.specs.declared.shape.Kind.TheVariants as kinds
-use Rattle.mvt_geometry.specs.declared.command.Command.TheVariants.{MoveTo, LineTo, ClosePath}
+use Rattle.mvt_geometry.specs.declared.command.Command.TheVariants.{MoveTo}
 use Rattle.mvt_geometry.specs.declared.fault.GeometryCause.TheVariants as causes
 use Rattle.mvt_geometry.specs.Shape.{AreSteps, joined, origin, rings_of}
-use Rattle.mvt_geometry.specs.Area.{area2}
 use Rattle.mvt_geometry.specs.Valid.{IsStroke, Grouped, IsValid}
 use Rattle.mvt_geometry.specs.Drawing.{path_from, path, strokes, drawn, Draws}
 use Rattle.mvt_geometry.specs.Table.{IndexedCause, geometry_fault}
-use Rattle.mvt_geometry.specs.Inner.Judging.{Reached, last_of}
+use Rattle.mvt_geometry.specs.Inner.Judging.{Reached}
 use Rattle.mvt_geometry.specs.Inner.Strokes.{strokes_from, MayDraw, AreSmall}
 use Rattle.mvt_geometry.specs.Inner.Grouping.{polygons_of}
 use Rattle.mvt_geometry.proofs.CommandLemmas.{first_command, no_ring, may_end, one_command, empty_ends, unknown_calm}

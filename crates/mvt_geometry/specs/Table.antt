@@ -8,7 +8,7 @@ use Rattle.mvt_geometry.specs.declared.shape.Point.{Point}
 use Rattle.mvt_geometry.specs.declared.shape.Kind.{Kind}
 use Rattle.mvt_geometry.specs.declared.shape.Kind.TheVariants as kinds
 use Rattle.mvt_geometry.specs.declared.command.Command.{Command}
-use Rattle.mvt_geometry.specs.declared.command.Command.TheVariants.{MoveTo, LineTo, ClosePath}
+use Rattle.mvt_geometry.specs.declared.command.Command.TheVariants.{LineTo}
 use Rattle.mvt_geometry.specs.declared.fault.GeometryCause.{GeometryCause}
 use Rattle.mvt_geometry.specs.declared.fault.GeometryCause.TheVariants as causes
 use Rattle.mvt_geometry.specs.Shape.{Range, wide}

@@ -5,6 +5,7 @@ mod area;
 mod command;
 mod fault;
 mod judge;
+pub mod laws;
 mod put;
 mod read;
 mod shape;

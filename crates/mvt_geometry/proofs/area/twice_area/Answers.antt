@@ -1,10 +1,10 @@
-use Rattle.std.proofs.Common.{rules, arith, ◌≡◌, ◌+◌, ◌-◌, ◌^◌, ◌<◌, List, [], ◌∷◌, length, get_or, take, ℤ, ◌+ℤ◌, pos, refl, sym, ap, ap₂, ◌∙◌, to_z, of_z}
+use Rattle.std.proofs.Common.{rules, arith, ◌≡◌, ◌-◌, ◌^◌, ◌<◌, length, get_or, take, ◌+ℤ◌, pos, sym, ap, ap₂, ◌∙◌, to_z, of_z}
 use Rattle.std.specs.Int.{w128}
-use Rattle.std.proofs.lemmas.List.{take_more, take_all, get_or_default}
+use Rattle.std.proofs.lemmas.List.{take_more, take_all}
 use Rattle.mvt_geometry.specs.declared.shape.Point.{Point}
-use Rattle.mvt_geometry.specs.Area.{area2, cross}
+use Rattle.mvt_geometry.specs.Area.{cross}
 use Rattle.mvt_geometry.specs.Inner.Judging.{edges, last_of}
-use Rattle.mvt_geometry.proofs.AreaLemmas.{sum_fits, summed, edges-push, last_of-push, whole_round}
+use Rattle.mvt_geometry.proofs.AreaLemmas.{summed, edges-push, last_of-push, whole_round}
 use Rattle.mvt_geometry.proofs.area.twice_area.Goals as goal
 
 pub loop-point-preserved : goal.loop-point-preserved

@@ -1,4 +1,4 @@
-use Rattle.std.proofs.Common.{rules, arith, refl, ◌≡◌, ◌≢◌, length}
+use Rattle.std.proofs.Common.{rules, ◌≡◌, ◌≢◌, length}
 use Rattle.mvt_geometry.specs.declared.shape.Kind.TheVariants as kinds
 use Rattle.mvt_geometry.proofs.CommandLemmas.{empty_ends, unknown_calm}
 use Rattle.mvt_geometry.proofs.judge.judge.Goals as goal

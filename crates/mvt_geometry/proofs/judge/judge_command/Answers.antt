@@ -1,7 +1,7 @@
-use Rattle.std.proofs.Common.{rules, arith, ◌≡◌, ◌+◌, ◌-◌, ◌*◌, take, drop, ap, get_or}
+use Rattle.std.proofs.Common.{arith, ◌≡◌, ◌+◌, ◌-◌, ◌*◌, take, drop, ap}
 use Rattle.std.proofs.lemmas.Result.{err_from_is_err_and}
 use Rattle.mvt_geometry.specs.declared.command.Command.TheVariants.{ClosePath}
-use Rattle.mvt_geometry.specs.Commands.{due, may_not_end}
+use Rattle.mvt_geometry.specs.Commands.{may_not_end}
 use Rattle.mvt_geometry.proofs.CommandLemmas.{header_stops, pairs_stop, goes_on, no_ring}
 use Rattle.mvt_geometry.proofs.judge.judge_command.Goals as goal
 

@@ -1,11 +1,7 @@
-use Rattle.std.proofs.Common.{rules, arith, ◌≡◌, ◌≤◌, ◌+◌, ◌-◌, ◌*◌, ◌^◌, length, [], ℤ, ℕ, ◌<◌, refl, sym, ap, ap₂, ◌∙◌, to_z, of_z, FitsSigned, ◌+ℤ◌, true}
+use Rattle.std.proofs.Common.{rules, arith, ◌≡◌, ◌≤◌, ◌-◌, ◌^◌, length, [], ◌<◌, refl, sym, ap₂, ◌∙◌, to_z, of_z, ◌+ℤ◌, true}
 use Rattle.std.specs.Int.{w128}
 use Rattle.std.proofs.lemmas.List.{length_push}
-use Rattle.std.specs.Int.RustNames.{unsigned_abs}
-use Rattle.std.proofs.lemmas.Int.{ints, to_z-of_z, fits_signed_from_abs}
 use Rattle.std.proofs.lemmas.Result.{err_from_is_err_and}
-use Rattle.mvt_geometry.specs.Commands.{positions, moved}
-use Rattle.mvt_geometry.specs.Inner.Judging.{edges}
 use Rattle.mvt_geometry.proofs.WalkLemmas.{walk_begins, walk_steps, walk_stops, edges_more_here}
 use Rattle.mvt_geometry.proofs.AreaLemmas.{sum_fits, summed}
 use Rattle.mvt_geometry.proofs.judge.judge_edges.Goals as goal

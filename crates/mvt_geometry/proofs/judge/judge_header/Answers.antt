@@ -1,5 +1,4 @@
-use Rattle.std.proofs.Common.{rules, arith, ◌≡◌, ◌+◌, ◌*◌, ◌/◌, ◌%◌, ◌<◌, false, true, length, get_or, Some, ap, sym, ◌∙◌}
-use Rattle.std.proofs.lemmas.Grind.{common_steps}
+use Rattle.std.proofs.Common.{rules, ◌≡◌, ◌+◌, ◌*◌, ◌/◌, ◌%◌, ◌<◌, false, true, length, get_or, Some, ap, sym, ◌∙◌}
 use Rattle.mvt_geometry.specs.Commands.{id_of, is_allowed, pair_count}
 use Rattle.mvt_geometry.proofs.HeaderLemmas.{ends, wrong_id, bad_count, too_few}
 use Rattle.mvt_geometry.proofs.judge.judge_header.Goals as goal

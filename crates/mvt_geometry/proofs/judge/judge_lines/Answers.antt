@@ -1,4 +1,4 @@
-use Rattle.std.proofs.Common.{rules, arith, refl, ◌≡◌, ◌≢◌, ◌%◌, ℕ, ◌<◌, eqb, ne_eqb, false, Some}
+use Rattle.std.proofs.Common.{arith, refl, ◌≡◌, ◌≢◌, ◌%◌, ℕ, ◌<◌, eqb, ne_eqb, false, Some}
 use Rattle.mvt_geometry.specs.declared.command.Command.TheVariants.{ClosePath}
 use Rattle.mvt_geometry.specs.Commands.{due, may_not_end}
 use Rattle.mvt_geometry.specs.declared.shape.Kind.TheVariants as kinds

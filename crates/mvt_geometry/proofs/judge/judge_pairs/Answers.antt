@@ -1,4 +1,4 @@
-use Rattle.std.proofs.Common.{rules, arith, ◌≡◌, ◌+◌, ◌-◌, ◌≤◌, length, refl}
+use Rattle.std.proofs.Common.{arith, refl}
 use Rattle.std.proofs.lemmas.Result.{err_from_is_err_and}
 use Rattle.mvt_geometry.proofs.WalkLemmas.{walk_steps, walk_stops}
 use Rattle.mvt_geometry.proofs.judge.judge_pairs.Goals as goal

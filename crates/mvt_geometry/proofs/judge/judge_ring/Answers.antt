@@ -1,4 +1,4 @@
-use Rattle.std.proofs.Common.{rules, arith, ◌≡◌, ℕ, suc, ◌+◌, ◌-◌, ◌*◌, ◌^◌, ◌<◌, ◌≤◌, length, take, drop, [], List, get_or, ℤ, pos, ◌+ℤ◌, ◌≤ℤ◌, ◌<ℤ◌, true, false, refl, sym, ap, ap₂, ◌∙◌, subst, to_z, of_z, FitsSigned, length-take, length-drop}
+use Rattle.std.proofs.Common.{rules, arith, ◌≡◌, ℕ, suc, ◌+◌, ◌-◌, ◌*◌, ◌^◌, ◌<◌, ◌≤◌, length, take, drop, ℤ, pos, ◌+ℤ◌, ◌≤ℤ◌, ◌<ℤ◌, true, false, sym, ap, ap₂, ◌∙◌, to_z, of_z, FitsSigned, length-take}
 use Rattle.std.specs.Int.{w128}
 use Rattle.std.specs.Int.RustNames.{unsigned_abs}
 use Rattle.std.proofs.lemmas.Int.{ints, to_z-of_z, fits_signed_from_abs, by_lt_z}
@@ -6,9 +6,9 @@ use Rattle.std.specs.Int.Signed.{lt_z}
 use Rattle.std.proofs.lemmas.Bool.{false≢true}
 use Rattle.std.proofs.lemmas.Result.{err_from_is_err_and}
 use Rattle.mvt_geometry.specs.declared.shape.Kind.TheVariants as kinds
-use Rattle.mvt_geometry.specs.declared.command.Command.TheVariants.{MoveTo, LineTo, ClosePath}
-use Rattle.mvt_geometry.specs.Commands.{due, may_not_end}
-use Rattle.mvt_geometry.proofs.CommandLemmas.{header_stops, pairs_stop, goes_on, no_ring}
+use Rattle.mvt_geometry.specs.declared.command.Command.TheVariants.{LineTo, ClosePath}
+use Rattle.mvt_geometry.specs.Commands.{may_not_end}
+use Rattle.mvt_geometry.proofs.CommandLemmas.{header_stops, pairs_stop}
 use Rattle.mvt_geometry.proofs.RingLemmas.{ring_due, must_draw, reached_close, ring_stops, ring_goes}
 use Rattle.mvt_geometry.proofs.judge.judge_ring.Goals as goal
 use Rattle.mvt_geometry.proofs.judge.judge_ring.Goals.{else-pen-eq0-via-then-pen-eq0+else-area-lt0, else-pen-eq0-via-else-pen-eq0}

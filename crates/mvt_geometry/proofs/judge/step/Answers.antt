@@ -1,8 +1,6 @@
-use Rattle.std.proofs.Common.{rules, arith, ◌≡◌, ◌+ℤ◌, ◌&&◌, ◌⊎◌, inl, inr, eqb, Bool, false, true, refl, sym, subst, ◌∙◌, to_z, of_z, w32}
-use Rattle.std.proofs.lemmas.Bool.Decides.{nat_tests}
-use Rattle.std.proofs.lemmas.Int.{to_z-of_z}
-use Rattle.mvt_geometry.specs.Shape.{InRange, IsPlace}
-use Rattle.mvt_geometry.specs.Commands.{Pair, stepped, unzig}
+use Rattle.std.proofs.Common.{rules, ◌≡◌, ◌+ℤ◌, ◌&&◌, ◌⊎◌, inl, inr, eqb, Bool, false, true, refl, sym, subst, ◌∙◌, to_z, of_z, w32}
+use Rattle.mvt_geometry.specs.Shape.{InRange}
+use Rattle.mvt_geometry.specs.Commands.{unzig}
 use Rattle.mvt_geometry.proofs.StepLemmas.{refused_x, refused_y, stays, leaves_x, leaves_y, step_right}
 use Rattle.mvt_geometry.proofs.judge.step.Goals as goal
 use Rattle.mvt_geometry.proofs.judge.step.Goals.{else-is_line-via-then-is_line+else-is_zero, else-is_line-via-else-is_line}

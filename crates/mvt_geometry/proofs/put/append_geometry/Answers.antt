@@ -1,5 +1,4 @@
-use Rattle.std.proofs.Common.{rules, arith, ◌≡◌, ◌++◌, [], ◌∷◌, refl, sym, ap, subst, ◌∙◌}
-use Rattle.mvt_geometry.specs.declared.shape.Geometry.TheVariants.{Lines, Polygons}
+use Rattle.std.proofs.Common.{arith, ◌++◌, [], ◌∷◌, sym, ap, subst, ◌∙◌}
 use Rattle.mvt_geometry.specs.Shape.{origin, rings_of}
 use Rattle.mvt_geometry.specs.Valid.{IsValid}
 use Rattle.mvt_geometry.specs.Drawing.{drawn}

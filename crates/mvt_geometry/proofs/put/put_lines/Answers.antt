@@ -1,4 +1,4 @@
-use Rattle.std.proofs.Common.{rules, arith, ◌≡◌, ◌+◌, drop, refl, sym, ap, subst, ◌∙◌}
+use Rattle.std.proofs.Common.{subst}
 use Rattle.mvt_geometry.specs.Inner.Putting.{ending, AreShort}
 use Rattle.mvt_geometry.proofs.PutLemmas.{item_at, steps_of, steps_behind, end_behind, stroke_step}
 use Rattle.mvt_geometry.proofs.put.put_lines.Goals as goal

@@ -1,4 +1,4 @@
-use Rattle.std.proofs.Common.{◌≡◌, ◌++◌, take, drop}
+use Rattle.std.proofs.Common.{◌≡◌, ◌++◌, drop}
 use Rattle.mvt_geometry.specs.Shape.{AreSteps, joined}
 use Rattle.mvt_geometry.specs.Inner.Judging.{last_of}
 use Rattle.mvt_geometry.specs.Inner.Strokes.{strokes_from}

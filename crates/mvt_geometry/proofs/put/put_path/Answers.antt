@@ -1,4 +1,4 @@
-use Rattle.std.proofs.Common.{rules, arith, ◌≡◌, ◌+◌, List, [], ◌∷◌, ◌++◌, get_or, drop, ℤ, pos, refl, sym, ap, ap₂, subst, ◌∙◌, to_z, of_z, w32}
+use Rattle.std.proofs.Common.{rules, ◌≡◌, [], ◌∷◌, ◌++◌, get_or, pos, sym, ap, ap₂, subst, ◌∙◌, to_z, of_z, w32}
 use Rattle.std.proofs.lemmas.List.{drop_more}
 use Rattle.mvt_wire.specs.Zigzag.{zig}
 use Rattle.mvt_geometry.specs.declared.shape.Point.{Point}

@@ -1,4 +1,4 @@
-use Rattle.std.proofs.Common.{rules, arith, ◌≡◌, ◌+◌, [], ◌∷◌, ◌++◌, drop, refl, sym, ap, subst, ◌∙◌}
+use Rattle.std.proofs.Common.{◌+◌, [], ◌∷◌, ◌++◌, drop, sym, ap, subst, ◌∙◌}
 use Rattle.mvt_base.proofs.ListLemmas.{all_left, all_right}
 use Rattle.mvt_geometry.specs.Shape.{AreSteps, joined, rings_of}
 use Rattle.mvt_geometry.specs.Inner.Judging.{last_of}

@@ -1,4 +1,4 @@
-use Rattle.std.proofs.Common.{rules, arith, ◌≡◌, ◌++◌, [], ◌∷◌, refl, sym, ap, ap₂, ◌∙◌, subst, append_assoc}
+use Rattle.std.proofs.Common.{◌++◌, sym, ap₂, ◌∙◌, subst}
 use Rattle.mvt_geometry.specs.Commands.{pairs_of, positions, moved}
 use Rattle.mvt_geometry.specs.Inner.Building.{ArePlaces}
 use Rattle.mvt_geometry.proofs.BuildLemmas.{front_is, room_for, first_points, first_end, other_points, other_end, behind_is}

@@ -1,5 +1,4 @@
-use Rattle.std.proofs.Common.{rules, arith, ◌≡◌, ◌<◌, ◌++◌, [], ◌∷◌, List, length, refl, sym, ap, ap₂, ◌∙◌, append_assoc, append-nil}
-use Rattle.mvt_geometry.specs.declared.shape.Point.{Point}
+use Rattle.std.proofs.Common.{rules, ◌≡◌, ◌<◌, ◌++◌, [], ◌∷◌, length, sym, ap, ◌∙◌, append_assoc, append-nil}
 use Rattle.mvt_geometry.proofs.BuildLemmas.{more_lines, end_of_lines}
 use Rattle.mvt_geometry.proofs.read.build_lines.Goals as goal
 

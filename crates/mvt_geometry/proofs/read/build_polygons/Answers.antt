@@ -1,5 +1,4 @@
-use Rattle.std.proofs.Common.{rules, arith, ◌≡◌, ◌<◌, ◌++◌, [], ◌∷◌, List, length, refl, sym, ap, ap₂, ◌∙◌, append_assoc, append-nil}
-use Rattle.mvt_geometry.specs.declared.shape.Point.{Point}
+use Rattle.std.proofs.Common.{rules, ◌≡◌, ◌<◌, ◌++◌, [], ◌∷◌, List, length, sym, ap, ap₂, ◌∙◌, append-nil}
 use Rattle.mvt_geometry.specs.declared.shape.Polygon.{Polygon}
 use Rattle.mvt_geometry.specs.Inner.Grouping.{opened, polygons_of}
 use Rattle.mvt_geometry.proofs.BuildLemmas.{rings_first, more_lines, end_of_lines}

@@ -1,4 +1,4 @@
-use Rattle.std.proofs.Common.{rules, arith, ◌≡◌, ◌≤◌, ◌+ℤ◌, length, refl, ap₂, ℤ, to_z, of_z, w32}
+use Rattle.std.proofs.Common.{rules, arith, ◌≡◌, ◌≤◌, length, ap₂, ℤ, to_z, of_z, w32}
 use Rattle.mvt_geometry.specs.declared.shape.Point.{Point}
 use Rattle.mvt_geometry.proofs.BuildLemmas.{next_place, pushes, moved_number}
 use Rattle.mvt_geometry.proofs.read.push_path.Goals as goal

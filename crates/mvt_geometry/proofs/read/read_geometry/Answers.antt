@@ -1,5 +1,4 @@
-use Rattle.std.proofs.Common.{rules, arith, ◌≡◌, ◌^◌, ◌<◌, ℕ, get_or, refl, sym, ap, ◌∙◌, subst, Some, None}
-use Rattle.std.proofs.lemmas.Result.{err_from_is_err_and}
+use Rattle.std.proofs.Common.{arith, ◌≡◌, sym, ◌∙◌, subst, Some, None}
 use Rattle.mvt_geometry.specs.Drawing.{Draws}
 use Rattle.mvt_geometry.specs.Table.{IndexedCause}
 use Rattle.mvt_geometry.proofs.WholeLemmas.{drawn_faultless, faultless_drawn, all_small}

@@ -1,6 +1,4 @@
-use Rattle.std.proofs.Common.{rules, arith, ◌≡◌, ◌≢◌, ◌⊎◌, inl, inr, ℤ, refl, sym, ap, ap₂, ◌∙◌, subst, to_z, of_z, w32, true, false}
-use Rattle.mvt_geometry.specs.declared.shape.Point.{Point}
-use Rattle.mvt_geometry.specs.Shape.{IsPlace, IsStep}
+use Rattle.std.proofs.Common.{rules, ◌≡◌, ◌≢◌, ◌⊎◌, inl, inr, to_z, of_z, w32, true, false}
 use Rattle.mvt_geometry.proofs.ValidLemmas.{to_step, from_step}
 use Rattle.mvt_geometry.proofs.valid.is_step.Goals as goal
 use Rattle.mvt_geometry.proofs.valid.is_step.Goals.{else-is_line-via-then-is_line+else-eq, else-is_line-via-else-is_line}

@@ -1,4 +1,3 @@
-use Rattle.std.proofs.Common.{rules, arith}
 use Rattle.mvt_geometry.proofs.ValidLemmas.{valid_drawn, drawn_valid, valid_draws}
 use Rattle.mvt_geometry.proofs.valid.is_valid_geometry.Goals as goal
 

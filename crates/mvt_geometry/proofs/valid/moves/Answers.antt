@@ -1,4 +1,4 @@
-use Rattle.std.proofs.Common.{rules, arith, ◌≡◌, ◌-ℤ◌, sym, subst, ◌∙◌, to_z, of_z, w32, w64}
+use Rattle.std.proofs.Common.{arith, ◌≡◌, ◌-ℤ◌, sym, subst, to_z, of_z, w64}
 use Rattle.std.proofs.lemmas.Int.{ints}
 use Rattle.mvt_geometry.specs.Shape.{InRange}
 use Rattle.mvt_geometry.proofs.valid.moves.Goals as goal
