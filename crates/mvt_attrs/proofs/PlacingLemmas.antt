@@ -40,22 +40,21 @@ module _ {A : Type 0} (same : A → A → Bool) (decides : (x y : A) → Decides
       (put_cases same decides (λ p. (more : List A) × (p ≡ pool ++ more)) pool x (λ e. ([], sym (append-nil pool))) (λ e. (x ∷ [], refl)))
 
 -- the tags of one attribute more
-pub names_more : (keys keys_after : List (List ℕ)) (values values_after : List Value) (tags tags_after : List ℕ) (attributes : List Attribute) (i : ℕ) (a : Attribute) (k v : ℕ)
+pub names_more : (keys keys_after : List (List ℕ)) (values values_after : List Value) (tags : List ℕ) (attributes : List Attribute) (i : ℕ) (a : Attribute) (k v : ℕ)
     → Names keys values tags (take i attributes) → i < length attributes → a ≡ get_or attributes i a
     → (more : List (List ℕ)) × (keys_after ≡ keys ++ more) → (further : List Value) × (values_after ≡ values ++ further)
-    → slice_get keys_after k ≡ Some a.key → slice_get values_after v ≡ Some a.value → tags_after ≡ tags ++ k ∷ (v ∷ [])
-    → Names keys_after values_after tags_after (take (i + 1) attributes)
-names_more keys keys_after values values_after tags tags_after attributes i a k v names within at longer_keys longer_values of_key of_value pushed =
+    → slice_get keys_after k ≡ Some a.key → slice_get values_after v ≡ Some a.value
+    → Names keys_after values_after (tags ++ k ∷ (v ∷ [])) (take (i + 1) attributes)
+names_more keys keys_after values values_after tags attributes i a k v names within at longer_keys longer_values of_key of_value =
     let longer : Names keys_after values_after tags (take i attributes) =
     subst (λ ks. Names ks values_after tags (take i attributes)) (sym longer_keys.1)
     (subst (λ vs. Names (keys ++ longer_keys.0) vs tags (take i attributes)) (sym longer_values.1)
     (names_longer keys longer_keys.0 values longer_values.0 tags (take i attributes) names)) in
-    subst (λ ts. Names keys_after values_after ts (take (i + 1) attributes)) (sym pushed)
-    (subst (λ as'. Names keys_after values_after (tags ++ k ∷ (v ∷ [])) as') (ap (λ b. take i attributes ++ b ∷ []) at ∙ sym (take_more attributes i a within))
-    (names_push keys_after values_after tags (take i attributes) k v a longer of_key of_value))
+    subst (λ as'. Names keys_after values_after (tags ++ k ∷ (v ∷ [])) as') (ap (λ b. take i attributes ++ b ∷ []) at ∙ sym (take_more attributes i a within))
+    (names_push keys_after values_after tags (take i attributes) k v a longer of_key of_value)
 
-pub names_none : (keys : List (List ℕ)) (values : List Value) (tags : List ℕ) → tags ≡ [] → Names keys values tags []
-names_none keys values tags e = subst (λ ts. Names keys values ts []) (sym e) (record { twice = omega arith; key = λ i a at. cc; value = λ i a at. cc })
+pub names_none : (keys : List (List ℕ)) (values : List Value) → Names keys values [] []
+names_none keys values = record { twice = omega arith; key = λ i a at. cc; value = λ i a at. cc }
 
 -- what holds at one number holds at some number
 pub on_err_at : {T E : Type 0} → (P : ℕ → Type 0) (r : Result T E) (n : ℕ) → P n → OnErr r ((m : ℕ) × P m)
@@ -84,3 +83,15 @@ all_places held_keys keys held_values values tags attributes i past of_keys of_v
     let distinct_values : AreDistinct values = subst AreDistinct (sym of_values) (first_use-distinct equal_values equal_values-Decides _) in
     names_places keys [] values [] tags attributes distinct_keys distinct_values (subst (λ as'. Names keys values tags as') (take_all i attributes past) names)
     ∙ ap₂ (λ ks vs. tags_in ks vs attributes) (append-nil keys) (append-nil values)
+
+pub all_named : (held_keys keys : List (List ℕ)) (held_values values : List Value) (tags : List ℕ) (attributes : List Attribute) (i : ℕ)
+    → length attributes ≤ i → keys ≡ key_pool held_keys (take i attributes) → values ≡ value_pool held_values (take i attributes) → Names keys values tags (take i attributes)
+    → Names keys values (tags_in keys values attributes) attributes
+all_named held_keys keys held_values values tags attributes i past of_keys of_values names =
+    subst (λ ts. Names keys values ts attributes) (all_places held_keys keys held_values values tags attributes i past of_keys of_values names)
+    (subst (λ as'. Names keys values tags as') (take_all i attributes past) names)
+
+-- a call that failed left what was appended so far
+pub tags_left_at : {T E : Type 0} → (r : Result T E) (old new so_far : List ℕ) → new ≡ old ++ so_far → OnErr r ((more : List ℕ) × (new ≡ old ++ more))
+tags_left_at (Ok x) old new so_far e = tt
+tags_left_at (Err d) old new so_far e = (so_far, e)

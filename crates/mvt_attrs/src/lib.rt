@@ -12,7 +12,7 @@ mod value;
 mod value_pool;
 
 pub use key_pool::KeyPool;
-pub use placing::tags_of;
+pub use placing::{append_tags, tags_of};
 pub use pool_error::PoolError;
 pub use resolving::{TagCause, TagError, resolve};
 pub use value::{Attribute, Value};

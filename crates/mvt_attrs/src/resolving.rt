@@ -54,8 +54,9 @@ impl<T: Drop> From<AllocFailed<T>> for TagError {
 
 /// The attributes that a feature's tags name, in order (4.4).
 ///
-/// A repeated key is looked for among the keys before it: one by one where the tags can name at most
-/// sixteen, and by hashing where they can name more, so that the cost grows with the number of tags.
+/// A repeated key is looked for among the keys before it. Up to sixteen pairs are compared one by
+/// one, without memory; more are hashed, in memory for as many keys, so that the cost grows with the
+/// number of tags and not with its square.
 ///
 /// # Errors
 /// The first broken rule, with its index into the tags. A growth may be refused before a fault that

@@ -8,10 +8,10 @@ use Rattle.mvt_wire.specs.declared.fault.WireCause.TheVariants.{Truncated, Varin
 use Rattle.mvt_wire.specs.Varint.{SpellsNone, spell_cause}
 use Rattle.mvt_wire.specs.Field.{Content, varint, fixed64, bytes, fixed32, StartsNoField, Entry, body_size, IsFieldAt}
 use Rattle.mvt_wire.specs.Fields.{bytes_size, EndsBy}
-use Rattle.mvt_wire.specs.Fronts.{entry_at}
+use Rattle.mvt_wire.specs.Fronts.{entry_at, rest_cause}
 use Rattle.mvt_wire.specs.Rest.{IsPayloadCause, no_type, no_varint, no_length, past_end, no_eight, no_four, IsRestCause, no_tag, no_number, no_payload}
 use Rattle.mvt_wire.specs.Split.{SplitFrom, Parts, behind, no_fields, split_within, split_from}
-use Rattle.mvt_wire.proofs.FieldLemmas.{entry_found, entry_front, entry_none, entry_none_from}
+use Rattle.mvt_wire.proofs.FieldLemmas.{entry_cause, entry_found, entry_front, entry_none, entry_none_from, entry_why, rest_cause_is}
 
 -- ---- one step of the function
 
@@ -219,3 +219,14 @@ pub split_count : (at : ℕ) (b : List ℕ) → length (split_from at b).fields 
 split_count =
     split_induct (λ at b parts. length parts.fields + length parts.rest ≤ length b) (λ at b c e. omega arith)
     (λ at b found parts e is more. let size = found_size at b found e in let rest = length-drop found.1 b in omega (arith, size.0, size.1, rest, more))
+
+-- no field begins at the rest
+pub split_rest : (at : ℕ) (b : List ℕ) → StartsNoField (split_from at b).rest
+split_rest =
+    split_induct (λ at b parts. StartsNoField parts.rest) (λ at b c e. entry_none at b c e) (λ at b found parts e is more. more)
+
+pub rest_stays : (b more : List ℕ) → StartsNoField b → rest_cause b ≢ Truncated → StartsNoField (b ++ more) × (rest_cause (b ++ more) ≡ rest_cause b)
+rest_stays b more none other =
+    let why : IsRestCause b (rest_cause b) = entry_why 0 b (rest_cause b) (entry_none_from 0 b none) in
+    let stays = cause_stays b more (rest_cause b) other why in
+    (entry_none 0 (b ++ more) (rest_cause b) (entry_cause 0 (b ++ more) (rest_cause b) stays), sym (rest_cause_is (b ++ more) (rest_cause b) stays))

@@ -149,7 +149,7 @@ less_after_fault old new fault g = some_less old.rest _ _ _ g.1 (ap length g.4) 
 
 -- ---- `field_span`
 
-nil_cause : rest_cause [] ≡ Truncated
+pub nil_cause : rest_cause [] ≡ Truncated
 nil_cause = sym (rest_cause_is [] Truncated (no_tag nil_spells refl))
 
 pub nil_span : (b : List ℕ) → 0 ≡ length b → StartsNoField b × (rest_cause b ≡ Truncated)

@@ -62,6 +62,7 @@ pub fn one_cause()
         → StartsNoField b × (c ≡ rest_cause b) }
     ensures stays { (b more : List ℕ) (c : WireCause) → c ≢ Truncated → IsRestCause b c
         → IsRestCause (b ++ more) c }
+    ensures end { rest_cause [] ≡ Truncated }
 {}
 
 /// `split` is the split of a list.
@@ -73,6 +74,7 @@ pub fn split_function()
     ensures cause { (b : List ℕ) (c : WireCause) → IsRestCause (split b).rest c
         → c ≡ rest_cause (split b).rest }
     ensures count { (b : List ℕ) → length (split b).fields + length (split b).rest ≤ length b }
+    ensures rest { (b : List ℕ) → StartsNoField (split b).rest }
 {}
 
 /// A split goes step by step: the field at the front and then the split of what is behind it.
@@ -82,6 +84,7 @@ pub fn split_steps()
     ensures none { (at : ℕ) (b : List ℕ) → StartsNoField b → split_from at b ≡ no_fields at b }
     ensures place { (at : ℕ) (b : List ℕ)
         → (split_from at b).rest_at + length (split_from at b).rest ≡ at + length b }
+    ensures rest { (at : ℕ) (b : List ℕ) → StartsNoField (split_from at b).rest }
 {}
 
 /// More bytes change no field that is there, and no cause but Truncated.
@@ -90,6 +93,8 @@ pub fn front_stays()
         → entry_at at (b ++ more) ≡ Ok (e, k) }
     ensures cause { (at : ℕ) (b more : List ℕ) (c : WireCause) → c ≢ Truncated
         → entry_at at b ≡ Err c → entry_at at (b ++ more) ≡ Err c }
+    ensures rest { (b more : List ℕ) → StartsNoField b → rest_cause b ≢ Truncated
+        → StartsNoField (b ++ more) × (rest_cause (b ++ more) ≡ rest_cause b) }
 {}
 
 /// The split of a longer list is the fields that were there and then the split of the rest with

@@ -1,6 +1,6 @@
 use Rattle.std.proofs.Common.{sym, ◌∙◌, zero-add}
 use Rattle.mvt_wire.proofs.FieldLemmas.{rest_cause_is}
-use Rattle.mvt_wire.proofs.SplitLemmas.{split_is, split_only, split_place, split_count}
+use Rattle.mvt_wire.proofs.SplitLemmas.{split_is, split_only, split_place, split_count, split_rest}
 use Rattle.mvt_wire.proofs.laws.split_function.Goals as goal
 
 pub returns-clause-is : goal.returns-clause-is
@@ -17,3 +17,6 @@ returns-clause-cause c = λ b why is. rest_cause_is _ why is
 
 pub returns-clause-count : goal.returns-clause-count
 returns-clause-count c = λ b. split_count 0 b
+
+pub returns-clause-rest : goal.returns-clause-rest
+returns-clause-rest c = λ b. split_rest 0 b
