@@ -94,28 +94,3 @@ so_far_with base done k x m so_far clean take means =
 pub so_far_stops : (base : ℕ) (done : List Entry) (k : Kinds) (x : Entry) (cause : Cause) → AreSoFar base done (Ok k) → first (kind_rules x.number x.content) ≡ Some cause → (more : List Entry) → first (each (λ _. value_field_rules base) [] ((done ++ x ∷ []) ++ more)) ≡ Some (fault_at (base + x.at) cause)
 so_far_stops base done k x cause so_far broken more =
     rw append_assoc (each_stops (λ _. value_field_rules base) done x more (fault_at (base + x.at) cause) so_far.0 (field_broken base x cause broken))
-
-pub so_far_stays : (base : ℕ) (done : List Entry) (x : Entry) (error : MessageError) → AreSoFar base done (Err error) → AreSoFar base (done ++ x ∷ []) (Err error)
-so_far_stays base done x error so_far = λ more. rw append_assoc (so_far (x ∷ more))
-
--- the end of the walk
-pub end_whole : (payload : List ℕ) (old new : Parts) (done : List Entry) (base : ℕ) (r : Result Kinds MessageError) → Walk payload old done → GivesField old None new → AreSoFar base done r → OnOk r ((split payload).rest ≡ [])
-end_whole payload old new done base (Ok k) walk step so_far = (walk_end payload old new done walk step).1
-end_whole payload old new done base (Err e) walk step so_far = tt
-
-pub end_clean : (payload : List ℕ) (old new : Parts) (done : List Entry) (base : ℕ) (r : Result Kinds MessageError) → Walk payload old done → GivesField old None new → AreSoFar base done r → OnOk r (first (each (λ _. value_field_rules base) [] (split payload).fields) ≡ None)
-end_clean payload old new done base (Ok k) walk step so_far = rw (walk_end payload old new done walk step).0 so_far.0
-end_clean payload old new done base (Err e) walk step so_far = tt
-
-pub end_kinds : (payload : List ℕ) (old new : Parts) (done : List Entry) (base : ℕ) (r : Result Kinds MessageError) → Walk payload old done → GivesField old None new → AreSoFar base done r → IfOk r (AreKinds (split payload).fields)
-end_kinds payload old new done base (Ok k) walk step so_far = subst (λ fields. AreKinds fields k) (sym (walk_end payload old new done walk step).0) so_far.1
-end_kinds payload old new done base (Err e) walk step so_far = tt
-
-pub end_told : (payload : List ℕ) (old new : Parts) (done : List Entry) (base : ℕ) (r : Result Kinds MessageError) → Walk payload old done → GivesField old None new → AreSoFar base done r
-    → IfErr r (λ e. TellsMessage e (option_or (first (rest_rules base (split payload))) (first (each (λ _. value_field_rules base) [] (split payload).fields))))
-end_told payload old new done base (Ok k) walk step so_far = tt
-end_told payload old new done base (Err e) walk step so_far =
-    let all = walk_end payload old new done walk step in
-    let told_here : TellsMessage e (first (each (λ _. value_field_rules base) [] (split payload).fields)) =
-    subst (λ fields. TellsMessage e (first (each (λ _. value_field_rules base) [] fields))) (append-nil done ∙ sym all.0) (so_far []) in
-    subst (λ o. TellsMessage e (option_or o (first (each (λ _. value_field_rules base) [] (split payload).fields)))) (sym (rest_none base (split payload) all.1)) told_here

@@ -4,3 +4,5 @@ pub mod KindLemmas
 pub mod TableLemmas
 pub mod SelectionLemmas
 pub mod ValueLemmas
+pub mod KnownLemmas
+pub mod FeatureLemmas

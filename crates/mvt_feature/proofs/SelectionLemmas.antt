@@ -1,5 +1,5 @@
 -- Fields selected by their number, and rules that hold for each field.
-use Rattle.std.proofs.Common.{◌≡◌, ◌≢◌, ℕ, ◌==◌, Bool, true, false, List, [], ◌∷◌, ◌++◌, Option, Some, None, refl, sym, ap, ◌∙◌, if◌then◌else◌}
+use Rattle.std.proofs.Common.{◌≡◌, ◌≢◌, ℕ, ◌==◌, Bool, true, false, List, [], ◌∷◌, ◌++◌, Option, Some, None, refl, sym, ap, ◌∙◌, append-nil, if◌then◌else◌}
 use Rattle.std.specs.List.{AllByRecursion}
 use Rattle.std.proofs.lemmas.Bool.{eqb-true}
 use Rattle.mvt_base.specs.Rules.{Rules, under, each, first}
@@ -51,3 +51,23 @@ form_of k Form xs x forms is =
 pub last_there : (o : Entry) (xs : List Entry) → (x : Entry) × (last_or (Some o) xs ≡ Some x)
 last_there o [] = (o, refl)
 last_there o (x ∷ xs) = last_there x xs
+
+-- one more field
+pub only-append : (k : ℕ) (xs ys : List Entry) → only k (xs ++ ys) ≡ only k xs ++ only k ys
+only-append k [] ys = refl
+only-append k (x ∷ xs) ys = by_test (x.number == k) (only-append k xs ys)
+  where
+    by_test : (b : Bool) → only k (xs ++ ys) ≡ only k xs ++ only k ys → (if b then x ∷ only k (xs ++ ys) else only k (xs ++ ys)) ≡ (if b then x ∷ only k xs else only k xs) ++ only k ys
+    by_test true h = ap (λ l. x ∷ l) h
+    by_test false h = h
+
+pub last_or-more : (o : Option Entry) (xs : List Entry) (x : Entry) → last_or o (xs ++ x ∷ []) ≡ Some x
+last_or-more o [] x = refl
+last_or-more o (y ∷ ys) x = last_or-more (Some y) ys x
+
+pub last_only-more : (k : ℕ) (xs : List Entry) (x : Entry) → last_only k (xs ++ x ∷ []) ≡ (if x.number == k then Some x else last_only k xs)
+last_only-more k xs x = ap (last_or None) (only-append k xs (x ∷ [])) ∙ by_test (x.number == k)
+  where
+    by_test : (b : Bool) → last_or None (only k xs ++ (if b then x ∷ [] else [])) ≡ (if b then Some x else last_or None (only k xs))
+    by_test true = last_or-more None (only k xs) x
+    by_test false = ap (last_or None) (append-nil (only k xs))

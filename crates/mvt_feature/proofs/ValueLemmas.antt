@@ -114,13 +114,13 @@ form_text (varint n) h = absurd h
 form_text (fixed64 n) h = absurd h
 form_text (fixed32 n) h = absurd h
 
-varint_form : (c : Content) → first (varint_rules c) ≡ None → IsVarint c
+pub varint_form : (c : Content) → first (varint_rules c) ≡ None → IsVarint c
 varint_form (varint n) h = tt
 varint_form (bytes d) h = cc
 varint_form (fixed64 n) h = cc
 varint_form (fixed32 n) h = cc
 
-form_varint : (c : Content) → IsVarint c → first (varint_rules c) ≡ None
+pub form_varint : (c : Content) → IsVarint c → first (varint_rules c) ≡ None
 form_varint (varint n) h = refl
 form_varint (bytes d) h = absurd h
 form_varint (fixed64 n) h = absurd h
@@ -341,7 +341,7 @@ value_there payload base own h =
     (found.0, ((split payload).fields, whole_split payload (none_rest base (split payload) parts.0), found.1))
 
 -- the grammar keeps the rules
-by_number : (n : ℕ) (c : Content) (a b : Rules Cause) (k : ℕ) → (n ≡ k → first a ≡ None) → first b ≡ None → first (if n == k then a else b) ≡ None
+pub by_number : (n : ℕ) (c : Content) (a b : Rules Cause) (k : ℕ) → (n ≡ k → first a ≡ None) → first b ≡ None → first (if n == k then a else b) ≡ None
 by_number n c a b k h g = by_test (n == k) refl
   where
     by_test : (t : Bool) → (n == k) ≡ t → first (if t then a else b) ≡ None

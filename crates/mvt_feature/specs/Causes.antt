@@ -2,6 +2,11 @@
 use Rattle.std.specs.Prelude.{ℕ}
 use Rattle.mvt_wire.specs.declared.fault.WireCause.{WireCause}
 use Rattle.mvt_wire.specs.declared.fault.WireCause.TheVariants as wire
+use Rattle.mvt_wire.specs.Packed.{PackedCause, truncated, varint_range, number_range}
+use Rattle.mvt_attrs.specs.declared.resolving.TagCause.{TagCause}
+use Rattle.mvt_attrs.specs.declared.resolving.TagCause.TheVariants as tags
+use Rattle.mvt_geometry.specs.declared.fault.GeometryCause.{GeometryCause}
+use Rattle.mvt_geometry.specs.declared.fault.GeometryCause.TheVariants as geometry
 use Rattle.mvt_feature.specs.declared.cause.Cause.{Cause}
 use Rattle.mvt_feature.specs.declared.cause.Cause.TheVariants.{Truncated, VarintRange, FieldNumber, WireType, WrongType, NumberRange, NotUtf8, NoVersion, NoName, ValueKind, GeomType, OddTags, KeyIndex, ValueIndex, RepeatedKey, Command, Count, Parameters, ZeroSegment, CoordinateRange, FirstRing, EndsEarly, RepeatedName, TooLarge, ParameterRange}
 
@@ -38,3 +43,27 @@ of_wire wire.Truncated = Truncated
 of_wire wire.VarintRange = VarintRange
 of_wire wire.FieldNumber = FieldNumber
 of_wire wire.WireType = WireType
+
+-- a packed number
+abbrev pub of_packed : PackedCause → Cause
+of_packed truncated = Truncated
+of_packed varint_range = VarintRange
+of_packed number_range = NumberRange
+
+-- a tag
+abbrev pub of_tag : TagCause → Cause
+of_tag tags.OddTags = OddTags
+of_tag tags.KeyIndex = KeyIndex
+of_tag tags.ValueIndex = ValueIndex
+of_tag tags.RepeatedKey = RepeatedKey
+
+-- an integer of a geometry
+abbrev pub of_geometry : GeometryCause → Cause
+of_geometry geometry.Command = Command
+of_geometry geometry.Count = Count
+of_geometry geometry.Parameters = Parameters
+of_geometry geometry.ZeroSegment = ZeroSegment
+of_geometry geometry.CoordinateRange = CoordinateRange
+of_geometry geometry.FirstRing = FirstRing
+of_geometry geometry.EndsEarly = EndsEarly
+of_geometry geometry.ParameterRange = ParameterRange

@@ -3,4 +3,6 @@ pub mod Faults
 pub mod Selection
 pub mod Values
 pub mod ValueRules
+pub mod Features
+pub mod FeatureRules
 pub mod Inner

@@ -2,6 +2,8 @@
 ghost use Rattle.std.specs.Prelude.{◌≡◌};
 ghost use Rattle.mvt_feature.specs.Causes.{cause_number};
 
+use mvt_attrs::TagCause;
+use mvt_geometry::GeometryCause;
 use mvt_wire::WireCause;
 
 /// Which rule is broken.
@@ -108,6 +110,42 @@ impl From<WireCause> for Cause {
             WireCause::VarintRange => Cause::VarintRange,
             WireCause::FieldNumber => Cause::FieldNumber,
             WireCause::WireType => Cause::WireType,
+        }
+    }
+}
+
+impl From<TagCause> for Cause {
+    ghost use Rattle.std.specs.Prelude.{◌≡◌};
+    ghost use Rattle.mvt_feature.specs.Causes.{of_tag};
+
+    ghost from_gives = { λ tag cause. cause ≡ of_tag tag };
+
+    fn from(cause: TagCause) -> Self {
+        match cause {
+            TagCause::OddTags => Cause::OddTags,
+            TagCause::KeyIndex => Cause::KeyIndex,
+            TagCause::ValueIndex => Cause::ValueIndex,
+            TagCause::RepeatedKey => Cause::RepeatedKey,
+        }
+    }
+}
+
+impl From<GeometryCause> for Cause {
+    ghost use Rattle.std.specs.Prelude.{◌≡◌};
+    ghost use Rattle.mvt_feature.specs.Causes.{of_geometry};
+
+    ghost from_gives = { λ geometry cause. cause ≡ of_geometry geometry };
+
+    fn from(cause: GeometryCause) -> Self {
+        match cause {
+            GeometryCause::Command => Cause::Command,
+            GeometryCause::Count => Cause::Count,
+            GeometryCause::Parameters => Cause::Parameters,
+            GeometryCause::ZeroSegment => Cause::ZeroSegment,
+            GeometryCause::CoordinateRange => Cause::CoordinateRange,
+            GeometryCause::FirstRing => Cause::FirstRing,
+            GeometryCause::EndsEarly => Cause::EndsEarly,
+            GeometryCause::ParameterRange => Cause::ParameterRange,
         }
     }
 }

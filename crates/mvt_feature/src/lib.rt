@@ -3,11 +3,18 @@
 #![tactic(auto)]
 
 mod cause;
+mod feature;
+mod known;
 pub mod laws;
 mod message_error;
+mod reading;
+mod room;
 mod value;
 mod whole;
 
 pub use cause::Cause;
+pub use feature::Feature;
 pub use message_error::MessageError;
+pub use reading::{read_feature, read_feature_in};
+pub use room::Room;
 pub use value::read_value;

@@ -1,5 +1,7 @@
 //! Why a message can't be read.
 use crate::cause::Cause;
+use mvt_attrs::TagError;
+use mvt_geometry::GeometryError;
 use std::alloc::{AllocError, AllocFailed};
 
 /// Why a message can't be read.
@@ -35,5 +37,41 @@ impl<T: Drop> From<AllocFailed<T>> for MessageError {
 
     fn from(_: AllocFailed<T>) -> Self {
         MessageError::Memory
+    }
+}
+
+impl From<TagError> for MessageError {
+    ghost use Rattle.std.specs.Prelude.{◌≡◌};
+    ghost use Rattle.mvt_feature.specs.Inner.{of_tag_error};
+
+    ghost from_gives = { λ tag_error error. error ≡ of_tag_error tag_error };
+
+    fn from(error: TagError) -> Self {
+        match error {
+            TagError::Memory => MessageError::Memory,
+            TagError::Fault { index, cause } => MessageError::Fault {
+                feature: None,
+                at: index as u64,
+                cause: Cause::from(cause),
+            },
+        }
+    }
+}
+
+impl From<GeometryError> for MessageError {
+    ghost use Rattle.std.specs.Prelude.{◌≡◌};
+    ghost use Rattle.mvt_feature.specs.Inner.{of_geometry_error};
+
+    ghost from_gives = { λ geometry_error error. error ≡ of_geometry_error geometry_error };
+
+    fn from(error: GeometryError) -> Self {
+        match error {
+            GeometryError::Memory => MessageError::Memory,
+            GeometryError::Fault { index, cause } => MessageError::Fault {
+                feature: None,
+                at: index as u64,
+                cause: Cause::from(cause),
+            },
+        }
     }
 }
