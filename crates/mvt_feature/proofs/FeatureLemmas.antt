@@ -115,7 +115,7 @@ feature_clean payload base keys values tags integers kind rest clean tags_are is
 clean_field : (base : ℕ) (x : Entry) → first (feature_field_rules base x) ≡ None → first (form_rules x.number x.content) ≡ None
 clean_field base x h = none_mapped (fault_at (base + x.at)) (first (form_rules x.number x.content)) (sym (field_first base x) ∙ h)
 
-field_clean : (base : ℕ) (x : Entry) → first (form_rules x.number x.content) ≡ None → first (feature_field_rules base x) ≡ None
+pub field_clean : (base : ℕ) (x : Entry) → first (form_rules x.number x.content) ≡ None → first (feature_field_rules base x) ≡ None
 field_clean base x h = field_first base x ∙ ap (option_map (fault_at (base + x.at))) h
 
 -- the rules of the fields of one number
@@ -129,7 +129,7 @@ type_form (bytes d) h = cc
 type_form (fixed64 n) h = cc
 type_form (fixed32 n) h = cc
 
-form_type : (c : Content) → IsType c → first (type_rules c) ≡ None
+pub form_type : (c : Content) → IsType c → first (type_rules c) ≡ None
 form_type (varint n) h = first-when_not (not (nat_le n 3)) GeomType (ap not (le-leb n 3 h))
 form_type (bytes d) h = absurd h
 form_type (fixed64 n) h = absurd h
@@ -153,7 +153,7 @@ numbers_list (fixed64 n) ns h = absurd h
 numbers_list (fixed32 n) ns h = absurd h
 
 -- joined numbers
-abbrev IsListOf : Entry → Type 0
+abbrev pub IsListOf : Entry → Type 0
 IsListOf x = first (list_rules x.content) ≡ None
 
 only_form : (k : ℕ) (P : Content → Type 0) (xs : List Entry) → HaveForm k P xs → AllByRecursion (λ (x : Entry). P x.content) (only k xs)
@@ -164,7 +164,7 @@ only_form k P (x ∷ xs) h = by_test (x.number == k) refl (only_form k P xs h.1)
     by_test true e more = (h.0 (eqb-true x.number k e), more)
     by_test false e more = more
 
-form_only : (k : ℕ) (P : Content → Type 0) (xs : List Entry) → AllByRecursion (λ (x : Entry). P x.content) (only k xs) → HaveForm k P xs
+pub form_only : (k : ℕ) (P : Content → Type 0) (xs : List Entry) → AllByRecursion (λ (x : Entry). P x.content) (only k xs) → HaveForm k P xs
 form_only k P [] h = tt
 form_only k P (x ∷ xs) h = by_test (x.number == k) refl h (form_only k P xs)
   where
@@ -176,7 +176,7 @@ joined_all : (xs : List Entry) → AllByRecursion IsListOf xs → Joined xs (fla
 joined_all [] h = refl
 joined_all (x ∷ xs) h = (numbers_of x.content, flat_map (λ (y : Entry). numbers_of y.content) xs, refl, list_numbers x.content h.0, joined_all xs h.1)
 
-all_joined_are : (xs : List Entry) (ns : List ℕ) → Joined xs ns → AllByRecursion IsListOf xs × (ns ≡ flat_map (λ (x : Entry). numbers_of x.content) xs)
+pub all_joined_are : (xs : List Entry) (ns : List ℕ) → Joined xs ns → AllByRecursion IsListOf xs × (ns ≡ flat_map (λ (x : Entry). numbers_of x.content) xs)
 all_joined_are [] ns h = (tt, h)
 all_joined_are (x ∷ xs) ns (front, back, is, numbers, more) =
     let here = numbers_list x.content front numbers in
@@ -193,12 +193,12 @@ numbers_small (bytes d) ns h = packed_small d ns h
 numbers_small (fixed64 n) ns h = absurd h
 numbers_small (fixed32 n) ns h = absurd h
 
-joined_small : (xs : List Entry) (ns : List ℕ) → Joined xs ns → AllByRecursion (λ n. n < 2 ^ 32) ns
+pub joined_small : (xs : List Entry) (ns : List ℕ) → Joined xs ns → AllByRecursion (λ n. n < 2 ^ 32) ns
 joined_small [] ns h = subst (AllByRecursion (λ m. m < 2 ^ 32)) (sym h) tt
 joined_small (x ∷ xs) ns (front, back, is, numbers, more) =
     subst (AllByRecursion (λ m. m < 2 ^ 32)) (sym is) (all_joined (λ m. m < 2 ^ 32) front back (numbers_small x.content front numbers) (joined_small xs back more))
 
-joined_is : (base k : ℕ) (xs : List Entry) → ((c : Content) → first (form_rules k c) ≡ None → first (list_rules c) ≡ None) → first (each (λ _. feature_field_rules base) [] xs) ≡ None → Joined (only k xs) (joined k xs)
+pub joined_is : (base k : ℕ) (xs : List Entry) → ((c : Content) → first (form_rules k c) ≡ None → first (list_rules c) ≡ None) → first (each (λ _. feature_field_rules base) [] xs) ≡ None → Joined (only k xs) (joined k xs)
 joined_is base k xs form clean =
     joined_all (only k xs) (only_form k (λ c. first (list_rules c) ≡ None) xs (of_number base k (λ c. first (list_rules c) ≡ None) form xs clean))
 

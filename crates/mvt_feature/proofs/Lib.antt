@@ -6,3 +6,4 @@ pub mod SelectionLemmas
 pub mod ValueLemmas
 pub mod KnownLemmas
 pub mod FeatureLemmas
+pub mod FeatureLaws

@@ -2,7 +2,10 @@
 ghost use Rattle.std.specs.Prelude.{◌≡◌, ◌↔◌, ℕ, List, None, Some};
 ghost use Rattle.mvt_base.specs.Rules.{AreOrdered, IsLeast};
 ghost use Rattle.mvt_attrs.specs.declared.value.Value.{Value};
+ghost use Rattle.mvt_feature.specs.declared.feature.Feature.{Feature};
 ghost use Rattle.mvt_feature.specs.Faults.{MessageFault};
+ghost use Rattle.mvt_feature.specs.Features.{IsFeatureOf};
+ghost use Rattle.mvt_feature.specs.FeatureRules.{feature_rules, feature_fault};
 ghost use Rattle.mvt_feature.specs.Values.{IsValueOf};
 ghost use Rattle.mvt_feature.specs.ValueRules.{value_rules, value_fault};
 
@@ -22,3 +25,29 @@ pub fn value_fault_is_least()
     ensures least { (payload : List ℕ) (base own : ℕ) (fault : MessageFault) →
         (value_fault payload base own ≡ Some fault) ↔ IsLeast (value_rules payload base own) fault }
 {}
+
+/// A payload without a fault is just one feature, and a payload that is a feature has no fault.
+pub fn feature_or_fault()
+    ensures there { (payload : List ℕ) (base : ℕ) (keys : List (List ℕ)) (values : List Value) →
+        feature_fault payload base keys values ≡ None → (feature : Feature) × IsFeatureOf payload keys values feature }
+    ensures clean { (payload : List ℕ) (base : ℕ) (keys : List (List ℕ)) (values : List Value) (feature : Feature) →
+        IsFeatureOf payload keys values feature → feature_fault payload base keys values ≡ None }
+    ensures once { (payload : List ℕ) (keys : List (List ℕ)) (values : List Value) (feature other : Feature) →
+        IsFeatureOf payload keys values feature → IsFeatureOf payload keys values other → feature ≡ other }
+{
+    mvt_attrs::laws::attributes_or_fault();
+    mvt_geometry::laws::faultless_draws();
+    mvt_geometry::laws::drawn_is_faultless();
+    mvt_geometry::laws::one_geometry();
+}
+
+/// The fault of a feature is that of the broken rule of least rank.
+pub fn feature_fault_is_least()
+    ensures ordered { (payload : List ℕ) (base : ℕ) (keys : List (List ℕ)) (values : List Value) →
+        AreOrdered (feature_rules payload base keys values) }
+    ensures least { (payload : List ℕ) (base : ℕ) (keys : List (List ℕ)) (values : List Value) (fault : MessageFault) →
+        (feature_fault payload base keys values ≡ Some fault) ↔ IsLeast (feature_rules payload base keys values) fault }
+{
+    mvt_attrs::laws::rules_in_order();
+    mvt_geometry::laws::geometry_ordered();
+}
