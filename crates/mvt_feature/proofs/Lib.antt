@@ -7,3 +7,4 @@ pub mod ValueLemmas
 pub mod KnownLemmas
 pub mod FeatureLemmas
 pub mod FeatureLaws
+pub mod WritingLemmas

@@ -5,4 +5,6 @@ pub mod Values
 pub mod ValueRules
 pub mod Features
 pub mod FeatureRules
+pub mod Canonical
+pub mod Valid
 pub mod Inner

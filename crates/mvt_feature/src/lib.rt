@@ -11,6 +11,7 @@ mod reading;
 mod room;
 mod value;
 mod whole;
+mod writing;
 
 pub use cause::Cause;
 pub use feature::Feature;
@@ -18,3 +19,4 @@ pub use message_error::MessageError;
 pub use reading::{read_feature, read_feature_in};
 pub use room::Room;
 pub use value::read_value;
+pub use writing::{append_feature, append_value, value_len};
