@@ -8,3 +8,4 @@ pub mod KnownLemmas
 pub mod FeatureLemmas
 pub mod FeatureLaws
 pub mod WritingLemmas
+pub mod CanonicalLemmas

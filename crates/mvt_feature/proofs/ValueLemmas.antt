@@ -94,7 +94,7 @@ clean_rules : (base : ℕ) (x : Entry) → first (value_field_rules base x) ≡ 
 unfolding value_field_rules
 clean_rules base x h = none_mapped (fault_at (base + x.at)) (first (kind_rules x.number x.content)) (sym (first-told (fault_at (base + x.at)) (kind_rules x.number x.content)) ∙ h)
 
-rules_clean : (base : ℕ) (x : Entry) → first (kind_rules x.number x.content) ≡ None → first (value_field_rules base x) ≡ None
+pub rules_clean : (base : ℕ) (x : Entry) → first (kind_rules x.number x.content) ≡ None → first (value_field_rules base x) ≡ None
 unfolding value_field_rules
 rules_clean base x h = rw (first-told (fault_at (base + x.at)) (kind_rules x.number x.content), h) refl
 

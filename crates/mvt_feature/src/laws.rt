@@ -1,9 +1,14 @@
 //! Laws about the definitions alone: functions without effect, whose contract is the law.
-ghost use Rattle.std.specs.Prelude.{◌≡◌, ◌↔◌, ℕ, List, None, Some};
+ghost use Rattle.std.specs.Prelude.{◌≡◌, ◌↔◌, ℕ, ◌^◌, ◌<◌, List, length, None, Some};
+ghost use Rattle.std.specs.List.{AllByRecursion};
 ghost use Rattle.mvt_base.specs.Rules.{AreOrdered, IsLeast};
 ghost use Rattle.mvt_attrs.specs.declared.value.Value.{Value};
 ghost use Rattle.mvt_feature.specs.declared.feature.Feature.{Feature};
+ghost use Rattle.mvt_attrs.specs.Tags.{Names};
+ghost use Rattle.mvt_wire.specs.Spelling.{spelled};
+ghost use Rattle.mvt_feature.specs.Canonical.{value_fields, feature_fields};
 ghost use Rattle.mvt_feature.specs.Faults.{MessageFault};
+ghost use Rattle.mvt_feature.specs.Valid.{ValidValue, ValidFeature};
 ghost use Rattle.mvt_feature.specs.Features.{IsFeatureOf};
 ghost use Rattle.mvt_feature.specs.FeatureRules.{feature_rules, feature_fault};
 ghost use Rattle.mvt_feature.specs.Values.{IsValueOf};
@@ -50,4 +55,17 @@ pub fn feature_fault_is_least()
 {
     mvt_attrs::laws::rules_in_order();
     mvt_geometry::laws::geometry_ordered();
+}
+
+/// What is written for a valid value reads as that value, and what is written for a valid feature, with
+/// tags that name its attributes, reads as that feature.
+pub fn canonical_reads()
+    ensures value { (value : Value) → ValidValue value → length (spelled (value_fields value)) < 2 ^ 64
+        → IsValueOf (spelled (value_fields value)) value }
+    ensures feature { (keys : List (List ℕ)) (values : List Value) (tags : List ℕ) (feature : Feature) →
+        ValidFeature feature → Names keys values tags feature.attributes → AllByRecursion (λ tag. tag < 2 ^ 32) tags
+        → length (spelled (feature_fields tags feature)) < 2 ^ 64
+        → IsFeatureOf (spelled (feature_fields tags feature)) keys values feature }
+{
+    mvt_geometry::laws::drawn_small();
 }
