@@ -9,3 +9,4 @@ pub mod FeatureLemmas
 pub mod FeatureLaws
 pub mod WritingLemmas
 pub mod CanonicalLemmas
+pub mod ValidLemmas
