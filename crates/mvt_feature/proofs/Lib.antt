@@ -10,3 +10,4 @@ pub mod FeatureLaws
 pub mod WritingLemmas
 pub mod CanonicalLemmas
 pub mod ValidLemmas
+pub mod RangeLemmas

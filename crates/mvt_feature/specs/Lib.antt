@@ -7,4 +7,5 @@ pub mod Features
 pub mod FeatureRules
 pub mod Canonical
 pub mod Valid
+pub mod Ranges
 pub mod Inner

@@ -1,13 +1,16 @@
 //! Laws about the definitions alone: functions without effect, whose contract is the law.
-ghost use Rattle.std.specs.Prelude.{◌≡◌, ◌↔◌, ℕ, ◌^◌, ◌<◌, List, length, None, Some};
+ghost use Rattle.std.specs.Prelude.{◌≡◌, ◌↔◌, ℕ, ◌^◌, ◌<◌, List, length, None, Some, IsUtf8};
 ghost use Rattle.std.specs.List.{AllByRecursion};
 ghost use Rattle.mvt_base.specs.Rules.{AreOrdered, IsLeast};
 ghost use Rattle.mvt_attrs.specs.declared.value.Value.{Value};
 ghost use Rattle.mvt_feature.specs.declared.feature.Feature.{Feature};
 ghost use Rattle.mvt_attrs.specs.Tags.{Names};
+ghost use Rattle.mvt_wire.specs.Field.{Entry};
 ghost use Rattle.mvt_wire.specs.Spelling.{spelled};
+ghost use Rattle.mvt_wire.specs.Split.{Whole};
 ghost use Rattle.mvt_feature.specs.Canonical.{value_fields, feature_fields};
 ghost use Rattle.mvt_feature.specs.Faults.{MessageFault};
+ghost use Rattle.mvt_feature.specs.Ranges.{AreBytes, IsInRange};
 ghost use Rattle.mvt_feature.specs.Valid.{ValidValue, ValidFeature};
 ghost use Rattle.mvt_feature.specs.Features.{IsFeatureOf};
 ghost use Rattle.mvt_feature.specs.FeatureRules.{feature_rules, feature_fault};
@@ -69,3 +72,13 @@ pub fn canonical_reads()
 {
     mvt_geometry::laws::drawn_small();
 }
+
+/// What bytes are read as is valid; a feature, where the keys and the values of its layer are.
+pub fn read_is_valid()
+    ensures fields { (payload : List ℕ) (fields : List Entry) → AreBytes payload → Whole payload fields
+        → AllByRecursion (λ (x : Entry). IsInRange x.content) fields }
+    ensures value { (payload : List ℕ) (value : Value) → AreBytes payload → IsValueOf payload value → ValidValue value }
+    ensures feature { (payload : List ℕ) (keys : List (List ℕ)) (values : List Value) (feature : Feature) →
+        AreBytes payload → AllByRecursion IsUtf8 keys → AllByRecursion ValidValue values
+        → IsFeatureOf payload keys values feature → ValidFeature feature }
+{}
