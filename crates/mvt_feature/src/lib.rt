@@ -9,6 +9,8 @@ pub mod laws;
 mod message_error;
 mod reading;
 mod room;
+#[cfg(test)]
+mod tests;
 mod validity;
 mod value;
 mod whole;
