@@ -1,33 +1,30 @@
 -- What is written reads as what it was written for.
-use Rattle.std.proofs.Common.{◌≡◌, ℕ, ◌+◌, ◌*◌, ◌^◌, ◌<◌, ◌≤◌, ◌==◌, Bool, true, false, not, ℤ, pos, negsuc, List, [], ◌∷◌, ◌++◌, length, map, Option, Some, None, refl, sym, ap, ap₂, ◌∙◌, subst, append-nil, length-append, arith, rules, lit<, lit≤, if◌then◌else◌}
-use Rattle.std.specs.Prelude.{IsUtf8, FitsSigned, IfSome}
-use Rattle.std.specs.Int.{w64, cast_signed, cast_unsigned}
+use Rattle.std.proofs.Common.{◌≡◌, ℕ, ◌^◌, ◌<◌, ◌≤◌, ◌==◌, Bool, true, false, not, ℤ, pos, negsuc, List, [], ◌∷◌, ◌++◌, length, map, Option, Some, None, refl, sym, ap, ◌∙◌, subst, append-nil, length-append, arith, rules, lit<, lit≤, if◌then◌else◌}
+use Rattle.std.specs.Prelude.{FitsSigned, IfSome}
+use Rattle.std.specs.Int.{w64, cast_unsigned}
 use Rattle.std.specs.List.{AllByRecursion}
 use Rattle.std.proofs.Math.Facts.{Fits-of_z}
 use Rattle.std.proofs.lemmas.Int.{ints, to_z-of_z}
-use Rattle.std.proofs.lemmas.Bool.{eqb-true}
-use Rattle.mvt_base.specs.Rules.{each, first}
-use Rattle.mvt_base.proofs.ListLemmas.{all_unmapped, all_joined}
+use Rattle.mvt_base.specs.Rules.{first}
+use Rattle.mvt_base.proofs.ListLemmas.{all_joined}
 use Rattle.mvt_attrs.specs.declared.value.Value.{Value}
 use Rattle.mvt_attrs.specs.declared.value.Value.TheVariants.{Text, Float, Double, Int, Uint, Sint, Bool as Truth}
-use Rattle.mvt_attrs.specs.Tags.{Names, Resolved}
+use Rattle.mvt_attrs.specs.Tags.{Names}
 use Rattle.mvt_geometry.specs.declared.shape.Kind.{Kind}
 use Rattle.mvt_geometry.specs.declared.shape.Kind.TheVariants as kinds
 use Rattle.mvt_geometry.specs.declared.shape.Geometry.{Geometry}
-use Rattle.mvt_geometry.specs.Drawing.{drawn, Draws}
+use Rattle.mvt_geometry.specs.Drawing.{drawn}
 use Rattle.mvt_geometry.specs.Shape.{kind_of}
 use Rattle.mvt_geometry.specs.Valid.{IsValid}
-use Rattle.mvt_wire.specs.Field.{Content, varint, fixed64, bytes, fixed32, Entry}
-use Rattle.mvt_wire.specs.Packed.{ArePacked}
-use Rattle.mvt_wire.specs.Split.{Whole}
-use Rattle.mvt_wire.specs.Spelling.{Plain, plain_of, short_field, short_numbers, spelled, IsFit, FitsContent}
+use Rattle.mvt_wire.specs.Field.{varint, bytes, Entry}
+use Rattle.mvt_wire.specs.Spelling.{Plain, plain_of, short_field, short_numbers, spelled, IsFit}
 use Rattle.mvt_wire.specs.Zigzag.{zig}
 use Rattle.mvt_wire.proofs.PackedLemmas.{short_packed}
 use Rattle.mvt_wire.proofs.SpellingLemmas.{spelled_from, bytes_longer}
 use Rattle.mvt_feature.specs.declared.feature.Feature.{Feature}
 use Rattle.mvt_feature.specs.Canonical.{plain, value_field, value_fields, id_fields, tags_fields, type_number, drawing_fields, feature_fields}
 use Rattle.mvt_feature.specs.Features.{IsType, Joined, number_of, number_in, kind_numbered, kind_of_type, IsFeature, IsFeatureOf}
-use Rattle.mvt_feature.specs.Selection.{only, last_or, last_only, HaveForm}
+use Rattle.mvt_feature.specs.Selection.{only, last_or}
 use Rattle.mvt_feature.specs.Valid.{ValidValue, ValidFeature}
 use Rattle.mvt_feature.specs.Values.{IsVarint, Means, IsValue, IsValueOf}
 use Rattle.mvt_feature.specs.ValueRules.{kind_rules, kinds, are_one_kind, value_field_rules}

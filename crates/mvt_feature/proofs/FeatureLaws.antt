@@ -1,8 +1,7 @@
 -- The laws of features, from those of tags and of geometries.
-use Rattle.std.proofs.Common.{◌≡◌, ℕ, ◌+◌, ◌^◌, ◌<◌, ◌==◌, ◌↔◌, Bool, true, false, not, nat_lt, nat_le, List, [], ◌∷◌, Option, Some, None, refl, sym, ap, ap₂, ◌∙◌, subst, arith}
+use Rattle.std.proofs.Common.{◌≡◌, ℕ, ◌+◌, ◌^◌, ◌<◌, ◌==◌, ◌↔◌, true, not, nat_lt, nat_le, List, [], ◌∷◌, Some, None, refl, sym, ap, ◌∙◌, subst, arith}
 use Rattle.std.specs.List.{AllByRecursion}
-use Rattle.std.specs.Option.{option_or, option_map}
-use Rattle.mvt_base.specs.Rules.{Rules, AreOrdered, IsLeast, when, under, told, first, each}
+use Rattle.mvt_base.specs.Rules.{AreOrdered, IsLeast, when, told, first, each}
 use Rattle.mvt_base.proofs.OrderLemmas.{first_is_least, least_is_first, AreRowsFrom, rows_ordered, each_ordered, told_ordered, under_ordered, when_ordered}
 use Rattle.mvt_base.proofs.RuleLemmas.{first-under, option_or-nones}
 use Rattle.mvt_attrs.specs.declared.value.Value.{Value}
@@ -21,7 +20,7 @@ use Rattle.mvt_wire.proofs.SplitLemmas.{split_only}
 use Rattle.mvt_feature.specs.declared.cause.Cause.TheVariants.{WrongType, NumberRange, GeomType}
 use Rattle.mvt_feature.specs.declared.feature.Feature.{Feature}
 use Rattle.mvt_feature.specs.Causes.{of_packed}
-use Rattle.mvt_feature.specs.Faults.{MessageFault, fault_at, rest_rules}
+use Rattle.mvt_feature.specs.Faults.{MessageFault, fault_at}
 use Rattle.mvt_feature.specs.Features.{IsType, Joined, number_in, IsFeature, IsFeatureOf}
 use Rattle.mvt_feature.specs.FeatureRules.{joined, type_rules, list_rules, form_rules, feature_field_rules, tag_told, geometry_told, kind_in, feature_table, feature_rules, feature_fault}
 use Rattle.mvt_feature.specs.Selection.{only, last_only, HaveForm}
@@ -31,7 +30,7 @@ use Rattle.mvt_feature.proofs.SelectionLemmas.{each_none}
 use Rattle.mvt_feature.proofs.TableLemmas.{none_mapped}
 use Rattle.mvt_feature.proofs.ValueLemmas.{form_varint, varint_ordered, if_ordered, rest_ordered, by_number}
 use Rattle.mvt_feature.proofs.FeatureLemmas.{feature_chain, fields_fault, feature_clean, feature_from, field_clean, form_type, form_only, all_joined_are, joined_small, joined_is, IsListOf}
-use Rattle.mvt_feature.proofs.WalkLemmas.{rest_none, none_rest}
+use Rattle.mvt_feature.proofs.WalkLemmas.{none_rest}
 
 -- what the levels below give
 abbrev pub TagsThere : Type 0

@@ -1,48 +1,42 @@
 -- Features: the rules and the grammar say the same.
-use Rattle.std.proofs.Common.{◌≡◌, ℕ, ◌+◌, ◌^◌, ◌<◌, ◌≤◌, ◌==◌, ◌↔◌, Bool, true, false, not, nat_lt, nat_le, List, [], ◌∷◌, ◌++◌, Option, Some, None, refl, sym, ap, ap₂, ◌∙◌, subst, if◌then◌else◌}
+use Rattle.std.proofs.Common.{◌≡◌, ℕ, ◌+◌, ◌^◌, ◌<◌, ◌==◌, Bool, true, false, not, nat_lt, nat_le, List, [], ◌∷◌, ◌++◌, Option, Some, None, refl, sym, ap, ap₂, ◌∙◌, subst, if◌then◌else◌}
 use Rattle.std.specs.List.{AllByRecursion, flat_map}
 use Rattle.std.specs.Option.{option_or, option_map}
 use Rattle.std.proofs.lemmas.Bool.{eqb-true, eq-eqb, ltb-true, lt-ltb, leb-true, le-leb, not-false}
-use Rattle.mvt_base.specs.Rules.{Rules, AreOrdered, IsLeast, when, under, told, rows, each, first}
+use Rattle.mvt_base.specs.Rules.{when, under, told, each, first}
 use Rattle.mvt_base.proofs.ListLemmas.{all_weaker, all_joined}
-use Rattle.mvt_base.proofs.OrderLemmas.{first_is_least, least_is_first, AreRowsFrom, rows_ordered, each_ordered, told_ordered, under_ordered, when_ordered}
-use Rattle.mvt_base.proofs.RuleLemmas.{first-under, first-told, first-when_not, option_or-none, option_or-nones, option_or-some}
+use Rattle.mvt_base.proofs.RuleLemmas.{first-under, first-told, first-when_not, option_or-none, option_or-some}
 use Rattle.mvt_attrs.specs.declared.value.Value.{Value}
-use Rattle.mvt_attrs.specs.declared.value.Attribute.{Attribute}
 use Rattle.mvt_attrs.specs.declared.resolving.TagError.{TagError}
 use Rattle.mvt_attrs.specs.declared.resolving.TagError.TheVariants as tag_errors
 use Rattle.mvt_attrs.specs.Tags.{Resolved}
-use Rattle.mvt_attrs.specs.TagRules.{count_rules, pair_rules, tag_rules, tag_fault, Tells as TellsTags}
+use Rattle.mvt_attrs.specs.TagRules.{count_rules, pair_rules, tag_fault, Tells as TellsTags}
 use Rattle.mvt_geometry.specs.declared.shape.Kind.{Kind}
-use Rattle.mvt_geometry.specs.declared.shape.Geometry.{Geometry}
 use Rattle.mvt_geometry.specs.declared.fault.GeometryError.{GeometryError}
 use Rattle.mvt_geometry.specs.declared.fault.GeometryError.TheVariants as geometry_errors
 use Rattle.mvt_geometry.specs.Drawing.{Draws}
-use Rattle.mvt_geometry.specs.Table.{IndexedCause, geometry_rules, geometry_fault}
+use Rattle.mvt_geometry.specs.Table.{geometry_rules, geometry_fault}
 use Rattle.mvt_geometry.specs.Tells.{Tells as TellsGeometry}
 use Rattle.mvt_wire.specs.Field.{Content, varint, fixed64, bytes, fixed32, Entry}
-use Rattle.mvt_wire.specs.Packed.{ArePacked, packed, packed_rules}
-use Rattle.mvt_wire.specs.Split.{Whole, split}
-use Rattle.mvt_wire.proofs.PackedLemmas.{packed_clean, packed_are, packed_ordered}
-use Rattle.mvt_wire.proofs.SplitLemmas.{split_only}
-use Rattle.mvt_feature.specs.declared.cause.Cause.{Cause}
-use Rattle.mvt_feature.specs.declared.cause.Cause.TheVariants.{WrongType, NumberRange, GeomType}
+use Rattle.mvt_wire.specs.Packed.{ArePacked, packed_rules}
+use Rattle.mvt_wire.specs.Split.{split}
+use Rattle.mvt_wire.proofs.PackedLemmas.{packed_clean, packed_are}
+use Rattle.mvt_feature.specs.declared.cause.Cause.TheVariants.{NumberRange, GeomType}
 use Rattle.mvt_feature.specs.declared.feature.Feature.{Feature}
-use Rattle.mvt_feature.specs.declared.known.Known.{Known}
 use Rattle.mvt_feature.specs.declared.message_error.MessageError.{MessageError}
 use Rattle.mvt_feature.specs.Causes.{of_packed}
 use Rattle.mvt_feature.specs.Faults.{MessageFault, fault_at, rest_rules, TellsMessage}
-use Rattle.mvt_feature.specs.Features.{IsType, AreNumbers, Joined, number_in, kind_of_type, IsFeature, IsFeatureOf}
+use Rattle.mvt_feature.specs.Features.{IsType, AreNumbers, Joined, number_in, IsFeatureOf}
 use Rattle.mvt_feature.specs.FeatureRules.{numbers_of, joined, type_rules, list_rules, form_rules, feature_field_rules, tag_told, geometry_told, kind_in, feature_table, feature_rules, feature_fault}
 use Rattle.mvt_feature.specs.Selection.{only, last_only, HaveForm}
 use Rattle.mvt_feature.specs.Values.{IsVarint}
 use Rattle.mvt_feature.specs.ValueRules.{varint_rules}
-use Rattle.mvt_feature.specs.Inner.{IsKnown, of_tag_error, of_geometry_error}
-use Rattle.mvt_feature.proofs.SelectionLemmas.{none_each, each_none, only_all}
-use Rattle.mvt_feature.proofs.TableLemmas.{firsts, first-rows_all, none_mapped, when_none}
-use Rattle.mvt_feature.proofs.ValueLemmas.{tells_front, varint_form, form_varint, varint_ordered, if_ordered, rest_ordered, by_number, whole_split}
+use Rattle.mvt_feature.specs.Inner.{of_tag_error, of_geometry_error}
+use Rattle.mvt_feature.proofs.SelectionLemmas.{none_each}
+use Rattle.mvt_feature.proofs.TableLemmas.{first-rows_all, none_mapped, when_none}
+use Rattle.mvt_feature.proofs.ValueLemmas.{tells_front, varint_form, whole_split}
 use Rattle.mvt_feature.proofs.KnownLemmas.{field_first}
-use Rattle.mvt_feature.proofs.WalkLemmas.{rest_none, none_rest}
+use Rattle.mvt_feature.proofs.WalkLemmas.{rest_none}
 
 -- the fault of a feature from its parts
 abbrev pub rest_fault : List ℕ → ℕ → Option MessageFault

@@ -1,27 +1,21 @@
 -- The kinds of value that occur in fields.
-use Rattle.std.proofs.Common.{◌≡◌, ◌≢◌, ℕ, ◌+◌, ◌==◌, ◌&&◌, Bool, true, false, List, [], ◌∷◌, ◌++◌, Option, Some, None, Result, Ok, Err, refl, sym, ap, ◌∙◌, append_assoc, append-nil, subst, if◌then◌else◌}
-use Rattle.std.specs.Prelude.{OnOk, IfOk, IfErr}
+use Rattle.std.proofs.Common.{◌≡◌, ℕ, ◌+◌, ◌==◌, ◌&&◌, Bool, true, false, List, [], ◌∷◌, ◌++◌, Option, Some, None, Ok, refl, sym, ap, ◌∙◌, append_assoc, append-nil, subst, if◌then◌else◌}
 use Rattle.std.specs.List.{list_all}
-use Rattle.std.specs.Option.{option_or}
 use Rattle.std.proofs.lemmas.Bool.{eqb-true, eqb-false, eq-eqb, ne_eqb, and_left, and_right, and_from}
 use Rattle.std.proofs.lemmas.List.Elements.{filter-append}
 use Rattle.std.proofs.lemmas.List.Folds.{list_all-append}
-use Rattle.mvt_base.specs.Rules.{told, each, first}
+use Rattle.mvt_base.specs.Rules.{each, first}
 use Rattle.mvt_base.proofs.RuleLemmas.{each_more, each_stops, first-told}
 use Rattle.mvt_wire.specs.Field.{Entry}
-use Rattle.mvt_wire.specs.Fields.{GivesField}
-use Rattle.mvt_wire.specs.Split.{Parts, split}
 use Rattle.mvt_feature.specs.declared.cause.Cause.{Cause}
-use Rattle.mvt_feature.specs.declared.message_error.MessageError.{MessageError}
 use Rattle.mvt_feature.specs.declared.value.Kinds.{Kinds}
 use Rattle.mvt_feature.specs.declared.value.Kinds.TheVariants.{Nothing, One, Several}
 use Rattle.mvt_feature.specs.declared.value.Meaning.{Meaning}
-use Rattle.mvt_feature.specs.Faults.{fault_at, TellsMessage, rest_rules}
+use Rattle.mvt_feature.specs.Faults.{fault_at}
 use Rattle.mvt_feature.specs.Selection.{last_or}
 use Rattle.mvt_feature.specs.Values.{Means}
 use Rattle.mvt_feature.specs.ValueRules.{kind_rules, is_kind, kinds, are_one_kind, value_field_rules}
-use Rattle.mvt_feature.specs.Inner.{value_of, kinds_with, AreKinds, AreKindsOf, AreSoFar}
-use Rattle.mvt_feature.proofs.WalkLemmas.{Walk, walk_end, rest_none}
+use Rattle.mvt_feature.specs.Inner.{value_of, kinds_with, AreKindsOf, AreSoFar}
 
 kinds_take : (done : List Entry) (x : Entry) → is_kind x ≡ true → kinds (done ++ x ∷ []) ≡ kinds done ++ x ∷ []
 kinds_take done x h = filter-append is_kind done (x ∷ []) ∙ ap (λ b. kinds done ++ (if b then x ∷ [] else [])) h

@@ -1,20 +1,19 @@
 -- What is known of a feature, field by field.
-use Rattle.std.proofs.Common.{◌≡◌, ℕ, ◌+◌, ◌==◌, Bool, true, false, List, [], ◌∷◌, ◌++◌, Option, Some, None, Result, Ok, Err, refl, sym, ap, ◌∙◌, append_assoc, append-nil, subst, if◌then◌else◌}
+use Rattle.std.proofs.Common.{◌≡◌, ℕ, ◌+◌, ◌==◌, Bool, true, false, List, [], ◌∷◌, ◌++◌, Option, Some, None, Result, Ok, Err, refl, sym, ap, ◌∙◌, append_assoc, append-nil, if◌then◌else◌}
 use Rattle.std.specs.Prelude.{OnOk, IfOk, IfErr}
 use Rattle.std.specs.List.{flat_map}
 use Rattle.std.specs.Option.{option_map}
 use Rattle.std.proofs.lemmas.Grind.{flat_map-append}
 use Rattle.mvt_base.specs.Rules.{each, first}
-use Rattle.mvt_base.proofs.RuleLemmas.{each_more, first-append, first-under, first_back, each-append, each_stops, first-told, option_or-none}
-use Rattle.mvt_geometry.specs.declared.shape.Kind.{Kind}
-use Rattle.mvt_wire.specs.Field.{Content, Entry}
+use Rattle.mvt_base.proofs.RuleLemmas.{each_more, each_stops, first-told}
+use Rattle.mvt_wire.specs.Field.{Entry}
 use Rattle.mvt_feature.specs.declared.known.Known.{Known}
 use Rattle.mvt_feature.specs.declared.message_error.MessageError.{MessageError}
 use Rattle.mvt_feature.specs.declared.message_error.MessageError.TheVariants.{Memory, Fault}
 use Rattle.mvt_feature.specs.Faults.{MessageFault, fault_at, TellsMessage}
 use Rattle.mvt_feature.specs.Features.{number_of, number_in, kind_of_type}
 use Rattle.mvt_feature.specs.FeatureRules.{numbers_of, joined, kind_in, form_rules, feature_field_rules}
-use Rattle.mvt_feature.specs.Selection.{only, last_or, last_only}
+use Rattle.mvt_feature.specs.Selection.{only, last_only}
 use Rattle.mvt_feature.specs.Inner.{id_after, kind_after, numbers_at, IsKnown, IsKnownSoFar}
 use Rattle.mvt_feature.proofs.SelectionLemmas.{only-append, last_only-more}
 

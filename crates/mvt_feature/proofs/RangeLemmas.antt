@@ -1,23 +1,20 @@
 -- What is read is in the range of its type.
-use Rattle.std.proofs.Common.{◌≡◌, ℕ, zero, suc, ◌+◌, ◌*◌, ◌^◌, ◌<◌, ◌≤◌, ℤ, pos, negsuc, List, [], ◌∷◌, ◌++◌, length, slice_index, Option, Some, None, refl, sym, ap, ◌∙◌, subst, arith, rules, lit<}
+use Rattle.std.proofs.Common.{◌≡◌, ℕ, zero, suc, ◌+◌, ◌^◌, ◌<◌, ℤ, pos, negsuc, List, [], ◌∷◌, ◌++◌, length, Option, Some, None, refl, sym, ◌∙◌, subst, arith, rules, lit<}
 use Rattle.std.specs.Prelude.{IsUtf8, FitsSigned, IfSome, slice_get}
 use Rattle.std.specs.Int.{w64, cast_signed}
 use Rattle.std.specs.List.{AllByRecursion}
 use Rattle.std.proofs.Math.Facts.{sfits_to_z, Fits-of_lt}
-use Rattle.std.proofs.lemmas.Int.{ints}
 use Rattle.mvt_attrs.specs.declared.value.Value.{Value}
 use Rattle.mvt_attrs.specs.declared.value.Value.TheVariants.{Text, Float, Double, Int, Uint, Sint, Bool as Truth}
-use Rattle.mvt_attrs.specs.declared.value.Attribute.{Attribute}
-use Rattle.mvt_attrs.specs.Tags.{Names, Resolved}
 use Rattle.mvt_wire.specs.Field.{Content, varint, fixed64, bytes, fixed32, Entry, IsField, IsPayload}
-use Rattle.mvt_wire.specs.Split.{Split, SplitFrom, Whole}
+use Rattle.mvt_wire.specs.Split.{SplitFrom}
 use Rattle.mvt_wire.specs.Zigzag.{zig}
 use Rattle.mvt_feature.specs.declared.feature.Feature.{Feature}
-use Rattle.mvt_feature.specs.Features.{number_of, number_in, IsFeature, IsFeatureOf}
+use Rattle.mvt_feature.specs.Features.{number_of, number_in, IsFeatureOf}
 use Rattle.mvt_feature.specs.Ranges.{AreBytes, IsInRange}
-use Rattle.mvt_feature.specs.Selection.{only, last_or, last_only}
+use Rattle.mvt_feature.specs.Selection.{only, last_only}
 use Rattle.mvt_feature.specs.Valid.{ValidValue, ValidAttribute, ValidFeature}
-use Rattle.mvt_feature.specs.Values.{IsText, Means, IsValue, IsValueOf}
+use Rattle.mvt_feature.specs.Values.{IsText, Means, IsValueOf}
 use Rattle.mvt_feature.proofs.SelectionLemmas.{only_all, last_of_all, only_number}
 
 bytes_front : (xs ys : List ℕ) → AreBytes (xs ++ ys) → AreBytes xs

@@ -1,8 +1,8 @@
 -- Fields selected by their number, and rules that hold for each field.
-use Rattle.std.proofs.Common.{◌≡◌, ◌≢◌, ℕ, ◌==◌, Bool, true, false, List, [], ◌∷◌, ◌++◌, Option, Some, None, refl, sym, ap, ◌∙◌, append-nil, if◌then◌else◌}
+use Rattle.std.proofs.Common.{◌≡◌, ℕ, ◌==◌, Bool, true, false, List, [], ◌∷◌, ◌++◌, Option, Some, None, refl, sym, ap, ◌∙◌, append-nil, if◌then◌else◌}
 use Rattle.std.specs.List.{AllByRecursion}
 use Rattle.std.proofs.lemmas.Bool.{eqb-true}
-use Rattle.mvt_base.specs.Rules.{Rules, under, each, first}
+use Rattle.mvt_base.specs.Rules.{Rules, each, first}
 use Rattle.mvt_base.proofs.RuleLemmas.{first-append, first-under, option_or-nones, option_or-none}
 use Rattle.mvt_wire.specs.Field.{Content, Entry}
 use Rattle.mvt_feature.specs.Selection.{only, last_or, last_only, HaveForm}

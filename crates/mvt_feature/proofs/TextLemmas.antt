@@ -1,10 +1,10 @@
 -- Texts: the test and the fact.
-use Rattle.std.proofs.Common.{◌≡◌, ℕ, Bool, true, false, not, List, Some, None, refl, ap, ◌∙◌}
+use Rattle.std.proofs.Common.{◌≡◌, ℕ, Bool, true, false, not, List, Some, None, refl, ap}
 use Rattle.std.specs.Prelude.{IsUtf8}
 use Rattle.std.specs.Str.{is_utf8}
 use Rattle.std.proofs.lemmas.Str.{IsUtf8-from_is_utf8, is_utf8-from_IsUtf8}
 use Rattle.mvt_base.specs.Rules.{first}
-use Rattle.mvt_wire.specs.Field.{Content, bytes}
+use Rattle.mvt_wire.specs.Field.{bytes}
 use Rattle.mvt_feature.specs.declared.cause.Cause.TheVariants.{NotUtf8}
 use Rattle.mvt_feature.specs.ValueRules.{text_rules}
 use Rattle.mvt_base.proofs.RuleLemmas.{first-when, first-when_not}

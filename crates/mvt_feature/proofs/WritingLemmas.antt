@@ -1,9 +1,8 @@
 -- Lengths of what is written, and the lists that an error leaves.
-use Rattle.std.proofs.Common.{◌≡◌, ℕ, ◌+◌, ◌*◌, ◌<◌, ◌≤◌, List, [], ◌∷◌, ◌++◌, length, take, Result, Ok, Err, refl, sym, ap, ◌∙◌, append_assoc, append-nil, arith}
-use Rattle.std.specs.Prelude.{OnErr, OnOk}
-use Rattle.std.specs.List.{flat_map}
+use Rattle.std.proofs.Common.{◌≡◌, ℕ, ◌+◌, ◌*◌, ◌<◌, List, [], ◌∷◌, ◌++◌, length, Result, Ok, Err, sym, ap, ◌∙◌, append-nil, arith}
+use Rattle.std.specs.Prelude.{OnErr}
 use Rattle.std.proofs.lemmas.Grind.{flat_map-append}
-use Rattle.mvt_wire.specs.Field.{Content, varint, fixed64, bytes, fixed32, wire_type}
+use Rattle.mvt_wire.specs.Field.{Content, varint, fixed64, fixed32, wire_type}
 use Rattle.mvt_wire.specs.Varint.{short}
 use Rattle.mvt_wire.specs.Spelling.{Plain, short_payload, short_field, spelled}
 use Rattle.mvt_wire.proofs.ShortLemmas.{short_length_one}

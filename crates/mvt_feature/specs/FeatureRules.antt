@@ -1,5 +1,5 @@
 -- The rules that bind a feature's payload (Mapbox Vector Tile Specification 2.1, 4.2 to 4.4), as a table.
-use Rattle.std.specs.Prelude.{ℕ, ◌+◌, ◌^◌, Bool, true, not, ◌==◌, nat_lt, nat_le, List, [], ◌∷◌, Option, if◌then◌else◌}
+use Rattle.std.specs.Prelude.{ℕ, ◌+◌, ◌^◌, true, not, ◌==◌, nat_lt, nat_le, List, [], ◌∷◌, Option, if◌then◌else◌}
 use Rattle.std.specs.List.{flat_map}
 use Rattle.mvt_base.specs.Rules.{Rules, when, under, told, rows, each, first}
 use Rattle.mvt_attrs.specs.declared.value.Value.{Value}
@@ -7,7 +7,7 @@ use Rattle.mvt_attrs.specs.declared.resolving.TagCause.{TagCause}
 use Rattle.mvt_attrs.specs.TagRules.{count_rules, pair_rules}
 use Rattle.mvt_geometry.specs.declared.shape.Kind.{Kind}
 use Rattle.mvt_geometry.specs.Table.{IndexedCause, geometry_rules}
-use Rattle.mvt_wire.specs.Field.{Content, varint, fixed64, bytes, fixed32, Entry}
+use Rattle.mvt_wire.specs.Field.{Content, varint, bytes, Entry}
 use Rattle.mvt_wire.specs.Packed.{packed, packed_rules}
 use Rattle.mvt_wire.specs.Split.{split}
 use Rattle.mvt_feature.specs.declared.cause.Cause.{Cause}

@@ -5,7 +5,7 @@ use Rattle.mvt_attrs.specs.Tags.{Resolved}
 use Rattle.mvt_geometry.specs.declared.shape.Kind.{Kind}
 use Rattle.mvt_geometry.specs.declared.shape.Kind.TheVariants as kinds
 use Rattle.mvt_geometry.specs.Drawing.{Draws}
-use Rattle.mvt_wire.specs.Field.{Content, varint, fixed64, bytes, fixed32, Entry}
+use Rattle.mvt_wire.specs.Field.{Content, varint, bytes, Entry}
 use Rattle.mvt_wire.specs.Packed.{ArePacked}
 use Rattle.mvt_wire.specs.Split.{Whole}
 use Rattle.mvt_feature.specs.declared.feature.Feature.{Feature}

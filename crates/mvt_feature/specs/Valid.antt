@@ -1,5 +1,5 @@
 -- Which values and features can be written. Numbers have the range of their fields.
-use Rattle.std.specs.Prelude.{ℕ, ◌^◌, ◌<◌, ⊤, IfSome, IsUtf8, FitsSigned}
+use Rattle.std.specs.Prelude.{◌^◌, ◌<◌, ⊤, IfSome, IsUtf8, FitsSigned}
 use Rattle.std.specs.Int.{w64}
 use Rattle.std.specs.List.{AllByRecursion}
 use Rattle.mvt_attrs.specs.declared.value.Value.{Value}

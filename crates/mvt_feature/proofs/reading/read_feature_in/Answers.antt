@@ -1,4 +1,4 @@
-use Rattle.std.proofs.Common.{◌∙◌, sym}
+use Rattle.std.proofs.Common.{◌∙◌}
 use Rattle.std.proofs.lemmas.Result.{err_from_is_err_and}
 use Rattle.mvt_feature.proofs.FeatureLemmas.{known_told, tags_told, drawing_told, feature_clean, feature_from}
 use Rattle.mvt_feature.proofs.reading.read_feature_in.Goals as goal

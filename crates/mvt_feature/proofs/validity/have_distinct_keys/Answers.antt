@@ -1,4 +1,4 @@
-use Rattle.std.proofs.Common.{true, false, refl, sym, ap, ◌∙◌, arith, rules}
+use Rattle.std.proofs.Common.{true, false, refl, rules}
 use Rattle.std.proofs.lemmas.Bool.{false≢true}
 use Rattle.mvt_feature.proofs.ValidLemmas.{distinct_more, valid_more, distinct_breaks, seen_from}
 use Rattle.mvt_feature.proofs.validity.have_distinct_keys.Goals as goal
