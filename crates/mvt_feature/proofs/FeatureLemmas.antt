@@ -31,7 +31,7 @@ use Rattle.mvt_feature.specs.FeatureRules.{numbers_of, joined, type_rules, list_
 use Rattle.mvt_feature.specs.Selection.{only, last_only, HaveForm}
 use Rattle.mvt_feature.specs.Values.{IsVarint}
 use Rattle.mvt_feature.specs.ValueRules.{varint_rules}
-use Rattle.mvt_feature.specs.Inner.{of_tag_error, of_geometry_error}
+use Rattle.mvt_feature.specs.Faults.{of_tag_error, of_geometry_error}
 use Rattle.mvt_feature.proofs.SelectionLemmas.{none_each}
 use Rattle.mvt_feature.proofs.TableLemmas.{first-rows_all, none_mapped, when_none}
 use Rattle.mvt_feature.proofs.ValueLemmas.{tells_front, varint_form, whole_split}

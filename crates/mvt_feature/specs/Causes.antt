@@ -1,5 +1,5 @@
 -- The numbers of the causes, and the causes that the levels below tell.
-use Rattle.std.specs.Prelude.{ℕ}
+use Rattle.std.specs.Prelude.{ℕ, List, codes}
 use Rattle.mvt_wire.specs.declared.fault.WireCause.{WireCause}
 use Rattle.mvt_wire.specs.declared.fault.WireCause.TheVariants as wire
 use Rattle.mvt_wire.specs.Packed.{PackedCause, truncated, varint_range, number_range}
@@ -36,6 +36,33 @@ cause_number EndsEarly = 23
 cause_number RepeatedName = 24
 cause_number TooLarge = 25
 cause_number ParameterRange = 26
+
+abbrev pub cause_name : Cause → List ℕ
+cause_name Truncated = codes "Truncated"
+cause_name VarintRange = codes "VarintRange"
+cause_name FieldNumber = codes "FieldNumber"
+cause_name WireType = codes "WireType"
+cause_name WrongType = codes "WrongType"
+cause_name NumberRange = codes "NumberRange"
+cause_name NotUtf8 = codes "NotUtf8"
+cause_name NoVersion = codes "NoVersion"
+cause_name NoName = codes "NoName"
+cause_name ValueKind = codes "ValueKind"
+cause_name GeomType = codes "GeomType"
+cause_name OddTags = codes "OddTags"
+cause_name KeyIndex = codes "KeyIndex"
+cause_name ValueIndex = codes "ValueIndex"
+cause_name RepeatedKey = codes "RepeatedKey"
+cause_name Command = codes "Command"
+cause_name Count = codes "Count"
+cause_name Parameters = codes "Parameters"
+cause_name ZeroSegment = codes "ZeroSegment"
+cause_name CoordinateRange = codes "CoordinateRange"
+cause_name FirstRing = codes "FirstRing"
+cause_name EndsEarly = codes "EndsEarly"
+cause_name RepeatedName = codes "RepeatedName"
+cause_name TooLarge = codes "TooLarge"
+cause_name ParameterRange = codes "ParameterRange"
 
 -- a broken spelling
 abbrev pub of_wire : WireCause → Cause

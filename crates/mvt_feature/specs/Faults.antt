@@ -3,10 +3,14 @@ use Rattle.std.specs.Prelude.{◌≡◌, ℕ, ◌+◌, List, [], ◌∷◌, Opti
 use Rattle.mvt_base.specs.Rules.{Rules, when}
 use Rattle.mvt_wire.specs.Fronts.{rest_cause}
 use Rattle.mvt_wire.specs.Split.{Parts}
+use Rattle.mvt_attrs.specs.declared.resolving.TagError.{TagError}
+use Rattle.mvt_attrs.specs.declared.resolving.TagError.TheVariants as tag_errors
+use Rattle.mvt_geometry.specs.declared.fault.GeometryError.{GeometryError}
+use Rattle.mvt_geometry.specs.declared.fault.GeometryError.TheVariants as geometry_errors
 use Rattle.mvt_feature.specs.declared.cause.Cause.{Cause}
 use Rattle.mvt_feature.specs.declared.message_error.MessageError.{MessageError}
 use Rattle.mvt_feature.specs.declared.message_error.MessageError.TheVariants.{Memory, Fault}
-use Rattle.mvt_feature.specs.Causes.{of_wire}
+use Rattle.mvt_feature.specs.Causes.{of_wire, of_tag, of_geometry}
 
 pub record MessageFault : Type 0 where
   pub feature : Option ℕ
@@ -33,3 +37,12 @@ rest_rules_at at (b ∷ bs) = when true (fault_at at (of_wire (rest_cause (b ∷
 
 unfoldable pub rest_rules : ℕ → Parts → Rules MessageFault
 rest_rules base parts = rest_rules_at (base + parts.rest_at) parts.rest
+
+-- the faults of the levels below as they are told
+abbrev pub of_tag_error : TagError → MessageError
+of_tag_error tag_errors.Memory = Memory
+of_tag_error (tag_errors.Fault index cause) = Fault None index (of_tag cause)
+
+abbrev pub of_geometry_error : GeometryError → MessageError
+of_geometry_error geometry_errors.Memory = Memory
+of_geometry_error (geometry_errors.Fault index cause) = Fault None index (of_geometry cause)

@@ -3,20 +3,14 @@ use Rattle.std.specs.Prelude.{◌≡◌, ◌≢◌, ℕ, ◌==◌, true, false, 
 use Rattle.mvt_base.specs.Rules.{Rules, each, first}
 use Rattle.mvt_attrs.specs.declared.value.Value.{Value}
 use Rattle.mvt_attrs.specs.declared.value.Value.TheVariants as values
-use Rattle.mvt_attrs.specs.declared.resolving.TagError.{TagError}
-use Rattle.mvt_attrs.specs.declared.resolving.TagError.TheVariants as tag_errors
 use Rattle.mvt_geometry.specs.declared.shape.Kind.{Kind}
-use Rattle.mvt_geometry.specs.declared.fault.GeometryError.{GeometryError}
-use Rattle.mvt_geometry.specs.declared.fault.GeometryError.TheVariants as geometry_errors
 use Rattle.mvt_wire.specs.Field.{Content, Entry}
 use Rattle.mvt_feature.specs.declared.message_error.MessageError.{MessageError}
-use Rattle.mvt_feature.specs.declared.message_error.MessageError.TheVariants.{Memory, Fault}
 use Rattle.mvt_feature.specs.declared.known.Known.{Known}
 use Rattle.mvt_feature.specs.declared.value.Meaning.{Meaning}
 use Rattle.mvt_feature.specs.declared.value.Meaning.TheVariants as meanings
 use Rattle.mvt_feature.specs.declared.value.Kinds.{Kinds}
 use Rattle.mvt_feature.specs.declared.value.Kinds.TheVariants.{Nothing, One, Several}
-use Rattle.mvt_feature.specs.Causes.{of_tag, of_geometry}
 use Rattle.mvt_feature.specs.Faults.{MessageFault, TellsMessage}
 use Rattle.mvt_feature.specs.Features.{number_of, number_in, kind_of_type}
 use Rattle.mvt_feature.specs.FeatureRules.{numbers_of, joined, kind_in, feature_field_rules}
@@ -57,15 +51,6 @@ IsSoFar rules Holds done (Err error) =
 
 abbrev pub AreSoFar : ℕ → List Entry → Result Kinds MessageError → Type 0
 AreSoFar base done k = IsSoFar (value_field_rules base) AreKinds done k
-
--- the faults of the levels below as they are told
-abbrev pub of_tag_error : TagError → MessageError
-of_tag_error tag_errors.Memory = Memory
-of_tag_error (tag_errors.Fault index cause) = Fault None index (of_tag cause)
-
-abbrev pub of_geometry_error : GeometryError → MessageError
-of_geometry_error geometry_errors.Memory = Memory
-of_geometry_error (geometry_errors.Fault index cause) = Fault None index (of_geometry cause)
 
 -- what one more field of a feature changes
 abbrev pub id_after : Option ℕ → ℕ → Content → Option ℕ

@@ -1,10 +1,11 @@
 //! The rules that a tile can break.
 ghost use Rattle.std.specs.Prelude.{◌≡◌};
-ghost use Rattle.mvt_feature.specs.Causes.{cause_number};
+ghost use Rattle.mvt_feature.specs.Causes.{cause_number, cause_name};
 
 use mvt_attrs::TagCause;
 use mvt_geometry::GeometryCause;
 use mvt_wire::WireCause;
+use std::fmt;
 
 /// Which rule is broken.
 ///
@@ -95,6 +96,45 @@ impl Cause {
             Cause::TooLarge => 25,
             Cause::ParameterRange => 26,
         }
+    }
+
+    /// The name by which it is told.
+    pub fn name(&self) -> &'static str
+        ensures { result.now ≡ cause_name self.now }
+    {
+        match self {
+            Cause::Truncated => "Truncated",
+            Cause::VarintRange => "VarintRange",
+            Cause::FieldNumber => "FieldNumber",
+            Cause::WireType => "WireType",
+            Cause::WrongType => "WrongType",
+            Cause::NumberRange => "NumberRange",
+            Cause::NotUtf8 => "NotUtf8",
+            Cause::NoVersion => "NoVersion",
+            Cause::NoName => "NoName",
+            Cause::ValueKind => "ValueKind",
+            Cause::GeomType => "GeomType",
+            Cause::OddTags => "OddTags",
+            Cause::KeyIndex => "KeyIndex",
+            Cause::ValueIndex => "ValueIndex",
+            Cause::RepeatedKey => "RepeatedKey",
+            Cause::Command => "Command",
+            Cause::Count => "Count",
+            Cause::Parameters => "Parameters",
+            Cause::ZeroSegment => "ZeroSegment",
+            Cause::CoordinateRange => "CoordinateRange",
+            Cause::FirstRing => "FirstRing",
+            Cause::EndsEarly => "EndsEarly",
+            Cause::RepeatedName => "RepeatedName",
+            Cause::TooLarge => "TooLarge",
+            Cause::ParameterRange => "ParameterRange",
+        }
+    }
+}
+
+impl fmt::Display for Cause {
+    fn fmt<W: fmt::Write>(&self, f: &mut fmt::Formatter<W>) -> fmt::Result {
+        f.write_str(self.name())
     }
 }
 

@@ -98,9 +98,9 @@ fn id_of(payload: &Payload<'_>, at: u64) -> Result<u64, MessageError>
     ensures ok { OnOk result (first (varint_rules (content_of payload.now)) ≡ None) }
     ensures err { IfErr result (λ error. TellsMessage error (option_map (the_fault_at at) (first (varint_rules (content_of payload.now))))) }
 {
-    match payload {
-        Payload::Varint(number) => Ok(*number),
-        _ => Err(fault_at(at, Cause::WrongType)),
+    match varint_of(payload) {
+        Ok(number) => Ok(number),
+        Err(cause) => Err(fault_at(at, cause)),
     }
 }
 

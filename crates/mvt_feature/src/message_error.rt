@@ -3,6 +3,7 @@ use crate::cause::Cause;
 use mvt_attrs::TagError;
 use mvt_geometry::GeometryError;
 use std::alloc::{AllocError, AllocFailed};
+use std::fmt;
 
 /// Why a message can't be read.
 #[derive(Clone, Copy, Debug, PartialEq, Eq)]
@@ -42,7 +43,7 @@ impl<T: Drop> From<AllocFailed<T>> for MessageError {
 
 impl From<TagError> for MessageError {
     ghost use Rattle.std.specs.Prelude.{◌≡◌};
-    ghost use Rattle.mvt_feature.specs.Inner.{of_tag_error};
+    ghost use Rattle.mvt_feature.specs.Faults.{of_tag_error};
 
     ghost from_gives = { λ tag_error error. error ≡ of_tag_error tag_error };
 
@@ -60,7 +61,7 @@ impl From<TagError> for MessageError {
 
 impl From<GeometryError> for MessageError {
     ghost use Rattle.std.specs.Prelude.{◌≡◌};
-    ghost use Rattle.mvt_feature.specs.Inner.{of_geometry_error};
+    ghost use Rattle.mvt_feature.specs.Faults.{of_geometry_error};
 
     ghost from_gives = { λ geometry_error error. error ≡ of_geometry_error geometry_error };
 
@@ -75,3 +76,14 @@ impl From<GeometryError> for MessageError {
         }
     }
 }
+
+impl fmt::Display for MessageError {
+    fn fmt<W: fmt::Write>(&self, f: &mut fmt::Formatter<W>) -> fmt::Result {
+        match self {
+            MessageError::Memory => f.write_str("out of memory"),
+            MessageError::Fault { at, cause, .. } => write!(f, "{cause} at {at}"),
+        }
+    }
+}
+
+impl std::error::Error for MessageError {}

@@ -149,7 +149,12 @@ fn meaning_of<'a>(field: &Field<'a>) -> Result<Option<Meaning<'a>>, Cause>
     Ok(Some(meaning))
 }
 
-fn text_of<'a>(payload: &Payload<'a>) -> Result<&'a str, Cause>
+/// The text of a field.
+///
+/// # Errors
+///
+/// Another wire type, or bytes that aren't UTF-8.
+pub fn text_of<'a>(payload: &Payload<'a>) -> Result<&'a str, Cause>
     ensures text { IfOk result (λ text. content_of payload.now ≡ bytes text.now) }
     ensures ok { OnOk result (first (text_rules (content_of payload.now)) ≡ None) }
     ensures err { IfErr result (λ cause. first (text_rules (content_of payload.now)) ≡ Some cause) }
@@ -185,7 +190,12 @@ fn fixed64_of(payload: &Payload<'_>) -> Result<u64, Cause>
     Ok(*number)
 }
 
-pub(crate) fn varint_of(payload: &Payload<'_>) -> Result<u64, Cause>
+/// The number of a varint field.
+///
+/// # Errors
+///
+/// Another wire type.
+pub fn varint_of(payload: &Payload<'_>) -> Result<u64, Cause>
     ensures number { IfOk result (λ n. content_of payload.now ≡ varint n) }
     ensures ok { OnOk result (first (varint_rules (content_of payload.now)) ≡ None) }
     ensures err { IfErr result (λ cause. first (varint_rules (content_of payload.now)) ≡ Some cause) }

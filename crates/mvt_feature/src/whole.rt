@@ -7,7 +7,7 @@ use crate::message_error::MessageError;
 use mvt_wire::WireFault;
 
 /// The fault of a payload's rest, told at its absolute place.
-pub(crate) fn rest_fault(base: u64, fault: WireFault) -> MessageError
+pub fn rest_fault(base: u64, fault: WireFault) -> MessageError
     requires { base + fault.at < 2 ^ 64 }
     ensures { result ≡ MessageError.Fault None (base + fault.at) (of_wire fault.cause) }
 {
@@ -15,7 +15,7 @@ pub(crate) fn rest_fault(base: u64, fault: WireFault) -> MessageError
 }
 
 /// A fault that isn't told of a feature.
-pub(crate) fn fault_at(at: u64, cause: Cause) -> MessageError
+pub fn fault_at(at: u64, cause: Cause) -> MessageError
     ensures { result ≡ MessageError.Fault None at cause }
 {
     MessageError::Fault {
