@@ -1,3 +1,4 @@
+pub mod Below
 pub mod TextLemmas
 pub mod WalkLemmas
 pub mod KindLemmas

@@ -14,7 +14,7 @@ use Rattle.mvt_attrs.specs.declared.value.Value.{Value}
 use Rattle.mvt_attrs.specs.declared.value.Value.TheVariants.{Text, Float, Double, Int, Uint, Sint, Bool as Truth}
 use Rattle.mvt_wire.specs.Field.{Content, varint, fixed64, bytes, fixed32, Entry}
 use Rattle.mvt_wire.specs.Split.{Parts, Split, Whole, split}
-use Rattle.mvt_wire.proofs.SplitLemmas.{split_is, split_only}
+use Rattle.mvt_feature.proofs.Below.{SplitIs, SplitOnly, split_of}
 use Rattle.mvt_wire.specs.Zigzag.{zig}
 use Rattle.mvt_feature.specs.declared.cause.Cause.{Cause}
 use Rattle.mvt_feature.specs.declared.value.Meaning.{Meaning}
@@ -238,13 +238,13 @@ value_from base xs last v clean one is means =
     }
 
 -- a payload that splits wholly into these fields
-pub whole_split : (payload : List ℕ) → (split payload).rest ≡ [] → Whole payload (split payload).fields
-whole_split payload rest = subst (λ r. Split payload (split payload).fields r) rest (split_is 0 payload)
+pub whole_split : SplitIs → (payload : List ℕ) → (split payload).rest ≡ [] → Whole payload (split payload).fields
+whole_split split_is payload rest = subst (λ r. Split payload (split payload).fields r) rest (split_is payload)
 
 -- the answers of `read_value`
-pub kinds_value : (payload : List ℕ) (base number : ℕ) (m : Meaning) → (split payload).rest ≡ [] → first (each (λ _. value_field_rules base) [] (split payload).fields) ≡ None → AreKinds (split payload).fields (One number m) → IsValueOf payload (value_of m)
-kinds_value payload base number m rest clean (one, (last, (is, (named, means)))) =
-    ((split payload).fields, whole_split payload rest, value_from base (split payload).fields last (value_of m) clean one is (subst (λ n. Means n last.content (value_of m)) (sym named) means))
+pub kinds_value : SplitIs → (payload : List ℕ) (base number : ℕ) (m : Meaning) → (split payload).rest ≡ [] → first (each (λ _. value_field_rules base) [] (split payload).fields) ≡ None → AreKinds (split payload).fields (One number m) → IsValueOf payload (value_of m)
+kinds_value split_is payload base number m rest clean (one, (last, (is, (named, means)))) =
+    ((split payload).fields, whole_split split_is payload rest, value_from base (split payload).fields last (value_of m) clean one is (subst (λ n. Means n last.content (value_of m)) (sym named) means))
 
 pub kinds_clean : (payload : List ℕ) (base own number : ℕ) (m : Meaning) → (split payload).rest ≡ [] → first (each (λ _. value_field_rules base) [] (split payload).fields) ≡ None → AreKinds (split payload).fields (One number m) → value_fault payload base own ≡ None
 kinds_clean payload base own number m rest clean are = value_clean payload base own (rest_none base (split payload) rest) clean are.0
@@ -330,15 +330,15 @@ last_kind [] h = cc
 last_kind (x ∷ xs) h = last_there x xs
 
 -- no fault: the payload is a value
-pub value_there : (payload : List ℕ) (base own : ℕ) → value_fault payload base own ≡ None → (v : Value) × IsValueOf payload v
-value_there payload base own h =
+pub value_there : SplitIs → (payload : List ℕ) (base own : ℕ) → value_fault payload base own ≡ None → (v : Value) × IsValueOf payload v
+value_there split_is payload base own h =
     let parts = option_or-nones _ _ (sym (value_chain payload base own) ∙ h) in
     let later = option_or-nones _ _ parts.1 in
     let one = when_none (not (are_one_kind (kinds (split payload).fields))) (fault_at own ValueKind) (option_or-nones _ _ later.1).0 in
     let kind = not-false (are_one_kind (kinds (split payload).fields)) one in
     let last = last_kind (kinds (split payload).fields) kind in
     let found = value_of_last base (split payload).fields last.0 later.0 kind last.1 in
-    (found.0, ((split payload).fields, whole_split payload (none_rest base (split payload) parts.0), found.1))
+    (found.0, ((split payload).fields, whole_split split_is payload (none_rest base (split payload) parts.0), found.1))
 
 -- the grammar keeps the rules
 pub by_number : (n : ℕ) (c : Content) (a b : Rules Cause) (k : ℕ) → (n ≡ k → first a ≡ None) → first b ≡ None → first (if n == k then a else b) ≡ None
@@ -367,9 +367,9 @@ all_one k (x ∷ xs) last h is = go xs h.1
     go [] more = refl
     go (y ∷ ys) more = and_from _ _ (eq-eqb y.number x.number (more.0 ∙ sym h.0)) (go ys more.1)
 
-pub value_keeps : (base own : ℕ) (payload : List ℕ) (v : Value) → IsValueOf payload v → value_fault payload base own ≡ None
-value_keeps base own payload v (xs, whole, is) =
-    let only = split_only 0 payload [] xs whole in
+pub value_keeps : SplitOnly → (base own : ℕ) (payload : List ℕ) (v : Value) → IsValueOf payload v → value_fault payload base own ≡ None
+value_keeps split_only base own payload v (xs, whole, is) =
+    let only = split_of split_only payload xs whole in
     let clean = each_none (value_field_rules base) [] xs (forms_rules base xs is.texts is.floats is.doubles is.ints is.uints is.sints is.truths) in
     let kind = means_kind is.kind is.last.content v is.means in
     let numbers = subst (λ ys. AllByRecursion (λ (y : Entry). y.number ≡ is.kind) ys) (only_kinds is.kind xs kind is.one) (only_number is.kind xs) in
@@ -403,10 +403,10 @@ value_same xs v w a b =
     let last : a.last ≡ b.last = cc in
     means_same b.kind b.last.content v w (subst (λ (x : Entry). Means b.kind x.content v) last (subst (λ k. Means k a.last.content v) same a.means)) b.means
 
-pub value_once : (payload : List ℕ) (v w : Value) → IsValueOf payload v → IsValueOf payload w → v ≡ w
-value_once payload v w (xs, whole, is) (ys, also_whole, also_is) =
-    let a = split_only 0 payload [] xs whole in
-    let b = split_only 0 payload [] ys also_whole in
+pub value_once : SplitOnly → (payload : List ℕ) (v w : Value) → IsValueOf payload v → IsValueOf payload w → v ≡ w
+value_once split_only payload v w (xs, whole, is) (ys, also_whole, also_is) =
+    let a = split_of split_only payload xs whole in
+    let b = split_of split_only payload ys also_whole in
     value_same xs v w is (subst (λ zs. IsValue zs w) (sym b.0 ∙ a.0) also_is)
 
 -- the table is in order

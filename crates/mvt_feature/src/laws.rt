@@ -25,7 +25,9 @@ pub fn value_or_fault()
         → value_fault payload base own ≡ None }
     ensures once { (payload : List ℕ) (value other : Value) → IsValueOf payload value
         → IsValueOf payload other → value ≡ other }
-{}
+{
+    mvt_wire::laws::split_function();
+}
 
 /// The fault of a value is that of the broken rule of least rank.
 pub fn value_fault_is_least()
@@ -43,6 +45,8 @@ pub fn feature_or_fault()
     ensures once { (payload : List ℕ) (keys : List (List ℕ)) (values : List Value) (feature other : Feature) →
         IsFeatureOf payload keys values feature → IsFeatureOf payload keys values other → feature ≡ other }
 {
+    mvt_wire::laws::split_function();
+    mvt_wire::laws::packed_function();
     mvt_attrs::laws::attributes_or_fault();
     mvt_geometry::laws::faultless_draws();
     mvt_geometry::laws::drawn_is_faultless();
@@ -56,6 +60,7 @@ pub fn feature_fault_is_least()
     ensures least { (payload : List ℕ) (base : ℕ) (keys : List (List ℕ)) (values : List Value) (fault : MessageFault) →
         (feature_fault payload base keys values ≡ Some fault) ↔ IsLeast (feature_rules payload base keys values) fault }
 {
+    mvt_wire::laws::packed_is_least();
     mvt_attrs::laws::rules_in_order();
     mvt_geometry::laws::geometry_ordered();
 }
@@ -70,6 +75,9 @@ pub fn canonical_reads()
         → length (spelled (feature_fields tags feature)) < 2 ^ 64
         → IsFeatureOf (spelled (feature_fields tags feature)) keys values feature }
 {
+    mvt_wire::laws::spelled_whole();
+    mvt_wire::laws::short_packed();
+    mvt_wire::laws::short_lengths();
     mvt_geometry::laws::drawn_small();
 }
 

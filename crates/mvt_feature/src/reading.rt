@@ -11,6 +11,7 @@ use crate::room::Room;
 use mvt_attrs::{Value, resolve};
 use mvt_base::{Items, Text};
 use mvt_geometry::read_geometry;
+use mvt_wire::laws::{packed_function, split_function};
 use std::alloc::Global;
 
 /// The feature of a payload, in a layer with these keys and values.
@@ -54,6 +55,8 @@ pub fn read_feature_in(
     ensures ok { OnOk result (feature_fault payload.now base keys.now values.now ≡ None) }
     ensures err { IfErr result (λ error. TellsMessage error (feature_fault payload.now base keys.now values.now)) }
 {
+    split_function();
+    packed_function();
     let known = read_known(payload, base, room)?;
     let attributes = resolve(alloc, keys, values, &room.tags)?;
     let geometry = read_geometry(alloc, known.kind, &room.integers)?;

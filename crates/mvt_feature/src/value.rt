@@ -14,6 +14,7 @@ use crate::message_error::MessageError;
 use crate::whole::{fault_at, rest_fault};
 use mvt_attrs::Value;
 use mvt_base::Text;
+use mvt_wire::laws::split_function;
 use mvt_wire::{Field, Fields, Payload, unzigzag64};
 use std::alloc::{AllocError, Global};
 use std::str;
@@ -33,6 +34,7 @@ pub fn read_value(alloc: Global, payload: &[u8], base: u64, own: u64) -> Result<
     ensures ok { OnOk result (value_fault payload.now base own ≡ None) }
     ensures err { IfErr result (λ error. TellsMessage error (value_fault payload.now base own)) }
 {
+    split_function();
     match read_kinds(payload, base)? {
         Kinds::One { meaning, .. } => Ok(meaning.into_value(alloc)?),
         Kinds::Nothing => Err(fault_at(own, Cause::ValueKind)),

@@ -11,6 +11,7 @@ use crate::feature::Feature;
 use crate::room::Room;
 use mvt_attrs::{KeyPool, PoolError, Value, ValuePool, append_tags};
 use mvt_geometry::{Kind, append_geometry, kind_of};
+use mvt_wire::laws::short_lengths;
 use mvt_wire::{Payload, field_len, put_field, put_packed, varint_len, zigzag64};
 use std::alloc::AllocError;
 
@@ -34,6 +35,7 @@ pub fn append_value(out: &mut Vec<u8>, value: &Value) -> Result<(), AllocError>
 pub fn value_len(value: &Value) -> u64
     ensures { result ≡ length (spelled (value_fields value.now)) }
 {
+    short_lengths();
     match value {
         Value::Text(text) => field_len(1, text.as_str().len() as u64),
         Value::Float(_) => 5,

@@ -2,4 +2,4 @@ use Rattle.mvt_feature.proofs.CanonicalLemmas.{canonical_value, canonical_featur
 use Rattle.mvt_feature.proofs.laws.canonical_reads.Goals as goal
 
 pub returns : goal.returns
-returns c = record { value = canonical_value; feature = canonical_feature c.drawn_small.ensures }
+returns c = record { value = canonical_value c.spelled_whole.ensures.whole c.short_lengths.ensures.bytes; feature = canonical_feature c.spelled_whole.ensures.whole c.short_lengths.ensures.bytes c.short_packed.ensures.packed c.drawn_small.ensures }

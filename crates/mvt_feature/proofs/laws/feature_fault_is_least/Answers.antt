@@ -3,6 +3,6 @@ use Rattle.mvt_feature.proofs.laws.feature_fault_is_least.Goals as goal
 
 pub returns : goal.returns
 returns c = record {
-  ordered = feature_ordered c.rules_in_order.ensures.count c.rules_in_order.ensures.pairs c.geometry_ordered.ensures;
-  least = feature_least c.rules_in_order.ensures.count c.rules_in_order.ensures.pairs c.geometry_ordered.ensures;
+  ordered = feature_ordered c.packed_is_least.ensures.ordered c.rules_in_order.ensures.count c.rules_in_order.ensures.pairs c.geometry_ordered.ensures;
+  least = feature_least c.packed_is_least.ensures.ordered c.rules_in_order.ensures.count c.rules_in_order.ensures.pairs c.geometry_ordered.ensures;
 }

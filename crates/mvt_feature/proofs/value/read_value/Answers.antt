@@ -10,7 +10,7 @@ returns-in_err-meaning-clause-err c =
 pub returns-in_ok-into_value-in-One-clause-value :
     goal.returns-in_ok-into_value-in-One-clause-value
 returns-in_ok-into_value-in-One-clause-value c =
-    rw c.in_ok-into_value-in-One.ensures (kinds_value c.args.payload.now c.args.base _ _ c.in_ok-meaning.ensures.whole c.in_ok-meaning.ensures.ok (rw c.in-One.is at c.in_ok-meaning.ensures.kinds))
+    rw c.in_ok-into_value-in-One.ensures (kinds_value c.split_function.ensures.is c.args.payload.now c.args.base _ _ c.in_ok-meaning.ensures.whole c.in_ok-meaning.ensures.ok (rw c.in-One.is at c.in_ok-meaning.ensures.kinds))
 
 pub returns-in_ok-into_value-in-One-clause-ok : goal.returns-in_ok-into_value-in-One-clause-ok
 returns-in_ok-into_value-in-One-clause-ok c =
