@@ -1,0 +1,9 @@
+pub mod EqualityLemmas
+pub mod FirstUseLemmas
+pub mod PoolLemmas
+pub mod SeenLemmas
+pub mod TagLemmas
+pub mod ResolvedLemmas
+pub mod PlaceLemmas
+pub mod PlacingLemmas
+pub mod OrderedLemmas

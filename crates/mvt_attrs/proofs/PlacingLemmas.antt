@@ -1,0 +1,97 @@
+-- A loop that places the keys and values of attributes in pools.
+use Rattle.std.proofs.Common.{◌≡◌, ℕ, ◌+◌, ◌<◌, ◌≤◌, Bool, List, [], ◌∷◌, ◌++◌, length, map, take, get_or, Some, Result, Ok, Err, Contains, Decides, bytes_eq, slice_get, OnErr, refl, sym, ap, ap₂, subst, ◌∙◌, arith, append_assoc, append-nil}
+use Rattle.std.proofs.lemmas.List.{take_more, map_push, take_all}
+use Rattle.mvt_attrs.specs.declared.value.Value.{Value}
+use Rattle.mvt_attrs.specs.declared.value.Attribute.{Attribute}
+use Rattle.mvt_attrs.specs.FirstUse.{first_use, AreDistinct}
+use Rattle.mvt_attrs.specs.Pools.{key_pool, value_pool}
+use Rattle.mvt_attrs.specs.Values.{equal_values}
+use Rattle.std.proofs.lemmas.Slice.Eq.{bytes_eq-Decides}
+use Rattle.mvt_attrs.proofs.EqualityLemmas.{equal_values-Decides}
+use Rattle.mvt_attrs.specs.Tags.{Names}
+use Rattle.mvt_attrs.specs.TagPlaces.{tags_in}
+use Rattle.mvt_attrs.proofs.FirstUseLemmas.{put, put_is, put_cases, first_use-push, first_use-own, first_use-distinct}
+use Rattle.mvt_attrs.proofs.PlaceLemmas.{names_longer, names_push, names_places}
+
+-- what placing x promises of a pool
+pub record IsPlaced {A : Type 0} (pool after : List A) (x : A) : Type 0 where
+  pub kept : Contains pool x → after ≡ pool
+  pub added : (Contains pool x → ⊥) → after ≡ pool ++ x ∷ []
+
+module _ {A : Type 0} (same : A → A → Bool) (decides : (x y : A) → Decides (same x y) (x ≡ y)) (part : Attribute → A) where
+  -- nothing placed yet
+  pub pool_none : (held : List A) → AreDistinct held → held ≡ first_use same (held ++ [])
+  pool_none held distinct = sym (ap (first_use same) (append-nil held) ∙ first_use-own same decides held distinct)
+
+  -- one attribute more
+  pub pool_more : (held pool after : List A) (attributes : List Attribute) (i : ℕ) (a : Attribute) (x : A)
+      → pool ≡ first_use same (held ++ map part (take i attributes)) → i < length attributes → a ≡ get_or attributes i a → x ≡ part a → IsPlaced pool after x
+      → after ≡ first_use same (held ++ map part (take (i + 1) attributes))
+  pool_more held pool after attributes i a x so_far within at of_part placed =
+      put_is same decides pool after x placed.kept placed.added
+      ∙ ap₂ (put same decides) so_far of_part
+      ∙ sym (first_use-push same decides (held ++ map part (take i attributes)) (part a))
+      ∙ ap (first_use same) (append_assoc held (map part (take i attributes)) (part a ∷ [])
+      ∙ ap (λ xs. held ++ xs) (sym (map_push part (take i attributes) a) ∙ ap (map part) (ap (λ b. take i attributes ++ b ∷ []) at ∙ sym (take_more attributes i a within))))
+
+  pub pool_longer : (pool after : List A) (x : A) → IsPlaced pool after x → (more : List A) × (after ≡ pool ++ more)
+  pool_longer pool after x placed =
+      subst (λ p. (more : List A) × (p ≡ pool ++ more)) (sym (put_is same decides pool after x placed.kept placed.added))
+      (put_cases same decides (λ p. (more : List A) × (p ≡ pool ++ more)) pool x (λ e. ([], sym (append-nil pool))) (λ e. (x ∷ [], refl)))
+
+-- the tags of one attribute more
+pub names_more : (keys keys_after : List (List ℕ)) (values values_after : List Value) (tags : List ℕ) (attributes : List Attribute) (i : ℕ) (a : Attribute) (k v : ℕ)
+    → Names keys values tags (take i attributes) → i < length attributes → a ≡ get_or attributes i a
+    → (more : List (List ℕ)) × (keys_after ≡ keys ++ more) → (further : List Value) × (values_after ≡ values ++ further)
+    → slice_get keys_after k ≡ Some a.key → slice_get values_after v ≡ Some a.value
+    → Names keys_after values_after (tags ++ k ∷ (v ∷ [])) (take (i + 1) attributes)
+names_more keys keys_after values values_after tags attributes i a k v names within at longer_keys longer_values of_key of_value =
+    let longer : Names keys_after values_after tags (take i attributes) =
+    subst (λ ks. Names ks values_after tags (take i attributes)) (sym longer_keys.1)
+    (subst (λ vs. Names (keys ++ longer_keys.0) vs tags (take i attributes)) (sym longer_values.1)
+    (names_longer keys longer_keys.0 values longer_values.0 tags (take i attributes) names)) in
+    subst (λ as'. Names keys_after values_after (tags ++ k ∷ (v ∷ [])) as') (ap (λ b. take i attributes ++ b ∷ []) at ∙ sym (take_more attributes i a within))
+    (names_push keys_after values_after tags (take i attributes) k v a longer of_key of_value)
+
+pub names_none : (keys : List (List ℕ)) (values : List Value) → Names keys values [] []
+names_none keys values = record { twice = omega arith; key = λ i a at. cc; value = λ i a at. cc }
+
+-- what holds at one number holds at some number
+pub on_err_at : {T E : Type 0} → (P : ℕ → Type 0) (r : Result T E) (n : ℕ) → P n → OnErr r ((m : ℕ) × P m)
+on_err_at P (Ok x) n h = tt
+on_err_at P (Err e) n h = (n, h)
+
+-- a call that failed behind a key's place left the keys of some first attributes
+pub keys_left_at : {T E : Type 0} → (r : Result T E) (held pool after : List (List ℕ)) (attributes : List Attribute) (i : ℕ) (a : Attribute) (key : List ℕ)
+    → pool ≡ key_pool held (take i attributes) → i < length attributes → a ≡ get_or attributes i a → key ≡ a.key → IsPlaced pool after key
+    → OnErr r ((n : ℕ) × (after ≡ key_pool held (take n attributes)))
+keys_left_at r held pool after attributes i a key so_far within at of_key placed =
+    on_err_at (λ n. after ≡ key_pool held (take n attributes)) r (i + 1) (pool_more bytes_eq bytes_eq-Decides (λ (b : Attribute). b.key) held pool after attributes i a key so_far within at of_key placed)
+
+pub values_left_at : {T E : Type 0} → (r : Result T E) (held pool after : List Value) (attributes : List Attribute) (i : ℕ) (a : Attribute)
+    → pool ≡ value_pool held (take i attributes) → i < length attributes → a ≡ get_or attributes i a → IsPlaced pool after a.value
+    → OnErr r ((n : ℕ) × (after ≡ value_pool held (take n attributes)))
+values_left_at r held pool after attributes i a so_far within at placed =
+    on_err_at (λ n. after ≡ value_pool held (take n attributes)) r (i + 1) (pool_more equal_values equal_values-Decides (λ (b : Attribute). b.value) held pool after attributes i a a.value so_far within at refl placed)
+
+-- tags in pools that are first uses are the places there
+pub all_places : (held_keys keys : List (List ℕ)) (held_values values : List Value) (tags : List ℕ) (attributes : List Attribute) (i : ℕ)
+    → length attributes ≤ i → keys ≡ key_pool held_keys (take i attributes) → values ≡ value_pool held_values (take i attributes) → Names keys values tags (take i attributes)
+    → tags ≡ tags_in keys values attributes
+all_places held_keys keys held_values values tags attributes i past of_keys of_values names =
+    let distinct_keys : AreDistinct keys = subst AreDistinct (sym of_keys) (first_use-distinct bytes_eq bytes_eq-Decides _) in
+    let distinct_values : AreDistinct values = subst AreDistinct (sym of_values) (first_use-distinct equal_values equal_values-Decides _) in
+    names_places keys [] values [] tags attributes distinct_keys distinct_values (subst (λ as'. Names keys values tags as') (take_all i attributes past) names)
+    ∙ ap₂ (λ ks vs. tags_in ks vs attributes) (append-nil keys) (append-nil values)
+
+pub all_named : (held_keys keys : List (List ℕ)) (held_values values : List Value) (tags : List ℕ) (attributes : List Attribute) (i : ℕ)
+    → length attributes ≤ i → keys ≡ key_pool held_keys (take i attributes) → values ≡ value_pool held_values (take i attributes) → Names keys values tags (take i attributes)
+    → Names keys values (tags_in keys values attributes) attributes
+all_named held_keys keys held_values values tags attributes i past of_keys of_values names =
+    subst (λ ts. Names keys values ts attributes) (all_places held_keys keys held_values values tags attributes i past of_keys of_values names)
+    (subst (λ as'. Names keys values tags as') (take_all i attributes past) names)
+
+-- a call that failed left what was appended so far
+pub tags_left_at : {T E : Type 0} → (r : Result T E) (old new so_far : List ℕ) → new ≡ old ++ so_far → OnErr r ((more : List ℕ) × (new ≡ old ++ more))
+tags_left_at (Ok x) old new so_far e = tt
+tags_left_at (Err d) old new so_far e = (so_far, e)

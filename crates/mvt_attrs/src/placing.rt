@@ -1,0 +1,68 @@
+//! The tags of attributes, whose keys and values are placed in pools.
+ghost use Rattle.std.specs.Prelude.{◌≡◌, ◌⊎◌, ◌++◌, ℕ, List, length, take, IfOk, OnOk, OnErr, IsErrOf};
+ghost use Rattle.mvt_attrs.specs.Pools.{key_pool, value_pool};
+ghost use Rattle.mvt_attrs.specs.Tags.{Names};
+ghost use Rattle.mvt_attrs.specs.TagPlaces.{tags_in};
+
+use crate::key_pool::KeyPool;
+use crate::pool_error::PoolError;
+use crate::value::Attribute;
+use crate::value_pool::ValuePool;
+use mvt_base::LIMIT;
+use std::alloc::Global;
+
+/// The tags of a feature with these attributes (4.4): for each the place of its key and that of its
+/// value, which are added to the pools where they are new.
+///
+/// # Errors
+/// Each pool then holds what it held and the entries of the attributes up to some place.
+pub fn tags_of(
+    alloc: Global,
+    attributes: &[Attribute],
+    keys: &mut KeyPool,
+    values: &mut ValuePool,
+) -> Result<Vec<u32>, PoolError>
+    ensures tags { IfOk result (λ tags. Names keys.new values.new tags.items attributes.now) }
+    ensures positions { IfOk result (λ tags. tags.items ≡ tags_in keys.new values.new attributes.now) }
+
+    // Each pool gains the entries that it lacked, in order of first use.
+    ensures keys { OnOk result (keys.new ≡ key_pool keys.old attributes.now) }
+    ensures values { OnOk result (values.new ≡ value_pool values.old attributes.now) }
+    ensures keys_left { OnErr result ((n : ℕ) × (keys.new ≡ key_pool keys.old (take n attributes.now))) }
+    ensures values_left { OnErr result ((n : ℕ) × (values.new ≡ value_pool values.old (take n attributes.now))) }
+    ensures full { IsErrOf result PoolError.Full → (length keys.new ≡ LIMIT) ⊎ (length values.new ≡ LIMIT) }
+{
+    let mut tags = Vec::new(alloc);
+    append_tags(attributes, keys, values, &mut tags)?;
+    Ok(tags)
+}
+
+/// Appends the tags that `tags_of` gives to a list, which can be kept from feature to feature.
+///
+/// # Errors
+/// The pools are as after a refused `tags_of`, and the list is as it was or a longer one.
+pub fn append_tags(
+    attributes: &[Attribute],
+    keys: &mut KeyPool,
+    values: &mut ValuePool,
+    tags: &mut Vec<u32>,
+) -> Result<(), PoolError>
+    ensures tags { OnOk result (tags.new.items ≡ tags.old.items ++ tags_in keys.new values.new attributes.now) }
+    ensures names { OnOk result (Names keys.new values.new (tags_in keys.new values.new attributes.now) attributes.now) }
+    ensures tags_left { OnErr result ((more : List ℕ) × (tags.new.items ≡ tags.old.items ++ more)) }
+
+    // Each pool gains the entries that it lacked, in order of first use.
+    ensures keys { OnOk result (keys.new ≡ key_pool keys.old attributes.now) }
+    ensures values { OnOk result (values.new ≡ value_pool values.old attributes.now) }
+    ensures keys_left { OnErr result ((n : ℕ) × (keys.new ≡ key_pool keys.old (take n attributes.now))) }
+    ensures values_left { OnErr result ((n : ℕ) × (values.new ≡ value_pool values.old (take n attributes.now))) }
+    ensures full { IsErrOf result PoolError.Full → (length keys.new ≡ LIMIT) ⊎ (length values.new ≡ LIMIT) }
+{
+    let _ = (keys.len(), values.len());
+    for attribute in attributes {
+        let key = keys.place(attribute.key.as_str())?;
+        let value = values.place(&attribute.value)?;
+        tags.extend_from_slice(&[key, value])?;
+    }
+    Ok(())
+}

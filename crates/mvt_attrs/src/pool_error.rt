@@ -1,0 +1,33 @@
+//! Why an entry found no place in a pool.
+use std::alloc::{AllocError, AllocFailed};
+
+/// Why an entry found no place in a pool.
+#[derive(Debug, Drop, PartialEq, Eq)]
+pub enum PoolError {
+    /// A growth was refused memory.
+    Memory,
+    /// The pool holds as many entries as it may, and the entry is new.
+    Full,
+}
+
+impl From<AllocError> for PoolError {
+    ghost use Rattle.std.specs.Prelude.{◌≡◌};
+    ghost use Rattle.mvt_attrs.specs.declared.pool_error.PoolError.TheVariants.{Memory};
+
+    ghost from_gives = { λ _ error. error ≡ Memory };
+
+    fn from(_: AllocError) -> Self {
+        PoolError::Memory
+    }
+}
+
+impl<T: Drop> From<AllocFailed<T>> for PoolError {
+    ghost use Rattle.std.specs.Prelude.{◌≡◌};
+    ghost use Rattle.mvt_attrs.specs.declared.pool_error.PoolError.TheVariants.{Memory};
+
+    ghost from_gives = { λ _ error. error ≡ Memory };
+
+    fn from(_: AllocFailed<T>) -> Self {
+        PoolError::Memory
+    }
+}

@@ -1,0 +1,111 @@
+//! Tags resolved to the attributes that they name.
+ghost use Rattle.std.specs.Prelude.{◌≡◌, slice_get, option_copied, IfOk, IfErr, OnOk};
+ghost use Rattle.mvt_attrs.specs.Tags.{Resolved};
+ghost use Rattle.mvt_attrs.specs.TagRules.{tag_fault, Tells};
+
+use crate::seen::SeenKeys;
+use crate::value::{Attribute, Value};
+use mvt_base::Text;
+use std::alloc::{AllocError, AllocFailed, Global};
+
+/// The rule that a feature's tags break (4.4).
+#[derive(Debug, Clone, Copy, PartialEq, Eq)]
+pub enum TagCause {
+    /// The number of tags is odd.
+    OddTags,
+    /// No key has this index.
+    KeyIndex,
+    /// No value has this index.
+    ValueIndex,
+    /// An earlier pair has this key, or one of the same text.
+    RepeatedKey,
+}
+
+/// Why tags name no attributes.
+#[derive(Debug, Drop, PartialEq, Eq)]
+pub enum TagError {
+    /// A growth was refused memory.
+    Memory,
+    /// The first broken rule, at an index into the tags; for `OddTags` their number.
+    Fault { index: usize, cause: TagCause },
+}
+
+impl From<AllocError> for TagError {
+    ghost use Rattle.std.specs.Prelude.{◌≡◌};
+    ghost use Rattle.mvt_attrs.specs.declared.resolving.TagError.TheVariants.{Memory};
+
+    ghost from_gives = { λ _ error. error ≡ Memory };
+
+    fn from(_: AllocError) -> Self {
+        TagError::Memory
+    }
+}
+
+impl<T: Drop> From<AllocFailed<T>> for TagError {
+    ghost use Rattle.std.specs.Prelude.{◌≡◌};
+    ghost use Rattle.mvt_attrs.specs.declared.resolving.TagError.TheVariants.{Memory};
+
+    ghost from_gives = { λ _ error. error ≡ Memory };
+
+    fn from(_: AllocFailed<T>) -> Self {
+        TagError::Memory
+    }
+}
+
+/// The attributes that a feature's tags name, in order (4.4).
+///
+/// A repeated key is looked for among the keys before it. Up to sixteen pairs are compared one by
+/// one, without memory; more are hashed, in memory for as many keys, so that the cost grows with the
+/// number of tags and not with its square.
+///
+/// # Errors
+/// The first broken rule, with its index into the tags. A growth may be refused before a fault that
+/// stands further back is met.
+pub fn resolve(
+    alloc: Global,
+    keys: &[Text],
+    values: &[Value],
+    tags: &[u32],
+) -> Result<Vec<Attribute>, TagError>
+    ensures attributes { IfOk result (λ found. Resolved keys.now values.now tags.now found.items) }
+    ensures ok { OnOk result (tag_fault keys.now values.now tags.now ≡ None) }
+    ensures err { IfErr result (λ error. Tells error (tag_fault keys.now values.now tags.now)) }
+{
+    if tags.len() % 2 == 1 {
+        return Err(fault(tags.len(), TagCause::OddTags));
+    }
+    let most = (tags.len() / 2).min(keys.len());
+    let mut attributes = Vec::with_capacity(alloc, most)?;
+    let mut seen = SeenKeys::new(alloc, most)?;
+    let mut rest = tags;
+    while let [key, value, others @ ..] = rest {
+        let index = tags.len() - rest.len();
+        let Some(key) = entry_at(keys, *key) else {
+            return Err(fault(index, TagCause::KeyIndex));
+        };
+        let Some(value) = entry_at(values, *value) else {
+            return Err(fault(index + 1, TagCause::ValueIndex));
+        };
+        if !seen.add(&attributes, key.as_str())? {
+            return Err(fault(index, TagCause::RepeatedKey));
+        }
+        attributes.push(Attribute {
+            key: key.copy(alloc)?,
+            value: value.copy(alloc)?,
+        })?;
+        rest = others;
+    }
+    Ok(attributes)
+}
+
+fn fault(index: usize, cause: TagCause) -> TagError
+    ensures { result ≡ TagError.Fault index cause }
+{
+    TagError::Fault { index, cause }
+}
+
+fn entry_at<T>(entries: &[T], index: u32) -> Option<&T>
+    ensures { option_copied result ≡ slice_get entries.now index }
+{
+    entries.get(index as usize)
+}
