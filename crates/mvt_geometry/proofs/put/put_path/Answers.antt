@@ -1,0 +1,34 @@
+use Rattle.std.proofs.Common.{rules, ◌≡◌, [], ◌∷◌, ◌++◌, get_or, pos, sym, ap, ap₂, subst, ◌∙◌, to_z, of_z, w32}
+use Rattle.std.proofs.lemmas.List.{drop_more}
+use Rattle.mvt_wire.specs.Zigzag.{zig}
+use Rattle.mvt_geometry.specs.declared.shape.Point.{Point}
+use Rattle.mvt_geometry.specs.Shape.{AreSteps}
+use Rattle.mvt_geometry.specs.Inner.Judging.{last_of}
+use Rattle.mvt_geometry.proofs.PutLemmas.{difference, path_step}
+use Rattle.mvt_geometry.proofs.put.put_path.Goals as goal
+
+abbrev place : Point
+place = record { x = pos 0; y = pos 0 }
+
+pub overflow_sub-point-in-loop-point : goal.overflow_sub-point-in-loop-point
+overflow_sub-point-in-loop-point c =
+    let l = c.loop-point in
+    let step = subst (AreSteps l.cursor) (drop_more c.args.points.now l.point-index place c.loop-point-test.true) l.invariant.2 in
+    let here : to_z w32 (of_z w32 (get_or c.args.points.now l.point-index place).y) ≡ (get_or c.args.points.now l.point-index place).y = search rules in
+    let before : to_z w32 (of_z w32 l.cursor.y) ≡ l.cursor.y = search rules in
+    (difference _ _ _ _ here before step.0.1).0
+
+pub loop-point-preserved : goal.loop-point-preserved
+loop-point-preserved c =
+    let l = c.loop-point in
+    let p = get_or c.args.points.now l.point-index place in
+    let e = drop_more c.args.points.now l.point-index place c.loop-point-test.true in
+    let step = subst (AreSteps l.cursor) e l.invariant.2 in
+    let here_x : to_z w32 (of_z w32 p.x) ≡ p.x = search rules in
+    let here_y : to_z w32 (of_z w32 p.y) ≡ p.y = search rules in
+    let before_x : to_z w32 (of_z w32 l.cursor.x) ≡ l.cursor.x = search rules in
+    let before_y : to_z w32 (of_z w32 l.cursor.y) ≡ l.cursor.y = search rules in
+    let x = c.zigzag32.ensures ∙ ap zig ((difference _ _ _ _ here_x before_x step.0.0).1) in
+    let y = c.zigzag32-in-loop-point.ensures ∙ ap zig ((difference _ _ _ _ here_y before_y step.0.1).1) in
+    let put = c.in_ok-push-2.ensures.items ∙ ap₂ (λ xs n. xs ++ n ∷ []) (c.in_ok-push.ensures.items ∙ ap (λ n. l.integers.items ++ n ∷ []) x) y in
+    (path_step l.integers.items _ _ l.cursor p _ _ e put l.invariant.0, ap (last_of l.cursor) (sym e) ∙ l.invariant.1, step.1)

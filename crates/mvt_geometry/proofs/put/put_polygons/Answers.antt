@@ -1,0 +1,40 @@
+use Rattle.std.proofs.Common.{◌+◌, [], ◌∷◌, ◌++◌, drop, sym, ap, subst, ◌∙◌}
+use Rattle.mvt_base.proofs.ListLemmas.{all_left, all_right}
+use Rattle.mvt_geometry.specs.Shape.{AreSteps, joined, rings_of}
+use Rattle.mvt_geometry.specs.Inner.Judging.{last_of}
+use Rattle.mvt_geometry.specs.Inner.Strokes.{strokes_from}
+use Rattle.mvt_geometry.specs.Inner.Putting.{IsShort, AreShort}
+use Rattle.mvt_geometry.proofs.PutLemmas.{item_at, rings_at, steps_of, steps_behind, stroke_step, strokes_step, strokes_front, strokes_back}
+use Rattle.mvt_geometry.proofs.put.put_polygons.Goals as goal
+
+pub put_line-requires-clause-steps : goal.put_line-requires-clause-steps
+put_line-requires-clause-steps c =
+    let l = c.loop-polygon in
+    let e = rings_at _ _ c.polygon-item.result (item_at c.args.polygons.now l.polygon-index c.polygon-item.result c.loop-polygon-test.true c.polygon-item.is) in
+    steps_of l.cursor c.as_slice.result.now c.polygon-item.result.outer _ _ e c.as_slice.ensures l.invariant.1
+
+pub put_lines-requires-clause-steps : goal.put_lines-requires-clause-steps
+put_lines-requires-clause-steps c =
+    let l = c.loop-polygon in
+    let e = rings_at _ _ c.polygon-item.result (item_at c.args.polygons.now l.polygon-index c.polygon-item.result c.loop-polygon-test.true c.polygon-item.is) in
+    let behind = steps_behind l.cursor c.in_ok-cursor.cursor c.as_slice.result.now c.polygon-item.result.outer _ _ e c.as_slice.ensures c.in_ok-cursor.ensures.last l.invariant.1 in
+    subst (λ ls. AreSteps c.in_ok-cursor.cursor (joined ls)) (sym c.as_slice-in-loop-polygon.ensures) (strokes_front c.in_ok-cursor.cursor c.polygon-item.result.rest (rings_of (drop (l.polygon-index + 1) c.args.polygons.now)) behind)
+
+pub put_lines-requires-clause-short : goal.put_lines-requires-clause-short
+put_lines-requires-clause-short c =
+    let l = c.loop-polygon in
+    let e = rings_at _ _ c.polygon-item.result (item_at c.args.polygons.now l.polygon-index c.polygon-item.result c.loop-polygon-test.true c.polygon-item.is) in
+    subst AreShort (sym c.as_slice-in-loop-polygon.ensures) (all_left IsShort c.polygon-item.result.rest (rings_of (drop (l.polygon-index + 1) c.args.polygons.now)) (subst AreShort e l.invariant.2).1)
+
+pub loop-polygon-preserved : goal.loop-polygon-preserved
+loop-polygon-preserved c =
+    let l = c.loop-polygon in
+    let p = c.polygon-item.result in
+    let more = rings_of (drop (l.polygon-index + 1) c.args.polygons.now) in
+    let e = rings_at _ _ p (item_at c.args.polygons.now l.polygon-index p c.loop-polygon-test.true c.polygon-item.is) in
+    let behind = steps_behind l.cursor c.in_ok-cursor.cursor c.as_slice.result.now p.outer _ _ e c.as_slice.ensures c.in_ok-cursor.ensures.last l.invariant.1 in
+    let outer = stroke_step _ _ _ (15 ∷ []) l.cursor c.in_ok-cursor.cursor c.as_slice.result.now p.outer _ _ e c.as_slice.ensures c.in_ok-cursor.ensures.last c.in_ok-cursor.ensures.integers l.invariant.0 in
+    let rest_is = c.as_slice-in-loop-polygon.ensures in
+    let last = c.in_ok-cursor-2.ensures.last ∙ ap (λ ls. last_of c.in_ok-cursor.cursor (joined ls)) rest_is in
+    let put = c.in_ok-cursor-2.ensures.integers ∙ ap (λ ls. c.put_line.new.integers.items ++ strokes_from (15 ∷ []) c.in_ok-cursor.cursor ls) rest_is in
+    (strokes_step _ _ _ (15 ∷ []) c.in_ok-cursor.cursor c.in_ok-cursor-2.cursor p.rest more last put outer, strokes_back c.in_ok-cursor.cursor c.in_ok-cursor-2.cursor p.rest more last behind, all_right IsShort p.rest more (subst AreShort e l.invariant.2).1)

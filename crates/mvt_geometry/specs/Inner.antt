@@ -1,0 +1,7 @@
+-- Definitions between private functions, which no public contract cites.
+pub mod Judging
+pub mod Strokes
+pub mod Grouping
+pub mod Building
+pub mod Putting
+pub mod Validity

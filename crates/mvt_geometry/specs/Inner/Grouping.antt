@@ -1,0 +1,29 @@
+-- The polygons that rings make, from behind.
+use Rattle.std.specs.Prelude.{if◌then◌else◌, pos, List, [], ◌∷◌, ◌++◌}
+use Rattle.std.specs.Int.Signed.{lt_z}
+use Rattle.mvt_geometry.specs.declared.shape.Point.{Point}
+use Rattle.mvt_geometry.specs.declared.shape.Polygon.{Polygon}
+use Rattle.mvt_geometry.specs.Area.{area2}
+
+-- the interior rings of a polygon that is open before these rings, and the polygons behind it
+pub record Groups : Type 0 where
+  pub inner : List (List Point)
+  pub polygons : List Polygon
+
+-- one more ring in front
+abbrev pub with_ring : List Point → Groups → Groups
+with_ring ring groups =
+    if lt_z (pos 0) (area2 ring) then record { inner = []; polygons = record { outer = ring; rest = groups.inner } ∷ groups.polygons }
+    else record { inner = ring ∷ groups.inner; polygons = groups.polygons }
+
+abbrev pub groups_of : List (List Point) → Groups
+groups_of [] = record { inner = []; polygons = [] }
+groups_of (ring ∷ rings) = with_ring ring (groups_of rings)
+
+-- an open polygon, and those behind it
+abbrev pub opened : List Point → List (List Point) → List (List Point) → List Polygon
+opened outer rest rings = record { outer = outer; rest = rest ++ (groups_of rings).inner } ∷ (groups_of rings).polygons
+
+abbrev pub polygons_of : List (List Point) → List Polygon
+polygons_of [] = []
+polygons_of (ring ∷ rings) = opened ring [] rings

@@ -1,0 +1,298 @@
+//! Whether integers draw a geometry: one pass over them, without memory.
+ghost use Rattle.std.specs.Prelude.{◌≡◌, ◌≢◌, ◌+◌, ◌*◌, ◌/◌, ◌%◌, ◌-◌, ◌<◌, ◌≤◌, ◌^◌, ℕ, suc, Bool, true, ℤ, pos, [], length, slice_index, ◌==◌, ◌&&◌, IfOk, IfErr, OnOk, IfSome, IfNone, ◌+ℤ◌};
+ghost use Rattle.std.specs.Int.RustNames.{unsigned_abs};
+ghost use Rattle.mvt_base.specs.Rules.{first, rows, each};
+ghost use Rattle.mvt_geometry.specs.Shape.{InRange};
+ghost use Rattle.mvt_geometry.specs.Commands.{Pair, pair_count, pairs_of, due, may_not_end, unzig, stepped, moved as pairs_moved, positions};
+ghost use Rattle.mvt_geometry.specs.Table.{step_rules, pair_rules, header_rows, geometry_fault};
+ghost use Rattle.mvt_geometry.specs.Inner.Judging.{IsHeader, Reached, edges};
+
+use crate::area::cross;
+use crate::command::Command;
+use crate::fault::{Fault, GeometryCause};
+use crate::shape::{Kind, Point};
+use mvt_wire::unzigzag32;
+
+/// The parameter that would be -2^31.
+const REFUSED: u32 = 4_294_967_295;
+
+pub(crate) const ORIGIN: Point = Point { x: 0, y: 0 };
+
+/// How far the integers are read: the index of the next one, and the cursor.
+#[derive(Clone, Copy, Debug)]
+struct Pen {
+    at: usize,
+    cursor: Point,
+}
+
+/// How many lines or polygons the integers draw, or the first broken rule.
+pub(crate) fn judge(kind: Kind, integers: &[u32]) -> Result<usize, Fault>
+    ensures ok { OnOk result (geometry_fault kind integers.now ≡ None) }
+    ensures err { IfErr result (λ f. geometry_fault kind integers.now ≡ Some (f.index, f.cause)) }
+{
+    if kind == Kind::Unknown {
+        return Ok(0);
+    }
+    if integers.is_empty() {
+        return Err(Fault {
+            index: 0,
+            cause: GeometryCause::EndsEarly,
+        });
+    }
+    match kind {
+        Kind::Unknown => Ok(0),
+        Kind::Point => judge_points(integers),
+        Kind::LineString => judge_lines(integers),
+        Kind::Polygon => judge_polygons(integers),
+    }
+}
+
+fn judge_points(integers: &[u32]) -> Result<usize, Fault>
+    requires { 0 < length integers.now }
+    ensures ok { OnOk result (geometry_fault Kind.Point integers.now ≡ None) }
+    ensures err { IfErr result (λ f. geometry_fault Kind.Point integers.now ≡ Some (f.index, f.cause)) }
+{
+    let pen = Pen {
+        at: 0,
+        cursor: ORIGIN,
+    };
+    let pen = judge_command(Kind::Point, Command::MoveTo, integers, pen)?;
+    if pen.at < integers.len() {
+        return Err(Fault {
+            index: pen.at,
+            cause: GeometryCause::Command,
+        });
+    }
+    Ok(0)
+}
+
+fn judge_lines(integers: &[u32]) -> Result<usize, Fault>
+    requires { 0 < length integers.now }
+    ensures ok { OnOk result (geometry_fault Kind.LineString integers.now ≡ None) }
+    ensures err { IfErr result (λ f. geometry_fault Kind.LineString integers.now ≡ Some (f.index, f.cause)) }
+{
+    let mut pen = Pen {
+        at: 0,
+        cursor: ORIGIN,
+    };
+    let mut lines = 0;
+    while pen.at < integers.len() {
+        let first = judge_command(Kind::LineString, Command::MoveTo, integers, pen)?;
+        pen = judge_command(Kind::LineString, Command::LineTo, integers, first)?;
+        lines += 1;
+    }
+    Ok(lines)
+}
+
+fn judge_polygons(integers: &[u32]) -> Result<usize, Fault>
+    requires { 0 < length integers.now }
+    ensures ok { OnOk result (geometry_fault Kind.Polygon integers.now ≡ None) }
+    ensures err { IfErr result (λ f. geometry_fault Kind.Polygon integers.now ≡ Some (f.index, f.cause)) }
+{
+    let mut pen = Pen {
+        at: 0,
+        cursor: ORIGIN,
+    };
+    let mut polygons = 0;
+    while pen.at < integers.len() {
+        let (next, area) = judge_ring(integers, pen)?;
+        if polygons == 0 || area > 0 {
+            polygons += 1;
+        }
+        pen = next;
+    }
+    Ok(polygons)
+}
+
+/// The pen behind a ring, and twice the ring's area.
+fn judge_ring(integers: &[u32], pen: Pen) -> Result<(Pen, i128), Fault>
+    requires { pen.at < length integers.now }
+    ensures further { IfOk result (λ r. (pen.at < r.0.at) × (r.0.at ≤ length integers.now)) }
+    ensures ok { IfOk result (λ r. (k : ℕ) → k % 3 ≡ 0
+        → Reached Kind.Polygon integers.now k pen.at pen.cursor
+        → Reached Kind.Polygon integers.now (k + 3) r.0.at r.0.cursor) }
+    ensures err { IfErr result (λ f. (k : ℕ) → k % 3 ≡ 0
+        → Reached Kind.Polygon integers.now k pen.at pen.cursor
+        → geometry_fault Kind.Polygon integers.now ≡ Some (f.index, f.cause)) }
+{
+    let first = judge_command(Kind::Polygon, Command::MoveTo, integers, pen)?;
+    let count = judge_header(Kind::Polygon, Command::LineTo, integers, first.at)?;
+    let begin = first.at + 1;
+    let end = begin + 2 * count;
+    let (last, path) = judge_edges(begin, first.cursor, &integers[begin..end])?;
+    judge_header(Kind::Polygon, Command::ClosePath, integers, end)?;
+    let area = path + cross(last, first.cursor);
+    if pen.at == 0 && area < 0 {
+        return Err(Fault {
+            index: end,
+            cause: GeometryCause::FirstRing,
+        });
+    }
+    Ok((
+        Pen {
+            at: end + 1,
+            cursor: last,
+        },
+        area,
+    ))
+}
+
+/// The pen behind a command that has parameters.
+fn judge_command(kind: Kind, command: Command, integers: &[u32], pen: Pen) -> Result<Pen, Fault>
+    requires within { pen.at ≤ length integers.now }
+    requires has_pairs { command ≢ Command.ClosePath }
+    ensures further { IfOk result (λ next. (pen.at < next.at) × (next.at ≤ length integers.now)) }
+    ensures ok { IfOk result (λ next. (k : ℕ) → due kind k ≡ Some command
+        → Reached kind integers.now k pen.at pen.cursor → Reached kind integers.now (suc k) next.at next.cursor) }
+    ensures err { IfErr result (λ f. (k : ℕ) → due kind k ≡ Some command
+        → Reached kind integers.now k pen.at pen.cursor → (pen.at ≡ length integers.now → may_not_end kind k ≡ true)
+        → geometry_fault kind integers.now ≡ Some (f.index, f.cause)) }
+{
+    let count = judge_header(kind, command, integers, pen.at)?;
+    let begin = pen.at + 1;
+    let end = begin + 2 * count;
+    let cursor = judge_pairs(command.is_line(), begin, pen.cursor, &integers[begin..end])?;
+    Ok(Pen { at: end, cursor })
+}
+
+/// How many pairs stand behind the command that is due here.
+fn judge_header(kind: Kind, command: Command, integers: &[u32], at: usize) -> Result<usize, Fault>
+    requires { at ≤ length integers.now }
+    ensures ok { OnOk result (IsHeader kind command integers.now at) }
+    ensures count { IfOk result (λ n. n ≡ pair_count (Some command) (slice_index integers.now at / 8)) }
+    ensures err { IfErr result (λ f. (must_not : Bool) → (at ≡ length integers.now → must_not ≡ true)
+        → first (rows (header_rows must_not kind (Some command) integers.now at)) ≡ Some (f.index, f.cause)) }
+{
+    let Some(integer) = integers.get(at) else {
+        return Err(Fault {
+            index: at,
+            cause: GeometryCause::EndsEarly,
+        });
+    };
+    if *integer % 8 != command.id() {
+        return Err(Fault {
+            index: at,
+            cause: GeometryCause::Command,
+        });
+    }
+    let count = *integer / 8;
+    if !command.allows(kind, count) {
+        return Err(Fault {
+            index: at,
+            cause: GeometryCause::Count,
+        });
+    }
+    if command == Command::ClosePath {
+        return Ok(0);
+    }
+    let count = count as usize;
+    if (integers.len() - at - 1) / 2 < count {
+        return Err(Fault {
+            index: at,
+            cause: GeometryCause::Parameters,
+        });
+    }
+    Ok(count)
+}
+
+/// The cursor behind pairs, the first of which is numbered `begin`.
+fn judge_pairs(is_line: bool, begin: usize, from: Point, parameters: &[u32]) -> Result<Point, Fault>
+    requires { begin + length parameters.now < 2 ^ 64 }
+    ensures ok { OnOk result (first (each (pair_rules is_line begin from) [] (pairs_of parameters.now)) ≡ None) }
+    ensures cursor { IfOk result (λ to. to ≡ pairs_moved from (pairs_of parameters.now)) }
+    ensures err { IfErr result (λ f.
+        first (each (pair_rules is_line begin from) [] (pairs_of parameters.now)) ≡ Some (f.index, f.cause)) }
+{
+    let mut cursor = from;
+    let mut rest = parameters;
+    while let [dx, dy, others @ ..] = rest {
+        let at = begin + (parameters.len() - rest.len());
+        cursor = step(is_line, at, cursor, *dx, *dy)?;
+        rest = others;
+    }
+    Ok(cursor)
+}
+
+/// The cursor behind pairs of a ring, and what its edges add to twice the area.
+fn judge_edges(begin: usize, from: Point, parameters: &[u32]) -> Result<(Point, i128), Fault>
+    requires { begin + length parameters.now < 2 ^ 64 }
+    ensures ok { OnOk result (first (each (pair_rules true begin from) [] (pairs_of parameters.now)) ≡ None) }
+    ensures cursor { IfOk result (λ r. r.0 ≡ pairs_moved from (pairs_of parameters.now)) }
+    ensures area { IfOk result (λ r. r.1 ≡ edges from (positions from (pairs_of parameters.now))) }
+    ensures small { IfOk result (λ r. unsigned_abs r.1 ≤ length parameters.now * 2 ^ 62) }
+    ensures err { IfErr result (λ f.
+        first (each (pair_rules true begin from) [] (pairs_of parameters.now)) ≡ Some (f.index, f.cause)) }
+{
+    let mut cursor = from;
+    let mut area = 0;
+    let mut rest = parameters;
+    while let [dx, dy, others @ ..] = rest {
+        let at = begin + (parameters.len() - rest.len());
+        let to = step(true, at, cursor, *dx, *dy)?;
+        area += cross(cursor, to);
+        cursor = to;
+        rest = others;
+    }
+    Ok((cursor, area))
+}
+
+/// The cursor behind a pair, whose dX is numbered `at`.
+#[inline]
+fn step(is_line: bool, at: usize, from: Point, dx: u32, dy: u32) -> Result<Point, Fault>
+    requires { at + 1 < 2 ^ 64 }
+    ensures ok { let d : Pair = record { dx = dx; dy = dy } in
+        OnOk result (first (step_rules is_line at d (stepped from d)) ≡ None) }
+    ensures point { let d : Pair = record { dx = dx; dy = dy } in IfOk result (λ to. to ≡ stepped from d) }
+    ensures err { let d : Pair = record { dx = dx; dy = dy } in
+        IfErr result (λ f. first (step_rules is_line at d (stepped from d)) ≡ Some (f.index, f.cause)) }
+{
+    if dx == REFUSED {
+        return Err(Fault {
+            index: at,
+            cause: GeometryCause::ParameterRange,
+        });
+    }
+    if dy == REFUSED {
+        return Err(Fault {
+            index: at + 1,
+            cause: GeometryCause::ParameterRange,
+        });
+    }
+    if is_line && is_zero(dx, dy) {
+        return Err(Fault {
+            index: at,
+            cause: GeometryCause::ZeroSegment,
+        });
+    }
+    let Some(x) = moved(from.x, dx) else {
+        return Err(Fault {
+            index: at,
+            cause: GeometryCause::CoordinateRange,
+        });
+    };
+    let Some(y) = moved(from.y, dy) else {
+        return Err(Fault {
+            index: at + 1,
+            cause: GeometryCause::CoordinateRange,
+        });
+    };
+    Ok(Point { x, y })
+}
+
+/// Whether a pair is (0,0).
+#[inline]
+fn is_zero(dx: u32, dy: u32) -> bool
+    ensures { result ≡ (dx == 0 && dy == 0) }
+{
+    dx == 0 && dy == 0
+}
+
+/// A coordinate moved by a parameter; None where it is then out of range.
+#[inline]
+fn moved(from: i32, parameter: u32) -> Option<i32>
+    ensures some { IfSome result (λ to. (to ≡ from +ℤ unzig parameter) × InRange to) }
+    ensures none { IfNone result (InRange (from +ℤ unzig parameter) → ⊥) }
+{
+    let to = from.checked_add(unzigzag32(parameter))?;
+    if to == i32::MIN { None } else { Some(to) }
+}

@@ -1,0 +1,25 @@
+//! Geometries and the integers that draw them (Mapbox Vector Tile Specification 2.1, section 4.3).
+//!
+//! [`read_geometry`] judges all integers in one pass before it builds anything, so that want of
+//! memory is answered only for integers that draw a geometry; [`put_geometry`] gives them back.
+#![tactic(auto)]
+
+mod area;
+mod command;
+mod fault;
+mod judge;
+pub mod laws;
+mod put;
+mod read;
+mod shape;
+mod valid;
+
+pub use area::twice_area;
+pub use fault::{GeometryCause, GeometryError};
+pub use put::{append_geometry, put_geometry};
+pub use read::read_geometry;
+pub use shape::{Geometry, Kind, Point, Polygon, kind_of};
+pub use valid::is_valid_geometry;
+
+#[cfg(test)]
+mod tests;
