@@ -2,6 +2,7 @@
 //! writes, with answers that depend on every number read.
 #![tactic(auto)]
 
+use mvt_geometry::{Geometry, Kind, read_geometry};
 use mvt_wire::{Fields, Payload, append_packed};
 use std::alloc::Global;
 
@@ -34,4 +35,23 @@ pub extern "C" fn mvt_read_packed(alloc: Global, bytes: &[u8]) -> u64 {
     let first = numbers.first().copied().unwrap_or(0);
     let last = numbers.last().copied().unwrap_or(0);
     u64::from(first) + u64::from(last) + numbers.len() as u64
+}
+
+/// Reads a geometry, and counts its points and lists. 0 for integers that draw none, and for want of
+/// memory. Kinds are numbered as in a feature.
+#[unsafe(no_mangle)]
+pub extern "C" fn mvt_read_geometry(alloc: Global, kind: u32, integers: &[u32]) -> u64 {
+    let kind = match kind {
+        1 => Kind::Point,
+        2 => Kind::LineString,
+        3 => Kind::Polygon,
+        _ => Kind::Unknown,
+    };
+    match read_geometry(alloc, kind, integers) {
+        Ok(Geometry::Unknown(integers)) => integers.as_slice().len() as u64,
+        Ok(Geometry::Points(points)) => points.as_slice().len() as u64,
+        Ok(Geometry::Lines(lines)) => lines.as_slice().len() as u64,
+        Ok(Geometry::Polygons(polygons)) => polygons.as_slice().len() as u64,
+        Err(_) => 0,
+    }
 }
