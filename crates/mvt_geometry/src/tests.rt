@@ -233,12 +233,6 @@ fn measures_and_judges(rt: HostRuntime) -> Result<(), Fail> {
     }
     let still = Geometry::Lines(lines(alloc, &[&[(1, 1), (1, 1)]])?);
     assert!(rt; !is_valid_geometry(&still));
-    let fault = GeometryError::Fault {
-        index: 8,
-        cause: GeometryCause::FirstRing,
-    };
-    let text = fault.to_string(alloc)?;
-    assert_eq!(rt; text.as_str(), "FirstRing at 8");
     Ok(())
 }
 
