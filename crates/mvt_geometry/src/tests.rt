@@ -48,7 +48,7 @@ fn round_trips(
     };
     let put = put_geometry(alloc, &read)?;
     let mut appended = Vec::from_slice(alloc, &[7])?;
-    append_geometry(&mut appended, &read)?;
+    append_geometry(&read, &mut appended)?;
     let copy = read.copy(alloc)?;
     Ok(
         read == expected
