@@ -1,4 +1,4 @@
-//! Twice the area of a ring (section 4.3.3.3).
+//! Twice the area of a ring (section 4.3.4.4).
 ghost use Rattle.std.specs.Prelude.{◌≡◌, ◌≤◌, ◌^◌, ◌*ℤ◌};
 ghost use Rattle.std.specs.Int.RustNames.{unsigned_abs};
 ghost use Rattle.mvt_geometry.specs.Area.{area2, cross as the_cross};
