@@ -274,6 +274,11 @@ fn refused_faults(rt: HostRuntime) {
         let error = read_geometry(rt.alloc(), kind, integers).err();
         assert_eq!(rt; error, Some(GeometryError::Fault { index, cause }));
     }
+    // No list above asks for memory: the first that is refused is asked for here.
+    match read_geometry(rt.alloc(), Kind::Polygon, &HOLES) {
+        Ok(read) => assert!(rt; kind_of(&read) == Kind::Polygon),
+        Err(error) => assert_eq!(rt; error, GeometryError::Memory),
+    }
 }
 
 #[test]
