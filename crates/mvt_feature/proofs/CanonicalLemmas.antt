@@ -1,0 +1,272 @@
+-- What is written reads as what it was written for.
+use Rattle.std.proofs.Common.{◌≡◌, ℕ, ◌^◌, ◌<◌, ◌≤◌, ◌==◌, Bool, true, false, not, ℤ, pos, negsuc, List, [], ◌∷◌, ◌++◌, length, map, Option, Some, None, refl, sym, ap, ◌∙◌, subst, append-nil, length-append, arith, rules, lit<, lit≤, if◌then◌else◌}
+use Rattle.std.specs.Prelude.{FitsSigned, IfSome}
+use Rattle.std.specs.Int.{w64, cast_unsigned}
+use Rattle.std.specs.List.{AllByRecursion}
+use Rattle.std.proofs.Math.Facts.{Fits-of_z}
+use Rattle.std.proofs.lemmas.Int.{ints, to_z-of_z}
+use Rattle.mvt_base.specs.Rules.{first}
+use Rattle.mvt_base.proofs.ListLemmas.{all_joined}
+use Rattle.mvt_attrs.specs.declared.value.Value.{Value}
+use Rattle.mvt_attrs.specs.declared.value.Value.TheVariants.{Text, Float, Double, Int, Uint, Sint, Bool as Truth}
+use Rattle.mvt_attrs.specs.Tags.{Names}
+use Rattle.mvt_geometry.specs.declared.shape.Kind.{Kind}
+use Rattle.mvt_geometry.specs.declared.shape.Kind.TheVariants as kinds
+use Rattle.mvt_geometry.specs.declared.shape.Geometry.{Geometry}
+use Rattle.mvt_geometry.specs.Drawing.{drawn}
+use Rattle.mvt_geometry.specs.Shape.{kind_of}
+use Rattle.mvt_geometry.specs.Valid.{IsValid}
+use Rattle.mvt_wire.specs.Field.{varint, bytes, Entry}
+use Rattle.mvt_wire.specs.Spelling.{Plain, plain_of, short_field, short_numbers, spelled, IsFit}
+use Rattle.mvt_wire.specs.Zigzag.{zig}
+use Rattle.mvt_wire.proofs.PackedLemmas.{short_packed}
+use Rattle.mvt_wire.proofs.SpellingLemmas.{spelled_from, bytes_longer}
+use Rattle.mvt_feature.specs.declared.feature.Feature.{Feature}
+use Rattle.mvt_feature.specs.Canonical.{plain, value_field, value_fields, id_fields, tags_fields, type_number, drawing_fields, feature_fields}
+use Rattle.mvt_feature.specs.Features.{IsType, Joined, number_of, number_in, kind_numbered, kind_of_type, IsFeature, IsFeatureOf}
+use Rattle.mvt_feature.specs.Selection.{only, last_or}
+use Rattle.mvt_feature.specs.Valid.{ValidValue, ValidFeature}
+use Rattle.mvt_feature.specs.Values.{IsVarint, Means, IsValue, IsValueOf}
+use Rattle.mvt_feature.specs.ValueRules.{kind_rules, kinds, are_one_kind, value_field_rules}
+use Rattle.mvt_feature.proofs.FeatureLemmas.{form_only}
+use Rattle.mvt_feature.proofs.SelectionLemmas.{each_none}
+use Rattle.mvt_feature.proofs.TextLemmas.{text_clean}
+use Rattle.mvt_feature.proofs.ValueLemmas.{value_from, rules_clean}
+use Rattle.mvt_feature.proofs.WritingLemmas.{spelled-append}
+
+-- fields that are one plain field
+pub one_of : (xs : List Entry) (p : Plain) → map plain_of xs ≡ p ∷ [] → (x : Entry) × (xs ≡ x ∷ []) × (plain_of x ≡ p)
+one_of [] p h = cc
+one_of (x ∷ []) p h = (x, refl, cc)
+one_of (x ∷ y ∷ xs) p h = cc
+
+none_of : (xs : List Entry) → map plain_of xs ≡ [] → xs ≡ []
+none_of [] h = refl
+none_of (x ∷ xs) h = cc
+
+-- ---- values
+
+value_clean : (v : Value) → ValidValue v → first (kind_rules (value_field v).number (value_field v).content) ≡ None
+value_clean (Text text) h = text_clean text h
+value_clean (Float bits) h = refl
+value_clean (Double bits) h = refl
+value_clean (Int z) h = refl
+value_clean (Uint n) h = refl
+value_clean (Sint z) h = refl
+value_clean (Truth b) h = refl
+
+truth_of : (b : Bool) → b ≡ not ((if b then 1 else 0) == 0)
+truth_of true = refl
+truth_of false = refl
+
+value_means : (v : Value) → ValidValue v → Means (value_field v).number (value_field v).content v
+value_means (Text text) h = (refl, refl)
+value_means (Float bits) h = (refl, refl)
+value_means (Double bits) h = (refl, refl)
+value_means (Int z) h = (refl, sym (to_z-of_z w64 z h))
+value_means (Uint n) h = (refl, refl)
+value_means (Sint z) h = (refl, refl)
+value_means (Truth b) h = (refl, truth_of b)
+
+value_kind : (at body : ℕ) (v : Value) → kinds (record { at = at; body = body; number = (value_field v).number; content = (value_field v).content } ∷ []) ≡ record { at = at; body = body; number = (value_field v).number; content = (value_field v).content } ∷ []
+value_kind at body (Text text) = refl
+value_kind at body (Float bits) = refl
+value_kind at body (Double bits) = refl
+value_kind at body (Int z) = refl
+value_kind at body (Uint n) = refl
+value_kind at body (Sint z) = refl
+value_kind at body (Truth b) = refl
+
+-- a value's own field is the value
+value_at : (at body : ℕ) (v : Value) → ValidValue v → IsValue (record { at = at; body = body; number = (value_field v).number; content = (value_field v).content } ∷ []) v
+value_at at body v h =
+    let x : Entry = record { at = at; body = body; number = (value_field v).number; content = (value_field v).content } in
+    let kind = value_kind at body v in
+    value_from 0 (x ∷ []) x v (each_none (value_field_rules 0) [] (x ∷ []) (rules_clean 0 x (value_clean v h), tt)) (ap are_one_kind kind) (ap (last_or None) kind) (value_means v h)
+
+pub value_reads : (xs : List Entry) (v : Value) → map plain_of xs ≡ value_fields v → ValidValue v → IsValue xs v
+value_reads xs v is h =
+    let one = one_of xs (value_field v) is in
+    let x = one.0 in
+    let same : x ≡ record { at = x.at; body = x.body; number = (value_field v).number; content = (value_field v).content } =
+    ap (λ (p : Plain). record { at = x.at; body = x.body; number = p.number; content = p.content }) one.2 in
+    subst (λ ys. IsValue ys v) (sym (one.1 ∙ ap (λ (y : Entry). y ∷ []) same)) (value_at x.at x.body v h)
+
+zig_small : (z : ℤ) → FitsSigned w64 z → zig z < 2 ^ 64
+zig_small (pos n) h = omega (arith, ints)
+zig_small (negsuc n) h = omega (arith, ints)
+
+truth_small : (b : Bool) → (if b then 1 else 0) < 2 ^ 64
+truth_small true = lit< tt
+truth_small false = lit< tt
+
+code_small : (z : ℤ) → FitsSigned w64 z → cast_unsigned w64 z < 2 ^ 64
+code_small z h = let fits = Fits-of_z h in search rules
+
+pub value_fit : (v : Value) → ValidValue v → length (spelled (value_fields v)) < 2 ^ 64 → IsFit (value_field v)
+value_fit (Text text) h small =
+    let longer = bytes_longer 1 text in
+    let all : length (short_field 1 (bytes text)) < 2 ^ 64 = subst (λ l. length l < 2 ^ 64) (append-nil (short_field 1 (bytes text))) small in
+    record { first = lit≤ tt; last = lit< tt; content = omega arith }
+value_fit (Float bits) h small = record { first = lit≤ tt; last = lit< tt; content = h }
+value_fit (Double bits) h small = record { first = lit≤ tt; last = lit< tt; content = h }
+value_fit (Int z) h small = record { first = lit≤ tt; last = lit< tt; content = code_small z h }
+value_fit (Uint n) h small = record { first = lit≤ tt; last = lit< tt; content = h }
+value_fit (Sint z) h small = record { first = lit≤ tt; last = lit< tt; content = zig_small z h }
+value_fit (Truth b) h small = record { first = lit≤ tt; last = lit< tt; content = truth_small b }
+
+pub canonical_value : (v : Value) → ValidValue v → length (spelled (value_fields v)) < 2 ^ 64 → IsValueOf (spelled (value_fields v)) v
+canonical_value v h small =
+    let found = spelled_from 0 (value_fields v) (value_fit v h small, tt) in
+    (found.0, found.1, value_reads found.0 v found.2 h)
+
+-- ---- features
+
+-- the plain fields of a number
+abbrev only_plain : ℕ → List Plain → List Plain
+only_plain k [] = []
+only_plain k (p ∷ ps) = if p.number == k then p ∷ only_plain k ps else only_plain k ps
+
+only_of_plain : (k : ℕ) (xs : List Entry) → map plain_of (only k xs) ≡ only_plain k (map plain_of xs)
+only_of_plain k [] = refl
+only_of_plain k (x ∷ xs) = by_test (x.number == k) (only_of_plain k xs)
+  where
+    by_test : (b : Bool) → map plain_of (only k xs) ≡ only_plain k (map plain_of xs) → map plain_of (if b then x ∷ only k xs else only k xs) ≡ (if b then plain_of x ∷ only_plain k (map plain_of xs) else only_plain k (map plain_of xs))
+    by_test true h = ap (λ l. plain_of x ∷ l) h
+    by_test false h = h
+
+abbrev all_fields : Option ℕ → List ℕ → Kind → List ℕ → List Plain
+all_fields id tags kind integers = id_fields id ++ (tags_fields tags ++ drawing_fields kind integers)
+
+ids_only : (id : Option ℕ) (tags : List ℕ) (kind : Kind) (integers : List ℕ) → only_plain 1 (all_fields id tags kind integers) ≡ id_fields id
+ids_only None [] kind integers = refl
+ids_only None (t ∷ ts) kind integers = refl
+ids_only (Some n) [] kind integers = refl
+ids_only (Some n) (t ∷ ts) kind integers = refl
+
+tags_only : (id : Option ℕ) (tags : List ℕ) (kind : Kind) (integers : List ℕ) → only_plain 2 (all_fields id tags kind integers) ≡ tags_fields tags
+tags_only None [] kind integers = refl
+tags_only None (t ∷ ts) kind integers = refl
+tags_only (Some n) [] kind integers = refl
+tags_only (Some n) (t ∷ ts) kind integers = refl
+
+type_only : (id : Option ℕ) (tags : List ℕ) (kind : Kind) (integers : List ℕ) → only_plain 3 (all_fields id tags kind integers) ≡ plain 3 (varint (type_number kind)) ∷ []
+type_only None [] kind integers = refl
+type_only None (t ∷ ts) kind integers = refl
+type_only (Some n) [] kind integers = refl
+type_only (Some n) (t ∷ ts) kind integers = refl
+
+integers_only : (id : Option ℕ) (tags : List ℕ) (kind : Kind) (integers : List ℕ) → only_plain 4 (all_fields id tags kind integers) ≡ plain 4 (bytes (short_numbers integers)) ∷ []
+integers_only None [] kind integers = refl
+integers_only None (t ∷ ts) kind integers = refl
+integers_only (Some n) [] kind integers = refl
+integers_only (Some n) (t ∷ ts) kind integers = refl
+
+-- the number of a last field
+id_last : (xs : List Entry) (id : Option ℕ) → map plain_of xs ≡ id_fields id → number_in (last_or None xs) ≡ id
+id_last xs None h = rw (none_of xs h) refl
+id_last xs (Some n) h =
+    let one = one_of xs (plain 1 (varint n)) h in
+    ap (λ l. number_in (last_or None l)) one.1 ∙ ap (λ (p : Plain). number_of p.content) one.2
+
+id_forms : (xs : List Entry) (id : Option ℕ) → map plain_of xs ≡ id_fields id → AllByRecursion (λ (x : Entry). IsVarint x.content) xs
+id_forms xs None h = rw (none_of xs h) tt
+id_forms xs (Some n) h =
+    let one = one_of xs (plain 1 (varint n)) h in
+    let form : IsVarint one.0.content = subst (λ (p : Plain). IsVarint p.content) (sym one.2) tt in
+    let all : AllByRecursion (λ (x : Entry). IsVarint x.content) (one.0 ∷ []) = (form, tt) in
+    subst (AllByRecursion (λ (x : Entry). IsVarint x.content)) (sym one.1) all
+
+type_small : (kind : Kind) → type_number kind ≤ 3
+type_small kinds.Unknown = lit≤ tt
+type_small kinds.Point = lit≤ tt
+type_small kinds.LineString = lit≤ tt
+type_small kinds.Polygon = lit≤ tt
+
+kind_back : (kind : Kind) → kind_numbered (type_number kind) ≡ kind
+kind_back kinds.Unknown = refl
+kind_back kinds.Point = refl
+kind_back kinds.LineString = refl
+kind_back kinds.Polygon = refl
+
+type_forms : (xs : List Entry) (kind : Kind) → map plain_of xs ≡ plain 3 (varint (type_number kind)) ∷ [] → AllByRecursion (λ (x : Entry). IsType x.content) xs
+type_forms xs kind h =
+    let one = one_of xs (plain 3 (varint (type_number kind))) h in
+    let form : IsType one.0.content = subst (λ (p : Plain). IsType p.content) (sym one.2) (type_small kind) in
+    let all : AllByRecursion (λ (x : Entry). IsType x.content) (one.0 ∷ []) = (form, tt) in
+    subst (AllByRecursion (λ (x : Entry). IsType x.content)) (sym one.1) all
+
+type_last : (xs : List Entry) (kind : Kind) → map plain_of xs ≡ plain 3 (varint (type_number kind)) ∷ [] → kind_of_type (number_in (last_or None xs)) ≡ kind
+type_last xs kind h =
+    let one = one_of xs (plain 3 (varint (type_number kind))) h in
+    ap (λ l. kind_of_type (number_in (last_or None l))) one.1 ∙ ap (λ (p : Plain). kind_of_type (number_of p.content)) one.2 ∙ kind_back kind
+
+-- the numbers of one packed field
+packed_joined : (xs : List Entry) (k : ℕ) (ns : List ℕ) → AllByRecursion (λ n. n < 2 ^ 32) ns → map plain_of xs ≡ plain k (bytes (short_numbers ns)) ∷ [] → Joined xs ns
+packed_joined xs k ns small h =
+    let one = one_of xs (plain k (bytes (short_numbers ns))) h in
+    let content : one.0.content ≡ bytes (short_numbers ns) = ap (λ (p : Plain). p.content) one.2 in
+    let joined : Joined (one.0 ∷ []) ns = (ns, [], sym (append-nil ns), rw content (short_packed ns small), refl) in
+    subst (λ ys. Joined ys ns) (sym one.1) joined
+
+tags_joined : (xs : List Entry) (tags : List ℕ) → AllByRecursion (λ n. n < 2 ^ 32) tags → map plain_of xs ≡ tags_fields tags → Joined xs tags
+tags_joined xs [] small h = rw (none_of xs h) refl
+tags_joined xs (t ∷ ts) small h = packed_joined xs 2 (t ∷ ts) small h
+
+pub feature_reads : (xs : List Entry) (keys : List (List ℕ)) (values : List Value) (tags : List ℕ) (f : Feature) → map plain_of xs ≡ feature_fields tags f → Names keys values tags f.attributes → AllByRecursion (λ n. n < 2 ^ 32) tags → ValidFeature f → AllByRecursion (λ n. n < 2 ^ 32) (drawn f.geometry) → IsFeature xs keys values f
+feature_reads xs keys values tags f is names small valid drawn_small =
+    let kind = kind_of f.geometry in
+    let integers = drawn f.geometry in
+    let ids = only_of_plain 1 xs ∙ ap (only_plain 1) is ∙ ids_only f.id tags kind integers in
+    let types = only_of_plain 3 xs ∙ ap (only_plain 3) is ∙ type_only f.id tags kind integers in
+    record {
+      ids = form_only 1 IsVarint xs (id_forms (only 1 xs) f.id ids);
+      id = sym (id_last (only 1 xs) f.id ids);
+      tags = tags;
+      tags_are = tags_joined (only 2 xs) tags small (only_of_plain 2 xs ∙ ap (only_plain 2) is ∙ tags_only f.id tags kind integers);
+      attributes = record { named = names; distinct = valid.distinct };
+      types = form_only 3 IsType xs (type_forms (only 3 xs) kind types);
+      integers = integers;
+      integers_are = packed_joined (only 4 xs) 4 integers drawn_small (only_of_plain 4 xs ∙ ap (only_plain 4) is ∙ integers_only f.id tags kind integers);
+      geometry = record { same_kind = type_last (only 3 xs) kind types; valid = valid.drawn; spelled = refl };
+    }
+
+-- the fields of a feature can be spelled
+bytes_fit : (k : ℕ) (d : List ℕ) (n : ℕ) → 1 ≤ k → k < 2 ^ 29 → length (short_field k (bytes d)) ≤ n → n < 2 ^ 64 → IsFit (plain k (bytes d))
+bytes_fit k d n low high within small =
+    let longer = bytes_longer k d in
+    record { first = low; last = high; content = omega arith }
+
+drawing_fit : (kind : Kind) (integers : List ℕ) → length (spelled (drawing_fields kind integers)) < 2 ^ 64 → AllByRecursion IsFit (drawing_fields kind integers)
+drawing_fit kind integers small =
+    let low = type_small kind in
+    let size = length-append (short_field 3 (varint (type_number kind))) (spelled (plain 4 (bytes (short_numbers integers)) ∷ [])) in
+    let last = ap length (append-nil (short_field 4 (bytes (short_numbers integers)))) in
+    let packed = bytes_fit 4 (short_numbers integers) (length (short_field 4 (bytes (short_numbers integers)))) (lit≤ tt) (lit< tt) (omega arith) (omega (arith, size, last)) in
+    (record { first = lit≤ tt; last = lit< tt; content = omega arith }, (packed, tt))
+
+tags_fit : (tags : List ℕ) → length (spelled (tags_fields tags)) < 2 ^ 64 → AllByRecursion IsFit (tags_fields tags)
+tags_fit [] small = tt
+tags_fit (t ∷ ts) small =
+    let last = ap length (append-nil (short_field 2 (bytes (short_numbers (t ∷ ts))))) in
+    (bytes_fit 2 (short_numbers (t ∷ ts)) (length (short_field 2 (bytes (short_numbers (t ∷ ts))))) (lit≤ tt) (lit< tt) (omega arith) (omega (arith, last)), tt)
+
+id_fit : (id : Option ℕ) → IfSome id (λ n. n < 2 ^ 64) → AllByRecursion IsFit (id_fields id)
+id_fit None h = tt
+id_fit (Some n) h = (record { first = lit≤ tt; last = lit< tt; content = h }, tt)
+
+spelled_parts : (fs gs : List Plain) (n : ℕ) → length (spelled (fs ++ gs)) < n → (length (spelled fs) < n) × (length (spelled gs) < n)
+spelled_parts fs gs n small =
+    let size = ap length (spelled-append fs gs) ∙ length-append (spelled fs) (spelled gs) in
+    (omega (arith, size), omega (arith, size))
+
+pub feature_fit : (tags : List ℕ) (f : Feature) → IfSome f.id (λ n. n < 2 ^ 64) → length (spelled (feature_fields tags f)) < 2 ^ 64 → AllByRecursion IsFit (feature_fields tags f)
+feature_fit tags f id small =
+    let outer = spelled_parts (id_fields f.id) (tags_fields tags ++ drawing_fields (kind_of f.geometry) (drawn f.geometry)) (2 ^ 64) small in
+    let inner = spelled_parts (tags_fields tags) (drawing_fields (kind_of f.geometry) (drawn f.geometry)) (2 ^ 64) outer.1 in
+    all_joined IsFit (id_fields f.id) _ (id_fit f.id id) (all_joined IsFit (tags_fields tags) _ (tags_fit tags inner.0) (drawing_fit (kind_of f.geometry) (drawn f.geometry) inner.1))
+
+pub canonical_feature : ((g : Geometry) → IsValid g → AllByRecursion (λ n. n < 2 ^ 32) (drawn g)) → (keys : List (List ℕ)) (values : List Value) (tags : List ℕ) (f : Feature) → ValidFeature f → Names keys values tags f.attributes → AllByRecursion (λ n. n < 2 ^ 32) tags → length (spelled (feature_fields tags f)) < 2 ^ 64 → IsFeatureOf (spelled (feature_fields tags f)) keys values f
+canonical_feature drawn_small keys values tags f valid names small fits =
+    let found = spelled_from 0 (feature_fields tags f) (feature_fit tags f valid.id fits) in
+    (found.0, found.1, feature_reads found.0 keys values tags f found.2 names small valid (drawn_small f.geometry valid.drawn))

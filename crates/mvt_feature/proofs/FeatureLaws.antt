@@ -1,0 +1,177 @@
+-- The laws of features, from those of tags and of geometries.
+use Rattle.std.proofs.Common.{◌≡◌, ℕ, ◌+◌, ◌^◌, ◌<◌, ◌==◌, ◌↔◌, true, not, nat_lt, nat_le, List, [], ◌∷◌, Some, None, refl, sym, ap, ◌∙◌, subst, arith}
+use Rattle.std.specs.List.{AllByRecursion}
+use Rattle.mvt_base.specs.Rules.{AreOrdered, IsLeast, when, told, first, each}
+use Rattle.mvt_base.proofs.OrderLemmas.{first_is_least, least_is_first, AreRowsFrom, rows_ordered, each_ordered, told_ordered, under_ordered, when_ordered}
+use Rattle.mvt_base.proofs.RuleLemmas.{first-under, option_or-nones}
+use Rattle.mvt_attrs.specs.declared.value.Value.{Value}
+use Rattle.mvt_attrs.specs.declared.value.Attribute.{Attribute}
+use Rattle.mvt_attrs.specs.Tags.{Resolved}
+use Rattle.mvt_attrs.specs.TagRules.{count_rules, pair_rules, tag_fault}
+use Rattle.mvt_geometry.specs.declared.shape.Kind.{Kind}
+use Rattle.mvt_geometry.specs.declared.shape.Geometry.{Geometry}
+use Rattle.mvt_geometry.specs.Drawing.{Draws}
+use Rattle.mvt_geometry.specs.Table.{geometry_rules, geometry_fault}
+use Rattle.mvt_wire.specs.Field.{Content, varint, fixed64, bytes, fixed32, Entry}
+use Rattle.mvt_wire.specs.Packed.{packed_rules}
+use Rattle.mvt_wire.specs.Split.{split}
+use Rattle.mvt_wire.proofs.PackedLemmas.{packed_ordered}
+use Rattle.mvt_wire.proofs.SplitLemmas.{split_only}
+use Rattle.mvt_feature.specs.declared.cause.Cause.TheVariants.{WrongType, NumberRange, GeomType}
+use Rattle.mvt_feature.specs.declared.feature.Feature.{Feature}
+use Rattle.mvt_feature.specs.Causes.{of_packed}
+use Rattle.mvt_feature.specs.Faults.{MessageFault, fault_at}
+use Rattle.mvt_feature.specs.Features.{IsType, Joined, number_in, IsFeature, IsFeatureOf}
+use Rattle.mvt_feature.specs.FeatureRules.{joined, type_rules, list_rules, form_rules, feature_field_rules, tag_told, geometry_told, kind_in, feature_table, feature_rules, feature_fault}
+use Rattle.mvt_feature.specs.Selection.{only, last_only, HaveForm}
+use Rattle.mvt_feature.specs.Values.{IsVarint}
+use Rattle.mvt_feature.specs.ValueRules.{varint_rules}
+use Rattle.mvt_feature.proofs.SelectionLemmas.{each_none}
+use Rattle.mvt_feature.proofs.TableLemmas.{none_mapped}
+use Rattle.mvt_feature.proofs.ValueLemmas.{form_varint, varint_ordered, if_ordered, rest_ordered, by_number}
+use Rattle.mvt_feature.proofs.FeatureLemmas.{feature_chain, fields_fault, feature_clean, feature_from, field_clean, form_type, form_only, all_joined_are, joined_small, joined_is, IsListOf}
+use Rattle.mvt_feature.proofs.WalkLemmas.{none_rest}
+
+-- what the levels below give
+abbrev pub TagsThere : Type 0
+TagsThere = (keys : List (List ℕ)) (values : List Value) (tags : List ℕ) → tag_fault keys values tags ≡ None → (attributes : List Attribute) × Resolved keys values tags attributes
+
+abbrev pub TagsClean : Type 0
+TagsClean = (keys : List (List ℕ)) (values : List Value) (tags : List ℕ) (attributes : List Attribute) → Resolved keys values tags attributes → tag_fault keys values tags ≡ None
+
+abbrev pub TagsOnce : Type 0
+TagsOnce = (keys : List (List ℕ)) (values : List Value) (tags : List ℕ) (attributes others : List Attribute) → Resolved keys values tags attributes → Resolved keys values tags others → attributes ≡ others
+
+abbrev pub DrawingThere : Type 0
+DrawingThere = (kind : Kind) (integers : List ℕ) → AllByRecursion (λ n. n < 2 ^ 32) integers → geometry_fault kind integers ≡ None → (g : Geometry) × Draws kind integers g
+
+abbrev pub DrawingClean : Type 0
+DrawingClean = (kind : Kind) (integers : List ℕ) (g : Geometry) → Draws kind integers g → geometry_fault kind integers ≡ None
+
+abbrev pub DrawingOnce : Type 0
+DrawingOnce = (kind : Kind) (integers : List ℕ) (g h : Geometry) → Draws kind integers g → Draws kind integers h → g ≡ h
+
+-- no fault: the payload is a feature
+pub feature_there : TagsThere → DrawingThere → (payload : List ℕ) (base : ℕ) (keys : List (List ℕ)) (values : List Value) → feature_fault payload base keys values ≡ None → (f : Feature) × IsFeatureOf payload keys values f
+feature_there tags_there drawing_there payload base keys values h =
+    let xs = (split payload).fields in
+    let parts = option_or-nones _ _ (sym (feature_chain payload base keys values) ∙ h) in
+    let later = option_or-nones _ _ parts.1 in
+    let last = option_or-nones _ _ later.1 in
+    let rest = none_rest base (split payload) parts.0 in
+    let attributes = tags_there keys values (joined 2 xs) (none_mapped tag_told _ last.0) in
+    let small = joined_small (only 4 xs) (joined 4 xs) (joined_is base 4 xs (λ c e. e) later.0) in
+    let geometry = drawing_there (kind_in xs) (joined 4 xs) small (none_mapped geometry_told _ last.1) in
+    let f : Feature = record { id = number_in (last_only 1 xs); attributes = attributes.0; geometry = geometry.0 } in
+    (f, feature_from payload base keys values f rest later.0 refl attributes.1 geometry.1)
+
+-- the grammar keeps the rules
+form_clean : (x : Entry) → (x.number ≡ 1 → IsVarint x.content) → (x.number ≡ 2 → IsListOf x) → (x.number ≡ 3 → IsType x.content) → (x.number ≡ 4 → IsListOf x) → first (form_rules x.number x.content) ≡ None
+form_clean x h1 h2 h3 h4 =
+    let n = x.number in
+    let c = x.content in
+    by_number n c _ _ 1 (λ e. first-under 0 (varint_rules c) ∙ form_varint c (h1 e)) (by_number n c _ _ 2 h2 (by_number n c _ _ 3 (λ e. first-under 0 (type_rules c) ∙ form_type c (h3 e)) (by_number n c _ _ 4 h4 refl)))
+
+forms_clean : (base : ℕ) (xs : List Entry) → HaveForm 1 IsVarint xs → HaveForm 2 (λ c. first (list_rules c) ≡ None) xs → HaveForm 3 IsType xs → HaveForm 4 (λ c. first (list_rules c) ≡ None) xs → AllByRecursion (λ (x : Entry). first (feature_field_rules base x) ≡ None) xs
+forms_clean base [] h1 h2 h3 h4 = tt
+forms_clean base (x ∷ xs) h1 h2 h3 h4 = (field_clean base x (form_clean x h1.0 h2.0 h3.0 h4.0), forms_clean base xs h1.1 h2.1 h3.1 h4.1)
+
+pub fields_clean : (base : ℕ) (xs : List Entry) (keys : List (List ℕ)) (values : List Value) (f : Feature) → IsFeature xs keys values f → first (each (λ _. feature_field_rules base) [] xs) ≡ None
+fields_clean base xs keys values f is =
+    let lists = λ (k : ℕ) (ns : List ℕ) (are : Joined (only k xs) ns). form_only k (λ c. first (list_rules c) ≡ None) xs (all_joined_are (only k xs) ns are).0 in
+    each_none (feature_field_rules base) [] xs (forms_clean base xs is.ids (lists 2 is.tags is.tags_are) is.types (lists 4 is.integers is.integers_are))
+
+pub feature_keeps : TagsClean → DrawingClean → (payload : List ℕ) (base : ℕ) (keys : List (List ℕ)) (values : List Value) (f : Feature) → IsFeatureOf payload keys values f → feature_fault payload base keys values ≡ None
+feature_keeps tags_clean drawing_clean payload base keys values f (xs, whole, is) =
+    let only_split = split_only 0 payload [] xs whole in
+    let clean : fields_fault payload base ≡ None = rw only_split.0 (fields_clean base xs keys values f is) in
+    let tags_are = (all_joined_are (only 2 xs) is.tags is.tags_are).1 in
+    let integers_are = (all_joined_are (only 4 xs) is.integers is.integers_are).1 in
+    feature_clean payload base keys values is.tags is.integers (kind_in xs) only_split.1 clean
+    (tags_are ∙ ap (joined 2) (sym only_split.0)) (integers_are ∙ ap (joined 4) (sym only_split.0)) (ap kind_in (sym only_split.0))
+    (tags_clean keys values is.tags f.attributes is.attributes) (drawing_clean (kind_in xs) is.integers f.geometry is.geometry)
+
+-- at most one feature
+same_features : (f g : Feature) → f.id ≡ g.id → f.attributes ≡ g.attributes → f.geometry ≡ g.geometry → f ≡ g
+same_features f g id attributes geometry = rw (← id, ← attributes, ← geometry) refl
+
+pub feature_same : TagsOnce → DrawingOnce → (xs : List Entry) (keys : List (List ℕ)) (values : List Value) (f g : Feature) → IsFeature xs keys values f → IsFeature xs keys values g → f ≡ g
+feature_same tags_once drawing_once xs keys values f g a b =
+    let tags : b.tags ≡ a.tags = (all_joined_are (only 2 xs) b.tags b.tags_are).1 ∙ sym (all_joined_are (only 2 xs) a.tags a.tags_are).1 in
+    let integers : b.integers ≡ a.integers = (all_joined_are (only 4 xs) b.integers b.integers_are).1 ∙ sym (all_joined_are (only 4 xs) a.integers a.integers_are).1 in
+    same_features f g (a.id ∙ sym b.id)
+    (tags_once keys values a.tags f.attributes g.attributes a.attributes (subst (λ t. Resolved keys values t g.attributes) tags b.attributes))
+    (drawing_once (kind_in xs) a.integers f.geometry g.geometry a.geometry (subst (λ i. Draws (kind_in xs) i g.geometry) integers b.geometry))
+
+pub feature_once : TagsOnce → DrawingOnce → (payload : List ℕ) (keys : List (List ℕ)) (values : List Value) (f g : Feature) → IsFeatureOf payload keys values f → IsFeatureOf payload keys values g → f ≡ g
+feature_once tags_once drawing_once payload keys values f g (xs, whole, is) (ys, also_whole, also_is) =
+    let a = split_only 0 payload [] xs whole in
+    let b = split_only 0 payload [] ys also_whole in
+    feature_same tags_once drawing_once xs keys values f g is (subst (λ zs. IsFeature zs keys values g) (sym b.0 ∙ a.0) also_is)
+
+-- the table is in order
+abbrev pub CountOrdered : Type 0
+CountOrdered = (tags : List ℕ) → AreOrdered (count_rules tags)
+
+abbrev pub PairsOrdered : Type 0
+PairsOrdered = (keys : List (List ℕ)) (values : List Value) (tags : List ℕ) → AreOrdered (pair_rules keys values tags)
+
+abbrev pub DrawingOrdered : Type 0
+DrawingOrdered = (kind : Kind) (integers : List ℕ) → AreOrdered (geometry_rules kind integers)
+
+type_ordered : (c : Content) → AreOrdered (type_rules c)
+type_ordered (varint n) = when_ordered (not (nat_le n 3)) GeomType
+type_ordered (bytes d) = when_ordered true WrongType
+type_ordered (fixed64 n) = when_ordered true WrongType
+type_ordered (fixed32 n) = when_ordered true WrongType
+
+list_ordered : (c : Content) → AreOrdered (list_rules c)
+list_ordered (varint n) = under_ordered 1 _ (under_ordered 0 _ (when_ordered (not (nat_lt n (2 ^ 32))) NumberRange))
+list_ordered (bytes d) = under_ordered 1 (told of_packed (packed_rules d)) (told_ordered of_packed (packed_rules d) (packed_ordered d))
+list_ordered (fixed64 n) = under_ordered 0 (when true WrongType) (when_ordered true WrongType)
+list_ordered (fixed32 n) = under_ordered 0 (when true WrongType) (when_ordered true WrongType)
+
+form_ordered : (n : ℕ) (c : Content) → AreOrdered (form_rules n c)
+form_ordered n c =
+    if_ordered (n == 1) _ _ (under_ordered 0 (varint_rules c) (varint_ordered c)) (if_ordered (n == 2) _ _ (list_ordered c) (if_ordered (n == 3) _ _ (under_ordered 0 (type_rules c) (type_ordered c)) (if_ordered (n == 4) _ _ (list_ordered c) tt)))
+
+field_ordered : (base : ℕ) (x : Entry) → AreOrdered (feature_field_rules base x)
+unfolding feature_field_rules
+field_ordered base x = told_ordered (fault_at (base + x.at)) (form_rules x.number x.content) (form_ordered x.number x.content)
+
+feature_rows : CountOrdered → PairsOrdered → DrawingOrdered → (payload : List ℕ) (base : ℕ) (keys : List (List ℕ)) (values : List Value) → AreRowsFrom 0 (feature_table payload base keys values)
+feature_rows count pairs drawing payload base keys values = (
+  omega arith,
+  (
+    rest_ordered base (split payload),
+    (
+      omega arith,
+      (
+        each_ordered (λ _. feature_field_rules base) [] (split payload).fields (λ seen x. field_ordered base x),
+        (
+          omega arith,
+          (
+            told_ordered tag_told _ (count (joined 2 (split payload).fields)),
+            (
+              omega arith,
+              (
+                told_ordered tag_told _ (pairs keys values (joined 2 (split payload).fields)),
+                (omega arith, (told_ordered geometry_told _ (drawing (kind_in (split payload).fields) (joined 4 (split payload).fields)), tt)),
+              ),
+            ),
+          ),
+        ),
+      ),
+    ),
+  ),
+)
+
+pub feature_ordered : CountOrdered → PairsOrdered → DrawingOrdered → (payload : List ℕ) (base : ℕ) (keys : List (List ℕ)) (values : List Value) → AreOrdered (feature_rules payload base keys values)
+unfolding feature_rules
+feature_ordered count pairs drawing payload base keys values = rows_ordered 0 (feature_table payload base keys values) (feature_rows count pairs drawing payload base keys values)
+
+pub feature_least : CountOrdered → PairsOrdered → DrawingOrdered → (payload : List ℕ) (base : ℕ) (keys : List (List ℕ)) (values : List Value) (fault : MessageFault) → (feature_fault payload base keys values ≡ Some fault) ↔ IsLeast (feature_rules payload base keys values) fault
+unfolding feature_fault
+feature_least count pairs drawing payload base keys values fault =
+    let ordered = feature_ordered count pairs drawing payload base keys values in
+    (λ h. first_is_least (feature_rules payload base keys values) fault ordered h, λ h. least_is_first (feature_rules payload base keys values) fault ordered h)

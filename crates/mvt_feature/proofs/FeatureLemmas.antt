@@ -1,0 +1,216 @@
+-- Features: the rules and the grammar say the same.
+use Rattle.std.proofs.Common.{◌≡◌, ℕ, ◌+◌, ◌^◌, ◌<◌, ◌==◌, Bool, true, false, not, nat_lt, nat_le, List, [], ◌∷◌, ◌++◌, Option, Some, None, refl, sym, ap, ap₂, ◌∙◌, subst, if◌then◌else◌}
+use Rattle.std.specs.List.{AllByRecursion, flat_map}
+use Rattle.std.specs.Option.{option_or, option_map}
+use Rattle.std.proofs.lemmas.Bool.{eqb-true, eq-eqb, ltb-true, lt-ltb, leb-true, le-leb, not-false}
+use Rattle.mvt_base.specs.Rules.{when, under, told, each, first}
+use Rattle.mvt_base.proofs.ListLemmas.{all_weaker, all_joined}
+use Rattle.mvt_base.proofs.RuleLemmas.{first-under, first-told, first-when_not, option_or-none, option_or-some}
+use Rattle.mvt_attrs.specs.declared.value.Value.{Value}
+use Rattle.mvt_attrs.specs.declared.resolving.TagError.{TagError}
+use Rattle.mvt_attrs.specs.declared.resolving.TagError.TheVariants as tag_errors
+use Rattle.mvt_attrs.specs.Tags.{Resolved}
+use Rattle.mvt_attrs.specs.TagRules.{count_rules, pair_rules, tag_fault, Tells as TellsTags}
+use Rattle.mvt_geometry.specs.declared.shape.Kind.{Kind}
+use Rattle.mvt_geometry.specs.declared.fault.GeometryError.{GeometryError}
+use Rattle.mvt_geometry.specs.declared.fault.GeometryError.TheVariants as geometry_errors
+use Rattle.mvt_geometry.specs.Drawing.{Draws}
+use Rattle.mvt_geometry.specs.Table.{geometry_rules, geometry_fault}
+use Rattle.mvt_geometry.specs.Tells.{Tells as TellsGeometry}
+use Rattle.mvt_wire.specs.Field.{Content, varint, fixed64, bytes, fixed32, Entry}
+use Rattle.mvt_wire.specs.Packed.{ArePacked, packed_rules}
+use Rattle.mvt_wire.specs.Split.{split}
+use Rattle.mvt_wire.proofs.PackedLemmas.{packed_clean, packed_are}
+use Rattle.mvt_feature.specs.declared.cause.Cause.TheVariants.{NumberRange, GeomType}
+use Rattle.mvt_feature.specs.declared.feature.Feature.{Feature}
+use Rattle.mvt_feature.specs.declared.message_error.MessageError.{MessageError}
+use Rattle.mvt_feature.specs.Causes.{of_packed}
+use Rattle.mvt_feature.specs.Faults.{MessageFault, fault_at, rest_rules, TellsMessage}
+use Rattle.mvt_feature.specs.Features.{IsType, AreNumbers, Joined, number_in, IsFeatureOf}
+use Rattle.mvt_feature.specs.FeatureRules.{numbers_of, joined, type_rules, list_rules, form_rules, feature_field_rules, tag_told, geometry_told, kind_in, feature_table, feature_rules, feature_fault}
+use Rattle.mvt_feature.specs.Selection.{only, last_only, HaveForm}
+use Rattle.mvt_feature.specs.Values.{IsVarint}
+use Rattle.mvt_feature.specs.ValueRules.{varint_rules}
+use Rattle.mvt_feature.specs.Inner.{of_tag_error, of_geometry_error}
+use Rattle.mvt_feature.proofs.SelectionLemmas.{none_each}
+use Rattle.mvt_feature.proofs.TableLemmas.{first-rows_all, none_mapped, when_none}
+use Rattle.mvt_feature.proofs.ValueLemmas.{tells_front, varint_form, whole_split}
+use Rattle.mvt_feature.proofs.KnownLemmas.{field_first}
+use Rattle.mvt_feature.proofs.WalkLemmas.{rest_none}
+
+-- the fault of a feature from its parts
+abbrev pub rest_fault : List ℕ → ℕ → Option MessageFault
+rest_fault payload base = first (rest_rules base (split payload))
+
+abbrev pub fields_fault : List ℕ → ℕ → Option MessageFault
+fields_fault payload base = first (each (λ _. feature_field_rules base) [] (split payload).fields)
+
+abbrev pub tags_fault : List ℕ → List (List ℕ) → List Value → Option MessageFault
+tags_fault payload keys values = option_map tag_told (tag_fault keys values (joined 2 (split payload).fields))
+
+abbrev pub drawing_fault : List ℕ → Option MessageFault
+drawing_fault payload = option_map geometry_told (geometry_fault (kind_in (split payload).fields) (joined 4 (split payload).fields))
+
+mapped_or : {F G : Type 0} → (f : F → G) (a b : Option F) (o : Option G) → option_or (option_map f a) (option_or (option_map f b) o) ≡ option_or (option_map f (option_or a b)) o
+mapped_or f None None o = refl
+mapped_or f None (Some x) o = refl
+mapped_or f (Some x) b o = refl
+
+or_right : {F : Type 0} → (o : Option F) → option_or o None ≡ o
+or_right None = refl
+or_right (Some x) = refl
+
+tag_parts : (keys : List (List ℕ)) (values : List Value) (tags : List ℕ) → tag_fault keys values tags ≡ option_or (first (count_rules tags)) (first (pair_rules keys values tags))
+unfolding tag_fault
+tag_parts keys values tags =
+    first-rows_all ((2, count_rules tags) ∷ ((3, pair_rules keys values tags) ∷ [])) ∙ ap (λ o. option_or (first (count_rules tags)) o) (or_right (first (pair_rules keys values tags)))
+
+geometry_first : (kind : Kind) (integers : List ℕ) → first (geometry_rules kind integers) ≡ geometry_fault kind integers
+unfolding geometry_fault
+geometry_first kind integers = refl
+
+tags_chain : (keys : List (List ℕ)) (values : List Value) (tags : List ℕ) (o : Option MessageFault) → option_or (first (told tag_told (count_rules tags))) (option_or (first (told tag_told (pair_rules keys values tags))) o) ≡ option_or (option_map tag_told (tag_fault keys values tags)) o
+tags_chain keys values tags o =
+    ap₂ (λ a b. option_or a (option_or b o)) (first-told tag_told (count_rules tags)) (first-told tag_told (pair_rules keys values tags)) ∙ mapped_or tag_told (first (count_rules tags)) (first (pair_rules keys values tags)) o ∙ ap (λ a. option_or (option_map tag_told a) o) (sym (tag_parts keys values tags))
+
+drawing_chain : (kind : Kind) (integers : List ℕ) → option_or (first (told geometry_told (geometry_rules kind integers))) None ≡ option_map geometry_told (geometry_fault kind integers)
+drawing_chain kind integers =
+    or_right _ ∙ first-told geometry_told (geometry_rules kind integers) ∙ ap (option_map geometry_told) (geometry_first kind integers)
+
+pub feature_chain : (payload : List ℕ) (base : ℕ) (keys : List (List ℕ)) (values : List Value) → feature_fault payload base keys values ≡ option_or (rest_fault payload base) (option_or (fields_fault payload base) (option_or (tags_fault payload keys values) (drawing_fault payload)))
+unfolding feature_fault feature_rules
+feature_chain payload base keys values =
+    first-rows_all (feature_table payload base keys values) ∙ ap (λ o. option_or (rest_fault payload base) (option_or (fields_fault payload base) o)) (tags_chain keys values (joined 2 (split payload).fields) _ ∙ ap (λ o. option_or (tags_fault payload keys values) o) (drawing_chain (kind_in (split payload).fields) (joined 4 (split payload).fields)))
+
+-- the exits of `read_feature_in`
+pub known_told : (payload : List ℕ) (base : ℕ) (keys : List (List ℕ)) (values : List Value) (e : MessageError) → TellsMessage e (option_or (rest_fault payload base) (fields_fault payload base)) → TellsMessage e (feature_fault payload base keys values)
+known_told payload base keys values e h =
+    subst (λ o. TellsMessage e o) (sym (feature_chain payload base keys values)) (tells_front e (rest_fault payload base) (fields_fault payload base) (option_or (tags_fault payload keys values) (drawing_fault payload)) h)
+
+behind_fields : (payload : List ℕ) (base : ℕ) (keys : List (List ℕ)) (values : List Value) → (split payload).rest ≡ [] → fields_fault payload base ≡ None → feature_fault payload base keys values ≡ option_or (tags_fault payload keys values) (drawing_fault payload)
+behind_fields payload base keys values rest clean =
+    feature_chain payload base keys values ∙ option_or-none _ _ (rest_none base (split payload) rest) ∙ option_or-none _ _ clean
+
+pub tags_told : (payload : List ℕ) (base : ℕ) (keys : List (List ℕ)) (values : List Value) (tags : List ℕ) (e : TagError) → (split payload).rest ≡ [] → fields_fault payload base ≡ None → tags ≡ joined 2 (split payload).fields → TellsTags e (tag_fault keys values tags) → TellsMessage (of_tag_error e) (feature_fault payload base keys values)
+tags_told payload base keys values tags tag_errors.Memory rest clean is h = tt
+tags_told payload base keys values tags (tag_errors.Fault index cause) rest clean is h =
+    behind_fields payload base keys values rest clean ∙ option_or-some _ _ _ (ap (option_map tag_told) (ap (tag_fault keys values) (sym is) ∙ h))
+
+pub drawing_told : (payload : List ℕ) (base : ℕ) (keys : List (List ℕ)) (values : List Value) (tags integers : List ℕ) (kind : Kind) (e : GeometryError) → (split payload).rest ≡ [] → fields_fault payload base ≡ None → tags ≡ joined 2 (split payload).fields → integers ≡ joined 4 (split payload).fields → kind ≡ kind_in (split payload).fields → tag_fault keys values tags ≡ None → TellsGeometry e (geometry_fault kind integers) → TellsMessage (of_geometry_error e) (feature_fault payload base keys values)
+drawing_told payload base keys values tags integers kind geometry_errors.Memory rest clean tags_are is kind_is resolved h = tt
+drawing_told payload base keys values tags integers kind (geometry_errors.Fault index cause) rest clean tags_are is kind_is resolved h =
+    behind_fields payload base keys values rest clean ∙ option_or-none _ _ (ap (option_map tag_told) (ap (tag_fault keys values) (sym tags_are) ∙ resolved)) ∙ ap (option_map geometry_told) (ap₂ geometry_fault (sym kind_is) (sym is) ∙ h)
+
+pub feature_clean : (payload : List ℕ) (base : ℕ) (keys : List (List ℕ)) (values : List Value) (tags integers : List ℕ) (kind : Kind) → (split payload).rest ≡ [] → fields_fault payload base ≡ None → tags ≡ joined 2 (split payload).fields → integers ≡ joined 4 (split payload).fields → kind ≡ kind_in (split payload).fields → tag_fault keys values tags ≡ None → geometry_fault kind integers ≡ None → feature_fault payload base keys values ≡ None
+feature_clean payload base keys values tags integers kind rest clean tags_are is kind_is resolved drawn =
+    behind_fields payload base keys values rest clean ∙ option_or-none _ _ (ap (option_map tag_told) (ap (tag_fault keys values) (sym tags_are) ∙ resolved)) ∙ ap (option_map geometry_told) (ap₂ geometry_fault (sym kind_is) (sym is) ∙ drawn)
+
+-- the form of a field and its rules
+clean_field : (base : ℕ) (x : Entry) → first (feature_field_rules base x) ≡ None → first (form_rules x.number x.content) ≡ None
+clean_field base x h = none_mapped (fault_at (base + x.at)) (first (form_rules x.number x.content)) (sym (field_first base x) ∙ h)
+
+pub field_clean : (base : ℕ) (x : Entry) → first (form_rules x.number x.content) ≡ None → first (feature_field_rules base x) ≡ None
+field_clean base x h = field_first base x ∙ ap (option_map (fault_at (base + x.at))) h
+
+-- the rules of the fields of one number
+of_number : (base k : ℕ) (P : Content → Type 0) → ((c : Content) → first (form_rules k c) ≡ None → P c) → (xs : List Entry) → first (each (λ _. feature_field_rules base) [] xs) ≡ None → HaveForm k P xs
+of_number base k P form xs clean =
+    all_weaker (λ (x : Entry). first (feature_field_rules base x) ≡ None) (λ (x : Entry). x.number ≡ k → P x.content) (λ x none is. form x.content (subst (λ n. first (form_rules n x.content) ≡ None) is (clean_field base x none))) xs (none_each (feature_field_rules base) [] xs clean)
+
+type_form : (c : Content) → first (type_rules c) ≡ None → IsType c
+type_form (varint n) h = leb-true n 3 (not-false (nat_le n 3) (when_none (not (nat_le n 3)) GeomType h))
+type_form (bytes d) h = cc
+type_form (fixed64 n) h = cc
+type_form (fixed32 n) h = cc
+
+pub form_type : (c : Content) → IsType c → first (type_rules c) ≡ None
+form_type (varint n) h = first-when_not (not (nat_le n 3)) GeomType (ap not (le-leb n 3 h))
+form_type (bytes d) h = absurd h
+form_type (fixed64 n) h = absurd h
+form_type (fixed32 n) h = absurd h
+
+list_numbers : (c : Content) → first (list_rules c) ≡ None → AreNumbers c (numbers_of c)
+list_numbers (varint n) h =
+    let none = sym (first-under 0 (when (not (nat_lt n (2 ^ 32))) NumberRange)) ∙ sym (first-under 1 (under 0 (when (not (nat_lt n (2 ^ 32))) NumberRange))) ∙ h in
+    (refl, ltb-true n (2 ^ 32) (not-false (nat_lt n (2 ^ 32)) (when_none (not (nat_lt n (2 ^ 32))) NumberRange none)))
+list_numbers (bytes d) h = packed_clean d (none_mapped of_packed (first (packed_rules d)) (sym (first-told of_packed (packed_rules d)) ∙ sym (first-under 1 (told of_packed (packed_rules d))) ∙ h))
+list_numbers (fixed64 n) h = cc
+list_numbers (fixed32 n) h = cc
+
+numbers_list : (c : Content) (ns : List ℕ) → AreNumbers c ns → (first (list_rules c) ≡ None) × (ns ≡ numbers_of c)
+numbers_list (varint n) ns h =
+    (first-under 1 (under 0 (when (not (nat_lt n (2 ^ 32))) NumberRange)) ∙ first-under 0 (when (not (nat_lt n (2 ^ 32))) NumberRange) ∙ first-when_not (not (nat_lt n (2 ^ 32))) NumberRange (ap not (lt-ltb n (2 ^ 32) h.1)), h.0)
+numbers_list (bytes d) ns h =
+    let are = packed_are d ns h in
+    (first-under 1 (told of_packed (packed_rules d)) ∙ first-told of_packed (packed_rules d) ∙ ap (option_map of_packed) are.0, sym are.1)
+numbers_list (fixed64 n) ns h = absurd h
+numbers_list (fixed32 n) ns h = absurd h
+
+-- joined numbers
+abbrev pub IsListOf : Entry → Type 0
+IsListOf x = first (list_rules x.content) ≡ None
+
+only_form : (k : ℕ) (P : Content → Type 0) (xs : List Entry) → HaveForm k P xs → AllByRecursion (λ (x : Entry). P x.content) (only k xs)
+only_form k P [] h = tt
+only_form k P (x ∷ xs) h = by_test (x.number == k) refl (only_form k P xs h.1)
+  where
+    by_test : (b : Bool) → (x.number == k) ≡ b → AllByRecursion (λ (y : Entry). P y.content) (only k xs) → AllByRecursion (λ (y : Entry). P y.content) (if b then x ∷ only k xs else only k xs)
+    by_test true e more = (h.0 (eqb-true x.number k e), more)
+    by_test false e more = more
+
+pub form_only : (k : ℕ) (P : Content → Type 0) (xs : List Entry) → AllByRecursion (λ (x : Entry). P x.content) (only k xs) → HaveForm k P xs
+form_only k P [] h = tt
+form_only k P (x ∷ xs) h = by_test (x.number == k) refl h (form_only k P xs)
+  where
+    by_test : (b : Bool) → (x.number == k) ≡ b → AllByRecursion (λ (y : Entry). P y.content) (if b then x ∷ only k xs else only k xs) → (AllByRecursion (λ (y : Entry). P y.content) (only k xs) → HaveForm k P xs) → HaveForm k P (x ∷ xs)
+    by_test true e h more = (λ _. h.0, more h.1)
+    by_test false e h more = (λ is. cc (eq-eqb x.number k is), more h)
+
+joined_all : (xs : List Entry) → AllByRecursion IsListOf xs → Joined xs (flat_map (λ (x : Entry). numbers_of x.content) xs)
+joined_all [] h = refl
+joined_all (x ∷ xs) h = (numbers_of x.content, flat_map (λ (y : Entry). numbers_of y.content) xs, refl, list_numbers x.content h.0, joined_all xs h.1)
+
+pub all_joined_are : (xs : List Entry) (ns : List ℕ) → Joined xs ns → AllByRecursion IsListOf xs × (ns ≡ flat_map (λ (x : Entry). numbers_of x.content) xs)
+all_joined_are [] ns h = (tt, h)
+all_joined_are (x ∷ xs) ns (front, back, is, numbers, more) =
+    let here = numbers_list x.content front numbers in
+    let later = all_joined_are xs back more in
+    ((here.0, later.0), is ∙ ap₂ (λ f b. f ++ b) here.1 later.1)
+
+packed_small : (d ns : List ℕ) → ArePacked d ns → AllByRecursion (λ n. n < 2 ^ 32) ns
+packed_small d [] h = tt
+packed_small d (n ∷ ns) (front, back, is, spells, small, more) = (small, packed_small back ns more)
+
+numbers_small : (c : Content) (ns : List ℕ) → AreNumbers c ns → AllByRecursion (λ n. n < 2 ^ 32) ns
+numbers_small (varint n) ns h = let one : AllByRecursion (λ m. m < 2 ^ 32) (n ∷ []) = (h.1, tt) in subst (AllByRecursion (λ m. m < 2 ^ 32)) (sym h.0) one
+numbers_small (bytes d) ns h = packed_small d ns h
+numbers_small (fixed64 n) ns h = absurd h
+numbers_small (fixed32 n) ns h = absurd h
+
+pub joined_small : (xs : List Entry) (ns : List ℕ) → Joined xs ns → AllByRecursion (λ n. n < 2 ^ 32) ns
+joined_small [] ns h = subst (AllByRecursion (λ m. m < 2 ^ 32)) (sym h) tt
+joined_small (x ∷ xs) ns (front, back, is, numbers, more) =
+    subst (AllByRecursion (λ m. m < 2 ^ 32)) (sym is) (all_joined (λ m. m < 2 ^ 32) front back (numbers_small x.content front numbers) (joined_small xs back more))
+
+pub joined_is : (base k : ℕ) (xs : List Entry) → ((c : Content) → first (form_rules k c) ≡ None → first (list_rules c) ≡ None) → first (each (λ _. feature_field_rules base) [] xs) ≡ None → Joined (only k xs) (joined k xs)
+joined_is base k xs form clean =
+    joined_all (only k xs) (only_form k (λ c. first (list_rules c) ≡ None) xs (of_number base k (λ c. first (list_rules c) ≡ None) form xs clean))
+
+-- what was read is the feature
+pub feature_from : (payload : List ℕ) (base : ℕ) (keys : List (List ℕ)) (values : List Value) (f : Feature) → (split payload).rest ≡ [] → fields_fault payload base ≡ None → f.id ≡ number_in (last_only 1 (split payload).fields) → Resolved keys values (joined 2 (split payload).fields) f.attributes → Draws (kind_in (split payload).fields) (joined 4 (split payload).fields) f.geometry → IsFeatureOf payload keys values f
+feature_from payload base keys values f rest clean id resolved draws =
+    let xs = (split payload).fields in (
+      xs,
+      whole_split payload rest,
+      record {
+        ids = of_number base 1 IsVarint (λ c h. varint_form c (sym (first-under 0 (varint_rules c)) ∙ h)) xs clean;
+        id = id;
+        tags = joined 2 xs;
+        tags_are = joined_is base 2 xs (λ c h. h) clean;
+        attributes = resolved;
+        types = of_number base 3 IsType (λ c h. type_form c (sym (first-under 0 (type_rules c)) ∙ h)) xs clean;
+        integers = joined 4 xs;
+        integers_are = joined_is base 4 xs (λ c h. h) clean;
+        geometry = draws;
+      },
+    )

@@ -1,0 +1,76 @@
+-- What is known of a feature, field by field.
+use Rattle.std.proofs.Common.{◌≡◌, ℕ, ◌+◌, ◌==◌, Bool, true, false, List, [], ◌∷◌, ◌++◌, Option, Some, None, Result, Ok, Err, refl, sym, ap, ◌∙◌, append_assoc, append-nil, if◌then◌else◌}
+use Rattle.std.specs.Prelude.{OnOk, IfOk, IfErr}
+use Rattle.std.specs.List.{flat_map}
+use Rattle.std.specs.Option.{option_map}
+use Rattle.std.proofs.lemmas.Grind.{flat_map-append}
+use Rattle.mvt_base.specs.Rules.{each, first}
+use Rattle.mvt_base.proofs.RuleLemmas.{each_more, each_stops, first-told}
+use Rattle.mvt_wire.specs.Field.{Entry}
+use Rattle.mvt_feature.specs.declared.known.Known.{Known}
+use Rattle.mvt_feature.specs.declared.message_error.MessageError.{MessageError}
+use Rattle.mvt_feature.specs.declared.message_error.MessageError.TheVariants.{Memory, Fault}
+use Rattle.mvt_feature.specs.Faults.{MessageFault, fault_at, TellsMessage}
+use Rattle.mvt_feature.specs.Features.{number_of, number_in, kind_of_type}
+use Rattle.mvt_feature.specs.FeatureRules.{numbers_of, joined, kind_in, form_rules, feature_field_rules}
+use Rattle.mvt_feature.specs.Selection.{only, last_only}
+use Rattle.mvt_feature.specs.Inner.{id_after, kind_after, numbers_at, IsKnown, IsKnownSoFar}
+use Rattle.mvt_feature.proofs.SelectionLemmas.{only-append, last_only-more}
+
+joined_more : (k : ℕ) (xs : List Entry) (x : Entry) → joined k (xs ++ x ∷ []) ≡ joined k xs ++ numbers_at k x.number x.content
+joined_more k xs x =
+    ap (flat_map (λ (y : Entry). numbers_of y.content)) (only-append k xs (x ∷ [])) ∙ flat_map-append (λ (y : Entry). numbers_of y.content) (only k xs) (only k (x ∷ [])) ∙ ap (λ l. joined k xs ++ l) (by_test (x.number == k))
+  where
+    by_test : (b : Bool) → flat_map (λ (y : Entry). numbers_of y.content) (if b then x ∷ [] else []) ≡ (if b then numbers_of x.content else [])
+    by_test true = append-nil (numbers_of x.content)
+    by_test false = refl
+
+number_more : (k : ℕ) (xs : List Entry) (x : Entry) → number_in (last_only k (xs ++ x ∷ [])) ≡ (if x.number == k then number_of x.content else number_in (last_only k xs))
+number_more k xs x = ap number_in (last_only-more k xs x) ∙ by_test (x.number == k)
+  where
+    by_test : (b : Bool) → number_in (if b then Some x else last_only k xs) ≡ (if b then number_of x.content else number_in (last_only k xs))
+    by_test true = refl
+    by_test false = refl
+
+kind_more : (xs : List Entry) (x : Entry) → kind_in (xs ++ x ∷ []) ≡ kind_after (kind_in xs) x.number x.content
+kind_more xs x = ap kind_of_type (number_more 3 xs x) ∙ by_test (x.number == 3)
+  where
+    by_test : (b : Bool) → kind_of_type (if b then number_of x.content else number_in (last_only 3 xs)) ≡ (if b then kind_of_type (number_of x.content) else kind_in xs)
+    by_test true = refl
+    by_test false = refl
+
+known_more : (done : List Entry) (x : Entry) (old new : Known) (tags integers new_tags new_integers : List ℕ) → IsKnown done old tags integers
+    → new.id ≡ id_after old.id x.number x.content → new.kind ≡ kind_after old.kind x.number x.content
+    → new_tags ≡ tags ++ numbers_at 2 x.number x.content → new_integers ≡ integers ++ numbers_at 4 x.number x.content
+    → IsKnown (done ++ x ∷ []) new new_tags new_integers
+known_more done x old new tags integers new_tags new_integers known id kind tags_are integers_are = record {
+  id = id ∙ ap (λ o. id_after o x.number x.content) known.id ∙ sym (number_more 1 done x);
+  kind = kind ∙ ap (λ k. kind_after k x.number x.content) known.kind ∙ sym (kind_more done x);
+  tags_are = tags_are ∙ ap (λ l. l ++ numbers_at 2 x.number x.content) known.tags_are ∙ sym (joined_more 2 done x);
+  integers_are = integers_are ∙ ap (λ l. l ++ numbers_at 4 x.number x.content) known.integers_are ∙ sym (joined_more 4 done x);
+}
+
+pub field_first : (base : ℕ) (x : Entry) → first (feature_field_rules base x) ≡ option_map (fault_at (base + x.at)) (first (form_rules x.number x.content))
+unfolding feature_field_rules
+field_first base x = first-told (fault_at (base + x.at)) (form_rules x.number x.content)
+
+-- a fault stays before the rules of later fields
+tells_first : (e : MessageError) (o : Option MessageFault) (p : Option MessageFault) → ((f : MessageFault) → o ≡ Some f → p ≡ Some f) → TellsMessage e o → TellsMessage e p
+tells_first Memory o p keep h = tt
+tells_first (Fault feature at cause) o p keep h = keep _ h
+
+one_more : (base : ℕ) (done : List Entry) (x : Entry) (more : List Entry) (f : MessageFault) → first (each (λ _. feature_field_rules base) [] done) ≡ None → option_map (fault_at (base + x.at)) (first (form_rules x.number x.content)) ≡ Some f → first (each (λ _. feature_field_rules base) [] ((done ++ x ∷ []) ++ more)) ≡ Some f
+one_more base done x more f clean broken =
+    rw append_assoc (each_stops (λ _. feature_field_rules base) done x more f clean (field_first base x ∙ broken))
+
+-- the step of the walk
+pub known_with : (base : ℕ) (done : List Entry) (x : Entry) (old : Known) (tags integers new_tags new_integers : List ℕ) (r : Result Known MessageError) → IsKnownSoFar base done (Ok old) tags integers
+    → OnOk r (first (form_rules x.number x.content) ≡ None)
+    → IfOk r (λ (k : Known). k.id ≡ id_after old.id x.number x.content) → IfOk r (λ (k : Known). k.kind ≡ kind_after old.kind x.number x.content)
+    → OnOk r (new_tags ≡ tags ++ numbers_at 2 x.number x.content) → OnOk r (new_integers ≡ integers ++ numbers_at 4 x.number x.content)
+    → IfErr r (λ e. TellsMessage e (option_map (fault_at (base + x.at)) (first (form_rules x.number x.content))))
+    → IsKnownSoFar base (done ++ x ∷ []) r new_tags new_integers
+known_with base done x old tags integers new_tags new_integers (Ok new) so_far clean id kind tags_are integers_are told_here =
+    (each_more (λ _. feature_field_rules base) done x so_far.0 ∙ field_first base x ∙ ap (option_map (fault_at (base + x.at))) clean, known_more done x old new tags integers new_tags new_integers so_far.1 id kind tags_are integers_are)
+known_with base done x old tags integers new_tags new_integers (Err e) so_far clean id kind tags_are integers_are told_here =
+    λ more. tells_first e (option_map (fault_at (base + x.at)) (first (form_rules x.number x.content))) (first (each (λ _. feature_field_rules base) [] ((done ++ x ∷ []) ++ more))) (λ f broken. one_more base done x more f so_far.0 broken) told_here

@@ -1,0 +1,13 @@
+pub mod TextLemmas
+pub mod WalkLemmas
+pub mod KindLemmas
+pub mod TableLemmas
+pub mod SelectionLemmas
+pub mod ValueLemmas
+pub mod KnownLemmas
+pub mod FeatureLemmas
+pub mod FeatureLaws
+pub mod WritingLemmas
+pub mod CanonicalLemmas
+pub mod ValidLemmas
+pub mod RangeLemmas

@@ -1,0 +1,468 @@
+-- Values: the rules and the grammar say the same.
+use Rattle.std.proofs.Common.{◌≡◌, ℕ, ◌+◌, ◌/◌, ◌%◌, ◌≤◌, ◌==◌, ◌↔◌, inl, inr, Bool, true, false, not, nat_le, ℤ, pos, negsuc, List, [], ◌∷◌, Option, Some, None, refl, sym, ap, ◌∙◌, subst, arith, rules, if◌then◌else◌}
+use Rattle.std.specs.Prelude.{IsUtf8}
+use Rattle.std.specs.Int.{w64, cast_signed}
+use Rattle.std.specs.List.{AllByRecursion, list_all}
+use Rattle.std.specs.Option.{option_or}
+use Rattle.std.specs.Str.{is_utf8}
+use Rattle.std.proofs.lemmas.Bool.{eqb-true, eq-eqb, ne_eqb, cases_eq, and_parts, and_from, leb-true, le-leb, not-false, both_ways}
+use Rattle.std.proofs.lemmas.Str.{IsUtf8-from_is_utf8}
+use Rattle.mvt_base.specs.Rules.{Rules, AreOrdered, IsLeast, when, each, first}
+use Rattle.mvt_base.proofs.RuleLemmas.{first-when, first-when_not, first-told, option_or-none, option_or-nones, option_or-right}
+use Rattle.mvt_base.proofs.ListLemmas.{all_weaker}
+use Rattle.mvt_attrs.specs.declared.value.Value.{Value}
+use Rattle.mvt_attrs.specs.declared.value.Value.TheVariants.{Text, Float, Double, Int, Uint, Sint, Bool as Truth}
+use Rattle.mvt_wire.specs.Field.{Content, varint, fixed64, bytes, fixed32, Entry}
+use Rattle.mvt_wire.specs.Split.{Parts, Split, Whole, split}
+use Rattle.mvt_wire.proofs.SplitLemmas.{split_is, split_only}
+use Rattle.mvt_wire.specs.Zigzag.{zig}
+use Rattle.mvt_feature.specs.declared.cause.Cause.{Cause}
+use Rattle.mvt_feature.specs.declared.value.Meaning.{Meaning}
+use Rattle.mvt_feature.specs.declared.value.Kinds.TheVariants.{Nothing, One, Several}
+use Rattle.mvt_feature.specs.Inner.{value_of, AreKinds}
+use Rattle.mvt_base.proofs.OrderLemmas.{first_is_least, least_is_first, AreRowsFrom, rows_ordered, each_ordered, told_ordered, when_ordered}
+use Rattle.mvt_feature.proofs.WalkLemmas.{rest_none, none_rest}
+use Rattle.mvt_feature.specs.declared.cause.Cause.TheVariants.{ValueKind, WrongType, NotUtf8}
+use Rattle.mvt_feature.specs.Faults.{MessageFault, fault_at, rest_rules, rest_rules_at, TellsMessage}
+use Rattle.mvt_feature.specs.declared.message_error.MessageError.{MessageError}
+use Rattle.mvt_feature.specs.declared.message_error.MessageError.TheVariants.{Memory, Fault}
+use Rattle.mvt_feature.specs.Selection.{only, last_or, last_only, HaveForm}
+use Rattle.mvt_feature.specs.Values.{IsVarint, IsFixed32, IsFixed64, IsText, IsKind, Means, IsValue, IsValueOf}
+use Rattle.mvt_feature.specs.ValueRules.{text_rules, varint_rules, fixed32_rules, fixed64_rules, kind_rules, is_kind, kinds, are_one_kind, value_field_rules, value_table, value_rules, value_fault}
+use Rattle.mvt_feature.proofs.SelectionLemmas.{none_each, each_none, only_number, only_all, last_of_all, last_there}
+use Rattle.mvt_feature.proofs.TextLemmas.{text_clean}
+use Rattle.mvt_feature.proofs.TableLemmas.{firsts, first-rows_all, none_mapped, when_none}
+
+-- the fault of a value from its parts
+pub value_chain : (payload : List ℕ) (base own : ℕ) → value_fault payload base own ≡ firsts (value_table payload base own)
+unfolding value_fault value_rules
+value_chain payload base own = first-rows_all (value_table payload base own)
+
+front_some : {F : Type 0} → (a b d : Option F) (f : F) → option_or a b ≡ Some f → option_or a (option_or b d) ≡ Some f
+front_some None None d f h = cc
+front_some None (Some x) d f h = h
+front_some (Some x) b d f h = h
+
+-- a fault of the first rows
+pub tells_front : (e : MessageError) (a b d : Option MessageFault) → TellsMessage e (option_or a b) → TellsMessage e (option_or a (option_or b d))
+tells_front Memory a b d h = tt
+tells_front (Fault feature at cause) a b d h = front_some a b d _ h
+
+pub tells_value : (payload : List ℕ) (base own : ℕ) (e : MessageError) → TellsMessage e (option_or (first (rest_rules base (split payload))) (first (each (λ _. value_field_rules base) [] (split payload).fields))) → TellsMessage e (value_fault payload base own)
+tells_value payload base own e h =
+    subst (λ o. TellsMessage e o) (sym (value_chain payload base own)) (tells_front e (first (rest_rules base (split payload))) (first (each (λ _. value_field_rules base) [] (split payload).fields)) (option_or (first (when (not (are_one_kind (kinds (split payload).fields))) (fault_at own ValueKind))) None) h)
+
+pub value_kind_told : (payload : List ℕ) (base own : ℕ) → first (rest_rules base (split payload)) ≡ None → first (each (λ _. value_field_rules base) [] (split payload).fields) ≡ None → are_one_kind (kinds (split payload).fields) ≡ false → value_fault payload base own ≡ Some (fault_at own ValueKind)
+value_kind_told payload base own rest clean several =
+    value_chain payload base own ∙ option_or-none _ _ rest ∙ option_or-none _ _ clean ∙ option_or-right _ ∙ first-when _ _ (ap not several)
+
+pub value_clean : (payload : List ℕ) (base own : ℕ) → first (rest_rules base (split payload)) ≡ None → first (each (λ _. value_field_rules base) [] (split payload).fields) ≡ None → are_one_kind (kinds (split payload).fields) ≡ true → value_fault payload base own ≡ None
+value_clean payload base own rest clean one =
+    value_chain payload base own ∙ option_or-none _ _ rest ∙ option_or-none _ _ clean ∙ option_or-right _ ∙ first-when_not _ _ (ap not one)
+
+-- a fact for each of the seven numbers
+for_seven : (P : ℕ → Type 0) → P 1 → P 2 → P 3 → P 4 → P 5 → P 6 → P 7 → (n : ℕ) → 1 ≤ n → n ≤ 7 → P n
+for_seven P p1 p2 p3 p4 p5 p6 p7 n low high =
+    elim (cases_eq n 1) [
+      | inl e ↦ subst P (sym e) p1
+      | inr d1 ↦
+          elim (cases_eq n 2) [
+            | inl e ↦ subst P (sym e) p2
+            | inr d2 ↦
+                elim (cases_eq n 3) [
+                  | inl e ↦ subst P (sym e) p3
+                  | inr d3 ↦
+                      elim (cases_eq n 4) [
+                        | inl e ↦ subst P (sym e) p4
+                        | inr d4 ↦
+                            elim (cases_eq n 5) [
+                              | inl e ↦ subst P (sym e) p5
+                              | inr d5 ↦
+                                  elim (cases_eq n 6) [
+                                    | inl e ↦ subst P (sym e) p6
+                                    | inr d6 ↦
+                                        elim (cases_eq n 7) [ inl e ↦ subst P (sym e) p7 | inr d7 ↦ absurd (omega arith) ]
+                                  ]
+                            ]
+                      ]
+                ]
+          ]
+    ]
+
+-- a field's rules and its form
+clean_rules : (base : ℕ) (x : Entry) → first (value_field_rules base x) ≡ None → first (kind_rules x.number x.content) ≡ None
+unfolding value_field_rules
+clean_rules base x h = none_mapped (fault_at (base + x.at)) (first (kind_rules x.number x.content)) (sym (first-told (fault_at (base + x.at)) (kind_rules x.number x.content)) ∙ h)
+
+pub rules_clean : (base : ℕ) (x : Entry) → first (kind_rules x.number x.content) ≡ None → first (value_field_rules base x) ≡ None
+unfolding value_field_rules
+rules_clean base x h = rw (first-told (fault_at (base + x.at)) (kind_rules x.number x.content), h) refl
+
+text_form : (c : Content) → first (text_rules c) ≡ None → IsText c
+text_form (bytes d) h = elim_utf8 (is_utf8 d) refl h
+  where
+    elim_utf8 : (b : Bool) → is_utf8 d ≡ b → first (when (not b) NotUtf8) ≡ None → IsUtf8 d
+    elim_utf8 true e h = IsUtf8-from_is_utf8 d e
+    elim_utf8 false e h = cc
+text_form (varint n) h = cc
+text_form (fixed64 n) h = cc
+text_form (fixed32 n) h = cc
+
+form_text : (c : Content) → IsText c → first (text_rules c) ≡ None
+form_text (bytes d) h = text_clean d h
+form_text (varint n) h = absurd h
+form_text (fixed64 n) h = absurd h
+form_text (fixed32 n) h = absurd h
+
+pub varint_form : (c : Content) → first (varint_rules c) ≡ None → IsVarint c
+varint_form (varint n) h = tt
+varint_form (bytes d) h = cc
+varint_form (fixed64 n) h = cc
+varint_form (fixed32 n) h = cc
+
+pub form_varint : (c : Content) → IsVarint c → first (varint_rules c) ≡ None
+form_varint (varint n) h = refl
+form_varint (bytes d) h = absurd h
+form_varint (fixed64 n) h = absurd h
+form_varint (fixed32 n) h = absurd h
+
+fixed32_form : (c : Content) → first (fixed32_rules c) ≡ None → IsFixed32 c
+fixed32_form (fixed32 n) h = tt
+fixed32_form (varint n) h = cc
+fixed32_form (bytes d) h = cc
+fixed32_form (fixed64 n) h = cc
+
+form_fixed32 : (c : Content) → IsFixed32 c → first (fixed32_rules c) ≡ None
+form_fixed32 (fixed32 n) h = refl
+form_fixed32 (varint n) h = absurd h
+form_fixed32 (bytes d) h = absurd h
+form_fixed32 (fixed64 n) h = absurd h
+
+fixed64_form : (c : Content) → first (fixed64_rules c) ≡ None → IsFixed64 c
+fixed64_form (fixed64 n) h = tt
+fixed64_form (varint n) h = cc
+fixed64_form (bytes d) h = cc
+fixed64_form (fixed32 n) h = cc
+
+form_fixed64 : (c : Content) → IsFixed64 c → first (fixed64_rules c) ≡ None
+form_fixed64 (fixed64 n) h = refl
+form_fixed64 (varint n) h = absurd h
+form_fixed64 (bytes d) h = absurd h
+form_fixed64 (fixed32 n) h = absurd h
+
+-- fields without a fault have the form of a kind
+have_form : (base k : ℕ) (Form : Content → Type 0) → ((c : Content) → first (kind_rules k c) ≡ None → Form c) → (xs : List Entry) → first (each (λ _. value_field_rules base) [] xs) ≡ None → HaveForm k Form xs
+have_form base k Form form xs clean =
+    all_weaker (λ (x : Entry). first (value_field_rules base x) ≡ None) (λ (x : Entry). x.number ≡ k → Form x.content) (λ x none is. form x.content (subst (λ n. first (kind_rules n x.content) ≡ None) is (clean_rules base x none))) xs (none_each (value_field_rules base) [] xs clean)
+
+kind_test : (x : Entry) → IsKind x.number → is_kind x ≡ true
+kind_test x h = and_from _ _ (le-leb 1 x.number h.0) (le-leb x.number 7 h.1)
+
+test_kind : (x : Entry) → is_kind x ≡ true → IsKind x.number
+test_kind x h = let parts = and_parts (nat_le 1 x.number) (nat_le x.number 7) h in (leb-true 1 x.number parts.0, leb-true x.number 7 parts.1)
+
+-- the fields of the kinds are those of the only kind
+abbrev IsOnly : ℕ → Entry → Type 0
+IsOnly kind x = IsKind x.number → x.number ≡ kind
+
+only_step : (kind : ℕ) (a b : Bool) (x : Entry) (xs ys : List Entry) → a ≡ b → xs ≡ ys → (if a then x ∷ xs else xs) ≡ (if b then x ∷ ys else ys)
+only_step kind true true x xs ys e f = ap (λ l. x ∷ l) f
+only_step kind false false x xs ys e f = f
+only_step kind true false x xs ys e f = cc
+only_step kind false true x xs ys e f = cc
+
+same_test : (kind : ℕ) (x : Entry) → IsKind kind → IsOnly kind x → (x.number == kind) ≡ is_kind x
+same_test kind x is one = elim (cases_eq x.number kind) [
+  | inl e ↦ eq-eqb x.number kind e ∙ sym (kind_test x (subst IsKind (sym e) is))
+  | inr d ↦ ne_eqb x.number kind d ∙ sym (refused (is_kind x) (λ t. d (one (test_kind x t))))
+]
+  where
+    refused : (b : Bool) → (b ≡ true → ⊥) → b ≡ false
+    refused true h = absurd (h refl)
+    refused false h = refl
+
+only_kinds : (kind : ℕ) (xs : List Entry) → IsKind kind → AllByRecursion (IsOnly kind) xs → only kind xs ≡ kinds xs
+only_kinds kind [] is one = refl
+only_kinds kind (x ∷ xs) is one = only_step kind (x.number == kind) (is_kind x) x (only kind xs) (kinds xs) (same_test kind x is one.0) (only_kinds kind xs is one.1)
+
+-- each field of a kind is of the number of all kinds
+kinds_one : (kind : ℕ) (xs : List Entry) → AllByRecursion (λ (x : Entry). x.number ≡ kind) (kinds xs) → AllByRecursion (IsOnly kind) xs
+kinds_one kind [] h = tt
+kinds_one kind (x ∷ xs) h = by_test (is_kind x) refl h (kinds_one kind xs)
+  where
+    by_test : (b : Bool) → is_kind x ≡ b → AllByRecursion (λ (y : Entry). y.number ≡ kind) (if b then x ∷ kinds xs else kinds xs) → (AllByRecursion (λ (y : Entry). y.number ≡ kind) (kinds xs) → AllByRecursion (IsOnly kind) xs) → AllByRecursion (IsOnly kind) (x ∷ xs)
+    by_test true e h more = (λ _. h.0, more h.1)
+    by_test false e h more = (λ is. absurd (both_ways (is_kind x) e (kind_test x is)), more h)
+
+-- the number of fields of one kind is that of the last
+numbered : (k : ℕ) (xs : List Entry) → list_all (λ (y : Entry). y.number == k) xs ≡ true → AllByRecursion (λ (y : Entry). y.number ≡ k) xs
+numbered k [] h = tt
+numbered k (x ∷ xs) h = let parts = and_parts (x.number == k) (list_all (λ (y : Entry). y.number == k) xs) h in (eqb-true x.number k parts.0, numbered k xs parts.1)
+
+all_numbered : (xs : List Entry) (last : Entry) → are_one_kind xs ≡ true → last_or None xs ≡ Some last → AllByRecursion (λ (y : Entry). y.number ≡ last.number) xs
+all_numbered [] last one is = cc
+all_numbered (x ∷ xs) last one is =
+    let all : AllByRecursion (λ (y : Entry). y.number ≡ x.number) (x ∷ xs) = (refl, numbered x.number xs one) in
+    let of_last : last.number ≡ x.number = last_of_all (λ (y : Entry). y.number ≡ x.number) (x ∷ xs) last all is in
+    all_weaker (λ (y : Entry). y.number ≡ x.number) (λ (y : Entry). y.number ≡ last.number) (λ y e. e ∙ sym of_last) (x ∷ xs) all
+
+means_kind : (n : ℕ) (c : Content) (v : Value) → Means n c v → IsKind n
+means_kind n (bytes d) (Text t) h = let e : n ≡ 1 = h.0 in (omega arith, omega arith)
+means_kind n (fixed32 m) (Float b) h = let e : n ≡ 2 = h.0 in (omega arith, omega arith)
+means_kind n (fixed64 m) (Double b) h = let e : n ≡ 3 = h.0 in (omega arith, omega arith)
+means_kind n (varint m) (Int z) h = let e : n ≡ 4 = h.0 in (omega arith, omega arith)
+means_kind n (varint m) (Uint b) h = let e : n ≡ 5 = h.0 in (omega arith, omega arith)
+means_kind n (varint m) (Sint z) h = let e : n ≡ 6 = h.0 in (omega arith, omega arith)
+means_kind n (varint m) (Truth b) h = let e : n ≡ 7 = h.0 in (omega arith, omega arith)
+means_kind n c v h = absurd (search rules)
+
+-- fields of one kind without a fault are the value that the last of them says
+pub value_from : (base : ℕ) (xs : List Entry) (last : Entry) (v : Value) → first (each (λ _. value_field_rules base) [] xs) ≡ None → are_one_kind (kinds xs) ≡ true → last_or None (kinds xs) ≡ Some last → Means last.number last.content v → IsValue xs v
+value_from base xs last v clean one is means =
+    let same = all_numbered (kinds xs) last one is in
+    let only_one = kinds_one last.number xs same in
+    let kind = means_kind last.number last.content v means in
+    record {
+      texts = have_form base 1 IsText text_form xs clean;
+      floats = have_form base 2 IsFixed32 fixed32_form xs clean;
+      doubles = have_form base 3 IsFixed64 fixed64_form xs clean;
+      ints = have_form base 4 IsVarint varint_form xs clean;
+      uints = have_form base 5 IsVarint varint_form xs clean;
+      sints = have_form base 6 IsVarint varint_form xs clean;
+      truths = have_form base 7 IsVarint varint_form xs clean;
+      kind = last.number;
+      one = only_one;
+      last = last;
+      is_last = ap (last_or None) (only_kinds last.number xs kind only_one) ∙ is;
+      means = means;
+    }
+
+-- a payload that splits wholly into these fields
+pub whole_split : (payload : List ℕ) → (split payload).rest ≡ [] → Whole payload (split payload).fields
+whole_split payload rest = subst (λ r. Split payload (split payload).fields r) rest (split_is 0 payload)
+
+-- the answers of `read_value`
+pub kinds_value : (payload : List ℕ) (base number : ℕ) (m : Meaning) → (split payload).rest ≡ [] → first (each (λ _. value_field_rules base) [] (split payload).fields) ≡ None → AreKinds (split payload).fields (One number m) → IsValueOf payload (value_of m)
+kinds_value payload base number m rest clean (one, (last, (is, (named, means)))) =
+    ((split payload).fields, whole_split payload rest, value_from base (split payload).fields last (value_of m) clean one is (subst (λ n. Means n last.content (value_of m)) (sym named) means))
+
+pub kinds_clean : (payload : List ℕ) (base own number : ℕ) (m : Meaning) → (split payload).rest ≡ [] → first (each (λ _. value_field_rules base) [] (split payload).fields) ≡ None → AreKinds (split payload).fields (One number m) → value_fault payload base own ≡ None
+kinds_clean payload base own number m rest clean are = value_clean payload base own (rest_none base (split payload) rest) clean are.0
+
+pub nothing_told : (payload : List ℕ) (base own : ℕ) → (split payload).rest ≡ [] → first (each (λ _. value_field_rules base) [] (split payload).fields) ≡ None → AreKinds (split payload).fields Nothing → value_fault payload base own ≡ Some (fault_at own ValueKind)
+nothing_told payload base own rest clean are = value_kind_told payload base own (rest_none base (split payload) rest) clean (ap are_one_kind are)
+
+pub several_told : (payload : List ℕ) (base own : ℕ) → (split payload).rest ≡ [] → first (each (λ _. value_field_rules base) [] (split payload).fields) ≡ None → AreKinds (split payload).fields Several → value_fault payload base own ≡ Some (fault_at own ValueKind)
+several_told payload base own rest clean are = value_kind_told payload base own (rest_none base (split payload) rest) clean are.1
+
+-- a field of a kind, of the right form, says a value
+text_means : (c : Content) → IsText c → (v : Value) × Means 1 c v
+text_means (bytes d) h = (Text d, (refl, refl))
+text_means (varint n) h = absurd h
+text_means (fixed64 n) h = absurd h
+text_means (fixed32 n) h = absurd h
+
+float_means : (c : Content) → IsFixed32 c → (v : Value) × Means 2 c v
+float_means (fixed32 n) h = (Float n, (refl, refl))
+float_means (bytes d) h = absurd h
+float_means (varint n) h = absurd h
+float_means (fixed64 n) h = absurd h
+
+double_means : (c : Content) → IsFixed64 c → (v : Value) × Means 3 c v
+double_means (fixed64 n) h = (Double n, (refl, refl))
+double_means (bytes d) h = absurd h
+double_means (varint n) h = absurd h
+double_means (fixed32 n) h = absurd h
+
+varint_means : (k : ℕ) (c : Content) (make : ℕ → Value) → ((n : ℕ) → Means k (varint n) (make n)) → IsVarint c → (v : Value) × Means k c v
+varint_means k (varint n) make means h = (make n, means n)
+varint_means k (bytes d) make means h = absurd h
+varint_means k (fixed64 n) make means h = absurd h
+varint_means k (fixed32 n) make means h = absurd h
+
+-- the number that has this zigzag code
+unzig : ℕ → ℤ
+unzig n = if n % 2 == 0 then pos (n / 2) else negsuc (n / 2)
+
+zig-unzig : (n : ℕ) → zig (unzig n) ≡ n
+unfolding unzig
+zig-unzig n = elim (cases_eq (n % 2) 0) [
+  | inl e ↦ rw (eq-eqb (n % 2) 0 e) (omega arith)
+  | inr d ↦ rw (ne_eqb (n % 2) 0 d) (omega arith)
+]
+
+means_there : (n : ℕ) → IsKind n → (c : Content) → first (kind_rules n c) ≡ None → (v : Value) × Means n c v
+means_there n is = for_seven (λ k. (c : Content) → first (kind_rules k c) ≡ None → (v : Value) × Means k c v)
+    (λ c h. text_means c (text_form c h))
+    (λ c h. float_means c (fixed32_form c h))
+    (λ c h. double_means c (fixed64_form c h))
+    (λ c h. varint_means 4 c (λ n. Int (cast_signed w64 n)) (λ n. (refl, refl)) (varint_form c h))
+    (λ c h. varint_means 5 c (λ n. Uint n) (λ n. (refl, refl)) (varint_form c h))
+    (λ c h. varint_means 6 c (λ n. Sint (unzig n)) (λ n. (refl, zig-unzig n)) (varint_form c h))
+    (λ c h. varint_means 7 c (λ n. Truth (not (n == 0))) (λ n. (refl, refl)) (varint_form c h))
+    n is.0 is.1
+
+filter_kinds : (xs : List Entry) → AllByRecursion (λ (x : Entry). IsKind x.number) (kinds xs)
+filter_kinds [] = tt
+filter_kinds (x ∷ xs) = by_test (is_kind x) refl (filter_kinds xs)
+  where
+    by_test : (b : Bool) → is_kind x ≡ b → AllByRecursion (λ (y : Entry). IsKind y.number) (kinds xs) → AllByRecursion (λ (y : Entry). IsKind y.number) (if b then x ∷ kinds xs else kinds xs)
+    by_test true e more = (test_kind x e, more)
+    by_test false e more = more
+
+filter_all : (P : Entry → Type 0) (xs : List Entry) → AllByRecursion P xs → AllByRecursion P (kinds xs)
+filter_all P [] h = tt
+filter_all P (x ∷ xs) h = by_test (is_kind x) (filter_all P xs h.1)
+  where
+    by_test : (b : Bool) → AllByRecursion P (kinds xs) → AllByRecursion P (if b then x ∷ kinds xs else kinds xs)
+    by_test true more = (h.0, more)
+    by_test false more = more
+
+value_of_last : (base : ℕ) (xs : List Entry) (last : Entry) → first (each (λ _. value_field_rules base) [] xs) ≡ None → are_one_kind (kinds xs) ≡ true → last_or None (kinds xs) ≡ Some last → (v : Value) × IsValue xs v
+value_of_last base xs last clean one is =
+    let kind = last_of_all (λ (x : Entry). IsKind x.number) (kinds xs) last (filter_kinds xs) is in
+    let rule = last_of_all (λ (x : Entry). first (value_field_rules base x) ≡ None) (kinds xs) last (filter_all (λ (x : Entry). first (value_field_rules base x) ≡ None) xs (none_each (value_field_rules base) [] xs clean)) is in
+    let found = means_there last.number kind last.content (clean_rules base last rule) in
+    (found.0, value_from base xs last found.0 clean one is found.1)
+
+last_kind : (xs : List Entry) → are_one_kind xs ≡ true → (x : Entry) × (last_or None xs ≡ Some x)
+last_kind [] h = cc
+last_kind (x ∷ xs) h = last_there x xs
+
+-- no fault: the payload is a value
+pub value_there : (payload : List ℕ) (base own : ℕ) → value_fault payload base own ≡ None → (v : Value) × IsValueOf payload v
+value_there payload base own h =
+    let parts = option_or-nones _ _ (sym (value_chain payload base own) ∙ h) in
+    let later = option_or-nones _ _ parts.1 in
+    let one = when_none (not (are_one_kind (kinds (split payload).fields))) (fault_at own ValueKind) (option_or-nones _ _ later.1).0 in
+    let kind = not-false (are_one_kind (kinds (split payload).fields)) one in
+    let last = last_kind (kinds (split payload).fields) kind in
+    let found = value_of_last base (split payload).fields last.0 later.0 kind last.1 in
+    (found.0, ((split payload).fields, whole_split payload (none_rest base (split payload) parts.0), found.1))
+
+-- the grammar keeps the rules
+pub by_number : (n : ℕ) (c : Content) (a b : Rules Cause) (k : ℕ) → (n ≡ k → first a ≡ None) → first b ≡ None → first (if n == k then a else b) ≡ None
+by_number n c a b k h g = by_test (n == k) refl
+  where
+    by_test : (t : Bool) → (n == k) ≡ t → first (if t then a else b) ≡ None
+    by_test true e = h (eqb-true n k e)
+    by_test false e = g
+
+form_rules : (x : Entry) → (x.number ≡ 1 → IsText x.content) → (x.number ≡ 2 → IsFixed32 x.content) → (x.number ≡ 3 → IsFixed64 x.content) → (x.number ≡ 4 → IsVarint x.content) → (x.number ≡ 5 → IsVarint x.content) → (x.number ≡ 6 → IsVarint x.content) → (x.number ≡ 7 → IsVarint x.content) → first (kind_rules x.number x.content) ≡ None
+form_rules x h1 h2 h3 h4 h5 h6 h7 =
+    let n = x.number in
+    let c = x.content in
+    by_number n c _ _ 1 (λ e. form_text c (h1 e)) (by_number n c _ _ 2 (λ e. form_fixed32 c (h2 e)) (by_number n c _ _ 3 (λ e. form_fixed64 c (h3 e)) (by_number n c _ _ 4 (λ e. form_varint c (h4 e)) (by_number n c _ _ 5 (λ e. form_varint c (h5 e)) (by_number n c _ _ 6 (λ e. form_varint c (h6 e)) (by_number n c _ _ 7 (λ e. form_varint c (h7 e)) refl))))))
+
+forms_rules : (base : ℕ) (xs : List Entry) → HaveForm 1 IsText xs → HaveForm 2 IsFixed32 xs → HaveForm 3 IsFixed64 xs → HaveForm 4 IsVarint xs → HaveForm 5 IsVarint xs → HaveForm 6 IsVarint xs → HaveForm 7 IsVarint xs → AllByRecursion (λ (x : Entry). first (value_field_rules base x) ≡ None) xs
+forms_rules base [] h1 h2 h3 h4 h5 h6 h7 = tt
+forms_rules base (x ∷ xs) h1 h2 h3 h4 h5 h6 h7 =
+    (rules_clean base x (form_rules x h1.0 h2.0 h3.0 h4.0 h5.0 h6.0 h7.0), forms_rules base xs h1.1 h2.1 h3.1 h4.1 h5.1 h6.1 h7.1)
+
+all_one : (k : ℕ) (xs : List Entry) (last : Entry) → AllByRecursion (λ (y : Entry). y.number ≡ k) xs → last_or None xs ≡ Some last → are_one_kind xs ≡ true
+all_one k [] last h is = cc
+all_one k (x ∷ xs) last h is = go xs h.1
+  where
+    go : (ys : List Entry) → AllByRecursion (λ (y : Entry). y.number ≡ k) ys → list_all (λ (y : Entry). y.number == x.number) ys ≡ true
+    go [] more = refl
+    go (y ∷ ys) more = and_from _ _ (eq-eqb y.number x.number (more.0 ∙ sym h.0)) (go ys more.1)
+
+pub value_keeps : (base own : ℕ) (payload : List ℕ) (v : Value) → IsValueOf payload v → value_fault payload base own ≡ None
+value_keeps base own payload v (xs, whole, is) =
+    let only = split_only 0 payload [] xs whole in
+    let clean = each_none (value_field_rules base) [] xs (forms_rules base xs is.texts is.floats is.doubles is.ints is.uints is.sints is.truths) in
+    let kind = means_kind is.kind is.last.content v is.means in
+    let numbers = subst (λ ys. AllByRecursion (λ (y : Entry). y.number ≡ is.kind) ys) (only_kinds is.kind xs kind is.one) (only_number is.kind xs) in
+    let one = all_one is.kind (kinds xs) is.last numbers (ap (last_or None) (sym (only_kinds is.kind xs kind is.one)) ∙ is.is_last) in
+    value_clean payload base own (rest_none base (split payload) only.1) (rw only.0 clean) (rw only.0 one)
+
+-- at most one value
+zig-same : (y z : ℤ) → zig y ≡ zig z → y ≡ z
+zig-same (pos m) (pos n) h = ap pos (omega arith)
+zig-same (pos m) (negsuc n) h = absurd (omega arith)
+zig-same (negsuc m) (pos n) h = absurd (omega arith)
+zig-same (negsuc m) (negsuc n) h = ap negsuc (omega arith)
+
+means_same : (n : ℕ) (c : Content) (v w : Value) → Means n c v → Means n c w → v ≡ w
+means_same n (bytes d) (Text s) (Text t) h g = ap Text (h.1 ∙ sym g.1)
+means_same n (fixed32 m) (Float a) (Float b) h g = ap Float (h.1 ∙ sym g.1)
+means_same n (fixed64 m) (Double a) (Double b) h g = ap Double (h.1 ∙ sym g.1)
+means_same n (varint m) (Int y) (Int z) h g = ap Int (h.1 ∙ sym g.1)
+means_same n (varint m) (Uint a) (Uint b) h g = ap Uint (h.1 ∙ sym g.1)
+means_same n (varint m) (Sint y) (Sint z) h g = ap Sint (zig-same y z (h.1 ∙ sym g.1))
+means_same n (varint m) (Truth a) (Truth b) h g = ap Truth (h.1 ∙ sym g.1)
+means_same n c v w h g = absurd (search rules)
+
+pub value_same : (xs : List Entry) (v w : Value) → IsValue xs v → IsValue xs w → v ≡ w
+value_same xs v w a b =
+    let a_kind = means_kind a.kind a.last.content v a.means in
+    let named : a.last.number ≡ a.kind = last_of_all (λ (x : Entry). x.number ≡ a.kind) (only a.kind xs) a.last (only_number a.kind xs) a.is_last in
+    let other : IsKind a.last.number → a.last.number ≡ b.kind = last_of_all (λ (x : Entry). IsKind x.number → x.number ≡ b.kind) (only a.kind xs) a.last (only_all (λ (x : Entry). IsKind x.number → x.number ≡ b.kind) a.kind xs b.one) a.is_last in
+    let same : a.kind ≡ b.kind = sym named ∙ other (subst IsKind (sym named) a_kind) in
+    let lasts : Some a.last ≡ Some b.last = sym a.is_last ∙ ap (λ k. last_only k xs) same ∙ b.is_last in
+    let last : a.last ≡ b.last = cc in
+    means_same b.kind b.last.content v w (subst (λ (x : Entry). Means b.kind x.content v) last (subst (λ k. Means k a.last.content v) same a.means)) b.means
+
+pub value_once : (payload : List ℕ) (v w : Value) → IsValueOf payload v → IsValueOf payload w → v ≡ w
+value_once payload v w (xs, whole, is) (ys, also_whole, also_is) =
+    let a = split_only 0 payload [] xs whole in
+    let b = split_only 0 payload [] ys also_whole in
+    value_same xs v w is (subst (λ zs. IsValue zs w) (sym b.0 ∙ a.0) also_is)
+
+-- the table is in order
+text_ordered : (c : Content) → AreOrdered (text_rules c)
+text_ordered (bytes d) = when_ordered (not (is_utf8 d)) NotUtf8
+text_ordered (varint n) = when_ordered true WrongType
+text_ordered (fixed64 n) = when_ordered true WrongType
+text_ordered (fixed32 n) = when_ordered true WrongType
+
+pub varint_ordered : (c : Content) → AreOrdered (varint_rules c)
+varint_ordered (varint n) = tt
+varint_ordered (bytes d) = when_ordered true WrongType
+varint_ordered (fixed64 n) = when_ordered true WrongType
+varint_ordered (fixed32 n) = when_ordered true WrongType
+
+fixed32_ordered : (c : Content) → AreOrdered (fixed32_rules c)
+fixed32_ordered (fixed32 n) = tt
+fixed32_ordered (bytes d) = when_ordered true WrongType
+fixed32_ordered (fixed64 n) = when_ordered true WrongType
+fixed32_ordered (varint n) = when_ordered true WrongType
+
+fixed64_ordered : (c : Content) → AreOrdered (fixed64_rules c)
+fixed64_ordered (fixed64 n) = tt
+fixed64_ordered (bytes d) = when_ordered true WrongType
+fixed64_ordered (varint n) = when_ordered true WrongType
+fixed64_ordered (fixed32 n) = when_ordered true WrongType
+
+pub if_ordered : {F : Type 0} → (b : Bool) (r s : Rules F) → AreOrdered r → AreOrdered s → AreOrdered (if b then r else s)
+if_ordered true r s h g = h
+if_ordered false r s h g = g
+
+kind_ordered : (n : ℕ) (c : Content) → AreOrdered (kind_rules n c)
+kind_ordered n c =
+    if_ordered (n == 1) _ _ (text_ordered c) (if_ordered (n == 2) _ _ (fixed32_ordered c) (if_ordered (n == 3) _ _ (fixed64_ordered c) (if_ordered (n == 4) _ _ (varint_ordered c) (if_ordered (n == 5) _ _ (varint_ordered c) (if_ordered (n == 6) _ _ (varint_ordered c) (if_ordered (n == 7) _ _ (varint_ordered c) tt))))))
+
+field_ordered : (base : ℕ) (x : Entry) → AreOrdered (value_field_rules base x)
+unfolding value_field_rules
+field_ordered base x = told_ordered (fault_at (base + x.at)) (kind_rules x.number x.content) (kind_ordered x.number x.content)
+
+pub rest_ordered : (base : ℕ) (parts : Parts) → AreOrdered (rest_rules base parts)
+unfolding rest_rules
+rest_ordered base parts = of_rest parts.rest
+  where
+    of_rest : (r : List ℕ) → AreOrdered (rest_rules_at (base + parts.rest_at) r)
+    of_rest [] = tt
+    of_rest (b ∷ bs) = (tt, tt)
+
+value_rows : (payload : List ℕ) (base own : ℕ) → AreRowsFrom 0 (value_table payload base own)
+value_rows payload base own =
+    (omega arith, (rest_ordered base (split payload), (omega arith, (each_ordered (λ _. value_field_rules base) [] (split payload).fields (λ seen x. field_ordered base x), (omega arith, (when_ordered _ (fault_at own ValueKind), tt))))))
+
+pub value_ordered : (payload : List ℕ) (base own : ℕ) → AreOrdered (value_rules payload base own)
+unfolding value_rules
+value_ordered payload base own = rows_ordered 0 (value_table payload base own) (value_rows payload base own)
+
+pub value_least : (payload : List ℕ) (base own : ℕ) (fault : MessageFault) → (value_fault payload base own ≡ Some fault) ↔ IsLeast (value_rules payload base own) fault
+unfolding value_fault
+value_least payload base own fault =
+    (λ h. first_is_least (value_rules payload base own) fault (value_ordered payload base own) h, λ h. least_is_first (value_rules payload base own) fault (value_ordered payload base own) h)

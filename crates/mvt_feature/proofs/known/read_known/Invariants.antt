@@ -1,0 +1,9 @@
+use Rattle.std.proofs.Common.{List}
+use Rattle.mvt_wire.specs.Field.{Entry}
+use Rattle.mvt_feature.specs.Inner.{IsKnownSoFar}
+use Rattle.mvt_feature.proofs.WalkLemmas.{Walk}
+use Rattle.mvt_feature.proofs.known.read_known.Given as goal
+
+abbrev pub invariant-loop-field : goal.invariant-loop-field
+invariant-loop-field l =
+    (done : List Entry) × Walk l.payload l.field-iterator done × IsKnownSoFar l.base done l.known l.room.tags.items l.room.integers.items

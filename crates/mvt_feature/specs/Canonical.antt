@@ -1,0 +1,57 @@
+-- The fields that are written for a value and for a feature (Mapbox Vector Tile Specification 2.1, 4.1),
+-- in their order. They are spelled in the shortest way, by `spelled`.
+use Rattle.std.specs.Prelude.{ℕ, List, [], ◌∷◌, ◌++◌, Option, Some, None, if◌then◌else◌}
+use Rattle.std.specs.Int.{w64, cast_unsigned}
+use Rattle.mvt_attrs.specs.declared.value.Value.{Value}
+use Rattle.mvt_attrs.specs.declared.value.Value.TheVariants.{Text, Float, Double, Int, Uint, Sint, Bool as Truth}
+use Rattle.mvt_geometry.specs.declared.shape.Kind.{Kind}
+use Rattle.mvt_geometry.specs.declared.shape.Kind.TheVariants as kinds
+use Rattle.mvt_geometry.specs.Drawing.{drawn}
+use Rattle.mvt_geometry.specs.Shape.{kind_of}
+use Rattle.mvt_wire.specs.Field.{Content, varint, fixed64, bytes, fixed32}
+use Rattle.mvt_wire.specs.Spelling.{Plain, short_numbers}
+use Rattle.mvt_wire.specs.Zigzag.{zig}
+use Rattle.mvt_feature.specs.declared.feature.Feature.{Feature}
+
+-- a field of this number and content
+abbrev pub plain : ℕ → Content → Plain
+plain number content = record { number = number; content = content }
+
+-- the one field of a value
+abbrev pub value_field : Value → Plain
+value_field (Text text) = plain 1 (bytes text)
+value_field (Float bits) = plain 2 (fixed32 bits)
+value_field (Double bits) = plain 3 (fixed64 bits)
+value_field (Int z) = plain 4 (varint (cast_unsigned w64 z))
+value_field (Uint n) = plain 5 (varint n)
+value_field (Sint z) = plain 6 (varint (zig z))
+value_field (Truth b) = plain 7 (varint (if b then 1 else 0))
+
+abbrev pub value_fields : Value → List Plain
+value_fields value = value_field value ∷ []
+
+-- the id, where there is one
+abbrev pub id_fields : Option ℕ → List Plain
+id_fields None = []
+id_fields (Some n) = plain 1 (varint n) ∷ []
+
+-- the tags, packed in one piece, where there are some
+abbrev pub tags_fields : List ℕ → List Plain
+tags_fields [] = []
+tags_fields (tag ∷ tags) = plain 2 (bytes (short_numbers (tag ∷ tags))) ∷ []
+
+abbrev pub type_number : Kind → ℕ
+type_number kinds.Unknown = 0
+type_number kinds.Point = 1
+type_number kinds.LineString = 2
+type_number kinds.Polygon = 3
+
+-- the type, and the integers packed in one piece
+abbrev pub drawing_fields : Kind → List ℕ → List Plain
+drawing_fields kind integers =
+    plain 3 (varint (type_number kind)) ∷ (plain 4 (bytes (short_numbers integers)) ∷ [])
+
+-- the fields of a feature with these tags
+abbrev pub feature_fields : List ℕ → Feature → List Plain
+feature_fields tags f =
+    id_fields f.id ++ (tags_fields tags ++ drawing_fields (kind_of f.geometry) (drawn f.geometry))

@@ -1,0 +1,78 @@
+-- The rules that bind a feature's payload (Mapbox Vector Tile Specification 2.1, 4.2 to 4.4), as a table.
+use Rattle.std.specs.Prelude.{ℕ, ◌+◌, ◌^◌, true, not, ◌==◌, nat_lt, nat_le, List, [], ◌∷◌, Option, if◌then◌else◌}
+use Rattle.std.specs.List.{flat_map}
+use Rattle.mvt_base.specs.Rules.{Rules, when, under, told, rows, each, first}
+use Rattle.mvt_attrs.specs.declared.value.Value.{Value}
+use Rattle.mvt_attrs.specs.declared.resolving.TagCause.{TagCause}
+use Rattle.mvt_attrs.specs.TagRules.{count_rules, pair_rules}
+use Rattle.mvt_geometry.specs.declared.shape.Kind.{Kind}
+use Rattle.mvt_geometry.specs.Table.{IndexedCause, geometry_rules}
+use Rattle.mvt_wire.specs.Field.{Content, varint, bytes, Entry}
+use Rattle.mvt_wire.specs.Packed.{packed, packed_rules}
+use Rattle.mvt_wire.specs.Split.{split}
+use Rattle.mvt_feature.specs.declared.cause.Cause.{Cause}
+use Rattle.mvt_feature.specs.declared.cause.Cause.TheVariants.{WrongType, NumberRange, GeomType}
+use Rattle.mvt_feature.specs.Causes.{of_packed, of_tag, of_geometry}
+use Rattle.mvt_feature.specs.Faults.{MessageFault, fault_at, rest_rules}
+use Rattle.mvt_feature.specs.Features.{number_in, kind_of_type}
+use Rattle.mvt_feature.specs.Selection.{only, last_only}
+use Rattle.mvt_feature.specs.ValueRules.{varint_rules}
+
+-- the numbers of a field, and of fields, joined
+abbrev pub numbers_of : Content → List ℕ
+numbers_of (varint n) = n ∷ []
+numbers_of (bytes d) = (packed d).numbers
+numbers_of _ = []
+
+abbrev pub joined : ℕ → List Entry → List ℕ
+joined k fields = flat_map (λ (x : Entry). numbers_of x.content) (only k fields)
+
+-- a type: its form, and then its number
+abbrev pub type_rules : Content → Rules Cause
+type_rules (varint n) = when (not (nat_le n 3)) GeomType
+type_rules _ = when true WrongType
+
+-- a list: its form, and then each of its numbers
+abbrev pub list_rules : Content → Rules Cause
+list_rules (varint n) = under 1 (under 0 (when (not (nat_lt n (2 ^ 32))) NumberRange))
+list_rules (bytes d) = under 1 (told of_packed (packed_rules d))
+list_rules _ = under 0 (when true WrongType)
+
+-- a field of this number
+abbrev pub form_rules : ℕ → Content → Rules Cause
+form_rules number content =
+    if number == 1 then under 0 (varint_rules content)
+    else if number == 2 then list_rules content
+    else if number == 3 then under 0 (type_rules content)
+    else if number == 4 then list_rules content
+    else []
+
+unfoldable pub feature_field_rules : ℕ → Entry → Rules MessageFault
+feature_field_rules base x = told (fault_at (base + x.at)) (form_rules x.number x.content)
+
+-- the faults of tags and of integers, which are told by their index
+abbrev pub tag_told : ℕ × TagCause → MessageFault
+tag_told fault = fault_at fault.0 (of_tag fault.1)
+
+abbrev pub geometry_told : IndexedCause → MessageFault
+geometry_told fault = fault_at fault.0 (of_geometry fault.1)
+
+-- the type of a feature's geometry
+abbrev pub kind_in : List Entry → Kind
+kind_in fields = kind_of_type (number_in (last_only 3 fields))
+
+-- the rules of a feature whose payload begins at base, in a layer with these keys and values
+abbrev pub feature_table : List ℕ → ℕ → List (List ℕ) → List Value → List (ℕ × Rules MessageFault)
+feature_table payload base keys values =
+    (0, rest_rules base (split payload))
+    ∷ ((1, each (λ _. feature_field_rules base) [] (split payload).fields)
+    ∷ ((2, told tag_told (count_rules (joined 2 (split payload).fields)))
+    ∷ ((3, told tag_told (pair_rules keys values (joined 2 (split payload).fields)))
+    ∷ ((4, told geometry_told (geometry_rules (kind_in (split payload).fields) (joined 4 (split payload).fields))) ∷ []))))
+
+unfoldable pub feature_rules : List ℕ → ℕ → List (List ℕ) → List Value → Rules MessageFault
+feature_rules payload base keys values = rows (feature_table payload base keys values)
+
+-- the broken rule of least rank
+unfoldable pub feature_fault : List ℕ → ℕ → List (List ℕ) → List Value → Option MessageFault
+feature_fault payload base keys values = first (feature_rules payload base keys values)

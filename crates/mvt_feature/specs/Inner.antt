@@ -1,0 +1,89 @@
+-- Definitions between private functions, which no public contract cites.
+use Rattle.std.specs.Prelude.{◌≡◌, ◌≢◌, ℕ, ◌==◌, true, false, List, [], ◌++◌, Option, Some, None, Result, Ok, Err, if◌then◌else◌}
+use Rattle.mvt_base.specs.Rules.{Rules, each, first}
+use Rattle.mvt_attrs.specs.declared.value.Value.{Value}
+use Rattle.mvt_attrs.specs.declared.value.Value.TheVariants as values
+use Rattle.mvt_attrs.specs.declared.resolving.TagError.{TagError}
+use Rattle.mvt_attrs.specs.declared.resolving.TagError.TheVariants as tag_errors
+use Rattle.mvt_geometry.specs.declared.shape.Kind.{Kind}
+use Rattle.mvt_geometry.specs.declared.fault.GeometryError.{GeometryError}
+use Rattle.mvt_geometry.specs.declared.fault.GeometryError.TheVariants as geometry_errors
+use Rattle.mvt_wire.specs.Field.{Content, Entry}
+use Rattle.mvt_feature.specs.declared.message_error.MessageError.{MessageError}
+use Rattle.mvt_feature.specs.declared.message_error.MessageError.TheVariants.{Memory, Fault}
+use Rattle.mvt_feature.specs.declared.known.Known.{Known}
+use Rattle.mvt_feature.specs.declared.value.Meaning.{Meaning}
+use Rattle.mvt_feature.specs.declared.value.Meaning.TheVariants as meanings
+use Rattle.mvt_feature.specs.declared.value.Kinds.{Kinds}
+use Rattle.mvt_feature.specs.declared.value.Kinds.TheVariants.{Nothing, One, Several}
+use Rattle.mvt_feature.specs.Causes.{of_tag, of_geometry}
+use Rattle.mvt_feature.specs.Faults.{MessageFault, TellsMessage}
+use Rattle.mvt_feature.specs.Features.{number_of, number_in, kind_of_type}
+use Rattle.mvt_feature.specs.FeatureRules.{numbers_of, joined, kind_in, feature_field_rules}
+use Rattle.mvt_feature.specs.Selection.{last_or, last_only}
+use Rattle.mvt_feature.specs.Values.{Means}
+use Rattle.mvt_feature.specs.ValueRules.{kinds, are_one_kind, value_field_rules}
+
+abbrev pub value_of : Meaning → Value
+value_of (meanings.Text text) = values.Text text.now
+value_of (meanings.Float bits) = values.Float bits
+value_of (meanings.Double bits) = values.Double bits
+value_of (meanings.Int z) = values.Int z
+value_of (meanings.Uint n) = values.Uint n
+value_of (meanings.Sint z) = values.Sint z
+value_of (meanings.Bool b) = values.Bool b
+
+-- the kinds that occur in fields, and what the last field of an only kind says
+abbrev pub AreKindsOf : List Entry → Kinds → Type 0
+AreKindsOf fields Nothing = fields ≡ []
+AreKindsOf fields (One number meaning) =
+    (are_one_kind fields ≡ true) × ((x : Entry) × ((last_or None fields ≡ Some x) × ((x.number ≡ number) × Means number x.content (value_of meaning))))
+AreKindsOf fields Several = (fields ≢ []) × (are_one_kind fields ≡ false)
+
+abbrev pub AreKinds : List Entry → Kinds → Type 0
+AreKinds fields k = AreKindsOf (kinds fields) k
+
+-- the kinds with one more field
+abbrev pub kinds_with : Kinds → ℕ → Meaning → Kinds
+kinds_with Nothing number meaning = One number meaning
+kinds_with (One first_number old) number meaning = if first_number == number then One number meaning else Several
+kinds_with Several number meaning = Several
+
+-- what holds of the fields so far, which break no rule; or a fault that stays whatever fields follow
+abbrev pub IsSoFar : {K : Type 0} → (Entry → Rules MessageFault) → (List Entry → K → Type 0) → List Entry → Result K MessageError → Type 0
+IsSoFar rules Holds done (Ok k) = (first (each (λ _. rules) [] done) ≡ None) × Holds done k
+IsSoFar rules Holds done (Err error) =
+    (more : List Entry) → TellsMessage error (first (each (λ _. rules) [] (done ++ more)))
+
+abbrev pub AreSoFar : ℕ → List Entry → Result Kinds MessageError → Type 0
+AreSoFar base done k = IsSoFar (value_field_rules base) AreKinds done k
+
+-- the faults of the levels below as they are told
+abbrev pub of_tag_error : TagError → MessageError
+of_tag_error tag_errors.Memory = Memory
+of_tag_error (tag_errors.Fault index cause) = Fault None index (of_tag cause)
+
+abbrev pub of_geometry_error : GeometryError → MessageError
+of_geometry_error geometry_errors.Memory = Memory
+of_geometry_error (geometry_errors.Fault index cause) = Fault None index (of_geometry cause)
+
+-- what one more field of a feature changes
+abbrev pub id_after : Option ℕ → ℕ → Content → Option ℕ
+id_after old number content = if number == 1 then number_of content else old
+
+abbrev pub kind_after : Kind → ℕ → Content → Kind
+kind_after old number content = if number == 3 then kind_of_type (number_of content) else old
+
+abbrev pub numbers_at : ℕ → ℕ → Content → List ℕ
+numbers_at k number content = if number == k then numbers_of content else []
+
+-- what is known of a feature by these fields
+pub record IsKnown (fields : List Entry) (known : Known) (tags integers : List ℕ) : Type 0 where
+  pub id : known.id ≡ number_in (last_only 1 fields)
+  pub kind : known.kind ≡ kind_in fields
+  pub tags_are : tags ≡ joined 2 fields
+  pub integers_are : integers ≡ joined 4 fields
+
+abbrev pub IsKnownSoFar : ℕ → List Entry → Result Known MessageError → List ℕ → List ℕ → Type 0
+IsKnownSoFar base done known tags integers =
+    IsSoFar (feature_field_rules base) (λ fields k. IsKnown fields k tags integers) done known

@@ -1,0 +1,11 @@
+pub mod Causes
+pub mod Faults
+pub mod Selection
+pub mod Values
+pub mod ValueRules
+pub mod Features
+pub mod FeatureRules
+pub mod Canonical
+pub mod Valid
+pub mod Ranges
+pub mod Inner

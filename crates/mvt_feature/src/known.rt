@@ -1,0 +1,162 @@
+//! The known fields of a feature (Mapbox Vector Tile Specification 2.1, 4.1, message Feature).
+ghost use Rattle.std.specs.Prelude.{◌≡◌, ℕ, ◌+◌, ◌^◌, ◌<◌, List, [], ◌∷◌, ◌++◌, length, Option, Some, None, IfOk, IfErr, OnOk};
+ghost use Rattle.std.specs.Option.{option_or, option_map};
+ghost use Rattle.mvt_base.specs.Rules.{each, first};
+ghost use Rattle.mvt_wire.specs.Field.{Entry, entry_of, content_of, varint};
+ghost use Rattle.mvt_wire.specs.Packed.{PackedCause, TellsPacked};
+ghost use Rattle.mvt_wire.specs.Split.{split};
+ghost use Rattle.mvt_feature.specs.Causes.{of_packed};
+ghost use Rattle.mvt_feature.specs.Faults.{TellsMessage, fault_at as the_fault_at, rest_rules};
+ghost use Rattle.mvt_feature.specs.Features.{number_of, kind_of_type};
+ghost use Rattle.mvt_feature.specs.FeatureRules.{numbers_of, type_rules, list_rules, form_rules, feature_field_rules};
+ghost use Rattle.mvt_feature.specs.ValueRules.{varint_rules};
+ghost use Rattle.mvt_feature.specs.Inner.{id_after, kind_after, numbers_at, IsKnown, IsKnownSoFar};
+
+use crate::cause::Cause;
+use crate::message_error::MessageError;
+use crate::room::Room;
+use crate::value::varint_of;
+use crate::whole::{fault_at, rest_fault};
+use mvt_geometry::Kind;
+use mvt_wire::{Field, Fields, PackedError, Payload, append_packed};
+
+/// What the fields of a feature say besides its tags and integers.
+#[derive(Clone, Copy, Debug)]
+pub(crate) struct Known {
+    pub(crate) id: Option<u64>,
+    pub(crate) kind: Kind,
+}
+
+/// What the fields of a payload say; the tags and the integers are left in the room. A field's fault
+/// is kept back until the payload is known to split into fields.
+pub(crate) fn read_known(payload: &[u8], base: u64, room: &mut Room) -> Result<Known, MessageError>
+    requires { base + length payload.now < 2 ^ 64 }
+    ensures whole { OnOk result ((split payload.now).rest ≡ []) }
+    ensures ok { OnOk result (first (each (λ _. feature_field_rules base) [] (split payload.now).fields) ≡ None) }
+    ensures known { IfOk result (λ known. IsKnown (split payload.now).fields known room.new.tags.items room.new.integers.items) }
+    ensures err { IfErr result (λ error. TellsMessage error (option_or
+        (first (rest_rules base (split payload.now)))
+        (first (each (λ _. feature_field_rules base) [] (split payload.now).fields)))) }
+{
+    room.tags.clear();
+    room.integers.clear();
+    let mut known = Ok(Known {
+        id: None,
+        kind: Kind::Unknown,
+    });
+    for field in Fields::new(payload) {
+        match field {
+            Ok(field) => known = also(known, &field, base, room),
+            Err(fault) => return Err(rest_fault(base, fault)),
+        }
+    }
+    known
+}
+
+/// What is known with one more field, unless a fault was met before it.
+fn also(
+    known: Result<Known, MessageError>,
+    field: &Field<'_>,
+    base: u64,
+    room: &mut Room,
+) -> Result<Known, MessageError>
+    requires { base + field.now.at < 2 ^ 64 }
+    ensures { (done : List Entry) → IsKnownSoFar base done known room.old.tags.items room.old.integers.items
+        → IsKnownSoFar base (done ++ entry_of field.now ∷ []) result room.new.tags.items room.new.integers.items }
+{
+    known?.with(field, base + field.at as u64, room)
+}
+
+impl Known {
+    /// What is known with one more field, which is told to stand at this place.
+    fn with(self, field: &Field<'_>, at: u64, room: &mut Room) -> Result<Known, MessageError>
+        ensures ok { OnOk result (first (form_rules field.now.number (content_of field.now.payload)) ≡ None) }
+        ensures id { IfOk result (λ known. known.id ≡ id_after self.id field.now.number (content_of field.now.payload)) }
+        ensures kind { IfOk result (λ known. known.kind ≡ kind_after self.kind field.now.number (content_of field.now.payload)) }
+        ensures tags { OnOk result
+            (room.new.tags.items ≡ room.old.tags.items ++ numbers_at 2 field.now.number (content_of field.now.payload)) }
+        ensures integers { OnOk result
+            (room.new.integers.items ≡ room.old.integers.items ++ numbers_at 4 field.now.number (content_of field.now.payload)) }
+        ensures err { IfErr result (λ error. TellsMessage error
+            (option_map (the_fault_at at) (first (form_rules field.now.number (content_of field.now.payload))))) }
+    {
+        let payload = &field.payload;
+        let mut known = self;
+        match field.number {
+            1 => known.id = Some(id_of(payload, at)?),
+            2 => append_numbers(payload, at, &mut room.tags)?,
+            3 => known.kind = kind_of_payload(payload, at)?,
+            4 => append_numbers(payload, at, &mut room.integers)?,
+            _ => {}
+        }
+        Ok(known)
+    }
+}
+
+fn id_of(payload: &Payload<'_>, at: u64) -> Result<u64, MessageError>
+    ensures number { IfOk result (λ n. number_of (content_of payload.now) ≡ Some n) }
+    ensures ok { OnOk result (first (varint_rules (content_of payload.now)) ≡ None) }
+    ensures err { IfErr result (λ error. TellsMessage error (option_map (the_fault_at at) (first (varint_rules (content_of payload.now))))) }
+{
+    match payload {
+        Payload::Varint(number) => Ok(*number),
+        _ => Err(fault_at(at, Cause::WrongType)),
+    }
+}
+
+fn kind_of_payload(payload: &Payload<'_>, at: u64) -> Result<Kind, MessageError>
+    ensures kind { IfOk result (λ kind. kind ≡ kind_of_type (number_of (content_of payload.now))) }
+    ensures ok { OnOk result (first (type_rules (content_of payload.now)) ≡ None) }
+    ensures err { IfErr result (λ error. TellsMessage error (option_map (the_fault_at at) (first (type_rules (content_of payload.now))))) }
+{
+    let Payload::Varint(number) = payload else {
+        return Err(fault_at(at, Cause::WrongType));
+    };
+    match *number {
+        0 => Ok(Kind::Unknown),
+        1 => Ok(Kind::Point),
+        2 => Ok(Kind::LineString),
+        3 => Ok(Kind::Polygon),
+        _ => Err(fault_at(at, Cause::GeomType)),
+    }
+}
+
+/// Appends the number of a field, or its packed numbers.
+fn append_numbers(
+    payload: &Payload<'_>,
+    at: u64,
+    numbers: &mut Vec<u32>,
+) -> Result<(), MessageError>
+    ensures numbers { OnOk result (numbers.new.items ≡ numbers.old.items ++ numbers_of (content_of payload.now)) }
+    ensures ok { OnOk result (first (list_rules (content_of payload.now)) ≡ None) }
+    ensures err { IfErr result (λ error. TellsMessage error (option_map (the_fault_at at) (first (list_rules (content_of payload.now))))) }
+{
+    match payload {
+        Payload::Varint(number) => {
+            if *number >= 1 << 32 {
+                return Err(fault_at(at, Cause::NumberRange));
+            }
+            numbers.push(*number as u32)?;
+            Ok(())
+        }
+        Payload::Len(bytes) => match append_packed(bytes, numbers) {
+            Ok(()) => Ok(()),
+            Err(error) => Err(packed_fault(error, at)),
+        },
+        Payload::I32(_) => Err(fault_at(at, Cause::WrongType)),
+        Payload::I64(_) => Err(fault_at(at, Cause::WrongType)),
+    }
+}
+
+/// A fault of packed numbers, told at the field's place.
+fn packed_fault(error: PackedError, at: u64) -> MessageError
+    ensures { (cause : Option PackedCause) → TellsPacked error cause
+        → TellsMessage result (option_map (λ c. the_fault_at at (of_packed c)) cause) }
+{
+    match error {
+        PackedError::Memory => MessageError::Memory,
+        PackedError::Truncated => fault_at(at, Cause::Truncated),
+        PackedError::VarintRange => fault_at(at, Cause::VarintRange),
+        PackedError::NumberRange => fault_at(at, Cause::NumberRange),
+    }
+}

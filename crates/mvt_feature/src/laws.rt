@@ -1,0 +1,84 @@
+//! Laws about the definitions alone: functions without effect, whose contract is the law.
+ghost use Rattle.std.specs.Prelude.{◌≡◌, ◌↔◌, ℕ, ◌^◌, ◌<◌, List, length, None, Some, IsUtf8};
+ghost use Rattle.std.specs.List.{AllByRecursion};
+ghost use Rattle.mvt_base.specs.Rules.{AreOrdered, IsLeast};
+ghost use Rattle.mvt_attrs.specs.declared.value.Value.{Value};
+ghost use Rattle.mvt_feature.specs.declared.feature.Feature.{Feature};
+ghost use Rattle.mvt_attrs.specs.Tags.{Names};
+ghost use Rattle.mvt_wire.specs.Field.{Entry};
+ghost use Rattle.mvt_wire.specs.Spelling.{spelled};
+ghost use Rattle.mvt_wire.specs.Split.{Whole};
+ghost use Rattle.mvt_feature.specs.Canonical.{value_fields, feature_fields};
+ghost use Rattle.mvt_feature.specs.Faults.{MessageFault};
+ghost use Rattle.mvt_feature.specs.Ranges.{AreBytes, IsInRange};
+ghost use Rattle.mvt_feature.specs.Valid.{ValidValue, ValidFeature};
+ghost use Rattle.mvt_feature.specs.Features.{IsFeatureOf};
+ghost use Rattle.mvt_feature.specs.FeatureRules.{feature_rules, feature_fault};
+ghost use Rattle.mvt_feature.specs.Values.{IsValueOf};
+ghost use Rattle.mvt_feature.specs.ValueRules.{value_rules, value_fault};
+
+/// A payload without a fault is just one value, and a payload that is a value has no fault.
+pub fn value_or_fault()
+    ensures there { (payload : List ℕ) (base own : ℕ) → value_fault payload base own ≡ None
+        → (value : Value) × IsValueOf payload value }
+    ensures clean { (payload : List ℕ) (base own : ℕ) (value : Value) → IsValueOf payload value
+        → value_fault payload base own ≡ None }
+    ensures once { (payload : List ℕ) (value other : Value) → IsValueOf payload value
+        → IsValueOf payload other → value ≡ other }
+{}
+
+/// The fault of a value is that of the broken rule of least rank.
+pub fn value_fault_is_least()
+    ensures ordered { (payload : List ℕ) (base own : ℕ) → AreOrdered (value_rules payload base own) }
+    ensures least { (payload : List ℕ) (base own : ℕ) (fault : MessageFault) →
+        (value_fault payload base own ≡ Some fault) ↔ IsLeast (value_rules payload base own) fault }
+{}
+
+/// A payload without a fault is just one feature, and a payload that is a feature has no fault.
+pub fn feature_or_fault()
+    ensures there { (payload : List ℕ) (base : ℕ) (keys : List (List ℕ)) (values : List Value) →
+        feature_fault payload base keys values ≡ None → (feature : Feature) × IsFeatureOf payload keys values feature }
+    ensures clean { (payload : List ℕ) (base : ℕ) (keys : List (List ℕ)) (values : List Value) (feature : Feature) →
+        IsFeatureOf payload keys values feature → feature_fault payload base keys values ≡ None }
+    ensures once { (payload : List ℕ) (keys : List (List ℕ)) (values : List Value) (feature other : Feature) →
+        IsFeatureOf payload keys values feature → IsFeatureOf payload keys values other → feature ≡ other }
+{
+    mvt_attrs::laws::attributes_or_fault();
+    mvt_geometry::laws::faultless_draws();
+    mvt_geometry::laws::drawn_is_faultless();
+    mvt_geometry::laws::one_geometry();
+}
+
+/// The fault of a feature is that of the broken rule of least rank.
+pub fn feature_fault_is_least()
+    ensures ordered { (payload : List ℕ) (base : ℕ) (keys : List (List ℕ)) (values : List Value) →
+        AreOrdered (feature_rules payload base keys values) }
+    ensures least { (payload : List ℕ) (base : ℕ) (keys : List (List ℕ)) (values : List Value) (fault : MessageFault) →
+        (feature_fault payload base keys values ≡ Some fault) ↔ IsLeast (feature_rules payload base keys values) fault }
+{
+    mvt_attrs::laws::rules_in_order();
+    mvt_geometry::laws::geometry_ordered();
+}
+
+/// What is written for a valid value reads as that value, and what is written for a valid feature, with
+/// tags that name its attributes, reads as that feature.
+pub fn canonical_reads()
+    ensures value { (value : Value) → ValidValue value → length (spelled (value_fields value)) < 2 ^ 64
+        → IsValueOf (spelled (value_fields value)) value }
+    ensures feature { (keys : List (List ℕ)) (values : List Value) (tags : List ℕ) (feature : Feature) →
+        ValidFeature feature → Names keys values tags feature.attributes → AllByRecursion (λ tag. tag < 2 ^ 32) tags
+        → length (spelled (feature_fields tags feature)) < 2 ^ 64
+        → IsFeatureOf (spelled (feature_fields tags feature)) keys values feature }
+{
+    mvt_geometry::laws::drawn_small();
+}
+
+/// What bytes are read as is valid; a feature, where the keys and the values of its layer are.
+pub fn read_is_valid()
+    ensures fields { (payload : List ℕ) (fields : List Entry) → AreBytes payload → Whole payload fields
+        → AllByRecursion (λ (x : Entry). IsInRange x.content) fields }
+    ensures value { (payload : List ℕ) (value : Value) → AreBytes payload → IsValueOf payload value → ValidValue value }
+    ensures feature { (payload : List ℕ) (keys : List (List ℕ)) (values : List Value) (feature : Feature) →
+        AreBytes payload → AllByRecursion IsUtf8 keys → AllByRecursion ValidValue values
+        → IsFeatureOf payload keys values feature → ValidFeature feature }
+{}

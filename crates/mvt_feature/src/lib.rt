@@ -1,0 +1,26 @@
+//! The messages below a layer (Mapbox Vector Tile Specification 2.1, 4.1): values and features, and
+//! why bytes aren't one.
+#![tactic(auto)]
+
+mod cause;
+mod feature;
+mod known;
+pub mod laws;
+mod message_error;
+mod reading;
+mod room;
+#[cfg(test)]
+mod tests;
+mod validity;
+mod value;
+mod whole;
+mod writing;
+
+pub use cause::Cause;
+pub use feature::Feature;
+pub use message_error::MessageError;
+pub use reading::{read_feature, read_feature_in};
+pub use room::Room;
+pub use validity::is_valid_feature;
+pub use value::read_value;
+pub use writing::{append_feature, append_value, value_len};

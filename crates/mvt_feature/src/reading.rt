@@ -1,0 +1,65 @@
+//! Reading features (Mapbox Vector Tile Specification 2.1, 4.1, message Feature).
+ghost use Rattle.std.specs.Prelude.{◌≡◌, ◌+◌, ◌^◌, ◌<◌, length, None, IfOk, IfErr, OnOk};
+ghost use Rattle.mvt_feature.specs.Faults.{TellsMessage};
+ghost use Rattle.mvt_feature.specs.Features.{IsFeatureOf};
+ghost use Rattle.mvt_feature.specs.FeatureRules.{feature_fault};
+
+use crate::feature::Feature;
+use crate::known::read_known;
+use crate::message_error::MessageError;
+use crate::room::Room;
+use mvt_attrs::{Value, resolve};
+use mvt_base::{Items, Text};
+use mvt_geometry::read_geometry;
+use std::alloc::Global;
+
+/// The feature of a payload, in a layer with these keys and values.
+///
+/// `base` is the absolute offset of the payload.
+///
+/// # Errors
+///
+/// The first broken rule: the payload splits into fields, each field in order has its form and its
+/// numbers their range, then the rules of tags and those of geometry. The error names no feature.
+pub fn read_feature(
+    alloc: Global,
+    payload: &[u8],
+    base: u64,
+    keys: &[Text],
+    values: &[Value],
+) -> Result<Feature, MessageError>
+    requires { base + length payload.now < 2 ^ 64 }
+    ensures feature { IfOk result (IsFeatureOf payload.now keys.now values.now) }
+    ensures ok { OnOk result (feature_fault payload.now base keys.now values.now ≡ None) }
+    ensures err { IfErr result (λ error. TellsMessage error (feature_fault payload.now base keys.now values.now)) }
+{
+    read_feature_in(alloc, payload, base, keys, values, &mut Room::new(alloc))
+}
+
+/// The same in room that is lent, so that a row of features needs no new lists for tags and integers.
+///
+/// # Errors
+///
+/// As `read_feature`.
+pub fn read_feature_in(
+    alloc: Global,
+    payload: &[u8],
+    base: u64,
+    keys: &[Text],
+    values: &[Value],
+    room: &mut Room,
+) -> Result<Feature, MessageError>
+    requires { base + length payload.now < 2 ^ 64 }
+    ensures feature { IfOk result (IsFeatureOf payload.now keys.now values.now) }
+    ensures ok { OnOk result (feature_fault payload.now base keys.now values.now ≡ None) }
+    ensures err { IfErr result (λ error. TellsMessage error (feature_fault payload.now base keys.now values.now)) }
+{
+    let known = read_known(payload, base, room)?;
+    let attributes = resolve(alloc, keys, values, &room.tags)?;
+    let geometry = read_geometry(alloc, known.kind, &room.integers)?;
+    Ok(Feature {
+        id: known.id,
+        attributes: Items::new(attributes),
+        geometry,
+    })
+}

@@ -1,0 +1,28 @@
+//! Lists that are used again from feature to feature.
+use std::alloc::Global;
+
+/// Room for the tags and the integers of a feature while it is read.
+///
+/// ```text
+/// let mut room = Room::new(alloc);
+/// for payload in payloads {
+///     features.push(read_feature_in(alloc, payload, base, keys, values, &mut room)?)?;
+/// }
+/// ```
+///
+/// What it holds between two calls says nothing; after an error it can be used again.
+#[derive(Debug, Drop)]
+pub struct Room {
+    pub(crate) tags: Vec<u32>,
+    pub(crate) integers: Vec<u32>,
+}
+
+impl Room {
+    /// Room that has taken no memory yet.
+    pub fn new(alloc: Global) -> Self {
+        Room {
+            tags: Vec::new(alloc),
+            integers: Vec::new(alloc),
+        }
+    }
+}

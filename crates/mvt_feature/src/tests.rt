@@ -1,0 +1,204 @@
+//! Values and features read, refused and written.
+use super::*;
+use mvt_attrs::{Attribute, KeyPool, PoolError, Value, ValuePool};
+use mvt_base::{Items, Text};
+use mvt_geometry::{Geometry, Point};
+use std::alloc::{AllocError, Global};
+use std::test::Fail;
+
+// The value of a payload whose field's tag stands at 14.
+fn value_of(alloc: Global, payload: &[u8]) -> Result<Value, MessageError> {
+    read_value(alloc, payload, 16, 14)
+}
+
+// What a feature's payload, which begins at 9, is refused for, with the key `k` and the value 5.
+fn refused_for(alloc: Global, payload: &[u8]) -> Result<Option<(u64, u32)>, AllocError> {
+    let keys = [Text::from_str(alloc, "k")?];
+    let values = [Value::Uint(5)];
+    match read_feature(alloc, payload, 9, &keys, &values) {
+        Ok(_) => Ok(None),
+        Err(MessageError::Memory) => Err(AllocError),
+        Err(MessageError::Fault { at, cause, .. }) => Ok(Some((at, cause.number()))),
+    }
+}
+
+fn point(alloc: Global, x: i32, y: i32) -> Result<Geometry, AllocError> {
+    let points = Vec::from_slice(alloc, &[Point { x, y }])?;
+    Ok(Geometry::Points(Items::new(points)))
+}
+
+// A feature with the point (25,17), and these keys with the value 5 each.
+fn feature_with(alloc: Global, keys: &[&str]) -> Result<Feature, AllocError> {
+    let mut attributes = Vec::with_capacity(alloc, keys.len())?;
+    for key in keys {
+        let key = Text::from_str(alloc, key)?;
+        let value = Value::Uint(5);
+        attributes.push(Attribute { key, value })?;
+    }
+    Ok(Feature {
+        id: None,
+        attributes: Items::new(attributes),
+        geometry: point(alloc, 25, 17)?,
+    })
+}
+
+#[test]
+fn reads_values(rt: HostRuntime) {
+    let alloc = rt.alloc();
+    assert!(rt; value_of(alloc, &[0x28, 0x05]) == Ok(Value::Uint(5)));
+    assert!(rt; value_of(alloc, &[0x28, 0x05, 0x28, 0x06]) == Ok(Value::Uint(6)));
+    assert!(rt; value_of(alloc, &[0x30, 0x0A]) == Ok(Value::Sint(5)));
+    assert!(rt; value_of(alloc, &[0x38, 0x07]) == Ok(Value::Bool(true)));
+    let minus_one = [
+        0x20, 0xFF, 0xFF, 0xFF, 0xFF, 0xFF, 0xFF, 0xFF, 0xFF, 0xFF, 0x01,
+    ];
+    assert!(rt; value_of(alloc, &minus_one) == Ok(Value::Int(-1)));
+    let float = [0x15, 0x00, 0x00, 0x00, 0x80];
+    assert!(rt; value_of(alloc, &float) == Ok(Value::Float(2147483648)));
+    let double = [0x19, 0x00, 0x00, 0x00, 0x00, 0x00, 0x00, 0x00, 0x80];
+    assert!(rt; value_of(alloc, &double) == Ok(Value::Double(9223372036854775808)));
+
+    let of_no_kind = MessageError::Fault {
+        feature: None,
+        at: 14,
+        cause: Cause::ValueKind,
+    };
+    assert!(rt; value_of(alloc, &[]) == Err(of_no_kind));
+    assert!(rt; value_of(alloc, &[0x20, 0x05, 0x28, 0x05]) == Err(of_no_kind));
+}
+
+#[test]
+fn reads_features(rt: HostRuntime) -> Result<(), Fail> {
+    let alloc = rt.alloc();
+    let one_point = [0x18, 0x01, 0x22, 0x03, 0x09, 0x32, 0x22];
+    let mut room = Room::new(alloc);
+    for _turn in 0..2 {
+        let Ok(feature) = read_feature_in(alloc, &one_point, 9, &[], &[], &mut room) else {
+            return Err(Fail::new("no feature"));
+        };
+        assert!(rt; feature == feature_with(alloc, &[])?);
+    }
+    let Ok(bare) = read_feature(alloc, &[], 9, &[], &[]) else {
+        return Err(Fail::new("no feature"));
+    };
+    assert!(rt; bare.id.is_none() && bare.attributes.as_slice().is_empty());
+    assert!(rt; bare.geometry == Geometry::Unknown(Items::new(Vec::new(alloc))));
+    Ok(())
+}
+
+#[test]
+fn refuses_features(rt: HostRuntime) -> Result<(), Fail> {
+    let alloc = rt.alloc();
+    let far = [
+        0x18, 0x01, 0x22, 0x09, 0x11, 0xFE, 0xFF, 0xFF, 0xFF, 0x0F, 0x00, 0x02, 0x00,
+    ];
+    let inner = [
+        0x18, 0x03, 0x22, 0x09, 0x09, 0x28, 0x44, 0x12, 0x17, 0x2B, 0x09, 0x0B, 0x0F,
+    ];
+    let parameter = [
+        0x18, 0x01, 0x22, 0x07, 0x09, 0xFF, 0xFF, 0xFF, 0xFF, 0x0F, 0x00,
+    ];
+    let rows: [(&[u8], u64, u32); 15] = [
+        (&[0x22, 0x01, 0x80], 9, 1),
+        (&[0x18, 0x04], 9, 12),
+        (&[0x12, 0x01, 0x00], 1, 13),
+        (&[0x12, 0x02, 0x01, 0x00], 0, 14),
+        (&[0x12, 0x02, 0x00, 0x01], 1, 15),
+        (&[0x12, 0x04, 0x00, 0x00, 0x00, 0x00], 2, 16),
+        (&[0x18, 0x02, 0x22, 0x03, 0x0A, 0x02, 0x02], 0, 17),
+        (&[0x18, 0x01, 0x22, 0x01, 0x01], 0, 18),
+        (&[0x18, 0x01, 0x22, 0x01, 0x09], 0, 19),
+        (
+            &[0x18, 0x02, 0x22, 0x06, 0x09, 0x04, 0x04, 0x0A, 0x00, 0x00],
+            4,
+            20,
+        ),
+        (&far, 3, 21),
+        (&inner, 8, 22),
+        (&[0x18, 0x02, 0x22, 0x03, 0x09, 0x04, 0x04], 3, 23),
+        (&parameter, 1, 26),
+        (&[0x1B], 9, 4),
+    ];
+    for (payload, at, number) in rows {
+        assert_eq!(rt; refused_for(alloc, payload)?, Some((at, number)));
+    }
+    Ok(())
+}
+
+#[test]
+fn writes(rt: HostRuntime) -> Result<(), Fail> {
+    let alloc = rt.alloc();
+    let mut out = Vec::new(alloc);
+    append_value(&mut out, &Value::Bool(true))?;
+    append_value(&mut out, &Value::Uint(5))?;
+    assert_eq!(rt; out.as_slice(), [0x38, 0x01, 0x28, 0x05].as_slice());
+    assert_eq!(rt; value_len(&Value::Text(Text::from_str(alloc, "a")?)), 3);
+
+    let (mut keys, mut values) = (KeyPool::new(alloc), ValuePool::new(alloc));
+    let mut room = Room::new(alloc);
+    let feature = feature_with(alloc, &["k"])?;
+    assert!(rt; is_valid_feature(&feature) && feature.copy(alloc)? == feature);
+    out.clear();
+    append_feature(&mut out, &feature, &mut keys, &mut values, &mut room)?;
+    let expected = [
+        0x12, 0x02, 0x00, 0x00, 0x18, 0x01, 0x22, 0x03, 0x09, 0x32, 0x22,
+    ];
+    assert_eq!(rt; out.as_slice(), expected.as_slice());
+    assert!(rt; !is_valid_feature(&feature_with(alloc, &["k", "k"])?));
+    Ok(())
+}
+
+// The tests of refused growths pass too where one allocation, whichever, is refused: each call has
+// two turns, of which one at most may want memory.
+
+#[test]
+fn refused_reads(rt: HostRuntime) {
+    let mut refused = 0u8;
+    for _turn in 0..2 {
+        match value_of(rt.alloc(), &[0x0A, 0x01, 0x61]) {
+            Ok(Value::Text(text)) => assert_eq!(rt; text.as_str(), "a"),
+            Ok(_) => assert!(rt; false),
+            Err(error) => {
+                assert_eq!(rt; error, MessageError::Memory);
+                refused = refused.saturating_add(1);
+            }
+        }
+    }
+    let payload = [0x08, 0x07, 0x18, 0x01, 0x22, 0x03, 0x09, 0x32, 0x22];
+    for _turn in 0..2 {
+        match read_feature(rt.alloc(), &payload, 0, &[], &[]) {
+            Ok(feature) => assert_eq!(rt; feature.id, Some(7)),
+            Err(error) => {
+                assert_eq!(rt; error, MessageError::Memory);
+                refused = refused.saturating_add(1);
+            }
+        }
+    }
+    assert!(rt; refused < 2);
+}
+
+#[test]
+fn refused_writes(rt: HostRuntime) {
+    let mut refused = 0u8;
+    for _turn in 0..2 {
+        let Ok(feature) = feature_with(rt.alloc(), &["k"]) else {
+            refused = refused.saturating_add(1);
+            continue;
+        };
+        assert!(rt; is_valid_feature(&feature));
+        match feature.copy(rt.alloc()) {
+            Ok(copy) => assert!(rt; copy == feature),
+            Err(AllocError) => refused = refused.saturating_add(1),
+        }
+        let (mut keys, mut values) = (KeyPool::new(rt.alloc()), ValuePool::new(rt.alloc()));
+        let (mut out, mut room) = (Vec::new(rt.alloc()), Room::new(rt.alloc()));
+        match append_feature(&mut out, &feature, &mut keys, &mut values, &mut room) {
+            Ok(()) => assert_eq!(rt; out.len(), 11),
+            Err(error) => {
+                assert_eq!(rt; error, PoolError::Memory);
+                refused = refused.saturating_add(1);
+            }
+        }
+    }
+    assert!(rt; refused < 2);
+}

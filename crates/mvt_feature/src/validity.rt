@@ -1,0 +1,73 @@
+//! Which features can be written.
+ghost use Rattle.std.specs.Prelude.{◌≡◌, ◌↔◌, bytes_eq, IsTrue};
+ghost use Rattle.std.specs.List.{AllByRecursion, list_any};
+ghost use Rattle.mvt_attrs.specs.declared.value.Attribute.{Attribute as OneAttribute};
+ghost use Rattle.mvt_attrs.specs.Tags.{HasDistinctKeys};
+ghost use Rattle.mvt_feature.specs.Valid.{ValidValue, ValidAttribute, ValidFeature};
+
+use crate::feature::Feature;
+use mvt_attrs::{Attribute, Value};
+use mvt_geometry::is_valid_geometry;
+
+/// Whether a feature can be written: no two attributes have one key, and integers draw the geometry.
+///
+/// It takes no memory.
+pub fn is_valid_feature(feature: &Feature) -> bool
+    ensures { IsTrue result ↔ ValidFeature feature.now }
+{
+    if let Some(id) = feature.id {
+        let _id = id;
+    }
+    have_distinct_keys(feature.attributes.as_slice()) && is_valid_geometry(&feature.geometry)
+}
+
+/// Whether no two attributes have one key. What they hold is in the range of its type.
+fn have_distinct_keys(attributes: &[Attribute]) -> bool
+    ensures distinct { IsTrue result ↔ HasDistinctKeys attributes.now }
+    ensures valid { IsTrue result → AllByRecursion ValidAttribute attributes.now }
+{
+    for (i, attribute) in attributes.iter().enumerate() {
+        let key = attribute.key.as_str();
+        see_range(&attribute.value);
+        if has_key(&attributes[..i], key) {
+            return false;
+        }
+    }
+    true
+}
+
+/// A value is in the range of its type.
+#[inline]
+fn see_range(value: &Value)
+    ensures { ValidValue value.now }
+{
+    match value {
+        Value::Text(text) => {
+            let _text = text.as_str();
+        }
+        Value::Float(bits) => {
+            let _bits = *bits;
+        }
+        Value::Double(bits) => {
+            let _bits = *bits;
+        }
+        Value::Int(number) => {
+            let _number = *number;
+        }
+        Value::Uint(number) => {
+            let _number = *number;
+        }
+        Value::Sint(number) => {
+            let _number = *number;
+        }
+        Value::Bool(_) => {}
+    }
+}
+
+fn has_key(attributes: &[Attribute], key: &str) -> bool
+    ensures { result ≡ list_any (λ (a : OneAttribute). bytes_eq a.key key.now) attributes.now }
+{
+    attributes
+        .iter()
+        .any(|attribute| attribute.key.as_str() == key)
+}

@@ -1,0 +1,197 @@
+//! Values (Mapbox Vector Tile Specification 2.1, 4.1, message Value).
+ghost use Rattle.std.specs.Prelude.{◌≡◌, ℕ, ◌+◌, ◌^◌, ◌<◌, List, [], ◌∷◌, ◌++◌, length, Some, None, true, false, IfOk, IfErr, OnOk, MatchOption};
+ghost use Rattle.std.specs.Option.{option_or};
+ghost use Rattle.mvt_base.specs.Rules.{each, first};
+ghost use Rattle.mvt_wire.specs.Field.{Entry, entry_of, content_of, varint, fixed64, fixed32, bytes};
+ghost use Rattle.mvt_wire.specs.Split.{split};
+ghost use Rattle.mvt_feature.specs.Faults.{TellsMessage, rest_rules};
+ghost use Rattle.mvt_feature.specs.Values.{Means, IsValueOf};
+ghost use Rattle.mvt_feature.specs.ValueRules.{text_rules, varint_rules, fixed32_rules, fixed64_rules, kind_rules, is_kind, value_field_rules, value_fault};
+ghost use Rattle.mvt_feature.specs.Inner.{value_of, kinds_with, AreKinds, AreSoFar};
+
+use crate::cause::Cause;
+use crate::message_error::MessageError;
+use crate::whole::{fault_at, rest_fault};
+use mvt_attrs::Value;
+use mvt_base::Text;
+use mvt_wire::{Field, Fields, Payload, unzigzag64};
+use std::alloc::{AllocError, Global};
+use std::str;
+
+/// The value of a payload.
+///
+/// `base` is the absolute offset of the payload, and `own` that of the tag of its field. A text is the
+/// only value that takes memory.
+///
+/// # Errors
+///
+/// The first broken rule: the payload splits into fields, each field in order has the form of its
+/// kind, and just one kind occurs.
+pub fn read_value(alloc: Global, payload: &[u8], base: u64, own: u64) -> Result<Value, MessageError>
+    requires { base + length payload.now < 2 ^ 64 }
+    ensures value { IfOk result (IsValueOf payload.now) }
+    ensures ok { OnOk result (value_fault payload.now base own ≡ None) }
+    ensures err { IfErr result (λ error. TellsMessage error (value_fault payload.now base own)) }
+{
+    match read_kinds(payload, base)? {
+        Kinds::One { meaning, .. } => Ok(meaning.into_value(alloc)?),
+        Kinds::Nothing => Err(fault_at(own, Cause::ValueKind)),
+        Kinds::Several => Err(fault_at(own, Cause::ValueKind)),
+    }
+}
+
+/// The kinds of value among the fields of a payload.
+#[derive(Clone, Copy, Debug)]
+enum Kinds<'a> {
+    Nothing,
+    /// Only this one, and what its last field says.
+    One { number: u32, meaning: Meaning<'a> },
+    Several,
+}
+
+/// What a field says.
+#[derive(Clone, Copy, Debug)]
+enum Meaning<'a> {
+    Text(&'a str),
+    Float(u32),
+    Double(u64),
+    Int(i64),
+    Uint(u64),
+    Sint(i64),
+    Bool(bool),
+}
+
+/// The kinds that occur in a payload. A field's fault is kept back until the payload is known to
+/// split into fields.
+fn read_kinds(payload: &[u8], base: u64) -> Result<Kinds<'_>, MessageError>
+    requires { base + length payload.now < 2 ^ 64 }
+    ensures whole { OnOk result ((split payload.now).rest ≡ []) }
+    ensures ok { OnOk result (first (each (λ _. value_field_rules base) [] (split payload.now).fields) ≡ None) }
+    ensures kinds { IfOk result (AreKinds (split payload.now).fields) }
+    ensures err { IfErr result (λ error. TellsMessage error (option_or
+        (first (rest_rules base (split payload.now)))
+        (first (each (λ _. value_field_rules base) [] (split payload.now).fields)))) }
+{
+    let mut kinds = Ok(Kinds::Nothing);
+    for field in Fields::new(payload) {
+        match field {
+            Ok(field) => kinds = also(kinds, &field, base),
+            Err(fault) => return Err(rest_fault(base, fault)),
+        }
+    }
+    kinds
+}
+
+/// The kinds with one more field, unless a fault was met before it.
+fn also<'a>(
+    kinds: Result<Kinds<'a>, MessageError>,
+    field: &Field<'a>,
+    base: u64,
+) -> Result<Kinds<'a>, MessageError>
+    requires { base + field.now.at < 2 ^ 64 }
+    ensures { (done : List Entry) → AreSoFar base done kinds.entry → AreSoFar base (done ++ entry_of field.now ∷ []) result }
+{
+    let kinds = kinds?;
+    match meaning_of(field) {
+        Ok(None) => Ok(kinds),
+        Ok(Some(meaning)) => Ok(kinds.with(field.number, meaning)),
+        Err(cause) => Err(fault_at(base + field.at as u64, cause)),
+    }
+}
+
+impl<'a> Kinds<'a> {
+    fn with(self, number: u32, meaning: Meaning<'a>) -> Kinds<'a>
+        ensures { result ≡ kinds_with self.entry number meaning.entry }
+    {
+        match self {
+            Kinds::Nothing => Kinds::One { number, meaning },
+            Kinds::One { number: first, .. } if first == number => Kinds::One { number, meaning },
+            _ => Kinds::Several,
+        }
+    }
+}
+
+impl Meaning<'_> {
+    fn into_value(self, alloc: Global) -> Result<Value, AllocError>
+        ensures { IfOk result (λ value. value ≡ value_of self.entry) }
+    {
+        match self {
+            Meaning::Text(text) => Ok(Value::Text(Text::from_str(alloc, text)?)),
+            Meaning::Float(bits) => Ok(Value::Float(bits)),
+            Meaning::Double(bits) => Ok(Value::Double(bits)),
+            Meaning::Int(number) => Ok(Value::Int(number)),
+            Meaning::Uint(number) => Ok(Value::Uint(number)),
+            Meaning::Sint(number) => Ok(Value::Sint(number)),
+            Meaning::Bool(truth) => Ok(Value::Bool(truth)),
+        }
+    }
+}
+
+/// What a field says, if it is of one of the seven kinds.
+fn meaning_of<'a>(field: &Field<'a>) -> Result<Option<Meaning<'a>>, Cause>
+    ensures ok { OnOk result (first (kind_rules field.now.number (content_of field.now.payload)) ≡ None) }
+    ensures means { IfOk result (λ meaning. MatchOption meaning
+        (is_kind (entry_of field.now) ≡ false)
+        (λ m. (is_kind (entry_of field.now) ≡ true) × Means field.now.number (content_of field.now.payload) (value_of m))) }
+    ensures err { IfErr result (λ cause. first (kind_rules field.now.number (content_of field.now.payload)) ≡ Some cause) }
+{
+    let payload = &field.payload;
+    let meaning = match field.number {
+        1 => Meaning::Text(text_of(payload)?),
+        2 => Meaning::Float(fixed32_of(payload)?),
+        3 => Meaning::Double(fixed64_of(payload)?),
+        4 => Meaning::Int(varint_of(payload)?.cast_signed()),
+        5 => Meaning::Uint(varint_of(payload)?),
+        6 => Meaning::Sint(unzigzag64(varint_of(payload)?)),
+        7 => Meaning::Bool(varint_of(payload)? != 0),
+        _ => return Ok(None),
+    };
+    Ok(Some(meaning))
+}
+
+fn text_of<'a>(payload: &Payload<'a>) -> Result<&'a str, Cause>
+    ensures text { IfOk result (λ text. content_of payload.now ≡ bytes text.now) }
+    ensures ok { OnOk result (first (text_rules (content_of payload.now)) ≡ None) }
+    ensures err { IfErr result (λ cause. first (text_rules (content_of payload.now)) ≡ Some cause) }
+{
+    let Payload::Len(bytes) = payload else {
+        return Err(Cause::WrongType);
+    };
+    match str::from_utf8(bytes) {
+        Ok(text) => Ok(text),
+        Err(_) => Err(Cause::NotUtf8),
+    }
+}
+
+fn fixed32_of(payload: &Payload<'_>) -> Result<u32, Cause>
+    ensures number { IfOk result (λ n. content_of payload.now ≡ fixed32 n) }
+    ensures ok { OnOk result (first (fixed32_rules (content_of payload.now)) ≡ None) }
+    ensures err { IfErr result (λ cause. first (fixed32_rules (content_of payload.now)) ≡ Some cause) }
+{
+    let Payload::I32(number) = payload else {
+        return Err(Cause::WrongType);
+    };
+    Ok(*number)
+}
+
+fn fixed64_of(payload: &Payload<'_>) -> Result<u64, Cause>
+    ensures number { IfOk result (λ n. content_of payload.now ≡ fixed64 n) }
+    ensures ok { OnOk result (first (fixed64_rules (content_of payload.now)) ≡ None) }
+    ensures err { IfErr result (λ cause. first (fixed64_rules (content_of payload.now)) ≡ Some cause) }
+{
+    let Payload::I64(number) = payload else {
+        return Err(Cause::WrongType);
+    };
+    Ok(*number)
+}
+
+pub(crate) fn varint_of(payload: &Payload<'_>) -> Result<u64, Cause>
+    ensures number { IfOk result (λ n. content_of payload.now ≡ varint n) }
+    ensures ok { OnOk result (first (varint_rules (content_of payload.now)) ≡ None) }
+    ensures err { IfErr result (λ cause. first (varint_rules (content_of payload.now)) ≡ Some cause) }
+{
+    let Payload::Varint(number) = payload else {
+        return Err(Cause::WrongType);
+    };
+    Ok(*number)
+}

@@ -1,0 +1,138 @@
+//! Values and features in their canonical spelling.
+ghost use Rattle.std.specs.Prelude.{◌≡◌, ◌⊎◌, ℕ, ◌^◌, ◌<◌, ◌++◌, length, take, OnOk, OnErr, IsErrOf};
+ghost use Rattle.mvt_attrs.specs.Pools.{key_pool, value_pool};
+ghost use Rattle.mvt_attrs.specs.Tags.{Names};
+ghost use Rattle.mvt_attrs.specs.TagPlaces.{tags_in};
+ghost use Rattle.mvt_geometry.specs.Valid.{IsValid};
+ghost use Rattle.mvt_wire.specs.Spelling.{spelled};
+ghost use Rattle.mvt_feature.specs.Canonical.{value_fields, id_fields, tags_fields, drawing_fields, feature_fields, type_number as the_type_number};
+
+use crate::feature::Feature;
+use crate::room::Room;
+use mvt_attrs::{KeyPool, PoolError, Value, ValuePool, append_tags};
+use mvt_geometry::{Kind, append_geometry, kind_of};
+use mvt_wire::{Payload, field_len, put_field, put_packed, varint_len, zigzag64};
+use std::alloc::AllocError;
+
+/// Appends the payload of a value.
+pub fn append_value(out: &mut Vec<u8>, value: &Value) -> Result<(), AllocError>
+    ensures ok { OnOk result (out.new.items ≡ out.old.items ++ spelled (value_fields value.now)) }
+    ensures err { OnErr result (out.new.items ≡ out.old.items) }
+{
+    match value {
+        Value::Text(text) => put_field(out, 1, &Payload::Len(text.as_str().as_bytes())),
+        Value::Float(bits) => put_field(out, 2, &Payload::I32(*bits)),
+        Value::Double(bits) => put_field(out, 3, &Payload::I64(*bits)),
+        Value::Int(number) => put_field(out, 4, &Payload::Varint(number.cast_unsigned())),
+        Value::Uint(number) => put_field(out, 5, &Payload::Varint(*number)),
+        Value::Sint(number) => put_field(out, 6, &Payload::Varint(zigzag64(*number))),
+        Value::Bool(truth) => put_field(out, 7, &Payload::Varint(u64::from(*truth))),
+    }
+}
+
+/// How long the payload of a value is.
+pub fn value_len(value: &Value) -> u64
+    ensures { result ≡ length (spelled (value_fields value.now)) }
+{
+    match value {
+        Value::Text(text) => field_len(1, text.as_str().len() as u64),
+        Value::Float(_) => 5,
+        Value::Double(_) => 9,
+        Value::Int(number) => 1 + varint_len(number.cast_unsigned()) as u64,
+        Value::Uint(number) => 1 + varint_len(*number) as u64,
+        Value::Sint(number) => 1 + varint_len(zigzag64(*number)) as u64,
+        Value::Bool(_) => 2,
+    }
+}
+
+/// Appends the payload of a feature. Its keys and values get their places in the pools of the layer,
+/// which may still grow: a tag stays what it is.
+///
+/// # Errors
+///
+/// The pools are as after a refused `append_tags`, and the list is as it was or a longer one.
+pub fn append_feature(
+    out: &mut Vec<u8>,
+    feature: &Feature,
+    keys: &mut KeyPool,
+    values: &mut ValuePool,
+    room: &mut Room,
+) -> Result<(), PoolError>
+    requires { IsValid feature.now.geometry }
+    ensures ok { OnOk result (out.new.items ≡ out.old.items
+        ++ spelled (feature_fields (tags_in keys.new values.new feature.now.attributes) feature.now)) }
+    ensures names { OnOk result
+        (Names keys.new values.new (tags_in keys.new values.new feature.now.attributes) feature.now.attributes) }
+
+    // Each pool gains the entries that it lacked, in order of first use.
+    ensures keys { OnOk result (keys.new ≡ key_pool keys.old feature.now.attributes) }
+    ensures values { OnOk result (values.new ≡ value_pool values.old feature.now.attributes) }
+    ensures keys_left { OnErr result ((n : ℕ) × (keys.new ≡ key_pool keys.old (take n feature.now.attributes))) }
+    ensures values_left { OnErr result ((n : ℕ) × (values.new ≡ value_pool values.old (take n feature.now.attributes))) }
+    ensures full { IsErrOf result PoolError.Full → (length keys.new ≡ 67108864) ⊎ (length values.new ≡ 67108864) }
+{
+    room.tags.clear();
+    room.integers.clear();
+    append_tags(feature.attributes.as_slice(), keys, values, &mut room.tags)?;
+    append_geometry(&mut room.integers, &feature.geometry)?;
+    append_fields(
+        out,
+        feature.id,
+        &room.tags,
+        kind_of(&feature.geometry),
+        &room.integers,
+    )?;
+    Ok(())
+}
+
+/// Appends the fields of a feature with this id, these tags and this geometry.
+fn append_fields(
+    out: &mut Vec<u8>,
+    id: Option<u64>,
+    tags: &[u32],
+    kind: Kind,
+    integers: &[u32],
+) -> Result<(), AllocError>
+    ensures { OnOk result (out.new.items ≡ out.old.items
+        ++ spelled (id_fields id ++ (tags_fields tags.now ++ drawing_fields kind integers.now))) }
+{
+    append_id(out, id)?;
+    append_tags_field(out, tags)?;
+    append_drawing(out, kind, integers)
+}
+
+fn append_id(out: &mut Vec<u8>, id: Option<u64>) -> Result<(), AllocError>
+    ensures { OnOk result (out.new.items ≡ out.old.items ++ spelled (id_fields id)) }
+{
+    match id {
+        Some(id) => put_field(out, 1, &Payload::Varint(id)),
+        None => Ok(()),
+    }
+}
+
+fn append_tags_field(out: &mut Vec<u8>, tags: &[u32]) -> Result<(), AllocError>
+    ensures { OnOk result (out.new.items ≡ out.old.items ++ spelled (tags_fields tags.now)) }
+{
+    if tags.is_empty() {
+        return Ok(());
+    }
+    put_packed(out, 2, tags)
+}
+
+fn append_drawing(out: &mut Vec<u8>, kind: Kind, integers: &[u32]) -> Result<(), AllocError>
+    ensures { OnOk result (out.new.items ≡ out.old.items ++ spelled (drawing_fields kind integers.now)) }
+{
+    put_field(out, 3, &Payload::Varint(type_number(kind)))?;
+    put_packed(out, 4, integers)
+}
+
+fn type_number(kind: Kind) -> u64
+    ensures { result ≡ the_type_number kind }
+{
+    match kind {
+        Kind::Unknown => 0,
+        Kind::Point => 1,
+        Kind::LineString => 2,
+        Kind::Polygon => 3,
+    }
+}
