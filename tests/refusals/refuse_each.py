@@ -5,9 +5,9 @@
 
 SHIM is the library built of refuse.c, WORD a part of the names of the tests, and TESTS are the
 executables of tests that `rt ci` leaves (crates/NAME/out/NAME_tests). A test passes here if it
-passes under every refusal; then a line tells how many runs there were. The last line is
-'N passed, M failed', and the exit status is 1 where a test failed, where no test has the word,
-or where the shim counted nothing.
+passes under every refusal, and one that asks for no memory if it passes; a line tells how many runs
+there were. The last line is 'N passed, M failed', and the exit status is 1 where a test failed, where
+no test has the word, or where the shim told nothing.
 """
 
 import os
@@ -49,8 +49,8 @@ def run(executable, name, shim, refused):
 def sweep(executable, name, shim):
     """Why the test fails, or None, and how many runs there were."""
     status, printed, count = run(executable, name, shim, 0)
-    if count is None or count == 0:
-        return "the shim counted no allocation", 1
+    if count is None:
+        return "the shim told no count", 1
     if status != 0:
         return "fails with no allocation refused: %s" % printed.strip()[-500:], 1
     refused = 0

@@ -1,4 +1,3 @@
-pub mod BaseLemmas
 pub mod EqualityLemmas
 pub mod FirstUseLemmas
 pub mod PoolLemmas

@@ -27,12 +27,13 @@ pub struct KeyPool {
 
 impl Model for KeyPool {
     ghost use Rattle.std.specs.Prelude.{List, ℕ, ◌≤◌, length, map, string_bytes};
+    ghost use Rattle.mvt_base.specs.declared.TheConstants.{LIMIT};
 
     ghost Value = { List (List ℕ) };
 
     ghost view = { λ p. map string_bytes p.keys.keys };
 
-    ghost invariant = { λ p. length p.keys.keys ≤ 67108864 };
+    ghost invariant = { λ p. length p.keys.keys ≤ LIMIT };
 }
 
 impl KeyPool {
@@ -47,7 +48,7 @@ impl KeyPool {
 
     pub fn len(&self) -> usize
         ensures len { result ≡ length self.now }
-        ensures limit { result ≤ 67108864 }
+        ensures limit { result ≤ LIMIT }
         ensures distinct { AreDistinct self.now }
     {
         self.keys.len()
@@ -77,7 +78,7 @@ impl KeyPool {
         // Another is added, or the pool stays.
         ensures added { ¬ (Contains self.old key.now) → OnOk result (self.new ≡ self.old ++ key.now ∷ []) }
         ensures unchanged { OnErr result (self.new ≡ self.old) }
-        ensures full { IsErrOf result PoolError.Full ↔ ((length self.old ≡ 67108864) × (¬ (Contains self.old key.now))) }
+        ensures full { IsErrOf result PoolError.Full ↔ ((length self.old ≡ LIMIT) × (¬ (Contains self.old key.now))) }
     {
         if let Some(index) = place_of_key(&self.keys, key) {
             return Ok(index as u32);

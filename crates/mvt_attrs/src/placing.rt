@@ -8,6 +8,7 @@ use crate::key_pool::KeyPool;
 use crate::pool_error::PoolError;
 use crate::value::Attribute;
 use crate::value_pool::ValuePool;
+use mvt_base::LIMIT;
 use std::alloc::Global;
 
 /// The tags of a feature with these attributes (4.4): for each the place of its key and that of its
@@ -29,7 +30,7 @@ pub fn tags_of(
     ensures values { OnOk result (values.new ≡ value_pool values.old attributes.now) }
     ensures keys_left { OnErr result ((n : ℕ) × (keys.new ≡ key_pool keys.old (take n attributes.now))) }
     ensures values_left { OnErr result ((n : ℕ) × (values.new ≡ value_pool values.old (take n attributes.now))) }
-    ensures full { IsErrOf result PoolError.Full → (length keys.new ≡ 67108864) ⊎ (length values.new ≡ 67108864) }
+    ensures full { IsErrOf result PoolError.Full → (length keys.new ≡ LIMIT) ⊎ (length values.new ≡ LIMIT) }
 {
     let mut tags = Vec::new(alloc);
     append_tags(attributes, keys, values, &mut tags)?;
@@ -55,7 +56,7 @@ pub fn append_tags(
     ensures values { OnOk result (values.new ≡ value_pool values.old attributes.now) }
     ensures keys_left { OnErr result ((n : ℕ) × (keys.new ≡ key_pool keys.old (take n attributes.now))) }
     ensures values_left { OnErr result ((n : ℕ) × (values.new ≡ value_pool values.old (take n attributes.now))) }
-    ensures full { IsErrOf result PoolError.Full → (length keys.new ≡ 67108864) ⊎ (length values.new ≡ 67108864) }
+    ensures full { IsErrOf result PoolError.Full → (length keys.new ≡ LIMIT) ⊎ (length values.new ≡ LIMIT) }
 {
     let _ = (keys.len(), values.len());
     for attribute in attributes {

@@ -27,13 +27,14 @@ pub struct ValuePool {
 
 impl Model for ValuePool {
     ghost use Rattle.std.specs.Prelude.{List, ◌≤◌, length};
+    ghost use Rattle.mvt_base.specs.declared.TheConstants.{LIMIT};
     ghost use Rattle.mvt_attrs.specs.declared.value.Value.{Value as OneValue};
 
     ghost Value = { List OneValue };
 
     ghost view = { λ p. p.values.keys };
 
-    ghost invariant = { λ p. length p.values.keys ≤ 67108864 };
+    ghost invariant = { λ p. length p.values.keys ≤ LIMIT };
 }
 
 impl ValuePool {
@@ -48,7 +49,7 @@ impl ValuePool {
 
     pub fn len(&self) -> usize
         ensures len { result ≡ length self.now }
-        ensures limit { result ≤ 67108864 }
+        ensures limit { result ≤ LIMIT }
         ensures distinct { AreDistinct self.now }
     {
         self.values.len()
@@ -78,7 +79,7 @@ impl ValuePool {
         // Another is added, or the pool stays.
         ensures added { ¬ (Contains self.old value.now) → OnOk result (self.new ≡ self.old ++ value.now ∷ []) }
         ensures unchanged { OnErr result (self.new ≡ self.old) }
-        ensures full { IsErrOf result PoolError.Full ↔ ((length self.old ≡ 67108864) × (¬ (Contains self.old value.now))) }
+        ensures full { IsErrOf result PoolError.Full ↔ ((length self.old ≡ LIMIT) × (¬ (Contains self.old value.now))) }
     {
         if let Some(index) = place_of_value(&self.values, value) {
             return Ok(index as u32);

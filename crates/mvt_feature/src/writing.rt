@@ -76,7 +76,7 @@ pub fn append_feature(
     room.tags.clear();
     room.integers.clear();
     append_tags(feature.attributes.as_slice(), keys, values, &mut room.tags)?;
-    append_geometry(&mut room.integers, &feature.geometry)?;
+    append_geometry(&feature.geometry, &mut room.integers)?;
     append_fields(
         out,
         feature.id,

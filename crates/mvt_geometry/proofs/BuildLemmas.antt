@@ -1,22 +1,21 @@
 -- What the builder has made so far.
-use Rattle.std.proofs.Common.{◌≡◌, ℕ, ◌+◌, ◌-◌, ◌*◌, ◌/◌, ◌<◌, ◌≤◌, ◌^◌, List, [], ◌∷◌, ◌++◌, length, get_or, take, drop, ℤ, pos, negsuc, ◌≤ℤ◌, to_z, of_z, w32, ◌+ℤ◌, refl, sym, ap, ap₂, subst, ◌∙◌, arith, append_assoc, append-nil, length-append}
+use Rattle.std.proofs.Common.{◌≡◌, ℕ, ◌+◌, ◌-◌, ◌*◌, ◌/◌, ◌<◌, ◌≤◌, ◌^◌, List, [], ◌∷◌, ◌++◌, length, get_or, take, drop, refl, sym, ap, ap₂, subst, ◌∙◌, arith, append_assoc, append-nil, length-append}
 use Rattle.std.proofs.lemmas.List.{take_at, drop_at, take_rest}
-use Rattle.std.proofs.lemmas.Int.{ints, to_z-of_z}
-use Rattle.mvt_wire.specs.Zigzag.{zig}
+use Rattle.std.proofs.lemmas.Int.{ints}
 use Rattle.mvt_base.proofs.ListLemmas.{all_weaker}
 use Rattle.mvt_geometry.specs.declared.shape.Point.{Point}
 use Rattle.mvt_geometry.specs.declared.shape.Polygon.{Polygon}
 use Rattle.mvt_geometry.specs.declared.shape.Geometry.{Geometry}
 use Rattle.mvt_geometry.specs.declared.shape.Geometry.TheVariants.{Unknown, Points, Lines, Polygons}
 use Rattle.mvt_geometry.specs.declared.shape.Kind.TheVariants as kinds
-use Rattle.mvt_geometry.specs.Shape.{InRange, IsPlace, origin, rings_of}
+use Rattle.mvt_geometry.specs.Shape.{IsPlace, origin, rings_of}
 use Rattle.mvt_geometry.specs.Valid.{IsStroke, Grouped}
 use Rattle.mvt_geometry.specs.Drawing.{path_from, Draws}
-use Rattle.mvt_geometry.specs.Commands.{pairs_of, unzig, stepped, moved, positions}
+use Rattle.mvt_geometry.specs.Commands.{pairs_of, stepped, moved, positions}
 use Rattle.mvt_geometry.specs.Inner.Judging.{last_of}
 use Rattle.mvt_geometry.specs.Inner.Strokes.{strokes_from}
 use Rattle.mvt_geometry.specs.Inner.Building.{ArePlaces, IsFront, AreLines, AreRings}
-use Rattle.mvt_geometry.proofs.PathLemmas.{pairs-path, positions-between, moved-between, length-path, unzig-zig}
+use Rattle.mvt_geometry.proofs.PathLemmas.{pairs-path, positions-between, moved-between, length-path}
 use Rattle.mvt_geometry.proofs.StrokeLemmas.{stroke-more, strokes_are}
 use Rattle.mvt_geometry.proofs.WholeLemmas.{some_of_strokes}
 use Rattle.mvt_geometry.proofs.GroupLemmas.{one_grouping}
@@ -137,14 +136,6 @@ pub end_of_lines : {end : List ℕ} {c : Point} {ints : List ℕ} {lines : List 
 end_of_lines {lines = []} a none = refl
 end_of_lines {lines = [] ∷ ls} a none = absurd (omega (arith, a.are.0.enough))
 end_of_lines {lines = (p ∷ ps) ∷ ls} a none = absurd (omega (arith, none, ap length a.spelled))
-
--- a coordinate moved by a parameter
-pub moved_number : (x z a b : ℤ) (n : ℕ) → a ≡ x → b ≡ z → zig z ≡ n → InRange (x +ℤ unzig n) → to_z w32 (of_z w32 (a +ℤ b)) ≡ x +ℤ unzig n
-moved_number x z a b n e f is range =
-    let sum : a +ℤ b ≡ x +ℤ unzig n = ap₂ (λ u v. u +ℤ v) e (f ∙ sym (unzig-zig z) ∙ ap unzig is) in
-    let low : negsuc 2147483646 ≤ℤ (x +ℤ unzig n) = range.low in
-    let high : (x +ℤ unzig n) ≤ℤ pos 2147483647 = range.high in
-    rw sum (to_z-of_z w32 (x +ℤ unzig n) (omega (arith, ints, low, high)))
 
 -- what integers draw, by kind
 pub draws_points : (ints : List ℕ) (g : Geometry) → Draws kinds.Point ints g → (ps : List Point) × (g ≡ Points ps) × ArePlaces ps × (drop 1 ints ≡ path_from origin ps)

@@ -1,9 +1,9 @@
 -- Pairs of parameters against the points that they lead to.
-use Rattle.std.proofs.Common.{◌≡◌, ◌≢◌, ℕ, zero, suc, ◌+◌, ◌*◌, ◌/◌, ◌%◌, ◌^◌, ◌<◌, Bool, true, false, ◌&&◌, eqb, List, [], ◌∷◌, ◌++◌, length, None, ℤ, pos, negsuc, ◌+ℤ◌, ◌-ℤ◌, ◌≤ℤ◌, refl, sym, ap, ap₂, ◌∙◌, ◌⊎◌, inl, inr, arith}
+use Rattle.std.proofs.Common.{◌≡◌, ◌≢◌, ℕ, zero, suc, ◌+◌, ◌*◌, ◌/◌, ◌%◌, ◌^◌, ◌<◌, Bool, true, false, ◌&&◌, eqb, List, [], ◌∷◌, ◌++◌, length, None, ℤ, pos, negsuc, ◌+ℤ◌, ◌-ℤ◌, ◌≤ℤ◌, to_z, of_z, w32, refl, sym, ap, ap₂, ◌∙◌, ◌⊎◌, inl, inr, arith}
 use Rattle.std.specs.Option.{option_or}
 use Rattle.std.specs.List.{AllByRecursion}
 use Rattle.std.proofs.lemmas.Bool.{cases_eq, ne_eqb, false≢true}
-use Rattle.std.proofs.lemmas.Int.{ints}
+use Rattle.std.proofs.lemmas.Int.{ints, to_z-of_z}
 use Rattle.mvt_base.specs.Rules.{Rules, first, under, each}
 use Rattle.mvt_base.proofs.RuleLemmas.{first-append, first-under, option_or-nones}
 use Rattle.mvt_wire.specs.Zigzag.{zig}
@@ -27,6 +27,14 @@ zig-unzig n = by_parity (cases_eq (n % 2) 0)
     by_parity : (n % 2 ≡ 0) ⊎ (n % 2 ≢ 0) → zig (unzig n) ≡ n
     by_parity (inl e) = let h : 2 * (n / 2) ≡ n = omega (arith, e) in rw e h
     by_parity (inr o) = let t : eqb (n % 2) 0 ≡ false = ne_eqb (n % 2) 0 o in let h : 2 * (n / 2) + 1 ≡ n = omega (arith, o) in rw t h
+
+-- a coordinate moved by a parameter
+pub moved_number : (x z a b : ℤ) (n : ℕ) → a ≡ x → b ≡ z → zig z ≡ n → InRange (x +ℤ unzig n) → to_z w32 (of_z w32 (a +ℤ b)) ≡ x +ℤ unzig n
+moved_number x z a b n e f is range =
+    let sum : a +ℤ b ≡ x +ℤ unzig n = ap₂ (λ u v. u +ℤ v) e (f ∙ sym (unzig-zig z) ∙ ap unzig is) in
+    let low : negsuc 2147483646 ≤ℤ (x +ℤ unzig n) = range.low in
+    let high : (x +ℤ unzig n) ≤ℤ pos 2147483647 = range.high in
+    rw sum (to_z-of_z w32 (x +ℤ unzig n) (omega (arith, ints, low, high)))
 
 -- the difference to a point leads to it, and a parameter is the difference that it makes
 back : (a b : ℤ) → a +ℤ (b -ℤ a) ≡ b

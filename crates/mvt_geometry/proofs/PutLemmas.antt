@@ -12,7 +12,7 @@ use Rattle.mvt_geometry.specs.Valid.{IsStroke}
 use Rattle.mvt_geometry.specs.Drawing.{path_from}
 use Rattle.mvt_geometry.specs.Inner.Judging.{last_of}
 use Rattle.mvt_geometry.specs.Inner.Strokes.{stroke, strokes_from}
-use Rattle.mvt_geometry.specs.Inner.Putting.{IsShort, AreShort}
+use Rattle.mvt_geometry.specs.Inner.Putting.{IsShort, AreShort, BeginsWith}
 use Rattle.mvt_geometry.proofs.AreaLemmas.{last_of-append}
 use Rattle.mvt_geometry.proofs.StrokeLemmas.{steps-front, steps-back}
 
@@ -71,3 +71,13 @@ short_strokes least ls h are = all_weaker (IsStroke least) IsShort (λ l is. rec
 
 pub rings_at : (polygons rest : List Polygon) (p : Polygon) → polygons ≡ p ∷ rest → rings_of polygons ≡ p.outer ∷ (p.rest ++ rings_of rest)
 rings_at polygons rest p e = ap rings_of e
+
+-- a list that grows begins with what it was
+pub begins_same : (old mid new : List ℕ) → BeginsWith old mid → new ≡ mid → BeginsWith old new
+begins_same old mid new b e = (b.0, e ∙ b.1)
+
+pub begins_more : (old mid new xs : List ℕ) → BeginsWith old mid → new ≡ mid ++ xs → BeginsWith old new
+begins_more old mid new xs b e = (b.0 ++ xs, e ∙ ap (λ ys. ys ++ xs) b.1 ∙ append_assoc old b.0 xs)
+
+pub begins_on : (old mid new : List ℕ) → BeginsWith old mid → BeginsWith mid new → BeginsWith old new
+begins_on old mid new b c = begins_more old mid new c.0 b c.1

@@ -1,7 +1,8 @@
--- The surveyor's formula (Mapbox Vector Tile Specification 2.1, 4.3.3.3).
+-- The surveyor's formula (Mapbox Vector Tile Specification 2.1, 4.3.4.4).
 use Rattle.std.specs.Prelude.{ℤ, pos, ◌+ℤ◌, ◌-ℤ◌, ◌*ℤ◌, List, [], ◌∷◌, ◌++◌, take, drop}
 use Rattle.mvt_geometry.specs.declared.shape.Point.{Point}
 
+-- what the edge from p to q adds
 abbrev pub cross : Point → Point → ℤ
 cross p q = (p.x *ℤ q.y) -ℤ (q.x *ℤ p.y)
 

@@ -86,7 +86,7 @@ abbrev pub positions : Point → List Pair → List Point
 positions c [] = []
 positions c (d ∷ pairs) = stepped c d ∷ positions (stepped c d) pairs
 
--- 4.3.2: the cursor before command k
+-- 4.3.3: the cursor before command k
 unfoldable pub cursor : Kind → List ℕ → ℕ → Point
 cursor kind g zero = origin
 cursor kind g (suc k) = moved (cursor kind g k) (moves kind g k)

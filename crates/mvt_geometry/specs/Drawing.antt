@@ -13,6 +13,7 @@ abbrev pub path_from : Point → List Point → List ℕ
 path_from before [] = []
 path_from before (p ∷ points) = zig (p.x -ℤ before.x) ∷ zig (p.y -ℤ before.y) ∷ path_from p points
 
+-- the path of a feature, whose cursor begins at the origin
 abbrev pub path : List Point → List ℕ
 path points = path_from origin points
 
@@ -30,6 +31,7 @@ drawn (Points points) = (1 + 8 * length points) ∷ path points
 drawn (Lines lines) = strokes [] lines (path (joined lines))
 drawn (Polygons polygons) = strokes (15 ∷ []) (rings_of polygons) (path (joined (rings_of polygons)))
 
+-- integers draw a geometry of this kind, with its positions in the range given
 pub record DrawsOf (range : Range) (kind : Kind) (integers : List ℕ) (g : Geometry) : Type 0 where
   pub same_kind : kind ≡ kind_of g
   pub valid : IsValidOf range g

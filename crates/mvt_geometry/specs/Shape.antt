@@ -23,7 +23,7 @@ rings_of polygons = flat_map (λ p. p.outer ∷ p.rest) polygons
 abbrev pub joined : List (List Point) → List Point
 joined lines = flat_map (λ l. l) lines
 
--- 4.3.2: the cursor before the first command
+-- 4.3.3: the cursor before the first command
 abbrev pub origin : Point
 origin = record { x = pos 0; y = pos 0 }
 
@@ -40,10 +40,12 @@ wide = record { low = negsuc 2147483646; high = pos 2147483647 }
 abbrev pub narrow : Range
 narrow = record { low = negsuc 1073741823; high = pos 1073741823 }
 
+-- a number in a range
 pub record InRangeOf (range : Range) (z : ℤ) : Type 0 where
   pub low : range.low ≤ℤ z
   pub high : z ≤ℤ range.high
 
+-- a number in the wide range
 abbrev pub InRange : ℤ → Type 0
 InRange z = InRangeOf wide z
 
@@ -51,6 +53,7 @@ InRange z = InRangeOf wide z
 abbrev pub IsPlaceOf : Range → Point → Type 0
 IsPlaceOf range p = InRangeOf range p.x × InRangeOf range p.y
 
+-- a position that can be drawn
 abbrev pub IsPlace : Point → Type 0
 IsPlace p = IsPlaceOf wide p
 

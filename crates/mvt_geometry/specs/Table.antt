@@ -15,19 +15,24 @@ use Rattle.mvt_geometry.specs.Shape.{Range, wide}
 use Rattle.mvt_geometry.specs.Area.{area2}
 use Rattle.mvt_geometry.specs.Commands.{id_of, is_allowed, due, may_not_end, Pair, pair_count, pairs_at, start, moved, cursor, first_ring}
 
+-- the index of an integer, and the cause
 abbrev pub IndexedCause : Type 0
 IndexedCause = ℕ × GeometryCause
 
+-- a coordinate that is out of range
 abbrev pub is_outside : Range → ℤ → Bool
 is_outside range z = lt_z z range.low || lt_z range.high z
 
+-- the command due draws lines
 abbrev pub is_line_to : Option Command → Bool
 is_line_to (Some LineTo) = true
 is_line_to command = false
 
+-- the command due has this number; where none is due, none has it
 abbrev pub has_id : Option Command → ℕ → Bool
 has_id command id = option_map_or (λ c. id == id_of c) command false
 
+-- the command due may have this count
 abbrev pub has_allowed : Kind → Option Command → ℕ → Bool
 has_allowed kind command n = option_map_or (λ c. is_allowed kind c n) command true
 
@@ -46,34 +51,40 @@ step_rules is_line at d to = rows (step_rows is_line at d to)
 unfoldable pub pair_rules : Bool → ℕ → Point → List Pair → Pair → Rules IndexedCause
 pair_rules is_line at from front d = step_rules is_line (at + 2 * length front) d (moved from (front ++ d ∷ []))
 
--- a command that begins at s, up to its count and its room
+-- the integers end at s, where a command has to come
 unfoldable pub ends_early : Bool → List ℕ → ℕ → Rules IndexedCause
 ends_early must_not g s = when ((s == length g) && must_not) (s, causes.EndsEarly)
 
+-- 4.3.4: another command stands at s than the one due, or none is due
 unfoldable pub wrong_command : Option Command → List ℕ → ℕ → Rules IndexedCause
 wrong_command command g s = when (nat_lt s (length g) && not (has_id command (slice_index g s % 8))) (s, causes.Command)
 
+-- 4.3.4: its count isn't one that the geometry allows
 unfoldable pub wrong_count : Kind → Option Command → List ℕ → ℕ → Rules IndexedCause
 wrong_count kind command g s =
     when (nat_lt s (length g) && not (has_allowed kind command (slice_index g s / 8))) (s, causes.Count)
 
+-- 4.3.1: fewer integers are left than it has parameters
 unfoldable pub no_room : Option Command → List ℕ → ℕ → Rules IndexedCause
 no_room command g s =
     when (nat_lt s (length g) && nat_lt (length g) (s + 1 + 2 * pair_count command (slice_index g s / 8))) (s, causes.Parameters)
 
+-- a command that begins at s, up to its count and its room
 abbrev pub header_rows : Bool → Kind → Option Command → List ℕ → ℕ → List (ℕ × Rules IndexedCause)
 header_rows must_not kind command g s =
     (0, ends_early must_not g s) ∷ (1, wrong_command command g s) ∷ (2, wrong_count kind command g s)
     ∷ (3, no_room command g s) ∷ []
 
+-- its pairs
 unfoldable pub wrong_pairs : Option Command → Point → List ℕ → ℕ → Rules IndexedCause
 wrong_pairs command from g s = each (pair_rules (is_line_to command) (s + 1) from) [] (pairs_at command g s)
 
--- 4.3.4.4: the first ring is an exterior one
+-- the ClosePath of the first ring
 abbrev pub is_first_close : Kind → ℕ → Bool
 is_first_close kinds.Polygon k = k == 2
 is_first_close kind k = false
 
+-- 4.3.4.4: the first ring is an exterior one
 unfoldable pub wrong_ring : Kind → List ℕ → ℕ → ℕ → Rules IndexedCause
 wrong_ring kind g k s =
     when (is_first_close kind k && lt_z (area2 (first_ring g)) (pos 0)) (s, causes.FirstRing)
@@ -86,6 +97,7 @@ command_rows kind g k s =
 unfoldable pub command_rules : Kind → List ℕ → ℕ → ℕ → Rules IndexedCause
 command_rules kind g k s = rows (command_rows kind g k s)
 
+-- command k, which begins at s or nowhere
 abbrev pub rules_at : Kind → List ℕ → ℕ → Option ℕ → Rules IndexedCause
 rules_at kind g k None = []
 rules_at kind g k (Some s) = command_rules kind g k s

@@ -15,6 +15,7 @@ pub record IsStrokeOf (range : Range) (least : ℕ) (points : List Point) : Type
   pub apart : Apart points
   pub places : AllByRecursion (IsPlaceOf range) points
 
+-- the same in the wide range
 abbrev pub IsStroke : ℕ → List Point → Type 0
 IsStroke least points = IsStrokeOf wide least points
 
@@ -41,6 +42,7 @@ IsValidOf range (Polygons polygons) =
     Grouped (rings_of polygons) polygons × AllByRecursion (IsStrokeOf range 3) (rings_of polygons)
     × AreSteps origin (joined (rings_of polygons))
 
+-- a geometry that integers can draw
 abbrev pub IsValid : Geometry → Type 0
 IsValid g = IsValidOf wide g
 

@@ -1,4 +1,4 @@
-//! Twice the area of a ring (section 4.3.3.3).
+//! Twice the area of a ring (section 4.3.4.4).
 ghost use Rattle.std.specs.Prelude.{◌≡◌, ◌≤◌, ◌^◌, ◌*ℤ◌};
 ghost use Rattle.std.specs.Int.RustNames.{unsigned_abs};
 ghost use Rattle.mvt_geometry.specs.Area.{area2, cross as the_cross};
@@ -24,7 +24,7 @@ pub fn twice_area(ring: &[Point]) -> i128
 }
 
 /// What the edge from one point to another adds to twice the area.
-#[inline]
+#[inline(always)]
 pub(crate) fn cross(from: Point, to: Point) -> i128
     ensures value { result ≡ the_cross from to }
     ensures small { unsigned_abs result ≤ 2 ^ 63 }
@@ -32,7 +32,7 @@ pub(crate) fn cross(from: Point, to: Point) -> i128
     i128::from(product(from.x, to.y)) - i128::from(product(to.x, from.y))
 }
 
-#[inline]
+#[inline(always)]
 fn product(a: i32, b: i32) -> i64
     ensures value { result ≡ a *ℤ b }
     ensures small { unsigned_abs result ≤ 2 ^ 62 }

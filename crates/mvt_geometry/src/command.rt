@@ -13,7 +13,7 @@ pub(crate) enum Command {
 }
 
 impl Command {
-    #[inline]
+    #[inline(always)]
     pub(crate) fn id(self) -> u32
         ensures { result ≡ id_of self }
     {
@@ -25,7 +25,7 @@ impl Command {
     }
 
     /// Whether its pairs draw lines.
-    #[inline]
+    #[inline(always)]
     pub(crate) fn is_line(self) -> bool
         ensures { result ≡ is_line_to (Some self) }
     {
@@ -33,7 +33,7 @@ impl Command {
     }
 
     /// Whether a geometry of this type may have the command with this count.
-    #[inline]
+    #[inline(always)]
     pub(crate) fn allows(self, kind: Kind, count: u32) -> bool
         ensures { result ≡ is_allowed kind self count }
     {

@@ -1,9 +1,9 @@
 //! Whether integers draw a geometry: one pass over them, without memory.
-ghost use Rattle.std.specs.Prelude.{◌≡◌, ◌≢◌, ◌+◌, ◌*◌, ◌/◌, ◌%◌, ◌-◌, ◌<◌, ◌≤◌, ◌^◌, ℕ, suc, Bool, true, ℤ, pos, [], length, slice_index, ◌==◌, ◌&&◌, IfOk, IfErr, OnOk, IfSome, IfNone, ◌+ℤ◌};
+ghost use Rattle.std.specs.Prelude.{◌≡◌, ◌≢◌, ◌+◌, ◌*◌, ◌/◌, ◌%◌, ◌-◌, ◌<◌, ◌≤◌, ◌^◌, ℕ, suc, Bool, true, ℤ, pos, [], length, slice_index, ◌==◌, ◌&&◌, IfOk, IfErr, OnOk, IsTrue, ◌↔◌, IfSome, IfNone, ◌+ℤ◌};
 ghost use Rattle.std.specs.Int.RustNames.{unsigned_abs};
 ghost use Rattle.mvt_base.specs.Rules.{first, rows, each};
-ghost use Rattle.mvt_geometry.specs.Shape.{InRange};
-ghost use Rattle.mvt_geometry.specs.Commands.{Pair, pair_count, pairs_of, due, may_not_end, unzig, stepped, moved as pairs_moved, positions};
+ghost use Rattle.mvt_geometry.specs.Shape.{InRange, IsPlace};
+ghost use Rattle.mvt_geometry.specs.Commands.{Pair, pair_count, pairs_of, due, may_not_end, unzig, stepped, moved, positions};
 ghost use Rattle.mvt_geometry.specs.Table.{step_rules, pair_rules, header_rows, geometry_fault};
 ghost use Rattle.mvt_geometry.specs.Inner.Judging.{IsHeader, Reached, edges};
 
@@ -138,6 +138,7 @@ fn judge_ring(integers: &[u32], pen: Pen) -> Result<(Pen, i128), Fault>
 }
 
 /// The pen behind a command that has parameters.
+#[inline(always)]
 fn judge_command(kind: Kind, command: Command, integers: &[u32], pen: Pen) -> Result<Pen, Fault>
     requires within { pen.at ≤ length integers.now }
     requires has_pairs { command ≢ Command.ClosePath }
@@ -156,6 +157,7 @@ fn judge_command(kind: Kind, command: Command, integers: &[u32], pen: Pen) -> Re
 }
 
 /// How many pairs stand behind the command that is due here.
+#[inline(always)]
 fn judge_header(kind: Kind, command: Command, integers: &[u32], at: usize) -> Result<usize, Fault>
     requires { at ≤ length integers.now }
     ensures ok { OnOk result (IsHeader kind command integers.now at) }
@@ -199,100 +201,109 @@ fn judge_header(kind: Kind, command: Command, integers: &[u32], at: usize) -> Re
 fn judge_pairs(is_line: bool, begin: usize, from: Point, parameters: &[u32]) -> Result<Point, Fault>
     requires { begin + length parameters.now < 2 ^ 64 }
     ensures ok { OnOk result (first (each (pair_rules is_line begin from) [] (pairs_of parameters.now)) ≡ None) }
-    ensures cursor { IfOk result (λ to. to ≡ pairs_moved from (pairs_of parameters.now)) }
+    ensures cursor { IfOk result (λ to. to ≡ moved from (pairs_of parameters.now)) }
     ensures err { IfErr result (λ f.
         first (each (pair_rules is_line begin from) [] (pairs_of parameters.now)) ≡ Some (f.index, f.cause)) }
 {
-    let mut cursor = from;
+    let mut x = from.x;
+    let mut y = from.y;
     let mut rest = parameters;
     while let [dx, dy, others @ ..] = rest {
         let at = begin + (parameters.len() - rest.len());
-        cursor = step(is_line, at, cursor, *dx, *dy)?;
+        if let Some(fault) = step_fault(is_line, at, Point { x, y }, *dx, *dy) {
+            return Err(fault);
+        }
+        x += unzigzag32(*dx);
+        y += unzigzag32(*dy);
         rest = others;
     }
-    Ok(cursor)
+    Ok(Point { x, y })
 }
 
 /// The cursor behind pairs of a ring, and what its edges add to twice the area.
 fn judge_edges(begin: usize, from: Point, parameters: &[u32]) -> Result<(Point, i128), Fault>
     requires { begin + length parameters.now < 2 ^ 64 }
     ensures ok { OnOk result (first (each (pair_rules true begin from) [] (pairs_of parameters.now)) ≡ None) }
-    ensures cursor { IfOk result (λ r. r.0 ≡ pairs_moved from (pairs_of parameters.now)) }
+    ensures cursor { IfOk result (λ r. r.0 ≡ moved from (pairs_of parameters.now)) }
     ensures area { IfOk result (λ r. r.1 ≡ edges from (positions from (pairs_of parameters.now))) }
     ensures small { IfOk result (λ r. unsigned_abs r.1 ≤ length parameters.now * 2 ^ 62) }
     ensures err { IfErr result (λ f.
         first (each (pair_rules true begin from) [] (pairs_of parameters.now)) ≡ Some (f.index, f.cause)) }
 {
-    let mut cursor = from;
+    let mut x = from.x;
+    let mut y = from.y;
     let mut area = 0;
     let mut rest = parameters;
     while let [dx, dy, others @ ..] = rest {
         let at = begin + (parameters.len() - rest.len());
-        let to = step(true, at, cursor, *dx, *dy)?;
-        area += cross(cursor, to);
-        cursor = to;
+        if let Some(fault) = step_fault(true, at, Point { x, y }, *dx, *dy) {
+            return Err(fault);
+        }
+        let before = Point { x, y };
+        x += unzigzag32(*dx);
+        y += unzigzag32(*dy);
+        area += cross(before, Point { x, y });
         rest = others;
     }
-    Ok((cursor, area))
+    Ok((Point { x, y }, area))
 }
 
-/// The cursor behind a pair, whose dX is numbered `at`.
-#[inline]
-fn step(is_line: bool, at: usize, from: Point, dx: u32, dy: u32) -> Result<Point, Fault>
+/// The first rule that a pair breaks, whose dX is numbered `at`.
+#[inline(always)]
+fn step_fault(is_line: bool, at: usize, from: Point, dx: u32, dy: u32) -> Option<Fault>
     requires { at + 1 < 2 ^ 64 }
-    ensures ok { let d : Pair = record { dx = dx; dy = dy } in
-        OnOk result (first (step_rules is_line at d (stepped from d)) ≡ None) }
-    ensures point { let d : Pair = record { dx = dx; dy = dy } in IfOk result (λ to. to ≡ stepped from d) }
-    ensures err { let d : Pair = record { dx = dx; dy = dy } in
-        IfErr result (λ f. first (step_rules is_line at d (stepped from d)) ≡ Some (f.index, f.cause)) }
+    ensures none { let d : Pair = record { dx = dx; dy = dy } in
+        IfNone result ((first (step_rules is_line at d (stepped from d)) ≡ None) × IsPlace (stepped from d)) }
+    ensures some { let d : Pair = record { dx = dx; dy = dy } in
+        IfSome result (λ f. first (step_rules is_line at d (stepped from d)) ≡ Some (f.index, f.cause)) }
 {
+    let cause = GeometryCause::ParameterRange;
     if dx == REFUSED {
-        return Err(Fault {
-            index: at,
-            cause: GeometryCause::ParameterRange,
-        });
+        return Some(Fault { index: at, cause });
     }
     if dy == REFUSED {
-        return Err(Fault {
+        return Some(Fault {
             index: at + 1,
-            cause: GeometryCause::ParameterRange,
+            cause,
         });
     }
     if is_line && is_zero(dx, dy) {
-        return Err(Fault {
-            index: at,
-            cause: GeometryCause::ZeroSegment,
+        let cause = GeometryCause::ZeroSegment;
+        return Some(Fault { index: at, cause });
+    }
+    let cause = GeometryCause::CoordinateRange;
+    if !stays_inside(from.x, dx) {
+        return Some(Fault { index: at, cause });
+    }
+    if !stays_inside(from.y, dy) {
+        return Some(Fault {
+            index: at + 1,
+            cause,
         });
     }
-    let Some(x) = moved(from.x, dx) else {
-        return Err(Fault {
-            index: at,
-            cause: GeometryCause::CoordinateRange,
-        });
-    };
-    let Some(y) = moved(from.y, dy) else {
-        return Err(Fault {
-            index: at + 1,
-            cause: GeometryCause::CoordinateRange,
-        });
-    };
-    Ok(Point { x, y })
+    None
 }
 
 /// Whether a pair is (0,0).
-#[inline]
+#[inline(always)]
 fn is_zero(dx: u32, dy: u32) -> bool
     ensures { result ≡ (dx == 0 && dy == 0) }
 {
     dx == 0 && dy == 0
 }
 
-/// A coordinate moved by a parameter; None where it is then out of range.
-#[inline]
-fn moved(from: i32, parameter: u32) -> Option<i32>
-    ensures some { IfSome result (λ to. (to ≡ from +ℤ unzig parameter) × InRange to) }
-    ensures none { IfNone result (InRange (from +ℤ unzig parameter) → ⊥) }
+/// Whether a coordinate moved by a parameter is in range.
+#[inline(always)]
+fn stays_inside(from: i32, parameter: u32) -> bool
+    ensures { IsTrue result ↔ InRange (from +ℤ unzig parameter) }
 {
-    let to = from.checked_add(unzigzag32(parameter))?;
-    if to == i32::MIN { None } else { Some(to) }
+    is_in_range(i64::from(from) + i64::from(unzigzag32(parameter)))
+}
+
+/// Whether a position or a difference is in range: at most 2^31 - 1 to both sides.
+#[inline(always)]
+pub(crate) fn is_in_range(number: i64) -> bool
+    ensures { IsTrue result ↔ InRange number }
+{
+    number.unsigned_abs() <= 2_147_483_647
 }

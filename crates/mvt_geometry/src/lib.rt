@@ -1,4 +1,7 @@
-//! x
+//! Geometries and the integers that draw them (Mapbox Vector Tile Specification 2.1, section 4.3).
+//!
+//! [`read_geometry`] judges all integers in one pass before it builds anything, so that want of
+//! memory is answered only for integers that draw a geometry; [`put_geometry`] gives them back.
 #![tactic(auto)]
 
 mod area;
@@ -17,3 +20,6 @@ pub use put::{append_geometry, put_geometry};
 pub use read::read_geometry;
 pub use shape::{Geometry, Kind, Point, Polygon, kind_of};
 pub use valid::is_valid_geometry;
+
+#[cfg(test)]
+mod tests;

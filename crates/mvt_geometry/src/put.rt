@@ -1,12 +1,12 @@
 //! The integers that draw a geometry (sections 4.3.1 to 4.3.4).
-ghost use Rattle.std.specs.Prelude.{◌≡◌, ◌<◌, ◌+◌, ◌*◌, ◌≤◌, ◌^◌, Bool, if◌then◌else◌, List, [], ◌∷◌, ◌++◌, length, IfOk, OnOk};
+ghost use Rattle.std.specs.Prelude.{◌≡◌, ◌<◌, ◌+◌, ◌*◌, ◌≤◌, ◌^◌, Bool, if◌then◌else◌, List, [], ◌∷◌, ◌++◌, length, ℕ, IfOk, OnOk, OnErr};
 ghost use Rattle.std.specs.List.{AllByRecursion};
 ghost use Rattle.mvt_geometry.specs.Shape.{kind_of, AreSteps, origin, joined, rings_of};
 ghost use Rattle.mvt_geometry.specs.Valid.{IsValid};
 ghost use Rattle.mvt_geometry.specs.Drawing.{path_from, drawn, Draws};
 ghost use Rattle.mvt_geometry.specs.Inner.Judging.{last_of};
 ghost use Rattle.mvt_geometry.specs.Inner.Strokes.{stroke, strokes_from};
-ghost use Rattle.mvt_geometry.specs.Inner.Putting.{ending, AreShort, IsShort};
+ghost use Rattle.mvt_geometry.specs.Inner.Putting.{ending, AreShort, IsShort, BeginsWith};
 
 use crate::judge::ORIGIN;
 use crate::shape::{Geometry, Point, Polygon};
@@ -24,7 +24,7 @@ pub fn put_geometry(alloc: Global, geometry: &Geometry) -> Result<Vec<u32>, Allo
     ensures { IfOk result (λ v. Draws (kind_of geometry.now) v.items geometry.now) }
 {
     let mut integers = Vec::new(alloc);
-    append_geometry(&mut integers, geometry)?;
+    append_geometry(geometry, &mut integers)?;
     Ok(integers)
 }
 
@@ -32,10 +32,11 @@ pub fn put_geometry(alloc: Global, geometry: &Geometry) -> Result<Vec<u32>, Allo
 ///
 /// # Errors
 ///
-/// Want of memory: the list is then as it was, or a longer one that begins with it.
-pub fn append_geometry(integers: &mut Vec<u32>, geometry: &Geometry) -> Result<(), AllocError>
+/// Want of memory; the list is then as it was or a longer one.
+pub fn append_geometry(geometry: &Geometry, integers: &mut Vec<u32>) -> Result<(), AllocError>
     requires { IsValid geometry.now }
-    ensures { OnOk result (integers.new.items ≡ integers.old.items ++ drawn geometry.now) }
+    ensures integers { OnOk result (integers.new.items ≡ integers.old.items ++ drawn geometry.now) }
+    ensures integers_left { OnErr result ((more : List ℕ) × (integers.new.items ≡ integers.old.items ++ more)) }
 {
     match geometry {
         Geometry::Unknown(kept) => {
@@ -58,8 +59,9 @@ pub fn append_geometry(integers: &mut Vec<u32>, geometry: &Geometry) -> Result<(
 fn put_polygons(integers: &mut Vec<u32>, polygons: &[Polygon]) -> Result<(), AllocError>
     requires steps { AreSteps origin (joined (rings_of polygons.now)) }
     requires short { AreShort (rings_of polygons.now) }
-    ensures { OnOk result (integers.new.items
+    ensures integers { OnOk result (integers.new.items
         ≡ integers.old.items ++ strokes_from (15 ∷ []) origin (rings_of polygons.now)) }
+    ensures left { OnErr result (BeginsWith integers.old.items integers.new.items) }
 {
     let mut cursor = ORIGIN;
     for polygon in polygons {
@@ -80,6 +82,7 @@ fn put_lines(
     requires short { AreShort lines.now }
     ensures integers { OnOk result (integers.new.items
         ≡ integers.old.items ++ strokes_from (ending are_rings) from lines.now) }
+    ensures left { OnErr result (BeginsWith integers.old.items integers.new.items) }
     ensures last { IfOk result (λ last. last ≡ last_of from (joined lines.now)) }
 {
     let mut cursor = from;
@@ -99,6 +102,7 @@ fn put_line(
     requires steps { AreSteps from line.now }
     requires short { IsShort line.now }
     ensures integers { OnOk result (integers.new.items ≡ integers.old.items ++ stroke (ending is_ring) from line.now) }
+    ensures left { OnErr result (BeginsWith integers.old.items integers.new.items) }
     ensures last { IfOk result (λ last. last ≡ last_of from line.now) }
 {
     let (first, others) = line.split_at(1);
@@ -117,6 +121,7 @@ fn put_line(
 fn put_path(integers: &mut Vec<u32>, from: Point, points: &[Point]) -> Result<Point, AllocError>
     requires { AreSteps from points.now }
     ensures integers { OnOk result (integers.new.items ≡ integers.old.items ++ path_from from points.now) }
+    ensures left { OnErr result (BeginsWith integers.old.items integers.new.items) }
     ensures last { IfOk result (λ last. last ≡ last_of from points.now) }
 {
     let mut cursor = from;

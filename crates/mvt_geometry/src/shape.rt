@@ -11,7 +11,7 @@ pub struct Point {
     pub y: i32,
 }
 
-/// A ring, which is its last point's neighbour to its first, with the interior rings behind it.
+/// An exterior ring and its interior rings. The last point of a ring is joined to its first.
 #[derive(Debug, Drop, PartialEq, Eq)]
 pub struct Polygon {
     pub outer: Items<Point>,

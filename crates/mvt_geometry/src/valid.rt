@@ -9,7 +9,7 @@ ghost use Rattle.mvt_geometry.specs.Inner.Strokes.{AreSmall};
 ghost use Rattle.mvt_geometry.specs.Inner.Validity.{IsStepTo, IsPath, IsLineFrom, AreLinesFrom, end_of_lines, HasArea, IsPolygonFrom, end_of_polygon, ArePoints, AreLines, ArePolygons, CanBeDrawn};
 
 use crate::area::twice_area;
-use crate::judge::ORIGIN;
+use crate::judge::{ORIGIN, is_in_range};
 use crate::shape::{Geometry, Point, Polygon};
 use mvt_base::Items;
 
@@ -193,10 +193,4 @@ fn moves(from: i32, to: i32) -> bool
         return false;
     }
     is_in_range(to - from)
-}
-
-fn is_in_range(number: i64) -> bool
-    ensures { IsTrue result ↔ InRange number }
-{
-    number.unsigned_abs() <= 2_147_483_647
 }

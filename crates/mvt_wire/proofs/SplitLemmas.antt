@@ -1,5 +1,5 @@
 -- Splits: that the function `split_from` is the relation `SplitFrom`, and what more bytes change.
-use Rattle.std.proofs.Common.{◌≡◌, ◌≢◌, ℕ, zero, suc, ◌+◌, ◌-◌, ◌%◌, ◌<◌, ◌≤◌, inl, inr, cond, List, [], ◌∷◌, ◌++◌, length, take, drop, Result, Ok, Err, refl, sym, ap, subst, ◌∙◌, arith, append_assoc, lt-ltb, le-ltb}
+use Rattle.std.proofs.Common.{add_assoc, ◌≡◌, ◌≢◌, ℕ, zero, suc, ◌+◌, ◌-◌, ◌%◌, ◌<◌, ◌≤◌, inl, inr, cond, List, [], ◌∷◌, ◌++◌, length, take, drop, Result, Ok, Err, refl, sym, ap, subst, ◌∙◌, arith, append_assoc, lt-ltb, le-ltb}
 use Rattle.std.proofs.lemmas.Bool.{cases_lt}
 use Rattle.std.proofs.lemmas.List.{length-append, length-drop, length-take-le, drop-append-le, take-append-drop, take-append-le}
 use Rattle.std.proofs.Math.Seq.{take-append_seam, drop-append_seam}
@@ -10,7 +10,7 @@ use Rattle.mvt_wire.specs.Field.{Content, varint, fixed64, bytes, fixed32, Start
 use Rattle.mvt_wire.specs.Fields.{bytes_size, EndsBy}
 use Rattle.mvt_wire.specs.Fronts.{entry_at, rest_cause}
 use Rattle.mvt_wire.specs.Rest.{IsPayloadCause, no_type, no_varint, no_length, past_end, no_eight, no_four, IsRestCause, no_tag, no_number, no_payload}
-use Rattle.mvt_wire.specs.Split.{SplitFrom, Parts, behind, no_fields, split_within, split_from}
+use Rattle.mvt_wire.specs.Split.{SplitFrom, Parts, behind, no_fields, split_within, split_from, shifted, shifted_parts}
 use Rattle.mvt_wire.proofs.FieldLemmas.{entry_cause, entry_found, entry_front, entry_none, entry_none_from, entry_why, rest_cause_is}
 
 -- ---- one step of the function
@@ -230,3 +230,27 @@ rest_stays b more none other =
     let why : IsRestCause b (rest_cause b) = entry_why 0 b (rest_cause b) (entry_none_from 0 b none) in
     let stays = cause_stays b more (rest_cause b) other why in
     (entry_none 0 (b ++ more) (rest_cause b) (entry_cause 0 (b ++ more) (rest_cause b) stays), sym (rest_cause_is (b ++ more) (rest_cause b) stays))
+
+-- ---- k bytes further on
+
+pub field_shifts : (k at : ℕ) (b : List ℕ) (e : Entry) → IsFieldAt at b e → IsFieldAt (k + at) b (shifted k e)
+field_shifts k at b e f =
+    let ends : e.body + body_size f.field.payload e.content ≡ at + length b = f.ends in
+    record { field = f.field; begins = ap (λ n. k + n) f.begins; ends = omega arith }
+
+found_shifts : (k at : ℕ) (b : List ℕ) (found : Entry × ℕ) → entry_at at b ≡ Ok found → entry_at (k + at) b ≡ Ok (shifted k found.0, found.1)
+found_shifts k at b found e =
+    let seen = entry_found at b found e in
+    let size : length (take found.1 b) ≡ found.1 = length-take-le found.1 b seen.1 in
+    ap (entry_at (k + at)) (sym (take-append-drop found.1 b))
+    ∙ entry_front (k + at) (take found.1 b) (drop found.1 b) (shifted k found.0) (field_shifts k at (take found.1 b) found.0 seen.2)
+    ∙ ap (λ (n : ℕ). let r : Result (Entry × ℕ) WireCause = Ok (shifted k found.0, n) in r) size
+
+pub split_shifts : (k at : ℕ) (b : List ℕ) → split_from (k + at) b ≡ shifted_parts k (split_from at b)
+split_shifts k =
+    split_induct (λ at b parts. split_from (k + at) b ≡ shifted_parts k parts)
+    (λ at b c e. split_stop (k + at) b c (entry_cause (k + at) b c (entry_why at b c e)))
+    (λ at b found parts e is more.
+    split_step (k + at) b (shifted k found.0, found.1) (found_shifts k at b found e)
+    ∙ ap (λ n. behind (shifted k found.0) (split_from n (drop found.1 b))) (add_assoc k at found.1)
+    ∙ ap (behind (shifted k found.0)) more)

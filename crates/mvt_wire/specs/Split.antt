@@ -1,5 +1,5 @@
 -- A list of bytes as fields: Protocol Buffers, Encoding, "Message Structure".
-use Rattle.std.specs.Prelude.{◌≡◌, ℕ, zero, suc, ◌+◌, List, [], ◌∷◌, ◌++◌, length, drop, Ok, Err}
+use Rattle.std.specs.Prelude.{◌≡◌, ℕ, zero, suc, ◌+◌, List, [], ◌∷◌, ◌++◌, length, drop, map, Ok, Err}
 use Rattle.mvt_wire.specs.Field.{Entry, IsFieldAt, StartsNoField}
 use Rattle.mvt_wire.specs.Fronts.{entry_at}
 
@@ -42,3 +42,10 @@ split_from at b = split_within (length b) at b
 
 abbrev pub split : List ℕ → Parts
 split b = split_from 0 b
+
+-- a field, and a split, k bytes further on
+abbrev pub shifted : ℕ → Entry → Entry
+shifted k e = record { at = k + e.at; body = k + e.body; number = e.number; content = e.content }
+
+abbrev pub shifted_parts : ℕ → Parts → Parts
+shifted_parts k parts = record { fields = map (shifted k) parts.fields; rest_at = k + parts.rest_at; rest = parts.rest }

@@ -14,8 +14,10 @@ pub enum WireCause {
 }
 
 /// A broken spelling, and the offset where it begins.
+///
+/// The cause stands first: a `Result` then keeps a number's length in one register.
 #[derive(Clone, Copy, Debug, PartialEq, Eq)]
 pub struct WireFault {
-    pub at: usize,
     pub cause: WireCause,
+    pub at: usize,
 }

@@ -10,7 +10,7 @@ ghost use Rattle.mvt_wire.specs.Fronts.{number_at, entry_at, rest_cause};
 ghost use Rattle.mvt_wire.specs.Packed.{ArePacked, PackedCause, SplitNumbers, packed, packed_rules};
 ghost use Rattle.mvt_wire.specs.Rest.{IsRestCause};
 ghost use Rattle.mvt_wire.specs.Spelling.{IsFit, IsWholeAs, Plain, short_field, short_numbers, short_payload, spelled};
-ghost use Rattle.mvt_wire.specs.Split.{Split, split, split_from, behind, no_fields};
+ghost use Rattle.mvt_wire.specs.Split.{Split, split, split_from, behind, no_fields, shifted, shifted_parts};
 
 /// At most one prefix of a list spells a number, and it spells one number.
 pub fn one_varint()
@@ -85,6 +85,14 @@ pub fn split_steps()
     ensures place { (at : ℕ) (b : List ℕ)
         → (split_from at b).rest_at + length (split_from at b).rest ≡ at + length b }
     ensures rest { (at : ℕ) (b : List ℕ) → StartsNoField (split_from at b).rest }
+{}
+
+/// A list that stands k bytes further on splits the same way, with each place k greater.
+pub fn split_shifts()
+    ensures field { (k at : ℕ) (b : List ℕ) (e : Entry) → IsFieldAt at b e
+        → IsFieldAt (k + at) b (shifted k e) }
+    ensures split { (k at : ℕ) (b : List ℕ) → split_from (k + at) b
+        ≡ shifted_parts k (split_from at b) }
 {}
 
 /// More bytes change no field that is there, and no cause but Truncated.

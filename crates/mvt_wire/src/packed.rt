@@ -126,6 +126,7 @@ pub fn put_packed(out: &mut Vec<u8>, number: u32, numbers: &[u32]) -> Result<(),
     ensures err { OnErr result (out.new.items ≡ out.old.items) }
     ensures room { vec_len out.old + length (short_field number (bytes (short_numbers numbers.now)))
         ≤ vec_capacity out.old → IsOk result }
+    ensures capacity { vec_capacity out.old ≤ vec_capacity out.new }
 {
     let len = out.len();
     let done = put_packed_bytes(out, number, numbers);
@@ -144,6 +145,7 @@ fn put_packed_bytes(out: &mut Vec<u8>, number: u32, numbers: &[u32]) -> Result<(
     ensures err { OnErr result (Extends out.old.items out.new.items) }
     ensures room { vec_len out.old + length (short_field number (bytes (short_numbers numbers.now)))
         ≤ vec_capacity out.old → IsOk result }
+    ensures capacity { vec_capacity out.old ≤ vec_capacity out.new }
 {
     put_varint(out, 8 * u64::from(number) + 2)?;
     let len = packed_len(numbers);

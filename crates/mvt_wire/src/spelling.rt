@@ -23,6 +23,7 @@ pub fn put_field(out: &mut Vec<u8>, number: u32, payload: &Payload<'_>) -> Resul
     ensures err { OnErr result (out.new.items ≡ out.old.items) }
     ensures room { vec_len out.old + length (short_field number (content_of payload.now))
         ≤ vec_capacity out.old → IsOk result }
+    ensures capacity { vec_capacity out.old ≤ vec_capacity out.new }
 {
     let len = out.len();
     let done = append_field(out, number, payload);
@@ -51,6 +52,7 @@ fn append_field(out: &mut Vec<u8>, number: u32, payload: &Payload<'_>) -> Result
     ensures err { OnErr result (Extends out.old.items out.new.items) }
     ensures room { vec_len out.old + length (short_field number (content_of payload.now))
         ≤ vec_capacity out.old → IsOk result }
+    ensures capacity { vec_capacity out.old ≤ vec_capacity out.new }
 {
     put_varint(out, 8 * u64::from(number) + payload.wire_type())?;
     match payload {

@@ -1,5 +1,5 @@
 //! Varints (Protocol Buffers, Encoding, "Base 128 Varints").
-ghost use Rattle.std.specs.Prelude.{◌≡◌, ℕ, ◌+◌, ◌≤◌, List, ◌++◌, length, take, IfOk, IfErr, IsOk, OnOk, OnErr, vec_len, vec_capacity};
+ghost use Rattle.std.specs.Prelude.{◌≡◌, ℕ, ◌+◌, ◌≤◌, List, [], ◌∷◌, ◌++◌, length, take, IfOk, IfErr, IsOk, OnOk, OnErr, vec_len, vec_capacity};
 ghost use Rattle.mvt_wire.specs.Varint.{Spells, SpellsNone, spell_cause, short};
 ghost use Rattle.mvt_wire.specs.Fronts.{number_at};
 
@@ -82,12 +82,37 @@ pub fn put_varint(out: &mut Vec<u8>, number: u64) -> Result<(), AllocError>
     ensures capacity { vec_capacity out.old ≤ vec_capacity out.new }
 {
     if number < 1 << 7 {
-        return out.extend_from_slice(&[number as u8]);
+        return put_byte(out, number as u8);
     }
     if number < 1 << 14 {
-        return out.extend_from_slice(&[(number % 128) as u8 + 128, (number / 128) as u8]);
+        return put_two_bytes(out, (number % 128) as u8 + 128, (number / 128) as u8);
     }
     put_long_varint(out, number)
+}
+
+/// Appends a byte.
+#[inline(always)]
+fn put_byte(out: &mut Vec<u8>, byte: u8) -> Result<(), AllocError>
+    ensures ok { OnOk result (out.new.items ≡ out.old.items ++ byte ∷ []) }
+    ensures err { OnErr result (out.new.items ≡ out.old.items) }
+    ensures room { vec_len out.old + 1 ≤ vec_capacity out.old → IsOk result }
+    ensures capacity { vec_capacity out.old ≤ vec_capacity out.new }
+{
+    out.push(byte)?;
+    Ok(())
+}
+
+/// Appends two bytes.
+#[inline(always)]
+fn put_two_bytes(out: &mut Vec<u8>, first: u8, second: u8) -> Result<(), AllocError>
+    ensures ok { OnOk result (out.new.items ≡ out.old.items ++ first ∷ second ∷ []) }
+    ensures err { OnErr result (out.new.items ≡ out.old.items) }
+    ensures room { vec_len out.old + 2 ≤ vec_capacity out.old → IsOk result }
+    ensures capacity { vec_capacity out.old ≤ vec_capacity out.new }
+{
+    out.reserve(2)?;
+    put_byte(out, first)?;
+    put_byte(out, second)
 }
 
 /// The same, by the spelling in an array.

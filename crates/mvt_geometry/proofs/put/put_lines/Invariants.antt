@@ -2,7 +2,7 @@ use Rattle.std.proofs.Common.{◌≡◌, ◌++◌, drop}
 use Rattle.mvt_geometry.specs.Shape.{AreSteps, joined}
 use Rattle.mvt_geometry.specs.Inner.Judging.{last_of}
 use Rattle.mvt_geometry.specs.Inner.Strokes.{strokes_from}
-use Rattle.mvt_geometry.specs.Inner.Putting.{ending, AreShort}
+use Rattle.mvt_geometry.specs.Inner.Putting.{BeginsWith, ending, AreShort}
 use Rattle.mvt_geometry.proofs.put.put_lines.Given as goal
 
 abbrev pub invariant-loop-line : goal.invariant-loop-line
@@ -11,3 +11,4 @@ invariant-loop-line l =
     ≡ l.initial.integers.items ++ strokes_from (ending l.are_rings) l.initial.cursor l.lines)
     × (last_of l.cursor (joined (drop l.line-index l.lines)) ≡ last_of l.initial.cursor (joined l.lines))
     × AreSteps l.cursor (joined (drop l.line-index l.lines)) × AreShort (drop l.line-index l.lines)
+    × BeginsWith l.initial.integers.items l.integers.items

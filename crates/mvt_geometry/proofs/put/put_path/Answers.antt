@@ -1,10 +1,11 @@
 use Rattle.std.proofs.Common.{rules, ◌≡◌, [], ◌∷◌, ◌++◌, get_or, pos, sym, ap, ap₂, subst, ◌∙◌, to_z, of_z, w32}
 use Rattle.std.proofs.lemmas.List.{drop_more}
+use Rattle.std.proofs.lemmas.Result.{err_from_is_err_and}
 use Rattle.mvt_wire.specs.Zigzag.{zig}
 use Rattle.mvt_geometry.specs.declared.shape.Point.{Point}
 use Rattle.mvt_geometry.specs.Shape.{AreSteps}
 use Rattle.mvt_geometry.specs.Inner.Judging.{last_of}
-use Rattle.mvt_geometry.proofs.PutLemmas.{difference, path_step}
+use Rattle.mvt_geometry.proofs.PutLemmas.{begins_same, begins_more, difference, path_step}
 use Rattle.mvt_geometry.proofs.put.put_path.Goals as goal
 
 abbrev place : Point
@@ -31,4 +32,14 @@ loop-point-preserved c =
     let x = c.zigzag32.ensures ∙ ap zig ((difference _ _ _ _ here_x before_x step.0.0).1) in
     let y = c.zigzag32-in-loop-point.ensures ∙ ap zig ((difference _ _ _ _ here_y before_y step.0.1).1) in
     let put = c.in_ok-push-2.ensures.items ∙ ap₂ (λ xs n. xs ++ n ∷ []) (c.in_ok-push.ensures.items ∙ ap (λ n. l.integers.items ++ n ∷ []) x) y in
-    (path_step l.integers.items _ _ l.cursor p _ _ e put l.invariant.0, ap (last_of l.cursor) (sym e) ∙ l.invariant.1, step.1)
+    (path_step l.integers.items _ _ l.cursor p _ _ e put l.invariant.0, ap (last_of l.cursor) (sym e) ∙ l.invariant.1, step.1, begins_more c.args.integers.now.items _ _ _ (begins_more c.args.integers.now.items _ _ _ l.invariant.3 c.in_ok-push.ensures.items) c.in_ok-push-2.ensures.items)
+
+pub returns-in_err-push-clause-left : goal.returns-in_err-push-clause-left
+returns-in_err-push-clause-left c =
+    let p = err_from_is_err_and c.from_residual.result c.from_residual.ensures.1 in
+    rw p.1 (begins_same c.args.integers.now.items _ _ c.loop-point.invariant.3 c.in_err-push.ensures.items)
+
+pub returns-in_err-push-2-clause-left : goal.returns-in_err-push-2-clause-left
+returns-in_err-push-2-clause-left c =
+    let p = err_from_is_err_and c.from_residual-in_err-push-2.result c.from_residual-in_err-push-2.ensures.1 in
+    rw p.1 (begins_same c.args.integers.now.items _ _ (begins_more c.args.integers.now.items _ _ _ c.loop-point.invariant.3 c.in_ok-push.ensures.items) c.in_err-push-2.ensures.items)

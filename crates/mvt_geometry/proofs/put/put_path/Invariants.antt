@@ -2,9 +2,11 @@ use Rattle.std.proofs.Common.{◌≡◌, ◌++◌, drop}
 use Rattle.mvt_geometry.specs.Shape.{AreSteps}
 use Rattle.mvt_geometry.specs.Drawing.{path_from}
 use Rattle.mvt_geometry.specs.Inner.Judging.{last_of}
+use Rattle.mvt_geometry.specs.Inner.Putting.{BeginsWith}
 use Rattle.mvt_geometry.proofs.put.put_path.Given as goal
 
 abbrev pub invariant-loop-point : goal.invariant-loop-point
 invariant-loop-point l =
     (l.integers.items ++ path_from l.cursor (drop l.point-index l.points) ≡ l.initial.integers.items ++ path_from l.initial.cursor l.points)
     × (last_of l.cursor (drop l.point-index l.points) ≡ last_of l.initial.cursor l.points) × AreSteps l.cursor (drop l.point-index l.points)
+    × BeginsWith l.initial.integers.items l.integers.items

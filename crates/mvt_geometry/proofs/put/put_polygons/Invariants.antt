@@ -1,7 +1,7 @@
 use Rattle.std.proofs.Common.{◌≡◌, ◌++◌, [], ◌∷◌, drop}
 use Rattle.mvt_geometry.specs.Shape.{AreSteps, joined, rings_of}
 use Rattle.mvt_geometry.specs.Inner.Strokes.{strokes_from}
-use Rattle.mvt_geometry.specs.Inner.Putting.{AreShort}
+use Rattle.mvt_geometry.specs.Inner.Putting.{BeginsWith, AreShort}
 use Rattle.mvt_geometry.proofs.put.put_polygons.Given as goal
 
 abbrev pub invariant-loop-polygon : goal.invariant-loop-polygon
@@ -9,3 +9,4 @@ invariant-loop-polygon l =
     (l.integers.items ++ strokes_from (15 ∷ []) l.cursor (rings_of (drop l.polygon-index l.polygons))
     ≡ l.initial.integers.items ++ strokes_from (15 ∷ []) l.initial.cursor (rings_of l.polygons))
     × AreSteps l.cursor (joined (rings_of (drop l.polygon-index l.polygons))) × AreShort (rings_of (drop l.polygon-index l.polygons))
+    × BeginsWith l.initial.integers.items l.integers.items

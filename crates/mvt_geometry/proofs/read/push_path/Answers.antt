@@ -1,6 +1,7 @@
 use Rattle.std.proofs.Common.{rules, arith, ◌≡◌, ◌≤◌, length, ap₂, ℤ, to_z, of_z, w32}
 use Rattle.mvt_geometry.specs.declared.shape.Point.{Point}
-use Rattle.mvt_geometry.proofs.BuildLemmas.{next_place, pushes, moved_number}
+use Rattle.mvt_geometry.proofs.BuildLemmas.{next_place, pushes}
+use Rattle.mvt_geometry.proofs.PathLemmas.{moved_number}
 use Rattle.mvt_geometry.proofs.read.push_path.Goals as goal
 
 pub loop-rest-preserved : goal.loop-rest-preserved
