@@ -1,0 +1,316 @@
+-- The canonical payload of a valid item is that item.
+use Rattle.std.proofs.Common.{◌≡◌, ◌≢◌, ℕ, zero, suc, ◌+◌, ◌*◌, ◌^◌, ◌<◌, ◌≤◌, ◌==◌, Bool, true, false, List, [], ◌∷◌, ◌++◌, length, map, Option, Some, None, refl, sym, ap, ap₂, ◌∙◌, subst, arith, append_assoc, append-nil, length-append, lit<, lit≤, if◌then◌else◌}
+use Rattle.std.specs.Prelude.{IsUtf8, Contains, unwrap_or, ⊤}
+use Rattle.std.specs.List.{AllByRecursion, flat_map}
+use Rattle.std.specs.Option.{option_map}
+use Rattle.std.proofs.lemmas.Bool.{eq-eqb}
+use Rattle.std.proofs.lemmas.Grind.{flat_map-append}
+use Rattle.mvt_base.specs.Related.{AreRelated}
+use Rattle.mvt_base.proofs.ListLemmas.{all_weaker, all_joined, all_left, all_right, all_mapped, all_unmapped, all_both}
+use Rattle.mvt_attrs.specs.declared.value.Attribute.{Attribute}
+use Rattle.mvt_attrs.specs.declared.value.Value.{Value}
+use Rattle.mvt_attrs.specs.Pools.{key_pool, value_pool}
+use Rattle.mvt_attrs.specs.Tags.{Names}
+use Rattle.mvt_attrs.specs.TagPlaces.{tags_in, IsIn}
+use Rattle.mvt_wire.specs.Field.{Content, varint, bytes, fixed64, fixed32, Entry, wire_type}
+use Rattle.mvt_wire.specs.Spelling.{Plain, plain_of, short_field, spelled, IsFit, FitsContent, IsWholeAs}
+use Rattle.mvt_wire.specs.Split.{Whole}
+use Rattle.mvt_feature.specs.declared.feature.Feature.{Feature}
+use Rattle.mvt_feature.specs.Canonical.{plain, value_fields, feature_fields}
+use Rattle.mvt_feature.specs.Features.{IsFeatureOf, number_in, number_of}
+use Rattle.mvt_feature.specs.Selection.{only, last_or, last_only, HaveForm}
+use Rattle.mvt_feature.specs.Valid.{ValidValue, ValidAttribute, ValidFeature}
+use Rattle.mvt_feature.specs.Values.{IsText, IsValueOf}
+use Rattle.mvt_feature.proofs.FeatureLemmas.{form_only}
+use Rattle.mvt_message.specs.declared.item.Item.{Item as AnItem}
+use Rattle.mvt_message.specs.declared.item.Layer.{Layer as ALayer}
+use Rattle.mvt_message.specs.declared.item.Item.TheVariants.{Layer, Foreign}
+use Rattle.mvt_message.specs.LayerFields.{bytes_of, version_in, name_in, extent_in, keys_in}
+use Rattle.mvt_message.specs.Items.{IsUint32, IsBytes, HoldsValue, HoldsFeature, IsLayer, AreItem, IsItem}
+use Rattle.mvt_message.specs.CanonicalItems.{attributes_of, keys_of, values_of, head_fields, feature_field, key_field, value_field, extent_fields, fields_with, layer_fields, canonical_item}
+use Rattle.mvt_message.specs.ValidItems.{ValidLayer, AreOfVersion, ValidItem}
+
+-- the contents of the fields of a number
+abbrev contents_at : ℕ → List Plain → List Content
+contents_at k [] = []
+contents_at k (p ∷ ps) = if p.number == k then p.content ∷ contents_at k ps else contents_at k ps
+
+only_contents : (k : ℕ) (xs : List Entry) → map (λ (x : Entry). x.content) (only k xs) ≡ contents_at k (map plain_of xs)
+only_contents k [] = refl
+only_contents k (x ∷ xs) = by_test (x.number == k) (only_contents k xs)
+  where
+    by_test : (b : Bool) → map (λ (y : Entry). y.content) (only k xs) ≡ contents_at k (map plain_of xs) → map (λ (y : Entry). y.content) (if b then x ∷ only k xs else only k xs) ≡ (if b then x.content ∷ contents_at k (map plain_of xs) else contents_at k (map plain_of xs))
+    by_test true h = ap (λ l. x.content ∷ l) h
+    by_test false h = h
+
+contents-append : (k : ℕ) (ps qs : List Plain) → contents_at k (ps ++ qs) ≡ contents_at k ps ++ contents_at k qs
+contents-append k [] qs = refl
+contents-append k (p ∷ ps) qs = by_test (p.number == k) (contents-append k ps qs)
+  where
+    by_test : (b : Bool) → contents_at k (ps ++ qs) ≡ contents_at k ps ++ contents_at k qs → (if b then p.content ∷ contents_at k (ps ++ qs) else contents_at k (ps ++ qs)) ≡ (if b then p.content ∷ contents_at k ps else contents_at k ps) ++ contents_at k qs
+    by_test true h = ap (λ l. p.content ∷ l) h
+    by_test false h = h
+
+-- fields of one number
+abbrev all_of : {Y : Type 0} → ℕ → (Y → List ℕ) → List Y → List Plain
+all_of k g ys = map (λ y. plain k (bytes (g y))) ys
+
+contents_same : {Y : Type 0} → (k : ℕ) (g : Y → List ℕ) (ys : List Y) → contents_at k (all_of k g ys) ≡ map (λ y. bytes (g y)) ys
+contents_same k g [] = refl
+contents_same k g (y ∷ ys) =
+    ap (λ (b : Bool). if b then bytes (g y) ∷ contents_at k (all_of k g ys) else contents_at k (all_of k g ys)) (eq-eqb k k refl) ∙ ap (λ l. bytes (g y) ∷ l) (contents_same k g ys)
+
+contents_other : {Y : Type 0} → (j k : ℕ) (g : Y → List ℕ) (ys : List Y) → (j == k) ≡ false → contents_at k (all_of j g ys) ≡ []
+contents_other j k g [] other = refl
+contents_other j k g (y ∷ ys) other =
+    ap (λ (b : Bool). if b then bytes (g y) ∷ contents_at k (all_of j g ys) else contents_at k (all_of j g ys)) other ∙ contents_other j k g ys other
+
+abbrev feature_bytes : List (List ℕ) → List Value → Feature → List ℕ
+feature_bytes keys values f = spelled (feature_fields (tags_in keys values f.attributes) f)
+
+abbrev value_bytes : Value → List ℕ
+value_bytes v = spelled (value_fields v)
+
+abbrev same_bytes : List ℕ → List ℕ
+same_bytes key = key
+
+-- the fields behind the name
+abbrev tail : List (List ℕ) → List Value → List Feature → ℕ → List Plain
+tail keys values features extent =
+    all_of 2 (feature_bytes keys values) features ++ (all_of 3 same_bytes keys ++ (all_of 4 value_bytes values ++ extent_fields extent))
+
+tail_contents : (k : ℕ) (keys : List (List ℕ)) (values : List Value) (features : List Feature) (extent : ℕ) (a b c : List Content) → contents_at k (all_of 2 (feature_bytes keys values) features) ≡ a → contents_at k (all_of 3 same_bytes keys) ≡ b → contents_at k (all_of 4 value_bytes values) ≡ c → contents_at k (tail keys values features extent) ≡ a ++ (b ++ (c ++ contents_at k (extent_fields extent)))
+tail_contents k keys values features extent a b c ea eb ec =
+    contents-append k (all_of 2 (feature_bytes keys values) features) _ ∙ ap₂ (λ x y. x ++ y) ea (contents-append k (all_of 3 same_bytes keys) _ ∙ ap₂ (λ x y. x ++ y) eb (contents-append k (all_of 4 value_bytes values) (extent_fields extent) ∙ ap (λ x. x ++ contents_at k (extent_fields extent)) ec))
+
+-- no field of another number stands behind the name
+tail_none : (k : ℕ) (keys : List (List ℕ)) (values : List Value) (features : List Feature) (extent : ℕ) → (2 == k) ≡ false → (3 == k) ≡ false → (4 == k) ≡ false → contents_at k (tail keys values features extent) ≡ contents_at k (extent_fields extent)
+tail_none k keys values features extent two three four =
+    tail_contents k keys values features extent [] [] [] (contents_other 2 k (feature_bytes keys values) features two) (contents_other 3 k same_bytes keys three) (contents_other 4 k value_bytes values four)
+
+-- the one field of a number
+one_content : (xs : List Entry) (c : Content) → map (λ (x : Entry). x.content) xs ≡ c ∷ [] → (x : Entry) × (xs ≡ x ∷ []) × (x.content ≡ c)
+one_content [] c h = cc
+one_content (x ∷ []) c h = (x, refl, cc)
+one_content (x ∷ y ∷ xs) c h = cc
+
+form_contents : (k : ℕ) (P : Content → Type 0) (xs : List Entry) (cs : List Content) → map (λ (x : Entry). x.content) (only k xs) ≡ cs → AllByRecursion P cs → HaveForm k P xs
+form_contents k P xs cs is all =
+    form_only k P xs (all_unmapped (λ (x : Entry). x.content) P (only k xs) (subst (AllByRecursion P) (sym is) all))
+
+-- bytes fields, and what each of them holds
+related_contents : {Y : Type 0} → (g : Y → List ℕ) (R : List ℕ → Y → Type 0) (xs : List Entry) (ys : List Y) → map (λ (x : Entry). x.content) xs ≡ map (λ y. bytes (g y)) ys → AllByRecursion (λ y. R (g y) y) ys → AreRelated (λ (x : Entry) y. R (bytes_of x.content) y) xs ys
+related_contents g R [] [] h all = tt
+related_contents g R [] (y ∷ ys) h all = cc
+related_contents g R (x ∷ xs) [] h all = cc
+related_contents g R (x ∷ xs) (y ∷ ys) h all =
+    let here : x.content ≡ bytes (g y) = cc in
+    let later : map (λ (z : Entry). z.content) xs ≡ map (λ y'. bytes (g y')) ys = cc in
+    (subst (λ c. R (bytes_of c) y) (sym here) all.0, related_contents g R xs ys later all.1)
+
+keys_are : (xs : List Entry) (keys : List (List ℕ)) → map (λ (x : Entry). x.content) xs ≡ map (λ key. bytes (same_bytes key)) keys → map (λ (x : Entry). bytes_of x.content) xs ≡ keys
+keys_are [] [] h = refl
+keys_are [] (k ∷ ks) h = cc
+keys_are (x ∷ xs) [] h = cc
+keys_are (x ∷ xs) (k ∷ ks) h =
+    let here : x.content ≡ bytes k = cc in
+    let later : map (λ (z : Entry). z.content) xs ≡ map (λ key. bytes (same_bytes key)) ks = cc in
+    ap₂ (λ c l. bytes_of c ∷ l) here (keys_are xs ks later)
+
+bytes_all : {Y : Type 0} → (P : Content → Type 0) (g : Y → List ℕ) (ys : List Y) → AllByRecursion (λ y. P (bytes (g y))) ys → AllByRecursion P (map (λ y. bytes (g y)) ys)
+bytes_all P g ys h = all_mapped (λ y. bytes (g y)) P ys h
+
+all_true : {Y : Type 0} → (ys : List Y) → AllByRecursion (λ _. ⊤) ys
+all_true [] = tt
+all_true (y ∷ ys) = (tt, all_true ys)
+
+-- the fields of a layer, wherever they stand, are the layer
+pub layer_is : (xs : List Entry) (keys : List (List ℕ)) (values : List Value) (layer : ALayer) → map plain_of xs ≡ fields_with keys values layer → IsUtf8 layer.name → layer.extent < 2 ^ 32 → AllByRecursion IsUtf8 keys → AllByRecursion (λ v. IsValueOf (value_bytes v) v) values → AllByRecursion (λ f. IsFeatureOf (feature_bytes keys values f) keys values f) layer.features
+    → HaveForm 15 IsUint32 xs × (version_in xs ≡ Some 2) × IsLayer xs layer
+layer_is xs keys values layer is name extent texts hold features =
+    let at = λ (k : ℕ). only_contents k xs ∙ ap (contents_at k) is in
+    let versions : map (λ (x : Entry). x.content) (only 15 xs) ≡ varint 2 ∷ [] = at 15 ∙ ap (λ l. varint 2 ∷ l) (tail_none 15 keys values layer.features layer.extent refl refl refl) in
+    let names : map (λ (x : Entry). x.content) (only 1 xs) ≡ bytes layer.name ∷ [] = at 1 ∙ ap (λ l. bytes layer.name ∷ l) (tail_none 1 keys values layer.features layer.extent refl refl refl) in
+    let extents : map (λ (x : Entry). x.content) (only 5 xs) ≡ varint layer.extent ∷ [] = at 5 ∙ tail_none 5 keys values layer.features layer.extent refl refl refl in
+    let messages : map (λ (x : Entry). x.content) (only 2 xs) ≡ map (λ f. bytes (feature_bytes keys values f)) layer.features = at 2 ∙ tail_contents 2 keys values layer.features layer.extent _ [] [] (contents_same 2 (feature_bytes keys values) layer.features) (contents_other 3 2 same_bytes keys refl) (contents_other 4 2 value_bytes values refl) ∙ append-nil _ in
+    let key_texts : map (λ (x : Entry). x.content) (only 3 xs) ≡ map (λ key. bytes (same_bytes key)) keys = at 3 ∙ tail_contents 3 keys values layer.features layer.extent [] _ [] (contents_other 2 3 (feature_bytes keys values) layer.features refl) (contents_same 3 same_bytes keys) (contents_other 4 3 value_bytes values refl) ∙ append-nil _ in
+    let pool : map (λ (x : Entry). x.content) (only 4 xs) ≡ map (λ v. bytes (value_bytes v)) values = at 4 ∙ tail_contents 4 keys values layer.features layer.extent [] [] _ (contents_other 2 4 (feature_bytes keys values) layer.features refl) (contents_other 3 4 same_bytes keys refl) (contents_same 4 value_bytes values) ∙ append-nil _ in
+    let version = one_content (only 15 xs) (varint 2) versions in
+    let the_name = one_content (only 1 xs) (bytes layer.name) names in
+    let the_extent = one_content (only 5 xs) (varint layer.extent) extents in
+    let same_keys : keys_in xs ≡ keys = keys_are (only 3 xs) keys key_texts in (
+      form_contents 15 IsUint32 xs (varint 2 ∷ []) versions (lit< tt, tt),
+      ap (λ l. number_in (last_or None l)) version.1 ∙ ap number_of version.2,
+      record {
+        names = form_contents 1 IsText xs (bytes layer.name ∷ []) names (name, tt);
+        messages = form_contents 2 IsBytes xs _ messages (bytes_all IsBytes (feature_bytes keys values) layer.features (all_true layer.features));
+        texts = form_contents 3 IsText xs _ key_texts (bytes_all IsText same_bytes keys texts);
+        pool = form_contents 4 IsBytes xs _ pool (bytes_all IsBytes value_bytes values (all_true values));
+        extents = form_contents 5 IsUint32 xs (varint layer.extent ∷ []) extents (extent, tt);
+        name = ap (λ l. option_map (λ (x : Entry). bytes_of x.content) (last_or None l)) the_name.1 ∙ ap (λ c. Some (bytes_of c)) the_name.2;
+        extent = sym (ap (λ l. unwrap_or (number_in (last_or None l)) 4096) the_extent.1 ∙ ap (λ c. unwrap_or (number_of c) 4096) the_extent.2);
+        values = values;
+        values_are = related_contents value_bytes (λ b v. IsValueOf b v) (only 4 xs) values pool hold;
+        features = subst (λ ks. AreRelated (HoldsFeature ks values) (only 2 xs) layer.features) (sym same_keys) (related_contents (feature_bytes keys values) (λ b f. IsFeatureOf b keys values f) (only 2 xs) layer.features messages features);
+      },
+    )
+
+-- fields that fit but for their sizes
+abbrev FineContent : Content → Type 0
+FineContent (varint n) = n < 2 ^ 64
+FineContent (fixed64 n) = n < 2 ^ 64
+FineContent (bytes d) = ⊤
+FineContent (fixed32 n) = n < 2 ^ 32
+
+record IsFine (p : Plain) : Type 0 where
+  first : 1 ≤ p.number
+  last : p.number < 2 ^ 29
+  content : FineContent p.content
+
+abbrev pub BytesLonger : Type 0
+BytesLonger = (number : ℕ) (d : List ℕ) → length d + 2 ≤ length (short_field number (bytes d))
+
+fit : BytesLonger → (p : Plain) (n : ℕ) → IsFine p → length (short_field p.number p.content) ≤ n → n < 2 ^ 64 → IsFit p
+fit longer p n fine within small = record { first = fine.first; last = fine.last; content = of_content p.content fine.content within }
+  where
+    of_content : (c : Content) → FineContent c → length (short_field p.number c) ≤ n → FitsContent c
+    of_content (varint m) h le = h
+    of_content (fixed64 m) h le = h
+    of_content (bytes d) h le = let more = longer p.number d in omega arith
+    of_content (fixed32 m) h le = h
+
+all_fit : BytesLonger → (ps : List Plain) → AllByRecursion IsFine ps → length (spelled ps) < 2 ^ 64 → AllByRecursion IsFit ps
+all_fit longer [] fine small = tt
+all_fit longer (p ∷ ps) fine small =
+    let size = length-append (short_field p.number p.content) (spelled ps) in
+    (fit longer p (length (short_field p.number p.content)) fine.0 (omega arith) (omega (arith, size)), all_fit longer ps fine.1 (omega (arith, size)))
+
+fine_bytes : {Y : Type 0} → (k : ℕ) (g : Y → List ℕ) (ys : List Y) → 1 ≤ k → k < 2 ^ 29 → AllByRecursion IsFine (all_of k g ys)
+fine_bytes k g [] low high = tt
+fine_bytes k g (y ∷ ys) low high = (record { first = low; last = high; content = tt }, fine_bytes k g ys low high)
+
+layer_fine : (keys : List (List ℕ)) (values : List Value) (layer : ALayer) → layer.extent < 2 ^ 32 → AllByRecursion IsFine (fields_with keys values layer)
+layer_fine keys values layer small =
+    let extent : IsFine (plain 5 (varint layer.extent)) = record { first = lit≤ tt; last = lit< tt; content = omega arith } in
+    (record { first = lit≤ tt; last = lit< tt; content = lit< tt }, (record { first = lit≤ tt; last = lit< tt; content = tt }, all_joined IsFine (all_of 2 (feature_bytes keys values) layer.features) _ (fine_bytes 2 (feature_bytes keys values) layer.features (lit≤ tt) (lit< tt)) (all_joined IsFine (all_of 3 same_bytes keys) _ (fine_bytes 3 same_bytes keys (lit≤ tt) (lit< tt)) (all_joined IsFine (all_of 4 value_bytes values) (extent_fields layer.extent) (fine_bytes 4 value_bytes values (lit≤ tt) (lit< tt)) (extent, tt)))))
+
+-- the sizes of the payloads
+sizes : {Y : Type 0} → (k : ℕ) (g : Y → List ℕ) (ys : List Y) → AllByRecursion IsFit (all_of k g ys) → AllByRecursion (λ y. length (g y) < 2 ^ 64) ys
+sizes k g [] h = tt
+sizes k g (y ∷ ys) h = (h.0.content, sizes k g ys h.1)
+
+pub count_bytes : {Y : Type 0} → BytesLonger → (k : ℕ) (g : Y → List ℕ) (ys : List Y) → 2 * length ys ≤ length (spelled (all_of k g ys))
+count_bytes longer k g [] = omega arith
+count_bytes longer k g (y ∷ ys) =
+    let size = length-append (short_field k (bytes (g y))) (spelled (all_of k g ys)) in
+    let more = longer k (g y) in
+    let rest = count_bytes longer k g ys in
+    omega (arith, size)
+
+pub spelled-append : (ps qs : List Plain) → spelled (ps ++ qs) ≡ spelled ps ++ spelled qs
+spelled-append ps qs = flat_map-append (λ (p : Plain). short_field p.number p.content) ps qs
+
+pub spelled_length : (ps qs : List Plain) → length (spelled (ps ++ qs)) ≡ length (spelled ps) + length (spelled qs)
+spelled_length ps qs = ap length (spelled-append ps qs) ∙ length-append (spelled ps) (spelled qs)
+
+-- each entry of the pools takes two bytes
+pub pools_within : BytesLonger → (keys : List (List ℕ)) (values : List Value) (layer : ALayer) → (2 * length keys ≤ length (spelled (fields_with keys values layer))) × (2 * length values ≤ length (spelled (fields_with keys values layer)))
+pools_within longer keys values layer =
+    let a = spelled_length (head_fields layer.name) (tail keys values layer.features layer.extent) in
+    let b = spelled_length (all_of 2 (feature_bytes keys values) layer.features) (all_of 3 same_bytes keys ++ (all_of 4 value_bytes values ++ extent_fields layer.extent)) in
+    let c = spelled_length (all_of 3 same_bytes keys) (all_of 4 value_bytes values ++ extent_fields layer.extent) in
+    let d = spelled_length (all_of 4 value_bytes values) (extent_fields layer.extent) in
+    let k = count_bytes longer 3 same_bytes keys in
+    let v = count_bytes longer 4 value_bytes values in
+    (omega (arith, a, b, c, d, k, v), omega (arith, a, b, c, d, k, v))
+
+-- entries of a list
+contained : {X : Type 0} → (P : X → Type 0) (xs : List X) (x : X) → AllByRecursion P xs → Contains xs x → P x
+contained P [] x all (k, lt, e) = absurd (omega arith)
+contained P (y ∷ ys) x all (zero, lt, e) = subst P e all.0
+contained P (y ∷ ys) x all (suc k, lt, e) = contained P ys x all.1 (k, omega arith, e)
+
+all_from : {X : Type 0} → (P : X → Type 0) (xs : List X) → ((x : X) → Contains xs x → P x) → AllByRecursion P xs
+all_from P [] h = tt
+all_from P (x ∷ xs) h = (h x (0, omega arith, refl), all_from P xs (λ y is. h y (suc is.0, omega (arith, is.1), is.2)))
+
+-- what the levels below give
+abbrev pub SpelledWhole : Type 0
+SpelledWhole = (ps : List Plain) → AllByRecursion IsFit ps → IsWholeAs (spelled ps) ps
+
+abbrev pub FromKeys : Type 0
+FromKeys = (held : List (List ℕ)) (attributes : List Attribute) (key : List ℕ) → Contains (key_pool held attributes) key → Contains (held ++ map (λ (a : Attribute). a.key) attributes) key
+
+abbrev pub FromValues : Type 0
+FromValues = (held : List Value) (attributes : List Attribute) (value : Value) → Contains (value_pool held attributes) value → Contains (held ++ map (λ (a : Attribute). a.value) attributes) value
+
+abbrev pub PoolsHold : Type 0
+PoolsHold = (held_keys : List (List ℕ)) (held_values : List Value) (front attributes back : List Attribute) → AllByRecursion (IsIn (key_pool held_keys (front ++ (attributes ++ back))) (value_pool held_values (front ++ (attributes ++ back)))) attributes
+
+abbrev pub PlacesName : Type 0
+PlacesName = (keys : List (List ℕ)) (values : List Value) (attributes : List Attribute) → AllByRecursion (IsIn keys values) attributes → Names keys values (tags_in keys values attributes) attributes
+
+abbrev pub PlacesSmall : Type 0
+PlacesSmall = (keys : List (List ℕ)) (values : List Value) (attributes : List Attribute) (bound : ℕ) → AllByRecursion (IsIn keys values) attributes → length keys ≤ bound → length values ≤ bound → AllByRecursion (λ tag. tag < bound) (tags_in keys values attributes)
+
+abbrev pub ValueReads : Type 0
+ValueReads = (value : Value) → ValidValue value → length (spelled (value_fields value)) < 2 ^ 64 → IsValueOf (spelled (value_fields value)) value
+
+abbrev pub FeatureReads : Type 0
+FeatureReads = (keys : List (List ℕ)) (values : List Value) (tags : List ℕ) (feature : Feature) → ValidFeature feature → Names keys values tags feature.attributes → AllByRecursion (λ tag. tag < 2 ^ 32) tags → length (spelled (feature_fields tags feature)) < 2 ^ 64 → IsFeatureOf (spelled (feature_fields tags feature)) keys values feature
+
+-- the pools of valid features
+attributes_valid : (features : List Feature) → AllByRecursion ValidFeature features → AllByRecursion ValidAttribute (attributes_of features)
+attributes_valid [] h = tt
+attributes_valid (f ∷ fs) h = all_joined ValidAttribute f.attributes (attributes_of fs) h.0.attributes (attributes_valid fs h.1)
+
+keys_valid : FromKeys → (features : List Feature) → AllByRecursion ValidFeature features → AllByRecursion IsUtf8 (keys_of features)
+unfolding keys_of
+keys_valid from features valid =
+    let attributes = attributes_of features in
+    let texts : AllByRecursion IsUtf8 (map (λ (a : Attribute). a.key) attributes) = all_mapped (λ (a : Attribute). a.key) IsUtf8 attributes (all_weaker ValidAttribute (λ (a : Attribute). IsUtf8 a.key) (λ a h. h.0) attributes (attributes_valid features valid)) in
+    all_from IsUtf8 (key_pool [] attributes) (λ key is. contained IsUtf8 (map (λ (a : Attribute). a.key) attributes) key texts (from [] attributes key is))
+
+values_valid : FromValues → (features : List Feature) → AllByRecursion ValidFeature features → AllByRecursion ValidValue (values_of features)
+unfolding values_of
+values_valid from features valid =
+    let attributes = attributes_of features in
+    let texts : AllByRecursion ValidValue (map (λ (a : Attribute). a.value) attributes) = all_mapped (λ (a : Attribute). a.value) ValidValue attributes (all_weaker ValidAttribute (λ (a : Attribute). ValidValue a.value) (λ a h. h.1) attributes (attributes_valid features valid)) in
+    all_from ValidValue (value_pool [] attributes) (λ value is. contained ValidValue (map (λ (a : Attribute). a.value) attributes) value texts (from [] attributes value is))
+
+held_from : PoolsHold → (front : List Attribute) (features : List Feature) → AllByRecursion (λ (f : Feature). AllByRecursion (IsIn (key_pool [] (front ++ attributes_of features)) (value_pool [] (front ++ attributes_of features))) f.attributes) features
+held_from hold front [] = tt
+held_from hold front (f ∷ fs) =
+    (hold [] [] front f.attributes (attributes_of fs), subst (λ all. AllByRecursion (λ (g : Feature). AllByRecursion (IsIn (key_pool [] all) (value_pool [] all)) g.attributes) fs) (append_assoc front f.attributes (attributes_of fs)) (held_from hold (front ++ f.attributes) fs))
+
+features_held : PoolsHold → (features : List Feature) → AllByRecursion (λ (f : Feature). AllByRecursion (IsIn (keys_of features) (values_of features)) f.attributes) features
+unfolding keys_of values_of
+features_held hold features = held_from hold [] features
+
+pub layer_canonical : SpelledWhole → BytesLonger → FromKeys → FromValues → PoolsHold → PlacesName → PlacesSmall → ValueReads → FeatureReads → (layer : ALayer) → ValidLayer layer → length (spelled (layer_fields layer)) < 2 ^ 32 → IsItem (spelled (layer_fields layer)) (Layer layer)
+unfolding IsItem ValidLayer
+layer_canonical spelled_whole longer from_keys from_values hold names small value_reads feature_reads layer valid within =
+    let features = layer.features in
+    let keys = keys_of features in
+    let values = values_of features in
+    let fits = all_fit longer (layer_fields layer) (layer_fine keys values layer valid.1) (omega arith) in
+    let behind = fits.1.1 in
+    let whole = spelled_whole (layer_fields layer) fits in
+    let pools = pools_within longer keys values layer in
+    let feature_sizes = sizes 2 (feature_bytes keys values) features (all_left IsFit (all_of 2 (feature_bytes keys values) features) _ behind) in
+    let pool_fits = all_right IsFit (all_of 2 (feature_bytes keys values) features) _ behind in
+    let value_sizes = sizes 4 value_bytes values (all_left IsFit (all_of 4 value_bytes values) (extent_fields layer.extent) (all_right IsFit (all_of 3 same_bytes keys) _ pool_fits)) in
+    let hold_values = all_weaker (λ v. ValidValue v × (length (value_bytes v) < 2 ^ 64)) (λ v. IsValueOf (value_bytes v) v) (λ v h. value_reads v h.0 h.1) values (all_both ValidValue (λ v. length (value_bytes v) < 2 ^ 64) values (values_valid from_values features valid.2) value_sizes) in
+    let hold_features = all_weaker (λ (f : Feature). (ValidFeature f × AllByRecursion (IsIn keys values) f.attributes) × (length (feature_bytes keys values f) < 2 ^ 64)) (λ f. IsFeatureOf (feature_bytes keys values f) keys values f) (λ f h. feature_reads keys values (tags_in keys values f.attributes) f h.0.0 (names keys values f.attributes h.0.1) (small keys values f.attributes (2 ^ 32) h.0.1 (omega (arith, pools.0)) (omega (arith, pools.1))) h.1) features (all_both (λ (f : Feature). ValidFeature f × AllByRecursion (IsIn keys values) f.attributes) (λ f. length (feature_bytes keys values f) < 2 ^ 64) features (all_both ValidFeature (λ (f : Feature). AllByRecursion (IsIn keys values) f.attributes) features valid.2 (features_held hold features)) feature_sizes) in
+    let is = layer_is whole.0 keys values layer whole.2 valid.0 valid.1 (keys_valid from_keys features valid.2) hold_values hold_features in
+    (whole.0, whole.1, is.0, (is.1, is.2))
+
+foreign_canonical : (version : ℕ) (content : List ℕ) → AreOfVersion version content → IsItem content (Foreign version content)
+unfolding IsItem
+foreign_canonical version content (xs, whole, forms, is, other) = (xs, whole, forms, (is, other, refl))
+
+pub item_canonical : SpelledWhole → BytesLonger → FromKeys → FromValues → PoolsHold → PlacesName → PlacesSmall → ValueReads → FeatureReads → (item : AnItem) → ValidItem item → length (canonical_item item) < 2 ^ 32 → IsItem (canonical_item item) item
+unfolding canonical_item ValidItem
+item_canonical spelled_whole longer from_keys from_values hold names small value_reads feature_reads (Layer layer) valid within =
+    layer_canonical spelled_whole longer from_keys from_values hold names small value_reads feature_reads layer valid within
+item_canonical spelled_whole longer from_keys from_values hold names small value_reads feature_reads (Foreign version content) valid within = foreign_canonical version content valid

@@ -1,0 +1,42 @@
+-- The fault of an item from its parts.
+use Rattle.std.proofs.Common.{◌≡◌, ℕ, Bool, true, false, List, [], Option, Some, None, refl, sym, ap, ◌∙◌, if◌then◌else◌}
+use Rattle.std.specs.Option.{option_or}
+use Rattle.mvt_base.proofs.RuleLemmas.{option_or-right, option_or-none, option_or-nones, option_or-some}
+use Rattle.mvt_wire.specs.Field.{Entry}
+use Rattle.mvt_wire.specs.Split.{split}
+use Rattle.mvt_feature.specs.declared.message_error.MessageError.{MessageError}
+use Rattle.mvt_feature.specs.declared.message_error.MessageError.TheVariants.{Memory, Fault}
+use Rattle.mvt_feature.specs.Faults.{MessageFault, TellsMessage}
+use Rattle.mvt_feature.proofs.TableLemmas.{firsts, first-rows_all}
+use Rattle.mvt_message.specs.ItemRules.{item_table, layer_table, item_rules, item_fault}
+use Rattle.mvt_message.specs.LayerFields.{version_in, is_two, keys_in, values_in}
+use Rattle.mvt_message.specs.Inner.{rest_fault, versions_fault, no_version_fault, forms_fault, no_name_fault, values_fault, features_fault, head_fault, layer_fault}
+
+or_assoc : {F : Type 0} → (a b c d : Option F) → option_or a (option_or b (option_or c d)) ≡ option_or (option_or a (option_or b c)) d
+or_assoc None None c d = refl
+or_assoc None (Some x) c d = refl
+or_assoc (Some x) b c d = refl
+
+layer_rows : (base own : ℕ) (fields : List Entry) (two : Bool) → firsts (if two then layer_table base own fields else []) ≡ (if two then layer_fault base own fields else None)
+unfolding layer_fault
+layer_rows base own fields true = sym (first-rows_all (layer_table base own fields))
+layer_rows base own fields false = refl
+
+pub item_chain : (payload : List ℕ) (base own : ℕ) → item_fault payload base own ≡ option_or (head_fault payload base own) (if is_two (version_in (split payload).fields) then layer_fault base own (split payload).fields else None)
+unfolding item_fault item_rules
+item_chain payload base own =
+    first-rows_all (item_table payload base own) ∙ or_assoc (rest_fault payload base) (versions_fault base (split payload).fields) (no_version_fault own (split payload).fields) _ ∙ ap (option_or (head_fault payload base own)) (layer_rows base own (split payload).fields (is_two (version_in (split payload).fields)))
+
+pub layer_chain : (base own : ℕ) (fields : List Entry) → layer_fault base own fields ≡ option_or (forms_fault base fields) (option_or (no_name_fault own fields) (option_or (values_fault base fields) (option_or (features_fault base (keys_in fields) (values_in fields) fields) None)))
+unfolding layer_fault
+layer_chain base own fields = first-rows_all (layer_table base own fields)
+
+-- a fault that stands in front is that of the whole
+pub tells_or : (e : MessageError) (a b : Option MessageFault) → TellsMessage e a → TellsMessage e (option_or a b)
+tells_or Memory a b h = tt
+tells_or (Fault feature at cause) a b h = option_or-some a b _ h
+
+-- and so is one behind parts without a fault
+pub or_tells : (e : MessageError) (a b : Option MessageFault) → a ≡ None → TellsMessage e b → TellsMessage e (option_or a b)
+or_tells Memory a b none h = tt
+or_tells (Fault feature at cause) a b none h = option_or-none a b none ∙ h

@@ -1,0 +1,324 @@
+-- The laws of items, from those of values and of features.
+use Rattle.std.proofs.Common.{◌≡◌, ◌≢◌, ℕ, ◌+◌, ◌^◌, ◌<◌, ◌≤◌, ◌==◌, Bool, true, false, List, [], ◌∷◌, length, map, Option, Some, None, refl, sym, ap, ap₂, ◌∙◌, subst, arith, if◌then◌else◌}
+use Rattle.std.specs.Prelude.{is_none, unwrap_or}
+use Rattle.std.specs.List.{AllByRecursion}
+use Rattle.std.specs.Option.{option_or, option_map, option_to_list}
+use Rattle.std.proofs.lemmas.Bool.{eqb-true, eqb-false, eq-eqb, ne_eqb}
+use Rattle.mvt_base.specs.Related.{AreRelated}
+use Rattle.mvt_base.specs.Rules.{Rules, AreOrdered, when, told, rows, each, first}
+use Rattle.mvt_base.proofs.ListLemmas.{all_weaker, related_once}
+use Rattle.mvt_base.proofs.OrderLemmas.{AreRowsFrom, rows_ordered, each_ordered, told_ordered, when_ordered}
+use Rattle.mvt_base.proofs.RuleLemmas.{first-when_not, option_or-none, option_or-nones}
+use Rattle.mvt_attrs.specs.declared.value.Value.{Value}
+use Rattle.mvt_wire.specs.Field.{Content, varint, fixed64, bytes, fixed32, Entry}
+use Rattle.mvt_wire.specs.Split.{Split, Whole, split}
+use Rattle.mvt_feature.specs.declared.cause.Cause.TheVariants.{NoVersion, NoName}
+use Rattle.mvt_feature.specs.declared.feature.Feature.{Feature}
+use Rattle.mvt_feature.specs.Faults.{MessageFault, fault_at, in_feature, rest_rules}
+use Rattle.mvt_feature.specs.Features.{IsFeatureOf, number_in, number_of}
+use Rattle.mvt_feature.specs.FeatureRules.{feature_rules, feature_fault}
+use Rattle.mvt_feature.specs.Selection.{only, last_only, HaveForm}
+use Rattle.mvt_feature.specs.Values.{IsValueOf}
+use Rattle.mvt_feature.specs.ValueRules.{value_rules, value_fault}
+use Rattle.mvt_feature.proofs.SelectionLemmas.{none_each, each_none, form_of}
+use Rattle.mvt_feature.proofs.TableLemmas.{when_none}
+use Rattle.mvt_feature.proofs.ValueLemmas.{rest_ordered}
+use Rattle.mvt_feature.proofs.WalkLemmas.{rest_none, none_rest}
+use Rattle.mvt_message.specs.declared.item.Item.{Item as AnItem}
+use Rattle.mvt_message.specs.declared.item.Layer.{Layer as ALayer}
+use Rattle.mvt_message.specs.declared.item.Item.TheVariants.{Layer, Foreign}
+use Rattle.mvt_message.specs.LayerFields.{bytes_of, version_in, is_two, name_in, extent_in, keys_in, values_in}
+use Rattle.mvt_message.specs.ItemRules.{version_rules, layer_field_rules, value_rules_of, feature_rules_of, layer_table, item_table, item_rules, item_fault, payload_names}
+use Rattle.mvt_message.specs.Items.{IsUint32, HoldsValue, HoldsFeature, IsLayer, AreItem, IsItem, names_in}
+use Rattle.mvt_message.specs.Inner.{rest_fault, versions_fault, no_version_fault, forms_fault, no_name_fault, values_fault, features_fault, head_fault, layer_fault}
+use Rattle.mvt_message.proofs.ChainLemmas.{item_chain, layer_chain}
+use Rattle.mvt_message.proofs.FormLemmas.{versions_form, form_versions, AreForms, layer_forms, forms_layer, none_each_told, each_told_none, version_ordered, layer_field_ordered}
+use Rattle.mvt_message.proofs.SaidLemmas.{SplitOnly, values_said}
+
+-- what the levels below give
+abbrev pub SplitIs : Type 0
+SplitIs = (b : List ℕ) → Split b (split b).fields (split b).rest
+
+abbrev pub ValuesThere : Type 0
+ValuesThere = (payload : List ℕ) (base own : ℕ) → value_fault payload base own ≡ None → (value : Value) × IsValueOf payload value
+
+abbrev pub ValuesClean : Type 0
+ValuesClean = (payload : List ℕ) (base own : ℕ) (value : Value) → IsValueOf payload value → value_fault payload base own ≡ None
+
+abbrev pub ValuesOnce : Type 0
+ValuesOnce = (payload : List ℕ) (value other : Value) → IsValueOf payload value → IsValueOf payload other → value ≡ other
+
+abbrev pub FeaturesThere : Type 0
+FeaturesThere = (payload : List ℕ) (base : ℕ) (keys : List (List ℕ)) (values : List Value) → feature_fault payload base keys values ≡ None → (feature : Feature) × IsFeatureOf payload keys values feature
+
+abbrev pub FeaturesClean : Type 0
+FeaturesClean = (payload : List ℕ) (base : ℕ) (keys : List (List ℕ)) (values : List Value) (feature : Feature) → IsFeatureOf payload keys values feature → feature_fault payload base keys values ≡ None
+
+abbrev pub FeaturesOnce : Type 0
+FeaturesOnce = (payload : List ℕ) (keys : List (List ℕ)) (values : List Value) (feature other : Feature) → IsFeatureOf payload keys values feature → IsFeatureOf payload keys values other → feature ≡ other
+
+-- the faults of one value and of one feature are the first of their tables
+pub value_first : (payload : List ℕ) (base own : ℕ) → value_fault payload base own ≡ first (value_rules payload base own)
+unfolding value_fault
+value_first payload base own = refl
+
+pub feature_first : (payload : List ℕ) (base : ℕ) (keys : List (List ℕ)) (values : List Value) → feature_fault payload base keys values ≡ first (feature_rules payload base keys values)
+unfolding feature_fault
+feature_first payload base keys values = refl
+
+-- options
+pub some_there : {A : Type 0} → (o : Option A) → is_none o ≡ false → (x : A) × (o ≡ Some x)
+some_there None h = cc
+some_there (Some x) h = (x, refl)
+
+pub two_there : (o : Option ℕ) → is_two o ≡ true → o ≡ Some 2
+two_there None h = cc
+two_there (Some n) h = ap Some (eqb-true n 2 h)
+
+pub version_there : (xs : List Entry) → HaveForm 15 IsUint32 xs → is_none (last_only 15 xs) ≡ false → (n : ℕ) × (version_in xs ≡ Some n)
+version_there xs forms some =
+    let last = some_there (last_only 15 xs) some in
+    let number = of_form last.0.content (form_of 15 IsUint32 xs last.0 forms last.1) in
+    (number.0, ap number_in last.1 ∙ number.1)
+  where
+    of_form : (c : Content) → IsUint32 c → (n : ℕ) × (number_of c ≡ Some n)
+    of_form (varint n) h = (n, refl)
+    of_form (bytes d) h = absurd h
+    of_form (fixed64 n) h = absurd h
+    of_form (fixed32 n) h = absurd h
+
+pub some_none : {A : Type 0} → (o : Option A) (x : A) → o ≡ Some x → is_none o ≡ false
+some_none None x h = cc
+some_none (Some y) x h = refl
+
+-- what is there for each element
+pub related_there : {X Y : Type 0} → (P : X → Type 0) (R : X → Y → Type 0) → ((x : X) → P x → (y : Y) × R x y) → (xs : List X) → AllByRecursion P xs → (ys : List Y) × AreRelated R xs ys
+related_there P R there [] h = ([], tt)
+related_there P R there (x ∷ xs) h =
+    let here = there x h.0 in
+    let later = related_there P R there xs h.1 in
+    (here.0 ∷ later.0, (here.1, later.1))
+
+pub related_left : {X Y : Type 0} → (R : X → Y → Type 0) (P : X → Type 0) → ((x : X) (y : Y) → R x y → P x) → (xs : List X) (ys : List Y) → AreRelated R xs ys → AllByRecursion P xs
+related_left R P gives [] [] h = tt
+related_left R P gives [] (y ∷ ys) h = absurd h
+related_left R P gives (x ∷ xs) [] h = absurd h
+related_left R P gives (x ∷ xs) (y ∷ ys) h = (gives x y h.0, related_left R P gives xs ys h.1)
+
+-- the rows of values and of features
+pub values_there : ValuesThere → (base : ℕ) (xs : List Entry) → values_fault base xs ≡ None → (values : List Value) × AreRelated HoldsValue (only 4 xs) values
+values_there there base xs clean =
+    related_there (λ (x : Entry). first (value_rules_of base x) ≡ None) HoldsValue (λ x none. there (bytes_of x.content) (base + x.body) (base + x.at) (value_first _ _ _ ∙ none)) (only 4 xs) (none_each (value_rules_of base) [] (only 4 xs) clean)
+
+pub values_clean : ValuesClean → (base : ℕ) (xs : List Entry) (values : List Value) → AreRelated HoldsValue (only 4 xs) values → values_fault base xs ≡ None
+values_clean clean base xs values are =
+    each_none (value_rules_of base) [] (only 4 xs) (related_left HoldsValue (λ (x : Entry). first (value_rules_of base x) ≡ None) (λ x v is. sym (value_first _ _ _) ∙ clean (bytes_of x.content) (base + x.body) (base + x.at) v is) (only 4 xs) values are)
+
+abbrev feature_rules_at : ℕ → List (List ℕ) → List Value → Entry → Rules MessageFault
+feature_rules_at base keys values x = feature_rules (bytes_of x.content) (base + x.body) keys values
+
+pub features_there : FeaturesThere → (base : ℕ) (keys : List (List ℕ)) (values : List Value) (xs : List Entry) → features_fault base keys values xs ≡ None → (features : List Feature) × AreRelated (HoldsFeature keys values) (only 2 xs) features
+features_there there base keys values xs clean =
+    related_there (λ (x : Entry). first (feature_rules_at base keys values x) ≡ None) (HoldsFeature keys values) (λ x none. there (bytes_of x.content) (base + x.body) keys values (feature_first _ _ _ _ ∙ none)) (only 2 xs) (none_each_told (λ (earlier : List Entry). in_feature (length earlier)) (feature_rules_at base keys values) [] (only 2 xs) clean)
+
+pub features_clean : FeaturesClean → (base : ℕ) (keys : List (List ℕ)) (values : List Value) (xs : List Entry) (features : List Feature) → AreRelated (HoldsFeature keys values) (only 2 xs) features → features_fault base keys values xs ≡ None
+features_clean clean base keys values xs features are =
+    each_told_none (λ (earlier : List Entry). in_feature (length earlier)) (feature_rules_at base keys values) [] (only 2 xs) (related_left (HoldsFeature keys values) (λ (x : Entry). first (feature_rules_at base keys values x) ≡ None) (λ x f is. sym (feature_first _ _ _ _) ∙ clean (bytes_of x.content) (base + x.body) keys values f is) (only 2 xs) features are)
+
+-- a layer without a fault is there
+pub layer_from : (base own : ℕ) (xs : List Entry) (layer : ALayer) (values : List Value) → forms_fault base xs ≡ None → name_in xs ≡ Some layer.name → layer.extent ≡ extent_in xs → AreRelated HoldsValue (only 4 xs) values → AreRelated (HoldsFeature (keys_in xs) values) (only 2 xs) layer.features → IsLayer xs layer
+layer_from base own xs layer values clean name extent values_are features =
+    let forms = layer_forms base xs clean in
+    record {
+      names = forms.names;
+      messages = forms.messages;
+      texts = forms.texts;
+      pool = forms.pool;
+      extents = forms.extents;
+      name = name;
+      extent = extent;
+      values = values;
+      values_are = values_are;
+      features = features;
+    }
+
+layer_there : SplitOnly → ValuesThere → FeaturesThere → (base own : ℕ) (xs : List Entry) → layer_fault base own xs ≡ None → (layer : ALayer) × IsLayer xs layer
+layer_there split_only values_are_there features_are_there base own xs none =
+    let parts = option_or-nones _ _ (sym (layer_chain base own xs) ∙ none) in
+    let later = option_or-nones _ _ parts.1 in
+    let last = option_or-nones _ _ later.1 in
+    let end = option_or-nones _ _ last.1 in
+    let name = some_there (last_only 1 xs) (when_none (is_none (last_only 1 xs)) (fault_at own NoName) later.0) in
+    let values = values_there values_are_there base xs last.0 in
+    let same : values_in xs ≡ values.0 = values_said split_only (only 4 xs) values.0 values.1 in
+    let features = features_there features_are_there base (keys_in xs) values.0 xs (subst (λ vs. features_fault base (keys_in xs) vs xs ≡ None) same end.0) in
+    let layer : ALayer = record { name = bytes_of name.0.content; extent = extent_in xs; features = features.0 } in
+    (layer, layer_from base own xs layer values.0 parts.0 (ap (option_map (λ (x : Entry). bytes_of x.content)) name.1) refl values.1 features.1)
+
+name_there : (xs : List Entry) (name : List ℕ) → name_in xs ≡ Some name → is_none (last_only 1 xs) ≡ false
+name_there xs name is = of_option (last_only 1 xs) is
+  where
+    of_option : (o : Option Entry) → option_map (λ (x : Entry). bytes_of x.content) o ≡ Some name → is_none o ≡ false
+    of_option None h = cc
+    of_option (Some x) h = refl
+
+pub layer_clean : (base own : ℕ) (xs : List Entry) → forms_fault base xs ≡ None → no_name_fault own xs ≡ None → values_fault base xs ≡ None → features_fault base (keys_in xs) (values_in xs) xs ≡ None → layer_fault base own xs ≡ None
+layer_clean base own xs forms name values features =
+    layer_chain base own xs ∙ option_or-none _ _ forms ∙ option_or-none _ _ name ∙ option_or-none _ _ values ∙ option_or-none _ _ features
+
+layer_keeps : SplitOnly → ValuesClean → FeaturesClean → (base own : ℕ) (xs : List Entry) (layer : ALayer) → IsLayer xs layer → layer_fault base own xs ≡ None
+layer_keeps split_only clean_values clean_features base own xs layer is =
+    let same : values_in xs ≡ is.values = values_said split_only (only 4 xs) is.values is.values_are in
+    layer_clean base own xs (forms_layer base xs is.names is.messages is.texts is.pool is.extents) (first-when_not _ _ (name_there xs layer.name is.name)) (values_clean clean_values base xs is.values is.values_are) (subst (λ vs. features_fault base (keys_in xs) vs xs ≡ None) (sym same) (features_clean clean_features base (keys_in xs) is.values xs layer.features is.features))
+
+-- no fault: the payload is an item
+abbrev FaultBehind : ℕ → ℕ → List Entry → Bool → Option MessageFault
+FaultBehind base own xs two = if two then layer_fault base own xs else None
+
+pub head_clean : (payload : List ℕ) (base own : ℕ) → head_fault payload base own ≡ None → ((split payload).rest ≡ []) × HaveForm 15 IsUint32 (split payload).fields × ((n : ℕ) × (version_in (split payload).fields ≡ Some n))
+head_clean payload base own none =
+    let xs = (split payload).fields in
+    let parts = option_or-nones _ _ none in
+    let later = option_or-nones _ _ parts.1 in
+    let forms = versions_form base xs later.0 in
+    (none_rest base (split payload) parts.0, forms, version_there xs forms (when_none (is_none (last_only 15 xs)) (fault_at own NoVersion) later.1))
+
+pub whole_of : SplitIs → (payload : List ℕ) → (split payload).rest ≡ [] → Whole payload (split payload).fields
+whole_of split_is payload rest = subst (λ r. Split payload (split payload).fields r) rest (split_is payload)
+
+pub item_from : SplitIs → (payload : List ℕ) (item : AnItem) → (split payload).rest ≡ [] → HaveForm 15 IsUint32 (split payload).fields → AreItem (split payload).fields payload item → IsItem payload item
+unfolding IsItem
+item_from split_is payload item rest forms are = ((split payload).fields, whole_of split_is payload rest, forms, are)
+
+pub item_there : SplitIs → SplitOnly → ValuesThere → FeaturesThere → (payload : List ℕ) (base own : ℕ) → item_fault payload base own ≡ None → (item : AnItem) × IsItem payload item
+item_there split_is split_only values_are_there features_are_there payload base own none =
+    let parts = option_or-nones _ _ (sym (item_chain payload base own) ∙ none) in
+    let head = head_clean payload base own parts.0 in
+    by_version (is_two (version_in (split payload).fields)) refl head.0 head.1 head.2 parts.1
+  where
+    by_version : (two : Bool) → is_two (version_in (split payload).fields) ≡ two → (split payload).rest ≡ [] → HaveForm 15 IsUint32 (split payload).fields → ((n : ℕ) × (version_in (split payload).fields ≡ Some n)) → FaultBehind base own (split payload).fields two ≡ None → (item : AnItem) × IsItem payload item
+    by_version true is rest forms version behind =
+        let layer = layer_there split_only values_are_there features_are_there base own (split payload).fields behind in
+        (Layer layer.0, item_from split_is payload (Layer layer.0) rest forms (two_there _ is, layer.1))
+    by_version false is rest forms version behind =
+        let other : version.0 ≢ 2 = eqb-false version.0 2 (sym (ap is_two version.1) ∙ is) in
+        (Foreign version.0 payload, item_from split_is payload (Foreign version.0 payload) rest forms (version.1, other, refl))
+
+-- and a payload that is an item has none
+last_there : (xs : List Entry) (n : ℕ) → version_in xs ≡ Some n → is_none (last_only 15 xs) ≡ false
+last_there xs n is = of_option (last_only 15 xs) is
+  where
+    of_option : (o : Option Entry) → number_in o ≡ Some n → is_none o ≡ false
+    of_option None h = cc
+    of_option (Some x) h = refl
+
+pub head_keeps : (payload : List ℕ) (base own n : ℕ) → (split payload).rest ≡ [] → HaveForm 15 IsUint32 (split payload).fields → version_in (split payload).fields ≡ Some n → head_fault payload base own ≡ None
+head_keeps payload base own n rest forms version =
+    option_or-none _ _ (rest_none base (split payload) rest) ∙ option_or-none _ _ (form_versions base (split payload).fields forms) ∙ first-when_not _ _ (last_there (split payload).fields n version)
+
+pub item_of_layer : (payload : List ℕ) (base own : ℕ) → head_fault payload base own ≡ None → version_in (split payload).fields ≡ Some 2 → item_fault payload base own ≡ layer_fault base own (split payload).fields
+item_of_layer payload base own head version =
+    item_chain payload base own ∙ option_or-none _ _ head ∙ ap (FaultBehind base own (split payload).fields) (ap is_two version)
+
+pub item_of_other : (payload : List ℕ) (base own n : ℕ) → head_fault payload base own ≡ None → version_in (split payload).fields ≡ Some n → n ≢ 2 → item_fault payload base own ≡ None
+item_of_other payload base own n head version other =
+    item_chain payload base own ∙ option_or-none _ _ head ∙ ap (FaultBehind base own (split payload).fields) (ap is_two version ∙ ne_eqb n 2 other)
+
+pub item_keeps : SplitOnly → ValuesClean → FeaturesClean → (payload : List ℕ) (base own : ℕ) (item : AnItem) → IsItem payload item → item_fault payload base own ≡ None
+unfolding IsItem
+item_keeps split_only clean_values clean_features payload base own item (xs, whole, forms, are) =
+    let only_split = split_only payload [] xs whole in
+    let here : AreItem (split payload).fields payload item = subst (λ fs. AreItem fs payload item) only_split.0 are in
+    by_item item (sym only_split.1) (subst (HaveForm 15 IsUint32) only_split.0 forms) here
+  where
+    by_item : (i : AnItem) → (split payload).rest ≡ [] → HaveForm 15 IsUint32 (split payload).fields → AreItem (split payload).fields payload i → item_fault payload base own ≡ None
+    by_item (Layer layer) rest form is =
+        item_of_layer payload base own (head_keeps payload base own 2 rest form is.0) is.0 ∙ layer_keeps split_only clean_values clean_features base own (split payload).fields layer is.1
+    by_item (Foreign version content) rest form is = item_of_other payload base own version (head_keeps payload base own version rest form is.0) is.0 is.1
+
+-- at most one item
+same_layers : (k l : ALayer) → k.name ≡ l.name → k.extent ≡ l.extent → k.features ≡ l.features → k ≡ l
+same_layers k l name extent features = rw (← name, ← extent, ← features) refl
+
+layer_same : ValuesOnce → FeaturesOnce → (xs : List Entry) (k l : ALayer) → IsLayer xs k → IsLayer xs l → k ≡ l
+layer_same one_value one_feature xs k l a b =
+    let names : Some k.name ≡ Some l.name = sym a.name ∙ b.name in
+    let name : k.name ≡ l.name = cc in
+    let values : a.values ≡ b.values = related_once HoldsValue (λ x v w is also_is. one_value (bytes_of x.content) v w is also_is) (only 4 xs) a.values b.values a.values_are b.values_are in
+    same_layers k l name (a.extent ∙ sym b.extent) (related_once (HoldsFeature (keys_in xs) b.values) (λ x f g is also_is. one_feature (bytes_of x.content) (keys_in xs) b.values f g is also_is) (only 2 xs) k.features l.features (subst (λ vs. AreRelated (HoldsFeature (keys_in xs) vs) (only 2 xs) k.features) values a.features) b.features)
+
+same_items : ValuesOnce → FeaturesOnce → (xs : List Entry) (payload : List ℕ) (i j : AnItem) → AreItem xs payload i → AreItem xs payload j → i ≡ j
+same_items one_value one_feature xs payload (Layer k) (Layer l) a b = ap Layer (layer_same one_value one_feature xs k l a.1 b.1)
+same_items one_value one_feature xs payload (Layer k) (Foreign n d) a b = let e : Some 2 ≡ Some n = sym a.0 ∙ b.0 in let f : n ≡ 2 = cc in absurd (b.1 f)
+same_items one_value one_feature xs payload (Foreign n d) (Layer l) a b = let e : Some n ≡ Some 2 = sym a.0 ∙ b.0 in let f : n ≡ 2 = cc in absurd (a.1 f)
+same_items one_value one_feature xs payload (Foreign m c) (Foreign n d) a b =
+    let e : Some m ≡ Some n = sym a.0 ∙ b.0 in
+    let f : m ≡ n = cc in
+    ap₂ Foreign f (a.2 ∙ sym b.2)
+
+abbrev pub OneSplit : Type 0
+OneSplit = (b : List ℕ) (es fs : List Entry) (r s : List ℕ) → Split b es r → Split b fs s → (es ≡ fs) × (r ≡ s)
+
+pub item_once : OneSplit → ValuesOnce → FeaturesOnce → (payload : List ℕ) (i j : AnItem) → IsItem payload i → IsItem payload j → i ≡ j
+unfolding IsItem
+item_once one_split one_value one_feature payload i j (xs, whole, forms, are) (ys, also_whole, also_forms, also_are) =
+    same_items one_value one_feature xs payload i j are (subst (λ zs. AreItem zs payload j) (sym (one_split payload xs ys [] [] whole also_whole).0) also_are)
+
+-- the names
+pub names_same : SplitOnly → (payload : List ℕ) (item : AnItem) → IsItem payload item → names_in item ≡ payload_names payload
+unfolding IsItem payload_names
+names_same split_only payload item (xs, whole, forms, are) =
+    by_item item (subst (λ fs. AreItem fs payload item) (split_only payload [] xs whole).0 are)
+  where
+    by_item : (i : AnItem) → AreItem (split payload).fields payload i → names_in i ≡ (if is_two (version_in (split payload).fields) then option_to_list (name_in (split payload).fields) else [])
+    by_item (Layer layer) is =
+        sym (ap (λ (t : Bool). if t then option_to_list (name_in (split payload).fields) else []) (ap is_two is.0) ∙ ap option_to_list is.1.name)
+    by_item (Foreign version content) is =
+        sym (ap (λ (t : Bool). if t then option_to_list (name_in (split payload).fields) else []) (ap is_two is.0 ∙ ne_eqb version 2 is.1))
+
+-- the table is in order
+abbrev pub ValuesOrdered : Type 0
+ValuesOrdered = (payload : List ℕ) (base own : ℕ) → AreOrdered (value_rules payload base own)
+
+abbrev pub FeaturesOrdered : Type 0
+FeaturesOrdered = (payload : List ℕ) (base : ℕ) (keys : List (List ℕ)) (values : List Value) → AreOrdered (feature_rules payload base keys values)
+
+layer_rows : ValuesOrdered → FeaturesOrdered → (base own : ℕ) (xs : List Entry) (two : Bool) → AreRowsFrom 5 (if two then layer_table base own xs else [])
+layer_rows values features base own xs false = tt
+layer_rows values features base own xs true = (
+  omega arith,
+  (
+    each_ordered (λ _. layer_field_rules base) [] xs (λ seen x. layer_field_ordered base x),
+    (
+      omega arith,
+      (
+        when_ordered (is_none (last_only 1 xs)) (fault_at own NoName),
+        (
+          omega arith,
+          (
+            each_ordered (λ _. value_rules_of base) [] (only 4 xs) (λ seen x. values (bytes_of x.content) (base + x.body) (base + x.at)),
+            (
+              omega arith,
+              (
+                each_ordered (feature_rules_of base (keys_in xs) (values_in xs)) [] (only 2 xs) (λ seen x. told_ordered (in_feature (length seen)) _ (features (bytes_of x.content) (base + x.body) (keys_in xs) (values_in xs))),
+                tt,
+              ),
+            ),
+          ),
+        ),
+      ),
+    ),
+  ),
+)
+
+item_rows : ValuesOrdered → FeaturesOrdered → (payload : List ℕ) (base own : ℕ) → AreRowsFrom 0 (item_table payload base own)
+item_rows values features payload base own =
+    (omega arith, (rest_ordered base (split payload), (omega arith, (each_ordered (λ _. version_rules base) [] (split payload).fields (λ seen x. version_ordered base x), (omega arith, (when_ordered (is_none (last_only 15 (split payload).fields)) (fault_at own NoVersion), layer_rows values features base own (split payload).fields (is_two (version_in (split payload).fields))))))))
+
+pub item_ordered : ValuesOrdered → FeaturesOrdered → (payload : List ℕ) (base own : ℕ) → AreOrdered (item_rules payload base own)
+unfolding item_rules
+item_ordered values features payload base own = rows_ordered 0 (item_table payload base own) (item_rows values features payload base own)
+
+pub item_first : (payload : List ℕ) (base own : ℕ) → item_fault payload base own ≡ first (item_rules payload base own)
+unfolding item_fault
+item_first payload base own = refl

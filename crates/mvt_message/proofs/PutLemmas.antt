@@ -1,0 +1,213 @@
+-- What is written of a layer so far.
+use Rattle.std.proofs.Common.{◌≡◌, ℕ, ◌+◌, ◌*◌, ◌<◌, ◌≤◌, ◌⊎◌, inl, inr, List, [], ◌∷◌, ◌++◌, length, map, take, drop, get_or, bytes_eq, Option, Some, None, Result, Ok, Err, refl, sym, ap, ap₂, ◌∙◌, subst, arith, append_assoc, append-nil, length-append}
+use Rattle.std.specs.List.{AllByRecursion, flat_map}
+use Rattle.std.proofs.lemmas.Grind.{flat_map-append}
+use Rattle.std.proofs.lemmas.List.{map-append, take-append-drop, take_more}
+use Rattle.std.proofs.lemmas.Slice.Eq.{bytes_eq-Decides}
+use Rattle.mvt_base.specs.declared.TheConstants.{LIMIT}
+use Rattle.mvt_base.proofs.ListLemmas.{all_weaker}
+use Rattle.mvt_attrs.specs.declared.pool_error.PoolError.{PoolError}
+use Rattle.mvt_attrs.specs.declared.pool_error.PoolError.TheVariants as pools
+use Rattle.mvt_attrs.specs.declared.value.Attribute.{Attribute}
+use Rattle.mvt_attrs.specs.declared.value.Value.{Value}
+use Rattle.mvt_attrs.specs.FirstUse.{AreDistinct}
+use Rattle.mvt_attrs.specs.Pools.{key_pool, value_pool}
+use Rattle.mvt_attrs.specs.Tags.{Names}
+use Rattle.mvt_attrs.specs.TagPlaces.{tags_in}
+use Rattle.mvt_attrs.specs.Values.{equal_values}
+use Rattle.mvt_attrs.proofs.EqualityLemmas.{equal_values-Decides}
+use Rattle.mvt_attrs.proofs.FirstUseLemmas.{first_use-distinct}
+use Rattle.mvt_attrs.proofs.PlaceLemmas.{pool_by_parts, pool_grows, names_places}
+use Rattle.mvt_geometry.specs.Valid.{IsValid}
+use Rattle.mvt_wire.specs.Field.{bytes, varint}
+use Rattle.mvt_wire.specs.Spelling.{Plain, short_field, spelled}
+use Rattle.mvt_wire.proofs.SpellingLemmas.{bytes_longer}
+use Rattle.mvt_feature.specs.declared.feature.Feature.{Feature}
+use Rattle.mvt_feature.specs.Canonical.{feature_fields}
+use Rattle.mvt_feature.specs.Valid.{ValidFeature}
+use Rattle.mvt_message.specs.declared.item.Layer.{Layer as ALayer}
+use Rattle.mvt_message.specs.declared.put_error.PutError.TheVariants.{Memory, TooLarge}
+use Rattle.mvt_message.specs.CanonicalItems.{attributes_of, keys_of, values_of, head_fields, feature_field, key_field, value_field, extent_fields, layer_fields}
+use Rattle.mvt_message.specs.PutErrors.{of_pool}
+use Rattle.mvt_message.specs.ValidItems.{ValidLayer}
+use Rattle.mvt_message.proofs.CanonicalLemmas.{pools_within, spelled-append, spelled_length}
+
+pub pool_full : (e : PoolError) → of_pool e ≡ TooLarge → e ≡ pools.Full
+pool_full pools.Memory h = cc
+pool_full pools.Full h = refl
+
+pub layer_geometries : (layer : ALayer) (features : List Feature) → ValidLayer layer → features ≡ layer.features → AllByRecursion (λ (f : Feature). IsValid f.geometry) features
+unfolding ValidLayer
+layer_geometries layer features valid is =
+    subst (AllByRecursion (λ (f : Feature). IsValid f.geometry)) (sym is) (all_weaker ValidFeature (λ (f : Feature). IsValid f.geometry) (λ f h. h.drawn) layer.features valid.2)
+
+-- one more field of a list
+pub spelled_more : {Y : Type 0} → (g : Y → Plain) (ys : List Y) (y : Y) (start old new : List ℕ) → old ≡ start ++ spelled (map g ys) → new ≡ old ++ short_field (g y).number (g y).content → new ≡ start ++ spelled (map g (ys ++ y ∷ []))
+spelled_more g ys y start old new is more =
+    more ∙ ap (λ l. l ++ short_field (g y).number (g y).content) is ∙ append_assoc start (spelled (map g ys)) (short_field (g y).number (g y).content) ∙ ap (λ l. start ++ l) (ap (λ l. spelled (map g ys) ++ l) (sym (append-nil (short_field (g y).number (g y).content))) ∙ sym (spelled-append (map g ys) (g y ∷ [])) ∙ ap spelled (sym (map-append g ys (y ∷ []))))
+
+pub list_step : {Y : Type 0} → (g : Y → Plain) (ys : List Y) (i : ℕ) (y : Y) (start old new : List ℕ) → i < length ys → get_or ys i y ≡ y → old ≡ start ++ spelled (map g (take i ys)) → new ≡ old ++ short_field (g y).number (g y).content → new ≡ start ++ spelled (map g (take (i + 1) ys))
+list_step g ys i y start old new within here is more =
+    spelled_more g (take i ys) y start old new is more ∙ ap (λ l. start ++ spelled (map g l)) (ap (λ x. take i ys ++ x ∷ []) (sym here) ∙ sym (take_more ys i y within))
+
+-- pools of more features
+attributes-append : (fs gs : List Feature) → attributes_of (fs ++ gs) ≡ attributes_of fs ++ attributes_of gs
+attributes-append fs gs = flat_map-append (λ (f : Feature). f.attributes) fs gs
+
+attributes_more : (done : List Feature) (f : Feature) → attributes_of (done ++ f ∷ []) ≡ attributes_of done ++ f.attributes
+attributes_more done f = attributes-append done (f ∷ []) ∙ ap (λ l. attributes_of done ++ l) (append-nil f.attributes)
+
+keys_more : (done : List Feature) (f : Feature) (keys new : List (List ℕ)) → keys ≡ keys_of done → new ≡ key_pool keys f.attributes → new ≡ keys_of (done ++ f ∷ [])
+unfolding keys_of
+keys_more done f keys new is more =
+    more ∙ ap (λ k. key_pool k f.attributes) is ∙ pool_by_parts bytes_eq bytes_eq-Decides (λ (a : Attribute). a.key) [] (attributes_of done) f.attributes ∙ ap (key_pool []) (sym (attributes_more done f))
+
+values_more : (done : List Feature) (f : Feature) (values new : List Value) → values ≡ values_of done → new ≡ value_pool values f.attributes → new ≡ values_of (done ++ f ∷ [])
+unfolding values_of
+values_more done f values new is more =
+    more ∙ ap (λ k. value_pool k f.attributes) is ∙ pool_by_parts equal_values equal_values-Decides (λ (a : Attribute). a.value) [] (attributes_of done) f.attributes ∙ ap (value_pool []) (sym (attributes_more done f))
+
+keys_front : (done rest : List Feature) → (added : List (List ℕ)) × (keys_of (done ++ rest) ≡ keys_of done ++ added)
+unfolding keys_of
+keys_front done rest =
+    let grown = pool_grows bytes_eq bytes_eq-Decides (λ (a : Attribute). a.key) [] (attributes_of done) (attributes_of rest) in
+    (grown.0, ap (key_pool []) (attributes-append done rest) ∙ grown.1)
+
+values_front : (done rest : List Feature) → (added : List Value) × (values_of (done ++ rest) ≡ values_of done ++ added)
+unfolding values_of
+values_front done rest =
+    let grown = pool_grows equal_values equal_values-Decides (λ (a : Attribute). a.value) [] (attributes_of done) (attributes_of rest) in
+    (grown.0, ap (value_pool []) (attributes-append done rest) ∙ grown.1)
+
+keys_distinct : (done : List Feature) → AreDistinct (keys_of done)
+unfolding keys_of
+keys_distinct done = first_use-distinct bytes_eq bytes_eq-Decides _
+
+values_distinct : (done : List Feature) → AreDistinct (values_of done)
+unfolding values_of
+values_distinct done = first_use-distinct equal_values equal_values-Decides _
+
+-- the tags of a feature name the same entries in the pools of all features
+tags_last : (features done rest : List Feature) (f : Feature) (keys : List (List ℕ)) (values : List Value) → features ≡ done ++ rest → keys ≡ keys_of done → values ≡ values_of done → Names keys values (tags_in keys values f.attributes) f.attributes → tags_in keys values f.attributes ≡ tags_in (keys_of features) (values_of features) f.attributes
+tags_last features done rest f keys values parts keys_are values_are names =
+    let all_keys = keys_front done rest in
+    let all_values = values_front done rest in
+    let keys_grow : keys_of features ≡ keys ++ all_keys.0 = ap keys_of parts ∙ all_keys.1 ∙ ap (λ k. k ++ all_keys.0) (sym keys_are) in
+    let values_grow : values_of features ≡ values ++ all_values.0 = ap values_of parts ∙ all_values.1 ∙ ap (λ k. k ++ all_values.0) (sym values_are) in
+    names_places keys all_keys.0 values all_values.0 (tags_in keys values f.attributes) f.attributes (subst AreDistinct (sym keys_are) (keys_distinct done)) (subst AreDistinct (sym values_are) (values_distinct done)) names ∙ ap₂ (λ ks vs. tags_in ks vs f.attributes) (sym keys_grow) (sym values_grow)
+
+-- the features below a place are written, with tags that name entries of the pools of all features
+pub record FeaturesSoFar (features : List Feature) (i : ℕ) (keys : List (List ℕ)) (values : List Value) (start out : List ℕ) : Type 0 where
+  pub keys_are : keys ≡ keys_of (take i features)
+  pub values_are : values ≡ values_of (take i features)
+  pub out_is : out ≡ start ++ spelled (map (feature_field (keys_of features) (values_of features)) (take i features))
+
+pub features_start : (features : List Feature) (keys : List (List ℕ)) (values : List Value) (start : List ℕ) → keys ≡ [] → values ≡ [] → FeaturesSoFar features 0 keys values start start
+unfolding keys_of values_of
+features_start features keys values start no_keys no_values =
+    record { keys_are = no_keys; values_are = no_values; out_is = sym (append-nil start) }
+
+front_more : (features : List Feature) (i : ℕ) (f : Feature) → i < length features → f ≡ get_or features i f → take (i + 1) features ≡ take i features ++ f ∷ []
+front_more features i f within here = take_more features i f within ∙ ap (λ x. take i features ++ x ∷ []) (sym here)
+
+pub features_step : (features : List Feature) (i : ℕ) (f : Feature) (keys new_keys : List (List ℕ)) (values new_values : List Value) (start out payload new_out : List ℕ) → FeaturesSoFar features i keys values start out → i < length features → f ≡ get_or features i f → new_keys ≡ key_pool keys f.attributes → new_values ≡ value_pool values f.attributes
+    → Names new_keys new_values (tags_in new_keys new_values f.attributes) f.attributes → payload ≡ spelled (feature_fields (tags_in new_keys new_values f.attributes) f) → new_out ≡ out ++ short_field 2 (bytes payload) → FeaturesSoFar features (i + 1) new_keys new_values start new_out
+features_step features i f keys new_keys values new_values start out payload new_out so_far within here keys_grow values_grow names payload_is out_grows =
+    let done = take i features in
+    let more = front_more features i f within here in
+    let keys_are : new_keys ≡ keys_of (take (i + 1) features) = keys_more done f keys new_keys so_far.keys_are keys_grow ∙ ap keys_of (sym more) in
+    let values_are : new_values ≡ values_of (take (i + 1) features) = values_more done f values new_values so_far.values_are values_grow ∙ ap values_of (sym more) in
+    let tags = tags_last features (take (i + 1) features) (drop (i + 1) features) f new_keys new_values (sym (take-append-drop (i + 1) features)) keys_are values_are names in
+    let put : new_out ≡ out ++ short_field 2 (bytes (spelled (feature_fields (tags_in (keys_of features) (values_of features) f.attributes) f))) = out_grows ∙ ap (λ b. out ++ short_field 2 (bytes b)) (payload_is ∙ ap (λ t. spelled (feature_fields t f)) tags) in
+    record {
+      keys_are = keys_are;
+      values_are = values_are;
+      out_is = list_step (feature_field (keys_of features) (values_of features)) features i f start out new_out within (sym here) so_far.out_is put;
+    }
+
+-- what is written is a front of the whole
+pub features_long : (features : List Feature) (i : ℕ) (keys : List (List ℕ)) (values : List Value) (start out : List ℕ) (bound : ℕ) → FeaturesSoFar features i keys values start out → bound < length out → bound < length start + length (spelled (map (feature_field (keys_of features) (values_of features)) features))
+features_long features i keys values start out bound so_far long =
+    let field = feature_field (keys_of features) (values_of features) in
+    let out_size = ap length so_far.out_is ∙ length-append start (spelled (map field (take i features))) in
+    let parts : spelled (map field features) ≡ spelled (map field (take i features)) ++ spelled (map field (drop i features)) = ap (λ l. spelled (map field l)) (sym (take-append-drop i features)) ∙ ap spelled (map-append field (take i features) (drop i features)) ∙ spelled-append (map field (take i features)) (map field (drop i features)) in
+    let size = ap length parts ∙ length-append (spelled (map field (take i features))) (spelled (map field (drop i features))) in
+    omega (arith, out_size, size)
+
+-- a pool that is left full is a front of the pool of all features
+split_here : (features : List Feature) (i n : ℕ) (f : Feature) → i < length features → f ≡ get_or features i f → attributes_of features ≡ (attributes_of (take i features) ++ take n f.attributes) ++ (drop n f.attributes ++ attributes_of (drop (i + 1) features))
+split_here features i n f within here =
+    let front = attributes_of (take i features) in
+    let back = attributes_of (drop (i + 1) features) in
+    ap attributes_of (sym (take-append-drop (i + 1) features)) ∙ attributes-append (take (i + 1) features) (drop (i + 1) features) ∙ ap (λ l. l ++ back) (ap attributes_of (front_more features i f within here) ∙ attributes_more (take i features) f ∙ ap (λ l. front ++ l) (sym (take-append-drop n f.attributes)) ∙ sym (append_assoc front (take n f.attributes) (drop n f.attributes))) ∙ append_assoc (front ++ take n f.attributes) (drop n f.attributes) back
+
+pub keys_within : (features : List Feature) (i n : ℕ) (f : Feature) (keys new_keys : List (List ℕ)) → keys ≡ keys_of (take i features) → i < length features → f ≡ get_or features i f → new_keys ≡ key_pool keys (take n f.attributes) → length new_keys ≤ length (keys_of features)
+unfolding keys_of
+keys_within features i n f keys new_keys is within here grown =
+    let now : new_keys ≡ key_pool [] (attributes_of (take i features) ++ take n f.attributes) = grown ∙ ap (λ k. key_pool k (take n f.attributes)) is ∙ pool_by_parts bytes_eq bytes_eq-Decides (λ (a : Attribute). a.key) [] (attributes_of (take i features)) (take n f.attributes) in
+    let later = pool_grows bytes_eq bytes_eq-Decides (λ (a : Attribute). a.key) [] (attributes_of (take i features) ++ take n f.attributes) (drop n f.attributes ++ attributes_of (drop (i + 1) features)) in
+    let all : key_pool [] (attributes_of features) ≡ new_keys ++ later.0 = ap (key_pool []) (split_here features i n f within here) ∙ later.1 ∙ ap (λ k. k ++ later.0) (sym now) in
+    let size = ap length all ∙ length-append new_keys later.0 in
+    omega (arith, size)
+
+pub values_within : (features : List Feature) (i n : ℕ) (f : Feature) (values new_values : List Value) → values ≡ values_of (take i features) → i < length features → f ≡ get_or features i f → new_values ≡ value_pool values (take n f.attributes) → length new_values ≤ length (values_of features)
+unfolding values_of
+values_within features i n f values new_values is within here grown =
+    let now : new_values ≡ value_pool [] (attributes_of (take i features) ++ take n f.attributes) = grown ∙ ap (λ k. value_pool k (take n f.attributes)) is ∙ pool_by_parts equal_values equal_values-Decides (λ (a : Attribute). a.value) [] (attributes_of (take i features)) (take n f.attributes) in
+    let later = pool_grows equal_values equal_values-Decides (λ (a : Attribute). a.value) [] (attributes_of (take i features) ++ take n f.attributes) (drop n f.attributes ++ attributes_of (drop (i + 1) features)) in
+    let all : value_pool [] (attributes_of features) ≡ new_values ++ later.0 = ap (value_pool []) (split_here features i n f within here) ∙ later.1 ∙ ap (λ k. k ++ later.0) (sym now) in
+    let size = ap length all ∙ length-append new_values later.0 in
+    omega (arith, size)
+
+pub features_full : (features : List Feature) (i n m : ℕ) (f : Feature) (keys new_keys : List (List ℕ)) (values new_values : List Value) (bound : ℕ) → keys ≡ keys_of (take i features) → values ≡ values_of (take i features) → i < length features → f ≡ get_or features i f → new_keys ≡ key_pool keys (take n f.attributes) → new_values ≡ value_pool values (take m f.attributes) → (length new_keys ≡ bound) ⊎ (length new_values ≡ bound) → (bound ≤ length (keys_of features)) ⊎ (bound ≤ length (values_of features))
+features_full features i n m f keys new_keys values new_values bound keys_are values_are within here keys_grown values_grown (inl full) =
+    let less = keys_within features i n f keys new_keys keys_are within here keys_grown in inl (omega arith)
+features_full features i n m f keys new_keys values new_values bound keys_are values_are within here keys_grown values_grown (inr full) =
+    let less = values_within features i m f values new_values values_are within here values_grown in inr (omega arith)
+
+-- the whole layer
+abbrev pub IsLong : ℕ → ℕ → List Feature → Type 0
+IsLong bound start features =
+    (bound < start + length (spelled (map (feature_field (keys_of features) (values_of features)) features)))
+    ⊎ ((bound ≤ length (keys_of features)) ⊎ (bound ≤ length (values_of features)))
+
+layer_parts : (layer : ALayer) → spelled (layer_fields layer) ≡ spelled (head_fields layer.name) ++ (spelled (map (feature_field (keys_of layer.features) (values_of layer.features)) layer.features) ++ (spelled (map key_field (keys_of layer.features)) ++ (spelled (map value_field (values_of layer.features)) ++ spelled (extent_fields layer.extent))))
+layer_parts layer =
+    let features = map (feature_field (keys_of layer.features) (values_of layer.features)) layer.features in
+    let keys = map key_field (keys_of layer.features) in
+    let values = map value_field (values_of layer.features) in
+    let extent = extent_fields layer.extent in
+    spelled-append (head_fields layer.name) (features ++ (keys ++ (values ++ extent))) ∙ ap (λ l. spelled (head_fields layer.name) ++ l) (spelled-append features (keys ++ (values ++ extent)) ∙ ap (λ l. spelled features ++ l) (spelled-append keys (values ++ extent) ∙ ap (λ l. spelled keys ++ l) (spelled-append values extent)))
+
+pub layer_long : (layer : ALayer) (features : List Feature) (start : ℕ) → features ≡ layer.features → start ≡ length (spelled (head_fields layer.name)) → IsLong LIMIT start features → LIMIT < length (spelled (layer_fields layer))
+layer_long layer features start is start_is long = by_cause (subst (IsLong LIMIT start) is long)
+  where
+    by_cause : IsLong LIMIT start layer.features → LIMIT < length (spelled (layer_fields layer))
+    by_cause (inl h) =
+        let parts = ap length (layer_parts layer) ∙ length-append (spelled (head_fields layer.name)) _ in
+        let more = length-append (spelled (map (feature_field (keys_of layer.features) (values_of layer.features)) layer.features)) (spelled (map key_field (keys_of layer.features)) ++ (spelled (map value_field (values_of layer.features)) ++ spelled (extent_fields layer.extent))) in
+        omega (arith, parts, more)
+    by_cause (inr (inl h)) = let two = pools_within bytes_longer (keys_of layer.features) (values_of layer.features) layer in omega (arith, two.0)
+    by_cause (inr (inr h)) = let two = pools_within bytes_longer (keys_of layer.features) (values_of layer.features) layer in omega (arith, two.1)
+
+pub layer_put : (layer : ALayer) (features : List Feature) (keys : List (List ℕ)) (values : List Value) (a b c d e : List ℕ) → features ≡ layer.features → keys ≡ keys_of features → values ≡ values_of features → a ≡ spelled (head_fields layer.name) → b ≡ a ++ spelled (map (feature_field (keys_of features) (values_of features)) features) → c ≡ b ++ spelled (map key_field keys) → d ≡ c ++ spelled (map value_field values) → e ≡ d ++ spelled (extent_fields layer.extent) → e ≡ spelled (layer_fields layer)
+layer_put layer features keys values a b c d e is keys_are values_are ha hb hc hd he =
+    let F = spelled (map (feature_field (keys_of layer.features) (values_of layer.features)) layer.features) in
+    let K = spelled (map key_field (keys_of layer.features)) in
+    let V = spelled (map value_field (values_of layer.features)) in
+    let E = spelled (extent_fields layer.extent) in
+    let H = spelled (head_fields layer.name) in
+    let b_is : b ≡ H ++ F = hb ∙ ap₂ (λ x y. x ++ spelled (map (feature_field (keys_of y) (values_of y)) y)) ha is in
+    let c_is : c ≡ (H ++ F) ++ K = hc ∙ ap₂ (λ x y. x ++ spelled (map key_field y)) b_is (keys_are ∙ ap keys_of is) in
+    let d_is : d ≡ ((H ++ F) ++ K) ++ V = hd ∙ ap₂ (λ x y. x ++ spelled (map value_field y)) c_is (values_are ∙ ap values_of is) in
+    he ∙ ap (λ x. x ++ E) d_is ∙ regroup H F K V E ∙ sym (layer_parts layer)
+  where
+    regroup : (h f k v x : List ℕ) → (((h ++ f) ++ k) ++ v) ++ x ≡ h ++ (f ++ (k ++ (v ++ x)))
+    regroup h f k v x = simp append_assoc
+
+-- what was counted of a list is known of another name of it
+pub long_as : (a b : List ℕ) (n bound : ℕ) → a ≡ b → n ≡ length a → bound < n → bound < length b
+long_as a b n bound same count long = subst (λ l. bound < length l) same (omega arith)
+
+pub short_as : (a : List ℕ) (n bound : ℕ) → n ≡ length a → n ≤ bound → length a ≤ bound
+short_as a n bound count short = omega arith

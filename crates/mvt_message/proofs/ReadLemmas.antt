@@ -1,0 +1,282 @@
+-- The steps of the walks over a layer's fields.
+use Rattle.std.proofs.Common.{◌≡◌, ◌≢◌, ℕ, ◌+◌, ◌^◌, ◌<◌, ◌≤◌, ◌==◌, Bool, true, false, List, [], ◌∷◌, ◌++◌, length, map, Option, Some, None, Result, Ok, Err, refl, sym, ap, ap₂, ◌∙◌, subst, append_assoc, append-nil, arith, if◌then◌else◌, length-append}
+use Rattle.std.specs.Prelude.{OnOk, IfOk, IfErr, is_none, unwrap_or}
+use Rattle.std.specs.Option.{option_or, option_map}
+use Rattle.std.proofs.lemmas.Bool.{eq-eqb, ne_eqb}
+use Rattle.std.proofs.lemmas.List.{map-append}
+use Rattle.mvt_base.specs.Related.{AreRelated}
+use Rattle.mvt_base.specs.Rules.{Rules, each, told, first}
+use Rattle.mvt_base.proofs.ListLemmas.{related-append, length-related}
+use Rattle.mvt_base.proofs.RuleLemmas.{each_more, each_stops, first-told, first-when, first-when_not, option_or-none, option_or-some}
+use Rattle.mvt_attrs.specs.declared.value.Value.{Value}
+use Rattle.mvt_wire.specs.declared.field.Field.{Field}
+use Rattle.mvt_wire.specs.declared.fault.WireFault.{WireFault}
+use Rattle.mvt_wire.specs.Field.{Content, Entry, entry_of, content_of, varint, bytes, fixed64, fixed32}
+use Rattle.mvt_wire.specs.Fields.{GivesField, bytes_size}
+use Rattle.mvt_wire.specs.Split.{Parts, split}
+use Rattle.mvt_wire.proofs.SplitLemmas.{split_count, split_is, split_only}
+use Rattle.mvt_feature.specs.declared.cause.Cause.TheVariants.{NoVersion, NoName}
+use Rattle.mvt_feature.specs.declared.feature.Feature.{Feature}
+use Rattle.mvt_feature.specs.declared.message_error.MessageError.{MessageError}
+use Rattle.mvt_feature.specs.declared.message_error.MessageError.TheVariants.{Memory, Fault}
+use Rattle.mvt_feature.specs.Faults.{MessageFault, fault_at, in_feature, TellsMessage}
+use Rattle.mvt_feature.specs.Features.{IsFeatureOf, number_in, number_of}
+use Rattle.mvt_feature.specs.FeatureRules.{feature_rules, feature_fault}
+use Rattle.mvt_feature.specs.Inner.{IsSoFar}
+use Rattle.mvt_feature.specs.Selection.{only, last_only}
+use Rattle.mvt_feature.specs.Values.{IsValueOf}
+use Rattle.mvt_feature.specs.ValueRules.{value_rules, value_fault}
+use Rattle.mvt_feature.proofs.SelectionLemmas.{only-append, last_only-more}
+use Rattle.mvt_feature.proofs.WalkLemmas.{Walk, walk_step, walk_end, rest_none}
+use Rattle.mvt_message.specs.declared.item.Layer.{Layer as ALayer}
+use Rattle.mvt_message.specs.declared.item.Item.TheVariants.{Layer, Foreign}
+use Rattle.mvt_message.specs.LayerFields.{bytes_of, version_in, name_in, extent_in, keys_in, values_in}
+use Rattle.mvt_message.specs.ItemRules.{uint32_rules, version_rules, version_form_rules, layer_form_rules, layer_field_rules, value_rules_of, feature_rules_of, item_fault}
+use Rattle.mvt_message.specs.Items.{HoldsValue, HoldsFeature, IsLayer, IsItem}
+use Rattle.mvt_message.specs.Inner.{versions_fault, forms_fault, no_name_fault, values_fault, features_fault, head_fault, layer_fault, IsVersionSoFar, name_after, extent_after, keys_at, AreValuesSoFar, AreFeaturesSoFar}
+use Rattle.mvt_message.proofs.ChainLemmas.{item_chain, layer_chain, tells_or, or_tells}
+use Rattle.mvt_message.proofs.FormLemmas.{placed_first, versions_form}
+use Rattle.mvt_message.proofs.SaidLemmas.{SplitOnly, values_said}
+use Rattle.mvt_message.proofs.ItemLaws.{value_first, feature_first, version_there, head_clean, layer_from, layer_clean, item_of_layer, item_from}
+
+split_once : SplitOnly
+split_once b rest es whole = let only_split = split_only 0 b rest es whole in (sym only_split.0, sym only_split.1)
+
+-- a fault is told of whatever has it
+pub tells_as : (e : MessageError) (o p : Option MessageFault) → ((f : MessageFault) → o ≡ Some f → p ≡ Some f) → TellsMessage e o → TellsMessage e p
+tells_as Memory o p keep h = tt
+tells_as (Fault feature at cause) o p keep h = keep _ h
+
+-- the selected fields with one more
+only_take : (k : ℕ) (done : List Entry) (x : Entry) → x.number ≡ k → only k (done ++ x ∷ []) ≡ only k done ++ x ∷ []
+only_take k done x is = only-append k done (x ∷ []) ∙ ap (λ b. only k done ++ (if b then x ∷ [] else [])) (eq-eqb x.number k is)
+
+only_skip : (k : ℕ) (done : List Entry) (x : Entry) → x.number ≢ k → only k (done ++ x ∷ []) ≡ only k done
+only_skip k done x not_is =
+    only-append k done (x ∷ []) ∙ ap (λ b. only k done ++ (if b then x ∷ [] else [])) (ne_eqb x.number k not_is) ∙ append-nil (only k done)
+
+-- an element's fault stays whatever fields follow
+selected_stops : (k : ℕ) (rules : List Entry → Entry → Rules MessageFault) (e : MessageError) (done : List Entry) (x : Entry) (more : List Entry) → x.number ≡ k → first (each rules [] (only k done)) ≡ None → TellsMessage e (first (rules (only k done) x)) → TellsMessage e (first (each rules [] (only k ((done ++ x ∷ []) ++ more))))
+selected_stops k rules e done x more is clean told_here =
+    tells_as e (first (rules (only k done) x)) _ (λ f broken. ap (λ xs. first (each rules [] xs)) (only-append k (done ++ x ∷ []) more ∙ ap (λ xs. xs ++ only k more) (only_take k done x is) ∙ append_assoc (only k done) (x ∷ []) (only k more)) ∙ each_stops rules (only k done) x (only k more) f clean broken) told_here
+
+-- versions
+number_more : (k : ℕ) (done : List Entry) (x : Entry) → number_in (last_only k (done ++ x ∷ [])) ≡ (if x.number == k then number_of x.content else number_in (last_only k done))
+number_more k done x = ap number_in (last_only-more k done x) ∙ by_test (x.number == k)
+  where
+    by_test : (b : Bool) → number_in (if b then Some x else last_only k done) ≡ (if b then number_of x.content else number_in (last_only k done))
+    by_test true = refl
+    by_test false = refl
+
+version_first : (base : ℕ) (x : Entry) → first (version_rules base x) ≡ option_map (fault_at (base + x.at)) (first (version_form_rules x.number x.content))
+unfolding version_rules
+version_first base x = placed_first version_form_rules base x
+
+pub version_skip : (base : ℕ) (done : List Entry) (v : Option ℕ) (x : Entry) → IsVersionSoFar base done (Ok v) → x.number ≢ 15 → IsVersionSoFar base (done ++ x ∷ []) (Ok v)
+version_skip base done v x so_far other =
+    let test = ne_eqb x.number 15 other in (
+      each_more (λ _. version_rules base) done x so_far.0 ∙ version_first base x ∙ ap (λ (b : Bool). option_map (fault_at (base + x.at)) (first (if b then uint32_rules x.content else []))) test,
+      so_far.1 ∙ sym (number_more 15 done x ∙ ap (λ (b : Bool). if b then number_of x.content else version_in done) test),
+    )
+
+pub version_take : (base : ℕ) (done : List Entry) (v : Option ℕ) (x : Entry) (n : ℕ) → IsVersionSoFar base done (Ok v) → x.number ≡ 15 → number_of x.content ≡ Some n → first (uint32_rules x.content) ≡ None → IsVersionSoFar base (done ++ x ∷ []) (Ok (Some n))
+version_take base done v x n so_far is number clean =
+    let test = eq-eqb x.number 15 is in (
+      each_more (λ _. version_rules base) done x so_far.0 ∙ version_first base x ∙ ap (λ (b : Bool). option_map (fault_at (base + x.at)) (first (if b then uint32_rules x.content else []))) test ∙ ap (option_map (fault_at (base + x.at))) clean,
+      sym (number_more 15 done x ∙ ap (λ (b : Bool). if b then number_of x.content else version_in done) test ∙ number),
+    )
+
+pub version_stops : (base : ℕ) (done : List Entry) (v : Option ℕ) (x : Entry) (e : MessageError) → IsVersionSoFar base done (Ok v) → x.number ≡ 15 → TellsMessage e (option_map (fault_at (base + x.at)) (first (uint32_rules x.content))) → (more : List Entry) → TellsMessage e (versions_fault base ((done ++ x ∷ []) ++ more))
+version_stops base done v x e so_far is told_here more =
+    let test = eq-eqb x.number 15 is in
+    tells_as e (option_map (fault_at (base + x.at)) (first (uint32_rules x.content))) _ (λ f broken. rw append_assoc (each_stops (λ _. version_rules base) done x more f so_far.0 (version_first base x ∙ ap (λ (b : Bool). option_map (fault_at (base + x.at)) (first (if b then uint32_rules x.content else []))) test ∙ broken))) told_here
+
+-- the head
+pub record HeadSoFar (base : ℕ) (done : List Entry) (name : Option (List ℕ)) (extent : ℕ) (held keys : List (List ℕ)) : Type 0 where
+  pub clean : forms_fault base done ≡ None
+  pub name_is : name ≡ name_in done
+  pub extent_is : extent ≡ extent_in done
+  pub keys_are : keys ≡ held ++ keys_in done
+
+pub head_start : (base : ℕ) (held : List (List ℕ)) → HeadSoFar base [] None 4096 held held
+head_start base held = record { clean = refl; name_is = refl; extent_is = refl; keys_are = sym (append-nil held) }
+
+form_first : (base : ℕ) (x : Entry) → first (layer_field_rules base x) ≡ option_map (fault_at (base + x.at)) (first (layer_form_rules x.number x.content))
+unfolding layer_field_rules
+form_first base x = placed_first layer_form_rules base x
+
+name_more : (done : List Entry) (x : Entry) → name_in (done ++ x ∷ []) ≡ name_after (name_in done) x.number x.content
+name_more done x = ap (option_map (λ (y : Entry). bytes_of y.content)) (last_only-more 1 done x) ∙ by_test (x.number == 1)
+  where
+    by_test : (b : Bool) → option_map (λ (y : Entry). bytes_of y.content) (if b then Some x else last_only 1 done) ≡ (if b then Some (bytes_of x.content) else name_in done)
+    by_test true = refl
+    by_test false = refl
+
+extent_more : (done : List Entry) (x : Entry) → extent_in (done ++ x ∷ []) ≡ extent_after (extent_in done) x.number x.content
+extent_more done x = ap (λ o. unwrap_or o 4096) (number_more 5 done x) ∙ by_test (x.number == 5)
+  where
+    by_test : (b : Bool) → unwrap_or (if b then number_of x.content else number_in (last_only 5 done)) 4096 ≡ (if b then unwrap_or (number_of x.content) 4096 else extent_in done)
+    by_test true = refl
+    by_test false = refl
+
+keys_more : (done : List Entry) (x : Entry) → keys_in (done ++ x ∷ []) ≡ keys_in done ++ keys_at x.number x.content
+keys_more done x =
+    ap (map (λ (y : Entry). bytes_of y.content)) (only-append 3 done (x ∷ [])) ∙ map-append (λ (y : Entry). bytes_of y.content) (only 3 done) (only 3 (x ∷ [])) ∙ ap (λ l. keys_in done ++ l) (by_test (x.number == 3))
+  where
+    by_test : (b : Bool) → map (λ (y : Entry). bytes_of y.content) (if b then x ∷ [] else []) ≡ (if b then bytes_of x.content ∷ [] else [])
+    by_test true = refl
+    by_test false = refl
+
+pub head_step : (base : ℕ) (done : List Entry) (x : Entry) (name new_name : Option (List ℕ)) (extent new_extent : ℕ) (held keys new_keys : List (List ℕ)) → HeadSoFar base done name extent held keys → first (layer_form_rules x.number x.content) ≡ None → new_name ≡ name_after name x.number x.content → new_extent ≡ extent_after extent x.number x.content → new_keys ≡ keys ++ keys_at x.number x.content → HeadSoFar base (done ++ x ∷ []) new_name new_extent held new_keys
+head_step base done x name new_name extent new_extent held keys new_keys so_far clean name_is extent_is keys_are = record {
+  clean = each_more (λ _. layer_field_rules base) done x so_far.clean ∙ form_first base x ∙ ap (option_map (fault_at (base + x.at))) clean;
+  name_is = name_is ∙ ap (λ o. name_after o x.number x.content) so_far.name_is ∙ sym (name_more done x);
+  extent_is = extent_is ∙ ap (λ n. extent_after n x.number x.content) so_far.extent_is ∙ sym (extent_more done x);
+  keys_are = keys_are ∙ ap (λ l. l ++ keys_at x.number x.content) so_far.keys_are ∙ append_assoc held (keys_in done) (keys_at x.number x.content) ∙ ap (λ l. held ++ l) (sym (keys_more done x));
+}
+
+pub head_stops : (base : ℕ) (done : List Entry) (x : Entry) (name : Option (List ℕ)) (extent : ℕ) (held keys : List (List ℕ)) (e : MessageError) → HeadSoFar base done name extent held keys → TellsMessage e (option_map (fault_at (base + x.at)) (first (layer_form_rules x.number x.content))) → (more : List Entry) → TellsMessage e (forms_fault base ((done ++ x ∷ []) ++ more))
+head_stops base done x name extent held keys e so_far told_here more =
+    tells_as e (option_map (fault_at (base + x.at)) (first (layer_form_rules x.number x.content))) _ (λ f broken. rw append_assoc (each_stops (λ _. layer_field_rules base) done x more f so_far.clean (form_first base x ∙ broken))) told_here
+
+-- values
+pub values_skip : (base : ℕ) (done : List Entry) (values : List Value) (x : Entry) → AreValuesSoFar base done values → x.number ≢ 4 → AreValuesSoFar base (done ++ x ∷ []) values
+values_skip base done values x so_far other =
+    subst (λ xs. (first (each (λ _. value_rules_of base) [] xs) ≡ None) × AreRelated HoldsValue xs values) (sym (only_skip 4 done x other)) so_far
+
+pub values_take : (base : ℕ) (done : List Entry) (values new : List Value) (x : Entry) (value : Value) → AreValuesSoFar base done values → x.number ≡ 4 → IsValueOf (bytes_of x.content) value → value_fault (bytes_of x.content) (base + x.body) (base + x.at) ≡ None → new ≡ values ++ value ∷ [] → AreValuesSoFar base (done ++ x ∷ []) new
+values_take base done values new x value so_far is holds clean new_is =
+    subst (λ xs. (first (each (λ _. value_rules_of base) [] xs) ≡ None) × AreRelated HoldsValue xs new) (sym (only_take 4 done x is)) (each_more (λ _. value_rules_of base) (only 4 done) x so_far.0 ∙ sym (value_first _ _ _) ∙ clean, rw new_is (related-append HoldsValue (only 4 done) values (x ∷ []) (value ∷ []) so_far.1 (holds, tt)))
+
+pub values_stop : (base : ℕ) (done : List Entry) (values : List Value) (x : Entry) (more : List Entry) (e : MessageError) → AreValuesSoFar base done values → x.number ≡ 4 → TellsMessage e (value_fault (bytes_of x.content) (base + x.body) (base + x.at)) → TellsMessage e (values_fault base ((done ++ x ∷ []) ++ more))
+values_stop base done values x more e so_far is told_here =
+    selected_stops 4 (λ _. value_rules_of base) e done x more is so_far.0 (subst (TellsMessage e) (value_first (bytes_of x.content) (base + x.body) (base + x.at)) told_here)
+
+-- features
+feature_told : (base : ℕ) (keys : List (List ℕ)) (values : List Value) (earlier : List Entry) (x : Entry) → first (feature_rules_of base keys values earlier x) ≡ option_map (in_feature (length earlier)) (feature_fault (bytes_of x.content) (base + x.body) keys values)
+feature_told base keys values earlier x =
+    first-told (in_feature (length earlier)) (feature_rules (bytes_of x.content) (base + x.body) keys values) ∙ ap (option_map (in_feature (length earlier))) (sym (feature_first (bytes_of x.content) (base + x.body) keys values))
+
+pub features_skip : (base : ℕ) (keys : List (List ℕ)) (values : List Value) (done : List Entry) (features : List Feature) (x : Entry) → AreFeaturesSoFar base keys values done features → x.number ≢ 2 → AreFeaturesSoFar base keys values (done ++ x ∷ []) features
+features_skip base keys values done features x so_far other =
+    subst (λ xs. (first (each (feature_rules_of base keys values) [] xs) ≡ None) × AreRelated (HoldsFeature keys values) xs features) (sym (only_skip 2 done x other)) so_far
+
+pub features_take : (base : ℕ) (keys : List (List ℕ)) (values : List Value) (done : List Entry) (features new : List Feature) (x : Entry) (feature : Feature) → AreFeaturesSoFar base keys values done features → x.number ≡ 2 → IsFeatureOf (bytes_of x.content) keys values feature → feature_fault (bytes_of x.content) (base + x.body) keys values ≡ None → new ≡ features ++ feature ∷ [] → AreFeaturesSoFar base keys values (done ++ x ∷ []) new
+features_take base keys values done features new x feature so_far is holds clean new_is =
+    subst (λ xs. (first (each (feature_rules_of base keys values) [] xs) ≡ None) × AreRelated (HoldsFeature keys values) xs new) (sym (only_take 2 done x is)) (each_more (feature_rules_of base keys values) (only 2 done) x so_far.0 ∙ feature_told base keys values (only 2 done) x ∙ ap (option_map (in_feature (length (only 2 done)))) clean, rw new_is (related-append (HoldsFeature keys values) (only 2 done) features (x ∷ []) (feature ∷ []) so_far.1 (holds, tt)))
+
+pub features_stop : (base : ℕ) (keys : List (List ℕ)) (values : List Value) (done : List Entry) (features : List Feature) (x : Entry) (more : List Entry) (index : ℕ) (e : MessageError) → AreFeaturesSoFar base keys values done features → x.number ≡ 2 → index ≡ length features → TellsMessage e (option_map (in_feature index) (feature_fault (bytes_of x.content) (base + x.body) keys values)) → TellsMessage e (features_fault base keys values ((done ++ x ∷ []) ++ more))
+features_stop base keys values done features x more index e so_far is index_is told_here =
+    let count : index ≡ length (only 2 done) = index_is ∙ sym (length-related (HoldsFeature keys values) (only 2 done) features so_far.1) in
+    selected_stops 2 (feature_rules_of base keys values) e done x more is so_far.0 (subst (TellsMessage e) (ap (λ n. option_map (in_feature n) (feature_fault (bytes_of x.content) (base + x.body) keys values)) count ∙ sym (feature_told base keys values (only 2 done) x)) told_here)
+
+only_few : (k : ℕ) (xs : List Entry) → length (only k xs) ≤ length xs
+only_few k [] = omega arith
+only_few k (x ∷ xs) = by_test (x.number == k) (only_few k xs)
+  where
+    by_test : (b : Bool) → length (only k xs) ≤ length xs → length (if b then x ∷ only k xs else only k xs) ≤ length (x ∷ xs)
+    by_test true h = omega arith
+    by_test false h = omega arith
+
+pub features_few : (payload : List ℕ) (to_come : Parts) (base : ℕ) (keys : List (List ℕ)) (values : List Value) (done : List Entry) (features : List Feature) → Walk payload to_come done → AreFeaturesSoFar base keys values done features → length payload < 2 ^ 32 → length features < 2 ^ 32
+features_few payload to_come base keys values done features walk so_far small =
+    let same : length (only 2 done) ≡ length features = length-related (HoldsFeature keys values) (only 2 done) features so_far.1 in
+    let few = only_few 2 done in
+    let all : length (split payload).fields ≡ length done + length to_come.fields = ap length walk.fields ∙ length-append done to_come.fields in
+    let count = split_count 0 payload in
+    omega arith
+
+-- the walk over a payload that is known to split into fields
+pub walk_body_fits : (payload : List ℕ) (old new : Parts) (done : List Entry) (field : Field) (base : ℕ) → Walk payload old done → GivesField old (Some (Ok field)) new → base + length payload < 2 ^ 64 → base + (field.body + bytes_size (content_of field.payload)) < 2 ^ 64
+walk_body_fits payload old new done field base walk step small =
+    let inside : field.body + bytes_size (content_of field.payload) ≤ old.rest_at = step.1.1 in
+    let place = walk.place in
+    let bound = walk.bound in
+    omega arith
+
+pub walk_all : (payload : List ℕ) (old new : Parts) (done : List Entry) (field : Field) → Walk payload old done → GivesField old (Some (Ok field)) new → (split payload).fields ≡ (done ++ entry_of field ∷ []) ++ new.fields
+walk_all payload old new done field walk step = (walk_step payload old new done field walk step).fields
+
+pub walk_whole : (payload : List ℕ) (old new : Parts) (done : List Entry) (fault : WireFault) → Walk payload old done → GivesField old (Some (Err fault)) new → (split payload).rest ≡ [] → ⊥
+walk_whole payload old new done fault walk step whole = step.1 (walk.rest ∙ whole)
+
+pub walk_done : (payload : List ℕ) (old new : Parts) (done : List Entry) → Walk payload old done → GivesField old None new → done ≡ (split payload).fields
+walk_done payload old new done walk step = sym (walk_end payload old new done walk step).0
+
+-- the exits of `read_version`
+pub head_some : (payload : List ℕ) (base own n : ℕ) → (split payload).rest ≡ [] → versions_fault base (split payload).fields ≡ None → Some n ≡ version_in (split payload).fields → head_fault payload base own ≡ None
+head_some payload base own n rest clean version =
+    option_or-none _ _ (rest_none base (split payload) rest) ∙ option_or-none _ _ clean ∙ first-when_not _ _ (by_option (last_only 15 (split payload).fields) version)
+  where
+    by_option : (o : Option Entry) → Some n ≡ number_in o → is_none o ≡ false
+    by_option None h = cc
+    by_option (Some x) h = refl
+
+pub head_none : (payload : List ℕ) (base own : ℕ) → (split payload).rest ≡ [] → versions_fault base (split payload).fields ≡ None → None ≡ version_in (split payload).fields → head_fault payload base own ≡ Some (fault_at own NoVersion)
+head_none payload base own rest clean version =
+    option_or-none _ _ (rest_none base (split payload) rest) ∙ option_or-none _ _ clean ∙ first-when _ _ (by_test (is_none (last_only 15 (split payload).fields)) refl)
+  where
+    by_test : (b : Bool) → is_none (last_only 15 (split payload).fields) ≡ b → b ≡ true
+    by_test true e = refl
+    by_test false e =
+        let there = version_there (split payload).fields (versions_form base (split payload).fields clean) e in
+        let clash : None ≡ Some there.0 = version ∙ there.1 in
+        cc
+
+-- the exits of `read_layer`
+pub forms_told : (base own : ℕ) (xs : List Entry) (e : MessageError) → TellsMessage e (forms_fault base xs) → TellsMessage e (layer_fault base own xs)
+forms_told base own xs e h = subst (TellsMessage e) (sym (layer_chain base own xs)) (tells_or e (forms_fault base xs) _ h)
+
+name_some : (own : ℕ) (xs : List Entry) (name : List ℕ) → Some name ≡ name_in xs → no_name_fault own xs ≡ None
+name_some own xs name is = first-when_not _ _ (by_option (last_only 1 xs) is)
+  where
+    by_option : (o : Option Entry) → Some name ≡ option_map (λ (x : Entry). bytes_of x.content) o → is_none o ≡ false
+    by_option None h = cc
+    by_option (Some x) h = refl
+
+pub name_told : (base own : ℕ) (xs : List Entry) → forms_fault base xs ≡ None → None ≡ name_in xs → layer_fault base own xs ≡ Some (fault_at own NoName)
+name_told base own xs forms is =
+    layer_chain base own xs ∙ option_or-none _ _ forms ∙ option_or-some _ _ _ (first-when _ _ (by_option (last_only 1 xs) is))
+  where
+    by_option : (o : Option Entry) → None ≡ option_map (λ (x : Entry). bytes_of x.content) o → is_none o ≡ true
+    by_option None h = refl
+    by_option (Some x) h = cc
+
+pub values_told : (base own : ℕ) (xs : List Entry) (name : List ℕ) (e : MessageError) → forms_fault base xs ≡ None → Some name ≡ name_in xs → TellsMessage e (values_fault base xs) → TellsMessage e (layer_fault base own xs)
+values_told base own xs name e forms is h =
+    subst (TellsMessage e) (sym (layer_chain base own xs)) (or_tells e (forms_fault base xs) _ forms (or_tells e (no_name_fault own xs) _ (name_some own xs name is) (tells_or e (values_fault base xs) _ h)))
+
+pub features_told : (base own : ℕ) (xs : List Entry) (name : List ℕ) (keys : List (List ℕ)) (values : List Value) (e : MessageError) → forms_fault base xs ≡ None → Some name ≡ name_in xs → values_fault base xs ≡ None → keys ≡ keys_in xs → AreRelated HoldsValue (only 4 xs) values → TellsMessage e (features_fault base keys values xs) → TellsMessage e (layer_fault base own xs)
+features_told base own xs name keys values e forms is clean keys_are values_are h =
+    let same : values_in xs ≡ values = values_said split_once (only 4 xs) values values_are in
+    let here : TellsMessage e (features_fault base (keys_in xs) (values_in xs) xs) = subst (TellsMessage e) (ap₂ (λ ks vs. features_fault base ks vs xs) keys_are (sym same)) h in
+    subst (TellsMessage e) (sym (layer_chain base own xs)) (or_tells e (forms_fault base xs) _ forms (or_tells e (no_name_fault own xs) _ (name_some own xs name is) (or_tells e (values_fault base xs) _ clean (tells_or e (features_fault base (keys_in xs) (values_in xs) xs) _ here))))
+
+pub layer_ok : (base own : ℕ) (xs : List Entry) (name : List ℕ) (keys : List (List ℕ)) (values : List Value) → forms_fault base xs ≡ None → Some name ≡ name_in xs → values_fault base xs ≡ None → keys ≡ keys_in xs → AreRelated HoldsValue (only 4 xs) values → features_fault base keys values xs ≡ None → layer_fault base own xs ≡ None
+layer_ok base own xs name keys values forms is clean keys_are values_are h =
+    let same : values_in xs ≡ values = values_said split_once (only 4 xs) values values_are in
+    layer_clean base own xs forms (name_some own xs name is) clean (sym (ap₂ (λ ks vs. features_fault base ks vs xs) keys_are (sym same)) ∙ h)
+
+pub layer_read : (base own : ℕ) (xs : List Entry) (layer : ALayer) (name : List ℕ) (extent : ℕ) (keys : List (List ℕ)) (values : List Value) → forms_fault base xs ≡ None → Some name ≡ name_in xs → layer.name ≡ name → extent ≡ extent_in xs → layer.extent ≡ extent → keys ≡ keys_in xs → AreRelated HoldsValue (only 4 xs) values → AreRelated (HoldsFeature keys values) (only 2 xs) layer.features → IsLayer xs layer
+layer_read base own xs layer name extent keys values forms is name_is extent_is extent_same keys_are values_are features =
+    layer_from base own xs layer values forms (sym is ∙ ap Some (sym name_is)) (extent_same ∙ extent_is) values_are (subst (λ ks. AreRelated (HoldsFeature ks values) (only 2 xs) layer.features) keys_are features)
+
+-- the exits of `read_item`
+pub head_told : (payload : List ℕ) (base own : ℕ) (e : MessageError) → TellsMessage e (head_fault payload base own) → TellsMessage e (item_fault payload base own)
+head_told payload base own e h = subst (TellsMessage e) (sym (item_chain payload base own)) (tells_or e (head_fault payload base own) _ h)
+
+pub head_whole : (payload : List ℕ) (base own : ℕ) → head_fault payload base own ≡ None → (split payload).rest ≡ []
+head_whole payload base own none = (head_clean payload base own none).0
+
+pub layer_told : (payload : List ℕ) (base own : ℕ) (e : MessageError) → head_fault payload base own ≡ None → version_in (split payload).fields ≡ Some 2 → TellsMessage e (layer_fault base own (split payload).fields) → TellsMessage e (item_fault payload base own)
+layer_told payload base own e head version h = subst (TellsMessage e) (sym (item_of_layer payload base own head version)) h
+
+pub layer_item : (payload : List ℕ) (base own : ℕ) (layer : ALayer) → head_fault payload base own ≡ None → version_in (split payload).fields ≡ Some 2 → IsLayer (split payload).fields layer → IsItem payload (Layer layer)
+layer_item payload base own layer head version is =
+    let parts = head_clean payload base own head in
+    item_from (λ b. split_is 0 b) payload (Layer layer) parts.0 parts.1 (version, is)
+
+pub other_item : (payload : List ℕ) (base own n : ℕ) (content : List ℕ) → head_fault payload base own ≡ None → version_in (split payload).fields ≡ Some n → n ≢ 2 → content ≡ payload → IsItem payload (Foreign n content)
+other_item payload base own n content head version other is =
+    let parts = head_clean payload base own head in
+    item_from (λ b. split_is 0 b) payload (Foreign n content) parts.0 parts.1 (version, other, is)

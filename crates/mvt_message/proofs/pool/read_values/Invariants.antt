@@ -1,0 +1,8 @@
+use Rattle.std.proofs.Common.{List}
+use Rattle.mvt_wire.specs.Field.{Entry}
+use Rattle.mvt_feature.proofs.WalkLemmas.{Walk}
+use Rattle.mvt_message.specs.Inner.{AreValuesSoFar}
+use Rattle.mvt_message.proofs.pool.read_values.Given as goal
+
+abbrev pub invariant-loop-field : goal.invariant-loop-field
+invariant-loop-field l = (done : List Entry) × Walk l.payload l.field-iterator done × AreValuesSoFar l.base done l.values.items

@@ -1,0 +1,76 @@
+-- Definitions between private functions, which no public contract cites.
+use Rattle.std.specs.Prelude.{◌≡◌, ℕ, ◌==◌, List, [], ◌∷◌, Option, Some, None, Result, is_none, unwrap_or, ⊤, if◌then◌else◌}
+use Rattle.std.specs.Option.{option_or}
+use Rattle.mvt_base.specs.Related.{AreRelated}
+use Rattle.mvt_base.specs.Rules.{when, rows, each, first}
+use Rattle.mvt_attrs.specs.declared.value.Value.{Value}
+use Rattle.mvt_wire.specs.Field.{Content, Entry}
+use Rattle.mvt_wire.specs.Split.{split}
+use Rattle.mvt_feature.specs.declared.cause.Cause.TheVariants.{NoVersion, NoName}
+use Rattle.mvt_feature.specs.declared.feature.Feature.{Feature}
+use Rattle.mvt_feature.specs.declared.message_error.MessageError.{MessageError}
+use Rattle.mvt_feature.specs.declared.message_error.MessageError.TheVariants.{Memory, Fault}
+use Rattle.mvt_feature.specs.Faults.{MessageFault, fault_at, rest_rules}
+use Rattle.mvt_feature.specs.Features.{number_of}
+use Rattle.mvt_feature.specs.Inner.{IsSoFar}
+use Rattle.mvt_feature.specs.Selection.{only, last_only}
+use Rattle.mvt_message.specs.ItemRules.{version_rules, layer_field_rules, value_rules_of, feature_rules_of, layer_table}
+use Rattle.mvt_message.specs.Items.{HoldsValue, HoldsFeature}
+use Rattle.mvt_message.specs.LayerFields.{bytes_of, version_in}
+
+-- the parts of an item's fault, row by row
+abbrev pub rest_fault : List ℕ → ℕ → Option MessageFault
+rest_fault payload base = first (rest_rules base (split payload))
+
+abbrev pub versions_fault : ℕ → List Entry → Option MessageFault
+versions_fault base fields = first (each (λ _. version_rules base) [] fields)
+
+abbrev pub no_version_fault : ℕ → List Entry → Option MessageFault
+no_version_fault own fields = first (when (is_none (last_only 15 fields)) (fault_at own NoVersion))
+
+abbrev pub forms_fault : ℕ → List Entry → Option MessageFault
+forms_fault base fields = first (each (λ _. layer_field_rules base) [] fields)
+
+abbrev pub no_name_fault : ℕ → List Entry → Option MessageFault
+no_name_fault own fields = first (when (is_none (last_only 1 fields)) (fault_at own NoName))
+
+abbrev pub values_fault : ℕ → List Entry → Option MessageFault
+values_fault base fields = first (each (λ _. value_rules_of base) [] (only 4 fields))
+
+abbrev pub features_fault : ℕ → List (List ℕ) → List Value → List Entry → Option MessageFault
+features_fault base keys values fields = first (each (feature_rules_of base keys values) [] (only 2 fields))
+
+-- the fault up to the version, and that of a layer of version 2 behind it
+abbrev pub head_fault : List ℕ → ℕ → ℕ → Option MessageFault
+head_fault payload base own =
+    option_or (rest_fault payload base) (option_or (versions_fault base (split payload).fields) (no_version_fault own (split payload).fields))
+
+unfoldable pub layer_fault : ℕ → ℕ → List Entry → Option MessageFault
+layer_fault base own fields = first (rows (layer_table base own fields))
+
+-- the version by the fields so far
+abbrev pub IsVersionSoFar : ℕ → List Entry → Result (Option ℕ) MessageError → Type 0
+IsVersionSoFar base done version = IsSoFar (version_rules base) (λ fields v. v ≡ version_in fields) done version
+
+-- what one more field changes
+abbrev pub name_after : Option (List ℕ) → ℕ → Content → Option (List ℕ)
+name_after old number content = if number == 1 then Some (bytes_of content) else old
+
+abbrev pub extent_after : ℕ → ℕ → Content → ℕ
+extent_after old number content = if number == 5 then unwrap_or (number_of content) 4096 else old
+
+abbrev pub keys_at : ℕ → Content → List (List ℕ)
+keys_at number content = if number == 3 then bytes_of content ∷ [] else []
+
+-- the values, and the features, by the fields so far
+abbrev pub AreValuesSoFar : ℕ → List Entry → List Value → Type 0
+AreValuesSoFar base done values = (values_fault base done ≡ None) × AreRelated HoldsValue (only 4 done) values
+
+abbrev pub AreFeaturesSoFar : ℕ → List (List ℕ) → List Value → List Entry → List Feature → Type 0
+AreFeaturesSoFar base keys values done features =
+    (features_fault base keys values done ≡ None) × AreRelated (HoldsFeature keys values) (only 2 done) features
+
+-- an error that isn't want of memory
+abbrev pub IsFault : MessageError → Type 0
+IsFault Memory = ⊥
+IsFault (Fault feature at cause) = ⊤

@@ -1,0 +1,83 @@
+-- The rules that bind a layer's payload (Mapbox Vector Tile Specification 2.1, 4.1, message Layer), as a
+-- table.
+use Rattle.std.specs.Prelude.{ℕ, ◌+◌, ◌^◌, ◌==◌, Bool, true, not, nat_lt, List, [], ◌∷◌, length, Option, is_none, if◌then◌else◌}
+use Rattle.std.specs.Option.{option_to_list}
+use Rattle.mvt_base.specs.Rules.{Rules, when, told, rows, each, first}
+use Rattle.mvt_attrs.specs.declared.value.Value.{Value}
+use Rattle.mvt_wire.specs.Field.{Content, varint, fixed64, bytes, fixed32, Entry}
+use Rattle.mvt_wire.specs.Split.{split}
+use Rattle.mvt_feature.specs.declared.cause.Cause.{Cause}
+use Rattle.mvt_feature.specs.declared.cause.Cause.TheVariants.{WrongType, NumberRange, NoVersion, NoName}
+use Rattle.mvt_feature.specs.Faults.{MessageFault, fault_at, in_feature, rest_rules}
+use Rattle.mvt_feature.specs.FeatureRules.{feature_rules}
+use Rattle.mvt_feature.specs.Selection.{only, last_only}
+use Rattle.mvt_feature.specs.ValueRules.{text_rules, value_rules}
+use Rattle.mvt_message.specs.LayerFields.{bytes_of, version_in, is_two, name_in, keys_in, values_in}
+
+-- a version or an extent: its form, and then its number
+abbrev pub uint32_rules : Content → Rules Cause
+uint32_rules (varint n) = when (not (nat_lt n (2 ^ 32))) NumberRange
+uint32_rules _ = when true WrongType
+
+-- a feature or a value
+abbrev pub bytes_rules : Content → Rules Cause
+bytes_rules (bytes d) = []
+bytes_rules _ = when true WrongType
+
+-- a field of this number, as far as versions go
+abbrev pub version_form_rules : ℕ → Content → Rules Cause
+version_form_rules number content = if number == 15 then uint32_rules content else []
+
+unfoldable pub version_rules : ℕ → Entry → Rules MessageFault
+version_rules base x = told (fault_at (base + x.at)) (version_form_rules x.number x.content)
+
+-- a field of this number in a layer of version 2
+abbrev pub layer_form_rules : ℕ → Content → Rules Cause
+layer_form_rules number content =
+    if number == 1 then text_rules content
+    else if number == 2 then bytes_rules content
+    else if number == 3 then text_rules content
+    else if number == 4 then bytes_rules content
+    else if number == 5 then uint32_rules content
+    else []
+
+unfoldable pub layer_field_rules : ℕ → Entry → Rules MessageFault
+layer_field_rules base x = told (fault_at (base + x.at)) (layer_form_rules x.number x.content)
+
+-- the value of a field
+abbrev pub value_rules_of : ℕ → Entry → Rules MessageFault
+value_rules_of base x = value_rules (bytes_of x.content) (base + x.body) (base + x.at)
+
+-- the feature of a field behind the fields of earlier ones
+abbrev pub feature_rules_of : ℕ → List (List ℕ) → List Value → List Entry → Entry → Rules MessageFault
+feature_rules_of base keys values earlier x =
+    told (in_feature (length earlier)) (feature_rules (bytes_of x.content) (base + x.body) keys values)
+
+-- the rules of a layer of version 2
+abbrev pub layer_table : ℕ → ℕ → List Entry → List (ℕ × Rules MessageFault)
+layer_table base own fields =
+    (6, each (λ _. layer_field_rules base) [] fields)
+    ∷ ((7, when (is_none (last_only 1 fields)) (fault_at own NoName))
+    ∷ ((8, each (λ _. value_rules_of base) [] (only 4 fields))
+    ∷ ((9, each (feature_rules_of base (keys_in fields) (values_in fields)) [] (only 2 fields)) ∷ [])))
+
+-- the rules of a payload whose first byte stands at base, and its field's tag at own: where its version
+-- isn't 2, they end with it
+abbrev pub item_table : List ℕ → ℕ → ℕ → List (ℕ × Rules MessageFault)
+item_table payload base own =
+    (2, rest_rules base (split payload))
+    ∷ ((3, each (λ _. version_rules base) [] (split payload).fields)
+    ∷ ((4, when (is_none (last_only 15 (split payload).fields)) (fault_at own NoVersion))
+    ∷ (if is_two (version_in (split payload).fields) then layer_table base own (split payload).fields else [])))
+
+unfoldable pub item_rules : List ℕ → ℕ → ℕ → Rules MessageFault
+item_rules payload base own = rows (item_table payload base own)
+
+-- the broken rule of least rank
+unfoldable pub item_fault : List ℕ → ℕ → ℕ → Option MessageFault
+item_fault payload base own = first (item_rules payload base own)
+
+-- the name of a layer of version 2, as a list of one; also where the layer is broken; no name for others
+unfoldable pub payload_names : List ℕ → List (List ℕ)
+payload_names payload =
+    if is_two (version_in (split payload).fields) then option_to_list (name_in (split payload).fields) else []

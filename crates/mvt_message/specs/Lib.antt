@@ -1,0 +1,7 @@
+pub mod LayerFields
+pub mod ItemRules
+pub mod Items
+pub mod CanonicalItems
+pub mod ValidItems
+pub mod PutErrors
+pub mod Inner

@@ -1,0 +1,26 @@
+//! The layers of a tile (Mapbox Vector Tile Specification 2.1, 4.1): a layer of version 2, or another as
+//! its bytes, read from a payload and written as one.
+#![tactic(auto)]
+
+mod features;
+mod head;
+mod item;
+pub mod laws;
+mod payload;
+mod pool;
+mod put;
+mod put_error;
+mod put_layer;
+mod read;
+#[cfg(test)]
+mod tests;
+mod valid;
+mod version;
+
+pub use item::{Item, Layer};
+pub use mvt_base::LIMIT;
+pub use mvt_feature::{Cause, Feature, MessageError, read_feature, read_value};
+pub use put::{item_len, put_item};
+pub use put_error::PutError;
+pub use read::read_item;
+pub use valid::{is_valid_item, is_valid_layer};

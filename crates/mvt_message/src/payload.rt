@@ -1,0 +1,87 @@
+//! What a field of a layer holds, and how its faults are told.
+ghost use Rattle.std.specs.Prelude.{◌≡◌, ◌+◌, ◌^◌, ◌<◌, None, Some, IfOk, IfErr, OnOk};
+ghost use Rattle.std.specs.Option.{option_map};
+ghost use Rattle.mvt_base.specs.Rules.{first};
+ghost use Rattle.mvt_wire.specs.Field.{content_of};
+ghost use Rattle.mvt_feature.specs.Causes.{of_wire};
+ghost use Rattle.mvt_feature.specs.Faults.{TellsMessage, fault_at as the_fault_at};
+ghost use Rattle.mvt_feature.specs.Features.{number_of};
+ghost use Rattle.mvt_feature.specs.ValueRules.{text_rules};
+ghost use Rattle.mvt_message.specs.LayerFields.{bytes_of as the_bytes_of};
+ghost use Rattle.mvt_message.specs.ItemRules.{uint32_rules, bytes_rules};
+ghost use Rattle.mvt_message.specs.Inner.{IsFault};
+
+use mvt_feature::{Cause, MessageError};
+use mvt_wire::{Payload, WireFault};
+use std::str;
+
+/// A fault that stands in no feature.
+pub(crate) fn fault_at(at: u64, cause: Cause) -> MessageError
+    ensures { result ≡ MessageError.Fault None at cause }
+{
+    MessageError::Fault {
+        feature: None,
+        at,
+        cause,
+    }
+}
+
+/// The fault of a payload's rest, told at its absolute place.
+pub(crate) fn rest_fault(base: u64, fault: WireFault) -> MessageError
+    requires { base + fault.at < 2 ^ 64 }
+    ensures { result ≡ MessageError.Fault None (base + fault.at) (of_wire fault.cause) }
+{
+    fault_at(base + fault.at as u64, Cause::from(fault.cause))
+}
+
+/// The bytes of a message; a field of another form has none.
+pub(crate) fn bytes_of<'a>(payload: &Payload<'a>) -> &'a [u8]
+    ensures { result.now ≡ the_bytes_of (content_of payload.now) }
+{
+    match payload {
+        Payload::Len(bytes) => bytes,
+        Payload::Varint(_) => &[],
+        Payload::I64(_) => &[],
+        Payload::I32(_) => &[],
+    }
+}
+
+/// Whether a field has the form of a message.
+pub(crate) fn check_bytes(payload: &Payload<'_>, at: u64) -> Result<(), MessageError>
+    ensures ok { OnOk result (first (bytes_rules (content_of payload.now)) ≡ None) }
+    ensures err { IfErr result (λ error. TellsMessage error (option_map (the_fault_at at) (first (bytes_rules (content_of payload.now))))) }
+{
+    let Payload::Len(_) = payload else {
+        return Err(fault_at(at, Cause::WrongType));
+    };
+    Ok(())
+}
+
+pub(crate) fn text_of<'a>(payload: &Payload<'a>, at: u64) -> Result<&'a str, MessageError>
+    ensures text { IfOk result (λ text. text.now ≡ the_bytes_of (content_of payload.now)) }
+    ensures ok { OnOk result (first (text_rules (content_of payload.now)) ≡ None) }
+    ensures err { IfErr result (λ error. TellsMessage error (option_map (the_fault_at at) (first (text_rules (content_of payload.now))))) }
+{
+    let Payload::Len(bytes) = payload else {
+        return Err(fault_at(at, Cause::WrongType));
+    };
+    match str::from_utf8(bytes) {
+        Ok(text) => Ok(text),
+        Err(_) => Err(fault_at(at, Cause::NotUtf8)),
+    }
+}
+
+pub(crate) fn uint32_of(payload: &Payload<'_>, at: u64) -> Result<u32, MessageError>
+    ensures number { IfOk result (λ n. number_of (content_of payload.now) ≡ Some n) }
+    ensures ok { OnOk result (first (uint32_rules (content_of payload.now)) ≡ None) }
+    ensures err { IfErr result (λ error. TellsMessage error (option_map (the_fault_at at) (first (uint32_rules (content_of payload.now))))) }
+    ensures fault { IfErr result IsFault }
+{
+    let Payload::Varint(number) = payload else {
+        return Err(fault_at(at, Cause::WrongType));
+    };
+    if *number >= 1 << 32 {
+        return Err(fault_at(at, Cause::NumberRange));
+    }
+    Ok(*number as u32)
+}

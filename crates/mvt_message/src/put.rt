@@ -1,0 +1,100 @@
+//! Writing an item (Mapbox Vector Tile Specification 2.1, 4.1).
+ghost use Rattle.std.specs.Prelude.{◌≡◌, ◌<◌, ◌≤◌, length, IfOk, IsErrOf};
+ghost use Rattle.mvt_wire.specs.Spelling.{spelled};
+ghost use Rattle.mvt_message.specs.CanonicalItems.{layer_fields, canonical_item};
+ghost use Rattle.mvt_message.specs.ValidItems.{ValidItem, ValidLayer};
+
+use crate::item::{Item, Layer};
+use crate::put_error::PutError;
+use crate::put_layer::{put_extent, put_features, put_head, put_keys, put_values};
+use mvt_attrs::{KeyPool, ValuePool};
+use mvt_base::LIMIT;
+use std::alloc::Global;
+
+/// The canonical payload of an item, without its tag and length.
+///
+/// # Errors
+///
+/// `TooLarge` where the payload has more bytes than the limit.
+#[tactic(auto, unfolding(crate::specs::CanonicalItems::canonical_item, crate::specs::ValidItems::ValidItem))]
+pub fn put_item(alloc: Global, item: &Item) -> Result<Vec<u8>, PutError>
+    requires { ValidItem item.now }
+    ensures put { IfOk result (λ v. (v.items ≡ canonical_item item.now) × (length v.items ≤ LIMIT)) }
+    ensures too_large { IsErrOf result PutError.TooLarge → LIMIT < length (canonical_item item.now) }
+{
+    match item {
+        Item::Layer(layer) => put_layer(alloc, layer),
+        Item::Foreign { bytes, .. } => put_foreign(alloc, bytes.as_slice()),
+    }
+}
+
+/// The length of that payload.
+///
+/// # Errors
+///
+/// As `put_item`.
+#[tactic(auto, unfolding(crate::specs::CanonicalItems::canonical_item, crate::specs::ValidItems::ValidItem))]
+pub fn item_len(alloc: Global, item: &Item) -> Result<u64, PutError>
+    requires { ValidItem item.now }
+    ensures len { IfOk result (λ n. (n ≡ length (canonical_item item.now)) × (n ≤ LIMIT)) }
+    ensures too_large { IsErrOf result PutError.TooLarge → LIMIT < length (canonical_item item.now) }
+{
+    match item {
+        Item::Layer(layer) => layer_len(alloc, layer),
+        Item::Foreign { bytes, .. } => foreign_len(bytes.as_slice()),
+    }
+}
+
+fn put_foreign(alloc: Global, bytes: &[u8]) -> Result<Vec<u8>, PutError>
+    ensures put { IfOk result (λ v. (v.items ≡ bytes.now) × (length v.items ≤ LIMIT)) }
+    ensures too_large { IsErrOf result PutError.TooLarge → LIMIT < length bytes.now }
+{
+    if bytes.len() as u64 > LIMIT {
+        return Err(PutError::TooLarge);
+    }
+    Ok(Vec::from_slice(alloc, bytes)?)
+}
+
+fn put_layer(alloc: Global, layer: &Layer) -> Result<Vec<u8>, PutError>
+    requires { ValidLayer layer.now }
+    ensures put { IfOk result (λ v. (v.items ≡ spelled (layer_fields layer.now)) × (length v.items ≤ LIMIT)) }
+    ensures too_large { IsErrOf result PutError.TooLarge → LIMIT < length (spelled (layer_fields layer.now)) }
+{
+    let mut keys = KeyPool::new(alloc);
+    let mut values = ValuePool::new(alloc);
+    let mut out = Vec::new(alloc);
+    put_head(&mut out, layer.name.as_str())?;
+    put_features(
+        alloc,
+        layer.features.as_slice(),
+        &mut out,
+        &mut keys,
+        &mut values,
+    )?;
+    put_keys(&mut out, &keys)?;
+    put_values(alloc, &mut out, &values)?;
+    put_extent(&mut out, layer.extent)?;
+    if out.len() as u64 > LIMIT {
+        return Err(PutError::TooLarge);
+    }
+    Ok(out)
+}
+
+fn foreign_len(bytes: &[u8]) -> Result<u64, PutError>
+    ensures len { IfOk result (λ n. (n ≡ length bytes.now) × (n ≤ LIMIT)) }
+    ensures too_large { IsErrOf result PutError.TooLarge → LIMIT < length bytes.now }
+{
+    let len = bytes.len() as u64;
+    if len > LIMIT {
+        return Err(PutError::TooLarge);
+    }
+    Ok(len)
+}
+
+fn layer_len(alloc: Global, layer: &Layer) -> Result<u64, PutError>
+    requires { ValidLayer layer.now }
+    ensures len { IfOk result (λ n. (n ≡ length (spelled (layer_fields layer.now))) × (n ≤ LIMIT)) }
+    ensures too_large { IsErrOf result PutError.TooLarge → LIMIT < length (spelled (layer_fields layer.now)) }
+{
+    Ok(put_layer(alloc, layer)?.len() as u64)
+}

@@ -1,0 +1,97 @@
+//! The parts of a layer in their canonical spelling (Mapbox Vector Tile Specification 2.1, 4.1).
+ghost use Rattle.std.specs.Prelude.{◌≡◌, ◌⊎◌, ◌+◌, ◌<◌, ◌≤◌, [], ◌++◌, length, map, OnOk, IsErrOf};
+ghost use Rattle.std.specs.List.{AllByRecursion};
+ghost use Rattle.mvt_geometry.specs.Valid.{IsValid};
+ghost use Rattle.mvt_wire.specs.Spelling.{spelled};
+ghost use Rattle.mvt_feature.specs.declared.feature.Feature.{Feature as OneFeature};
+ghost use Rattle.mvt_message.specs.CanonicalItems.{keys_of, values_of, head_fields, feature_field, key_field, value_field, extent_fields};
+
+use crate::put_error::PutError;
+use mvt_attrs::{KeyPool, ValuePool};
+use mvt_base::LIMIT;
+use mvt_feature::{Feature, Room, append_feature, append_value};
+use mvt_wire::{Payload, put_field};
+use std::alloc::{AllocError, Global};
+
+/// Appends the version and the name.
+pub(crate) fn put_head(out: &mut Vec<u8>, name: &str) -> Result<(), AllocError>
+    ensures { OnOk result (out.new.items ≡ out.old.items ++ spelled (head_fields name.now)) }
+{
+    put_field(out, 15, &Payload::Varint(2))?;
+    put_field(out, 1, &Payload::Len(name.as_bytes()))
+}
+
+/// Appends the features; their keys and values are placed in the pools.
+pub(crate) fn put_features(
+    alloc: Global,
+    features: &[Feature],
+    out: &mut Vec<u8>,
+    keys: &mut KeyPool,
+    values: &mut ValuePool,
+) -> Result<(), PutError>
+    requires valid { AllByRecursion (λ (f : OneFeature). IsValid f.geometry) features.now }
+    requires no_keys { keys.old ≡ [] }
+    requires no_values { values.old ≡ [] }
+    ensures ok { OnOk result (out.new.items ≡ out.old.items
+        ++ spelled (map (feature_field (keys_of features.now) (values_of features.now)) features.now)) }
+    ensures keys { OnOk result (keys.new ≡ keys_of features.now) }
+    ensures values { OnOk result (values.new ≡ values_of features.now) }
+    ensures too_large { IsErrOf result PutError.TooLarge →
+        (LIMIT < length out.old.items
+        + length (spelled (map (feature_field (keys_of features.now) (values_of features.now)) features.now)))
+        ⊎ (LIMIT ≤ length (keys_of features.now)) ⊎ (LIMIT ≤ length (values_of features.now)) }
+{
+    let mut room = Room::new(alloc);
+    let mut payload = Vec::new(alloc);
+    for feature in features {
+        payload.clear();
+        append_feature(&mut payload, feature, keys, values, &mut room)?;
+        put_field(out, 2, &Payload::Len(&payload))?;
+        if out.len() as u64 > LIMIT {
+            return Err(PutError::TooLarge);
+        }
+    }
+    Ok(())
+}
+
+/// Appends the keys of a pool.
+pub(crate) fn put_keys(out: &mut Vec<u8>, keys: &KeyPool) -> Result<(), AllocError>
+    ensures { OnOk result (out.new.items ≡ out.old.items ++ spelled (map key_field keys.now)) }
+{
+    for index in 0..keys.len() as u32 {
+        match keys.get(index) {
+            Some(key) => put_field(out, 3, &Payload::Len(key.as_bytes()))?,
+            None => unreachable!(),
+        }
+    }
+    Ok(())
+}
+
+/// Appends the values of a pool.
+pub(crate) fn put_values(
+    alloc: Global,
+    out: &mut Vec<u8>,
+    values: &ValuePool,
+) -> Result<(), AllocError>
+    ensures { OnOk result (out.new.items ≡ out.old.items ++ spelled (map value_field values.now)) }
+{
+    let mut payload = Vec::new(alloc);
+    for index in 0..values.len() as u32 {
+        match values.get(index) {
+            Some(value) => {
+                payload.clear();
+                append_value(&mut payload, value)?;
+                put_field(out, 4, &Payload::Len(&payload))?;
+            }
+            None => unreachable!(),
+        }
+    }
+    Ok(())
+}
+
+/// Appends the extent.
+pub(crate) fn put_extent(out: &mut Vec<u8>, extent: u32) -> Result<(), AllocError>
+    ensures { OnOk result (out.new.items ≡ out.old.items ++ spelled (extent_fields extent)) }
+{
+    put_field(out, 5, &Payload::Varint(u64::from(extent)))
+}

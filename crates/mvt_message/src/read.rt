@@ -1,0 +1,65 @@
+//! Reading an item (Mapbox Vector Tile Specification 2.1, 4.1).
+ghost use Rattle.std.specs.Prelude.{◌≡◌, ◌+◌, ◌^◌, ◌<◌, ◌≤◌, [], length, Some, None, IfOk, IfErr, OnOk};
+ghost use Rattle.mvt_wire.specs.Split.{split};
+ghost use Rattle.mvt_feature.specs.Faults.{TellsMessage};
+ghost use Rattle.mvt_message.specs.ItemRules.{item_fault};
+ghost use Rattle.mvt_message.specs.Items.{IsItem, IsLayer};
+ghost use Rattle.mvt_message.specs.ValidItems.{ValidItem};
+ghost use Rattle.mvt_message.specs.Inner.{layer_fault};
+
+use crate::features::read_features;
+use crate::head::read_head;
+use crate::item::{Item, Layer};
+use crate::payload::fault_at;
+use crate::pool::read_values;
+use crate::version::read_version;
+use mvt_base::{Items, LIMIT, Text};
+use mvt_feature::{Cause, MessageError};
+use std::alloc::Global;
+
+/// The item of a payload whose first byte stands at `base`, and whose field's tag at `own`.
+///
+/// # Errors
+///
+/// The first broken rule: the payload splits into fields, the versions and that there is one; in a layer
+/// of version 2 the other fields in order, that there is a name, each value in order, each feature in
+/// order.
+pub fn read_item(alloc: Global, payload: &[u8], base: u64, own: u64) -> Result<Item, MessageError>
+    requires small { length payload.now ≤ LIMIT }
+    requires fits { base + length payload.now < 2 ^ 64 }
+    ensures ok { OnOk result (item_fault payload.now base own ≡ None) }
+    ensures item { IfOk result (λ item. IsItem payload.now item) }
+    ensures valid { IfOk result (λ item. ValidItem item) }
+    ensures fault { IfErr result (λ error. TellsMessage error (item_fault payload.now base own)) }
+{
+    let version = read_version(payload, base, own)?;
+    if version == 2 {
+        return Ok(Item::Layer(read_layer(alloc, payload, base, own)?));
+    }
+    let bytes = Items::new(Vec::from_slice(alloc, payload)?);
+    Ok(Item::Foreign { version, bytes })
+}
+
+/// The layer of a payload that splits into fields and has version 2.
+fn read_layer(alloc: Global, payload: &[u8], base: u64, own: u64) -> Result<Layer, MessageError>
+    requires small { length payload.now ≤ LIMIT }
+    requires fits { base + length payload.now < 2 ^ 64 }
+    requires whole { (split payload.now).rest ≡ [] }
+    ensures ok { OnOk result (layer_fault base own (split payload.now).fields ≡ None) }
+    ensures layer { IfOk result (IsLayer (split payload.now).fields) }
+    ensures fault { IfErr result (λ error. TellsMessage error (layer_fault base own (split payload.now).fields)) }
+{
+    let mut keys = Vec::new(alloc);
+    let head = read_head(alloc, payload, base, &mut keys)?;
+    let name = match head.name {
+        Some(name) => name,
+        None => return Err(fault_at(own, Cause::NoName)),
+    };
+    let values = read_values(alloc, payload, base)?;
+    let features = read_features(alloc, payload, base, &keys, &values)?;
+    Ok(Layer {
+        name: Text::from_str(alloc, name)?,
+        extent: head.extent,
+        features: Items::new(features),
+    })
+}

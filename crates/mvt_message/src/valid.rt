@@ -1,0 +1,52 @@
+//! Which layers and items can be written.
+ghost use Rattle.std.specs.Prelude.{◌↔◌, IsTrue};
+ghost use Rattle.std.specs.List.{AllByRecursion};
+ghost use Rattle.mvt_feature.specs.Valid.{ValidFeature};
+ghost use Rattle.mvt_message.specs.ValidItems.{ValidItem, ValidLayer, AreOfVersion};
+
+use crate::item::{Item, Layer};
+use crate::version::read_version;
+use mvt_feature::{Feature, is_valid_feature};
+
+/// Whether a layer can be written: each of its features can. It takes no memory.
+#[tactic(auto, unfolding(crate::specs::ValidItems::ValidLayer))]
+pub fn is_valid_layer(layer: &Layer) -> bool
+    ensures { IsTrue result ↔ ValidLayer layer.now }
+{
+    let _name = layer.name.as_str();
+    let _extent = layer.extent;
+    are_valid(layer.features.as_slice())
+}
+
+/// Whether an item can be written: a layer that can, or bytes of fields whose last version is the one
+/// told and isn't 2. It takes no memory.
+#[tactic(auto, unfolding(crate::specs::ValidItems::ValidItem))]
+pub fn is_valid_item(item: &Item) -> bool
+    ensures { IsTrue result ↔ ValidItem item.now }
+{
+    match item {
+        Item::Layer(layer) => is_valid_layer(layer),
+        Item::Foreign { version, bytes } => are_of_version(*version, bytes.as_slice()),
+    }
+}
+
+fn are_valid(features: &[Feature]) -> bool
+    ensures { IsTrue result ↔ AllByRecursion ValidFeature features.now }
+{
+    for feature in features {
+        if !is_valid_feature(feature) {
+            return false;
+        }
+    }
+    true
+}
+
+/// Whether these are the bytes of a layer of this version, which isn't 2.
+fn are_of_version(version: u32, bytes: &[u8]) -> bool
+    ensures { IsTrue result ↔ AreOfVersion version bytes.now }
+{
+    match read_version(bytes, 0, 0) {
+        Ok(found) => found == version && version != 2,
+        Err(_) => false,
+    }
+}

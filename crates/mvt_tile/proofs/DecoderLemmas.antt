@@ -1,0 +1,196 @@
+-- A decoder that stands for a stream, and more of it.
+use Rattle.std.proofs.Common.{◌≡◌, ℕ, ◌+◌, ◌-◌, ◌<◌, ◌≤◌, true, cond, List, [], ◌∷◌, ◌++◌, length, take, drop, Option, Some, None, refl, sym, ap, ap₂, subst, ◌∙◌, arith, append_assoc, append-nil, length-append, length-drop, take-append-drop}
+use Rattle.std.proofs.Math.Seq.{take-append_seam}
+use Rattle.mvt_base.specs.Rules.{each, first}
+use Rattle.mvt_base.proofs.RuleLemmas.{option_or-none}
+use Rattle.mvt_wire.specs.declared.fault.WireCause.{WireCause}
+use Rattle.mvt_wire.specs.declared.fault.WireCause.TheVariants as wire
+use Rattle.mvt_wire.specs.Fronts.{rest_cause}
+use Rattle.mvt_wire.specs.Split.{Parts, Split, split, split_from, no_fields}
+use Rattle.mvt_feature.specs.Causes.{of_wire}
+use Rattle.mvt_feature.specs.declared.cause.Cause.TheVariants.{Truncated, TooLarge}
+use Rattle.mvt_message.specs.declared.item.Item.{Item}
+use Rattle.mvt_tile.specs.declared.fault.DecodeError.{DecodeError}
+use Rattle.mvt_tile.specs.declared.fault.DecodeError.TheVariants.{Memory, Fault, Read}
+use Rattle.mvt_tile.specs.Faults.{outer_fault, is_open}
+use Rattle.mvt_tile.specs.Inner.{ItemLaws, SplitLaws}
+use Rattle.mvt_tile.specs.Inner.Judging.{fault_behind, IsJudged, TellsBehind}
+use Rattle.mvt_tile.specs.Streams.{IsCalm, IsLive, Tells, Decoding, StandsAs, StandsFor}
+use Rattle.mvt_tile.specs.TileRules.{field_rules, rest_rules_at, rest_rules, tile_rules, beyond, fault_within}
+use Rattle.mvt_tile.specs.Tiles.{AreItems, IsTile}
+use Rattle.mvt_tile.proofs.ItemLemmas.{are_none, are_clean}
+use Rattle.mvt_tile.proofs.TileLemmas.{first-tile, fault_of_short, fault_of_long}
+use Rattle.mvt_tile.proofs.StreamLemmas.{rest_with, first-more, fault_stays}
+use Rattle.mvt_tile.proofs.JudgeLemmas.{fields_clean}
+
+calm_none : IsCalm None
+calm_none f e = cc
+
+-- nothing yet
+pub live_start : SplitLaws → (limit : ℕ) → IsLive limit 0 [] [] []
+live_start splits limit =
+    let all : split [] ≡ no_fields 0 [] = splits.none 0 [] splits.end in
+    let none : fault_within limit [] ≡ None = fault_of_short limit [] (omega arith) ∙ first-tile [] ∙ ap (fault_behind []) all in
+    record {
+      small = omega arith;
+      rest = ap (λ (p : Parts). p.rest) all;
+      place = ap (λ (p : Parts). p.rest_at) all;
+      items_are = subst (λ (p : Parts). AreItems p.fields []) (sym all) are_none;
+      calm = subst IsCalm (sym none) calm_none;
+    }
+
+rest_calm : (at : ℕ) (rest : List ℕ) → rest_cause rest ≡ wire.Truncated → IsCalm (first (rest_rules_at at rest))
+rest_calm at [] e f told = cc
+rest_calm at (b ∷ bs) e f told =
+    let is : outer_fault at (of_wire (rest_cause (b ∷ bs))) ≡ f = cc in
+    ap is_open (sym is) ∙ ap (λ c. is_open (outer_fault at (of_wire c))) e
+
+-- how long the stream is
+pub live_length : SplitLaws → (limit offset : ℕ) (items : List Item) (raw s : List ℕ) → IsLive limit offset items raw s → length s ≡ offset + length raw
+live_length splits limit offset items raw s live =
+    let whole = splits.place 0 s in
+    let place = live.place in
+    omega (arith, ap length live.rest)
+
+-- the split of the stream and more
+parts_more : (limit offset : ℕ) (items : List Item) (raw s : List ℕ) → IsLive limit offset items raw s → (t : List ℕ) → rest_with s t ≡ split_from offset (raw ++ t)
+parts_more limit offset items raw s live t = ap₂ (λ a r. split_from a (r ++ t)) live.place live.rest
+
+-- the first fault of the stream and more
+fault_more : ItemLaws → SplitLaws → (limit offset : ℕ) (items : List Item) (raw s t : List ℕ) → IsLive limit offset items raw s → offset + (length raw + length t) ≤ limit
+    → fault_within limit (s ++ t) ≡ fault_behind (split s).fields (split_from offset (raw ++ t))
+fault_more laws splits limit offset items raw s t live fits =
+    let size = live_length splits limit offset items raw s live in
+    let small : length (s ++ t) ≤ limit = simp length-append (omega arith) in
+    fault_of_short limit (s ++ t) small ∙ first-more splits s t
+    ∙ option_or-none (first (each field_rules [] (split s).fields)) (fault_behind (split s).fields (rest_with s t)) (are_clean laws (split s).fields items live.items_are)
+    ∙ ap (fault_behind (split s).fields) (parts_more limit offset items raw s live t)
+
+pub live_more : ItemLaws → SplitLaws → (limit offset : ℕ) (items new : List Item) (raw after s t : List ℕ) (used : ℕ) → IsJudged offset (raw ++ t) items new used → after ≡ drop used (raw ++ t) → offset + (length raw + length t) ≤ limit
+    → IsLive limit offset items raw s → IsLive limit (offset + used) new after (s ++ t)
+live_more laws splits limit offset items new raw after s t used judged is fits live =
+    let size = live_length splits limit offset items raw s live in
+    let parts = parts_more limit offset items raw s live t in
+    let q = split_from offset (raw ++ t) in
+    let now_are : AreItems ((split s).fields ++ q.fields) new = judged.items_are (split s).fields live.items_are in
+    record {
+      small = simp length-append (omega arith);
+      rest = splits.rest_more 0 s t ∙ ap (λ (p : Parts). p.rest) parts ∙ judged.rest ∙ sym is;
+      place = splits.place_more 0 s t ∙ ap (λ (p : Parts). p.rest_at) parts ∙ judged.place;
+      items_are = subst (λ xs. AreItems xs new) (sym (splits.fields_more 0 s t ∙ ap (λ (p : Parts). (split s).fields ++ p.fields) parts)) now_are;
+      calm = subst IsCalm
+          (sym (fault_more laws splits limit offset items raw s t live fits
+          ∙ option_or-none (first (each field_rules (split s).fields q.fields)) (first (rest_rules q)) (fields_clean laws (split s).fields q.fields new now_are)))
+          (rest_calm q.rest_at q.rest (ap rest_cause judged.rest ∙ judged.unfinished));
+    }
+
+-- what can't be changed is told of each longer stream
+tells_stays : SplitLaws → (limit : ℕ) (e : DecodeError) (s t : List ℕ) → Tells e (fault_within limit s) → Tells e (fault_within limit (s ++ t))
+tells_stays splits limit Memory s t h = tt
+tells_stays splits limit (Fault f) s t h = (fault_stays splits limit s t f h.0 h.1, h.1)
+tells_stays splits limit (Read k) s t h = absurd h
+
+pub live_fails : ItemLaws → SplitLaws → (limit offset : ℕ) (items : List Item) (raw s piece t beyond : List ℕ) (e : DecodeError) → TellsBehind e offset (raw ++ t) items → piece ≡ t ++ beyond → offset + (length raw + length t) ≤ limit
+    → IsLive limit offset items raw s → Tells e (fault_within limit (s ++ piece))
+live_fails laws splits limit offset items raw s piece t beyond e tells is fits live =
+    subst (λ p. Tells e (fault_within limit p)) (append_assoc s t beyond ∙ ap (λ p. s ++ p) (sym is))
+    (tells_stays splits limit e (s ++ t) beyond (subst (Tells e) (sym (fault_more laws splits limit offset items raw s t live fits)) (tells (split s).fields live.items_are)))
+
+-- the first fault of the stream is that of its rest
+live_fault : ItemLaws → (limit offset : ℕ) (items : List Item) (raw s : List ℕ) → IsLive limit offset items raw s → first (tile_rules s) ≡ first (rest_rules_at offset raw)
+live_fault laws limit offset items raw s live =
+    first-tile s ∙ option_or-none (first (each field_rules [] (split s).fields)) (first (rest_rules (split s))) (are_clean laws (split s).fields items live.items_are)
+    ∙ ap₂ (λ a r. first (rest_rules_at a r)) live.place live.rest
+
+too_large_behind : (limit offset : ℕ) (raw : List ℕ) → offset + length raw ≡ limit → IsCalm (first (rest_rules_at offset raw)) → beyond limit (first (rest_rules_at offset raw)) ≡ Some (outer_fault offset TooLarge)
+too_large_behind limit offset [] size calm =
+    let same : limit ≡ offset = omega arith in
+    ap (λ n. Some (outer_fault n TooLarge)) same
+too_large_behind limit offset (b ∷ bs) size calm =
+    let f = outer_fault offset (of_wire (rest_cause (b ∷ bs))) in
+    ap (λ t. Some (cond t (outer_fault offset TooLarge) f)) (calm f refl)
+
+-- a stream that goes on behind the limit
+pub live_too_large : ItemLaws → SplitLaws → (limit offset : ℕ) (items : List Item) (raw s more : List ℕ) → offset + length raw ≡ limit → (length more ≡ 0 → ⊥)
+    → IsLive limit offset items raw s → Tells (Fault (outer_fault offset TooLarge)) (fault_within limit (s ++ more))
+live_too_large laws splits limit offset items raw s more full some live =
+    let size : length s ≡ limit = live_length splits limit offset items raw s live ∙ full in
+    let longer : limit < length (s ++ more) = simp length-append (omega arith) in
+    let is : first (tile_rules s) ≡ first (rest_rules_at offset raw) = live_fault laws limit offset items raw s live in
+    let calm : IsCalm (first (rest_rules_at offset raw)) = subst IsCalm (fault_of_short limit s live.small ∙ is) live.calm in (
+      fault_of_long limit (s ++ more) longer
+          ∙ ap (λ xs. beyond limit (first (tile_rules xs))) (ap (λ n. take n (s ++ more)) (sym size) ∙ take-append_seam s more)
+          ∙ ap (beyond limit) is ∙ too_large_behind limit offset raw full calm,
+      refl,
+    )
+
+open_cause : (at : ℕ) (c : WireCause) → is_open (outer_fault at (of_wire c)) ≡ true → of_wire c ≡ Truncated
+open_cause at wire.Truncated e = refl
+open_cause at wire.VarintRange e = cc
+open_cause at wire.FieldNumber e = cc
+open_cause at wire.WireType e = cc
+
+rest_open : (at : ℕ) (raw : List ℕ) → (length raw ≡ 0 → ⊥) → IsCalm (first (rest_rules_at at raw)) → first (rest_rules_at at raw) ≡ Some (outer_fault at Truncated)
+rest_open at [] some calm = absurd (some refl)
+rest_open at (b ∷ bs) some calm =
+    ap (λ c. Some (outer_fault at c)) (open_cause at (rest_cause (b ∷ bs)) (calm (outer_fault at (of_wire (rest_cause (b ∷ bs)))) refl))
+
+-- a stream that ends in a field
+pub live_truncated : ItemLaws → (limit offset : ℕ) (items : List Item) (raw s : List ℕ) → (length raw ≡ 0 → ⊥) → IsLive limit offset items raw s → fault_within limit s ≡ Some (outer_fault offset Truncated)
+live_truncated laws limit offset items raw s some live =
+    let is : fault_within limit s ≡ first (rest_rules_at offset raw) = fault_of_short limit s live.small ∙ live_fault laws limit offset items raw s live in
+    is ∙ rest_open offset raw some (subst IsCalm is live.calm)
+
+-- a stream that ends behind a field is the tile
+pub live_tile : SplitLaws → (limit offset : ℕ) (items : List Item) (raw s : List ℕ) → raw ≡ [] → IsLive limit offset items raw s → IsTile limit s (record { items = items })
+live_tile splits limit offset items raw s none live = record {
+  small = live.small;
+  fields = (split s).fields;
+  whole = subst (Split s (split s).fields) (live.rest ∙ none) (splits.is s);
+  items = live.items_are.held;
+  distinct = live.items_are.distinct;
+}
+
+-- a piece cut where the room ends
+
+pub cut : (piece front back : List ℕ) (n : ℕ) → front ≡ take n piece → back ≡ drop n piece → piece ≡ front ++ back
+cut piece front back n e f = sym (ap₂ (λ x y. x ++ y) e f ∙ take-append-drop n piece)
+
+left_length : (offset : ℕ) (raw after t : List ℕ) (used : ℕ) → after ≡ drop used (raw ++ t) → used ≤ length (raw ++ t) → used + length after ≡ length raw + length t
+left_length offset raw after t used is within =
+    let size : length after ≡ length (raw ++ t) - used = ap length is ∙ length-drop used (raw ++ t) in
+    omega (arith, length-append raw t)
+
+pub piece_fits : ItemLaws → SplitLaws → (limit offset : ℕ) (items new : List Item) (raw after s piece t more : List ℕ) (used : ℕ) → IsJudged offset (raw ++ t) items new used → after ≡ drop used (raw ++ t) → offset + (length raw + length t) ≤ limit
+    → piece ≡ t ++ more → length more ≡ 0 → IsLive limit offset items raw s → IsLive limit (offset + used) new after (s ++ piece)
+piece_fits laws splits limit offset items new raw after s piece t [] used judged is fits joined none live =
+    subst (λ p. IsLive limit (offset + used) new after (s ++ p)) (sym (joined ∙ append-nil t)) (live_more laws splits limit offset items new raw after s t used judged is fits live)
+piece_fits laws splits limit offset items new raw after s piece t (b ∷ bs) used judged is fits joined none live = absurd (omega arith)
+
+pub piece_too_large : ItemLaws → SplitLaws → (limit offset : ℕ) (items new : List Item) (raw after s piece t more : List ℕ) (used : ℕ) → IsJudged offset (raw ++ t) items new used → after ≡ drop used (raw ++ t) → offset + (length raw + length t) ≡ limit
+    → piece ≡ t ++ more → (length more ≡ 0 → ⊥) → IsLive limit offset items raw s → Tells (Fault (outer_fault (offset + used) TooLarge)) (fault_within limit (s ++ piece))
+piece_too_large laws splits limit offset items new raw after s piece t more used judged is full joined some live =
+    let size = left_length offset raw after t used is judged.within in
+    subst (λ p. Tells (Fault (outer_fault (offset + used) TooLarge)) (fault_within limit p)) (append_assoc s t more ∙ ap (λ p. s ++ p) (sym joined))
+    (live_too_large laws splits limit (offset + used) new after (s ++ t) more (omega arith) some (live_more laws splits limit offset items new raw after s t used judged is (omega arith) live))
+
+pub left_fits : (limit offset : ℕ) (bytes after : List ℕ) (items new : List Item) (used : ℕ) → IsJudged offset bytes items new used → after ≡ drop used bytes → offset + length bytes ≤ limit → (offset + used) + length after ≤ limit
+left_fits limit offset bytes after items new used judged is fits =
+    let within = judged.within in
+    let size : length after ≡ length bytes - used = ap length is ∙ length-drop used bytes in
+    omega arith
+
+-- what a decoder stands for, by its parts
+
+pub failed_stays : SplitLaws → (limit : ℕ) (o : Option DecodeError) (d : Decoding) (e : DecodeError) (s t : List ℕ) → o ≡ Some e → StandsAs limit o d s → StandsAs limit o d (s ++ t)
+failed_stays splits limit None d e s t is stands = cc
+failed_stays splits limit (Some x) d e s t is stands = (stands.0, tells_stays splits limit x s t stands.1)
+
+pub live_of : (limit : ℕ) (failure : Option DecodeError) (offset : ℕ) (items : List Item) (raw : List ℕ) (d : Decoding) (s : List ℕ) → (let d' : Decoding = record { failure = failure; items = items; raw = raw; offset = offset } in d') ≡ d → failure ≡ None → StandsFor limit d s
+    → IsLive limit offset items raw s
+live_of limit failure offset items raw d s is none stands =
+    subst (λ o. StandsAs limit o (record { failure = failure; items = items; raw = raw; offset = offset }) s) none (subst (λ x. StandsFor limit x s) (sym is) stands)
+
+pub nil_from_length : (xs : List ℕ) → length xs ≡ 0 → xs ≡ []
+nil_from_length [] e = refl
+nil_from_length (x ∷ xs) e = absurd (omega arith)

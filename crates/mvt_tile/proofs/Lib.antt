@@ -1,0 +1,15 @@
+pub mod NameLemmas
+pub mod LayerLemmas
+pub mod ItemLemmas
+pub mod TileLemmas
+pub mod StreamLemmas
+pub mod CanonicalLemmas
+pub mod KeptLemmas
+pub mod ShiftLemmas
+pub mod JudgeLemmas
+pub mod DecoderLemmas
+pub mod TakingLemmas
+pub mod WritingLemmas
+pub mod RoundTripLemmas
+pub mod ExtractionLemmas
+pub mod NoteLemmas

@@ -1,0 +1,170 @@
+-- A reader that feeds a decoder.
+use Rattle.std.proofs.Common.{◌≡◌, ◌≢◌, ℕ, ◌+◌, ◌-◌, ◌<◌, ◌≤◌, Bool, true, false, List, [], ◌∷◌, ◌++◌, length, take, drop, Option, Some, None, Result, Ok, Err, OnOk, IfOk, IfErr, IfSome, refl, sym, ap, ap₂, subst, ◌∙◌, arith, append_assoc, append-nil, length-append, length-take, take-append-drop}
+use Rattle.std.proofs.lemmas.List.{take-append-le}
+use Rattle.std.specs.Io.KnownBytes.{Consumes, Keeps, IsAtEnd, ReadConsumes}
+use Rattle.std.proofs.KnownBytes.{Consumes-nil, Consumes-trans, Consumes-kept}
+use Rattle.mvt_tile.specs.declared.fault.DecodeError.{DecodeError}
+use Rattle.mvt_tile.specs.declared.fault.DecodeError.TheVariants.{Memory, Fault, Read}
+use Rattle.mvt_tile.specs.declared.fault.Fault.{Fault as AFault}
+use Rattle.mvt_tile.specs.declared.tile.Tile.{Tile}
+use Rattle.mvt_tile.specs.Inner.{ItemLaws, SplitLaws}
+use Rattle.mvt_tile.specs.Inner.Taking.{HasTaken, HasStopped, TellsTaken}
+use Rattle.mvt_tile.specs.Reading.{StopsEarly, TellsInput, IsReadError, IsKindOf}
+use Rattle.std.specs.declared.io.ErrorKind.{ErrorKind}
+use Rattle.mvt_tile.specs.Streams.{Decoding, IsCalm, IsLive, StandsAs, StandsFor, Answers, Tells, TellsAtEnd}
+use Rattle.mvt_tile.specs.TileRules.{fault_within}
+use Rattle.mvt_tile.specs.Tiles.{IsTile}
+use Rattle.mvt_tile.proofs.StreamLemmas.{fault_stays, calm_front}
+
+pub taken_none : (limit : ℕ) (a : Option (List ℕ)) (decoder : Decoding) → decoder.failure ≡ None → StandsFor limit decoder [] → HasTaken limit a a decoder 0
+taken_none limit a decoder alive stands = record { taken = []; consumed = Consumes-nil a; stands = stands; alive = alive; turns = omega arith }
+
+live_taken : (limit : ℕ) (decoder : Decoding) (s : List ℕ) → decoder.failure ≡ None → StandsFor limit decoder s → IsLive limit decoder.offset decoder.items decoder.raw s
+live_taken limit decoder s alive stands = subst (λ o. StandsAs limit o decoder s) alive stands
+
+-- there are no more turns than bytes within the limit
+pub taken_turns : (limit : ℕ) (a b : Option (List ℕ)) (decoder : Decoding) (reads : ℕ) → HasTaken limit a b decoder reads → reads ≤ limit
+taken_turns limit a b decoder reads has =
+    let small = (live_taken limit decoder has.taken has.alive has.stands).small in
+    let turns = has.turns in
+    omega arith
+
+answers_ok : (o : Option DecodeError) (r : Result (Unit {0}) DecodeError) → Answers o r → r ≡ Ok tt → o ≡ None
+answers_ok None r h e = refl
+answers_ok (Some x) r h e = cc
+
+answers_err : (o : Option DecodeError) (r : Result (Unit {0}) DecodeError) (e : DecodeError) → Answers o r → r ≡ Err e → o ≡ Some e
+answers_err None r e h is = cc
+answers_err (Some x) r e h is = cc
+
+abbrev Feeds : ℕ → Decoding → Decoding → List ℕ → Type 0
+Feeds limit old new piece = (s : List ℕ) → StandsFor limit old s → StandsFor limit new (s ++ piece)
+
+pub taken_more : (limit : ℕ) (a b c : Option (List ℕ)) (old new : Decoding) (reads : ℕ) (buffer piece : List ℕ) (n : ℕ) (r : Result (Unit {0}) DecodeError) → HasTaken limit a b old reads → Consumes b c (take n buffer)
+    → piece ≡ take n buffer → 0 < n → n ≤ length buffer → Feeds limit old new piece → Answers new.failure r → r ≡ Ok tt → HasTaken limit a c new (reads + 1)
+taken_more limit a b c old new reads buffer piece n r has consumed is some within feeds answers ok =
+    let size : length piece ≡ n = ap length is ∙ (simp length-take (omega arith)) in
+    let turns = has.turns in
+    record {
+      taken = has.taken ++ piece;
+      consumed = Consumes-trans a b c has.taken piece has.consumed (subst (Consumes b c) (sym is) consumed);
+      stands = feeds has.taken has.stands;
+      alive = answers_ok new.failure r answers ok;
+      turns = omega (arith, length-append has.taken piece);
+    }
+
+tells_taken : (limit : ℕ) (decoder : Decoding) (s : List ℕ) (e : DecodeError) → decoder.failure ≡ Some e → StandsFor limit decoder s → Tells e (fault_within limit s)
+tells_taken limit decoder s e failed stands = (subst (λ o. StandsAs limit o decoder s) failed stands).1
+
+weaker_taken : (e : DecodeError) (o : Option AFault) → Tells e o → TellsTaken e o
+weaker_taken Memory o h = tt
+weaker_taken (Fault f) o h = h
+weaker_taken (Read k) o h = tt
+
+pub taken_fails : (limit : ℕ) (a b c : Option (List ℕ)) (old new : Decoding) (reads : ℕ) (buffer piece : List ℕ) (n size : ℕ) (r : Result (Unit {0}) DecodeError) (e : DecodeError) → HasTaken limit a b old reads → Consumes b c (take n buffer)
+    → piece ≡ take n buffer → length buffer ≤ size → Feeds limit old new piece → Answers new.failure r → r ≡ Err e → HasStopped limit size a c e
+taken_fails limit a b c old new reads buffer piece n size r e has consumed is of_size feeds answers failed =
+    let short : length piece ≤ size = let count : length piece ≡ length (take n buffer) = ap length is in omega (arith, length-take n buffer) in
+    record {
+      front = has.taken;
+      back = piece;
+      consumed = Consumes-trans a b c has.taken piece has.consumed (subst (Consumes b c) (sym is) consumed);
+      few = short;
+      calm = (live_taken limit old has.taken has.alive has.stands).calm;
+      told = weaker_taken e (fault_within limit (has.taken ++ piece)) (tells_taken limit new (has.taken ++ piece) e (answers_err new.failure r e answers failed) (feeds has.taken has.stands));
+    }
+
+pub taken_read : (limit size : ℕ) (a b c : Option (List ℕ)) (decoder : Decoding) (reads : ℕ) (k : ErrorKind) → HasTaken limit a b decoder reads → Keeps b c → HasStopped limit size a c (Read k)
+taken_read limit size a b c decoder reads k has kept = record {
+  front = has.taken;
+  back = [];
+  consumed = subst (Consumes a c) (sym (append-nil has.taken)) (Consumes-kept a b c has.taken has.consumed kept);
+  few = omega arith;
+  calm = (live_taken limit decoder has.taken has.alive has.stands).calm;
+  told = tt;
+}
+
+pub taken_end : (limit : ℕ) (a b c : Option (List ℕ)) (decoder : Decoding) (reads : ℕ) (n : ℕ) (buffer : List ℕ) → HasTaken limit a b decoder reads → Consumes b c (take n buffer) → n ≡ 0 → HasTaken limit a c decoder 0
+taken_end limit a b c decoder reads n buffer has consumed none = record {
+  taken = has.taken;
+  consumed = subst (Consumes a c) (append-nil has.taken) (Consumes-trans a b c has.taken [] has.consumed (subst (λ m. Consumes b c (take m buffer)) none consumed));
+  stands = has.stands;
+  alive = has.alive;
+  turns = omega arith;
+}
+
+-- of the whole call
+
+early_from : SplitLaws → (limit size : ℕ) (a b : Option (List ℕ)) (front back : List ℕ) → Consumes a b (front ++ back) → length back ≤ size → IsCalm (fault_within limit front) → StopsEarly limit size a b
+early_from splits limit size None b front back consumed few calm = tt
+early_from splits limit size (Some xs) None front back consumed few calm = consumed
+early_from splits limit size (Some xs) (Some ys) front back consumed few calm =
+    let all = length (front ++ back) in
+    let sum : all ≡ length front + length back = length-append front back in
+    let within : all - size ≤ length front = omega arith in (
+      front ++ back,
+      consumed,
+      subst (λ s. IsCalm (fault_within limit s)) (sym (take-append-le (all - size) front back within))
+          (calm_front splits limit (take (all - size) front) (drop (all - size) front) (subst (λ s. IsCalm (fault_within limit s)) (sym (take-append-drop (all - size) front)) calm)),
+    )
+
+pub stopped_early : SplitLaws → (limit size : ℕ) (a b : Option (List ℕ)) (e : DecodeError) → HasStopped limit size a b e → StopsEarly limit size a b
+stopped_early splits limit size a b e h = early_from splits limit size a b h.front h.back h.consumed h.few h.calm
+
+pub taken_early : SplitLaws → (limit size : ℕ) (a b : Option (List ℕ)) (decoder : Decoding) (reads : ℕ) → HasTaken limit a b decoder reads → StopsEarly limit size a b
+taken_early splits limit size a b decoder reads has =
+    early_from splits limit size a b has.taken [] (subst (Consumes a b) (sym (append-nil has.taken)) has.consumed) (omega arith) (live_taken limit decoder has.taken has.alive has.stands).calm
+
+tells_input : SplitLaws → (limit : ℕ) (e : DecodeError) (taken left input : List ℕ) → input ≡ taken ++ left → TellsTaken e (fault_within limit taken) → TellsInput e (fault_within limit input)
+tells_input splits limit Memory taken left input is h = tt
+tells_input splits limit (Fault f) taken left input is h = ap (fault_within limit) is ∙ fault_stays splits limit taken left f h.0 h.1
+tells_input splits limit (Read k) taken left input is h = tt
+
+pub stopped_told : SplitLaws → (limit size : ℕ) (a b : Option (List ℕ)) (e : DecodeError) → HasStopped limit size a b e → IfSome a (λ input. TellsInput e (fault_within limit input))
+stopped_told splits limit size None b e h = tt
+stopped_told splits limit size (Some xs) None e h = absurd h.consumed
+stopped_told splits limit size (Some xs) (Some ys) e h = tells_input splits limit e (h.front ++ h.back) ys xs h.consumed h.told
+
+whole_taken : (xs ys taken : List ℕ) → xs ≡ taken ++ ys → ys ≡ [] → taken ≡ xs
+whole_taken xs ys taken is none = sym (is ∙ ap (λ l. taken ++ l) none ∙ append-nil taken)
+
+pub taken_tile : (limit : ℕ) (a b : Option (List ℕ)) (decoder : Decoding) (reads : ℕ) (r : Result Tile DecodeError) → HasTaken limit a b decoder reads → IsAtEnd b
+    → IfOk r (λ tile. (s : List ℕ) → StandsFor limit decoder s → IsTile limit s tile) → IfOk r (λ tile. IfSome a (λ input. IsTile limit input tile))
+taken_tile limit a b decoder reads (Err e) has end h = tt
+taken_tile limit None b decoder reads (Ok t) has end h = tt
+taken_tile limit (Some xs) None decoder reads (Ok t) has end h = absurd has.consumed
+taken_tile limit (Some xs) (Some ys) decoder reads (Ok t) has end h =
+    subst (λ s. IsTile limit s t) (whole_taken xs ys has.taken has.consumed end) (h has.taken has.stands)
+
+at_end_input : (e : DecodeError) (o : Option AFault) → TellsAtEnd e o → TellsInput e o
+at_end_input Memory o h = tt
+at_end_input (Fault f) o h = h
+at_end_input (Read k) o h = tt
+
+pub taken_fault : (limit : ℕ) (a b : Option (List ℕ)) (decoder : Decoding) (reads : ℕ) (r : Result Tile DecodeError) → HasTaken limit a b decoder reads → IsAtEnd b
+    → IfErr r (λ e. (s : List ℕ) → StandsFor limit decoder s → TellsAtEnd e (fault_within limit s)) → IfErr r (λ e. IfSome a (λ input. TellsInput e (fault_within limit input)))
+taken_fault limit a b decoder reads (Ok t) has end h = tt
+taken_fault limit None b decoder reads (Err e) has end h = tt
+taken_fault limit (Some xs) None decoder reads (Err e) has end h = absurd has.consumed
+taken_fault limit (Some xs) (Some ys) decoder reads (Err e) has end h =
+    subst (λ s. TellsInput e (fault_within limit s)) (whole_taken xs ys has.taken has.consumed end) (at_end_input e (fault_within limit has.taken) (h has.taken has.stands))
+
+at_end_no_read : (e : DecodeError) (o : Option AFault) (P : Type 0) → TellsAtEnd e o → IsReadError e → P
+at_end_no_read Memory o P h k = absurd k
+at_end_no_read (Fault f) o P h k = absurd k
+at_end_no_read (Read kind) o P h k = absurd h
+
+at_end_no_kind : (e : DecodeError) (o : Option AFault) (told : Option ErrorKind) → TellsAtEnd e o → IsKindOf e told
+at_end_no_kind Memory o told h = tt
+at_end_no_kind (Fault f) o told h = tt
+at_end_no_kind (Read kind) o told h = absurd h
+
+pub taken_no_read : (limit : ℕ) (a b : Option (List ℕ)) (decoder : Decoding) (reads : ℕ) (r : Result Tile DecodeError) (P : Type 0) → HasTaken limit a b decoder reads
+    → IfErr r (λ e. (s : List ℕ) → StandsFor limit decoder s → TellsAtEnd e (fault_within limit s)) → IfErr r (λ e. IsReadError e → P)
+taken_no_read limit a b decoder reads (Ok t) P has h = tt
+taken_no_read limit a b decoder reads (Err e) P has h = at_end_no_read e (fault_within limit has.taken) P (h has.taken has.stands)
+
+pub taken_no_kind : (limit : ℕ) (a b : Option (List ℕ)) (decoder : Decoding) (reads : ℕ) (r : Result Tile DecodeError) (told : Option ErrorKind) → HasTaken limit a b decoder reads
+    → IfErr r (λ e. (s : List ℕ) → StandsFor limit decoder s → TellsAtEnd e (fault_within limit s)) → IfErr r (λ e. IsKindOf e told)
+taken_no_kind limit a b decoder reads (Ok t) told has h = tt
+taken_no_kind limit a b decoder reads (Err e) told has h = at_end_no_kind e (fault_within limit has.taken) told (h has.taken has.stands)

@@ -1,0 +1,147 @@
+-- A tile is related to bytes exactly where they have no fault, and then one alone; the table is in order.
+use Rattle.std.proofs.Common.{◌≡◌, ℕ, suc, eqb, ◌+◌, ◌<◌, ◌≤◌, ltb, Bool, true, false, cond, List, [], ◌∷◌, ◌++◌, length, take, Option, Some, None, refl, sym, ap, subst, ◌∙◌, ◌↔◌, arith, append_assoc, length-append}
+use Rattle.std.specs.Option.{option_or}
+use Rattle.std.proofs.lemmas.Bool.{ltb-true, ltb-false, lt-ltb, le-ltb}
+use Rattle.mvt_base.specs.Rules.{Rules, when, rows, under, each, first, AreOrdered, IsLeast}
+use Rattle.mvt_base.proofs.RuleLemmas.{first-append, first-under, option_or-nones, option_or-none}
+use Rattle.mvt_base.proofs.OrderLemmas.{AllFrom, under_from, all_later, from-append, under_ordered, under_then, when_ordered, told_ordered, rows_ordered, first_is_least, least_is_first}
+use Rattle.mvt_base.proofs.ListLemmas.{related_once}
+use Rattle.mvt_base.specs.Related.{AreRelated}
+use Rattle.mvt_wire.specs.Field.{Entry, bytes}
+use Rattle.mvt_wire.specs.Split.{Split, split}
+use Rattle.mvt_feature.specs.declared.cause.Cause.TheVariants.{WrongType}
+use Rattle.mvt_message.specs.declared.item.Item.{Item}
+use Rattle.mvt_message.specs.ItemRules.{item_rules, payload_names}
+use Rattle.mvt_message.specs.Items.{IsItem}
+use Rattle.mvt_tile.specs.declared.fault.Fault.{Fault}
+use Rattle.mvt_tile.specs.declared.tile.Tile.{Tile}
+use Rattle.mvt_tile.specs.Faults.{outer_fault, in_layer}
+use Rattle.mvt_tile.specs.Inner.{ItemLaws, SplitLaws}
+use Rattle.mvt_tile.specs.Inner.Judging.{repeated_at}
+use Rattle.mvt_tile.specs.TileRules.{layers_of, payload_of, names_before, repeats, layer_rules, is_bytes, field_rules, rest_rules_at, rest_rules, tile_rules, beyond, fault_within}
+use Rattle.mvt_tile.specs.Tiles.{HoldsItem, AreItems, IsTile}
+use Rattle.mvt_tile.proofs.ItemLemmas.{are_none, items_there, are_clean}
+
+-- the first fault of a tile's table is that of a field, or of the rest
+pub first-tile : (b : List ℕ) → first (tile_rules b) ≡ option_or (first (each field_rules [] (split b).fields)) (first (rest_rules (split b)))
+unfolding tile_rules
+first-tile b =
+    let rest = rest_rules (split b) in
+    let n = length (split b).fields in
+    first-append (each field_rules [] (split b).fields) (under n (under 0 rest))
+    ∙ ap (option_or (first (each field_rules [] (split b).fields))) (first-under n (under 0 rest) ∙ first-under 0 rest)
+
+pub fault_of_short : (limit : ℕ) (b : List ℕ) → length b ≤ limit → fault_within limit b ≡ first (tile_rules b)
+unfolding fault_within
+fault_of_short limit b h =
+    ap (λ t. cond t (beyond limit (first (tile_rules (take limit b)))) (first (tile_rules b))) (le-ltb limit (length b) h)
+
+pub fault_of_long : (limit : ℕ) (b : List ℕ) → limit < length b → fault_within limit b ≡ beyond limit (first (tile_rules (take limit b)))
+unfolding fault_within
+fault_of_long limit b h =
+    ap (λ t. cond t (beyond limit (first (tile_rules (take limit b)))) (first (tile_rules b))) (lt-ltb limit (length b) h)
+
+beyond_there : (limit : ℕ) (o : Option Fault) → beyond limit o ≡ None → ⊥
+beyond_there limit None e = cc
+beyond_there limit (Some f) e = cc
+
+-- bytes without a fault are within the limit
+pub short_there : (limit : ℕ) (b : List ℕ) (t : Bool) → ltb limit (length b) ≡ t → fault_within limit b ≡ None → length b ≤ limit
+short_there limit b false e none = ltb-false limit (length b) e
+short_there limit b true e none =
+    absurd (beyond_there limit (first (tile_rules (take limit b))) (sym (fault_of_long limit b (ltb-true limit (length b) e)) ∙ none))
+
+no_rest : (at : ℕ) (rest : List ℕ) → first (rest_rules_at at rest) ≡ None → rest ≡ []
+no_rest at [] e = refl
+no_rest at (b ∷ bs) e = cc
+
+pub tile_there : ItemLaws → SplitLaws → (limit : ℕ) (b : List ℕ) → fault_within limit b ≡ None → (tile : Tile) × IsTile limit b tile
+tile_there laws splits limit b none =
+    let small = short_there limit b (ltb limit (length b)) refl none in
+    let parts = option_or-nones (first (each field_rules [] (split b).fields)) (first (rest_rules (split b))) (sym (fault_of_short limit b small ∙ first-tile b) ∙ none) in
+    let items = items_there laws (split b).fields [] [] are_none parts.0 in (
+      record { items = items.0 },
+      record {
+        small = small;
+        fields = (split b).fields;
+        whole = subst (Split b (split b).fields) (no_rest (split b).rest_at (split b).rest parts.1) (splits.is b);
+        items = items.1.held;
+        distinct = items.1.distinct;
+      },
+    )
+
+-- the fields of a tile are items
+pub tile_items : SplitLaws → (limit : ℕ) (b : List ℕ) (tile : Tile) → IsTile limit b tile → AreItems (split b).fields tile.items
+tile_items splits limit b tile is = record {
+  held = subst (λ xs. AreRelated HoldsItem (layers_of xs) tile.items) (splits.only b [] is.fields is.whole).0 is.items;
+  distinct = is.distinct;
+}
+
+pub tile_clean : ItemLaws → SplitLaws → (limit : ℕ) (b : List ℕ) (tile : Tile) → IsTile limit b tile → fault_within limit b ≡ None
+tile_clean laws splits limit b tile is =
+    fault_of_short limit b is.small ∙ first-tile b
+    ∙ option_or-none (first (each field_rules [] (split b).fields)) (first (rest_rules (split b))) (are_clean laws (split b).fields tile.items (tile_items splits limit b tile is))
+    ∙ ap (λ r. first (rest_rules_at (split b).rest_at r)) (sym (splits.only b [] is.fields is.whole).1)
+
+one_held : ItemLaws → (x : Entry) (i j : Item) → HoldsItem x i → HoldsItem x j → i ≡ j
+one_held laws x i j h k =
+    let same : h.0 ≡ k.0 = let both : bytes h.0 ≡ bytes k.0 = sym h.1 ∙ k.1 in cc in
+    laws.one k.0 i j (subst (λ d. IsItem d i) same h.2) k.2
+
+pub tile_once : ItemLaws → SplitLaws → (limit : ℕ) (b : List ℕ) (s t : Tile) → IsTile limit b s → IsTile limit b t → s ≡ t
+tile_once laws splits limit b s t is_s is_t =
+    let same : s.items ≡ t.items = related_once HoldsItem (one_held laws) (layers_of (split b).fields) s.items t.items (tile_items splits limit b s is_s).held (tile_items splits limit b t is_t).held in
+    ap (λ (items : List Item). let t : Tile = record { items = items } in t) same
+
+cond_ordered : {F : Type 0} (b : Bool) (xs ys : Rules F) → AreOrdered xs → AreOrdered ys → AreOrdered (cond b xs ys)
+cond_ordered true xs ys h k = h
+cond_ordered false xs ys h k = k
+
+field_ordered : ItemLaws → (front : List Entry) (x : Entry) → AreOrdered (field_rules front x)
+unfolding field_rules
+field_ordered laws front x =
+    cond_ordered (eqb x.number 3) (cond (is_bytes x.content) (rows (layer_rules front x)) (under 0 (when true (outer_fault x.at WrongType)))) []
+    (cond_ordered (is_bytes x.content) (rows (layer_rules front x)) (under 0 (when true (outer_fault x.at WrongType)))
+    (rows_ordered 1 (layer_rules front x) (
+      omega arith,
+      (
+        told_ordered (in_layer (length (layers_of front))) (item_rules (payload_of x) x.body x.at) (laws.ordered (payload_of x) x.body x.at),
+        (omega arith, (when_ordered (repeats (names_before front) (payload_names (payload_of x))) (repeated_at (length (layers_of front)) x.at), tt)),
+      ),
+    ))
+    (tt, tt))
+    tt
+
+each_from : {X F : Type 0} → (rules : List X → X → Rules F) (front xs : List X) → AllFrom (length front) (each rules front xs)
+each_from rules front [] = tt
+each_from rules front (x ∷ xs) =
+    from-append (length front) (under (length front) (rules front x)) (each rules (front ++ x ∷ []) xs) (under_from (length front) (rules front x)) (all_later (length front) (length (front ++ x ∷ [])) (each rules (front ++ x ∷ []) xs) (simp length-append (omega arith)) (each_from rules (front ++ x ∷ []) xs))
+
+-- the rules of elements, and then others under the number behind them
+each_then : {X F : Type 0} → (rules : List X → X → Rules F) (front xs : List X) (n : ℕ) (later : Rules F) → ((seen : List X) (x : X) → AreOrdered (rules seen x)) → AreOrdered later → length front + length xs ≤ n
+    → AreOrdered (each rules front xs ++ under n later)
+each_then rules front [] n later h k le = under_ordered n later k
+each_then rules front (x ∷ xs) n later h k le =
+    let more = each rules (front ++ x ∷ []) xs in
+    subst AreOrdered (sym (append_assoc (under (length front) (rules front x)) more (under n later)))
+    (under_then (length front) (rules front x) (more ++ under n later) (h front x)
+    (each_then rules (front ++ x ∷ []) xs n later h k (simp length-append (omega arith)))
+    (from-append (suc (length front)) more (under n later)
+    (all_later (suc (length front)) (length (front ++ x ∷ [])) more (simp length-append (omega arith)) (each_from rules (front ++ x ∷ []) xs))
+    (all_later (suc (length front)) n (under n later) (omega arith) (under_from n later))))
+
+rest_ordered : (at : ℕ) (rest : List ℕ) → AreOrdered (rest_rules_at at rest)
+rest_ordered at [] = tt
+rest_ordered at (b ∷ bs) = (tt, tt)
+
+pub tile_ordered : ItemLaws → (b : List ℕ) → AreOrdered (tile_rules b)
+unfolding tile_rules
+tile_ordered laws b =
+    each_then field_rules [] (split b).fields (length (split b).fields) (under 0 (rest_rules (split b))) (field_ordered laws)
+    (under_ordered 0 (rest_rules (split b)) (rest_ordered (split b).rest_at (split b).rest)) (omega arith)
+
+pub tile_least : ItemLaws → (limit : ℕ) (b : List ℕ) (f : Fault) → length b ≤ limit → (fault_within limit b ≡ Some f) ↔ IsLeast (tile_rules b) f
+tile_least laws limit b f small = (
+  λ e. first_is_least (tile_rules b) f (tile_ordered laws b) (sym (fault_of_short limit b small) ∙ e),
+  λ h. fault_of_short limit b small ∙ least_is_first (tile_rules b) f (tile_ordered laws b) h,
+)

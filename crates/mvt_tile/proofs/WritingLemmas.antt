@@ -1,0 +1,93 @@
+-- Items written one after the other.
+use Rattle.std.proofs.Common.{◌≡◌, ℕ, zero, suc, ◌+◌, ◌<◌, ◌≤◌, List, [], ◌∷◌, ◌++◌, length, map, take, drop, get_or, Option, Result, Ok, Err, OnErr, OnOk, IfOk, refl, sym, ap, ap₂, subst, ◌∙◌, arith, append_assoc, append-nil, length-append, take-append-drop}
+use Rattle.std.specs.List.{AllByRecursion, flat_map}
+use Rattle.std.specs.Prelude.{IsErrOf}
+use Rattle.std.proofs.lemmas.List.{take_more, take_all, map-append}
+use Rattle.std.proofs.lemmas.Grind.{flat_map-append}
+use Rattle.std.specs.Io.KnownBytes.{Appends, Keeps}
+use Rattle.std.proofs.KnownBytes.{Appends-trans}
+use Rattle.mvt_wire.specs.Field.{bytes}
+use Rattle.mvt_wire.specs.Spelling.{Plain, short_field, spelled}
+use Rattle.mvt_message.specs.declared.item.Item.{Item}
+use Rattle.mvt_message.specs.CanonicalItems.{canonical_item}
+use Rattle.mvt_tile.specs.Inner.{WritingLaws}
+use Rattle.mvt_message.specs.declared.put_error.PutError.{PutError}
+use Rattle.mvt_message.specs.declared.put_error.PutError.TheVariants as put
+use Rattle.mvt_tile.specs.declared.write_error.WriteError.TheVariants as write
+use Rattle.mvt_tile.specs.declared.tile.Tile.{Tile}
+use Rattle.mvt_tile.specs.CanonicalTiles.{item_field, canonical}
+use Rattle.mvt_tile.specs.Tiles.{IsTile}
+use Rattle.mvt_tile.specs.ValidTiles.{Valid}
+use Rattle.mvt_tile.specs.Writing.{write_error}
+use Rattle.mvt_tile.proofs.CanonicalLemmas.{canonical_reads}
+
+abbrev pub written : List Item → List ℕ
+written items = spelled (map item_field items)
+
+abbrev pub field_of : Item → List ℕ
+field_of item = short_field 3 (bytes (canonical_item item))
+
+pub written-append : (xs ys : List Item) → written (xs ++ ys) ≡ written xs ++ written ys
+written-append xs ys =
+    ap spelled (map-append item_field xs ys) ∙ flat_map-append (λ (f : Plain). short_field f.number f.content) (map item_field xs) (map item_field ys)
+
+written_one : (item : Item) → written (item ∷ []) ≡ field_of item
+written_one item = append-nil (field_of item)
+
+pub written_more : (items : List Item) (i : ℕ) (item : Item) → i < length items → item ≡ get_or items i item → written (take (i + 1) items) ≡ written (take i items) ++ field_of item
+written_more items i item h is =
+    ap written (take_more items i item h ∙ ap (λ x. take i items ++ x ∷ []) (sym is)) ∙ written-append (take i items) (item ∷ []) ∙ ap (λ b. written (take i items) ++ b) (written_one item)
+
+-- the whole, round the field of one item
+pub written_parts : (items : List Item) (i : ℕ) (item : Item) → i < length items → item ≡ get_or items i item
+    → written items ≡ written (take i items) ++ (field_of item ++ written (drop (i + 1) items))
+written_parts items i item h is =
+    ap written (sym (take-append-drop (i + 1) items)) ∙ written-append (take (i + 1) items) (drop (i + 1) items)
+    ∙ ap (λ b. b ++ written (drop (i + 1) items)) (written_more items i item h is) ∙ append_assoc (written (take i items)) (field_of item) (written (drop (i + 1) items))
+
+pub written_all : (items : List Item) (i : ℕ) → length items ≤ i → written (take i items) ≡ written items
+written_all items i h = ap written (take_all i items h)
+
+-- a front of the items has no more bytes
+pub written_within : (items : List Item) (i : ℕ) → length (written (take i items)) ≤ length (written items)
+written_within items i =
+    let whole : length (written items) ≡ length (written (take i items)) + length (written (drop i items)) =
+    ap length (ap written (sym (take-append-drop i items)) ∙ written-append (take i items) (drop i items)) ∙ length-append (written (take i items)) (written (drop i items)) in
+    omega arith
+
+-- an item's payload has fewer bytes than the whole
+pub payload_within : WritingLaws → (items : List Item) (i : ℕ) (item : Item) → i < length items → item ≡ get_or items i item → length (canonical_item item) ≤ length (written items)
+payload_within laws items i item h is =
+    let size = ap length (written_parts items i item h is) in
+    let outer = length-append (written (take i items)) (field_of item ++ written (drop (i + 1) items)) in
+    let inner = length-append (field_of item) (written (drop (i + 1) items)) in
+    let longer = laws.longer 3 (canonical_item item) in
+    omega arith
+
+-- what holds of each holds of one
+pub all_at : {X : Type 0} → (P : X → Type 0) (xs : List X) (i : ℕ) (x : X) → AllByRecursion P xs → i < length xs → x ≡ get_or xs i x → P x
+all_at P [] i x h lt is = absurd (omega arith)
+all_at {X} P (y ∷ ys) zero x h lt is = subst P (sym is) h.0
+all_at {X} P (y ∷ ys) (suc i) x h lt is = all_at P ys i x h.1 (omega arith) is
+
+pub canonical_is : (tile : Tile) (items : List Item) → items ≡ tile.items → canonical tile ≡ written items
+unfolding canonical
+canonical_is tile items is = ap written (sym is)
+
+pub encoded_reads : {V E : Type 0} → WritingLaws → (tile : Tile) (of : V → List ℕ) (r : Result V E) → Valid tile → IfOk r (λ b. of b ≡ canonical tile) → IfOk r (λ b. length (of b) ≤ 67108864)
+    → IfOk r (λ b. IsTile 67108864 (of b) tile)
+encoded_reads laws tile of (Err e) valid put small = tt
+encoded_reads laws tile of (Ok b) valid put small =
+    subst (λ s. IsTile 67108864 s tile) (sym put) (canonical_reads laws 67108864 refl tile valid (subst (λ s. length s ≤ 67108864) put small))
+
+pub on_err : {T E P : Type 0} (r : Result T E) → P → OnErr r P
+on_err (Ok x) p = tt
+on_err (Err e) p = p
+
+pub on_ok : {T E P : Type 0} (r : Result T E) → P → OnOk r P
+on_ok (Ok x) p = p
+on_ok (Err e) p = tt
+
+pub put_large : (e : PutError) → write_error e ≡ write.TooLarge → e ≡ put.TooLarge
+put_large put.Memory h = cc
+put_large put.TooLarge h = refl

@@ -1,0 +1,10 @@
+use Rattle.std.proofs.Common.{◌≡◌, ◌+◌, ◌≤◌}
+use Rattle.mvt_tile.specs.Inner.Taking.{HasTaken}
+use Rattle.mvt_tile.proofs.reading.feed_all.Given as goal
+
+abbrev pub invariant-loop-turn : goal.invariant-loop-turn
+invariant-loop-turn g l = record {
+  has : HasTaken 67108864 (g.R.Source.left l.initial.reader) (g.R.Source.left l.reader) l.decoder l._turn;
+  reads : g.R.Source.reads l.reader ≤ g.R.Source.reads l.initial.reader + l._turn;
+  honest : g.R.Source.failed l.reader ≡ g.R.Source.failed l.initial.reader;
+}

@@ -1,0 +1,16 @@
+use Rattle.std.proofs.lemmas.Result.{err_from_is_err_and}
+use Rattle.mvt_tile.proofs.TakingLemmas.{stopped_told, stopped_early, taken_early, taken_tile, taken_fault}
+use Rattle.mvt_tile.proofs.reading.read_tile.Goals as goal
+
+pub returns-in_err-feed_all-clause-fault : goal.returns-in_err-feed_all-clause-fault
+returns-in_err-feed_all-clause-fault g c =
+    let p = err_from_is_err_and c.from_residual.result c.from_residual.ensures.1 in
+    rw (p.1, p.2) (stopped_told c.split_laws.ensures 67108864 65536 _ _ _ c.in_err-feed_all.ensures.stopped)
+
+pub returns-in_err-feed_all-clause-early : goal.returns-in_err-feed_all-clause-early
+returns-in_err-feed_all-clause-early g c =
+    stopped_early c.split_laws.ensures 67108864 65536 _ _ _ c.in_err-feed_all.ensures.stopped
+
+pub returns-clause-early : goal.returns-clause-early
+returns-clause-early g c =
+    taken_early c.split_laws.ensures 67108864 65536 _ _ _ _ c.in_ok-feed_all.ensures.taken

@@ -1,0 +1,26 @@
+-- The layers of a tile that are named, and the first name that none has.
+use Rattle.std.specs.Prelude.{◌≡◌, ℕ, Bool, false, not, List, filter, bytes_eq, Option, Some, None}
+use Rattle.std.specs.List.{list_any, position_from}
+use Rattle.mvt_message.specs.declared.item.Item.{Item}
+use Rattle.mvt_message.specs.declared.item.Item.TheVariants.{Layer, Foreign}
+use Rattle.mvt_tile.specs.declared.tile.Tile.{Tile}
+use Rattle.mvt_tile.specs.declared.extract_error.ExtractError.{ExtractError}
+use Rattle.mvt_tile.specs.declared.extract_error.ExtractError.TheVariants.{Memory, MissingLayer}
+
+-- a layer of version 2 of this name
+abbrev pub is_named : List ℕ → Item → Bool
+is_named name (Layer layer) = bytes_eq name layer.name
+is_named name (Foreign version bytes) = false
+
+-- the layers of version 2 whose name is among the names, in the order of the tile
+abbrev pub pick : Tile → List (List ℕ) → Tile
+pick tile names = record { items = filter (λ item. list_any (λ name. is_named name item) names) tile.items }
+
+-- the position of the first name that no layer of version 2 has
+abbrev pub first_missing : Tile → List (List ℕ) → Option ℕ
+first_missing tile names = position_from (λ name. not (list_any (is_named name) tile.items)) 0 names
+
+-- want of memory only where each name is there
+abbrev pub TellsMissing : ExtractError → Option ℕ → Type 0
+TellsMissing Memory missing = missing ≡ None
+TellsMissing (MissingLayer index) missing = missing ≡ Some index

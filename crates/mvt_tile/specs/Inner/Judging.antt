@@ -1,0 +1,64 @@
+-- What the private calls of a decoder promise each other.
+use Rattle.std.specs.Prelude.{◌≡◌, ℕ, ◌+◌, ◌≤◌, List, ◌++◌, length, drop, bytes_eq, Option, Some, None}
+use Rattle.std.specs.List.{AllByRecursion, list_any, flat_map}
+use Rattle.std.specs.Option.{option_or, option_map}
+use Rattle.mvt_base.specs.Rules.{when, each, first}
+use Rattle.mvt_wire.specs.declared.fault.WireCause.TheVariants.{Truncated}
+use Rattle.mvt_wire.specs.Field.{Entry}
+use Rattle.mvt_wire.specs.Fronts.{rest_cause}
+use Rattle.mvt_wire.specs.Split.{Parts, split_from}
+use Rattle.mvt_feature.specs.declared.cause.Cause.TheVariants.{RepeatedName}
+use Rattle.mvt_feature.specs.declared.message_error.MessageError.{MessageError}
+use Rattle.mvt_feature.specs.declared.message_error.MessageError.TheVariants as message
+use Rattle.mvt_message.specs.declared.item.Item.{Item}
+use Rattle.mvt_message.specs.ItemRules.{item_fault, payload_names}
+use Rattle.mvt_message.specs.Items.{names_in}
+use Rattle.mvt_message.specs.ValidItems.{ValidItem}
+use Rattle.mvt_tile.specs.declared.fault.Fault.{Fault as AFault}
+use Rattle.mvt_tile.specs.declared.fault.DecodeError.{DecodeError}
+use Rattle.mvt_tile.specs.declared.fault.DecodeError.TheVariants.{Memory, Fault}
+use Rattle.mvt_tile.specs.Faults.{in_layer}
+use Rattle.mvt_tile.specs.TileRules.{repeats, field_rules, rest_rules}
+use Rattle.mvt_tile.specs.Tiles.{AreItems, HasDistinctNames}
+use Rattle.mvt_tile.specs.Streams.{Tells}
+
+-- items, each valid, with the set of their names, which are distinct
+pub record AreKept (names : List (List ℕ)) (items : List Item) : Type 0 where
+  pub named : (n : List ℕ) → list_any (bytes_eq n) names ≡ list_any (bytes_eq n) (flat_map names_in items)
+  pub valid : AllByRecursion ValidItem items
+  pub distinct : HasDistinctNames items
+
+abbrev pub repeated_at : ℕ → ℕ → AFault
+repeated_at n at = record { layer = Some n; feature = None; at = at; cause = RepeatedName }
+
+-- the fault of a payload as a layer of this index tells it, or that of a repeated name
+abbrev pub payload_fault : ℕ → List (List ℕ) → List ℕ → ℕ → ℕ → Option AFault
+payload_fault n names d body at =
+    option_or (option_map (in_layer n) (item_fault d body at)) (first (when (repeats names (payload_names d)) (repeated_at n at)))
+
+-- an error of a payload, as the layer of this index tells it
+abbrev pub told_in : ℕ → MessageError → DecodeError
+told_in n message.Memory = Memory
+told_in n (message.Fault feature at cause) = Fault (record { layer = Some n; feature = feature; at = at; cause = cause })
+
+-- a field of a slice that stands at this place of the input
+abbrev pub shifted : ℕ → Entry → Entry
+shifted offset x = record { at = offset + x.at; body = offset + x.body; number = x.number; content = x.content }
+
+-- the first fault of fields behind others, or of their rest
+abbrev pub fault_behind : List Entry → Parts → Option AFault
+fault_behind front parts = option_or (first (each field_rules front parts.fields)) (first (rest_rules parts))
+
+-- so many bytes are whole fields, which are items behind whatever fields are the old items; the rest is unfinished
+pub record IsJudged (offset : ℕ) (bytes : List ℕ) (old new : List Item) (used : ℕ) : Type 0 where
+  pub place : (split_from offset bytes).rest_at ≡ offset + used
+  pub within : used ≤ length bytes
+  pub rest : (split_from offset bytes).rest ≡ drop used bytes
+  pub unfinished : rest_cause (drop used bytes) ≡ Truncated
+  pub items_are : (front : List Entry) → AreItems front old → AreItems (front ++ (split_from offset bytes).fields) new
+  pub few : length new ≤ length old + used
+
+-- an error tells the fault of the bytes, behind whatever fields are the items
+abbrev pub TellsBehind : DecodeError → ℕ → List ℕ → List Item → Type 0
+TellsBehind error offset bytes items =
+    (front : List Entry) → AreItems front items → Tells error (fault_behind front (split_from offset bytes))

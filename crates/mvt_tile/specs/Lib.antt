@@ -1,0 +1,11 @@
+pub mod Faults
+pub mod TileRules
+pub mod Tiles
+pub mod CanonicalTiles
+pub mod ValidTiles
+pub mod Inner
+pub mod Streams
+pub mod Reading
+pub mod Writing
+pub mod Extraction
+pub mod Notes

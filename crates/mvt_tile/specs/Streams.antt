@@ -1,0 +1,54 @@
+-- What a decoder stands for: a stream that comes in pieces.
+use Rattle.std.specs.Prelude.{◌≡◌, ℕ, ◌≤◌, true, false, List, [], length, Option, Some, None, Result, Ok, Err, ⊤}
+use Rattle.mvt_wire.specs.Split.{split}
+use Rattle.mvt_message.specs.declared.item.Item.{Item}
+use Rattle.mvt_tile.specs.declared.fault.Fault.{Fault as AFault}
+use Rattle.mvt_tile.specs.declared.fault.DecodeError.{DecodeError}
+use Rattle.mvt_tile.specs.declared.fault.DecodeError.TheVariants.{Memory, Fault, Read}
+use Rattle.mvt_tile.specs.Faults.{is_open}
+use Rattle.mvt_tile.specs.TileRules.{fault_within}
+use Rattle.mvt_tile.specs.Tiles.{AreItems}
+
+-- a decoder: the error that it answers for good, the items so far, and the bytes behind the last whole field, with their place
+pub record Decoding : Type 0 where
+  pub failure : Option DecodeError
+  pub items : List Item
+  pub raw : List ℕ
+  pub offset : ℕ
+
+-- no fault, or that of a field that isn't finished
+abbrev pub IsCalm : Option AFault → Type 0
+IsCalm o = (f : AFault) → o ≡ Some f → is_open f ≡ true
+
+-- a decoder that hasn't failed: the bytes are the rest of the stream, the items are its whole fields
+pub record IsLive (limit offset : ℕ) (items : List Item) (raw stream : List ℕ) : Type 0 where
+  pub small : length stream ≤ limit
+  pub rest : (split stream).rest ≡ raw
+  pub place : (split stream).rest_at ≡ offset
+  pub items_are : AreItems (split stream).fields items
+  pub calm : IsCalm (fault_within limit stream)
+
+-- an error that no byte behind the stream can change; want of memory says nothing of the stream
+abbrev pub Tells : DecodeError → Option AFault → Type 0
+Tells Memory fault = ⊤
+Tells (Fault f) fault = (fault ≡ Some f) × (is_open f ≡ false)
+Tells (Read kind) fault = ⊥
+
+-- an error at the end of the stream
+abbrev pub TellsAtEnd : DecodeError → Option AFault → Type 0
+TellsAtEnd Memory fault = ⊤
+TellsAtEnd (Fault f) fault = fault ≡ Some f
+TellsAtEnd (Read kind) fault = ⊥
+
+abbrev pub StandsAs : ℕ → Option DecodeError → Decoding → List ℕ → Type 0
+StandsAs limit None decoder stream = IsLive limit decoder.offset decoder.items decoder.raw stream
+StandsAs limit (Some error) decoder stream = (decoder.raw ≡ []) × Tells error (fault_within limit stream)
+
+-- the decoder stands for this stream
+abbrev pub StandsFor : ℕ → Decoding → List ℕ → Type 0
+StandsFor limit decoder stream = StandsAs limit decoder.failure decoder stream
+
+-- a call answers the error that the decoder keeps, or Ok where there is none
+abbrev pub Answers : Option DecodeError → Result (Unit {0}) DecodeError → Type 0
+Answers None result = result ≡ Ok tt
+Answers (Some error) result = result ≡ Err error

@@ -1,0 +1,135 @@
+//! The layers of a tile that are named, and whether a tile can be written.
+ghost use Rattle.std.specs.Prelude.{◌≡◌, ◌↔◌, ℕ, List, [], ◌∷◌, ◌++◌, map, not, if◌then◌else◌, None, IsTrue, IfOk, IfErr, OnOk, string_bytes};
+ghost use Rattle.std.specs.List.{AllByRecursion, flat_map, list_any, position_from};
+ghost use Rattle.mvt_message.specs.Items.{names_in};
+ghost use Rattle.mvt_message.specs.ValidItems.{ValidItem};
+ghost use Rattle.mvt_tile.specs.Extraction.{is_named, pick, first_missing, TellsMissing};
+ghost use Rattle.mvt_tile.specs.TileRules.{repeats};
+ghost use Rattle.mvt_tile.specs.Tiles.{HasDistinctNames};
+ghost use Rattle.mvt_tile.specs.ValidTiles.{Valid};
+
+use crate::extract_error::ExtractError;
+use crate::tile::Tile;
+use mvt_base::Items;
+use mvt_message::{Item, is_valid_item};
+use std::alloc::{AllocError, Global};
+
+/// The layers of version 2 that are named, in the order of the tile. Foreign items are left out, and
+/// a name that stands twice counts once.
+///
+/// # Errors
+///
+/// A name that no layer of version 2 has, which is looked for before any memory is taken; want of
+/// memory.
+pub fn extract(alloc: Global, tile: &Tile, names: &[String]) -> Result<Tile, ExtractError>
+    ensures pick { IfOk result (λ picked. picked ≡ pick tile.now (map string_bytes names.now)) }
+    ensures there { OnOk result (first_missing tile.now (map string_bytes names.now) ≡ None) }
+    ensures missing { IfErr result (λ error. TellsMissing error (first_missing tile.now (map string_bytes names.now))) }
+{
+    let items = tile.items.as_slice();
+    if let Some(index) = missing_name(items, names) {
+        return Err(ExtractError::MissingLayer(index));
+    }
+    let mut picked = Vec::new(alloc);
+    for item in items {
+        add_picked(alloc, &mut picked, item, names)?;
+    }
+    Ok(Tile {
+        items: Items::new(picked),
+    })
+}
+
+/// Adds a copy of an item that is named.
+fn add_picked(
+    alloc: Global,
+    picked: &mut Vec<Item>,
+    item: &Item,
+    names: &[String],
+) -> Result<(), AllocError>
+    ensures { OnOk result (picked.new.items ≡ picked.old.items
+        ++ (if list_any (λ name. is_named name item.now) (map string_bytes names.now) then item.now ∷ [] else [])) }
+{
+    if is_picked(item, names) {
+        picked.push(item.copy(alloc)?)?;
+    }
+    Ok(())
+}
+
+/// The position of the first name that no layer has.
+fn missing_name(items: &[Item], names: &[String]) -> Option<usize>
+    ensures { result ≡ position_from (λ name. not (list_any (is_named name) items.now)) 0 (map string_bytes names.now) }
+{
+    for (index, name) in names.iter().enumerate() {
+        if !has_layer(items, name.as_str()) {
+            return Some(index);
+        }
+    }
+    None
+}
+
+fn has_layer(items: &[Item], name: &str) -> bool
+    ensures { result ≡ list_any (is_named name.now) items.now }
+{
+    items.iter().any(|item| has_name(item, name))
+}
+
+fn is_picked(item: &Item, names: &[String]) -> bool
+    ensures { result ≡ list_any (λ name. is_named name item.now) (map string_bytes names.now) }
+{
+    for name in names {
+        if has_name(item, name.as_str()) {
+            return true;
+        }
+    }
+    false
+}
+
+fn has_name(item: &Item, name: &str) -> bool
+    ensures { result ≡ is_named name.now item.now }
+{
+    match item {
+        Item::Layer(layer) => name == layer.name.as_str(),
+        Item::Foreign { .. } => false,
+    }
+}
+
+/// Whether a tile can be written. It takes no memory.
+pub fn is_valid(tile: &Tile) -> bool
+    ensures { IsTrue result ↔ Valid tile.now }
+{
+    let items = tile.items.as_slice();
+    are_valid(items) && are_distinct(items)
+}
+
+fn are_valid(items: &[Item]) -> bool
+    ensures { IsTrue result ↔ AllByRecursion ValidItem items.now }
+{
+    for item in items {
+        if !is_valid_item(item) {
+            return false;
+        }
+    }
+    true
+}
+
+/// Whether no two layers have one name.
+fn are_distinct(items: &[Item]) -> bool
+    ensures { IsTrue result ↔ HasDistinctNames items.now }
+{
+    for (index, item) in items.iter().enumerate() {
+        if is_repeated(&items[..index], item) {
+            return false;
+        }
+    }
+    true
+}
+
+/// Whether the name of an item stands in one before it.
+fn is_repeated(before: &[Item], item: &Item) -> bool
+    ensures { result ≡ repeats (flat_map names_in before.now) (names_in item.now) }
+{
+    match item {
+        Item::Layer(layer) => has_layer(before, layer.name.as_str()),
+        Item::Foreign { .. } => false,
+    }
+}

@@ -1,0 +1,91 @@
+//! The items that were read so far, with the names of the layers among them.
+ghost use Rattle.std.specs.Prelude.{◌≡◌, ◌∷◌, ◌++◌, ◌||◌, ℕ, List, [], length, not, bytes_eq, IfOk, OnErr, IsTrue};
+ghost use Rattle.std.specs.Bool.{OnFalse};
+ghost use Rattle.std.specs.List.{AllByRecursion, flat_map, list_any};
+ghost use Rattle.mvt_message.specs.Items.{names_in};
+ghost use Rattle.mvt_message.specs.ValidItems.{ValidItem};
+ghost use Rattle.mvt_tile.specs.TileRules.{repeats};
+ghost use Rattle.mvt_tile.specs.Tiles.{HasDistinctNames};
+
+use mvt_base::Text;
+use mvt_message::Item;
+use std::alloc::{AllocError, Global};
+use std::collections::HashSet;
+use std::marker::Model;
+
+/// The items so far. A hashed set of the names beside them tells a repeated one without a walk.
+#[derive(Drop)]
+pub(crate) struct Layers {
+    items: Vec<Item>,
+    names: HashSet<Text>,
+}
+
+impl Model for Layers {
+    ghost use Rattle.std.specs.Prelude.{List};
+    ghost use Rattle.mvt_message.specs.declared.item.Item.{Item};
+    ghost use Rattle.mvt_tile.specs.Inner.Judging.{AreKept};
+
+    ghost Value = { List Item };
+
+    ghost view = { λ l. l.items.items };
+
+    ghost invariant = { λ l. AreKept l.names.keys l.items.items };
+}
+
+impl Layers {
+    /// No items, without memory.
+    pub(crate) fn new(alloc: Global) -> Self
+        ensures { result ≡ [] }
+    {
+        Layers {
+            items: Vec::new(alloc),
+            names: HashSet::new(alloc),
+        }
+    }
+
+    pub(crate) fn len(&self) -> usize
+        ensures { result ≡ length self.now }
+    {
+        self.items.len()
+    }
+
+    pub(crate) fn into_items(self) -> Vec<Item>
+        ensures items { result.items ≡ self }
+        ensures valid { AllByRecursion ValidItem self }
+        ensures distinct { HasDistinctNames self }
+    {
+        let Layers { items, .. } = self;
+        items
+    }
+
+    /// Adds an item, but for a layer whose name is there. Answers whether it did.
+    pub(crate) fn add(&mut self, item: Item) -> Result<bool, AllocError>
+        requires { ValidItem item }
+        ensures added { IfOk result (λ added. added ≡ not (repeats (flat_map names_in self.old) (names_in item))) }
+        ensures items { IfOk result (λ added. IsTrue added → self.new ≡ self.old ++ item ∷ []) }
+    {
+        self.items.reserve(1)?;
+        let added = add_names(*self.items.allocator(), &mut self.names, &item)?;
+        if added {
+            self.items.push(item).unwrap();
+        }
+        Ok(added)
+    }
+}
+
+/// Adds the name of a layer to the names, and answers whether it is new. A foreign item has none.
+fn add_names(alloc: Global, names: &mut HashSet<Text>, item: &Item) -> Result<bool, AllocError>
+    ensures new { IfOk result (λ new. new ≡ not (repeats names.old.keys (names_in item.now))) }
+    ensures named { IfOk result (λ new. IsTrue new → (n : List ℕ) → list_any (bytes_eq n) names.new.keys
+        ≡ (list_any (bytes_eq n) names.old.keys || list_any (bytes_eq n) (names_in item.now))) }
+    ensures same { IfOk result (λ new. OnFalse new (names.new.keys ≡ names.old.keys)) }
+    ensures err { OnErr result (names.new.keys ≡ names.old.keys) }
+{
+    match item {
+        Item::Foreign { .. } => Ok(true),
+        Item::Layer(layer) => {
+            let name = layer.name.copy(alloc)?;
+            Ok(names.insert(name)?)
+        }
+    }
+}

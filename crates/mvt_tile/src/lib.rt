@@ -1,0 +1,31 @@
+//! Mapbox vector tiles: reading, writing, streaming, extraction, notes.
+#![tactic(auto)]
+
+mod below;
+mod decoder;
+mod extract_error;
+mod extraction;
+mod fault;
+mod judge;
+pub mod laws;
+mod layers;
+mod note;
+mod noting;
+mod reading;
+mod round_trip;
+mod tile;
+mod write_error;
+mod writing;
+
+pub use decoder::{TileDecoder, decode};
+pub use extract_error::ExtractError;
+pub use extraction::{extract, is_valid};
+pub use fault::{DecodeError, Fault};
+pub use mvt_message::PutError;
+pub use note::Note;
+pub use noting::notes;
+pub use reading::read_tile;
+pub use round_trip::write_and_read;
+pub use tile::Tile;
+pub use write_error::WriteError;
+pub use writing::{encode, write_tile};

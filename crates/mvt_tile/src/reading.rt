@@ -1,0 +1,82 @@
+//! Reading a tile from a reader.
+ghost use Rattle.std.specs.Prelude.{◌≡◌, ℕ, ◌+◌, ◌<◌, ◌≤◌, List, [], length, Err, None, IfOk, IfErr, IfSome, OnOk, OnErr};
+ghost use Rattle.std.specs.Io.KnownBytes.{IsAtEnd};
+ghost use Rattle.mvt_io.specs.Counts.{HasFailed};
+ghost use Rattle.mvt_tile.specs.Inner.Taking.{HasTaken, HasStopped};
+ghost use Rattle.mvt_tile.specs.Reading.{IsReadError, IsKindOf, StopsEarly, TellsInput};
+ghost use Rattle.mvt_tile.specs.Streams.{StandsFor};
+ghost use Rattle.mvt_tile.specs.TileRules.{fault_within};
+ghost use Rattle.mvt_tile.specs.Tiles.{IsTile};
+ghost use Rattle.mvt_tile.specs.ValidTiles.{Valid};
+
+use crate::below;
+use crate::decoder::TileDecoder;
+use crate::fault::DecodeError;
+use crate::tile::Tile;
+use mvt_base::LIMIT;
+use mvt_io::Source;
+use std::alloc::Global;
+
+/// The most bytes that one read asks for.
+const PIECE: usize = 65_536;
+
+/// The most reads: each but the last gives a byte, and a byte beyond the limit ends the call.
+const MOST_READS: u64 = LIMIT + 2;
+
+/// Reads a tile: all that the reader has left. It reads no further after a fault.
+///
+/// # Errors
+///
+/// The input's first fault; a read that failed; want of memory.
+pub fn read_tile<R: Source>(alloc: Global, reader: &mut R) -> Result<Tile, DecodeError>
+    ensures tile { IfOk result (λ tile. IfSome (R.left reader.old) (λ input. IsTile LIMIT input tile)) }
+    ensures valid { IfOk result Valid }
+    ensures end { OnOk result (IsAtEnd (R.left reader.new)) }
+    ensures fault { IfErr result (λ error. IfSome (R.left reader.old)
+        (λ input. TellsInput error (fault_within LIMIT input))) }
+    ensures early { StopsEarly LIMIT 65536 (R.left reader.old) (R.left reader.new) }
+    ensures reads { R.reads reader.new ≤ R.reads reader.old + 67108866 }
+    ensures failed { IfErr result (λ error. IsReadError error
+        → HasFailed (R.failed reader.old) (R.failed reader.new)) }
+    ensures kind { IfErr result (λ error. IsKindOf error (R.fault reader.new)) }
+    ensures honest { OnOk result (R.failed reader.new ≡ R.failed reader.old) }
+{
+    below::split_laws();
+    let mut decoder = TileDecoder::new(alloc);
+    let mut piece = [0; PIECE];
+    feed_all(reader, &mut decoder, &mut piece)?;
+    decoder.finish()
+}
+
+/// Feeds a decoder all that the reader has left, in pieces of the buffer's length at most.
+fn feed_all<R: Source>(
+    reader: &mut R,
+    decoder: &mut TileDecoder,
+    buffer: &mut [u8],
+) -> Result<(), DecodeError>
+    requires room { 0 < length buffer.old }
+    requires few { length buffer.old ≤ 65536 }
+    requires fresh { decoder.old.failure ≡ None }
+    requires stands { StandsFor LIMIT decoder.old [] }
+    ensures taken { OnOk result (HasTaken LIMIT (R.left reader.old) (R.left reader.new) decoder.new 0) }
+    ensures end { OnOk result (IsAtEnd (R.left reader.new)) }
+    ensures stopped { IfErr result (HasStopped LIMIT 65536 (R.left reader.old) (R.left reader.new)) }
+    ensures reads { R.reads reader.new ≤ R.reads reader.old + MOST_READS }
+    ensures failed { IfErr result (λ error. IsReadError error
+        → HasFailed (R.failed reader.old) (R.failed reader.new)) }
+    ensures kind { IfErr result (λ error. IsKindOf error (R.fault reader.new)) }
+    ensures honest { OnOk result (R.failed reader.new ≡ R.failed reader.old) }
+{
+    below::split_laws();
+    for _turn in 0..MOST_READS {
+        let count = match reader.read(buffer) {
+            Ok(count) => count,
+            Err(kind) => return Err(DecodeError::Read(kind)),
+        };
+        if count == 0 {
+            return Ok(());
+        }
+        decoder.feed(&buffer[..count])?;
+    }
+    unreachable!()
+}

@@ -1,0 +1,4 @@
+mod EventLemmas
+mod FrontLemmas
+mod WalkLemmas
+mod WholeLemmas

@@ -1,0 +1,4 @@
+pub mod FaultLines
+pub mod FieldLines
+pub mod JsonForms
+pub mod Reports

@@ -1,0 +1,20 @@
+//! Texts of tiles: JSON, the lines of top-level fields, faults and reports.
+#![tactic(auto)]
+
+mod fault;
+mod fields;
+pub mod laws;
+mod parts;
+mod report;
+mod shown;
+mod tile_json;
+mod view_error;
+
+pub use fault::fault_text;
+pub use fields::{FieldsText, fields_text};
+pub use report::report_text;
+pub use tile_json::{json_of, json_text};
+pub use view_error::ViewError;
+
+#[cfg(test)]
+mod tests;

@@ -1,0 +1,87 @@
+//! The report on a tile that was accepted.
+ghost use Rattle.std.specs.Prelude.{◌≡◌, ◌++◌, OnOk, IfOk, string_bytes};
+ghost use Rattle.std.specs.List.{flat_map, sum_by};
+ghost use Rattle.mvt_view.specs.Reports.{feature_count, head_line, note_line, report_lines};
+
+use crate::view_error::ViewError;
+use mvt_message::Item;
+use mvt_tile::{Note, Tile, notes};
+use std::alloc::{AllocError, Global};
+use std::fmt::Write;
+
+/// A line with the counts of layers and features and whether the tile's bytes were canonical, and
+/// then a line for each note. Each ends in a line feed.
+///
+/// Layers of every version are counted, features of those of version 2 alone.
+pub fn report_text(alloc: Global, tile: &Tile, canonical: bool) -> Result<String, ViewError>
+    ensures { IfOk result (λ text. string_bytes text ≡ report_lines tile.now canonical) }
+{
+    let notes = notes(alloc, tile)?;
+    let mut text = String::new(alloc);
+    push_head(&mut text, tile, canonical)?;
+    push_notes(&mut text, &notes)?;
+    Ok(text)
+}
+
+#[tactic(auto, unfolding(crate::specs::Reports::head_line))]
+fn push_head(text: &mut String, tile: &Tile, canonical: bool) -> Result<(), AllocError>
+    ensures { OnOk result (string_bytes text.new ≡ string_bytes text.old ++ head_line tile.now canonical) }
+{
+    let layers = tile.items.as_slice().len();
+    let features = count_features(tile);
+    let answer = if canonical { "yes" } else { "no" };
+    writeln!(
+        text,
+        "ok layers {layers} features {features} canonical {answer}"
+    )
+}
+
+// The sum of so many lengths fits 128 bits; nothing bounds it by 64.
+fn count_features(tile: &Tile) -> u128
+    ensures { result ≡ sum_by feature_count tile.now.items }
+{
+    let items = tile.items.as_slice();
+    let mut count: u128 = 0;
+    for item in items {
+        if let Item::Layer(layer) = item {
+            count += layer.features.as_slice().len() as u128;
+        }
+    }
+    count
+}
+
+fn push_notes(text: &mut String, notes: &[Note]) -> Result<(), AllocError>
+    ensures { OnOk result (string_bytes text.new ≡ string_bytes text.old ++ flat_map note_line notes.now) }
+{
+    for note in notes {
+        push_note(text, *note)?;
+    }
+    Ok(())
+}
+
+#[tactic(auto, unfolding(crate::specs::Reports::note_line))]
+fn push_note(text: &mut String, note: Note) -> Result<(), AllocError>
+    ensures { OnOk result (string_bytes text.new ≡ string_bytes text.old ++ note_line note) }
+{
+    match note {
+        Note::NoLayers => writeln!(text, "note NoLayers"),
+        Note::Foreign(layer, version) => {
+            writeln!(text, "note Foreign layer {layer} version {version}")
+        }
+        Note::NoFeatures(layer) => writeln!(text, "note NoFeatures layer {layer}"),
+        Note::RepeatedId(layer, feature, earlier) => writeln!(
+            text,
+            "note RepeatedId layer {layer} feature {feature} earlier {earlier}"
+        ),
+        Note::FlatRing(layer, feature, ring) => {
+            writeln!(
+                text,
+                "note FlatRing layer {layer} feature {feature} ring {ring}"
+            )
+        }
+        Note::ClosedTwice(layer, feature, ring) => writeln!(
+            text,
+            "note ClosedTwice layer {layer} feature {feature} ring {ring}"
+        ),
+    }
+}

@@ -1,0 +1,32 @@
+//! Why a text can't be made.
+use std::alloc::AllocError;
+
+/// Why a text can't be made.
+#[derive(Clone, Copy, Debug, PartialEq, Eq)]
+pub enum ViewError {
+    /// A growth was refused memory.
+    Memory,
+}
+
+impl From<AllocError> for ViewError {
+    ghost use Rattle.std.specs.Prelude.{◌≡◌};
+    ghost use Rattle.mvt_view.specs.declared.view_error.ViewError.TheVariants.{Memory};
+
+    ghost from_gives = { λ _ error. error ≡ Memory };
+
+    fn from(_: AllocError) -> Self {
+        ViewError::Memory
+    }
+}
+
+// A tile has no floats and no keys but texts, so serde_json's writer fails for want of memory alone.
+impl From<serde_json::Error> for ViewError {
+    ghost use Rattle.std.specs.Prelude.{◌≡◌};
+    ghost use Rattle.mvt_view.specs.declared.view_error.ViewError.TheVariants.{Memory};
+
+    ghost from_gives = { λ _ error. error ≡ Memory };
+
+    fn from(_: serde_json::Error) -> Self {
+        ViewError::Memory
+    }
+}
