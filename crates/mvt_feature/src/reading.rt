@@ -55,6 +55,7 @@ pub fn read_feature_in(
     ensures ok { OnOk result (feature_fault payload.now base keys.now values.now ≡ None) }
     ensures err { IfErr result (λ error. TellsMessage error (feature_fault payload.now base keys.now values.now)) }
 {
+    // What the proof needs to know of splits and of packed numbers; they do nothing.
     split_function();
     packed_function();
     let known = read_known(payload, base, room)?;

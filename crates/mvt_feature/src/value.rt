@@ -34,6 +34,7 @@ pub fn read_value(alloc: Global, payload: &[u8], base: u64, own: u64) -> Result<
     ensures ok { OnOk result (value_fault payload.now base own ≡ None) }
     ensures err { IfErr result (λ error. TellsMessage error (value_fault payload.now base own)) }
 {
+    // What the proof needs to know of splits; it does nothing.
     split_function();
     match read_kinds(payload, base)? {
         Kinds::One { meaning, .. } => Ok(meaning.into_value(alloc)?),

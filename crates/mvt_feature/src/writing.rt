@@ -35,6 +35,7 @@ pub fn append_value(out: &mut Vec<u8>, value: &Value) -> Result<(), AllocError>
 pub fn value_len(value: &Value) -> u64
     ensures { result ≡ length (spelled (value_fields value.now)) }
 {
+    // What the proof needs to know of short spellings; it does nothing.
     short_lengths();
     match value {
         Value::Text(text) => field_len(1, text.as_str().len() as u64),

@@ -1,12 +1,11 @@
 -- Names that are looked for among items.
-use Rattle.std.proofs.Common.{◌≡◌, ℕ, zero, suc, ◌+◌, ◌<◌, ◌≤◌, Bool, true, false, cond, not, ◌||◌, List, [], ◌∷◌, ◌++◌, length, map, take, drop, get_or, filter, bytes_eq, Option, Some, None, refl, sym, ap, ap₂, subst, ◌∙◌, arith, append_assoc, append-nil, take-append-drop, length-take}
+use Rattle.std.proofs.Common.{◌≡◌, ℕ, ◌+◌, ◌<◌, ◌≤◌, Bool, true, false, cond, not, ◌||◌, List, [], ◌∷◌, ◌++◌, length, map, take, drop, get_or, filter, bytes_eq, Option, Some, None, refl, sym, ap, ap₂, subst, ◌∙◌, arith, append_assoc, take-append-drop, length-take}
 use Rattle.std.specs.List.{AllByRecursion, list_any, flat_map, position_from}
 use Rattle.std.proofs.lemmas.List.{take_more, take_all, map-append, length-map}
 use Rattle.std.proofs.lemmas.List.Folds.{list_any_at, list_any_more}
 use Rattle.mvt_message.specs.declared.item.Item.{Item as AnItem}
 use Rattle.mvt_message.specs.declared.item.Item.TheVariants.{Layer, Foreign}
 use Rattle.mvt_message.specs.Items.{names_in}
-use Rattle.mvt_message.specs.ValidItems.{ValidItem}
 use Rattle.mvt_base.proofs.ListLemmas.{all_joined}
 use Rattle.mvt_tile.specs.Extraction.{is_named}
 use Rattle.mvt_tile.specs.TileRules.{repeats}

@@ -29,3 +29,6 @@ pub use round_trip::write_and_read;
 pub use tile::Tile;
 pub use write_error::WriteError;
 pub use writing::{encode, write_tile};
+
+#[cfg(test)]
+mod tests;

@@ -1,5 +1,5 @@
 -- What a reader gave to a decoder.
-use Rattle.std.specs.Prelude.{◌≡◌, ℕ, ◌≤◌, List, ◌++◌, length, Option, Some, None, ⊤}
+use Rattle.std.specs.Prelude.{◌≡◌, ℕ, ◌≤◌, List, ◌++◌, length, Option, None, ⊤}
 use Rattle.std.specs.Io.KnownBytes.{Consumes}
 use Rattle.mvt_tile.specs.declared.fault.Fault.{Fault as AFault}
 use Rattle.mvt_tile.specs.declared.fault.DecodeError.{DecodeError}

@@ -1,4 +1,4 @@
-use Rattle.std.proofs.Common.{rules, map, string_bytes, refl, ap, ◌++◌, ◌∙◌, sym}
+use Rattle.std.proofs.Common.{rules, map, string_bytes}
 use Rattle.std.specs.List.{list_any}
 use Rattle.std.proofs.lemmas.Result.{err_from_is_err_and}
 use Rattle.mvt_tile.specs.Extraction.{is_named}

@@ -1,4 +1,4 @@
-use Rattle.std.proofs.Common.{◌≡◌, ◌+◌, ◌++◌, length, rules, arith, ap, ap₂, ◌∙◌}
+use Rattle.std.proofs.Common.{◌≡◌, ◌+◌, ◌++◌, length, rules, ap, ap₂, ◌∙◌}
 use Rattle.mvt_tile.specs.Notes.{ring_notes, numbered}
 use Rattle.mvt_tile.proofs.NoteLemmas.{rings_more, rings_count}
 use Rattle.mvt_tile.proofs.noting.note_polygons.Goals as goal

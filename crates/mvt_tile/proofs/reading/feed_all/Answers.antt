@@ -1,6 +1,6 @@
 use Rattle.std.proofs.Common.{rules, arith, refl}
 use Rattle.std.proofs.lemmas.Result.{err_from_is_err_and}
-use Rattle.mvt_tile.proofs.TakingLemmas.{taken_more, taken_fails, taken_read, taken_turns}
+use Rattle.mvt_tile.proofs.TakingLemmas.{taken_more, taken_fails, taken_read}
 use Rattle.mvt_tile.proofs.reading.feed_all.Goals as goal
 
 pub returns-in-Err-clause-stopped : goal.returns-in-Err-clause-stopped

@@ -1,5 +1,5 @@
 use Rattle.std.proofs.lemmas.Result.{err_from_is_err_and}
-use Rattle.mvt_tile.proofs.TakingLemmas.{stopped_told, stopped_early, taken_early, taken_tile, taken_fault}
+use Rattle.mvt_tile.proofs.TakingLemmas.{stopped_told, stopped_early, taken_early}
 use Rattle.mvt_tile.proofs.reading.read_tile.Goals as goal
 
 pub returns-in_err-feed_all-clause-fault : goal.returns-in_err-feed_all-clause-fault

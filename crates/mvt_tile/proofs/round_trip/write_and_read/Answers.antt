@@ -1,4 +1,3 @@
-use Rattle.std.proofs.Common.{◌≡◌, rules}
 use Rattle.mvt_tile.specs.CanonicalTiles.{canonical}
 use Rattle.mvt_tile.proofs.RoundTripLemmas.{reads_back, read_exactly}
 use Rattle.mvt_tile.proofs.round_trip.write_and_read.Goals as goal

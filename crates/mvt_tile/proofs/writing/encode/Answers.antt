@@ -1,4 +1,4 @@
-use Rattle.std.proofs.Common.{ℕ, Vec, Global, arith}
+use Rattle.std.proofs.Common.{ℕ, Vec, Global}
 use Rattle.mvt_tile.proofs.WritingLemmas.{canonical_is, encoded_reads}
 use Rattle.mvt_tile.proofs.writing.encode.Goals as goal
 

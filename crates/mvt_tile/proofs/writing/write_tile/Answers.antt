@@ -1,6 +1,6 @@
-use Rattle.std.proofs.Common.{◌<◌, length, refl, arith, subst, sym}
+use Rattle.std.proofs.Common.{refl, arith}
 use Rattle.std.proofs.lemmas.Result.{err_from_is_err_and}
-use Rattle.mvt_tile.proofs.WritingLemmas.{written, canonical_is, on_ok, put_large}
+use Rattle.mvt_tile.proofs.WritingLemmas.{canonical_is, on_ok, put_large}
 use Rattle.mvt_tile.proofs.writing.write_tile.Goals as goal
 
 pub returns-in_err-items_len-clause-too_large : goal.returns-in_err-items_len-clause-too_large
