@@ -1,14 +1,13 @@
 // Measures mvt_geometry beside the same work by hand in C++: the integers of a feature are judged by
 // every rule and built into lists of points, in one process.
 //
-//   bench/geometry.sh
+//   bench/beside.sh geometry
 //
 // Prints the best of several rounds, in nanoseconds a point, and the ratio.
-#include <chrono>
+#include "measure.hpp"
+
 #include <cstdint>
 #include <cstdio>
-#include <cstdlib>
-#include <functional>
 #include <random>
 #include <vector>
 
@@ -99,25 +98,10 @@ static std::uint64_t polygons(const std::vector<std::uint32_t>& integers) {
     return all.size();
 }
 
-static double best(const std::function<std::uint64_t()>& work, std::uint64_t expected) {
-    double least = 1e9;
-    for (int round = 0; round < 9; ++round) {
-        const auto start = std::chrono::steady_clock::now();
-        const auto answer = work();
-        const auto end = std::chrono::steady_clock::now();
-        if (answer != expected) {
-            std::printf("the answers differ: %llu and %llu\n", static_cast<unsigned long long>(answer), static_cast<unsigned long long>(expected));
-            std::exit(1);
-        }
-        least = std::min(least, std::chrono::duration<double, std::nano>(end - start).count());
-    }
-    return least;
-}
-
 static std::uint32_t zig(std::int64_t n) { return static_cast<std::uint32_t>(n >= 0 ? 2 * n : -2 * n - 1); }
 
 // A list of features, each of so many strokes of so many points.
-static void row(const char* name, std::uint32_t kind, std::size_t features, std::size_t strokes, std::size_t points) {
+static void geometry_row(const char* name, std::uint32_t kind, std::size_t features, std::size_t strokes, std::size_t points) {
     std::mt19937 random{7};
     std::vector<std::vector<std::uint32_t>> all;
     for (std::size_t f = 0; f < features; ++f) {
@@ -146,17 +130,14 @@ static void row(const char* name, std::uint32_t kind, std::size_t features, std:
         for (const auto& g : all) sum += kind == 2 ? lines(g) : polygons(g);
         return sum;
     };
-    const auto expected = theirs();
-    const double count = static_cast<double>(features * strokes * points);
-    const double mine = best(ours, expected) / count, other = best(theirs, expected) / count;
-    std::printf("| %s | %.2f | %.2f | %.2f |\n", name, mine, other, other / mine);
+    row(name, features * strokes * points, ours, theirs);
 }
 
 int main() {
     std::printf("| What | mvt_geometry, ns a point | C++, ns a point | speed |\n|---|---|---|---|\n");
-    row("lines of 10,000 points", 2, 200, 1, 10'000);
-    row("lines of 10 points", 2, 100'000, 1, 10);
-    row("100 lines of 10 points a feature", 2, 1'000, 100, 10);
-    row("rings of 10,000 points", 3, 200, 1, 10'000);
-    row("100 rings of 5 points a feature", 3, 2'000, 100, 5);
+    geometry_row("lines of 10,000 points", 2, 200, 1, 10'000);
+    geometry_row("lines of 10 points", 2, 100'000, 1, 10);
+    geometry_row("100 lines of 10 points a feature", 2, 1'000, 100, 10);
+    geometry_row("rings of 10,000 points", 3, 200, 1, 10'000);
+    geometry_row("100 rings of 5 points a feature", 3, 2'000, 100, 5);
 }

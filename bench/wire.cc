@@ -1,14 +1,14 @@
 // Measures mvt_wire beside protozero: the same walks over the same bytes, in one process.
 //
-//   bench/wire.sh
+//   bench/beside.sh wire
 //
 // Prints the best of several rounds, in nanoseconds a number or a field, and the ratio.
+#include "measure.hpp"
+
 #include <protozero/pbf_reader.hpp>
 
-#include <chrono>
 #include <cstdint>
 #include <cstdio>
-#include <functional>
 #include <random>
 #include <string>
 #include <vector>
@@ -49,28 +49,6 @@ static std::uint64_t protozero_packed(const std::string& framed) {
         numbers.push_back(number);
     }
     return std::uint64_t{numbers.front()} + numbers.back() + numbers.size();
-}
-
-static double best(const std::function<std::uint64_t()>& work, std::uint64_t expected) {
-    double least = 1e9;
-    for (int round = 0; round < 9; ++round) {
-        const auto start = std::chrono::steady_clock::now();
-        const auto answer = work();
-        const auto end = std::chrono::steady_clock::now();
-        if (answer != expected) {
-            std::printf("the answers differ: %llu and %llu\n", static_cast<unsigned long long>(answer), static_cast<unsigned long long>(expected));
-            std::exit(1);
-        }
-        least = std::min(least, std::chrono::duration<double, std::nano>(end - start).count());
-    }
-    return least;
-}
-
-static void row(const char* name, std::size_t count, const std::function<std::uint64_t()>& ours, const std::function<std::uint64_t()>& theirs) {
-    const auto expected = theirs();
-    const double mine = best(ours, expected) / static_cast<double>(count);
-    const double other = best(theirs, expected) / static_cast<double>(count);
-    std::printf("| %s | %.2f | %.2f | %.2f |\n", name, mine, other, other / mine);
 }
 
 static const unsigned char* start(const std::string& bytes) {

@@ -1,0 +1,12 @@
+#!/usr/bin/env bash
+# Builds mvt_speed and bench/NAME.cc, and runs it: NAME is wire, which wants protozero's headers
+# (Debian: libprotozero-dev), or geometry. Wants g++.
+set -euo pipefail
+cd "$(dirname "$0")/.."
+name=$1
+kit=$(dirname "$(rt doc)")
+(cd crates/mvt_speed && rt lib >/dev/null)
+mkdir -p bench/out
+g++ -std=c++17 -O2 -DNDEBUG -march=x86-64-v2 -o "bench/out/$name" "bench/$name.cc" \
+  crates/mvt_speed/out/libmvt_speed.a "$kit/c/liblibc_c.a"
+"bench/out/$name"
