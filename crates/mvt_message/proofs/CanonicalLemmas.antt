@@ -1,7 +1,7 @@
 -- The canonical payload of a valid item is that item.
-use Rattle.std.proofs.Common.{◌≡◌, ◌≢◌, ℕ, zero, suc, ◌+◌, ◌*◌, ◌^◌, ◌<◌, ◌≤◌, ◌==◌, Bool, true, false, List, [], ◌∷◌, ◌++◌, length, map, Option, Some, None, refl, sym, ap, ap₂, ◌∙◌, subst, arith, append_assoc, append-nil, length-append, lit<, lit≤, if◌then◌else◌}
+use Rattle.std.proofs.Common.{◌≡◌, ℕ, zero, suc, ◌+◌, ◌*◌, ◌^◌, ◌<◌, ◌≤◌, ◌==◌, Bool, true, false, List, [], ◌∷◌, ◌++◌, length, map, Some, None, refl, sym, ap, ap₂, ◌∙◌, subst, arith, append_assoc, append-nil, length-append, lit<, lit≤, if◌then◌else◌}
 use Rattle.std.specs.Prelude.{IsUtf8, Contains, unwrap_or, ⊤}
-use Rattle.std.specs.List.{AllByRecursion, flat_map}
+use Rattle.std.specs.List.{AllByRecursion}
 use Rattle.std.specs.Option.{option_map}
 use Rattle.std.proofs.lemmas.Bool.{eq-eqb}
 use Rattle.std.proofs.lemmas.Grind.{flat_map-append}
@@ -12,22 +12,21 @@ use Rattle.mvt_attrs.specs.declared.value.Value.{Value}
 use Rattle.mvt_attrs.specs.Pools.{key_pool, value_pool}
 use Rattle.mvt_attrs.specs.Tags.{Names}
 use Rattle.mvt_attrs.specs.TagPlaces.{tags_in, IsIn}
-use Rattle.mvt_wire.specs.Field.{Content, varint, bytes, fixed64, fixed32, Entry, wire_type}
+use Rattle.mvt_wire.specs.Field.{Content, varint, bytes, fixed64, fixed32, Entry}
 use Rattle.mvt_wire.specs.Spelling.{Plain, plain_of, short_field, spelled, IsFit, FitsContent, IsWholeAs}
-use Rattle.mvt_wire.specs.Split.{Whole}
 use Rattle.mvt_feature.specs.declared.feature.Feature.{Feature}
 use Rattle.mvt_feature.specs.Canonical.{plain, value_fields, feature_fields}
 use Rattle.mvt_feature.specs.Features.{IsFeatureOf, number_in, number_of}
-use Rattle.mvt_feature.specs.Selection.{only, last_or, last_only, HaveForm}
+use Rattle.mvt_feature.specs.Selection.{only, last_or, HaveForm}
 use Rattle.mvt_feature.specs.Valid.{ValidValue, ValidAttribute, ValidFeature}
 use Rattle.mvt_feature.specs.Values.{IsText, IsValueOf}
 use Rattle.mvt_feature.proofs.FeatureLemmas.{form_only}
 use Rattle.mvt_message.specs.declared.item.Item.{Item as AnItem}
 use Rattle.mvt_message.specs.declared.item.Layer.{Layer as ALayer}
 use Rattle.mvt_message.specs.declared.item.Item.TheVariants.{Layer, Foreign}
-use Rattle.mvt_message.specs.LayerFields.{bytes_of, version_in, name_in, extent_in, keys_in}
-use Rattle.mvt_message.specs.Items.{IsUint32, IsBytes, HoldsValue, HoldsFeature, IsLayer, AreItem, IsItem}
-use Rattle.mvt_message.specs.CanonicalItems.{attributes_of, keys_of, values_of, head_fields, feature_field, key_field, value_field, extent_fields, fields_with, layer_fields, canonical_item}
+use Rattle.mvt_message.specs.LayerFields.{bytes_of, version_in, keys_in}
+use Rattle.mvt_message.specs.Items.{IsUint32, IsBytes, HoldsFeature, IsLayer, IsItem}
+use Rattle.mvt_message.specs.CanonicalItems.{attributes_of, keys_of, values_of, head_fields, extent_fields, fields_with, layer_fields, canonical_item}
 use Rattle.mvt_message.specs.ValidItems.{ValidLayer, AreOfVersion, ValidItem}
 
 -- the contents of the fields of a number

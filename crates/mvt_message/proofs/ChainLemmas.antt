@@ -1,7 +1,7 @@
 -- The fault of an item from its parts.
 use Rattle.std.proofs.Common.{◌≡◌, ℕ, Bool, true, false, List, [], Option, Some, None, refl, sym, ap, ◌∙◌, if◌then◌else◌}
 use Rattle.std.specs.Option.{option_or}
-use Rattle.mvt_base.proofs.RuleLemmas.{option_or-right, option_or-none, option_or-nones, option_or-some}
+use Rattle.mvt_base.proofs.RuleLemmas.{option_or-none, option_or-some}
 use Rattle.mvt_wire.specs.Field.{Entry}
 use Rattle.mvt_wire.specs.Split.{split}
 use Rattle.mvt_feature.specs.declared.message_error.MessageError.{MessageError}

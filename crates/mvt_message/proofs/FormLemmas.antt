@@ -1,12 +1,12 @@
 -- Rules of a field's form, told at its place, and the forms themselves.
-use Rattle.std.proofs.Common.{◌≡◌, ℕ, ◌+◌, ◌^◌, ◌<◌, ◌==◌, Bool, true, false, not, nat_lt, List, [], ◌∷◌, ◌++◌, length, Option, Some, None, refl, sym, ap, ◌∙◌, subst, if◌then◌else◌}
+use Rattle.std.proofs.Common.{◌≡◌, ℕ, ◌+◌, ◌^◌, ◌==◌, Bool, true, false, not, nat_lt, List, [], ◌∷◌, ◌++◌, length, None, refl, sym, ap, ◌∙◌, subst}
 use Rattle.std.specs.Prelude.{IsUtf8}
 use Rattle.std.specs.List.{AllByRecursion}
 use Rattle.std.specs.Option.{option_map}
 use Rattle.std.specs.Str.{is_utf8}
 use Rattle.std.proofs.lemmas.Bool.{ltb-true, lt-ltb, not-false}
 use Rattle.std.proofs.lemmas.Str.{IsUtf8-from_is_utf8}
-use Rattle.mvt_base.specs.Rules.{Rules, AreOrdered, when, under, told, each, first}
+use Rattle.mvt_base.specs.Rules.{Rules, AreOrdered, when, told, each, first}
 use Rattle.mvt_base.proofs.ListLemmas.{all_weaker}
 use Rattle.mvt_base.proofs.OrderLemmas.{when_ordered, told_ordered}
 use Rattle.mvt_base.proofs.RuleLemmas.{first-append, first-under, first-told, first-when_not, option_or-nones, option_or-none}
@@ -14,7 +14,7 @@ use Rattle.mvt_wire.specs.Field.{Content, varint, fixed64, bytes, fixed32, Entry
 use Rattle.mvt_feature.specs.declared.cause.Cause.{Cause}
 use Rattle.mvt_feature.specs.declared.cause.Cause.TheVariants.{WrongType, NumberRange, NotUtf8}
 use Rattle.mvt_feature.specs.Faults.{MessageFault, fault_at}
-use Rattle.mvt_feature.specs.Selection.{only, HaveForm}
+use Rattle.mvt_feature.specs.Selection.{HaveForm}
 use Rattle.mvt_feature.specs.Values.{IsText}
 use Rattle.mvt_feature.specs.ValueRules.{text_rules}
 use Rattle.mvt_feature.proofs.SelectionLemmas.{none_each, each_none}

@@ -1,12 +1,12 @@
 -- The laws of items, from those of values and of features.
-use Rattle.std.proofs.Common.{◌≡◌, ◌≢◌, ℕ, ◌+◌, ◌^◌, ◌<◌, ◌≤◌, ◌==◌, Bool, true, false, List, [], ◌∷◌, length, map, Option, Some, None, refl, sym, ap, ap₂, ◌∙◌, subst, arith, if◌then◌else◌}
-use Rattle.std.specs.Prelude.{is_none, unwrap_or}
+use Rattle.std.proofs.Common.{◌≡◌, ◌≢◌, ℕ, ◌+◌, Bool, true, false, List, [], ◌∷◌, length, Option, Some, None, refl, sym, ap, ap₂, ◌∙◌, subst, arith, if◌then◌else◌}
+use Rattle.std.specs.Prelude.{is_none}
 use Rattle.std.specs.List.{AllByRecursion}
-use Rattle.std.specs.Option.{option_or, option_map, option_to_list}
-use Rattle.std.proofs.lemmas.Bool.{eqb-true, eqb-false, eq-eqb, ne_eqb}
+use Rattle.std.specs.Option.{option_map, option_to_list}
+use Rattle.std.proofs.lemmas.Bool.{eqb-true, eqb-false, ne_eqb}
 use Rattle.mvt_base.specs.Related.{AreRelated}
-use Rattle.mvt_base.specs.Rules.{Rules, AreOrdered, when, told, rows, each, first}
-use Rattle.mvt_base.proofs.ListLemmas.{all_weaker, related_once}
+use Rattle.mvt_base.specs.Rules.{Rules, AreOrdered, first}
+use Rattle.mvt_base.proofs.ListLemmas.{related_once}
 use Rattle.mvt_base.proofs.OrderLemmas.{AreRowsFrom, rows_ordered, each_ordered, told_ordered, when_ordered}
 use Rattle.mvt_base.proofs.RuleLemmas.{first-when_not, option_or-none, option_or-nones}
 use Rattle.mvt_attrs.specs.declared.value.Value.{Value}
@@ -14,7 +14,7 @@ use Rattle.mvt_wire.specs.Field.{Content, varint, fixed64, bytes, fixed32, Entry
 use Rattle.mvt_wire.specs.Split.{Split, Whole, split}
 use Rattle.mvt_feature.specs.declared.cause.Cause.TheVariants.{NoVersion, NoName}
 use Rattle.mvt_feature.specs.declared.feature.Feature.{Feature}
-use Rattle.mvt_feature.specs.Faults.{MessageFault, fault_at, in_feature, rest_rules}
+use Rattle.mvt_feature.specs.Faults.{MessageFault, fault_at, in_feature}
 use Rattle.mvt_feature.specs.Features.{IsFeatureOf, number_in, number_of}
 use Rattle.mvt_feature.specs.FeatureRules.{feature_rules, feature_fault}
 use Rattle.mvt_feature.specs.Selection.{only, last_only, HaveForm}
@@ -30,9 +30,9 @@ use Rattle.mvt_message.specs.declared.item.Item.TheVariants.{Layer, Foreign}
 use Rattle.mvt_message.specs.LayerFields.{bytes_of, version_in, is_two, name_in, extent_in, keys_in, values_in}
 use Rattle.mvt_message.specs.ItemRules.{version_rules, layer_field_rules, value_rules_of, feature_rules_of, layer_table, item_table, item_rules, item_fault, payload_names}
 use Rattle.mvt_message.specs.Items.{IsUint32, HoldsValue, HoldsFeature, IsLayer, AreItem, IsItem, names_in}
-use Rattle.mvt_message.specs.Inner.{rest_fault, versions_fault, no_version_fault, forms_fault, no_name_fault, values_fault, features_fault, head_fault, layer_fault}
+use Rattle.mvt_message.specs.Inner.{forms_fault, no_name_fault, values_fault, features_fault, head_fault, layer_fault}
 use Rattle.mvt_message.proofs.ChainLemmas.{item_chain, layer_chain}
-use Rattle.mvt_message.proofs.FormLemmas.{versions_form, form_versions, AreForms, layer_forms, forms_layer, none_each_told, each_told_none, version_ordered, layer_field_ordered}
+use Rattle.mvt_message.proofs.FormLemmas.{versions_form, form_versions, layer_forms, forms_layer, none_each_told, each_told_none, version_ordered, layer_field_ordered}
 use Rattle.mvt_message.proofs.SaidLemmas.{SplitOnly, values_said}
 
 -- what the levels below give

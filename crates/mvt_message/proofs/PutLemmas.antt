@@ -1,6 +1,6 @@
 -- What is written of a layer so far.
-use Rattle.std.proofs.Common.{◌≡◌, ℕ, ◌+◌, ◌*◌, ◌<◌, ◌≤◌, ◌⊎◌, inl, inr, List, [], ◌∷◌, ◌++◌, length, map, take, drop, get_or, bytes_eq, Option, Some, None, Result, Ok, Err, refl, sym, ap, ap₂, ◌∙◌, subst, arith, append_assoc, append-nil, length-append}
-use Rattle.std.specs.List.{AllByRecursion, flat_map}
+use Rattle.std.proofs.Common.{◌≡◌, ℕ, ◌+◌, ◌<◌, ◌≤◌, ◌⊎◌, inl, inr, List, [], ◌∷◌, ◌++◌, length, map, take, drop, get_or, bytes_eq, refl, sym, ap, ap₂, ◌∙◌, subst, arith, append_assoc, append-nil, length-append}
+use Rattle.std.specs.List.{AllByRecursion}
 use Rattle.std.proofs.lemmas.Grind.{flat_map-append}
 use Rattle.std.proofs.lemmas.List.{map-append, take-append-drop, take_more}
 use Rattle.std.proofs.lemmas.Slice.Eq.{bytes_eq-Decides}
@@ -19,18 +19,18 @@ use Rattle.mvt_attrs.proofs.EqualityLemmas.{equal_values-Decides}
 use Rattle.mvt_attrs.proofs.FirstUseLemmas.{first_use-distinct}
 use Rattle.mvt_attrs.proofs.PlaceLemmas.{pool_by_parts, pool_grows, names_places}
 use Rattle.mvt_geometry.specs.Valid.{IsValid}
-use Rattle.mvt_wire.specs.Field.{bytes, varint}
+use Rattle.mvt_wire.specs.Field.{bytes}
 use Rattle.mvt_wire.specs.Spelling.{Plain, short_field, spelled}
 use Rattle.mvt_wire.proofs.SpellingLemmas.{bytes_longer}
 use Rattle.mvt_feature.specs.declared.feature.Feature.{Feature}
 use Rattle.mvt_feature.specs.Canonical.{feature_fields}
 use Rattle.mvt_feature.specs.Valid.{ValidFeature}
 use Rattle.mvt_message.specs.declared.item.Layer.{Layer as ALayer}
-use Rattle.mvt_message.specs.declared.put_error.PutError.TheVariants.{Memory, TooLarge}
+use Rattle.mvt_message.specs.declared.put.PutError.TheVariants.{TooLarge}
 use Rattle.mvt_message.specs.CanonicalItems.{attributes_of, keys_of, values_of, head_fields, feature_field, key_field, value_field, extent_fields, layer_fields}
 use Rattle.mvt_message.specs.PutErrors.{of_pool}
 use Rattle.mvt_message.specs.ValidItems.{ValidLayer}
-use Rattle.mvt_message.proofs.CanonicalLemmas.{pools_within, spelled-append, spelled_length}
+use Rattle.mvt_message.proofs.CanonicalLemmas.{pools_within, spelled-append}
 
 pub pool_full : (e : PoolError) → of_pool e ≡ TooLarge → e ≡ pools.Full
 pool_full pools.Memory h = cc

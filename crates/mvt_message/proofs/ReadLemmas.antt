@@ -1,17 +1,17 @@
 -- The steps of the walks over a layer's fields.
-use Rattle.std.proofs.Common.{◌≡◌, ◌≢◌, ℕ, ◌+◌, ◌^◌, ◌<◌, ◌≤◌, ◌==◌, Bool, true, false, List, [], ◌∷◌, ◌++◌, length, map, Option, Some, None, Result, Ok, Err, refl, sym, ap, ap₂, ◌∙◌, subst, append_assoc, append-nil, arith, if◌then◌else◌, length-append}
-use Rattle.std.specs.Prelude.{OnOk, IfOk, IfErr, is_none, unwrap_or}
-use Rattle.std.specs.Option.{option_or, option_map}
+use Rattle.std.proofs.Common.{◌≡◌, ◌≢◌, ℕ, ◌+◌, ◌^◌, ◌<◌, ◌≤◌, ◌==◌, Bool, true, false, List, [], ◌∷◌, ◌++◌, length, map, Option, Some, None, Ok, Err, refl, sym, ap, ap₂, ◌∙◌, subst, append_assoc, append-nil, arith, if◌then◌else◌, length-append}
+use Rattle.std.specs.Prelude.{is_none, unwrap_or}
+use Rattle.std.specs.Option.{option_map}
 use Rattle.std.proofs.lemmas.Bool.{eq-eqb, ne_eqb}
 use Rattle.std.proofs.lemmas.List.{map-append}
 use Rattle.mvt_base.specs.Related.{AreRelated}
-use Rattle.mvt_base.specs.Rules.{Rules, each, told, first}
+use Rattle.mvt_base.specs.Rules.{Rules, each, first}
 use Rattle.mvt_base.proofs.ListLemmas.{related-append, length-related}
 use Rattle.mvt_base.proofs.RuleLemmas.{each_more, each_stops, first-told, first-when, first-when_not, option_or-none, option_or-some}
 use Rattle.mvt_attrs.specs.declared.value.Value.{Value}
 use Rattle.mvt_wire.specs.declared.field.Field.{Field}
 use Rattle.mvt_wire.specs.declared.fault.WireFault.{WireFault}
-use Rattle.mvt_wire.specs.Field.{Content, Entry, entry_of, content_of, varint, bytes, fixed64, fixed32}
+use Rattle.mvt_wire.specs.Field.{Entry, entry_of, content_of}
 use Rattle.mvt_wire.specs.Fields.{GivesField, bytes_size}
 use Rattle.mvt_wire.specs.Split.{Parts, split}
 use Rattle.mvt_wire.proofs.SplitLemmas.{split_count, split_is, split_only}
@@ -22,10 +22,9 @@ use Rattle.mvt_feature.specs.declared.message_error.MessageError.TheVariants.{Me
 use Rattle.mvt_feature.specs.Faults.{MessageFault, fault_at, in_feature, TellsMessage}
 use Rattle.mvt_feature.specs.Features.{IsFeatureOf, number_in, number_of}
 use Rattle.mvt_feature.specs.FeatureRules.{feature_rules, feature_fault}
-use Rattle.mvt_feature.specs.Inner.{IsSoFar}
 use Rattle.mvt_feature.specs.Selection.{only, last_only}
 use Rattle.mvt_feature.specs.Values.{IsValueOf}
-use Rattle.mvt_feature.specs.ValueRules.{value_rules, value_fault}
+use Rattle.mvt_feature.specs.ValueRules.{value_fault}
 use Rattle.mvt_feature.proofs.SelectionLemmas.{only-append, last_only-more}
 use Rattle.mvt_feature.proofs.WalkLemmas.{Walk, walk_step, walk_end, rest_none}
 use Rattle.mvt_message.specs.declared.item.Layer.{Layer as ALayer}

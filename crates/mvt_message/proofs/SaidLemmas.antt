@@ -1,20 +1,19 @@
 -- The value of a payload, as the relation and as the function.
-use Rattle.std.proofs.Common.{◌≡◌, ℕ, ◌+◌, ◌*◌, ◌/◌, ◌%◌, ◌≤◌, ◌==◌, ◌&&◌, inl, inr, Bool, true, false, not, nat_le, ℤ, pos, negsuc, List, [], ◌∷◌, ◌++◌, Option, Some, None, refl, sym, ap, ap₂, ◌∙◌, subst, arith, rules, if◌then◌else◌, option_and_then, append-nil}
-use Rattle.std.specs.Int.{w64, cast_signed}
+use Rattle.std.proofs.Common.{◌≡◌, ℕ, ◌+◌, ◌*◌, ◌/◌, ◌%◌, ◌==◌, inl, inr, Bool, true, false, nat_le, ℤ, pos, negsuc, List, [], ◌∷◌, ◌++◌, Some, None, refl, sym, ap, ap₂, ◌∙◌, subst, arith, rules, if◌then◌else◌, option_and_then}
 use Rattle.std.specs.List.{AllByRecursion, flat_map}
 use Rattle.std.specs.Option.{option_to_list}
-use Rattle.std.proofs.lemmas.Bool.{eqb-true, eq-eqb, ne_eqb, cases_eq, and_parts, and_from, leb-true, le-leb}
+use Rattle.std.proofs.lemmas.Bool.{eq-eqb, ne_eqb, cases_eq, and_parts, and_from, leb-true, le-leb}
 use Rattle.mvt_base.specs.Related.{AreRelated}
 use Rattle.mvt_attrs.specs.declared.value.Value.{Value}
 use Rattle.mvt_attrs.specs.declared.value.Value.TheVariants.{Text, Float, Double, Int, Uint, Sint, Bool as Truth}
 use Rattle.mvt_wire.specs.Field.{Content, varint, fixed64, bytes, fixed32, Entry}
 use Rattle.mvt_wire.specs.Split.{Split, split}
 use Rattle.mvt_wire.specs.Zigzag.{zig}
-use Rattle.mvt_feature.specs.Selection.{only, last_or, last_only}
-use Rattle.mvt_feature.specs.Values.{IsKind, Means, IsValue, IsValueOf}
+use Rattle.mvt_feature.specs.Selection.{only, last_or}
+use Rattle.mvt_feature.specs.Values.{IsKind, Means, IsValueOf}
 use Rattle.mvt_feature.specs.ValueRules.{is_kind, kinds}
 use Rattle.mvt_feature.proofs.SelectionLemmas.{only_number, last_of_all}
-use Rattle.mvt_message.specs.LayerFields.{bytes_of, unzig, said, value_in, values_in}
+use Rattle.mvt_message.specs.LayerFields.{bytes_of, unzig, said, value_in}
 use Rattle.mvt_message.specs.Items.{HoldsValue}
 
 unzig-zig : (z : ℤ) → unzig (zig z) ≡ z

@@ -1,5 +1,5 @@
 -- Valid items.
-use Rattle.std.proofs.Common.{◌≡◌, ◌≢◌, ℕ, ◌+◌, ◌^◌, ◌<◌, List, [], ◌∷◌, length, map, Option, Some, None, refl, sym, ap, ◌∙◌, subst, arith}
+use Rattle.std.proofs.Common.{◌≡◌, ◌≢◌, ℕ, ◌^◌, ◌<◌, List, [], ◌∷◌, map, Option, Some, None, refl, sym, ap, ◌∙◌, subst, arith}
 use Rattle.std.specs.Prelude.{IsUtf8, unwrap_or}
 use Rattle.std.specs.List.{AllByRecursion}
 use Rattle.std.specs.Option.{option_map}
@@ -21,7 +21,7 @@ use Rattle.mvt_feature.specs.Selection.{only, last_only, HaveForm}
 use Rattle.mvt_feature.specs.Valid.{ValidValue, ValidFeature}
 use Rattle.mvt_feature.specs.Values.{IsText, IsValueOf}
 use Rattle.mvt_feature.proofs.RangeLemmas.{fields_range, value_valid, feature_valid}
-use Rattle.mvt_feature.proofs.SelectionLemmas.{only_all, only_number, last_of_all, form_of}
+use Rattle.mvt_feature.proofs.SelectionLemmas.{only_all, only_number, form_of}
 use Rattle.mvt_message.specs.declared.item.Item.{Item as AnItem}
 use Rattle.mvt_message.specs.declared.item.Layer.{Layer as ALayer}
 use Rattle.mvt_message.specs.declared.item.Item.TheVariants.{Layer, Foreign}

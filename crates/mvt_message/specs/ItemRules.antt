@@ -1,10 +1,10 @@
 -- The rules that bind a layer's payload (Mapbox Vector Tile Specification 2.1, 4.1, message Layer), as a
 -- table.
-use Rattle.std.specs.Prelude.{ℕ, ◌+◌, ◌^◌, ◌==◌, Bool, true, not, nat_lt, List, [], ◌∷◌, length, Option, is_none, if◌then◌else◌}
+use Rattle.std.specs.Prelude.{ℕ, ◌+◌, ◌^◌, ◌==◌, true, not, nat_lt, List, [], ◌∷◌, length, Option, is_none, if◌then◌else◌}
 use Rattle.std.specs.Option.{option_to_list}
 use Rattle.mvt_base.specs.Rules.{Rules, when, told, rows, each, first}
 use Rattle.mvt_attrs.specs.declared.value.Value.{Value}
-use Rattle.mvt_wire.specs.Field.{Content, varint, fixed64, bytes, fixed32, Entry}
+use Rattle.mvt_wire.specs.Field.{Content, varint, bytes, Entry}
 use Rattle.mvt_wire.specs.Split.{split}
 use Rattle.mvt_feature.specs.declared.cause.Cause.{Cause}
 use Rattle.mvt_feature.specs.declared.cause.Cause.TheVariants.{WrongType, NumberRange, NoVersion, NoName}

@@ -1,8 +1,8 @@
 -- A pool that is full means more canonical bytes than the limit.
 use Rattle.mvt_attrs.specs.declared.pool_error.PoolError.{PoolError}
 use Rattle.mvt_attrs.specs.declared.pool_error.PoolError.TheVariants as pools
-use Rattle.mvt_message.specs.declared.put_error.PutError.{PutError}
-use Rattle.mvt_message.specs.declared.put_error.PutError.TheVariants.{Memory, TooLarge}
+use Rattle.mvt_message.specs.declared.put.PutError.{PutError}
+use Rattle.mvt_message.specs.declared.put.PutError.TheVariants.{Memory, TooLarge}
 
 abbrev pub of_pool : PoolError → PutError
 of_pool pools.Memory = Memory

@@ -9,7 +9,6 @@ pub mod laws;
 mod payload;
 mod pool;
 mod put;
-mod put_error;
 mod put_layer;
 mod read;
 #[cfg(test)]
@@ -20,7 +19,6 @@ mod version;
 pub use item::{Item, Layer};
 pub use mvt_base::LIMIT;
 pub use mvt_feature::{Cause, Feature, MessageError, read_feature, read_value};
-pub use put::{item_len, put_item};
-pub use put_error::PutError;
+pub use put::{PutError, item_len, put_item};
 pub use read::read_item;
 pub use valid::{is_valid_item, is_valid_layer};

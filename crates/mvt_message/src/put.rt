@@ -5,11 +5,44 @@ ghost use Rattle.mvt_message.specs.CanonicalItems.{layer_fields, canonical_item}
 ghost use Rattle.mvt_message.specs.ValidItems.{ValidItem, ValidLayer};
 
 use crate::item::{Item, Layer};
-use crate::put_error::PutError;
 use crate::put_layer::{put_extent, put_features, put_head, put_keys, put_values};
-use mvt_attrs::{KeyPool, ValuePool};
+use mvt_attrs::{KeyPool, PoolError, ValuePool};
 use mvt_base::LIMIT;
-use std::alloc::Global;
+use std::alloc::{AllocError, Global};
+
+/// Why an item can't be written.
+#[derive(Clone, Copy, Debug, PartialEq, Eq)]
+pub enum PutError {
+    /// A growth was refused memory.
+    Memory,
+    /// The canonical bytes are more than the limit.
+    TooLarge,
+}
+
+impl From<AllocError> for PutError {
+    ghost use Rattle.std.specs.Prelude.{◌≡◌};
+    ghost use Rattle.mvt_message.specs.declared.put.PutError.TheVariants.{Memory};
+
+    ghost from_gives = { λ _ error. error ≡ Memory };
+
+    fn from(_: AllocError) -> Self {
+        PutError::Memory
+    }
+}
+
+impl From<PoolError> for PutError {
+    ghost use Rattle.std.specs.Prelude.{◌≡◌};
+    ghost use Rattle.mvt_message.specs.PutErrors.{of_pool};
+
+    ghost from_gives = { λ pool_error error. error ≡ of_pool pool_error };
+
+    fn from(error: PoolError) -> Self {
+        match error {
+            PoolError::Memory => PutError::Memory,
+            PoolError::Full => PutError::TooLarge,
+        }
+    }
+}
 
 /// The canonical payload of an item, without its tag and length.
 ///

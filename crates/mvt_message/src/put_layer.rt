@@ -6,7 +6,7 @@ ghost use Rattle.mvt_wire.specs.Spelling.{spelled};
 ghost use Rattle.mvt_feature.specs.declared.feature.Feature.{Feature as OneFeature};
 ghost use Rattle.mvt_message.specs.CanonicalItems.{keys_of, values_of, head_fields, feature_field, key_field, value_field, extent_fields};
 
-use crate::put_error::PutError;
+use crate::put::PutError;
 use mvt_attrs::{KeyPool, ValuePool};
 use mvt_base::LIMIT;
 use mvt_feature::{Feature, Room, append_feature, append_value};

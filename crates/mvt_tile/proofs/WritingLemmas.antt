@@ -8,8 +8,8 @@ use Rattle.mvt_wire.specs.Spelling.{Plain, short_field, spelled}
 use Rattle.mvt_message.specs.declared.item.Item.{Item}
 use Rattle.mvt_message.specs.CanonicalItems.{canonical_item}
 use Rattle.mvt_tile.specs.Inner.{WritingLaws}
-use Rattle.mvt_message.specs.declared.put_error.PutError.{PutError}
-use Rattle.mvt_message.specs.declared.put_error.PutError.TheVariants as put
+use Rattle.mvt_message.specs.declared.put.PutError.{PutError}
+use Rattle.mvt_message.specs.declared.put.PutError.TheVariants as put
 use Rattle.mvt_tile.specs.declared.write_error.WriteError.TheVariants as write
 use Rattle.mvt_tile.specs.declared.tile.Tile.{Tile}
 use Rattle.mvt_tile.specs.CanonicalTiles.{item_field, canonical}

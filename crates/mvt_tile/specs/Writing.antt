@@ -1,8 +1,8 @@
 -- What writing a tile answers.
 use Rattle.std.specs.Prelude.{◌≡◌, Option, Some, ⊤}
 use Rattle.std.specs.declared.io.ErrorKind.{ErrorKind}
-use Rattle.mvt_message.specs.declared.put_error.PutError.{PutError}
-use Rattle.mvt_message.specs.declared.put_error.PutError.TheVariants as put
+use Rattle.mvt_message.specs.declared.put.PutError.{PutError}
+use Rattle.mvt_message.specs.declared.put.PutError.TheVariants as put
 use Rattle.mvt_tile.specs.declared.write_error.WriteError.{WriteError}
 use Rattle.mvt_tile.specs.declared.write_error.WriteError.TheVariants.{Memory, TooLarge, Write}
 

@@ -13,6 +13,8 @@ mod note;
 mod noting;
 mod reading;
 mod round_trip;
+#[cfg(test)]
+mod tests;
 mod tile;
 mod write_error;
 mod writing;
@@ -29,6 +31,3 @@ pub use round_trip::write_and_read;
 pub use tile::Tile;
 pub use write_error::WriteError;
 pub use writing::{encode, write_tile};
-
-#[cfg(test)]
-mod tests;

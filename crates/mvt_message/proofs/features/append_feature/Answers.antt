@@ -1,4 +1,4 @@
-use Rattle.std.proofs.Common.{length, ◌∙◌}
+use Rattle.std.proofs.Common.{◌∙◌}
 use Rattle.mvt_wire.specs.Field.{entry_of}
 use Rattle.mvt_message.proofs.ReadLemmas.{features_skip, features_take, features_stop}
 use Rattle.mvt_message.proofs.features.append_feature.Goals as goal

@@ -1,4 +1,3 @@
-use Rattle.std.proofs.Common.{◌++◌, ◌∷◌, []}
 use Rattle.std.proofs.lemmas.Result.{err_from_is_err_and}
 use Rattle.mvt_message.proofs.ReadLemmas.{walk_all}
 use Rattle.mvt_message.proofs.pool.read_values.Goals as goal

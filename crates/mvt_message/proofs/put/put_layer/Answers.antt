@@ -1,8 +1,8 @@
-use Rattle.std.proofs.Common.{◌≡◌, ◌++◌, ◌∙◌, ap, ap₂, sym, length, Err, arith}
+use Rattle.std.proofs.Common.{◌≡◌, ◌++◌, ◌∙◌, ap, ap₂, sym, length, Err}
 use Rattle.std.proofs.lemmas.Result.{err_from_is_err_and}
 use Rattle.mvt_wire.specs.Spelling.{spelled}
 use Rattle.mvt_base.specs.declared.TheConstants.{LIMIT}
-use Rattle.mvt_message.specs.declared.put_error.PutError.TheVariants.{TooLarge}
+use Rattle.mvt_message.specs.declared.put.PutError.TheVariants.{TooLarge}
 use Rattle.mvt_message.specs.CanonicalItems.{head_fields}
 use Rattle.mvt_message.proofs.PutLemmas.{layer_geometries, layer_long, layer_put, long_as, short_as}
 use Rattle.mvt_message.proofs.put.put_layer.Goals as goal

@@ -5,7 +5,7 @@ use Rattle.mvt_attrs.specs.TagPlaces.{tags_in}
 use Rattle.mvt_wire.specs.Field.{bytes}
 use Rattle.mvt_wire.specs.Spelling.{short_field, spelled}
 use Rattle.mvt_feature.specs.Canonical.{feature_fields}
-use Rattle.mvt_message.specs.declared.put_error.PutError.TheVariants.{TooLarge}
+use Rattle.mvt_message.specs.declared.put.PutError.TheVariants.{TooLarge}
 use Rattle.mvt_message.specs.PutErrors.{of_pool}
 use Rattle.mvt_message.proofs.PutLemmas.{features_start, features_step, features_long, features_full, pool_full}
 use Rattle.mvt_message.proofs.put_layer.put_features.Goals as goal

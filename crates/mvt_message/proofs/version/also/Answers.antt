@@ -1,5 +1,4 @@
 use Rattle.std.proofs.lemmas.Result.{err_from_is_err_and}
-use Rattle.std.proofs.Common.{arith}
 use Rattle.mvt_wire.specs.Field.{entry_of}
 use Rattle.mvt_message.proofs.ReadLemmas.{version_skip, version_take, version_stops}
 use Rattle.mvt_message.proofs.version.also.Goals as goal

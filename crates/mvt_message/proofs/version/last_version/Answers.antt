@@ -1,4 +1,4 @@
-use Rattle.std.proofs.Common.{◌≡◌, List, [], ◌∷◌, ◌++◌, ◌∙◌, refl}
+use Rattle.std.proofs.Common.{◌≡◌, [], ◌∷◌, ◌++◌, ◌∙◌, refl}
 use Rattle.mvt_base.proofs.RuleLemmas.{option_or-some}
 use Rattle.mvt_wire.specs.Field.{entry_of}
 use Rattle.mvt_feature.proofs.WalkLemmas.{walk_start, walk_step, walk_fits, walk_fault_fits, walk_fault, end_whole, end_clean, end_holds, end_told}

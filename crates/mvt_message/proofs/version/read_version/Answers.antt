@@ -1,4 +1,4 @@
-use Rattle.std.proofs.Common.{ap, sym, ◌∙◌}
+use Rattle.std.proofs.Common.{sym, ◌∙◌}
 use Rattle.mvt_message.proofs.ReadLemmas.{head_some, head_none}
 use Rattle.mvt_message.proofs.version.read_version.Goals as goal
 
