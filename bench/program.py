@@ -1,0 +1,131 @@
+#!/usr/bin/env python3
+"""Measures `mvt check`, `show` and `rewrite` on a tile of 500 kB and on one of 60 MiB, beside
+`protoc --decode` and GDAL's `ogrinfo` on the same tiles.
+
+    bench/program.py [crates/mvt_cli/out/mvt_cli]
+
+Wants the program as `rt ci` or `rt run` leaves it, and Debian's protobuf-compiler and gdal-bin. Prints
+a table: the best wall time of the runs and the peak memory of that program alone. Input comes from a
+file, output goes to /dev/null.
+"""
+
+import os
+import random
+import struct
+import subprocess
+import sys
+import tempfile
+import time
+
+ROUNDS = 5
+CLASSES = [b"residential", b"service", b"track", b"primary", b"footway", b"building", b"forest", b"lake"]
+PROTO = ["protoc", "-Iexamples/tiles", "--decode=Tile", "vector_tile.proto"]
+
+
+def varint(number):
+    spelled = bytearray()
+    while number > 127:
+        spelled.append(number % 128 + 128)
+        number //= 128
+    spelled.append(number)
+    return bytes(spelled)
+
+
+def scalar(number, content):
+    return varint(8 * number) + varint(content)
+
+
+def text(number, content):
+    return varint(8 * number + 2) + varint(len(content)) + content
+
+
+def zigzag(number):
+    return 2 * number if number >= 0 else -2 * number - 1
+
+
+def steps(points, at):
+    """The parameters of a path's points, and where it ends."""
+    integers = []
+    for x, y in points:
+        integers += [zigzag(x - at[0]), zigzag(y - at[1])]
+        at = (x, y)
+    return integers, at
+
+
+def shape(dice):
+    """The type and the integers of a point, of a line of 20 points, or of a rectangle."""
+    x, y = dice.randrange(4000), dice.randrange(4000)
+    kind = dice.randrange(1, 4)
+    if kind == 1:
+        return kind, [9, zigzag(x), zigzag(y)]
+    if kind == 2:
+        points = [(x, y)]
+        for _ in range(19):
+            last = points[-1]
+            points.append((last[0] + dice.randrange(1, 40), last[1] + dice.randrange(-30, 31)))
+        first, at = steps(points[:1], (0, 0))
+        rest, _ = steps(points[1:], at)
+        return kind, [9] + first + [8 * 19 + 2] + rest
+    wide, high = dice.randrange(2, 90), dice.randrange(2, 90)
+    return kind, [9, zigzag(x), zigzag(y), 26, zigzag(wide), 0, 0, zigzag(high), zigzag(-wide), 0, 15]
+
+
+def layer(dice, name, size):
+    """A layer in canonical form of about so many bytes: four attributes a feature, an id each."""
+    keys = [b"class", b"name", b"height", b"levels"]
+    values, places, features, total, number = [], {}, [], 0, 0
+
+    def place(entry):
+        if entry not in places:
+            places[entry] = len(values)
+            values.append(entry)
+        return places[entry]
+
+    while total < size:
+        number += 1
+        entries = [text(1, dice.choice(CLASSES)), text(1, b"Street %d" % dice.randrange(9000)),
+                   b"\x19" + struct.pack("<d", dice.randrange(400) / 4), scalar(5, dice.randrange(60))]
+        tags = b"".join(varint(key) + varint(place(entry)) for key, entry in enumerate(entries))
+        kind, integers = shape(dice)
+        geometry = b"".join(varint(integer) for integer in integers)
+        body = scalar(1, number) + text(2, tags) + scalar(3, kind) + text(4, geometry)
+        features.append(text(2, body))
+        total += len(body) + 2
+    keyed = b"".join(text(3, key) for key in keys)
+    valued = b"".join(text(4, entry) for entry in values)
+    return text(3, scalar(15, 2) + text(1, name) + b"".join(features) + keyed + valued + scalar(5, 4096))
+
+
+def run(words, path):
+    """The wall time in seconds and the peak memory in MB of the words, the file as their input."""
+    with open(path, "rb") as file, open(os.devnull, "wb") as sink:
+        started = time.perf_counter()
+        program = subprocess.Popen(words, stdin=file, stdout=sink)
+        _, status, usage = os.wait4(program.pid, 0)
+        seconds = time.perf_counter() - started
+    if status != 0:
+        sys.exit("%s ended with status %d" % (words, status))
+    return seconds, usage.ru_maxrss / 1000
+
+
+def main():
+    program = sys.argv[1] if len(sys.argv) > 1 else "crates/mvt_cli/out/mvt_cli"
+    print("| Tile | Program | Seconds | Peak, MB |")
+    print("|---|---|---|---|")
+    for label, layers, size in [("500 kB", 4, 93_000), ("60 MiB", 12, 5_100_000)]:
+        dice = random.Random(1)
+        with tempfile.NamedTemporaryFile(suffix=".mvt") as file:
+            for index in range(layers):
+                file.write(layer(dice, b"layer %d" % index, size))
+            file.flush()
+            runs = [("`mvt %s`" % word, [program, word]) for word in ("check", "show", "rewrite")]
+            runs += [("`protoc --decode`", PROTO),
+                     ("`ogrinfo -al -so`", ["ogrinfo", "-al", "-so", "MVT:" + file.name]),
+                     ("`ogrinfo -al -q`", ["ogrinfo", "-al", "-q", "MVT:" + file.name])]
+            for name, words in runs:
+                best = min(run(words, file.name) for _ in range(ROUNDS))
+                size = os.path.getsize(file.name)
+                print("| %s (%d bytes) | %s | %.3f | %.0f |" % (label, size, name, *best), flush=True)
+
+
+main()
