@@ -1,5 +1,7 @@
 //! Why an entry found no place in a pool.
 use std::alloc::{AllocError, AllocFailed};
+use std::error::Error;
+use std::fmt;
 
 /// Why an entry found no place in a pool.
 #[derive(Debug, Drop, PartialEq, Eq)]
@@ -31,3 +33,14 @@ impl<T: Drop> From<AllocFailed<T>> for PoolError {
         PoolError::Memory
     }
 }
+
+impl fmt::Display for PoolError {
+    fn fmt<W: fmt::Write>(&self, f: &mut fmt::Formatter<W>) -> fmt::Result {
+        match self {
+            PoolError::Memory => f.write_str("out of memory"),
+            PoolError::Full => f.write_str("the pool is full"),
+        }
+    }
+}
+
+impl Error for PoolError {}

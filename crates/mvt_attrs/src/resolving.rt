@@ -7,6 +7,8 @@ use crate::seen::SeenKeys;
 use crate::value::{Attribute, Value};
 use mvt_base::Text;
 use std::alloc::{AllocError, AllocFailed, Global};
+use std::error::Error;
+use std::fmt;
 
 /// The rule that a feature's tags break (4.4).
 #[derive(Debug, Clone, Copy, PartialEq, Eq)]
@@ -51,6 +53,28 @@ impl<T: Drop> From<AllocFailed<T>> for TagError {
         TagError::Memory
     }
 }
+
+impl fmt::Display for TagCause {
+    fn fmt<W: fmt::Write>(&self, f: &mut fmt::Formatter<W>) -> fmt::Result {
+        f.write_str(match self {
+            TagCause::OddTags => "OddTags",
+            TagCause::KeyIndex => "KeyIndex",
+            TagCause::ValueIndex => "ValueIndex",
+            TagCause::RepeatedKey => "RepeatedKey",
+        })
+    }
+}
+
+impl fmt::Display for TagError {
+    fn fmt<W: fmt::Write>(&self, f: &mut fmt::Formatter<W>) -> fmt::Result {
+        match self {
+            TagError::Memory => f.write_str("out of memory"),
+            TagError::Fault { index, cause } => write!(f, "{cause} at {index}"),
+        }
+    }
+}
+
+impl Error for TagError {}
 
 /// The attributes that a feature's tags name, in order (4.4).
 ///

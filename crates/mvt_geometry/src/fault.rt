@@ -1,5 +1,7 @@
 //! Why integers don't draw a geometry.
 use std::alloc::AllocError;
+use std::error::Error;
+use std::fmt;
 
 /// The rule that integers break first.
 #[derive(Clone, Copy, Debug, PartialEq, Eq)]
@@ -62,3 +64,29 @@ impl From<AllocError> for GeometryError {
         GeometryError::Memory
     }
 }
+
+impl fmt::Display for GeometryCause {
+    fn fmt<W: fmt::Write>(&self, f: &mut fmt::Formatter<W>) -> fmt::Result {
+        f.write_str(match self {
+            GeometryCause::Command => "Command",
+            GeometryCause::Count => "Count",
+            GeometryCause::Parameters => "Parameters",
+            GeometryCause::ZeroSegment => "ZeroSegment",
+            GeometryCause::CoordinateRange => "CoordinateRange",
+            GeometryCause::FirstRing => "FirstRing",
+            GeometryCause::EndsEarly => "EndsEarly",
+            GeometryCause::ParameterRange => "ParameterRange",
+        })
+    }
+}
+
+impl fmt::Display for GeometryError {
+    fn fmt<W: fmt::Write>(&self, f: &mut fmt::Formatter<W>) -> fmt::Result {
+        match self {
+            GeometryError::Memory => f.write_str("out of memory"),
+            GeometryError::Fault { index, cause } => write!(f, "{cause} at {index}"),
+        }
+    }
+}
+
+impl Error for GeometryError {}

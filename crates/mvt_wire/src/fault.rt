@@ -1,4 +1,6 @@
 //! Why bytes aren't the spelling that is due.
+use std::error::Error;
+use std::fmt;
 
 /// The kinds of broken spelling.
 #[derive(Clone, Copy, Debug, PartialEq, Eq)]
@@ -21,3 +23,22 @@ pub struct WireFault {
     pub cause: WireCause,
     pub at: usize,
 }
+
+impl fmt::Display for WireCause {
+    fn fmt<W: fmt::Write>(&self, f: &mut fmt::Formatter<W>) -> fmt::Result {
+        f.write_str(match self {
+            WireCause::Truncated => "Truncated",
+            WireCause::VarintRange => "VarintRange",
+            WireCause::FieldNumber => "FieldNumber",
+            WireCause::WireType => "WireType",
+        })
+    }
+}
+
+impl fmt::Display for WireFault {
+    fn fmt<W: fmt::Write>(&self, f: &mut fmt::Formatter<W>) -> fmt::Result {
+        write!(f, "{} at {}", self.cause, self.at)
+    }
+}
+
+impl Error for WireFault {}

@@ -9,6 +9,8 @@ ghost use Rattle.mvt_wire.specs.Inner.{Extends, error_of};
 use crate::fault::WireCause;
 use crate::varint::{put_varint, varint_at, varint_len};
 use std::alloc::{AllocError, Global};
+use std::error::Error;
+use std::fmt;
 
 /// Why packed numbers can't be read: the first that holds, but for want of memory.
 #[derive(Clone, Copy, Debug, PartialEq, Eq)]
@@ -30,6 +32,19 @@ impl From<AllocError> for PackedError {
         PackedError::Memory
     }
 }
+
+impl fmt::Display for PackedError {
+    fn fmt<W: fmt::Write>(&self, f: &mut fmt::Formatter<W>) -> fmt::Result {
+        match self {
+            Self::Memory => f.write_str("out of memory"),
+            Self::Truncated => f.write_str("Truncated"),
+            Self::VarintRange => f.write_str("VarintRange"),
+            Self::NumberRange => f.write_str("NumberRange"),
+        }
+    }
+}
+
+impl Error for PackedError {}
 
 /// The numbers of a packed field.
 ///
