@@ -1,9 +1,8 @@
 //! The line that tells a fault.
 ghost use Rattle.std.specs.Prelude.{◌≡◌, ◌++◌, OnOk, IfOk, string_bytes};
-ghost use Rattle.mvt_view.specs.FaultLines.{fault_line, cause_name, index_text};
+ghost use Rattle.mvt_view.specs.FaultLines.{fault_line, index_text};
 
 use crate::view_error::ViewError;
-use mvt_message::Cause;
 use mvt_tile::Fault;
 use std::alloc::{AllocError, Global};
 use std::fmt::Write;
@@ -20,7 +19,7 @@ pub fn fault_text(alloc: Global, fault: &Fault) -> Result<String, ViewError>
     push_index(&mut text, fault.feature)?;
     let at = fault.at;
     let number = fault.cause.number();
-    let name = name_of(fault.cause);
+    let name = fault.cause.name();
     write!(text, " at {at}: {number} {name}")?;
     Ok(text)
 }
@@ -32,37 +31,5 @@ fn push_index(text: &mut String, index: Option<u32>) -> Result<(), AllocError>
     match index {
         Some(index) => write!(text, "{index}"),
         None => text.push_str("-"),
-    }
-}
-
-fn name_of(cause: Cause) -> &'static str
-    ensures { result.now ≡ cause_name cause }
-{
-    match cause {
-        Cause::Truncated => "Truncated",
-        Cause::VarintRange => "VarintRange",
-        Cause::FieldNumber => "FieldNumber",
-        Cause::WireType => "WireType",
-        Cause::WrongType => "WrongType",
-        Cause::NumberRange => "NumberRange",
-        Cause::NotUtf8 => "NotUtf8",
-        Cause::NoVersion => "NoVersion",
-        Cause::NoName => "NoName",
-        Cause::ValueKind => "ValueKind",
-        Cause::GeomType => "GeomType",
-        Cause::OddTags => "OddTags",
-        Cause::KeyIndex => "KeyIndex",
-        Cause::ValueIndex => "ValueIndex",
-        Cause::RepeatedKey => "RepeatedKey",
-        Cause::Command => "Command",
-        Cause::Count => "Count",
-        Cause::Parameters => "Parameters",
-        Cause::ZeroSegment => "ZeroSegment",
-        Cause::CoordinateRange => "CoordinateRange",
-        Cause::FirstRing => "FirstRing",
-        Cause::EndsEarly => "EndsEarly",
-        Cause::RepeatedName => "RepeatedName",
-        Cause::TooLarge => "TooLarge",
-        Cause::ParameterRange => "ParameterRange",
     }
 }

@@ -1,5 +1,7 @@
 //! Why a text can't be made.
 use std::alloc::AllocError;
+use std::error::Error;
+use std::fmt;
 
 /// Why a text can't be made.
 #[derive(Clone, Copy, Debug, PartialEq, Eq)]
@@ -30,3 +32,13 @@ impl From<serde_json::Error> for ViewError {
         ViewError::Memory
     }
 }
+
+impl fmt::Display for ViewError {
+    fn fmt<W: fmt::Write>(&self, f: &mut fmt::Formatter<W>) -> fmt::Result {
+        match self {
+            ViewError::Memory => f.write_str("out of memory"),
+        }
+    }
+}
+
+impl Error for ViewError {}
