@@ -1,3 +1,4 @@
 pub mod RuleLemmas
 pub mod OrderLemmas
 pub mod ListLemmas
+pub mod GrowingLemmas

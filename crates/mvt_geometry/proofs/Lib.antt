@@ -14,6 +14,5 @@ pub mod WholeLemmas
 pub mod BuildLemmas
 pub mod PutLemmas
 pub mod ValidLemmas
-pub mod BaseLemmas
 pub mod OrderedLemmas
 pub mod LawLemmas

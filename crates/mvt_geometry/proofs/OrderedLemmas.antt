@@ -8,7 +8,7 @@ use Rattle.mvt_geometry.specs.declared.shape.Kind.TheVariants as kinds
 use Rattle.mvt_geometry.specs.declared.command.Command.{Command}
 use Rattle.mvt_geometry.specs.Commands.{Pair, start}
 use Rattle.mvt_geometry.specs.Table.{IndexedCause, step_rows, command_rows, step_rules, pair_rules, ends_early, wrong_command, wrong_count, no_room, wrong_pairs, wrong_ring, command_rules, rules_at, rules_of_first, geometry_rules, geometry_fault}
-use Rattle.mvt_geometry.proofs.BaseLemmas.{AllBelow, all_below_more, under_below, below-append, then_under}
+use Rattle.mvt_base.proofs.GrowingLemmas.{AllBelow, all_below_more, under_below, below-append, then_under}
 
 step_ordered : (line : Bool) (at : ℕ) (d : Pair) (to : Point) → AreOrdered (step_rules line at d to)
 unfolding step_rules

@@ -1,10 +1,11 @@
 -- A tile is related to bytes exactly where they have no fault, and then one alone; the table is in order.
-use Rattle.std.proofs.Common.{◌≡◌, ℕ, suc, eqb, ◌+◌, ◌<◌, ◌≤◌, ltb, Bool, true, false, cond, List, [], ◌∷◌, ◌++◌, length, take, Option, Some, None, refl, sym, ap, subst, ◌∙◌, ◌↔◌, arith, append_assoc, length-append}
+use Rattle.std.proofs.Common.{◌≡◌, ℕ, eqb, ◌+◌, ◌<◌, ◌≤◌, ltb, Bool, true, false, cond, List, [], ◌∷◌, length, take, Option, Some, None, refl, sym, ap, subst, ◌∙◌, ◌↔◌, arith}
 use Rattle.std.specs.Option.{option_or}
 use Rattle.std.proofs.lemmas.Bool.{ltb-true, ltb-false, lt-ltb, le-ltb}
 use Rattle.mvt_base.specs.Rules.{Rules, when, rows, under, each, first, AreOrdered, IsLeast}
 use Rattle.mvt_base.proofs.RuleLemmas.{first-append, first-under, option_or-nones, option_or-none}
-use Rattle.mvt_base.proofs.OrderLemmas.{AllFrom, under_from, all_later, from-append, under_ordered, under_then, when_ordered, told_ordered, rows_ordered, first_is_least, least_is_first}
+use Rattle.mvt_base.proofs.OrderLemmas.{under_from, all_later, under_ordered, when_ordered, told_ordered, rows_ordered, first_is_least, least_is_first}
+use Rattle.mvt_base.proofs.GrowingLemmas.{each_then}
 use Rattle.mvt_base.proofs.ListLemmas.{related_once}
 use Rattle.mvt_base.specs.Related.{AreRelated}
 use Rattle.mvt_wire.specs.Field.{Entry, bytes}
@@ -112,24 +113,6 @@ field_ordered laws front x =
     (tt, tt))
     tt
 
-each_from : {X F : Type 0} → (rules : List X → X → Rules F) (front xs : List X) → AllFrom (length front) (each rules front xs)
-each_from rules front [] = tt
-each_from rules front (x ∷ xs) =
-    from-append (length front) (under (length front) (rules front x)) (each rules (front ++ x ∷ []) xs) (under_from (length front) (rules front x)) (all_later (length front) (length (front ++ x ∷ [])) (each rules (front ++ x ∷ []) xs) (simp length-append (omega arith)) (each_from rules (front ++ x ∷ []) xs))
-
--- the rules of elements, and then others under the number behind them
-each_then : {X F : Type 0} → (rules : List X → X → Rules F) (front xs : List X) (n : ℕ) (later : Rules F) → ((seen : List X) (x : X) → AreOrdered (rules seen x)) → AreOrdered later → length front + length xs ≤ n
-    → AreOrdered (each rules front xs ++ under n later)
-each_then rules front [] n later h k le = under_ordered n later k
-each_then rules front (x ∷ xs) n later h k le =
-    let more = each rules (front ++ x ∷ []) xs in
-    subst AreOrdered (sym (append_assoc (under (length front) (rules front x)) more (under n later)))
-    (under_then (length front) (rules front x) (more ++ under n later) (h front x)
-    (each_then rules (front ++ x ∷ []) xs n later h k (simp length-append (omega arith)))
-    (from-append (suc (length front)) more (under n later)
-    (all_later (suc (length front)) (length (front ++ x ∷ [])) more (simp length-append (omega arith)) (each_from rules (front ++ x ∷ []) xs))
-    (all_later (suc (length front)) n (under n later) (omega arith) (under_from n later))))
-
 rest_ordered : (at : ℕ) (rest : List ℕ) → AreOrdered (rest_rules_at at rest)
 rest_ordered at [] = tt
 rest_ordered at (b ∷ bs) = (tt, tt)
@@ -137,8 +120,9 @@ rest_ordered at (b ∷ bs) = (tt, tt)
 pub tile_ordered : ItemLaws → (b : List ℕ) → AreOrdered (tile_rules b)
 unfolding tile_rules
 tile_ordered laws b =
-    each_then field_rules [] (split b).fields (length (split b).fields) (under 0 (rest_rules (split b))) (field_ordered laws)
-    (under_ordered 0 (rest_rules (split b)) (rest_ordered (split b).rest_at (split b).rest)) (omega arith)
+    let n = length (split b).fields in
+    each_then field_rules [] (split b).fields (under n (under 0 (rest_rules (split b)))) (field_ordered laws)
+    (under_ordered n _ (under_ordered 0 (rest_rules (split b)) (rest_ordered (split b).rest_at (split b).rest))) (all_later (0 + n) n _ (omega arith) (under_from n _))
 
 pub tile_least : ItemLaws → (limit : ℕ) (b : List ℕ) (f : Fault) → length b ≤ limit → (fault_within limit b ≡ Some f) ↔ IsLeast (tile_rules b) f
 tile_least laws limit b f small = (

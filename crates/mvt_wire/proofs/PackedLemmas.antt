@@ -8,7 +8,8 @@ use Rattle.std.proofs.lemmas.List.Folds.{length-flat_map-take}
 use Rattle.std.proofs.Math.Seq.{drop-append_seam}
 use Rattle.mvt_base.specs.Rules.{Rules, when, under, each, first, AreOrdered}
 use Rattle.mvt_base.proofs.RuleLemmas.{first-append, first-under, first-when, first-when_not, option_or-nones, first_back, first_front, each_more, each_stops}
-use Rattle.mvt_base.proofs.OrderLemmas.{AllFrom, all_later, under_from, from-append, under_ordered, under_then, when_ordered}
+use Rattle.mvt_base.proofs.OrderLemmas.{all_later, under_from, under_ordered, when_ordered}
+use Rattle.mvt_base.proofs.GrowingLemmas.{each_then}
 use Rattle.mvt_wire.specs.declared.fault.WireCause.{WireCause}
 use Rattle.mvt_wire.specs.declared.fault.WireCause.TheVariants.{Truncated, VarintRange}
 use Rattle.mvt_wire.specs.Varint.{Spells, short}
@@ -169,27 +170,6 @@ pub packed_are : (b ns : List ℕ) → ArePacked b ns → (first (packed_rules b
 packed_are b ns p =
     let is : packed b ≡ record { numbers = ns; rest = [] } = packed_only b ns [] (split_from_packed b ns p) in
     (ap first (rules_is b) ∙ ap (λ q. first (rules_of q)) is ∙ rules_clean ns (small_from_packed b ns p), ap (λ q. q.numbers) is)
-
--- rules of each element, and then those that begin after the last, are in order
-each_from : {X F : Type 0} → (rules : List X → X → Rules F) (front xs : List X) (later : Rules F) → AllFrom (length front + length xs) later → AllFrom (length front) (each rules front xs ++ later)
-each_from rules front [] later from = all_later (length front) (length front + 0) later (omega arith) from
-each_from rules front (x ∷ xs) later from =
-    let size : length (front ++ x ∷ []) ≡ length front + 1 = length-append front (x ∷ []) in
-    let more : AllFrom (length (front ++ x ∷ []) + length xs) later = all_later _ (length front + suc (length xs)) later (omega arith) from in
-    subst (AllFrom (length front)) (sym (append_assoc (under (length front) (rules front x)) (each rules (front ++ x ∷ []) xs) later))
-    (from-append (length front) (under (length front) (rules front x)) (each rules (front ++ x ∷ []) xs ++ later) (under_from (length front) (rules front x))
-    (all_later (length front) (length (front ++ x ∷ [])) _ (omega arith) (each_from rules (front ++ x ∷ []) xs later more)))
-
-pub each_then : {X F : Type 0} → (rules : List X → X → Rules F) (front xs : List X) (later : Rules F) → ((seen : List X) (x : X) → AreOrdered (rules seen x))
-    → AreOrdered later → AllFrom (length front + length xs) later → AreOrdered (each rules front xs ++ later)
-each_then rules front [] later ordered last from = last
-each_then rules front (x ∷ xs) later ordered last from =
-    let size : length (front ++ x ∷ []) ≡ length front + 1 = length-append front (x ∷ []) in
-    let more : AllFrom (length (front ++ x ∷ []) + length xs) later = all_later _ (length front + suc (length xs)) later (omega arith) from in
-    subst AreOrdered (sym (append_assoc (under (length front) (rules front x)) (each rules (front ++ x ∷ []) xs) later))
-    (under_then (length front) (rules front x) (each rules (front ++ x ∷ []) xs ++ later) (ordered front x)
-    (each_then rules (front ++ x ∷ []) xs later ordered last more)
-    (all_later (suc (length front)) (length (front ++ x ∷ [])) _ (omega arith) (each_from rules (front ++ x ∷ []) xs later more)))
 
 pub packed_ordered : (b : List ℕ) → AreOrdered (packed_rules b)
 packed_ordered b =
