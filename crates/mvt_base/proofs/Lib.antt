@@ -1,3 +1,5 @@
 pub mod RuleLemmas
 pub mod OrderLemmas
 pub mod ListLemmas
+pub mod TableLemmas
+pub mod SelectionLemmas
