@@ -2,3 +2,5 @@ pub mod RuleLemmas
 pub mod OrderLemmas
 pub mod ListLemmas
 pub mod GrowingLemmas
+pub mod TableLemmas
+pub mod SelectionLemmas

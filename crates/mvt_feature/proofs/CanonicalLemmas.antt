@@ -2,11 +2,13 @@
 use Rattle.std.proofs.Common.{◌≡◌, ℕ, ◌^◌, ◌<◌, ◌≤◌, ◌==◌, Bool, true, false, not, ℤ, pos, negsuc, List, [], ◌∷◌, ◌++◌, length, map, Option, Some, None, refl, sym, ap, ◌∙◌, subst, append-nil, length-append, arith, rules, lit<, lit≤, if◌then◌else◌}
 use Rattle.std.specs.Prelude.{FitsSigned, IfSome}
 use Rattle.std.specs.Int.{w64, cast_unsigned}
-use Rattle.std.specs.List.{AllByRecursion}
+use Rattle.std.specs.List.{AllByRecursion, last_or}
 use Rattle.std.proofs.Math.Facts.{Fits-of_z}
 use Rattle.std.proofs.lemmas.Int.{ints, to_z-of_z}
 use Rattle.mvt_base.specs.Rules.{first}
 use Rattle.mvt_base.proofs.ListLemmas.{all_joined}
+use Rattle.mvt_base.proofs.TableLemmas.{each_none}
+use Rattle.mvt_base.proofs.SelectionLemmas.{all_only}
 use Rattle.mvt_attrs.specs.declared.value.Value.{Value}
 use Rattle.mvt_attrs.specs.declared.value.Value.TheVariants.{Text, Float, Double, Int, Uint, Sint, Bool as Truth}
 use Rattle.mvt_attrs.specs.Tags.{Names}
@@ -23,12 +25,10 @@ use Rattle.mvt_feature.proofs.Below.{ShortPacked, SpelledWhole, BytesLonger}
 use Rattle.mvt_feature.specs.declared.feature.Feature.{Feature}
 use Rattle.mvt_feature.specs.Canonical.{plain, value_field, value_fields, id_fields, tags_fields, type_number, drawing_fields, feature_fields}
 use Rattle.mvt_feature.specs.Features.{IsType, Joined, number_of, number_in, kind_numbered, kind_of_type, IsFeature, IsFeatureOf}
-use Rattle.mvt_feature.specs.Selection.{only, last_or}
+use Rattle.mvt_feature.specs.Selection.{only}
 use Rattle.mvt_feature.specs.Valid.{ValidValue, ValidFeature}
 use Rattle.mvt_feature.specs.Values.{IsVarint, Means, IsValue, IsValueOf}
 use Rattle.mvt_feature.specs.ValueRules.{kind_rules, kinds, are_one_kind, value_field_rules}
-use Rattle.mvt_feature.proofs.FeatureLemmas.{form_only}
-use Rattle.mvt_feature.proofs.SelectionLemmas.{each_none}
 use Rattle.mvt_feature.proofs.TextLemmas.{text_clean}
 use Rattle.mvt_feature.proofs.ValueLemmas.{value_from, rules_clean}
 use Rattle.mvt_feature.proofs.WritingLemmas.{spelled-append}
@@ -219,12 +219,12 @@ feature_reads short_packed xs keys values tags f is names small valid drawn_smal
     let ids = only_of_plain 1 xs ∙ ap (only_plain 1) is ∙ ids_only f.id tags kind integers in
     let types = only_of_plain 3 xs ∙ ap (only_plain 3) is ∙ type_only f.id tags kind integers in
     record {
-      ids = form_only 1 IsVarint xs (id_forms (only 1 xs) f.id ids);
+      ids = all_only (λ (x : Entry). x.number) (λ (x : Entry). IsVarint x.content) 1 xs (id_forms (only 1 xs) f.id ids);
       id = sym (id_last (only 1 xs) f.id ids);
       tags = tags;
       tags_are = tags_joined short_packed (only 2 xs) tags small (only_of_plain 2 xs ∙ ap (only_plain 2) is ∙ tags_only f.id tags kind integers);
       attributes = record { named = names; distinct = valid.distinct };
-      types = form_only 3 IsType xs (type_forms (only 3 xs) kind types);
+      types = all_only (λ (x : Entry). x.number) (λ (x : Entry). IsType x.content) 3 xs (type_forms (only 3 xs) kind types);
       integers = integers;
       integers_are = packed_joined short_packed (only 4 xs) 4 integers drawn_small (only_of_plain 4 xs ∙ ap (only_plain 4) is ∙ integers_only f.id tags kind integers);
       geometry = record { same_kind = type_last (only 3 xs) kind types; valid = valid.drawn; spelled = refl };

@@ -4,6 +4,8 @@ use Rattle.std.specs.List.{AllByRecursion}
 use Rattle.mvt_base.specs.Rules.{AreOrdered, IsLeast, when, told, first, each}
 use Rattle.mvt_base.proofs.OrderLemmas.{first_is_least, least_is_first, AreRowsFrom, rows_ordered, each_ordered, told_ordered, under_ordered, when_ordered}
 use Rattle.mvt_base.proofs.RuleLemmas.{first-under, option_or-nones}
+use Rattle.mvt_base.proofs.TableLemmas.{none_mapped, each_none, by_number, if_ordered}
+use Rattle.mvt_base.proofs.SelectionLemmas.{all_only}
 use Rattle.mvt_attrs.specs.declared.value.Value.{Value}
 use Rattle.mvt_attrs.specs.Tags.{Resolved}
 use Rattle.mvt_geometry.specs.Drawing.{Draws}
@@ -20,10 +22,8 @@ use Rattle.mvt_feature.specs.FeatureRules.{joined, type_rules, list_rules, form_
 use Rattle.mvt_feature.specs.Selection.{only, last_only, HaveForm}
 use Rattle.mvt_feature.specs.Values.{IsVarint}
 use Rattle.mvt_feature.specs.ValueRules.{varint_rules}
-use Rattle.mvt_feature.proofs.SelectionLemmas.{each_none}
-use Rattle.mvt_feature.proofs.TableLemmas.{none_mapped}
-use Rattle.mvt_feature.proofs.ValueLemmas.{form_varint, varint_ordered, if_ordered, rest_ordered, by_number}
-use Rattle.mvt_feature.proofs.FeatureLemmas.{feature_chain, fields_fault, feature_clean, feature_from, field_clean, form_type, form_only, all_joined_are, joined_small, joined_is, IsListOf}
+use Rattle.mvt_feature.proofs.ValueLemmas.{form_varint, varint_ordered, rest_ordered}
+use Rattle.mvt_feature.proofs.FeatureLemmas.{feature_chain, fields_fault, feature_clean, feature_from, field_clean, form_type, all_joined_are, joined_small, joined_is, IsListOf}
 use Rattle.mvt_feature.proofs.WalkLemmas.{none_rest}
 
 -- no fault: the payload is a feature
@@ -45,7 +45,7 @@ form_clean : (x : Entry) → (x.number ≡ 1 → IsVarint x.content) → (x.numb
 form_clean x h1 h2 h3 h4 =
     let n = x.number in
     let c = x.content in
-    by_number n c _ _ 1 (λ e. first-under 0 (varint_rules c) ∙ form_varint c (h1 e)) (by_number n c _ _ 2 h2 (by_number n c _ _ 3 (λ e. first-under 0 (type_rules c) ∙ form_type c (h3 e)) (by_number n c _ _ 4 h4 refl)))
+    by_number n _ _ 1 (λ e. first-under 0 (varint_rules c) ∙ form_varint c (h1 e)) (by_number n _ _ 2 h2 (by_number n _ _ 3 (λ e. first-under 0 (type_rules c) ∙ form_type c (h3 e)) (by_number n _ _ 4 h4 refl)))
 
 forms_clean : (base : ℕ) (xs : List Entry) → HaveForm 1 IsVarint xs → HaveForm 2 (λ c. first (list_rules c) ≡ None) xs → HaveForm 3 IsType xs → HaveForm 4 (λ c. first (list_rules c) ≡ None) xs → AllByRecursion (λ (x : Entry). first (feature_field_rules base x) ≡ None) xs
 forms_clean base [] h1 h2 h3 h4 = tt
@@ -53,7 +53,7 @@ forms_clean base (x ∷ xs) h1 h2 h3 h4 = (field_clean base x (form_clean x h1.0
 
 pub fields_clean : PackedOnly → (base : ℕ) (xs : List Entry) (keys : List (List ℕ)) (values : List Value) (f : Feature) → IsFeature xs keys values f → first (each (λ _. feature_field_rules base) [] xs) ≡ None
 fields_clean packed_only base xs keys values f is =
-    let lists = λ (k : ℕ) (ns : List ℕ) (are : Joined (only k xs) ns). form_only k (λ c. first (list_rules c) ≡ None) xs (all_joined_are packed_only (only k xs) ns are).0 in
+    let lists = λ (k : ℕ) (ns : List ℕ) (are : Joined (only k xs) ns). all_only (λ (x : Entry). x.number) (λ (x : Entry). first (list_rules x.content) ≡ None) k xs (all_joined_are packed_only (only k xs) ns are).0 in
     each_none (feature_field_rules base) [] xs (forms_clean base xs is.ids (lists 2 is.tags is.tags_are) is.types (lists 4 is.integers is.integers_are))
 
 pub feature_keeps : SplitOnly → PackedOnly → TagsClean → DrawingClean → (payload : List ℕ) (base : ℕ) (keys : List (List ℕ)) (values : List Value) (f : Feature) → IsFeatureOf payload keys values f → feature_fault payload base keys values ≡ None

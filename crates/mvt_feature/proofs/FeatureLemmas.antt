@@ -2,10 +2,11 @@
 use Rattle.std.proofs.Common.{◌≡◌, ℕ, ◌+◌, ◌^◌, ◌<◌, ◌==◌, Bool, true, false, not, nat_lt, nat_le, List, [], ◌∷◌, ◌++◌, Option, Some, None, refl, sym, ap, ap₂, ◌∙◌, subst, if◌then◌else◌}
 use Rattle.std.specs.List.{AllByRecursion, flat_map}
 use Rattle.std.specs.Option.{option_or, option_map}
-use Rattle.std.proofs.lemmas.Bool.{eqb-true, eq-eqb, ltb-true, lt-ltb, leb-true, le-leb, not-false}
+use Rattle.std.proofs.lemmas.Bool.{eqb-true, ltb-true, lt-ltb, leb-true, le-leb, not-false}
 use Rattle.mvt_base.specs.Rules.{when, under, told, each, first}
 use Rattle.mvt_base.proofs.ListLemmas.{all_weaker, all_joined}
 use Rattle.mvt_base.proofs.RuleLemmas.{first-under, first-told, first-when_not, option_or-none, option_or-some}
+use Rattle.mvt_base.proofs.TableLemmas.{first-rows_all, none_mapped, when_none, none_each}
 use Rattle.mvt_attrs.specs.declared.value.Value.{Value}
 use Rattle.mvt_attrs.specs.declared.resolving.TagError.{TagError}
 use Rattle.mvt_attrs.specs.declared.resolving.TagError.TheVariants as tag_errors
@@ -32,8 +33,6 @@ use Rattle.mvt_feature.specs.Selection.{only, last_only, HaveForm}
 use Rattle.mvt_feature.specs.Values.{IsVarint}
 use Rattle.mvt_feature.specs.ValueRules.{varint_rules}
 use Rattle.mvt_feature.specs.Faults.{of_tag_error, of_geometry_error}
-use Rattle.mvt_feature.proofs.SelectionLemmas.{none_each}
-use Rattle.mvt_feature.proofs.TableLemmas.{first-rows_all, none_mapped, when_none}
 use Rattle.mvt_feature.proofs.ValueLemmas.{tells_front, varint_form, whole_split}
 use Rattle.mvt_feature.proofs.KnownLemmas.{field_first}
 use Rattle.mvt_feature.proofs.WalkLemmas.{rest_none}
@@ -157,14 +156,6 @@ only_form k P (x ∷ xs) h = by_test (x.number == k) refl (only_form k P xs h.1)
     by_test : (b : Bool) → (x.number == k) ≡ b → AllByRecursion (λ (y : Entry). P y.content) (only k xs) → AllByRecursion (λ (y : Entry). P y.content) (if b then x ∷ only k xs else only k xs)
     by_test true e more = (h.0 (eqb-true x.number k e), more)
     by_test false e more = more
-
-pub form_only : (k : ℕ) (P : Content → Type 0) (xs : List Entry) → AllByRecursion (λ (x : Entry). P x.content) (only k xs) → HaveForm k P xs
-form_only k P [] h = tt
-form_only k P (x ∷ xs) h = by_test (x.number == k) refl h (form_only k P xs)
-  where
-    by_test : (b : Bool) → (x.number == k) ≡ b → AllByRecursion (λ (y : Entry). P y.content) (if b then x ∷ only k xs else only k xs) → (AllByRecursion (λ (y : Entry). P y.content) (only k xs) → HaveForm k P xs) → HaveForm k P (x ∷ xs)
-    by_test true e h more = (λ _. h.0, more h.1)
-    by_test false e h more = (λ is. cc (eq-eqb x.number k is), more h)
 
 joined_all : PackedClean → (xs : List Entry) → AllByRecursion IsListOf xs → Joined xs (flat_map (λ (x : Entry). numbers_of x.content) xs)
 joined_all packed_clean [] h = refl

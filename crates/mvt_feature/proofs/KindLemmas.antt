@@ -1,18 +1,18 @@
 -- The kinds of value that occur in fields.
-use Rattle.std.proofs.Common.{◌≡◌, ℕ, ◌+◌, ◌==◌, ◌&&◌, Bool, true, false, List, [], ◌∷◌, ◌++◌, Option, Some, None, Ok, refl, sym, ap, ◌∙◌, append_assoc, append-nil, subst, if◌then◌else◌}
-use Rattle.std.specs.List.{list_all}
+use Rattle.std.proofs.Common.{◌≡◌, ℕ, ◌+◌, ◌==◌, ◌&&◌, Bool, true, false, List, [], ◌∷◌, ◌++◌, Some, None, Ok, refl, sym, ap, ◌∙◌, append_assoc, append-nil, subst, if◌then◌else◌}
+use Rattle.std.specs.List.{list_all, last_or}
 use Rattle.std.proofs.lemmas.Bool.{eqb-true, eqb-false, eq-eqb, ne_eqb, and_left, and_right, and_from}
 use Rattle.std.proofs.lemmas.List.Elements.{filter-append}
 use Rattle.std.proofs.lemmas.List.Folds.{list_all-append}
 use Rattle.mvt_base.specs.Rules.{each, first}
 use Rattle.mvt_base.proofs.RuleLemmas.{each_more, each_stops, first-told}
+use Rattle.mvt_base.proofs.SelectionLemmas.{last_or-more}
 use Rattle.mvt_wire.specs.Field.{Entry}
 use Rattle.mvt_feature.specs.declared.cause.Cause.{Cause}
 use Rattle.mvt_feature.specs.declared.value.Kinds.{Kinds}
 use Rattle.mvt_feature.specs.declared.value.Kinds.TheVariants.{Nothing, One, Several}
 use Rattle.mvt_feature.specs.declared.value.Meaning.{Meaning}
 use Rattle.mvt_feature.specs.Faults.{fault_at}
-use Rattle.mvt_feature.specs.Selection.{last_or}
 use Rattle.mvt_feature.specs.Values.{Means}
 use Rattle.mvt_feature.specs.ValueRules.{kind_rules, is_kind, kinds, are_one_kind, value_field_rules}
 use Rattle.mvt_feature.specs.Inner.{value_of, kinds_with, AreKindsOf, AreSoFar}
@@ -22,10 +22,6 @@ kinds_take done x h = filter-append is_kind done (x ∷ []) ∙ ap (λ b. kinds 
 
 kinds_skip : (done : List Entry) (x : Entry) → is_kind x ≡ false → kinds (done ++ x ∷ []) ≡ kinds done
 kinds_skip done x h = filter-append is_kind done (x ∷ []) ∙ ap (λ b. kinds done ++ (if b then x ∷ [] else [])) h ∙ append-nil (kinds done)
-
-pub last_more : (o : Option Entry) (xs : List Entry) (x : Entry) → last_or o (xs ++ x ∷ []) ≡ Some x
-last_more o [] x = refl
-last_more o (y ∷ ys) x = last_more (Some y) ys x
 
 -- the last of fields of one number has that number
 same_number : (k : ℕ) (o : Entry) (xs : List Entry) (last : Entry) → o.number ≡ k → list_all (λ (y : Entry). y.number == k) xs ≡ true → last_or (Some o) xs ≡ Some last → last.number ≡ k
@@ -54,7 +50,7 @@ one_more : (y : Entry) (ys : List Entry) (x last : Entry) (number : ℕ) (old m 
 one_more y ys x last number old m true same one is named means =
     let of_first : last.number ≡ y.number = same_number y.number y ys last refl one is in
     let equal : number ≡ x.number = eqb-true number x.number same in
-    (one_number y ys x ∙ and_from _ _ one (eq-eqb x.number y.number (sym equal ∙ sym named ∙ of_first)), (x, (last_more None (y ∷ ys) x, (refl, means))))
+    (one_number y ys x ∙ and_from _ _ one (eq-eqb x.number y.number (sym equal ∙ sym named ∙ of_first)), (x, (last_or-more None (y ∷ ys) x, (refl, means))))
 one_more y ys x last number old m false same one is named means =
     let of_first : last.number ≡ y.number = same_number y.number y ys last refl one is in
     let differ : x.number ≡ y.number → ⊥ = λ e. eqb-false number x.number same (sym named ∙ of_first ∙ sym e) in

@@ -4,8 +4,10 @@ use Rattle.std.specs.Prelude.{OnOk, IfOk, IfErr}
 use Rattle.std.specs.List.{flat_map}
 use Rattle.std.specs.Option.{option_map}
 use Rattle.std.proofs.lemmas.Grind.{flat_map-append}
+use Rattle.std.proofs.lemmas.List.Elements.{filter-append}
 use Rattle.mvt_base.specs.Rules.{each, first}
 use Rattle.mvt_base.proofs.RuleLemmas.{each_more, each_stops, first-told}
+use Rattle.mvt_base.proofs.SelectionLemmas.{last_only-more}
 use Rattle.mvt_wire.specs.Field.{Entry}
 use Rattle.mvt_feature.specs.declared.known.Known.{Known}
 use Rattle.mvt_feature.specs.declared.message_error.MessageError.{MessageError}
@@ -15,18 +17,17 @@ use Rattle.mvt_feature.specs.Features.{number_of, number_in, kind_of_type}
 use Rattle.mvt_feature.specs.FeatureRules.{numbers_of, joined, kind_in, form_rules, feature_field_rules}
 use Rattle.mvt_feature.specs.Selection.{only, last_only}
 use Rattle.mvt_feature.specs.Inner.{id_after, kind_after, numbers_at, IsKnown, IsKnownSoFar}
-use Rattle.mvt_feature.proofs.SelectionLemmas.{only-append, last_only-more}
 
 joined_more : (k : ℕ) (xs : List Entry) (x : Entry) → joined k (xs ++ x ∷ []) ≡ joined k xs ++ numbers_at k x.number x.content
 joined_more k xs x =
-    ap (flat_map (λ (y : Entry). numbers_of y.content)) (only-append k xs (x ∷ [])) ∙ flat_map-append (λ (y : Entry). numbers_of y.content) (only k xs) (only k (x ∷ [])) ∙ ap (λ l. joined k xs ++ l) (by_test (x.number == k))
+    ap (flat_map (λ (y : Entry). numbers_of y.content)) (filter-append (λ (y : Entry). y.number == k) xs (x ∷ [])) ∙ flat_map-append (λ (y : Entry). numbers_of y.content) (only k xs) (only k (x ∷ [])) ∙ ap (λ l. joined k xs ++ l) (by_test (x.number == k))
   where
     by_test : (b : Bool) → flat_map (λ (y : Entry). numbers_of y.content) (if b then x ∷ [] else []) ≡ (if b then numbers_of x.content else [])
     by_test true = append-nil (numbers_of x.content)
     by_test false = refl
 
 number_more : (k : ℕ) (xs : List Entry) (x : Entry) → number_in (last_only k (xs ++ x ∷ [])) ≡ (if x.number == k then number_of x.content else number_in (last_only k xs))
-number_more k xs x = ap number_in (last_only-more k xs x) ∙ by_test (x.number == k)
+number_more k xs x = ap number_in (last_only-more (λ (y : Entry). y.number) k xs x) ∙ by_test (x.number == k)
   where
     by_test : (b : Bool) → number_in (if b then Some x else last_only k xs) ≡ (if b then number_of x.content else number_in (last_only k xs))
     by_test true = refl

@@ -1,5 +1,6 @@
 -- What is read is in the range of its type.
 use Rattle.std.proofs.Common.{◌≡◌, ℕ, zero, suc, ◌+◌, ◌^◌, ◌<◌, ℤ, pos, negsuc, List, [], ◌∷◌, ◌++◌, length, Option, Some, None, refl, sym, ◌∙◌, subst, arith, rules, lit<}
+use Rattle.mvt_base.proofs.SelectionLemmas.{only_number, only_all, last_of_all}
 use Rattle.std.specs.Prelude.{IsUtf8, FitsSigned, IfSome, slice_get}
 use Rattle.std.specs.Int.{w64, cast_signed}
 use Rattle.std.specs.List.{AllByRecursion}
@@ -15,7 +16,6 @@ use Rattle.mvt_feature.specs.Ranges.{AreBytes, IsInRange}
 use Rattle.mvt_feature.specs.Selection.{only, last_only}
 use Rattle.mvt_feature.specs.Valid.{ValidValue, ValidAttribute, ValidFeature}
 use Rattle.mvt_feature.specs.Values.{IsText, Means, IsValueOf}
-use Rattle.mvt_feature.proofs.SelectionLemmas.{only_all, last_of_all, only_number}
 
 bytes_front : (xs ys : List ℕ) → AreBytes (xs ++ ys) → AreBytes xs
 bytes_front [] ys h k = lit< tt
@@ -61,10 +61,10 @@ means_range n c v h text m = absurd (search rules)
 
 pub value_valid : (payload : List ℕ) (v : Value) → AreBytes payload → IsValueOf payload v → ValidValue v
 value_valid payload v h (xs, whole, is) =
-    let ranges = only_all (λ (x : Entry). IsInRange x.content) is.kind xs (fields_range 0 payload xs [] h whole) in
+    let ranges = only_all (λ (x : Entry). x.number) (λ (x : Entry). IsInRange x.content) is.kind xs (fields_range 0 payload xs [] h whole) in
     let range = last_of_all (λ (x : Entry). IsInRange x.content) (only is.kind xs) is.last ranges is.is_last in
-    let named = last_of_all (λ (x : Entry). x.number ≡ is.kind) (only is.kind xs) is.last (only_number is.kind xs) is.is_last in
-    let texts = last_of_all (λ (x : Entry). x.number ≡ 1 → IsText x.content) (only is.kind xs) is.last (only_all (λ (x : Entry). x.number ≡ 1 → IsText x.content) is.kind xs is.texts) is.is_last in
+    let named = last_of_all (λ (x : Entry). x.number ≡ is.kind) (only is.kind xs) is.last (only_number (λ (x : Entry). x.number) is.kind xs) is.is_last in
+    let texts = last_of_all (λ (x : Entry). x.number ≡ 1 → IsText x.content) (only is.kind xs) is.last (only_all (λ (x : Entry). x.number) (λ (x : Entry). x.number ≡ 1 → IsText x.content) is.kind xs is.texts) is.is_last in
     means_range is.kind is.last.content v range (λ one. texts (named ∙ one)) is.means
 
 -- features
@@ -93,7 +93,7 @@ if_some (Some n) P h = h n refl
 
 pub feature_valid : (payload : List ℕ) (keys : List (List ℕ)) (values : List Value) (f : Feature) → AreBytes payload → AllByRecursion IsUtf8 keys → AllByRecursion ValidValue values → IsFeatureOf payload keys values f → ValidFeature f
 feature_valid payload keys values f h utf8 valid (xs, whole, is) =
-    let ranges = only_all (λ (x : Entry). IsInRange x.content) 1 xs (fields_range 0 payload xs [] h whole) in
+    let ranges = only_all (λ (x : Entry). x.number) (λ (x : Entry). IsInRange x.content) 1 xs (fields_range 0 payload xs [] h whole) in
     record {
       id = if_some f.id (λ n. n < 2 ^ 64) (λ n e. number_range (last_only 1 xs) n (λ x at. last_of_all (λ (y : Entry). IsInRange y.content) (only 1 xs) x ranges at) (sym is.id ∙ e));
       attributes = all_from ValidAttribute f.attributes (λ i a at. (all_at IsUtf8 keys _ a.key utf8 (is.attributes.named.key i a at), all_at ValidValue values _ a.value valid (is.attributes.named.value i a at)));

@@ -2,12 +2,12 @@
 use Rattle.std.proofs.Common.{◌≡◌, ℕ, ◌+◌, ◌/◌, ◌%◌, ◌≤◌, ◌==◌, ◌↔◌, inl, inr, Bool, true, false, not, nat_le, ℤ, pos, negsuc, List, [], ◌∷◌, Option, Some, None, refl, sym, ap, ◌∙◌, subst, arith, rules, if◌then◌else◌}
 use Rattle.std.specs.Prelude.{IsUtf8}
 use Rattle.std.specs.Int.{w64, cast_signed}
-use Rattle.std.specs.List.{AllByRecursion, list_all}
+use Rattle.std.specs.List.{AllByRecursion, list_all, last_or}
 use Rattle.std.specs.Option.{option_or}
 use Rattle.std.specs.Str.{is_utf8}
 use Rattle.std.proofs.lemmas.Bool.{eqb-true, eq-eqb, ne_eqb, cases_eq, and_parts, and_from, leb-true, le-leb, not-false, both_ways}
 use Rattle.std.proofs.lemmas.Str.{IsUtf8-from_is_utf8}
-use Rattle.mvt_base.specs.Rules.{Rules, AreOrdered, IsLeast, when, each, first}
+use Rattle.mvt_base.specs.Rules.{AreOrdered, IsLeast, when, each, first}
 use Rattle.mvt_base.proofs.RuleLemmas.{first-when, first-when_not, first-told, option_or-none, option_or-nones, option_or-right}
 use Rattle.mvt_base.proofs.ListLemmas.{all_weaker}
 use Rattle.mvt_attrs.specs.declared.value.Value.{Value}
@@ -16,22 +16,21 @@ use Rattle.mvt_wire.specs.Field.{Content, varint, fixed64, bytes, fixed32, Entry
 use Rattle.mvt_wire.specs.Split.{Parts, Split, Whole, split}
 use Rattle.mvt_feature.proofs.Below.{SplitIs, SplitOnly, split_of}
 use Rattle.mvt_wire.specs.Zigzag.{zig}
-use Rattle.mvt_feature.specs.declared.cause.Cause.{Cause}
 use Rattle.mvt_feature.specs.declared.value.Meaning.{Meaning}
 use Rattle.mvt_feature.specs.declared.value.Kinds.TheVariants.{Nothing, One, Several}
 use Rattle.mvt_feature.specs.Inner.{value_of, AreKinds}
 use Rattle.mvt_base.proofs.OrderLemmas.{first_is_least, least_is_first, AreRowsFrom, rows_ordered, each_ordered, told_ordered, when_ordered}
+use Rattle.mvt_base.proofs.TableLemmas.{firsts, first-rows_all, none_mapped, when_none, none_each, each_none, by_number, if_ordered}
+use Rattle.mvt_base.proofs.SelectionLemmas.{only_number, only_all, last_of_all, last_there}
 use Rattle.mvt_feature.proofs.WalkLemmas.{rest_none, none_rest}
 use Rattle.mvt_feature.specs.declared.cause.Cause.TheVariants.{ValueKind, WrongType, NotUtf8}
 use Rattle.mvt_feature.specs.Faults.{MessageFault, fault_at, rest_rules, rest_rules_at, TellsMessage}
 use Rattle.mvt_feature.specs.declared.message_error.MessageError.{MessageError}
 use Rattle.mvt_feature.specs.declared.message_error.MessageError.TheVariants.{Memory, Fault}
-use Rattle.mvt_feature.specs.Selection.{only, last_or, last_only, HaveForm}
+use Rattle.mvt_feature.specs.Selection.{only, last_only, HaveForm}
 use Rattle.mvt_feature.specs.Values.{IsVarint, IsFixed32, IsFixed64, IsText, IsKind, Means, IsValue, IsValueOf}
 use Rattle.mvt_feature.specs.ValueRules.{text_rules, varint_rules, fixed32_rules, fixed64_rules, kind_rules, is_kind, kinds, are_one_kind, value_field_rules, value_table, value_rules, value_fault}
-use Rattle.mvt_feature.proofs.SelectionLemmas.{none_each, each_none, only_number, only_all, last_of_all, last_there}
 use Rattle.mvt_feature.proofs.TextLemmas.{text_clean}
-use Rattle.mvt_feature.proofs.TableLemmas.{firsts, first-rows_all, none_mapped, when_none}
 
 -- the fault of a value from its parts
 pub value_chain : (payload : List ℕ) (base own : ℕ) → value_fault payload base own ≡ firsts (value_table payload base own)
@@ -341,18 +340,11 @@ value_there split_is payload base own h =
     (found.0, ((split payload).fields, whole_split split_is payload (none_rest base (split payload) parts.0), found.1))
 
 -- the grammar keeps the rules
-pub by_number : (n : ℕ) (c : Content) (a b : Rules Cause) (k : ℕ) → (n ≡ k → first a ≡ None) → first b ≡ None → first (if n == k then a else b) ≡ None
-by_number n c a b k h g = by_test (n == k) refl
-  where
-    by_test : (t : Bool) → (n == k) ≡ t → first (if t then a else b) ≡ None
-    by_test true e = h (eqb-true n k e)
-    by_test false e = g
-
 form_rules : (x : Entry) → (x.number ≡ 1 → IsText x.content) → (x.number ≡ 2 → IsFixed32 x.content) → (x.number ≡ 3 → IsFixed64 x.content) → (x.number ≡ 4 → IsVarint x.content) → (x.number ≡ 5 → IsVarint x.content) → (x.number ≡ 6 → IsVarint x.content) → (x.number ≡ 7 → IsVarint x.content) → first (kind_rules x.number x.content) ≡ None
 form_rules x h1 h2 h3 h4 h5 h6 h7 =
     let n = x.number in
     let c = x.content in
-    by_number n c _ _ 1 (λ e. form_text c (h1 e)) (by_number n c _ _ 2 (λ e. form_fixed32 c (h2 e)) (by_number n c _ _ 3 (λ e. form_fixed64 c (h3 e)) (by_number n c _ _ 4 (λ e. form_varint c (h4 e)) (by_number n c _ _ 5 (λ e. form_varint c (h5 e)) (by_number n c _ _ 6 (λ e. form_varint c (h6 e)) (by_number n c _ _ 7 (λ e. form_varint c (h7 e)) refl))))))
+    by_number n _ _ 1 (λ e. form_text c (h1 e)) (by_number n _ _ 2 (λ e. form_fixed32 c (h2 e)) (by_number n _ _ 3 (λ e. form_fixed64 c (h3 e)) (by_number n _ _ 4 (λ e. form_varint c (h4 e)) (by_number n _ _ 5 (λ e. form_varint c (h5 e)) (by_number n _ _ 6 (λ e. form_varint c (h6 e)) (by_number n _ _ 7 (λ e. form_varint c (h7 e)) refl))))))
 
 forms_rules : (base : ℕ) (xs : List Entry) → HaveForm 1 IsText xs → HaveForm 2 IsFixed32 xs → HaveForm 3 IsFixed64 xs → HaveForm 4 IsVarint xs → HaveForm 5 IsVarint xs → HaveForm 6 IsVarint xs → HaveForm 7 IsVarint xs → AllByRecursion (λ (x : Entry). first (value_field_rules base x) ≡ None) xs
 forms_rules base [] h1 h2 h3 h4 h5 h6 h7 = tt
@@ -372,7 +364,7 @@ value_keeps split_only base own payload v (xs, whole, is) =
     let only = split_of split_only payload xs whole in
     let clean = each_none (value_field_rules base) [] xs (forms_rules base xs is.texts is.floats is.doubles is.ints is.uints is.sints is.truths) in
     let kind = means_kind is.kind is.last.content v is.means in
-    let numbers = subst (λ ys. AllByRecursion (λ (y : Entry). y.number ≡ is.kind) ys) (only_kinds is.kind xs kind is.one) (only_number is.kind xs) in
+    let numbers = subst (λ ys. AllByRecursion (λ (y : Entry). y.number ≡ is.kind) ys) (only_kinds is.kind xs kind is.one) (only_number (λ (x : Entry). x.number) is.kind xs) in
     let one = all_one is.kind (kinds xs) is.last numbers (ap (last_or None) (sym (only_kinds is.kind xs kind is.one)) ∙ is.is_last) in
     value_clean payload base own (rest_none base (split payload) only.1) (rw only.0 clean) (rw only.0 one)
 
@@ -396,8 +388,8 @@ means_same n c v w h g = absurd (search rules)
 pub value_same : (xs : List Entry) (v w : Value) → IsValue xs v → IsValue xs w → v ≡ w
 value_same xs v w a b =
     let a_kind = means_kind a.kind a.last.content v a.means in
-    let named : a.last.number ≡ a.kind = last_of_all (λ (x : Entry). x.number ≡ a.kind) (only a.kind xs) a.last (only_number a.kind xs) a.is_last in
-    let other : IsKind a.last.number → a.last.number ≡ b.kind = last_of_all (λ (x : Entry). IsKind x.number → x.number ≡ b.kind) (only a.kind xs) a.last (only_all (λ (x : Entry). IsKind x.number → x.number ≡ b.kind) a.kind xs b.one) a.is_last in
+    let named : a.last.number ≡ a.kind = last_of_all (λ (x : Entry). x.number ≡ a.kind) (only a.kind xs) a.last (only_number (λ (x : Entry). x.number) a.kind xs) a.is_last in
+    let other : IsKind a.last.number → a.last.number ≡ b.kind = last_of_all (λ (x : Entry). IsKind x.number → x.number ≡ b.kind) (only a.kind xs) a.last (only_all (λ (x : Entry). x.number) (λ (x : Entry). IsKind x.number → x.number ≡ b.kind) a.kind xs b.one) a.is_last in
     let same : a.kind ≡ b.kind = sym named ∙ other (subst IsKind (sym named) a_kind) in
     let lasts : Some a.last ≡ Some b.last = sym a.is_last ∙ ap (λ k. last_only k xs) same ∙ b.is_last in
     let last : a.last ≡ b.last = cc in
@@ -433,10 +425,6 @@ fixed64_ordered (fixed64 n) = tt
 fixed64_ordered (bytes d) = when_ordered true WrongType
 fixed64_ordered (varint n) = when_ordered true WrongType
 fixed64_ordered (fixed32 n) = when_ordered true WrongType
-
-pub if_ordered : {F : Type 0} → (b : Bool) (r s : Rules F) → AreOrdered r → AreOrdered s → AreOrdered (if b then r else s)
-if_ordered true r s h g = h
-if_ordered false r s h g = g
 
 kind_ordered : (n : ℕ) (c : Content) → AreOrdered (kind_rules n c)
 kind_ordered n c =

@@ -1,4 +1,4 @@
--- A walk over the fields of a payload: the fields so far, and what is still to come.
+-- The steps of a walk over the fields of a payload, and its end.
 use Rattle.std.proofs.Common.{◌≡◌, ◌≢◌, ℕ, ◌+◌, ◌^◌, ◌<◌, List, [], ◌∷◌, ◌++◌, length, Some, None, Result, Ok, Err, refl, subst, sym, ap, ap₂, ◌∙◌, append_assoc, append-nil, arith}
 use Rattle.std.specs.Prelude.{OnOk, IfOk, IfErr}
 use Rattle.std.specs.Option.{option_or}
@@ -12,13 +12,7 @@ use Rattle.mvt_wire.specs.Split.{Parts, split}
 use Rattle.mvt_feature.specs.declared.message_error.MessageError.{MessageError}
 use Rattle.mvt_feature.specs.Causes.{of_wire}
 use Rattle.mvt_feature.specs.Faults.{MessageFault, fault_at, TellsMessage, rest_rules, rest_rules_at}
-use Rattle.mvt_feature.specs.Inner.{IsSoFar}
-
-pub record Walk (payload : List ℕ) (to_come : Parts) (done : List Entry) : Type 0 where
-  pub fields : (split payload).fields ≡ done ++ to_come.fields
-  pub rest : to_come.rest ≡ (split payload).rest
-  pub place : to_come.rest_at ≡ (split payload).rest_at
-  pub bound : (split payload).rest_at + length (split payload).rest ≡ length payload
+use Rattle.mvt_feature.specs.Walks.{Walk, IsSoFar}
 
 pub walk_start : (payload : List ℕ) (it : Parts) → it ≡ split payload → it.rest_at + length it.rest ≡ length payload → Walk payload it []
 walk_start payload it is bound = record {

@@ -1,6 +1,6 @@
 -- Definitions between private functions, which no public contract cites.
-use Rattle.std.specs.Prelude.{◌≡◌, ◌≢◌, ℕ, ◌==◌, true, false, List, [], ◌++◌, Option, Some, None, Result, Ok, Err, if◌then◌else◌}
-use Rattle.mvt_base.specs.Rules.{Rules, each, first}
+use Rattle.std.specs.Prelude.{◌≡◌, ◌≢◌, ℕ, ◌==◌, true, false, List, [], Option, Some, None, Result, if◌then◌else◌}
+use Rattle.std.specs.List.{last_or}
 use Rattle.mvt_attrs.specs.declared.value.Value.{Value}
 use Rattle.mvt_attrs.specs.declared.value.Value.TheVariants as values
 use Rattle.mvt_geometry.specs.declared.shape.Kind.{Kind}
@@ -11,11 +11,11 @@ use Rattle.mvt_feature.specs.declared.value.Meaning.{Meaning}
 use Rattle.mvt_feature.specs.declared.value.Meaning.TheVariants as meanings
 use Rattle.mvt_feature.specs.declared.value.Kinds.{Kinds}
 use Rattle.mvt_feature.specs.declared.value.Kinds.TheVariants.{Nothing, One, Several}
-use Rattle.mvt_feature.specs.Faults.{MessageFault, TellsMessage}
 use Rattle.mvt_feature.specs.Features.{number_of, number_in, kind_of_type}
 use Rattle.mvt_feature.specs.FeatureRules.{numbers_of, joined, kind_in, feature_field_rules}
-use Rattle.mvt_feature.specs.Selection.{last_or, last_only}
+use Rattle.mvt_feature.specs.Selection.{last_only}
 use Rattle.mvt_feature.specs.Values.{Means}
+use Rattle.mvt_feature.specs.Walks.{IsSoFar}
 use Rattle.mvt_feature.specs.ValueRules.{kinds, are_one_kind, value_field_rules}
 
 abbrev pub value_of : Meaning → Value
@@ -42,12 +42,6 @@ abbrev pub kinds_with : Kinds → ℕ → Meaning → Kinds
 kinds_with Nothing number meaning = One number meaning
 kinds_with (One first_number old) number meaning = if first_number == number then One number meaning else Several
 kinds_with Several number meaning = Several
-
--- what holds of the fields so far, which break no rule; or a fault that stays whatever fields follow
-abbrev pub IsSoFar : {K : Type 0} → (Entry → Rules MessageFault) → (List Entry → K → Type 0) → List Entry → Result K MessageError → Type 0
-IsSoFar rules Holds done (Ok k) = (first (each (λ _. rules) [] done) ≡ None) × Holds done k
-IsSoFar rules Holds done (Err error) =
-    (more : List Entry) → TellsMessage error (first (each (λ _. rules) [] (done ++ more)))
 
 abbrev pub AreSoFar : ℕ → List Entry → Result Kinds MessageError → Type 0
 AreSoFar base done k = IsSoFar (value_field_rules base) AreKinds done k

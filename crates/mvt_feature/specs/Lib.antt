@@ -8,4 +8,5 @@ pub mod FeatureRules
 pub mod Canonical
 pub mod Valid
 pub mod Ranges
+pub mod Walks
 pub mod Inner

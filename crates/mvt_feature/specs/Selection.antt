@@ -1,17 +1,11 @@
 -- Fields by their number (Protocol Buffers, Encoding, "Message Structure", "Last One Wins").
-use Rattle.std.specs.Prelude.{◌≡◌, ℕ, ◌==◌, List, [], ◌∷◌, Option, Some, None, if◌then◌else◌}
-use Rattle.std.specs.List.{AllByRecursion}
+use Rattle.std.specs.Prelude.{◌≡◌, ℕ, ◌==◌, List, Option, None, filter}
+use Rattle.std.specs.List.{AllByRecursion, last_or}
 use Rattle.mvt_wire.specs.Field.{Content, Entry}
 
 -- the fields of this number, in order
 abbrev pub only : ℕ → List Entry → List Entry
-only k [] = []
-only k (x ∷ xs) = if x.number == k then x ∷ only k xs else only k xs
-
--- the last of a list, or another where it is empty
-abbrev pub last_or : Option Entry → List Entry → Option Entry
-last_or o [] = o
-last_or o (x ∷ xs) = last_or (Some x) xs
+only k xs = filter (λ (x : Entry). x.number == k) xs
 
 -- the last field of this number
 abbrev pub last_only : ℕ → List Entry → Option Entry

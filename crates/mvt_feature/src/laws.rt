@@ -1,21 +1,28 @@
 //! Laws about the definitions alone: functions without effect, whose contract is the law.
-ghost use Rattle.std.specs.Prelude.{◌≡◌, ◌↔◌, ℕ, ◌^◌, ◌<◌, List, length, None, Some, IsUtf8};
+ghost use Rattle.std.specs.Prelude.{◌≡◌, ◌↔◌, ℕ, ◌+◌, ◌^◌, ◌<◌, List, [], ◌∷◌, ◌++◌, length, None, Some, Result, Ok, Err, IsUtf8, OnOk, IfOk, IfErr};
 ghost use Rattle.std.specs.List.{AllByRecursion};
-ghost use Rattle.mvt_base.specs.Rules.{AreOrdered, IsLeast};
+ghost use Rattle.std.specs.Option.{option_or};
+ghost use Rattle.mvt_base.specs.Rules.{Rules, AreOrdered, IsLeast, each, first};
 ghost use Rattle.mvt_attrs.specs.declared.value.Value.{Value};
 ghost use Rattle.mvt_feature.specs.declared.feature.Feature.{Feature};
 ghost use Rattle.mvt_attrs.specs.Tags.{Names};
-ghost use Rattle.mvt_wire.specs.Field.{Entry};
+ghost use Rattle.mvt_wire.specs.declared.fault.WireFault.{WireFault};
+ghost use Rattle.mvt_wire.specs.declared.field.Field.{Field};
+ghost use Rattle.mvt_wire.specs.Field.{Entry, entry_of};
+ghost use Rattle.mvt_wire.specs.Fields.{GivesField};
 ghost use Rattle.mvt_wire.specs.Spelling.{spelled};
-ghost use Rattle.mvt_wire.specs.Split.{Whole};
+ghost use Rattle.mvt_wire.specs.Split.{Parts, Whole, split};
+ghost use Rattle.mvt_feature.specs.declared.message_error.MessageError.{MessageError};
+ghost use Rattle.mvt_feature.specs.Causes.{of_wire};
 ghost use Rattle.mvt_feature.specs.Canonical.{value_fields, feature_fields};
-ghost use Rattle.mvt_feature.specs.Faults.{MessageFault};
+ghost use Rattle.mvt_feature.specs.Faults.{MessageFault, TellsMessage, fault_at, rest_rules};
 ghost use Rattle.mvt_feature.specs.Ranges.{AreBytes, IsInRange};
 ghost use Rattle.mvt_feature.specs.Valid.{ValidValue, ValidFeature};
 ghost use Rattle.mvt_feature.specs.Features.{IsFeatureOf};
 ghost use Rattle.mvt_feature.specs.FeatureRules.{feature_rules, feature_fault};
 ghost use Rattle.mvt_feature.specs.Values.{IsValueOf};
 ghost use Rattle.mvt_feature.specs.ValueRules.{value_rules, value_fault};
+ghost use Rattle.mvt_feature.specs.Walks.{IsSoFar, Walk};
 
 /// A payload without a fault is just one value, and a payload that is a value has no fault.
 pub fn value_or_fault()
@@ -89,4 +96,49 @@ pub fn read_is_valid()
     ensures feature { (payload : List ℕ) (keys : List (List ℕ)) (values : List Value) (feature : Feature) →
         AreBytes payload → AllByRecursion IsUtf8 keys → AllByRecursion ValidValue values
         → IsFeatureOf payload keys values feature → ValidFeature feature }
+{}
+
+/// A rest has no fault exactly where no bytes are left, and its rules are in order.
+pub fn rests()
+    ensures none { (base : ℕ) (parts : Parts) → parts.rest ≡ [] → first (rest_rules base parts) ≡ None }
+    ensures nothing { (base : ℕ) (parts : Parts) → first (rest_rules base parts) ≡ None → parts.rest ≡ [] }
+    ensures ordered { (base : ℕ) (parts : Parts) → AreOrdered (rest_rules base parts) }
+{}
+
+/// A walk begins before the first field of a payload, takes one field a step and ends behind the last or
+/// at a rest. What it meets stands inside the payload.
+pub fn walks()
+    ensures start { (payload : List ℕ) (it : Parts) → it ≡ split payload
+        → it.rest_at + length it.rest ≡ length payload → Walk payload it [] }
+    ensures step { (payload : List ℕ) (old new : Parts) (done : List Entry) (field : Field) → Walk payload old done
+        → GivesField old (Some (Ok field)) new → Walk payload new (done ++ entry_of field ∷ []) }
+    ensures fits { (payload : List ℕ) (old new : Parts) (done : List Entry) (field : Field) (base : ℕ)
+        → Walk payload old done → GivesField old (Some (Ok field)) new → base + length payload < 2 ^ 64
+        → base + field.at < 2 ^ 64 }
+    ensures end { (payload : List ℕ) (old new : Parts) (done : List Entry) → Walk payload old done
+        → GivesField old None new → ((split payload).fields ≡ done) × ((split payload).rest ≡ []) }
+    ensures fault_fits { (payload : List ℕ) (old new : Parts) (done : List Entry) (fault : WireFault) (base : ℕ)
+        → Walk payload old done → GivesField old (Some (Err fault)) new → base + length payload < 2 ^ 64
+        → base + fault.at < 2 ^ 64 }
+    ensures fault { (payload : List ℕ) (old new : Parts) (done : List Entry) (fault : WireFault) (base : ℕ)
+        → Walk payload old done → GivesField old (Some (Err fault)) new
+        → first (rest_rules base (split payload)) ≡ Some (fault_at (base + fault.at) (of_wire fault.cause)) }
+{}
+
+/// At the end of a walk, what was found in the fields so far is what is found in all.
+pub fn walk_results<K>()
+    ensures whole { (payload : List ℕ) (old new : Parts) (done : List Entry) (r : Result K MessageError)
+        → Walk payload old done → GivesField old None new → OnOk r ((split payload).rest ≡ []) }
+    ensures clean { (payload : List ℕ) (old new : Parts) (done : List Entry) (rules : Entry → Rules MessageFault)
+        (found : List Entry → K) (r : Result K MessageError) → Walk payload old done → GivesField old None new
+        → IsSoFar rules (λ fields k. k ≡ found fields) done r
+        → OnOk r (first (each (λ _. rules) [] (split payload).fields) ≡ None) }
+    ensures found { (payload : List ℕ) (old new : Parts) (done : List Entry) (rules : Entry → Rules MessageFault)
+        (found : List Entry → K) (r : Result K MessageError) → Walk payload old done → GivesField old None new
+        → IsSoFar rules (λ fields k. k ≡ found fields) done r → IfOk r (λ k. k ≡ found (split payload).fields) }
+    ensures told { (payload : List ℕ) (old new : Parts) (done : List Entry) (base : ℕ)
+        (rules : Entry → Rules MessageFault) (found : List Entry → K) (r : Result K MessageError)
+        → Walk payload old done → GivesField old None new → IsSoFar rules (λ fields k. k ≡ found fields) done r
+        → IfErr r (λ error. TellsMessage error (option_or (first (rest_rules base (split payload)))
+        (first (each (λ _. rules) [] (split payload).fields)))) }
 {}

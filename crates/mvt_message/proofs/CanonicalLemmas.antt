@@ -1,12 +1,13 @@
 -- The canonical payload of a valid item is that item.
 use Rattle.std.proofs.Common.{◌≡◌, ℕ, zero, suc, ◌+◌, ◌*◌, ◌^◌, ◌<◌, ◌≤◌, ◌==◌, Bool, true, false, List, [], ◌∷◌, ◌++◌, length, map, Some, None, refl, sym, ap, ap₂, ◌∙◌, subst, arith, append_assoc, append-nil, length-append, lit<, lit≤, if◌then◌else◌}
 use Rattle.std.specs.Prelude.{IsUtf8, Contains, unwrap_or, ⊤}
-use Rattle.std.specs.List.{AllByRecursion}
+use Rattle.std.specs.List.{AllByRecursion, last_or}
 use Rattle.std.specs.Option.{option_map}
 use Rattle.std.proofs.lemmas.Bool.{eq-eqb}
 use Rattle.std.proofs.lemmas.Grind.{flat_map-append}
 use Rattle.mvt_base.specs.Related.{AreRelated}
 use Rattle.mvt_base.proofs.ListLemmas.{all_weaker, all_joined, all_left, all_right, all_mapped, all_unmapped, all_both}
+use Rattle.mvt_base.proofs.SelectionLemmas.{all_only}
 use Rattle.mvt_attrs.specs.declared.value.Attribute.{Attribute}
 use Rattle.mvt_attrs.specs.declared.value.Value.{Value}
 use Rattle.mvt_attrs.specs.Pools.{key_pool, value_pool}
@@ -17,10 +18,9 @@ use Rattle.mvt_wire.specs.Spelling.{Plain, plain_of, short_field, spelled, IsFit
 use Rattle.mvt_feature.specs.declared.feature.Feature.{Feature}
 use Rattle.mvt_feature.specs.Canonical.{plain, value_fields, feature_fields}
 use Rattle.mvt_feature.specs.Features.{IsFeatureOf, number_in, number_of}
-use Rattle.mvt_feature.specs.Selection.{only, last_or, HaveForm}
+use Rattle.mvt_feature.specs.Selection.{only, HaveForm}
 use Rattle.mvt_feature.specs.Valid.{ValidValue, ValidAttribute, ValidFeature}
 use Rattle.mvt_feature.specs.Values.{IsText, IsValueOf}
-use Rattle.mvt_feature.proofs.FeatureLemmas.{form_only}
 use Rattle.mvt_message.specs.declared.item.Item.{Item as AnItem}
 use Rattle.mvt_message.specs.declared.item.Layer.{Layer as ALayer}
 use Rattle.mvt_message.specs.declared.item.Item.TheVariants.{Layer, Foreign}
@@ -95,7 +95,7 @@ one_content (x ∷ y ∷ xs) c h = cc
 
 form_contents : (k : ℕ) (P : Content → Type 0) (xs : List Entry) (cs : List Content) → map (λ (x : Entry). x.content) (only k xs) ≡ cs → AllByRecursion P cs → HaveForm k P xs
 form_contents k P xs cs is all =
-    form_only k P xs (all_unmapped (λ (x : Entry). x.content) P (only k xs) (subst (AllByRecursion P) (sym is) all))
+    all_only (λ (x : Entry). x.number) (λ (x : Entry). P x.content) k xs (all_unmapped (λ (x : Entry). x.content) P (only k xs) (subst (AllByRecursion P) (sym is) all))
 
 -- bytes fields, and what each of them holds
 related_contents : {Y : Type 0} → (g : Y → List ℕ) (R : List ℕ → Y → Type 0) (xs : List Entry) (ys : List Y) → map (λ (x : Entry). x.content) xs ≡ map (λ y. bytes (g y)) ys → AllByRecursion (λ y. R (g y) y) ys → AreRelated (λ (x : Entry) y. R (bytes_of x.content) y) xs ys

@@ -2,12 +2,12 @@
 use Rattle.std.proofs.Common.{◌≡◌, ℕ, Bool, true, false, List, [], Option, Some, None, refl, sym, ap, ◌∙◌, if◌then◌else◌}
 use Rattle.std.specs.Option.{option_or}
 use Rattle.mvt_base.proofs.RuleLemmas.{option_or-none, option_or-some}
+use Rattle.mvt_base.proofs.TableLemmas.{firsts, first-rows_all}
 use Rattle.mvt_wire.specs.Field.{Entry}
 use Rattle.mvt_wire.specs.Split.{split}
 use Rattle.mvt_feature.specs.declared.message_error.MessageError.{MessageError}
 use Rattle.mvt_feature.specs.declared.message_error.MessageError.TheVariants.{Memory, Fault}
 use Rattle.mvt_feature.specs.Faults.{MessageFault, TellsMessage}
-use Rattle.mvt_feature.proofs.TableLemmas.{firsts, first-rows_all}
 use Rattle.mvt_message.specs.ItemRules.{item_table, layer_table, item_rules, item_fault}
 use Rattle.mvt_message.specs.LayerFields.{version_in, is_two, keys_in, values_in}
 use Rattle.mvt_message.specs.Inner.{rest_fault, versions_fault, no_version_fault, forms_fault, no_name_fault, values_fault, features_fault, head_fault, layer_fault}

@@ -5,11 +5,12 @@ use Rattle.std.specs.List.{AllByRecursion}
 use Rattle.std.specs.Option.{option_map}
 use Rattle.std.specs.Str.{is_utf8}
 use Rattle.std.proofs.lemmas.Bool.{ltb-true, lt-ltb, not-false}
-use Rattle.std.proofs.lemmas.Str.{IsUtf8-from_is_utf8}
+use Rattle.std.proofs.lemmas.Str.{IsUtf8-from_is_utf8, is_utf8-from_IsUtf8}
 use Rattle.mvt_base.specs.Rules.{Rules, AreOrdered, when, told, each, first}
 use Rattle.mvt_base.proofs.ListLemmas.{all_weaker}
 use Rattle.mvt_base.proofs.OrderLemmas.{when_ordered, told_ordered}
 use Rattle.mvt_base.proofs.RuleLemmas.{first-append, first-under, first-told, first-when_not, option_or-nones, option_or-none}
+use Rattle.mvt_base.proofs.TableLemmas.{none_mapped, when_none, none_each, each_none, by_number, if_ordered}
 use Rattle.mvt_wire.specs.Field.{Content, varint, fixed64, bytes, fixed32, Entry}
 use Rattle.mvt_feature.specs.declared.cause.Cause.{Cause}
 use Rattle.mvt_feature.specs.declared.cause.Cause.TheVariants.{WrongType, NumberRange, NotUtf8}
@@ -17,10 +18,6 @@ use Rattle.mvt_feature.specs.Faults.{MessageFault, fault_at}
 use Rattle.mvt_feature.specs.Selection.{HaveForm}
 use Rattle.mvt_feature.specs.Values.{IsText}
 use Rattle.mvt_feature.specs.ValueRules.{text_rules}
-use Rattle.mvt_feature.proofs.SelectionLemmas.{none_each, each_none}
-use Rattle.mvt_feature.proofs.TableLemmas.{none_mapped, when_none}
-use Rattle.mvt_feature.proofs.TextLemmas.{text_clean}
-use Rattle.mvt_feature.proofs.ValueLemmas.{by_number, if_ordered}
 use Rattle.mvt_message.specs.ItemRules.{uint32_rules, bytes_rules, version_form_rules, version_rules, layer_form_rules, layer_field_rules}
 use Rattle.mvt_message.specs.Items.{IsUint32, IsBytes}
 use Rattle.mvt_message.specs.Inner.{versions_fault, forms_fault}
@@ -76,7 +73,7 @@ text_form (fixed64 n) h = cc
 text_form (fixed32 n) h = cc
 
 form_text : (c : Content) → IsText c → first (text_rules c) ≡ None
-form_text (bytes d) h = text_clean d h
+form_text (bytes d) h = first-when_not (not (is_utf8 d)) NotUtf8 (ap not (is_utf8-from_IsUtf8 d h))
 form_text (varint n) h = absurd h
 form_text (fixed64 n) h = absurd h
 form_text (fixed32 n) h = absurd h
@@ -88,7 +85,7 @@ versions_form base xs clean = have_form version_form_rules base 15 IsUint32 uint
 
 versions_all : (xs : List Entry) → HaveForm 15 IsUint32 xs → AllByRecursion (λ (x : Entry). first (version_form_rules x.number x.content) ≡ None) xs
 versions_all [] h = tt
-versions_all (x ∷ xs) h = (by_number x.number x.content _ _ 15 (λ e. form_uint32 x.content (h.0 e)) refl, versions_all xs h.1)
+versions_all (x ∷ xs) h = (by_number x.number _ _ 15 (λ e. form_uint32 x.content (h.0 e)) refl, versions_all xs h.1)
 
 pub form_versions : (base : ℕ) (xs : List Entry) → HaveForm 15 IsUint32 xs → versions_fault base xs ≡ None
 unfolding version_rules
@@ -117,7 +114,7 @@ forms_all [] h1 h2 h3 h4 h5 = tt
 forms_all (x ∷ xs) h1 h2 h3 h4 h5 =
     let n = x.number in
     let c = x.content in
-    (by_number n c _ _ 1 (λ e. form_text c (h1.0 e)) (by_number n c _ _ 2 (λ e. form_bytes c (h2.0 e)) (by_number n c _ _ 3 (λ e. form_text c (h3.0 e)) (by_number n c _ _ 4 (λ e. form_bytes c (h4.0 e)) (by_number n c _ _ 5 (λ e. form_uint32 c (h5.0 e)) refl)))), forms_all xs h1.1 h2.1 h3.1 h4.1 h5.1)
+    (by_number n _ _ 1 (λ e. form_text c (h1.0 e)) (by_number n _ _ 2 (λ e. form_bytes c (h2.0 e)) (by_number n _ _ 3 (λ e. form_text c (h3.0 e)) (by_number n _ _ 4 (λ e. form_bytes c (h4.0 e)) (by_number n _ _ 5 (λ e. form_uint32 c (h5.0 e)) refl)))), forms_all xs h1.1 h2.1 h3.1 h4.1 h5.1)
 
 pub forms_layer : (base : ℕ) (xs : List Entry) → HaveForm 1 IsText xs → HaveForm 2 IsBytes xs → HaveForm 3 IsText xs → HaveForm 4 IsBytes xs → HaveForm 5 IsUint32 xs → forms_fault base xs ≡ None
 unfolding layer_field_rules

@@ -9,21 +9,19 @@ use Rattle.mvt_base.specs.Rules.{Rules, AreOrdered, first}
 use Rattle.mvt_base.proofs.ListLemmas.{related_once}
 use Rattle.mvt_base.proofs.OrderLemmas.{AreRowsFrom, rows_ordered, each_ordered, told_ordered, when_ordered}
 use Rattle.mvt_base.proofs.RuleLemmas.{first-when_not, option_or-none, option_or-nones}
+use Rattle.mvt_base.proofs.TableLemmas.{when_none, none_each, each_none}
+use Rattle.mvt_base.proofs.SelectionLemmas.{last_selected}
 use Rattle.mvt_attrs.specs.declared.value.Value.{Value}
 use Rattle.mvt_wire.specs.Field.{Content, varint, fixed64, bytes, fixed32, Entry}
-use Rattle.mvt_wire.specs.Split.{Split, Whole, split}
+use Rattle.mvt_wire.specs.Split.{Split, Parts, Whole, split}
 use Rattle.mvt_feature.specs.declared.cause.Cause.TheVariants.{NoVersion, NoName}
 use Rattle.mvt_feature.specs.declared.feature.Feature.{Feature}
-use Rattle.mvt_feature.specs.Faults.{MessageFault, fault_at, in_feature}
+use Rattle.mvt_feature.specs.Faults.{MessageFault, fault_at, in_feature, rest_rules}
 use Rattle.mvt_feature.specs.Features.{IsFeatureOf, number_in, number_of}
 use Rattle.mvt_feature.specs.FeatureRules.{feature_rules, feature_fault}
 use Rattle.mvt_feature.specs.Selection.{only, last_only, HaveForm}
 use Rattle.mvt_feature.specs.Values.{IsValueOf}
 use Rattle.mvt_feature.specs.ValueRules.{value_rules, value_fault}
-use Rattle.mvt_feature.proofs.SelectionLemmas.{none_each, each_none, form_of}
-use Rattle.mvt_feature.proofs.TableLemmas.{when_none}
-use Rattle.mvt_feature.proofs.ValueLemmas.{rest_ordered}
-use Rattle.mvt_feature.proofs.WalkLemmas.{rest_none, none_rest}
 use Rattle.mvt_message.specs.declared.item.Item.{Item as AnItem}
 use Rattle.mvt_message.specs.declared.item.Layer.{Layer as ALayer}
 use Rattle.mvt_message.specs.declared.item.Item.TheVariants.{Layer, Foreign}
@@ -38,6 +36,15 @@ use Rattle.mvt_message.proofs.SaidLemmas.{SplitOnly, values_said}
 -- what the levels below give
 abbrev pub SplitIs : Type 0
 SplitIs = (b : List ℕ) → Split b (split b).fields (split b).rest
+
+abbrev pub RestNone : Type 0
+RestNone = (base : ℕ) (parts : Parts) → parts.rest ≡ [] → first (rest_rules base parts) ≡ None
+
+abbrev pub NoneRest : Type 0
+NoneRest = (base : ℕ) (parts : Parts) → first (rest_rules base parts) ≡ None → parts.rest ≡ []
+
+abbrev pub RestOrdered : Type 0
+RestOrdered = (base : ℕ) (parts : Parts) → AreOrdered (rest_rules base parts)
 
 abbrev pub ValuesThere : Type 0
 ValuesThere = (payload : List ℕ) (base own : ℕ) → value_fault payload base own ≡ None → (value : Value) × IsValueOf payload value
@@ -78,7 +85,7 @@ two_there (Some n) h = ap Some (eqb-true n 2 h)
 pub version_there : (xs : List Entry) → HaveForm 15 IsUint32 xs → is_none (last_only 15 xs) ≡ false → (n : ℕ) × (version_in xs ≡ Some n)
 version_there xs forms some =
     let last = some_there (last_only 15 xs) some in
-    let number = of_form last.0.content (form_of 15 IsUint32 xs last.0 forms last.1) in
+    let number = of_form last.0.content (last_selected (λ (x : Entry). x.number) (λ (x : Entry). IsUint32 x.content) 15 xs last.0 forms last.1) in
     (number.0, ap number_in last.1 ∙ number.1)
   where
     of_form : (c : Content) → IsUint32 c → (n : ℕ) × (number_of c ≡ Some n)
@@ -175,8 +182,8 @@ layer_keeps split_only clean_values clean_features base own xs layer is =
 abbrev FaultBehind : ℕ → ℕ → List Entry → Bool → Option MessageFault
 FaultBehind base own xs two = if two then layer_fault base own xs else None
 
-pub head_clean : (payload : List ℕ) (base own : ℕ) → head_fault payload base own ≡ None → ((split payload).rest ≡ []) × HaveForm 15 IsUint32 (split payload).fields × ((n : ℕ) × (version_in (split payload).fields ≡ Some n))
-head_clean payload base own none =
+pub head_clean : NoneRest → (payload : List ℕ) (base own : ℕ) → head_fault payload base own ≡ None → ((split payload).rest ≡ []) × HaveForm 15 IsUint32 (split payload).fields × ((n : ℕ) × (version_in (split payload).fields ≡ Some n))
+head_clean none_rest payload base own none =
     let xs = (split payload).fields in
     let parts = option_or-nones _ _ none in
     let later = option_or-nones _ _ parts.1 in
@@ -190,10 +197,10 @@ pub item_from : SplitIs → (payload : List ℕ) (item : AnItem) → (split payl
 unfolding IsItem
 item_from split_is payload item rest forms are = ((split payload).fields, whole_of split_is payload rest, forms, are)
 
-pub item_there : SplitIs → SplitOnly → ValuesThere → FeaturesThere → (payload : List ℕ) (base own : ℕ) → item_fault payload base own ≡ None → (item : AnItem) × IsItem payload item
-item_there split_is split_only values_are_there features_are_there payload base own none =
+pub item_there : NoneRest → SplitIs → SplitOnly → ValuesThere → FeaturesThere → (payload : List ℕ) (base own : ℕ) → item_fault payload base own ≡ None → (item : AnItem) × IsItem payload item
+item_there none_rest split_is split_only values_are_there features_are_there payload base own none =
     let parts = option_or-nones _ _ (sym (item_chain payload base own) ∙ none) in
-    let head = head_clean payload base own parts.0 in
+    let head = head_clean none_rest payload base own parts.0 in
     by_version (is_two (version_in (split payload).fields)) refl head.0 head.1 head.2 parts.1
   where
     by_version : (two : Bool) → is_two (version_in (split payload).fields) ≡ two → (split payload).rest ≡ [] → HaveForm 15 IsUint32 (split payload).fields → ((n : ℕ) × (version_in (split payload).fields ≡ Some n)) → FaultBehind base own (split payload).fields two ≡ None → (item : AnItem) × IsItem payload item
@@ -212,8 +219,8 @@ last_there xs n is = of_option (last_only 15 xs) is
     of_option None h = cc
     of_option (Some x) h = refl
 
-pub head_keeps : (payload : List ℕ) (base own n : ℕ) → (split payload).rest ≡ [] → HaveForm 15 IsUint32 (split payload).fields → version_in (split payload).fields ≡ Some n → head_fault payload base own ≡ None
-head_keeps payload base own n rest forms version =
+pub head_keeps : RestNone → (payload : List ℕ) (base own n : ℕ) → (split payload).rest ≡ [] → HaveForm 15 IsUint32 (split payload).fields → version_in (split payload).fields ≡ Some n → head_fault payload base own ≡ None
+head_keeps rest_none payload base own n rest forms version =
     option_or-none _ _ (rest_none base (split payload) rest) ∙ option_or-none _ _ (form_versions base (split payload).fields forms) ∙ first-when_not _ _ (last_there (split payload).fields n version)
 
 pub item_of_layer : (payload : List ℕ) (base own : ℕ) → head_fault payload base own ≡ None → version_in (split payload).fields ≡ Some 2 → item_fault payload base own ≡ layer_fault base own (split payload).fields
@@ -224,17 +231,17 @@ pub item_of_other : (payload : List ℕ) (base own n : ℕ) → head_fault paylo
 item_of_other payload base own n head version other =
     item_chain payload base own ∙ option_or-none _ _ head ∙ ap (FaultBehind base own (split payload).fields) (ap is_two version ∙ ne_eqb n 2 other)
 
-pub item_keeps : SplitOnly → ValuesClean → FeaturesClean → (payload : List ℕ) (base own : ℕ) (item : AnItem) → IsItem payload item → item_fault payload base own ≡ None
+pub item_keeps : RestNone → SplitOnly → ValuesClean → FeaturesClean → (payload : List ℕ) (base own : ℕ) (item : AnItem) → IsItem payload item → item_fault payload base own ≡ None
 unfolding IsItem
-item_keeps split_only clean_values clean_features payload base own item (xs, whole, forms, are) =
+item_keeps rest_none split_only clean_values clean_features payload base own item (xs, whole, forms, are) =
     let only_split = split_only payload [] xs whole in
     let here : AreItem (split payload).fields payload item = subst (λ fs. AreItem fs payload item) only_split.0 are in
     by_item item (sym only_split.1) (subst (HaveForm 15 IsUint32) only_split.0 forms) here
   where
     by_item : (i : AnItem) → (split payload).rest ≡ [] → HaveForm 15 IsUint32 (split payload).fields → AreItem (split payload).fields payload i → item_fault payload base own ≡ None
     by_item (Layer layer) rest form is =
-        item_of_layer payload base own (head_keeps payload base own 2 rest form is.0) is.0 ∙ layer_keeps split_only clean_values clean_features base own (split payload).fields layer is.1
-    by_item (Foreign version content) rest form is = item_of_other payload base own version (head_keeps payload base own version rest form is.0) is.0 is.1
+        item_of_layer payload base own (head_keeps rest_none payload base own 2 rest form is.0) is.0 ∙ layer_keeps split_only clean_values clean_features base own (split payload).fields layer is.1
+    by_item (Foreign version content) rest form is = item_of_other payload base own version (head_keeps rest_none payload base own version rest form is.0) is.0 is.1
 
 -- at most one item
 same_layers : (k l : ALayer) → k.name ≡ l.name → k.extent ≡ l.extent → k.features ≡ l.features → k ≡ l
@@ -311,13 +318,13 @@ layer_rows values features base own xs true = (
   ),
 )
 
-item_rows : ValuesOrdered → FeaturesOrdered → (payload : List ℕ) (base own : ℕ) → AreRowsFrom 0 (item_table payload base own)
-item_rows values features payload base own =
+item_rows : RestOrdered → ValuesOrdered → FeaturesOrdered → (payload : List ℕ) (base own : ℕ) → AreRowsFrom 0 (item_table payload base own)
+item_rows rest_ordered values features payload base own =
     (omega arith, (rest_ordered base (split payload), (omega arith, (each_ordered (λ _. version_rules base) [] (split payload).fields (λ seen x. version_ordered base x), (omega arith, (when_ordered (is_none (last_only 15 (split payload).fields)) (fault_at own NoVersion), layer_rows values features base own (split payload).fields (is_two (version_in (split payload).fields))))))))
 
-pub item_ordered : ValuesOrdered → FeaturesOrdered → (payload : List ℕ) (base own : ℕ) → AreOrdered (item_rules payload base own)
+pub item_ordered : RestOrdered → ValuesOrdered → FeaturesOrdered → (payload : List ℕ) (base own : ℕ) → AreOrdered (item_rules payload base own)
 unfolding item_rules
-item_ordered values features payload base own = rows_ordered 0 (item_table payload base own) (item_rows values features payload base own)
+item_ordered rest_ordered values features payload base own = rows_ordered 0 (item_table payload base own) (item_rows rest_ordered values features payload base own)
 
 pub item_first : (payload : List ℕ) (base own : ℕ) → item_fault payload base own ≡ first (item_rules payload base own)
 unfolding item_fault

@@ -1,27 +1,20 @@
 -- What is written of a layer so far.
-use Rattle.std.proofs.Common.{◌≡◌, ℕ, ◌+◌, ◌<◌, ◌≤◌, ◌⊎◌, inl, inr, List, [], ◌∷◌, ◌++◌, length, map, take, drop, get_or, bytes_eq, refl, sym, ap, ap₂, ◌∙◌, subst, arith, append_assoc, append-nil, length-append}
+use Rattle.std.proofs.Common.{◌≡◌, ℕ, ◌+◌, ◌<◌, ◌≤◌, ◌⊎◌, inl, inr, List, [], ◌∷◌, ◌++◌, length, map, take, drop, get_or, refl, sym, ap, ap₂, ◌∙◌, subst, arith, append_assoc, append-nil, length-append}
 use Rattle.std.specs.List.{AllByRecursion}
 use Rattle.std.proofs.lemmas.Grind.{flat_map-append}
 use Rattle.std.proofs.lemmas.List.{map-append, take-append-drop, take_more}
-use Rattle.std.proofs.lemmas.Slice.Eq.{bytes_eq-Decides}
 use Rattle.mvt_base.specs.declared.TheConstants.{LIMIT}
 use Rattle.mvt_base.proofs.ListLemmas.{all_weaker}
 use Rattle.mvt_attrs.specs.declared.pool_error.PoolError.{PoolError}
 use Rattle.mvt_attrs.specs.declared.pool_error.PoolError.TheVariants as pools
-use Rattle.mvt_attrs.specs.declared.value.Attribute.{Attribute}
 use Rattle.mvt_attrs.specs.declared.value.Value.{Value}
 use Rattle.mvt_attrs.specs.FirstUse.{AreDistinct}
 use Rattle.mvt_attrs.specs.Pools.{key_pool, value_pool}
 use Rattle.mvt_attrs.specs.Tags.{Names}
 use Rattle.mvt_attrs.specs.TagPlaces.{tags_in}
-use Rattle.mvt_attrs.specs.Values.{equal_values}
-use Rattle.mvt_attrs.proofs.EqualityLemmas.{equal_values-Decides}
-use Rattle.mvt_attrs.proofs.FirstUseLemmas.{first_use-distinct}
-use Rattle.mvt_attrs.proofs.PlaceLemmas.{pool_by_parts, pool_grows, names_places}
 use Rattle.mvt_geometry.specs.Valid.{IsValid}
 use Rattle.mvt_wire.specs.Field.{bytes}
 use Rattle.mvt_wire.specs.Spelling.{Plain, short_field, spelled}
-use Rattle.mvt_wire.proofs.SpellingLemmas.{bytes_longer}
 use Rattle.mvt_feature.specs.declared.feature.Feature.{Feature}
 use Rattle.mvt_feature.specs.Canonical.{feature_fields}
 use Rattle.mvt_feature.specs.Valid.{ValidFeature}
@@ -29,8 +22,9 @@ use Rattle.mvt_message.specs.declared.item.Layer.{Layer as ALayer}
 use Rattle.mvt_message.specs.declared.put.PutError.TheVariants.{TooLarge}
 use Rattle.mvt_message.specs.CanonicalItems.{attributes_of, keys_of, values_of, head_fields, feature_field, key_field, value_field, extent_fields, layer_fields}
 use Rattle.mvt_message.specs.PutErrors.{of_pool}
+use Rattle.mvt_message.specs.Inner.{PoolLaws}
 use Rattle.mvt_message.specs.ValidItems.{ValidLayer}
-use Rattle.mvt_message.proofs.CanonicalLemmas.{pools_within, spelled-append}
+use Rattle.mvt_message.proofs.CanonicalLemmas.{BytesLonger, pools_within, spelled-append}
 
 pub pool_full : (e : PoolError) → of_pool e ≡ TooLarge → e ≡ pools.Full
 pool_full pools.Memory h = cc
@@ -57,44 +51,44 @@ attributes-append fs gs = flat_map-append (λ (f : Feature). f.attributes) fs gs
 attributes_more : (done : List Feature) (f : Feature) → attributes_of (done ++ f ∷ []) ≡ attributes_of done ++ f.attributes
 attributes_more done f = attributes-append done (f ∷ []) ∙ ap (λ l. attributes_of done ++ l) (append-nil f.attributes)
 
-keys_more : (done : List Feature) (f : Feature) (keys new : List (List ℕ)) → keys ≡ keys_of done → new ≡ key_pool keys f.attributes → new ≡ keys_of (done ++ f ∷ [])
+keys_more : PoolLaws → (done : List Feature) (f : Feature) (keys new : List (List ℕ)) → keys ≡ keys_of done → new ≡ key_pool keys f.attributes → new ≡ keys_of (done ++ f ∷ [])
 unfolding keys_of
-keys_more done f keys new is more =
-    more ∙ ap (λ k. key_pool k f.attributes) is ∙ pool_by_parts bytes_eq bytes_eq-Decides (λ (a : Attribute). a.key) [] (attributes_of done) f.attributes ∙ ap (key_pool []) (sym (attributes_more done f))
+keys_more laws done f keys new is more =
+    more ∙ ap (λ k. key_pool k f.attributes) is ∙ laws.keys_by_parts [] (attributes_of done) f.attributes ∙ ap (key_pool []) (sym (attributes_more done f))
 
-values_more : (done : List Feature) (f : Feature) (values new : List Value) → values ≡ values_of done → new ≡ value_pool values f.attributes → new ≡ values_of (done ++ f ∷ [])
+values_more : PoolLaws → (done : List Feature) (f : Feature) (values new : List Value) → values ≡ values_of done → new ≡ value_pool values f.attributes → new ≡ values_of (done ++ f ∷ [])
 unfolding values_of
-values_more done f values new is more =
-    more ∙ ap (λ k. value_pool k f.attributes) is ∙ pool_by_parts equal_values equal_values-Decides (λ (a : Attribute). a.value) [] (attributes_of done) f.attributes ∙ ap (value_pool []) (sym (attributes_more done f))
+values_more laws done f values new is more =
+    more ∙ ap (λ k. value_pool k f.attributes) is ∙ laws.values_by_parts [] (attributes_of done) f.attributes ∙ ap (value_pool []) (sym (attributes_more done f))
 
-keys_front : (done rest : List Feature) → (added : List (List ℕ)) × (keys_of (done ++ rest) ≡ keys_of done ++ added)
+keys_front : PoolLaws → (done rest : List Feature) → (added : List (List ℕ)) × (keys_of (done ++ rest) ≡ keys_of done ++ added)
 unfolding keys_of
-keys_front done rest =
-    let grown = pool_grows bytes_eq bytes_eq-Decides (λ (a : Attribute). a.key) [] (attributes_of done) (attributes_of rest) in
+keys_front laws done rest =
+    let grown = laws.keys_grow [] (attributes_of done) (attributes_of rest) in
     (grown.0, ap (key_pool []) (attributes-append done rest) ∙ grown.1)
 
-values_front : (done rest : List Feature) → (added : List Value) × (values_of (done ++ rest) ≡ values_of done ++ added)
+values_front : PoolLaws → (done rest : List Feature) → (added : List Value) × (values_of (done ++ rest) ≡ values_of done ++ added)
 unfolding values_of
-values_front done rest =
-    let grown = pool_grows equal_values equal_values-Decides (λ (a : Attribute). a.value) [] (attributes_of done) (attributes_of rest) in
+values_front laws done rest =
+    let grown = laws.values_grow [] (attributes_of done) (attributes_of rest) in
     (grown.0, ap (value_pool []) (attributes-append done rest) ∙ grown.1)
 
-keys_distinct : (done : List Feature) → AreDistinct (keys_of done)
+keys_distinct : PoolLaws → (done : List Feature) → AreDistinct (keys_of done)
 unfolding keys_of
-keys_distinct done = first_use-distinct bytes_eq bytes_eq-Decides _
+keys_distinct laws done = laws.distinct_keys [] (attributes_of done)
 
-values_distinct : (done : List Feature) → AreDistinct (values_of done)
+values_distinct : PoolLaws → (done : List Feature) → AreDistinct (values_of done)
 unfolding values_of
-values_distinct done = first_use-distinct equal_values equal_values-Decides _
+values_distinct laws done = laws.distinct_values [] (attributes_of done)
 
 -- the tags of a feature name the same entries in the pools of all features
-tags_last : (features done rest : List Feature) (f : Feature) (keys : List (List ℕ)) (values : List Value) → features ≡ done ++ rest → keys ≡ keys_of done → values ≡ values_of done → Names keys values (tags_in keys values f.attributes) f.attributes → tags_in keys values f.attributes ≡ tags_in (keys_of features) (values_of features) f.attributes
-tags_last features done rest f keys values parts keys_are values_are names =
-    let all_keys = keys_front done rest in
-    let all_values = values_front done rest in
+tags_last : PoolLaws → (features done rest : List Feature) (f : Feature) (keys : List (List ℕ)) (values : List Value) → features ≡ done ++ rest → keys ≡ keys_of done → values ≡ values_of done → Names keys values (tags_in keys values f.attributes) f.attributes → tags_in keys values f.attributes ≡ tags_in (keys_of features) (values_of features) f.attributes
+tags_last laws features done rest f keys values parts keys_are values_are names =
+    let all_keys = keys_front laws done rest in
+    let all_values = values_front laws done rest in
     let keys_grow : keys_of features ≡ keys ++ all_keys.0 = ap keys_of parts ∙ all_keys.1 ∙ ap (λ k. k ++ all_keys.0) (sym keys_are) in
     let values_grow : values_of features ≡ values ++ all_values.0 = ap values_of parts ∙ all_values.1 ∙ ap (λ k. k ++ all_values.0) (sym values_are) in
-    names_places keys all_keys.0 values all_values.0 (tags_in keys values f.attributes) f.attributes (subst AreDistinct (sym keys_are) (keys_distinct done)) (subst AreDistinct (sym values_are) (values_distinct done)) names ∙ ap₂ (λ ks vs. tags_in ks vs f.attributes) (sym keys_grow) (sym values_grow)
+    laws.tags_stay keys all_keys.0 values all_values.0 (tags_in keys values f.attributes) f.attributes (subst AreDistinct (sym keys_are) (keys_distinct laws done)) (subst AreDistinct (sym values_are) (values_distinct laws done)) names ∙ ap₂ (λ ks vs. tags_in ks vs f.attributes) (sym keys_grow) (sym values_grow)
 
 -- the features below a place are written, with tags that name entries of the pools of all features
 pub record FeaturesSoFar (features : List Feature) (i : ℕ) (keys : List (List ℕ)) (values : List Value) (start out : List ℕ) : Type 0 where
@@ -110,14 +104,14 @@ features_start features keys values start no_keys no_values =
 front_more : (features : List Feature) (i : ℕ) (f : Feature) → i < length features → f ≡ get_or features i f → take (i + 1) features ≡ take i features ++ f ∷ []
 front_more features i f within here = take_more features i f within ∙ ap (λ x. take i features ++ x ∷ []) (sym here)
 
-pub features_step : (features : List Feature) (i : ℕ) (f : Feature) (keys new_keys : List (List ℕ)) (values new_values : List Value) (start out payload new_out : List ℕ) → FeaturesSoFar features i keys values start out → i < length features → f ≡ get_or features i f → new_keys ≡ key_pool keys f.attributes → new_values ≡ value_pool values f.attributes
+pub features_step : PoolLaws → (features : List Feature) (i : ℕ) (f : Feature) (keys new_keys : List (List ℕ)) (values new_values : List Value) (start out payload new_out : List ℕ) → FeaturesSoFar features i keys values start out → i < length features → f ≡ get_or features i f → new_keys ≡ key_pool keys f.attributes → new_values ≡ value_pool values f.attributes
     → Names new_keys new_values (tags_in new_keys new_values f.attributes) f.attributes → payload ≡ spelled (feature_fields (tags_in new_keys new_values f.attributes) f) → new_out ≡ out ++ short_field 2 (bytes payload) → FeaturesSoFar features (i + 1) new_keys new_values start new_out
-features_step features i f keys new_keys values new_values start out payload new_out so_far within here keys_grow values_grow names payload_is out_grows =
+features_step laws features i f keys new_keys values new_values start out payload new_out so_far within here keys_grow values_grow names payload_is out_grows =
     let done = take i features in
     let more = front_more features i f within here in
-    let keys_are : new_keys ≡ keys_of (take (i + 1) features) = keys_more done f keys new_keys so_far.keys_are keys_grow ∙ ap keys_of (sym more) in
-    let values_are : new_values ≡ values_of (take (i + 1) features) = values_more done f values new_values so_far.values_are values_grow ∙ ap values_of (sym more) in
-    let tags = tags_last features (take (i + 1) features) (drop (i + 1) features) f new_keys new_values (sym (take-append-drop (i + 1) features)) keys_are values_are names in
+    let keys_are : new_keys ≡ keys_of (take (i + 1) features) = keys_more laws done f keys new_keys so_far.keys_are keys_grow ∙ ap keys_of (sym more) in
+    let values_are : new_values ≡ values_of (take (i + 1) features) = values_more laws done f values new_values so_far.values_are values_grow ∙ ap values_of (sym more) in
+    let tags = tags_last laws features (take (i + 1) features) (drop (i + 1) features) f new_keys new_values (sym (take-append-drop (i + 1) features)) keys_are values_are names in
     let put : new_out ≡ out ++ short_field 2 (bytes (spelled (feature_fields (tags_in (keys_of features) (values_of features) f.attributes) f))) = out_grows ∙ ap (λ b. out ++ short_field 2 (bytes b)) (payload_is ∙ ap (λ t. spelled (feature_fields t f)) tags) in
     record {
       keys_are = keys_are;
@@ -141,29 +135,29 @@ split_here features i n f within here =
     let back = attributes_of (drop (i + 1) features) in
     ap attributes_of (sym (take-append-drop (i + 1) features)) ∙ attributes-append (take (i + 1) features) (drop (i + 1) features) ∙ ap (λ l. l ++ back) (ap attributes_of (front_more features i f within here) ∙ attributes_more (take i features) f ∙ ap (λ l. front ++ l) (sym (take-append-drop n f.attributes)) ∙ sym (append_assoc front (take n f.attributes) (drop n f.attributes))) ∙ append_assoc (front ++ take n f.attributes) (drop n f.attributes) back
 
-pub keys_within : (features : List Feature) (i n : ℕ) (f : Feature) (keys new_keys : List (List ℕ)) → keys ≡ keys_of (take i features) → i < length features → f ≡ get_or features i f → new_keys ≡ key_pool keys (take n f.attributes) → length new_keys ≤ length (keys_of features)
+pub keys_within : PoolLaws → (features : List Feature) (i n : ℕ) (f : Feature) (keys new_keys : List (List ℕ)) → keys ≡ keys_of (take i features) → i < length features → f ≡ get_or features i f → new_keys ≡ key_pool keys (take n f.attributes) → length new_keys ≤ length (keys_of features)
 unfolding keys_of
-keys_within features i n f keys new_keys is within here grown =
-    let now : new_keys ≡ key_pool [] (attributes_of (take i features) ++ take n f.attributes) = grown ∙ ap (λ k. key_pool k (take n f.attributes)) is ∙ pool_by_parts bytes_eq bytes_eq-Decides (λ (a : Attribute). a.key) [] (attributes_of (take i features)) (take n f.attributes) in
-    let later = pool_grows bytes_eq bytes_eq-Decides (λ (a : Attribute). a.key) [] (attributes_of (take i features) ++ take n f.attributes) (drop n f.attributes ++ attributes_of (drop (i + 1) features)) in
+keys_within laws features i n f keys new_keys is within here grown =
+    let now : new_keys ≡ key_pool [] (attributes_of (take i features) ++ take n f.attributes) = grown ∙ ap (λ k. key_pool k (take n f.attributes)) is ∙ laws.keys_by_parts [] (attributes_of (take i features)) (take n f.attributes) in
+    let later = laws.keys_grow [] (attributes_of (take i features) ++ take n f.attributes) (drop n f.attributes ++ attributes_of (drop (i + 1) features)) in
     let all : key_pool [] (attributes_of features) ≡ new_keys ++ later.0 = ap (key_pool []) (split_here features i n f within here) ∙ later.1 ∙ ap (λ k. k ++ later.0) (sym now) in
     let size = ap length all ∙ length-append new_keys later.0 in
     omega (arith, size)
 
-pub values_within : (features : List Feature) (i n : ℕ) (f : Feature) (values new_values : List Value) → values ≡ values_of (take i features) → i < length features → f ≡ get_or features i f → new_values ≡ value_pool values (take n f.attributes) → length new_values ≤ length (values_of features)
+pub values_within : PoolLaws → (features : List Feature) (i n : ℕ) (f : Feature) (values new_values : List Value) → values ≡ values_of (take i features) → i < length features → f ≡ get_or features i f → new_values ≡ value_pool values (take n f.attributes) → length new_values ≤ length (values_of features)
 unfolding values_of
-values_within features i n f values new_values is within here grown =
-    let now : new_values ≡ value_pool [] (attributes_of (take i features) ++ take n f.attributes) = grown ∙ ap (λ k. value_pool k (take n f.attributes)) is ∙ pool_by_parts equal_values equal_values-Decides (λ (a : Attribute). a.value) [] (attributes_of (take i features)) (take n f.attributes) in
-    let later = pool_grows equal_values equal_values-Decides (λ (a : Attribute). a.value) [] (attributes_of (take i features) ++ take n f.attributes) (drop n f.attributes ++ attributes_of (drop (i + 1) features)) in
+values_within laws features i n f values new_values is within here grown =
+    let now : new_values ≡ value_pool [] (attributes_of (take i features) ++ take n f.attributes) = grown ∙ ap (λ k. value_pool k (take n f.attributes)) is ∙ laws.values_by_parts [] (attributes_of (take i features)) (take n f.attributes) in
+    let later = laws.values_grow [] (attributes_of (take i features) ++ take n f.attributes) (drop n f.attributes ++ attributes_of (drop (i + 1) features)) in
     let all : value_pool [] (attributes_of features) ≡ new_values ++ later.0 = ap (value_pool []) (split_here features i n f within here) ∙ later.1 ∙ ap (λ k. k ++ later.0) (sym now) in
     let size = ap length all ∙ length-append new_values later.0 in
     omega (arith, size)
 
-pub features_full : (features : List Feature) (i n m : ℕ) (f : Feature) (keys new_keys : List (List ℕ)) (values new_values : List Value) (bound : ℕ) → keys ≡ keys_of (take i features) → values ≡ values_of (take i features) → i < length features → f ≡ get_or features i f → new_keys ≡ key_pool keys (take n f.attributes) → new_values ≡ value_pool values (take m f.attributes) → (length new_keys ≡ bound) ⊎ (length new_values ≡ bound) → (bound ≤ length (keys_of features)) ⊎ (bound ≤ length (values_of features))
-features_full features i n m f keys new_keys values new_values bound keys_are values_are within here keys_grown values_grown (inl full) =
-    let less = keys_within features i n f keys new_keys keys_are within here keys_grown in inl (omega arith)
-features_full features i n m f keys new_keys values new_values bound keys_are values_are within here keys_grown values_grown (inr full) =
-    let less = values_within features i m f values new_values values_are within here values_grown in inr (omega arith)
+pub features_full : PoolLaws → (features : List Feature) (i n m : ℕ) (f : Feature) (keys new_keys : List (List ℕ)) (values new_values : List Value) (bound : ℕ) → keys ≡ keys_of (take i features) → values ≡ values_of (take i features) → i < length features → f ≡ get_or features i f → new_keys ≡ key_pool keys (take n f.attributes) → new_values ≡ value_pool values (take m f.attributes) → (length new_keys ≡ bound) ⊎ (length new_values ≡ bound) → (bound ≤ length (keys_of features)) ⊎ (bound ≤ length (values_of features))
+features_full laws features i n m f keys new_keys values new_values bound keys_are values_are within here keys_grown values_grown (inl full) =
+    let less = keys_within laws features i n f keys new_keys keys_are within here keys_grown in inl (omega arith)
+features_full laws features i n m f keys new_keys values new_values bound keys_are values_are within here keys_grown values_grown (inr full) =
+    let less = values_within laws features i m f values new_values values_are within here values_grown in inr (omega arith)
 
 -- the whole layer
 abbrev pub IsLong : ℕ → ℕ → List Feature → Type 0
@@ -179,8 +173,8 @@ layer_parts layer =
     let extent = extent_fields layer.extent in
     spelled-append (head_fields layer.name) (features ++ (keys ++ (values ++ extent))) ∙ ap (λ l. spelled (head_fields layer.name) ++ l) (spelled-append features (keys ++ (values ++ extent)) ∙ ap (λ l. spelled features ++ l) (spelled-append keys (values ++ extent) ∙ ap (λ l. spelled keys ++ l) (spelled-append values extent)))
 
-pub layer_long : (layer : ALayer) (features : List Feature) (start : ℕ) → features ≡ layer.features → start ≡ length (spelled (head_fields layer.name)) → IsLong LIMIT start features → LIMIT < length (spelled (layer_fields layer))
-layer_long layer features start is start_is long = by_cause (subst (IsLong LIMIT start) is long)
+pub layer_long : BytesLonger → (layer : ALayer) (features : List Feature) (start : ℕ) → features ≡ layer.features → start ≡ length (spelled (head_fields layer.name)) → IsLong LIMIT start features → LIMIT < length (spelled (layer_fields layer))
+layer_long bytes_longer layer features start is start_is long = by_cause (subst (IsLong LIMIT start) is long)
   where
     by_cause : IsLong LIMIT start layer.features → LIMIT < length (spelled (layer_fields layer))
     by_cause (inl h) =

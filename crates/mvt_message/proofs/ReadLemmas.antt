@@ -4,17 +4,18 @@ use Rattle.std.specs.Prelude.{is_none, unwrap_or}
 use Rattle.std.specs.Option.{option_map}
 use Rattle.std.proofs.lemmas.Bool.{eq-eqb, ne_eqb}
 use Rattle.std.proofs.lemmas.List.{map-append}
+use Rattle.std.proofs.lemmas.List.Elements.{filter-append}
 use Rattle.mvt_base.specs.Related.{AreRelated}
 use Rattle.mvt_base.specs.Rules.{Rules, each, first}
 use Rattle.mvt_base.proofs.ListLemmas.{related-append, length-related}
 use Rattle.mvt_base.proofs.RuleLemmas.{each_more, each_stops, first-told, first-when, first-when_not, option_or-none, option_or-some}
+use Rattle.mvt_base.proofs.SelectionLemmas.{last_only-more}
 use Rattle.mvt_attrs.specs.declared.value.Value.{Value}
 use Rattle.mvt_wire.specs.declared.field.Field.{Field}
 use Rattle.mvt_wire.specs.declared.fault.WireFault.{WireFault}
-use Rattle.mvt_wire.specs.Field.{Entry, entry_of, content_of}
+use Rattle.mvt_wire.specs.Field.{Entry, content_of}
 use Rattle.mvt_wire.specs.Fields.{GivesField, bytes_size}
 use Rattle.mvt_wire.specs.Split.{Parts, split}
-use Rattle.mvt_wire.proofs.SplitLemmas.{split_count, split_is, split_only}
 use Rattle.mvt_feature.specs.declared.cause.Cause.TheVariants.{NoVersion, NoName}
 use Rattle.mvt_feature.specs.declared.feature.Feature.{Feature}
 use Rattle.mvt_feature.specs.declared.message_error.MessageError.{MessageError}
@@ -25,8 +26,7 @@ use Rattle.mvt_feature.specs.FeatureRules.{feature_rules, feature_fault}
 use Rattle.mvt_feature.specs.Selection.{only, last_only}
 use Rattle.mvt_feature.specs.Values.{IsValueOf}
 use Rattle.mvt_feature.specs.ValueRules.{value_fault}
-use Rattle.mvt_feature.proofs.SelectionLemmas.{only-append, last_only-more}
-use Rattle.mvt_feature.proofs.WalkLemmas.{Walk, walk_step, walk_end, rest_none}
+use Rattle.mvt_feature.specs.Walks.{Walk}
 use Rattle.mvt_message.specs.declared.item.Layer.{Layer as ALayer}
 use Rattle.mvt_message.specs.declared.item.Item.TheVariants.{Layer, Foreign}
 use Rattle.mvt_message.specs.LayerFields.{bytes_of, version_in, name_in, extent_in, keys_in, values_in}
@@ -36,10 +36,7 @@ use Rattle.mvt_message.specs.Inner.{versions_fault, forms_fault, no_name_fault, 
 use Rattle.mvt_message.proofs.ChainLemmas.{item_chain, layer_chain, tells_or, or_tells}
 use Rattle.mvt_message.proofs.FormLemmas.{placed_first, versions_form}
 use Rattle.mvt_message.proofs.SaidLemmas.{SplitOnly, values_said}
-use Rattle.mvt_message.proofs.ItemLaws.{value_first, feature_first, version_there, head_clean, layer_from, layer_clean, item_of_layer, item_from}
-
-split_once : SplitOnly
-split_once b rest es whole = let only_split = split_only 0 b rest es whole in (sym only_split.0, sym only_split.1)
+use Rattle.mvt_message.proofs.ItemLaws.{RestNone, NoneRest, SplitIs, value_first, feature_first, version_there, head_clean, layer_from, layer_clean, item_of_layer, item_from}
 
 -- a fault is told of whatever has it
 pub tells_as : (e : MessageError) (o p : Option MessageFault) → ((f : MessageFault) → o ≡ Some f → p ≡ Some f) → TellsMessage e o → TellsMessage e p
@@ -48,20 +45,20 @@ tells_as (Fault feature at cause) o p keep h = keep _ h
 
 -- the selected fields with one more
 only_take : (k : ℕ) (done : List Entry) (x : Entry) → x.number ≡ k → only k (done ++ x ∷ []) ≡ only k done ++ x ∷ []
-only_take k done x is = only-append k done (x ∷ []) ∙ ap (λ b. only k done ++ (if b then x ∷ [] else [])) (eq-eqb x.number k is)
+only_take k done x is = filter-append (λ (y : Entry). y.number == k) done (x ∷ []) ∙ ap (λ b. only k done ++ (if b then x ∷ [] else [])) (eq-eqb x.number k is)
 
 only_skip : (k : ℕ) (done : List Entry) (x : Entry) → x.number ≢ k → only k (done ++ x ∷ []) ≡ only k done
 only_skip k done x not_is =
-    only-append k done (x ∷ []) ∙ ap (λ b. only k done ++ (if b then x ∷ [] else [])) (ne_eqb x.number k not_is) ∙ append-nil (only k done)
+    filter-append (λ (y : Entry). y.number == k) done (x ∷ []) ∙ ap (λ b. only k done ++ (if b then x ∷ [] else [])) (ne_eqb x.number k not_is) ∙ append-nil (only k done)
 
 -- an element's fault stays whatever fields follow
 selected_stops : (k : ℕ) (rules : List Entry → Entry → Rules MessageFault) (e : MessageError) (done : List Entry) (x : Entry) (more : List Entry) → x.number ≡ k → first (each rules [] (only k done)) ≡ None → TellsMessage e (first (rules (only k done) x)) → TellsMessage e (first (each rules [] (only k ((done ++ x ∷ []) ++ more))))
 selected_stops k rules e done x more is clean told_here =
-    tells_as e (first (rules (only k done) x)) _ (λ f broken. ap (λ xs. first (each rules [] xs)) (only-append k (done ++ x ∷ []) more ∙ ap (λ xs. xs ++ only k more) (only_take k done x is) ∙ append_assoc (only k done) (x ∷ []) (only k more)) ∙ each_stops rules (only k done) x (only k more) f clean broken) told_here
+    tells_as e (first (rules (only k done) x)) _ (λ f broken. ap (λ xs. first (each rules [] xs)) (filter-append (λ (y : Entry). y.number == k) (done ++ x ∷ []) more ∙ ap (λ xs. xs ++ only k more) (only_take k done x is) ∙ append_assoc (only k done) (x ∷ []) (only k more)) ∙ each_stops rules (only k done) x (only k more) f clean broken) told_here
 
 -- versions
 number_more : (k : ℕ) (done : List Entry) (x : Entry) → number_in (last_only k (done ++ x ∷ [])) ≡ (if x.number == k then number_of x.content else number_in (last_only k done))
-number_more k done x = ap number_in (last_only-more k done x) ∙ by_test (x.number == k)
+number_more k done x = ap number_in (last_only-more (λ (y : Entry). y.number) k done x) ∙ by_test (x.number == k)
   where
     by_test : (b : Bool) → number_in (if b then Some x else last_only k done) ≡ (if b then number_of x.content else number_in (last_only k done))
     by_test true = refl
@@ -105,7 +102,7 @@ unfolding layer_field_rules
 form_first base x = placed_first layer_form_rules base x
 
 name_more : (done : List Entry) (x : Entry) → name_in (done ++ x ∷ []) ≡ name_after (name_in done) x.number x.content
-name_more done x = ap (option_map (λ (y : Entry). bytes_of y.content)) (last_only-more 1 done x) ∙ by_test (x.number == 1)
+name_more done x = ap (option_map (λ (y : Entry). bytes_of y.content)) (last_only-more (λ (y : Entry). y.number) 1 done x) ∙ by_test (x.number == 1)
   where
     by_test : (b : Bool) → option_map (λ (y : Entry). bytes_of y.content) (if b then Some x else last_only 1 done) ≡ (if b then Some (bytes_of x.content) else name_in done)
     by_test true = refl
@@ -120,7 +117,7 @@ extent_more done x = ap (λ o. unwrap_or o 4096) (number_more 5 done x) ∙ by_t
 
 keys_more : (done : List Entry) (x : Entry) → keys_in (done ++ x ∷ []) ≡ keys_in done ++ keys_at x.number x.content
 keys_more done x =
-    ap (map (λ (y : Entry). bytes_of y.content)) (only-append 3 done (x ∷ [])) ∙ map-append (λ (y : Entry). bytes_of y.content) (only 3 done) (only 3 (x ∷ [])) ∙ ap (λ l. keys_in done ++ l) (by_test (x.number == 3))
+    ap (map (λ (y : Entry). bytes_of y.content)) (filter-append (λ (y : Entry). y.number == 3) done (x ∷ [])) ∙ map-append (λ (y : Entry). bytes_of y.content) (only 3 done) (only 3 (x ∷ [])) ∙ ap (λ l. keys_in done ++ l) (by_test (x.number == 3))
   where
     by_test : (b : Bool) → map (λ (y : Entry). bytes_of y.content) (if b then x ∷ [] else []) ≡ (if b then bytes_of x.content ∷ [] else [])
     by_test true = refl
@@ -177,12 +174,16 @@ only_few k (x ∷ xs) = by_test (x.number == k) (only_few k xs)
     by_test true h = omega arith
     by_test false h = omega arith
 
-pub features_few : (payload : List ℕ) (to_come : Parts) (base : ℕ) (keys : List (List ℕ)) (values : List Value) (done : List Entry) (features : List Feature) → Walk payload to_come done → AreFeaturesSoFar base keys values done features → length payload < 2 ^ 32 → length features < 2 ^ 32
-features_few payload to_come base keys values done features walk so_far small =
+-- what the level below gives
+abbrev pub SplitCount : Type 0
+SplitCount = (b : List ℕ) → length (split b).fields + length (split b).rest ≤ length b
+
+pub features_few : SplitCount → (payload : List ℕ) (to_come : Parts) (base : ℕ) (keys : List (List ℕ)) (values : List Value) (done : List Entry) (features : List Feature) → Walk payload to_come done → AreFeaturesSoFar base keys values done features → length payload < 2 ^ 32 → length features < 2 ^ 32
+features_few split_count payload to_come base keys values done features walk so_far small =
     let same : length (only 2 done) ≡ length features = length-related (HoldsFeature keys values) (only 2 done) features so_far.1 in
     let few = only_few 2 done in
     let all : length (split payload).fields ≡ length done + length to_come.fields = ap length walk.fields ∙ length-append done to_come.fields in
-    let count = split_count 0 payload in
+    let count = split_count payload in
     omega arith
 
 -- the walk over a payload that is known to split into fields
@@ -193,26 +194,20 @@ walk_body_fits payload old new done field base walk step small =
     let bound = walk.bound in
     omega arith
 
-pub walk_all : (payload : List ℕ) (old new : Parts) (done : List Entry) (field : Field) → Walk payload old done → GivesField old (Some (Ok field)) new → (split payload).fields ≡ (done ++ entry_of field ∷ []) ++ new.fields
-walk_all payload old new done field walk step = (walk_step payload old new done field walk step).fields
-
 pub walk_whole : (payload : List ℕ) (old new : Parts) (done : List Entry) (fault : WireFault) → Walk payload old done → GivesField old (Some (Err fault)) new → (split payload).rest ≡ [] → ⊥
 walk_whole payload old new done fault walk step whole = step.1 (walk.rest ∙ whole)
 
-pub walk_done : (payload : List ℕ) (old new : Parts) (done : List Entry) → Walk payload old done → GivesField old None new → done ≡ (split payload).fields
-walk_done payload old new done walk step = sym (walk_end payload old new done walk step).0
-
 -- the exits of `read_version`
-pub head_some : (payload : List ℕ) (base own n : ℕ) → (split payload).rest ≡ [] → versions_fault base (split payload).fields ≡ None → Some n ≡ version_in (split payload).fields → head_fault payload base own ≡ None
-head_some payload base own n rest clean version =
+pub head_some : RestNone → (payload : List ℕ) (base own n : ℕ) → (split payload).rest ≡ [] → versions_fault base (split payload).fields ≡ None → Some n ≡ version_in (split payload).fields → head_fault payload base own ≡ None
+head_some rest_none payload base own n rest clean version =
     option_or-none _ _ (rest_none base (split payload) rest) ∙ option_or-none _ _ clean ∙ first-when_not _ _ (by_option (last_only 15 (split payload).fields) version)
   where
     by_option : (o : Option Entry) → Some n ≡ number_in o → is_none o ≡ false
     by_option None h = cc
     by_option (Some x) h = refl
 
-pub head_none : (payload : List ℕ) (base own : ℕ) → (split payload).rest ≡ [] → versions_fault base (split payload).fields ≡ None → None ≡ version_in (split payload).fields → head_fault payload base own ≡ Some (fault_at own NoVersion)
-head_none payload base own rest clean version =
+pub head_none : RestNone → (payload : List ℕ) (base own : ℕ) → (split payload).rest ≡ [] → versions_fault base (split payload).fields ≡ None → None ≡ version_in (split payload).fields → head_fault payload base own ≡ Some (fault_at own NoVersion)
+head_none rest_none payload base own rest clean version =
     option_or-none _ _ (rest_none base (split payload) rest) ∙ option_or-none _ _ clean ∙ first-when _ _ (by_test (is_none (last_only 15 (split payload).fields)) refl)
   where
     by_test : (b : Bool) → is_none (last_only 15 (split payload).fields) ≡ b → b ≡ true
@@ -245,15 +240,15 @@ pub values_told : (base own : ℕ) (xs : List Entry) (name : List ℕ) (e : Mess
 values_told base own xs name e forms is h =
     subst (TellsMessage e) (sym (layer_chain base own xs)) (or_tells e (forms_fault base xs) _ forms (or_tells e (no_name_fault own xs) _ (name_some own xs name is) (tells_or e (values_fault base xs) _ h)))
 
-pub features_told : (base own : ℕ) (xs : List Entry) (name : List ℕ) (keys : List (List ℕ)) (values : List Value) (e : MessageError) → forms_fault base xs ≡ None → Some name ≡ name_in xs → values_fault base xs ≡ None → keys ≡ keys_in xs → AreRelated HoldsValue (only 4 xs) values → TellsMessage e (features_fault base keys values xs) → TellsMessage e (layer_fault base own xs)
-features_told base own xs name keys values e forms is clean keys_are values_are h =
-    let same : values_in xs ≡ values = values_said split_once (only 4 xs) values values_are in
+pub features_told : SplitOnly → (base own : ℕ) (xs : List Entry) (name : List ℕ) (keys : List (List ℕ)) (values : List Value) (e : MessageError) → forms_fault base xs ≡ None → Some name ≡ name_in xs → values_fault base xs ≡ None → keys ≡ keys_in xs → AreRelated HoldsValue (only 4 xs) values → TellsMessage e (features_fault base keys values xs) → TellsMessage e (layer_fault base own xs)
+features_told split_only base own xs name keys values e forms is clean keys_are values_are h =
+    let same : values_in xs ≡ values = values_said split_only (only 4 xs) values values_are in
     let here : TellsMessage e (features_fault base (keys_in xs) (values_in xs) xs) = subst (TellsMessage e) (ap₂ (λ ks vs. features_fault base ks vs xs) keys_are (sym same)) h in
     subst (TellsMessage e) (sym (layer_chain base own xs)) (or_tells e (forms_fault base xs) _ forms (or_tells e (no_name_fault own xs) _ (name_some own xs name is) (or_tells e (values_fault base xs) _ clean (tells_or e (features_fault base (keys_in xs) (values_in xs) xs) _ here))))
 
-pub layer_ok : (base own : ℕ) (xs : List Entry) (name : List ℕ) (keys : List (List ℕ)) (values : List Value) → forms_fault base xs ≡ None → Some name ≡ name_in xs → values_fault base xs ≡ None → keys ≡ keys_in xs → AreRelated HoldsValue (only 4 xs) values → features_fault base keys values xs ≡ None → layer_fault base own xs ≡ None
-layer_ok base own xs name keys values forms is clean keys_are values_are h =
-    let same : values_in xs ≡ values = values_said split_once (only 4 xs) values values_are in
+pub layer_ok : SplitOnly → (base own : ℕ) (xs : List Entry) (name : List ℕ) (keys : List (List ℕ)) (values : List Value) → forms_fault base xs ≡ None → Some name ≡ name_in xs → values_fault base xs ≡ None → keys ≡ keys_in xs → AreRelated HoldsValue (only 4 xs) values → features_fault base keys values xs ≡ None → layer_fault base own xs ≡ None
+layer_ok split_only base own xs name keys values forms is clean keys_are values_are h =
+    let same : values_in xs ≡ values = values_said split_only (only 4 xs) values values_are in
     layer_clean base own xs forms (name_some own xs name is) clean (sym (ap₂ (λ ks vs. features_fault base ks vs xs) keys_are (sym same)) ∙ h)
 
 pub layer_read : (base own : ℕ) (xs : List Entry) (layer : ALayer) (name : List ℕ) (extent : ℕ) (keys : List (List ℕ)) (values : List Value) → forms_fault base xs ≡ None → Some name ≡ name_in xs → layer.name ≡ name → extent ≡ extent_in xs → layer.extent ≡ extent → keys ≡ keys_in xs → AreRelated HoldsValue (only 4 xs) values → AreRelated (HoldsFeature keys values) (only 2 xs) layer.features → IsLayer xs layer
@@ -264,18 +259,18 @@ layer_read base own xs layer name extent keys values forms is name_is extent_is 
 pub head_told : (payload : List ℕ) (base own : ℕ) (e : MessageError) → TellsMessage e (head_fault payload base own) → TellsMessage e (item_fault payload base own)
 head_told payload base own e h = subst (TellsMessage e) (sym (item_chain payload base own)) (tells_or e (head_fault payload base own) _ h)
 
-pub head_whole : (payload : List ℕ) (base own : ℕ) → head_fault payload base own ≡ None → (split payload).rest ≡ []
-head_whole payload base own none = (head_clean payload base own none).0
+pub head_whole : NoneRest → (payload : List ℕ) (base own : ℕ) → head_fault payload base own ≡ None → (split payload).rest ≡ []
+head_whole none_rest payload base own none = (head_clean none_rest payload base own none).0
 
 pub layer_told : (payload : List ℕ) (base own : ℕ) (e : MessageError) → head_fault payload base own ≡ None → version_in (split payload).fields ≡ Some 2 → TellsMessage e (layer_fault base own (split payload).fields) → TellsMessage e (item_fault payload base own)
 layer_told payload base own e head version h = subst (TellsMessage e) (sym (item_of_layer payload base own head version)) h
 
-pub layer_item : (payload : List ℕ) (base own : ℕ) (layer : ALayer) → head_fault payload base own ≡ None → version_in (split payload).fields ≡ Some 2 → IsLayer (split payload).fields layer → IsItem payload (Layer layer)
-layer_item payload base own layer head version is =
-    let parts = head_clean payload base own head in
-    item_from (λ b. split_is 0 b) payload (Layer layer) parts.0 parts.1 (version, is)
+pub layer_item : NoneRest → SplitIs → (payload : List ℕ) (base own : ℕ) (layer : ALayer) → head_fault payload base own ≡ None → version_in (split payload).fields ≡ Some 2 → IsLayer (split payload).fields layer → IsItem payload (Layer layer)
+layer_item none_rest split_is payload base own layer head version is =
+    let parts = head_clean none_rest payload base own head in
+    item_from split_is payload (Layer layer) parts.0 parts.1 (version, is)
 
-pub other_item : (payload : List ℕ) (base own n : ℕ) (content : List ℕ) → head_fault payload base own ≡ None → version_in (split payload).fields ≡ Some n → n ≢ 2 → content ≡ payload → IsItem payload (Foreign n content)
-other_item payload base own n content head version other is =
-    let parts = head_clean payload base own head in
-    item_from (λ b. split_is 0 b) payload (Foreign n content) parts.0 parts.1 (version, other, is)
+pub other_item : NoneRest → SplitIs → (payload : List ℕ) (base own n : ℕ) (content : List ℕ) → head_fault payload base own ≡ None → version_in (split payload).fields ≡ Some n → n ≢ 2 → content ≡ payload → IsItem payload (Foreign n content)
+other_item none_rest split_is payload base own n content head version other is =
+    let parts = head_clean none_rest payload base own head in
+    item_from split_is payload (Foreign n content) parts.0 parts.1 (version, other, is)

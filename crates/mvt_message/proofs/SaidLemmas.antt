@@ -1,18 +1,18 @@
 -- The value of a payload, as the relation and as the function.
 use Rattle.std.proofs.Common.{◌≡◌, ℕ, ◌+◌, ◌*◌, ◌/◌, ◌%◌, ◌==◌, inl, inr, Bool, true, false, nat_le, ℤ, pos, negsuc, List, [], ◌∷◌, ◌++◌, Some, None, refl, sym, ap, ap₂, ◌∙◌, subst, arith, rules, if◌then◌else◌, option_and_then}
-use Rattle.std.specs.List.{AllByRecursion, flat_map}
+use Rattle.std.specs.List.{AllByRecursion, flat_map, last_or}
 use Rattle.std.specs.Option.{option_to_list}
 use Rattle.std.proofs.lemmas.Bool.{eq-eqb, ne_eqb, cases_eq, and_parts, and_from, leb-true, le-leb}
 use Rattle.mvt_base.specs.Related.{AreRelated}
+use Rattle.mvt_base.proofs.SelectionLemmas.{only_number, last_of_all}
 use Rattle.mvt_attrs.specs.declared.value.Value.{Value}
 use Rattle.mvt_attrs.specs.declared.value.Value.TheVariants.{Text, Float, Double, Int, Uint, Sint, Bool as Truth}
 use Rattle.mvt_wire.specs.Field.{Content, varint, fixed64, bytes, fixed32, Entry}
 use Rattle.mvt_wire.specs.Split.{Split, split}
 use Rattle.mvt_wire.specs.Zigzag.{zig}
-use Rattle.mvt_feature.specs.Selection.{only, last_or}
+use Rattle.mvt_feature.specs.Selection.{only}
 use Rattle.mvt_feature.specs.Values.{IsKind, Means, IsValueOf}
 use Rattle.mvt_feature.specs.ValueRules.{is_kind, kinds}
-use Rattle.mvt_feature.proofs.SelectionLemmas.{only_number, last_of_all}
 use Rattle.mvt_message.specs.LayerFields.{bytes_of, unzig, said, value_in}
 use Rattle.mvt_message.specs.Items.{HoldsValue}
 
@@ -76,7 +76,7 @@ pub value_said : SplitOnly → (payload : List ℕ) (v : Value) → IsValueOf pa
 unfolding value_in
 value_said split_only payload v (xs, whole, is) =
     let kind = means_kind is.kind is.last.content v is.means in
-    let numbered : is.last.number ≡ is.kind = last_of_all (λ (x : Entry). x.number ≡ is.kind) (only is.kind xs) is.last (only_number is.kind xs) is.is_last in
+    let numbered : is.last.number ≡ is.kind = last_of_all (λ (x : Entry). x.number ≡ is.kind) (only is.kind xs) is.last (only_number (λ (x : Entry). x.number) is.kind xs) is.is_last in
     let last : last_or None (kinds xs) ≡ Some is.last = ap (last_or None) (sym (only_kinds is.kind xs kind is.one)) ∙ is.is_last in
     ap (λ fields. option_and_then (λ (x : Entry). said x.number x.content) (last_or None (kinds fields))) (sym (split_only payload [] xs whole).0) ∙ ap (option_and_then (λ (x : Entry). said x.number x.content)) last ∙ ap (λ n. said n is.last.content) numbered ∙ said_means is.kind is.last.content v is.means
 

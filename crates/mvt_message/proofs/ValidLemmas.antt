@@ -5,12 +5,12 @@ use Rattle.std.specs.List.{AllByRecursion}
 use Rattle.std.specs.Option.{option_map}
 use Rattle.mvt_base.specs.Related.{AreRelated}
 use Rattle.mvt_base.proofs.ListLemmas.{all_weaker}
+use Rattle.mvt_base.proofs.SelectionLemmas.{only_number, only_all, last_selected}
 use Rattle.mvt_attrs.specs.declared.value.Value.{Value}
 use Rattle.mvt_geometry.specs.declared.shape.Geometry.{Geometry}
 use Rattle.mvt_geometry.specs.Valid.{IsValid, IsOfFirstProfile}
 use Rattle.mvt_wire.specs.Field.{Content, varint, bytes, fixed64, fixed32, Entry}
 use Rattle.mvt_wire.specs.Split.{Whole, split}
-use Rattle.mvt_wire.proofs.SplitLemmas.{split_is, split_only}
 use Rattle.mvt_feature.specs.declared.feature.Feature.{Feature}
 use Rattle.mvt_feature.specs.declared.message_error.MessageError.{MessageError}
 use Rattle.mvt_feature.specs.declared.message_error.MessageError.TheVariants.{Memory, Fault}
@@ -20,8 +20,6 @@ use Rattle.mvt_feature.specs.Ranges.{AreBytes, IsInRange}
 use Rattle.mvt_feature.specs.Selection.{only, last_only, HaveForm}
 use Rattle.mvt_feature.specs.Valid.{ValidValue, ValidFeature}
 use Rattle.mvt_feature.specs.Values.{IsText, IsValueOf}
-use Rattle.mvt_feature.proofs.RangeLemmas.{fields_range, value_valid, feature_valid}
-use Rattle.mvt_feature.proofs.SelectionLemmas.{only_all, only_number, form_of}
 use Rattle.mvt_message.specs.declared.item.Item.{Item as AnItem}
 use Rattle.mvt_message.specs.declared.item.Layer.{Layer as ALayer}
 use Rattle.mvt_message.specs.declared.item.Item.TheVariants.{Layer, Foreign}
@@ -29,7 +27,8 @@ use Rattle.mvt_message.specs.LayerFields.{bytes_of, version_in, name_in, extent_
 use Rattle.mvt_message.specs.Items.{IsUint32, HoldsValue, HoldsFeature, IsLayer, AreItem, IsItem}
 use Rattle.mvt_message.specs.ValidItems.{ValidLayer, AreOfVersion, ValidItem, WasValidFeature, WasValidItem}
 use Rattle.mvt_message.specs.Inner.{head_fault, IsFault}
-use Rattle.mvt_message.proofs.ItemLaws.{head_clean, head_keeps, whole_of}
+use Rattle.mvt_message.proofs.SaidLemmas.{SplitOnly}
+use Rattle.mvt_message.proofs.ItemLaws.{RestNone, NoneRest, SplitIs, head_clean, head_keeps, whole_of}
 
 pub old_feature : ((g : Geometry) → IsOfFirstProfile g → IsValid g) → (f : Feature) → WasValidFeature f → ValidFeature f
 old_feature stays f was = record { id = was.id; attributes = was.attributes; distinct = was.distinct; drawn = stays f.geometry was.drawn }
@@ -67,7 +66,7 @@ text_utf8 (fixed32 n) h = absurd h
 -- the keys are texts
 texts_utf8 : (k : ℕ) (xs : List Entry) → HaveForm k IsText xs → AllByRecursion IsUtf8 (map (λ (x : Entry). bytes_of x.content) (only k xs))
 texts_utf8 k xs forms =
-    of_all (only k xs) (only_all (λ (x : Entry). x.number ≡ k → IsText x.content) k xs forms) (only_number k xs)
+    of_all (only k xs) (only_all (λ (x : Entry). x.number) (λ (x : Entry). x.number ≡ k → IsText x.content) k xs forms) (only_number (λ (x : Entry). x.number) k xs)
   where
     of_all : (ys : List Entry) → AllByRecursion (λ (x : Entry). x.number ≡ k → IsText x.content) ys → AllByRecursion (λ (x : Entry). x.number ≡ k) ys → AllByRecursion IsUtf8 (map (λ (x : Entry). bytes_of x.content) ys)
     of_all [] h g = tt
@@ -78,7 +77,7 @@ name_utf8 xs name forms is = of_option (last_only 1 xs) refl is
   where
     of_option : (o : Option Entry) → last_only 1 xs ≡ o → option_map (λ (x : Entry). bytes_of x.content) o ≡ Some name → IsUtf8 name
     of_option None e h = cc
-    of_option (Some x) e h = let same : bytes_of x.content ≡ name = cc in subst IsUtf8 same (text_utf8 x.content (form_of 1 IsText xs x forms e))
+    of_option (Some x) e h = let same : bytes_of x.content ≡ name = cc in subst IsUtf8 same (text_utf8 x.content (last_selected (λ (x : Entry). x.number) (λ (y : Entry). IsText y.content) 1 xs x forms e))
 
 extent_small : (xs : List Entry) → HaveForm 5 IsUint32 xs → extent_in xs < 2 ^ 32
 extent_small xs forms = of_option (last_only 5 xs) refl
@@ -91,7 +90,7 @@ extent_small xs forms = of_option (last_only 5 xs) refl
 
     of_option : (o : Option Entry) → last_only 5 xs ≡ o → unwrap_or (number_in o) 4096 < 2 ^ 32
     of_option None e = omega arith
-    of_option (Some x) e = of_content x.content (form_of 5 IsUint32 xs x forms e)
+    of_option (Some x) e = of_content x.content (last_selected (λ (x : Entry). x.number) (λ (y : Entry). IsUint32 y.content) 5 xs x forms e)
 
 -- what holds of each of the things related
 related_right : {X Y : Type 0} → (P : X → Type 0) (R : X → Y → Type 0) (Q : Y → Type 0) → ((x : X) (y : Y) → P x → R x y → Q y) → (xs : List X) (ys : List Y) → AllByRecursion P xs → AreRelated R xs ys → AllByRecursion Q ys
@@ -104,10 +103,10 @@ layer_valid : ValuesValid → FeaturesValid → (xs : List Entry) (layer : ALaye
 unfolding ValidLayer
 layer_valid values_valid features_valid xs layer range is =
     let keys = texts_utf8 3 xs is.texts in
-    let values = related_right (λ (x : Entry). IsInRange x.content) HoldsValue ValidValue (λ x v here holds. values_valid (bytes_of x.content) v (bytes_in_range x.content here) holds) (only 4 xs) is.values (only_all (λ (x : Entry). IsInRange x.content) 4 xs range) is.values_are in (
+    let values = related_right (λ (x : Entry). IsInRange x.content) HoldsValue ValidValue (λ x v here holds. values_valid (bytes_of x.content) v (bytes_in_range x.content here) holds) (only 4 xs) is.values (only_all (λ (x : Entry). x.number) (λ (x : Entry). IsInRange x.content) 4 xs range) is.values_are in (
       name_utf8 xs layer.name is.names is.name,
       subst (λ n. n < 2 ^ 32) (sym is.extent) (extent_small xs is.extents),
-      related_right (λ (x : Entry). IsInRange x.content) (HoldsFeature (keys_in xs) is.values) ValidFeature (λ x f here holds. features_valid (bytes_of x.content) (keys_in xs) is.values f (bytes_in_range x.content here) keys values holds) (only 2 xs) layer.features (only_all (λ (x : Entry). IsInRange x.content) 2 xs range) is.features,
+      related_right (λ (x : Entry). IsInRange x.content) (HoldsFeature (keys_in xs) is.values) ValidFeature (λ x f here holds. features_valid (bytes_of x.content) (keys_in xs) is.values f (bytes_in_range x.content here) keys values holds) (only 2 xs) layer.features (only_all (λ (x : Entry). x.number) (λ (x : Entry). IsInRange x.content) 2 xs range) is.features,
     )
 
 pub item_valid : FieldsInRange → ValuesValid → FeaturesValid → (payload : List ℕ) (item : AnItem) → AreBytes payload → IsItem payload item → ValidItem item
@@ -118,29 +117,25 @@ item_valid in_range values_valid features_valid payload item are_bytes (xs, whol
     by_item (Layer layer) is = layer_valid values_valid features_valid xs layer (in_range payload xs are_bytes whole) is.1
     by_item (Foreign version content) is = (xs, subst (λ b. Whole b xs) (sym is.2) whole, forms, is.0, is.1)
 
-pub read_valid : (payload : List ℕ) (item : AnItem) → AreBytes payload → IsItem payload item → ValidItem item
-read_valid payload item are_bytes is =
-    item_valid (λ b fields in_bytes whole. fields_range 0 b fields [] in_bytes whole) value_valid feature_valid payload item are_bytes is
-
 -- the bytes of a layer of another version
-pub of_version : (payload : List ℕ) (version found : ℕ) → head_fault payload 0 0 ≡ None → version_in (split payload).fields ≡ Some found → found ≡ version → version ≢ 2 → AreOfVersion version payload
-of_version payload version found head is same other =
-    let parts = head_clean payload 0 0 head in
-    ((split payload).fields, whole_of (λ b. split_is 0 b) payload parts.0, parts.1, is ∙ ap Some same, other)
+pub of_version : NoneRest → SplitIs → (payload : List ℕ) (version found : ℕ) → head_fault payload 0 0 ≡ None → version_in (split payload).fields ≡ Some found → found ≡ version → version ≢ 2 → AreOfVersion version payload
+of_version none_rest split_is payload version found head is same other =
+    let parts = head_clean none_rest payload 0 0 head in
+    ((split payload).fields, whole_of split_is payload parts.0, parts.1, is ∙ ap Some same, other)
 
-pub version_of : (payload : List ℕ) (version : ℕ) → AreOfVersion version payload → (head_fault payload 0 0 ≡ None) × (version_in (split payload).fields ≡ Some version) × (version ≢ 2)
-version_of payload version (xs, whole, forms, is, other) =
-    let only_split = split_only 0 payload [] xs whole in
-    let here : version_in (split payload).fields ≡ Some version = ap version_in only_split.0 ∙ is in
-    (head_keeps payload 0 0 version only_split.1 (subst (HaveForm 15 IsUint32) (sym only_split.0) forms) here, here, other)
+pub version_of : RestNone → SplitOnly → (payload : List ℕ) (version : ℕ) → AreOfVersion version payload → (head_fault payload 0 0 ≡ None) × (version_in (split payload).fields ≡ Some version) × (version ≢ 2)
+version_of rest_none split_only payload version (xs, whole, forms, is, other) =
+    let only = split_only payload [] xs whole in
+    let here : version_in (split payload).fields ≡ Some version = ap version_in (sym only.0) ∙ is in
+    (head_keeps rest_none payload 0 0 version (sym only.1) (subst (HaveForm 15 IsUint32) only.0 forms) here, here, other)
 
 -- a fault of the head leaves no version
-pub no_version : (payload : List ℕ) (version : ℕ) (e : MessageError) → IsFault e → TellsMessage e (head_fault payload 0 0) → AreOfVersion version payload → ⊥
-no_version payload version Memory is told_here of = is
-no_version payload version (Fault feature at cause) is told_here of = let clean = (version_of payload version of).0 in cc
+pub no_version : RestNone → SplitOnly → (payload : List ℕ) (version : ℕ) (e : MessageError) → IsFault e → TellsMessage e (head_fault payload 0 0) → AreOfVersion version payload → ⊥
+no_version rest_none split_only payload version Memory is told_here of = is
+no_version rest_none split_only payload version (Fault feature at cause) is told_here of = let clean = (version_of rest_none split_only payload version of).0 in cc
 
-pub found_version : (payload : List ℕ) (version found : ℕ) → version_in (split payload).fields ≡ Some found → AreOfVersion version payload → (found ≡ version) × (version ≢ 2)
-found_version payload version found is of =
-    let parts = version_of payload version of in
+pub found_version : RestNone → SplitOnly → (payload : List ℕ) (version found : ℕ) → version_in (split payload).fields ≡ Some found → AreOfVersion version payload → (found ≡ version) × (version ≢ 2)
+found_version rest_none split_only payload version found is of =
+    let parts = version_of rest_none split_only payload version of in
     let same : Some found ≡ Some version = sym is ∙ parts.1 in
     (cc, parts.2)

@@ -1,14 +1,14 @@
 -- What the fields of a layer say (Mapbox Vector Tile Specification 2.1, 4.1, message Layer).
 use Rattle.std.specs.Prelude.{ℕ, ◌/◌, ◌%◌, ◌==◌, Bool, false, not, ℤ, pos, negsuc, List, [], map, Option, Some, None, option_and_then, unwrap_or, if◌then◌else◌}
 use Rattle.std.specs.Int.{w64, cast_signed}
-use Rattle.std.specs.List.{flat_map}
+use Rattle.std.specs.List.{flat_map, last_or}
 use Rattle.std.specs.Option.{option_map, option_to_list}
 use Rattle.mvt_attrs.specs.declared.value.Value.{Value}
 use Rattle.mvt_attrs.specs.declared.value.Value.TheVariants.{Text, Float, Double, Int, Uint, Sint, Bool as Truth}
 use Rattle.mvt_wire.specs.Field.{Content, varint, fixed64, bytes, fixed32, Entry}
 use Rattle.mvt_wire.specs.Split.{split}
 use Rattle.mvt_feature.specs.Features.{number_in}
-use Rattle.mvt_feature.specs.Selection.{only, last_or, last_only}
+use Rattle.mvt_feature.specs.Selection.{only, last_only}
 use Rattle.mvt_feature.specs.ValueRules.{kinds}
 
 -- the bytes of a field

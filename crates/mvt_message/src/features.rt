@@ -13,7 +13,9 @@ ghost use Rattle.mvt_message.specs.Inner.{features_fault, AreFeaturesSoFar};
 use crate::payload::bytes_of;
 use mvt_attrs::Value;
 use mvt_base::Text;
+use mvt_feature::laws::walks;
 use mvt_feature::{Feature, MessageError, Room, read_feature_in};
+use mvt_wire::laws::split_function;
 use mvt_wire::{Field, Fields};
 use std::alloc::Global;
 
@@ -34,6 +36,9 @@ pub(crate) fn read_features(
     ensures err { IfErr result (λ error.
         TellsMessage error (features_fault base keys.now values.now (split payload.now).fields)) }
 {
+    // What the proof needs to know of splits and of walks; they do nothing.
+    split_function();
+    walks();
     let mut room = Room::new(alloc);
     let mut features = Vec::new(alloc);
     for field in Fields::new(payload) {

@@ -13,6 +13,7 @@ ghost use Rattle.mvt_message.specs.Inner.{forms_fault, name_after, extent_after,
 use crate::payload::{check_bytes, text_of, uint32_of};
 use mvt_base::Text;
 use mvt_feature::MessageError;
+use mvt_feature::laws::walks;
 use mvt_wire::{Field, Fields};
 use std::alloc::Global;
 
@@ -38,6 +39,8 @@ pub(crate) fn read_head<'a>(
     ensures keys { OnOk result (keys.new.items ≡ keys.old.items ++ keys_in (split payload.now).fields) }
     ensures err { IfErr result (λ error. TellsMessage error (forms_fault base (split payload.now).fields)) }
 {
+    // What the proof needs to know of walks; it does nothing.
+    walks();
     let mut head = Head {
         name: None,
         extent: 4096,

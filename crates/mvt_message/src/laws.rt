@@ -15,6 +15,7 @@ pub fn item_or_fault()
     ensures clean { (b : List ℕ) (base own : ℕ) (item : Item) → IsItem b item → item_fault b base own ≡ None }
 {
     mvt_wire::laws::split_function();
+    mvt_feature::laws::rests();
     mvt_feature::laws::value_or_fault();
     mvt_feature::laws::feature_or_fault();
 }
@@ -24,6 +25,7 @@ pub fn item_in_order()
     ensures fault { (b : List ℕ) (base own : ℕ) → item_fault b base own ≡ first (item_rules b base own) }
     ensures ordered { (b : List ℕ) (base own : ℕ) → AreOrdered (item_rules b base own) }
 {
+    mvt_feature::laws::rests();
     mvt_feature::laws::value_fault_is_least();
     mvt_feature::laws::feature_fault_is_least();
 }

@@ -2,6 +2,7 @@
 //! its bytes, read from a payload and written as one.
 #![tactic(auto)]
 
+mod below;
 mod features;
 mod head;
 mod item;

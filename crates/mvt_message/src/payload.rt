@@ -11,28 +11,8 @@ ghost use Rattle.mvt_message.specs.LayerFields.{bytes_of as the_bytes_of};
 ghost use Rattle.mvt_message.specs.ItemRules.{uint32_rules, bytes_rules};
 ghost use Rattle.mvt_message.specs.Inner.{IsFault};
 
-use mvt_feature::{Cause, MessageError};
-use mvt_wire::{Payload, WireFault};
-use std::str;
-
-/// A fault that stands in no feature.
-pub(crate) fn fault_at(at: u64, cause: Cause) -> MessageError
-    ensures { result ≡ MessageError.Fault None at cause }
-{
-    MessageError::Fault {
-        feature: None,
-        at,
-        cause,
-    }
-}
-
-/// The fault of a payload's rest, told at its absolute place.
-pub(crate) fn rest_fault(base: u64, fault: WireFault) -> MessageError
-    requires { base + fault.at < 2 ^ 64 }
-    ensures { result ≡ MessageError.Fault None (base + fault.at) (of_wire fault.cause) }
-{
-    fault_at(base + fault.at as u64, Cause::from(fault.cause))
-}
+use mvt_feature::{Cause, MessageError, fault_at};
+use mvt_wire::Payload;
 
 /// The bytes of a message; a field of another form has none.
 pub(crate) fn bytes_of<'a>(payload: &Payload<'a>) -> &'a [u8]
@@ -57,17 +37,15 @@ pub(crate) fn check_bytes(payload: &Payload<'_>, at: u64) -> Result<(), MessageE
     Ok(())
 }
 
+/// A text, or its fault told at this place.
 pub(crate) fn text_of<'a>(payload: &Payload<'a>, at: u64) -> Result<&'a str, MessageError>
     ensures text { IfOk result (λ text. text.now ≡ the_bytes_of (content_of payload.now)) }
     ensures ok { OnOk result (first (text_rules (content_of payload.now)) ≡ None) }
     ensures err { IfErr result (λ error. TellsMessage error (option_map (the_fault_at at) (first (text_rules (content_of payload.now))))) }
 {
-    let Payload::Len(bytes) = payload else {
-        return Err(fault_at(at, Cause::WrongType));
-    };
-    match str::from_utf8(bytes) {
+    match mvt_feature::text_of(payload) {
         Ok(text) => Ok(text),
-        Err(_) => Err(fault_at(at, Cause::NotUtf8)),
+        Err(cause) => Err(fault_at(at, cause)),
     }
 }
 

@@ -11,6 +11,7 @@ ghost use Rattle.mvt_message.specs.Inner.{values_fault, AreValuesSoFar};
 
 use crate::payload::bytes_of;
 use mvt_attrs::Value;
+use mvt_feature::laws::walks;
 use mvt_feature::{MessageError, read_value};
 use mvt_wire::{Field, Fields};
 use std::alloc::Global;
@@ -27,6 +28,8 @@ pub(crate) fn read_values(
     ensures values { IfOk result (λ values. AreRelated HoldsValue (only 4 (split payload.now).fields) values.items) }
     ensures err { IfErr result (λ error. TellsMessage error (values_fault base (split payload.now).fields)) }
 {
+    // What the proof needs to know of walks; it does nothing.
+    walks();
     let mut values = Vec::new(alloc);
     for field in Fields::new(payload) {
         match field {

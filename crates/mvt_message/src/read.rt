@@ -10,11 +10,12 @@ ghost use Rattle.mvt_message.specs.Inner.{layer_fault};
 use crate::features::read_features;
 use crate::head::read_head;
 use crate::item::{Item, Layer};
-use crate::payload::fault_at;
 use crate::pool::read_values;
 use crate::version::read_version;
 use mvt_base::{Items, LIMIT, Text};
-use mvt_feature::{Cause, MessageError};
+use mvt_feature::laws::{read_is_valid, rests};
+use mvt_feature::{Cause, MessageError, fault_at};
+use mvt_wire::laws::split_function;
 use std::alloc::Global;
 
 /// The item of a payload whose first byte stands at `base`, and whose field's tag at `own`.
@@ -32,6 +33,10 @@ pub fn read_item(alloc: Global, payload: &[u8], base: u64, own: u64) -> Result<I
     ensures valid { IfOk result (λ item. ValidItem item) }
     ensures fault { IfErr result (λ error. TellsMessage error (item_fault payload.now base own)) }
 {
+    // What the proof needs to know of the levels below; it does nothing.
+    split_function();
+    rests();
+    read_is_valid();
     let version = read_version(payload, base, own)?;
     if version == 2 {
         return Ok(Item::Layer(read_layer(alloc, payload, base, own)?));
@@ -49,6 +54,8 @@ fn read_layer(alloc: Global, payload: &[u8], base: u64, own: u64) -> Result<Laye
     ensures layer { IfOk result (IsLayer (split payload.now).fields) }
     ensures fault { IfErr result (λ error. TellsMessage error (layer_fault base own (split payload.now).fields)) }
 {
+    // What the proof needs to know of splits; it does nothing.
+    split_function();
     let mut keys = Vec::new(alloc);
     let head = read_head(alloc, payload, base, &mut keys)?;
     let name = match head.name {

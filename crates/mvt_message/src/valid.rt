@@ -6,7 +6,9 @@ ghost use Rattle.mvt_message.specs.ValidItems.{ValidItem, ValidLayer, AreOfVersi
 
 use crate::item::{Item, Layer};
 use crate::version::read_version;
+use mvt_feature::laws::rests;
 use mvt_feature::{Feature, is_valid_feature};
+use mvt_wire::laws::split_function;
 
 /// Whether a layer can be written: each of its features can. It takes no memory.
 #[tactic(auto, unfolding(crate::specs::ValidItems::ValidLayer))]
@@ -45,6 +47,9 @@ fn are_valid(features: &[Feature]) -> bool
 fn are_of_version(version: u32, bytes: &[u8]) -> bool
     ensures { IsTrue result ↔ AreOfVersion version bytes.now }
 {
+    // What the proof needs to know of splits and of rests; they do nothing.
+    split_function();
+    rests();
     match read_version(bytes, 0, 0) {
         Ok(found) => found == version && version != 2,
         Err(_) => false,

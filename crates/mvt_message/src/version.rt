@@ -7,8 +7,9 @@ ghost use Rattle.mvt_feature.specs.Faults.{TellsMessage};
 ghost use Rattle.mvt_message.specs.LayerFields.{version_in};
 ghost use Rattle.mvt_message.specs.Inner.{rest_fault as the_rest_fault, versions_fault, head_fault, IsFault, IsVersionSoFar};
 
-use crate::payload::{fault_at, rest_fault, uint32_of};
-use mvt_feature::{Cause, MessageError};
+use crate::payload::uint32_of;
+use mvt_feature::laws::{rests, walk_results, walks};
+use mvt_feature::{Cause, MessageError, fault_at, rest_fault};
 use mvt_wire::{Field, Fields};
 
 /// The version of a payload, which is one item's where this is `Ok`.
@@ -19,6 +20,8 @@ pub(crate) fn read_version(payload: &[u8], base: u64, own: u64) -> Result<u32, M
     ensures err { IfErr result (λ error. TellsMessage error (head_fault payload.now base own)) }
     ensures fault { IfErr result IsFault }
 {
+    // What the proof needs to know of rests; it does nothing.
+    rests();
     match last_version(payload, base)? {
         Some(version) => Ok(version),
         None => Err(fault_at(own, Cause::NoVersion)),
@@ -36,6 +39,9 @@ fn last_version(payload: &[u8], base: u64) -> Result<Option<u32>, MessageError>
         (the_rest_fault payload.now base) (versions_fault base (split payload.now).fields))) }
     ensures fault { IfErr result IsFault }
 {
+    // What the proof needs to know of walks; they do nothing.
+    walks();
+    walk_results::<Option<u32>>();
     let mut version = Ok(None);
     for field in Fields::new(payload) {
         match field {

@@ -1,7 +1,7 @@
 use Rattle.std.proofs.Common.{List}
 use Rattle.mvt_wire.specs.Field.{Entry}
 use Rattle.mvt_feature.specs.Inner.{AreSoFar}
-use Rattle.mvt_feature.proofs.WalkLemmas.{Walk}
+use Rattle.mvt_feature.specs.Walks.{Walk}
 use Rattle.mvt_feature.proofs.value.read_kinds.Given as goal
 
 abbrev pub invariant-loop-field : goal.invariant-loop-field

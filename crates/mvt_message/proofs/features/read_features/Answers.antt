@@ -1,25 +1,24 @@
 use Rattle.std.proofs.Common.{◌++◌, ◌∷◌, [], ◌<◌, ◌^◌, length, arith}
 use Rattle.std.proofs.lemmas.Result.{err_from_is_err_and}
 use Rattle.mvt_wire.specs.Field.{entry_of}
-use Rattle.mvt_feature.proofs.WalkLemmas.{walk_step}
-use Rattle.mvt_message.proofs.ReadLemmas.{walk_all, features_few}
+use Rattle.mvt_message.proofs.ReadLemmas.{features_few}
 use Rattle.mvt_message.proofs.features.read_features.Goals as goal
 
 pub append_feature-requires-clause-few : goal.append_feature-requires-clause-few
 append_feature-requires-clause-few c =
-    let few : length c.loop-field.features.items < 2 ^ 32 = features_few c.args.payload.now c.loop-field.field-iterator c.args.base c.args.keys.now c.args.values.now c.loop-field.invariant.0 c.loop-field.features.items c.loop-field.invariant.1 c.loop-field.invariant.2 c.requires.small in
+    let few : length c.loop-field.features.items < 2 ^ 32 = features_few c.split_function.ensures.count c.args.payload.now c.loop-field.field-iterator c.args.base c.args.keys.now c.args.values.now c.loop-field.invariant.0 c.loop-field.features.items c.loop-field.invariant.1 c.loop-field.invariant.2 c.requires.small in
     let same = c.loop-field.features.ok.0 in
     omega arith
 
 pub loop-field-preserved : goal.loop-field-preserved
 loop-field-preserved c =
     let done = c.loop-field.invariant.0 in
-    (done ++ entry_of c.in-Ok.field ∷ [], walk_step _ _ _ _ _ c.loop-field.invariant.1 (rw c.in-Ok.is at c.in-Some.ensures.steps), c.in_ok-append_feature-in-Ok.ensures.ok done c.loop-field.invariant.2)
+    (done ++ entry_of c.in-Ok.field ∷ [], c.walks.ensures.step _ _ _ _ _ c.loop-field.invariant.1 (rw c.in-Ok.is at c.in-Some.ensures.steps), c.in_ok-append_feature-in-Ok.ensures.ok done c.loop-field.invariant.2)
 
 pub returns-in_err-append_feature-in-Ok-clause-err :
     goal.returns-in_err-append_feature-in-Ok-clause-err
 returns-in_err-append_feature-in-Ok-clause-err c =
     let p = err_from_is_err_and c.from_residual.result c.from_residual.ensures.1 in
     let done = c.loop-field.invariant.0 in
-    let all = walk_all c.args.payload.now _ c.next.new.self done c.in-Ok.field c.loop-field.invariant.1 (rw c.in-Ok.is at c.in-Some.ensures.steps) in
+    let all = (c.walks.ensures.step c.args.payload.now _ c.next.new.self done c.in-Ok.field c.loop-field.invariant.1 (rw c.in-Ok.is at c.in-Some.ensures.steps)).fields in
     rw (p.1, p.2, all) (c.in_err-append_feature-in-Ok.ensures.err done c.next.new.self.fields c.loop-field.invariant.2)

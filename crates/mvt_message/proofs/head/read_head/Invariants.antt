@@ -1,7 +1,7 @@
 use Rattle.std.proofs.Common.{List}
 use Rattle.std.specs.Option.{option_copied}
 use Rattle.mvt_wire.specs.Field.{Entry}
-use Rattle.mvt_feature.proofs.WalkLemmas.{Walk}
+use Rattle.mvt_feature.specs.Walks.{Walk}
 use Rattle.mvt_message.proofs.ReadLemmas.{HeadSoFar}
 use Rattle.mvt_message.proofs.head.read_head.Given as goal
 

@@ -1,6 +1,6 @@
 use Rattle.std.proofs.Common.{List}
 use Rattle.mvt_wire.specs.Field.{Entry}
-use Rattle.mvt_feature.proofs.WalkLemmas.{Walk}
+use Rattle.mvt_feature.specs.Walks.{Walk}
 use Rattle.mvt_message.specs.Inner.{AreValuesSoFar}
 use Rattle.mvt_message.proofs.pool.read_values.Given as goal
 

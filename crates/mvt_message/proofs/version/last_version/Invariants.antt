@@ -1,7 +1,7 @@
 use Rattle.std.proofs.Common.{List}
 use Rattle.std.specs.Prelude.{IfErr}
 use Rattle.mvt_wire.specs.Field.{Entry}
-use Rattle.mvt_feature.proofs.WalkLemmas.{Walk}
+use Rattle.mvt_feature.specs.Walks.{Walk}
 use Rattle.mvt_message.specs.Inner.{IsVersionSoFar, IsFault}
 use Rattle.mvt_message.proofs.version.last_version.Given as goal
 
