@@ -6,6 +6,9 @@ use mvt_geometry::{Geometry, Kind, read_geometry};
 use mvt_wire::{Fields, Payload, append_packed};
 use std::alloc::Global;
 
+mod tiles;
+mod views;
+
 /// Walks the fields of a message, and adds up their numbers and contents. 0 for a broken message.
 #[unsafe(no_mangle)]
 pub extern "C" fn mvt_walk_fields(bytes: &[u8]) -> u64 {

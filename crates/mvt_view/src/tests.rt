@@ -1,7 +1,7 @@
 //! Tiles as JSON, the lines of fields, and the lines of faults.
 use super::*;
 use mvt_attrs::{Attribute, Value};
-use mvt_base::{Items, Text};
+use mvt_base::{Items, LIMIT, Text};
 use mvt_geometry::{Geometry, Point, Polygon};
 use mvt_message::{Cause, Feature, Item, Layer};
 use mvt_tile::{Fault, Tile};
@@ -93,6 +93,15 @@ fn foreign(alloc: Global) -> Result<Tile, AllocError> {
     Ok(Tile { items })
 }
 
+fn foreign_and_point(alloc: Global) -> Result<Tile, AllocError> {
+    let mut items = foreign(alloc)?.items.into_vec();
+    for item in one_point(alloc)?.items.into_vec() {
+        items.push(item)?;
+    }
+    let items = Items::new(items);
+    Ok(Tile { items })
+}
+
 fn empty(alloc: Global) -> Tile {
     let items = Items::new(Vec::new(alloc));
     Tile { items }
@@ -133,7 +142,8 @@ fn shows_tiles(rt: HostRuntime) -> Result<(), Fail> {
 }
 
 // A text with quotes, control characters and characters beyond ASCII, and numbers at their ends. The
-// expected text is what Python's json writes, compact and with keys sorted.
+// expected text was made by Python: json.dumps(tile, ensure_ascii=False, sort_keys=True,
+// separators=(",", ":")).
 #[test]
 fn shows_texts(rt: HostRuntime) -> Result<(), Fail> {
     let alloc = rt.alloc();
@@ -196,6 +206,46 @@ fn tells_faults(rt: HostRuntime) -> Result<(), Fail> {
     Ok(())
 }
 
+#[test]
+fn tells_causes(rt: HostRuntime) -> Result<(), Fail> {
+    let alloc = rt.alloc();
+    let causes = [
+        (Cause::Truncated, "1 Truncated"),
+        (Cause::VarintRange, "2 VarintRange"),
+        (Cause::FieldNumber, "3 FieldNumber"),
+        (Cause::WireType, "4 WireType"),
+        (Cause::WrongType, "5 WrongType"),
+        (Cause::NumberRange, "6 NumberRange"),
+        (Cause::NotUtf8, "7 NotUtf8"),
+        (Cause::NoVersion, "8 NoVersion"),
+        (Cause::NoName, "10 NoName"),
+        (Cause::ValueKind, "11 ValueKind"),
+        (Cause::GeomType, "12 GeomType"),
+        (Cause::OddTags, "13 OddTags"),
+        (Cause::KeyIndex, "14 KeyIndex"),
+        (Cause::ValueIndex, "15 ValueIndex"),
+        (Cause::RepeatedKey, "16 RepeatedKey"),
+        (Cause::Command, "17 Command"),
+        (Cause::Count, "18 Count"),
+        (Cause::Parameters, "19 Parameters"),
+        (Cause::ZeroSegment, "20 ZeroSegment"),
+        (Cause::CoordinateRange, "21 CoordinateRange"),
+        (Cause::FirstRing, "22 FirstRing"),
+        (Cause::EndsEarly, "23 EndsEarly"),
+        (Cause::RepeatedName, "24 RepeatedName"),
+        (Cause::TooLarge, "25 TooLarge"),
+        (Cause::ParameterRange, "26 ParameterRange"),
+    ];
+    for (cause, expected) in &causes {
+        let text = fault_text(alloc, &fault(Some(3), Some(4), 5, *cause));
+        assert!(rt;
+            text.is_ok_and(|text| text.as_str().strip_prefix("layer 3 feature 4 at 5: ")
+                == Some(*expected))
+        );
+    }
+    Ok(())
+}
+
 fn expect_fields(rt: &(impl Abort + AllocGlobal), input: &[u8], lines: &str, fault: Option<Fault>) {
     let Ok(found) = fields_text(rt.alloc(), input) else {
         assert!(rt; false);
@@ -213,12 +263,48 @@ fn lists_fields(rt: HostRuntime) -> Result<(), Fail> {
         "0 3 len 3\n5 4 varint 5\n",
         None,
     );
-    let cut = fault(None, None, 2, Cause::Truncated);
-    expect_fields(&rt, b"\x20\x05\x1A", "0 4 varint 5\n", Some(cut));
     let fixed = b"\x0D\x01\x00\x00\x00\x09\x02\x00\x00\x00\x00\x00\x00\x00";
     expect_fields(&rt, fixed, "0 1 i32 1\n5 1 i64 2\n", None);
-    let wire_type = fault(None, None, 0, Cause::WireType);
-    expect_fields(&rt, b"\x1F\x8B", "", Some(wire_type));
+    expect_fields(&rt, b"", "", None);
+    let broken: [(&[u8], &str, u64, Cause); 6] = [
+        (b"\x20\x05\x1A", "0 4 varint 5\n", 2, Cause::Truncated),
+        (
+            b"\x20\x80\x80\x80\x80\x80\x80\x80\x80\x80\x02",
+            "",
+            0,
+            Cause::VarintRange,
+        ),
+        (b"\x00\x00", "", 0, Cause::FieldNumber),
+        (b"\x80\x80\x80\x80\x10\x00", "", 0, Cause::FieldNumber),
+        (b"\x1B", "", 0, Cause::WireType),
+        (b"\x1F\x8B", "", 0, Cause::WireType),
+    ];
+    for (input, lines, at, cause) in &broken {
+        expect_fields(&rt, input, lines, Some(fault(None, None, *at, *cause)));
+    }
+    Ok(())
+}
+
+// The limit of an input's length, as a number that the proofs don't count to.
+fn limit() -> usize {
+    LIMIT as usize
+}
+
+// One field of this head at the limit, and a byte behind it.
+fn beyond_limit(alloc: Global, head: &[u8]) -> Result<Vec<u8>, AllocError> {
+    let mut input = Vec::from_slice(alloc, head)?;
+    input.resize(limit().saturating_add(1), 0)?;
+    Ok(input)
+}
+
+#[test]
+fn lists_fields_up_to_the_limit(rt: HostRuntime) -> Result<(), Fail> {
+    let alloc = rt.alloc();
+    let whole = beyond_limit(alloc, b"\x0A\xFB\xFF\xFF\x1F")?;
+    let large = fault(None, None, 67_108_864, Cause::TooLarge);
+    expect_fields(&rt, &whole, "0 1 len 67108859\n", Some(large));
+    let cut = beyond_limit(alloc, b"\x0A\xFC\xFF\xFF\x1F")?;
+    expect_fields(&rt, &cut, "", Some(fault(None, None, 0, Cause::TooLarge)));
     Ok(())
 }
 
@@ -238,6 +324,8 @@ fn reports_tiles(rt: HostRuntime) -> Result<(), Fail> {
     expect_report(&rt, &rings(alloc)?, true, FLAT);
     let other = "ok layers 1 features 0 canonical yes\nnote Foreign layer 0 version 1\n";
     expect_report(&rt, &foreign(alloc)?, true, other);
+    let both = "ok layers 2 features 1 canonical yes\nnote Foreign layer 0 version 1\n";
+    expect_report(&rt, &foreign_and_point(alloc)?, true, both);
     let features = vec![in alloc; point(alloc, Some(7))?, point(alloc, Some(7))?]?;
     let twice =
         "ok layers 1 features 2 canonical yes\nnote RepeatedId layer 0 feature 1 earlier 0\n";
