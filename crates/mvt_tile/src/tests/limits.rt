@@ -1,0 +1,88 @@
+//! Inputs and tiles of 64 MiB.
+use super::support::outer;
+use crate::{Note, PutError, TileDecoder, WriteError, decode, encode, notes, write_tile};
+use mvt_base::LIMIT;
+use mvt_io::MemorySink;
+use mvt_message::Cause;
+use std::alloc::{AllocError, Global};
+use std::process::Abort;
+use std::test::Fail;
+
+// The limit, of which the check is to know nothing here: it would count so far.
+fn limit() -> usize {
+    LIMIT as usize
+}
+
+// The front, and this byte up to the limit.
+fn filled(alloc: Global, front: &[u8], byte: u8) -> Result<Vec<u8>, AllocError> {
+    let mut bytes = Vec::from_slice(alloc, front)?;
+    bytes.resize(limit(), byte)?;
+    Ok(bytes)
+}
+
+// An unknown field of zero bytes that ends at the limit: a tile without items, but for a byte more.
+#[test]
+fn ends_at_the_limit(rt: HostRuntime) -> Result<(), Fail> {
+    let alloc = rt.alloc();
+    let mut input = filled(alloc, b"\x0A\xFB\xFF\xFF\x1F", 0)?;
+    let tile = decode(alloc, &input)?;
+    assert!(rt; tile.items.as_slice().is_empty());
+    let mut decoder = TileDecoder::new(alloc);
+    decoder.feed(&input)?;
+    assert_eq!(rt; decoder.held(), 0);
+    let error = outer(67_108_864, Cause::TooLarge);
+    assert_eq!(rt; decoder.feed(b"\x00"), Err(error));
+    assert_eq!(rt; decoder.finish().err(), Some(error));
+    input.push(0)?;
+    assert_eq!(rt; decode(alloc, &input).err(), Some(error));
+    Ok(())
+}
+
+// A field that isn't finished at the limit, byte by byte: all is held, and one byte more is refused.
+fn expect_endless(rt: &(impl Abort + AllocGlobal), front: &[u8]) -> Result<(), Fail> {
+    let alloc = rt.alloc();
+    let mut input = filled(alloc, front, 0)?;
+    let mut decoder = TileDecoder::new(alloc);
+    for byte in input.chunks(1) {
+        decoder.feed(byte)?;
+    }
+    assert_eq!(rt; decoder.held(), limit());
+    assert_eq!(rt;
+        decode(alloc, &input).err(),
+        Some(outer(0, Cause::Truncated))
+    );
+    let error = outer(0, Cause::TooLarge);
+    assert_eq!(rt; decoder.feed(b"\x00"), Err(error));
+    assert_eq!(rt; decoder.held(), 0);
+    assert_eq!(rt; decoder.finish().err(), Some(error));
+    input.push(0)?;
+    assert_eq!(rt; decode(alloc, &input).err(), Some(error));
+    Ok(())
+}
+
+// Payloads of one byte too many, and of 2^63 bytes.
+#[test]
+fn goes_on_behind_the_limit(rt: HostRuntime) -> Result<(), Fail> {
+    expect_endless(&rt, b"\x0A\xFC\xFF\xFF\x1F")?;
+    expect_endless(&rt, b"\x0A\x80\x80\x80\x80\x80\x80\x80\x80\x80\x01")
+}
+
+// A layer with a long name, whose extent isn't there: canonical bytes have it, and are too many.
+#[test]
+fn is_too_large_to_write(rt: HostRuntime) -> Result<(), Fail> {
+    let alloc = rt.alloc();
+    let input = filled(
+        alloc,
+        b"\x1A\xFB\xFF\xFF\x1F\x78\x02\x0A\xF4\xFF\xFF\x1F",
+        b'a',
+    )?;
+    let tile = decode(alloc, &input)?;
+    assert_eq!(rt; encode(alloc, &tile).err(), Some(PutError::TooLarge));
+    let mut writer = MemorySink::new(alloc, 100, 100, u64::MAX, false)?;
+    let done = write_tile(alloc, &tile, &mut writer);
+    assert_eq!(rt; done, Err(WriteError::TooLarge));
+    assert_eq!(rt; writer.calls(), 0);
+    let found = notes(alloc, &tile)?;
+    assert_eq!(rt; found.as_slice(), [Note::NoFeatures(0)].as_slice());
+    Ok(())
+}

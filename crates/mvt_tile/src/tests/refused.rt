@@ -1,0 +1,178 @@
+//! Refused growths: each test passes too where one allocation, whichever, is refused. Each call has two
+//! turns, of which one at most may want memory; the other answers as ever.
+use super::rows::*;
+use super::support::{joined, names};
+use crate::{
+    DecodeError, ExtractError, PutError, Tile, TileDecoder, WriteError, decode, encode, extract,
+    is_valid, notes, read_tile, write_tile,
+};
+use mvt_io::{MemorySink, MemorySource};
+use std::alloc::{AllocError, Global};
+use std::process::Abort;
+
+// Canonical bytes of tiles that need memory in many ways.
+const TILES: [&[u8]; 4] = [RINGS, ONCE_A_KEY, KINDS_CANONICAL, FOREIGN];
+
+// Whether an answer wants memory; if not, it is a tile.
+fn is_refused(rt: &impl Abort, answer: Result<Tile, DecodeError>) -> bool {
+    match answer {
+        Ok(tile) => {
+            assert!(rt; tile.items.as_slice().len() == 1 && is_valid(&tile));
+            false
+        }
+        Err(error) => {
+            assert_eq!(rt; error, DecodeError::Memory);
+            true
+        }
+    }
+}
+
+// The input byte by byte. After a want of memory that is the answer for good.
+fn is_feed_refused(rt: &(impl Abort + AllocGlobal), input: &[u8]) -> bool {
+    let mut decoder = TileDecoder::new(rt.alloc());
+    for byte in input.chunks(1) {
+        if let Err(error) = decoder.feed(byte) {
+            assert_eq!(rt; error, DecodeError::Memory);
+            assert_eq!(rt; decoder.feed(input), Err(DecodeError::Memory));
+            assert_eq!(rt; decoder.held(), 0);
+            return is_refused(rt, decoder.finish());
+        }
+    }
+    is_refused(rt, decoder.finish())
+}
+
+fn is_read_refused(rt: &(impl Abort + AllocGlobal), input: &[u8]) -> bool {
+    let Ok(bytes) = Vec::from_slice(rt.alloc(), input) else {
+        return true;
+    };
+    let mut reader = MemorySource::new(bytes, 7, u64::MAX);
+    is_refused(rt, read_tile(rt.alloc(), &mut reader))
+}
+
+#[test]
+fn refused_reads(rt: HostRuntime) {
+    let mut refused = 0u32;
+    for input in TILES {
+        for _turn in 0..2 {
+            let answers = [
+                is_refused(&rt, decode(rt.alloc(), input)),
+                is_feed_refused(&rt, input),
+                is_read_refused(&rt, input),
+            ];
+            for is_refused in answers {
+                refused = refused.saturating_add(u32::from(is_refused));
+            }
+        }
+    }
+    assert!(rt; refused < 2);
+}
+
+fn is_encode_refused(rt: &(impl Abort + AllocGlobal), canonical: &[u8]) -> bool {
+    let Ok(tile) = decode(rt.alloc(), canonical) else {
+        return true;
+    };
+    match encode(rt.alloc(), &tile) {
+        Ok(bytes) => {
+            assert_eq!(rt; bytes.as_slice(), canonical);
+            false
+        }
+        Err(error) => {
+            assert_eq!(rt; error, PutError::Memory);
+            true
+        }
+    }
+}
+
+#[test]
+fn refused_encodes(rt: HostRuntime) {
+    let mut refused = 0u32;
+    for canonical in TILES {
+        for _turn in 0..2 {
+            let is_refused = is_encode_refused(&rt, canonical);
+            refused = refused.saturating_add(u32::from(is_refused));
+        }
+    }
+    assert!(rt; refused < 2);
+}
+
+// A tile of two layers. Where memory is wanted, the writer took whole items only.
+fn is_write_refused(rt: &(impl Abort + AllocGlobal), both: &[u8]) -> bool {
+    let Ok(tile) = decode(rt.alloc(), both) else {
+        return true;
+    };
+    let Ok(mut writer) = MemorySink::new(rt.alloc(), 38, 7, u64::MAX, false) else {
+        return true;
+    };
+    match write_tile(rt.alloc(), &tile, &mut writer) {
+        Ok(()) => {
+            assert_eq!(rt; writer.taken(), both);
+            false
+        }
+        Err(error) => {
+            assert_eq!(rt; error, WriteError::Memory);
+            assert!(rt; writer.taken().is_empty() || writer.taken() == ONE_POINT);
+            true
+        }
+    }
+}
+
+#[test]
+fn refused_writes(rt: HostRuntime) {
+    let mut refused = 0u32;
+    for _turn in 0..2 {
+        let is_refused = match joined(rt.alloc(), ONE_POINT, ONE_POINT_B) {
+            Ok(both) => is_write_refused(&rt, &both),
+            Err(AllocError) => true,
+        };
+        refused = refused.saturating_add(u32::from(is_refused));
+    }
+    assert!(rt; refused < 2);
+}
+
+fn is_extract_refused(rt: &impl Abort, alloc: Global, tile: &Tile, texts: &[&str]) -> bool {
+    let Ok(names) = names(alloc, texts) else {
+        return true;
+    };
+    match extract(alloc, tile, &names) {
+        Ok(picked) => {
+            assert!(rt; picked == *tile);
+            false
+        }
+        Err(error) => {
+            assert_eq!(rt; error, ExtractError::Memory);
+            true
+        }
+    }
+}
+
+fn are_notes_refused(rt: &impl Abort, alloc: Global, tile: &Tile, count: usize) -> bool {
+    match notes(alloc, tile) {
+        Ok(found) => {
+            assert_eq!(rt; found.len(), count);
+            false
+        }
+        Err(AllocError) => true,
+    }
+}
+
+#[test]
+fn refused_views(rt: HostRuntime) {
+    let alloc = rt.alloc();
+    let mut refused = 0u32;
+    for (input, count) in [(RINGS, 1), (SAME_ID, 1), (PLAIN, 1), (KINDS, 0)] {
+        for _turn in 0..2 {
+            let is_refused = match decode(alloc, input) {
+                Ok(tile) => {
+                    is_extract_refused(&rt, alloc, &tile, &["a"])
+                        || are_notes_refused(&rt, alloc, &tile, count)
+                }
+                Err(error) => {
+                    assert_eq!(rt; error, DecodeError::Memory);
+                    true
+                }
+            };
+            refused = refused.saturating_add(u32::from(is_refused));
+        }
+    }
+    assert!(rt; refused < 2);
+}

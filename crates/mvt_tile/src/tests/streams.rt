@@ -1,0 +1,84 @@
+//! A tile in pieces.
+use super::rows::{ONE_POINT, UNKNOWN_FIRST};
+use super::support::{in_layer, joined, outer};
+use crate::{DecodeError, TileDecoder, decode};
+use mvt_message::Cause;
+use std::alloc::Global;
+use std::test::Fail;
+
+// A decoder that was fed the input in pieces of this size.
+fn fed_by(alloc: Global, input: &[u8], size: usize) -> Result<TileDecoder, DecodeError> {
+    let mut decoder = TileDecoder::new(alloc);
+    for piece in input.chunks(size.max(1)) {
+        decoder.feed(piece)?;
+    }
+    Ok(decoder)
+}
+
+// Each front of the tile, byte by byte: how many bytes are held, and what the front is.
+#[test]
+fn holds_what_is_unfinished(rt: HostRuntime) -> Result<(), Fail> {
+    let alloc = rt.alloc();
+    for len in 0..=ONE_POINT.len() {
+        let front = &ONE_POINT[..len];
+        let decoder = fed_by(alloc, front, 1)?;
+        let is_whole = len == 0 || len == 19;
+        assert_eq!(rt; decoder.held(), if is_whole { 0 } else { len });
+        let answer = decoder.finish();
+        if is_whole {
+            assert!(rt; answer? == decode(alloc, front)?);
+        } else {
+            assert_eq!(rt; answer.err(), Some(outer(0, Cause::Truncated)));
+        }
+    }
+    Ok(())
+}
+
+#[test]
+fn takes_any_pieces(rt: HostRuntime) -> Result<(), Fail> {
+    let alloc = rt.alloc();
+    for input in [ONE_POINT, UNKNOWN_FIRST] {
+        let tile = decode(alloc, input)?;
+        for size in 1..=input.len() {
+            assert!(rt; fed_by(alloc, input, size)?.finish()? == tile);
+        }
+        for cut in 0..=input.len() {
+            let mut decoder = TileDecoder::new(alloc);
+            decoder.feed(&input[..cut])?;
+            decoder.feed(&input[cut..])?;
+            assert_eq!(rt; decoder.held(), 0);
+            assert!(rt; decoder.finish()? == tile);
+        }
+    }
+    Ok(())
+}
+
+#[test]
+fn tells_faults_early(rt: HostRuntime) -> Result<(), Fail> {
+    let alloc = rt.alloc();
+    // A layer is judged with its last byte, and the fault stays.
+    let mut decoder = TileDecoder::new(alloc);
+    for (index, byte) in b"\x1A\x03\x0A\x01".chunks(1).enumerate() {
+        assert_eq!(rt; decoder.feed(byte), Ok(()));
+        assert_eq!(rt; decoder.held(), index.saturating_add(1));
+    }
+    let error = in_layer(0, 0, Cause::NoVersion);
+    assert_eq!(rt; decoder.feed(b"\x61"), Err(error));
+    assert_eq!(rt; decoder.feed(ONE_POINT), Err(error));
+    assert_eq!(rt; decoder.held(), 0);
+    assert_eq!(rt; decoder.finish().err(), Some(error));
+    // Inside a layer that isn't whole nothing is judged.
+    let decoder = fed_by(alloc, b"\x1A\x05\x7A\x00", 4)?;
+    assert_eq!(rt; decoder.held(), 4);
+    assert_eq!(rt; decoder.finish().err(), Some(outer(0, Cause::Truncated)));
+    // Nor is a field 3 that isn't whole.
+    let mut decoder = fed_by(alloc, b"\x18", 1)?;
+    assert_eq!(rt; decoder.held(), 1);
+    assert_eq!(rt; decoder.feed(b"\x00"), Err(outer(0, Cause::WrongType)));
+    // What stands behind a whole field is held, and told at its place.
+    let longer = joined(alloc, ONE_POINT, b"\x1A\x11\x78")?;
+    let decoder = fed_by(alloc, &longer, 22)?;
+    assert_eq!(rt; decoder.held(), 3);
+    assert_eq!(rt; decoder.finish().err(), Some(outer(19, Cause::Truncated)));
+    Ok(())
+}

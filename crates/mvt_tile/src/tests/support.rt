@@ -1,0 +1,123 @@
+//! Tiles made by hand, and what several tests compare.
+use crate::{DecodeError, Fault, Tile, TileDecoder, decode, encode, is_valid};
+use mvt_attrs::Attribute;
+use mvt_base::{Items, Text};
+use mvt_geometry::{Geometry, Point};
+use mvt_message::{Cause, Feature, Item, Layer};
+use std::alloc::{AllocError, Global};
+use std::process::Abort;
+use std::test::Fail;
+
+pub(super) fn points(alloc: Global, places: &[(i32, i32)]) -> Result<Items<Point>, AllocError> {
+    let mut points = Vec::with_capacity(alloc, places.len())?;
+    for (x, y) in places {
+        points.push(Point { x: *x, y: *y })?;
+    }
+    Ok(Items::new(points))
+}
+
+// Layer `a` with these features.
+pub(super) fn layer_a(alloc: Global, features: Vec<Feature>) -> Result<Tile, AllocError> {
+    let layer = Layer {
+        name: Text::from_str(alloc, "a")?,
+        extent: 4096,
+        features: Items::new(features),
+    };
+    let mut items = Vec::new(alloc);
+    items.push(Item::Layer(layer))?;
+    Ok(Tile {
+        items: Items::new(items),
+    })
+}
+
+// Layer `a` with one feature.
+pub(super) fn one_feature(
+    alloc: Global,
+    attributes: Vec<Attribute>,
+    geometry: Geometry,
+) -> Result<Tile, AllocError> {
+    let mut features = Vec::new(alloc);
+    features.push(Feature {
+        id: None,
+        attributes: Items::new(attributes),
+        geometry,
+    })?;
+    layer_a(alloc, features)
+}
+
+pub(super) fn foreign_item(alloc: Global, version: u32, bytes: &[u8]) -> Result<Item, AllocError> {
+    let bytes = Items::new(Vec::from_slice(alloc, bytes)?);
+    Ok(Item::Foreign { version, bytes })
+}
+
+pub(super) fn outer(at: u64, cause: Cause) -> DecodeError {
+    DecodeError::Fault(Fault {
+        layer: None,
+        feature: None,
+        at,
+        cause,
+    })
+}
+
+pub(super) fn in_layer(layer: u32, at: u64, cause: Cause) -> DecodeError {
+    DecodeError::Fault(Fault {
+        layer: Some(layer),
+        feature: None,
+        at,
+        cause,
+    })
+}
+
+// One input behind the other.
+pub(super) fn joined(alloc: Global, front: &[u8], back: &[u8]) -> Result<Vec<u8>, AllocError> {
+    let mut bytes = Vec::from_slice(alloc, front)?;
+    bytes.extend_from_slice(back)?;
+    Ok(bytes)
+}
+
+pub(super) fn names(alloc: Global, texts: &[&str]) -> Result<Vec<String>, AllocError> {
+    let mut names = Vec::new(alloc);
+    for text in texts {
+        names.push(String::from_str(alloc, text)?)?;
+    }
+    Ok(names)
+}
+
+// What comes of an input in pieces of one byte. An error stays.
+pub(super) fn fed(rt: &(impl Abort + AllocGlobal), input: &[u8]) -> Result<Tile, DecodeError> {
+    let mut decoder = TileDecoder::new(rt.alloc());
+    for byte in input.chunks(1) {
+        if let Err(error) = decoder.feed(byte) {
+            assert_eq!(rt; decoder.feed(input), Err(error));
+            assert_eq!(rt; decoder.held(), 0);
+            assert_eq!(rt; decoder.finish().err(), Some(error));
+            return Err(error);
+        }
+    }
+    decoder.finish()
+}
+
+// The input is this tile, whole and byte by byte, and the tile is written as these bytes.
+pub(super) fn expect_tile(
+    rt: &(impl Abort + AllocGlobal),
+    input: &[u8],
+    tile: &Tile,
+    canonical: &[u8],
+) -> Result<(), Fail> {
+    let read = decode(rt.alloc(), input)?;
+    assert!(rt; read == *tile && is_valid(&read));
+    assert!(rt; fed(rt, input)? == *tile);
+    let written = encode(rt.alloc(), &read).map_err(|_| AllocError)?;
+    assert_eq!(rt; written.as_slice(), canonical);
+    Ok(())
+}
+
+// The input has this fault, whole and byte by byte.
+pub(super) fn expect_fault(rt: &(impl Abort + AllocGlobal), input: &[u8], error: DecodeError) {
+    assert_eq!(rt;
+        decode(rt.alloc(), input).err(),
+        Some(error),
+        "of {input:?}"
+    );
+    assert_eq!(rt; fed(rt, input).err(), Some(error), "of {input:?} by bytes");
+}
