@@ -64,7 +64,12 @@ fn reads_values(rt: HostRuntime) {
         cause: Cause::ValueKind,
     };
     assert!(rt; value_of(alloc, &[]) == Err(of_no_kind));
-    assert!(rt; value_of(alloc, &[0x20, 0x05, 0x28, 0x05]) == Err(of_no_kind));
+    let of_two_kinds = MessageError::Fault {
+        feature: None,
+        at: 7,
+        cause: Cause::ValueKind,
+    };
+    assert!(rt; read_value(alloc, &[0x20, 0x05, 0x28, 0x05], 9, 7) == Err(of_two_kinds));
 }
 
 #[test]

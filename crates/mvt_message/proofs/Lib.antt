@@ -6,3 +6,4 @@ pub mod ReadLemmas
 pub mod ValidLemmas
 pub mod CanonicalLemmas
 pub mod PutLemmas
+pub mod LenLemmas

@@ -119,14 +119,19 @@ features_step laws features i f keys new_keys values new_values start out payloa
       out_is = list_step (feature_field (keys_of features) (values_of features)) features i f start out new_out within (sym here) so_far.out_is put;
     }
 
+-- a front of a list is no longer than the whole
+pub front_long : {Y : Type 0} → (g : Y → Plain) (ys : List Y) (i start bound : ℕ) → bound < start + length (spelled (map g (take i ys))) → bound < start + length (spelled (map g ys))
+front_long g ys i start bound long =
+    let parts : spelled (map g ys) ≡ spelled (map g (take i ys)) ++ spelled (map g (drop i ys)) = ap (λ l. spelled (map g l)) (sym (take-append-drop i ys)) ∙ ap spelled (map-append g (take i ys) (drop i ys)) ∙ spelled-append (map g (take i ys)) (map g (drop i ys)) in
+    let size = ap length parts ∙ length-append (spelled (map g (take i ys))) (spelled (map g (drop i ys))) in
+    omega (arith, size)
+
 -- what is written is a front of the whole
 pub features_long : (features : List Feature) (i : ℕ) (keys : List (List ℕ)) (values : List Value) (start out : List ℕ) (bound : ℕ) → FeaturesSoFar features i keys values start out → bound < length out → bound < length start + length (spelled (map (feature_field (keys_of features) (values_of features)) features))
 features_long features i keys values start out bound so_far long =
     let field = feature_field (keys_of features) (values_of features) in
-    let out_size = ap length so_far.out_is ∙ length-append start (spelled (map field (take i features))) in
-    let parts : spelled (map field features) ≡ spelled (map field (take i features)) ++ spelled (map field (drop i features)) = ap (λ l. spelled (map field l)) (sym (take-append-drop i features)) ∙ ap spelled (map-append field (take i features) (drop i features)) ∙ spelled-append (map field (take i features)) (map field (drop i features)) in
-    let size = ap length parts ∙ length-append (spelled (map field (take i features))) (spelled (map field (drop i features))) in
-    omega (arith, out_size, size)
+    let size = ap length so_far.out_is ∙ length-append start (spelled (map field (take i features))) in
+    front_long field features i (length start) bound (omega (arith, size))
 
 -- a pool that is left full is a front of the pool of all features
 split_here : (features : List Feature) (i n : ℕ) (f : Feature) → i < length features → f ≡ get_or features i f → attributes_of features ≡ (attributes_of (take i features) ++ take n f.attributes) ++ (drop n f.attributes ++ attributes_of (drop (i + 1) features))
@@ -165,7 +170,7 @@ IsLong bound start features =
     (bound < start + length (spelled (map (feature_field (keys_of features) (values_of features)) features)))
     ⊎ ((bound ≤ length (keys_of features)) ⊎ (bound ≤ length (values_of features)))
 
-layer_parts : (layer : ALayer) → spelled (layer_fields layer) ≡ spelled (head_fields layer.name) ++ (spelled (map (feature_field (keys_of layer.features) (values_of layer.features)) layer.features) ++ (spelled (map key_field (keys_of layer.features)) ++ (spelled (map value_field (values_of layer.features)) ++ spelled (extent_fields layer.extent))))
+pub layer_parts : (layer : ALayer) → spelled (layer_fields layer) ≡ spelled (head_fields layer.name) ++ (spelled (map (feature_field (keys_of layer.features) (values_of layer.features)) layer.features) ++ (spelled (map key_field (keys_of layer.features)) ++ (spelled (map value_field (values_of layer.features)) ++ spelled (extent_fields layer.extent))))
 layer_parts layer =
     let features = map (feature_field (keys_of layer.features) (values_of layer.features)) layer.features in
     let keys = map key_field (keys_of layer.features) in

@@ -7,6 +7,7 @@ mod features;
 mod head;
 mod item;
 pub mod laws;
+mod layer_len;
 mod payload;
 mod pool;
 mod put;

@@ -5,6 +5,7 @@ ghost use Rattle.mvt_message.specs.CanonicalItems.{layer_fields, canonical_item}
 ghost use Rattle.mvt_message.specs.ValidItems.{ValidItem, ValidLayer};
 
 use crate::item::{Item, Layer};
+use crate::layer_len::layer_len;
 use crate::put_layer::{put_extent, put_features, put_head, put_keys, put_values};
 use mvt_attrs::{KeyPool, PoolError, ValuePool};
 use mvt_base::LIMIT;
@@ -125,12 +126,4 @@ fn foreign_len(bytes: &[u8]) -> Result<u64, PutError>
         return Err(PutError::TooLarge);
     }
     Ok(len)
-}
-
-fn layer_len(alloc: Global, layer: &Layer) -> Result<u64, PutError>
-    requires { ValidLayer layer.now }
-    ensures len { IfOk result (λ n. (n ≡ length (spelled (layer_fields layer.now))) × (n ≤ LIMIT)) }
-    ensures too_large { IsErrOf result PutError.TooLarge → LIMIT < length (spelled (layer_fields layer.now)) }
-{
-    Ok(put_layer(alloc, layer)?.len() as u64)
 }
