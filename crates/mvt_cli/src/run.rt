@@ -6,13 +6,16 @@ ghost use Rattle.mvt_cli.specs.Words.{task_in, faults_in, IsPlainLine};
 ghost use Rattle.mvt_cli.specs.Refused.{IsUsage};
 ghost use Rattle.mvt_cli.specs.Output.{output, fields_answer, Gives, IsReply, IsFailureLine, FailsAsTold};
 
+use crate::checking::check;
 use crate::failure::Failure;
-use crate::fields::{FieldsText, fault_text, fields_text};
-use crate::reply::{Reply, deliver, tell};
+use crate::listing::list_fields;
+use crate::reply::{deliver, tell};
+use crate::rewriting::{extract_layers, rewrite};
+use crate::showing::show;
 use crate::words::{Refusal, Task, read_words};
-use mvt_base::LIMIT;
-use mvt_io::{Sink, Source, read_all};
-use std::alloc::{AllocError, Global};
+use mvt_base::Text;
+use mvt_io::{Sink, Source};
+use std::alloc::Global;
 
 /// Runs the program on the words of its command line, the first of which is its name, and answers
 /// its status: 0 where all went well, 1 where the tile is refused, 2 where the words are, 3 where a
@@ -51,9 +54,10 @@ pub fn run<R: Source, W: Sink, E: Sink>(
         Err(refusal) => return refuse(refusal, errors),
     };
     match answer(alloc, task, reader, writer) {
-        Ok(reply) => {
-            tell(errors, reply.told.as_str());
-            reply.status
+        Ok(None) => 0,
+        Ok(Some(line)) => {
+            tell(errors, line.as_str());
+            1
         }
         Err(failure) => {
             tell(errors, failure.line());
@@ -81,69 +85,19 @@ pub fn refuse<E: Sink>(refusal: Refusal, errors: &mut E) -> u8
     }
 }
 
-/// Does what the line asks for, but for the line on the error stream.
+/// Does what the line asks for, but for the line on the error stream, which it answers.
 fn answer<R: Source, W: Sink>(
     alloc: Global,
     task: Task,
     reader: &mut R,
     writer: &mut W,
-) -> Result<Reply, Failure>
-    ensures output { IfOk result (λ reply. IfSome (R.left reader.old) (λ input.
-        IsReply (output task input) reply
-        × Appends (W.taken writer.old) (W.taken writer.new) (output task input).written)) }
-    ensures flushed { OnOk result (W.flushes writer.new ≡ counted (W.flushes writer.old)) }
-    ensures status { IfOk result (λ reply. reply.status < 2) }
-    ensures failed { IfErr result (FailsAsTold (HasFailed (R.failed reader.old) (R.failed reader.new))
-        (HasFailed (W.failed writer.old) (W.failed writer.new)) (writer.new ≡ writer.old)) }
-    ensures reads { R.reads reader.new ≤ R.reads reader.old + 67108866 }
+) -> Result<Option<Text>, Failure>
 {
     match task {
-        Task::Fields => list_fields(alloc, reader, writer),
-    }
-}
-
-/// Lists the top-level fields.
-fn list_fields<R: Source, W: Sink>(
-    alloc: Global,
-    reader: &mut R,
-    writer: &mut W,
-) -> Result<Reply, Failure>
-    ensures output { IfOk result (λ reply. IfSome (R.left reader.old) (λ input.
-        IsReply (fields_answer LIMIT input) reply
-        × Appends (W.taken writer.old) (W.taken writer.new) (fields_answer LIMIT input).written)) }
-    ensures flushed { OnOk result (W.flushes writer.new ≡ counted (W.flushes writer.old)) }
-    ensures status { IfOk result (λ reply. reply.status < 2) }
-    ensures failed { IfErr result (FailsAsTold (HasFailed (R.failed reader.old) (R.failed reader.new))
-        (HasFailed (W.failed writer.old) (W.failed writer.new)) (writer.new ≡ writer.old)) }
-    ensures reads { R.reads reader.new ≤ R.reads reader.old + 67108866 }
-{
-    let input = read_all(alloc, reader)?;
-    let reply = fields_reply(alloc, &input)?;
-    deliver(reply.written.as_str(), writer)?;
-    Ok(reply)
-}
-
-/// What `fields` answers for an input. The line of the fault is made before anything is put out.
-#[tactic(auto, unfolding(crate::specs::Output::fields_answer))]
-fn fields_reply(alloc: Global, input: &[u8]) -> Result<Reply, AllocError>
-    ensures answer { IfOk result (IsReply (fields_answer LIMIT input.now)) }
-    ensures status { IfOk result (λ reply. reply.status < 2) }
-{
-    let FieldsText { lines, fault } = fields_text(alloc, input)?;
-    match fault {
-        None => Ok(Reply {
-            written: lines,
-            told: String::new(alloc),
-            status: 0,
-        }),
-        Some(fault) => {
-            let mut told = fault_text(alloc, &fault)?;
-            told.push_str("\n")?;
-            Ok(Reply {
-                written: lines,
-                told,
-                status: 1,
-            })
-        }
+        Task::Fields => deliver(list_fields(alloc, reader)?, writer),
+        Task::Show => deliver(show(alloc, reader)?, writer),
+        Task::Check => deliver(check(alloc, reader)?, writer),
+        Task::Rewrite => rewrite(alloc, reader, writer),
+        Task::Extract(names) => extract_layers(alloc, &names, reader, writer),
     }
 }

@@ -4,17 +4,26 @@ ghost use Rattle.clap.specs.Words.{app_of, kind_of};
 ghost use Rattle.mvt_cli.specs.Words.{mvt, task_in, faults_in};
 ghost use Rattle.mvt_cli.specs.Refused.{IsUsage};
 
+use crate::names::Names;
 use clap::error::ErrorKind;
-use clap::{Command, Error};
+use clap::{Arg, ArgAction, ArgMatches, Command, Error};
 use std::alloc::{AllocError, Global};
 use std::rt::Env;
 use std::{env, io};
 
 /// What a line asks for.
-#[derive(Clone, Copy, Debug, PartialEq, Eq)]
+#[derive(Debug, Drop)]
 pub enum Task {
     /// The top-level fields of the input, a line each.
     Fields,
+    /// The tile as JSON.
+    Show,
+    /// Whether the tile is accepted, and what is noted of it.
+    Check,
+    /// The tile in canonical form.
+    Rewrite,
+    /// The named layers in canonical form.
+    Extract(Names),
 }
 
 /// Why a line isn't run.
@@ -52,9 +61,28 @@ fn mvt_command<'a>(alloc: Global) -> Result<Command<'a>, AllocError>
     ensures { IfOk result (λ command. app_of command ≡ mvt) }
 {
     let fields = Command::new(alloc, "fields").about("Lists the top-level fields of the input");
+    let show = Command::new(alloc, "show").about("Shows the tile as JSON");
+    let check = Command::new(alloc, "check").about("Checks the tile and reports on it (the default)");
+    let rewrite = Command::new(alloc, "rewrite").about("Writes the tile in its canonical form");
     Command::new(alloc, "mvt")
-        .about("Lists the fields of a Mapbox Vector Tile")
-        .subcommand(fields)
+        .about("Reads a Mapbox Vector Tile from standard input")
+        .subcommand(fields)?
+        .subcommand(show)?
+        .subcommand(check)?
+        .subcommand(rewrite)?
+        .subcommand(extract_command(alloc)?)
+}
+
+/// The subcommand `extract`, which takes one name or more.
+fn extract_command<'a>(alloc: Global) -> Result<Command<'a>, AllocError> {
+    let names = Arg::new(alloc, "name")
+        .action(ArgAction::Append)
+        .num_args(1..)
+        .required(true)
+        .help("The name of a layer");
+    Command::new(alloc, "extract")
+        .about("Writes the named layers in their canonical form")
+        .arg(names)
 }
 
 /// The refusal for an error of clap's.
@@ -71,17 +99,42 @@ fn refusal_of(alloc: Global, error: Error) -> Refusal
 }
 
 /// The task that the words ask for; the first word is the program's name. An empty list of words,
-/// and a line without a subcommand, ask for the fields.
+/// and a line without a subcommand, ask for a check.
 pub fn read_words(alloc: Global, words: &[String]) -> Result<Task, Refusal>
     ensures task { IfOk result (λ task. task ≡ task_in (map string_bytes words.now)) }
     ensures ok { OnOk result (faults_in (map string_bytes words.now) ≡ []) }
     ensures usage { IfErr result (λ refusal. IsUsage refusal → faults_in (map string_bytes words.now) ≢ []) }
 {
     if words.is_empty() {
-        return Ok(Task::Fields);
+        return Ok(Task::Check);
     }
     match mvt_command(alloc)?.try_get_matches_from(words) {
-        Ok(_) => Ok(Task::Fields),
+        Ok(matches) => Ok(task_of(alloc, &matches)?),
         Err(error) => Err(refusal_of(alloc, error)),
     }
+}
+
+/// The task that clap's matches tell.
+fn task_of(alloc: Global, matches: &ArgMatches<'_>) -> Result<Task, AllocError> {
+    let Some((name, inner)) = matches.subcommand() else {
+        return Ok(Task::Check);
+    };
+    match name {
+        "fields" => Ok(Task::Fields),
+        "show" => Ok(Task::Show),
+        "rewrite" => Ok(Task::Rewrite),
+        "extract" => Ok(Task::Extract(names_of(alloc, inner)?)),
+        _ => Ok(Task::Check),
+    }
+}
+
+/// The names of the layers to extract.
+fn names_of(alloc: Global, matches: &ArgMatches<'_>) -> Result<Names, AllocError> {
+    let mut names = Vec::new(alloc);
+    if let Some(texts) = matches.get_strs("name") {
+        for text in texts {
+            names.push(String::from_str(alloc, text)?)?;
+        }
+    }
+    Ok(Names::new(names))
 }
