@@ -1,8 +1,9 @@
 //! What a command answers, and how it is put out.
-ghost use Rattle.std.specs.Prelude.{◌≡◌, string_bytes, OnOk, OnErr, IfErr};
+ghost use Rattle.std.specs.Prelude.{◌≡◌, OnOk, OnErr, IfOk, IfErr};
 ghost use Rattle.std.specs.Io.KnownBytes.{Appends};
 ghost use Rattle.mvt_io.specs.Counts.{counted, HasFailed, NoneFailed};
 ghost use Rattle.mvt_io.specs.Transfers.{TakesPrefix};
+ghost use Rattle.mvt_cli.specs.Output.{PutsOut};
 
 use crate::failure::Failure;
 use mvt_base::Text;
@@ -17,7 +18,19 @@ pub struct Reply {
 }
 
 /// Puts the text of a reply out, if there is one, and answers its line.
-pub fn deliver<W: Sink>(reply: Reply, writer: &mut W) -> Result<Option<Text>, Failure> {
+///
+/// # Errors
+///
+/// Write, where a write or the flush fails; the writer has then taken a front of the text.
+pub fn deliver<W: Sink>(reply: Reply, writer: &mut W) -> Result<Option<Text>, Failure>
+    ensures told { IfOk result (λ told. told ≡ reply.told) }
+    ensures put { OnOk result (PutsOut (writer.new ≡ writer.old)
+        (λ text. Appends (W.taken writer.old) (W.taken writer.new) text
+        × (W.flushes writer.new ≡ counted (W.flushes writer.old))) reply) }
+    ensures prefix { OnErr result (PutsOut ⊥ (TakesPrefix (W.taken writer.old) (W.taken writer.new)) reply) }
+    ensures failed { IfErr result (λ failure. (failure ≡ Failure.Write)
+        × HasFailed (W.failed writer.old) (W.failed writer.new)) }
+{
     let Reply { written, told } = reply;
     if let Some(text) = written {
         put_out(text.as_str(), writer)?;
