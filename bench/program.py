@@ -97,15 +97,13 @@ def layer(dice, name, size):
 
 
 def run(words, path):
-    """The wall time in seconds and the peak memory in MB of the words, the file as their input."""
+    """The wall time in seconds, the peak memory in MB and the status of the words, the file as their input."""
     with open(path, "rb") as file, open(os.devnull, "wb") as sink:
         started = time.perf_counter()
         program = subprocess.Popen(words, stdin=file, stdout=sink)
         _, status, usage = os.wait4(program.pid, 0)
         seconds = time.perf_counter() - started
-    if status != 0:
-        sys.exit("%s ended with status %d" % (words, status))
-    return seconds, usage.ru_maxrss / 1000
+    return seconds, usage.ru_maxrss / 1000, status
 
 
 def main():
@@ -123,9 +121,10 @@ def main():
                      ("`ogrinfo -al -so`", ["ogrinfo", "-al", "-so", "MVT:" + file.name]),
                      ("`ogrinfo -al -q`", ["ogrinfo", "-al", "-q", "MVT:" + file.name])]
             for name, words in runs:
-                best = min(run(words, file.name) for _ in range(ROUNDS))
+                seconds, peak, status = min(run(words, file.name) for _ in range(ROUNDS))
                 size = os.path.getsize(file.name)
-                print("| %s (%d bytes) | %s | %.3f | %.0f |" % (label, size, name, *best), flush=True)
+                said = "" if status == 0 else ", which refuses it with status %d" % status
+                print("| %s (%d bytes) | %s%s | %.3f | %.0f |" % (label, size, name, said, seconds, peak), flush=True)
 
 
 main()
