@@ -1,13 +1,14 @@
 #!/usr/bin/env python3
 """Runs each test whose name has a given word once for each of its allocations, that one refused.
 
-    refuse_each.py SHIM WORD TESTS..
+    refuse_each.py SHIM WORD [--seen NAME TEXT] TESTS..
 
 SHIM is the library built of refuse.c, WORD a part of the names of the tests, and TESTS are the
 executables of tests that `rt ci` leaves (crates/NAME/out/NAME_tests). A test passes here if it
 passes under every refusal, and one that asks for no memory if it passes; a line tells how many runs
-there were. The last line is 'N passed, M failed', and the exit status is 1 where a test failed, where
-no test has the word, or where the shim told nothing.
+there were. The test named NAME (without its modules) has to print TEXT in one of its runs too. The last
+line is 'N passed, M failed', and the exit status is 1 where a test failed, where no test has the word or
+the name, or where the shim told nothing.
 """
 
 import os
@@ -46,30 +47,37 @@ def run(executable, name, shim, refused):
     return status, printed, int(told) if told.isdigit() else None
 
 
-def sweep(executable, name, shim):
-    """Why the test fails, or None, and how many runs there were."""
+def sweep(executable, name, shim, text):
+    """Why the test fails, or None, and how many runs there were. One has to print the text."""
     status, printed, count = run(executable, name, shim, 0)
     if count is None:
         return "the shim told no count", 1
     if status != 0:
         return "fails with no allocation refused: %s" % printed.strip()[-500:], 1
     refused = 0
+    is_seen = text in printed
     while refused < min(count, MOST_ALLOCATIONS):
         refused += 1
         status, printed, asked = run(executable, name, shim, refused)
         if status != 0:
             return "fails where allocation %d is refused: %s" % (refused, printed.strip()[-500:]), refused + 1
+        is_seen = is_seen or text in printed
         if asked is not None:
             count = max(count, asked)
-    return None, refused + 1
+    return None if is_seen else "no run prints '%s'" % text, refused + 1
 
 
 def main():
     shim, word, executables = sys.argv[1], sys.argv[2], sys.argv[3:]
+    seen = {}
+    while executables[:1] == ["--seen"]:
+        seen[executables[1]] = executables[2]
+        executables = executables[3:]
     passed = failed = 0
     for executable in executables:
         for name in names_in(executable, word):
-            why, runs = sweep(executable, name, os.path.abspath(shim))
+            text = seen.pop(name.rsplit("::", 1)[-1], "")
+            why, runs = sweep(executable, name, os.path.abspath(shim), text)
             if why is None:
                 passed += 1
                 print("%s %s: passes under each refusal, %d runs" % (executable, name, runs))
@@ -79,6 +87,9 @@ def main():
     if passed + failed == 0:
         print("no test has '%s' in its name" % word)
         failed = 1
+    for name in seen:
+        print("no test is named %s" % name)
+        failed += 1
     print("%d passed, %d failed" % (passed, failed))
     sys.exit(1 if failed else 0)
 
