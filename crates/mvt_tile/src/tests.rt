@@ -1,7 +1,6 @@
 //! Known tiles and faults, pieces, devices, refused growths.
 mod devices;
 mod faults;
-mod greedy;
 mod limits;
 mod refused;
 mod rows;
