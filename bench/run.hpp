@@ -12,6 +12,7 @@
 #include <cstdio>
 #include <cstdlib>
 #include <functional>
+#include <vector>
 
 struct Run {
     double seconds;
@@ -58,17 +59,35 @@ inline Run run_apart(const std::function<std::uint64_t()>& work) {
     return run;
 }
 
-// The best time and the largest memory of three runs, which must answer as expected.
-inline Run best_apart(std::uint64_t expected, const std::function<std::uint64_t()>& work) {
-    Run best{1e9, 0, expected};
+struct Work {
+    const char* name;
+    std::uint64_t expected;
+    std::function<std::uint64_t()> run;
+};
+
+// The best time and the largest memory of each work in three rounds over all of them, so that a busy
+// moment doesn't hit one work alone. Each must answer as expected.
+inline std::vector<Run> best_apart(const std::vector<Work>& works) {
+    std::vector<Run> best(works.size(), Run{1e9, 0, 0});
     for (int round = 0; round < 3; ++round) {
-        const Run run = run_apart(work);
-        if (run.answer != expected) {
-            std::printf("the answers differ: %llu and %llu\n", static_cast<unsigned long long>(run.answer), static_cast<unsigned long long>(expected));
-            std::exit(1);
+        for (std::size_t i = 0; i < works.size(); ++i) {
+            const Run run = run_apart(works[i].run);
+            if (run.answer != works[i].expected) {
+                std::printf("%s: the answers differ: %llu and %llu\n", works[i].name, static_cast<unsigned long long>(run.answer), static_cast<unsigned long long>(works[i].expected));
+                std::exit(1);
+            }
+            best[i].seconds = std::min(best[i].seconds, run.seconds);
+            best[i].megabytes = std::max(best[i].megabytes, run.megabytes);
         }
-        best.seconds = std::min(best.seconds, run.seconds);
-        best.megabytes = std::max(best.megabytes, run.megabytes);
     }
     return best;
+}
+
+inline void table_head() {
+    std::printf("| Tile | What | Seconds | Peak, MB |\n|---|---|---|---|\n");
+}
+
+inline void line_of(const char* tile, const char* work, double seconds, double megabytes) {
+    std::printf("| %s | %s | %.3f | %.0f |\n", tile, work, std::max(seconds, 0.0), megabytes);
+    std::fflush(stdout);
 }

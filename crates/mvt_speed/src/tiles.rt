@@ -48,14 +48,16 @@ pub extern "C" fn mvt_feed(alloc: Global, bytes: &[u8], piece: usize) -> u64 {
     settle(decoder.finish(), true)
 }
 
-/// Decodes a tile, writes it to nowhere, and keeps it.
+/// Decodes a tile, writes it to nowhere so many times, and keeps it.
 #[unsafe(no_mangle)]
-pub extern "C" fn mvt_write(alloc: Global, bytes: &[u8]) -> u64 {
+pub extern "C" fn mvt_write(alloc: Global, bytes: &[u8], times: u32) -> u64 {
     let Ok(tile) = decode(alloc, bytes) else {
         return 0;
     };
-    if write_tile(alloc, &tile, &mut Host::new(io::sink())).is_err() {
-        return 0;
+    for _ in 0..times {
+        if write_tile(alloc, &tile, &mut Host::new(io::sink())).is_err() {
+            return 0;
+        }
     }
     settle(Ok(tile), true)
 }

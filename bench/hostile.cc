@@ -1,0 +1,115 @@
+// Reads and writes tiles that are made to be dear: many small parts, a long text that many features
+// name, and keys and names that all have one hash. The first is too large to be written.
+//
+//   bench/beside.sh hostile
+//
+// Each run has a process of its own. Prints the time of one run and its largest growth of memory.
+#include "layers.hpp"
+#include "run.hpp"
+
+#include <algorithm>
+#include <cstdint>
+#include <cstdio>
+#include <cstring>
+#include <string>
+
+extern "C" std::uint64_t mvt_decode(const unsigned char* bytes, std::size_t len, bool keeps);
+extern "C" std::uint64_t mvt_write(const unsigned char* bytes, std::size_t len, std::uint32_t times);
+
+static void row(const char* name, const std::string& tile) {
+    const auto* bytes = reinterpret_cast<const unsigned char*>(tile.data());
+    const auto read = run_apart([&] { return mvt_decode(bytes, tile.size(), true); });
+    const auto written = run_apart([&] { return mvt_write(bytes, tile.size(), 1); });
+    if (read.answer == 0) {
+        std::printf("%s: refused\n", name);
+        std::exit(1);
+    }
+    std::printf("| %s | %.1f | %.3f | %.0f |", name, tile.size() / 1e6, read.seconds, read.megabytes);
+    if (written.answer == read.answer) {
+        std::printf(" %.3f | %.0f |\n", std::max(written.seconds - read.seconds, 0.0), written.megabytes);
+    } else {
+        std::printf(" | |\n");
+    }
+    std::fflush(stdout);
+}
+
+static std::string bare_features() {
+    std::string payload{"\x78\x02\x0A\x01\x61", 5};
+    for (int i = 0; i < 33'554'000; ++i) payload.append("\x12\x00", 2);
+    return tile_of(payload);
+}
+
+static std::string small_layers() {
+    std::string tile;
+    for (int i = 0; i < 4'200'000; ++i) put_bytes(tile, 3, Layer{std::to_string(i)}.finish());
+    return tile;
+}
+
+static std::string many_strokes(std::uint32_t kind, std::size_t count, const std::vector<std::uint32_t>& stroke) {
+    std::vector<std::uint32_t> integers;
+    for (std::size_t i = 0; i < count; ++i) integers.insert(integers.end(), stroke.begin(), stroke.end());
+    Layer layer{"a"};
+    layer.add(nullptr, {}, kind, integers);
+    return tile_of(layer.finish());
+}
+
+static std::string many_attributes(std::size_t count, const std::string& front) {
+    Attributes attributes;
+    for (std::size_t i = 0; i < count; ++i) attributes.emplace_back(front + std::to_string(10'000'000 + i) + "0123456789abcdef", uint_value(5));
+    Layer layer{"a"};
+    layer.add(nullptr, attributes, 1, {9, 50, 34});
+    return tile_of(layer.finish());
+}
+
+static std::string many_names(std::size_t count, const std::string& front) {
+    std::string tile;
+    for (std::size_t i = 0; i < count; ++i) {
+        put_bytes(tile, 3, Layer{front + std::to_string(10'000'000 + i) + "0123456789abcdef"}.finish());
+    }
+    return tile;
+}
+
+static std::string long_text(std::size_t length, std::size_t features) {
+    Layer layer{"a"};
+    const auto value = text_value(std::string(length, 'x'));
+    for (std::size_t i = 0; i < features; ++i) layer.add(nullptr, {{"k", value}}, 1, {9, 50, 34});
+    return tile_of(layer.finish());
+}
+
+static std::uint64_t folded(std::uint64_t a, std::uint64_t b) {
+    const auto product = static_cast<unsigned __int128>(a) * b;
+    return static_cast<std::uint64_t>(product) ^ static_cast<std::uint64_t>(product >> 64);
+}
+
+// 24 bytes after which the kit's FoldHasher forgets the 8 bytes that follow, in a text of 48 bytes: its
+// seed is fixed, and a product is 0 where the text repeats the state.
+static std::string forgetful_front() {
+    const std::uint64_t seed = 0x243f6a8885a308d3 + 48, multiplier = 0x9e3779b97f4a7c15;
+    for (int n = 10'000'000;; ++n) {
+        std::string front = "aaaaaaaa" + std::to_string(n);
+        std::uint64_t words[2];
+        std::memcpy(words, front.data(), 16);
+        const auto state = folded(words[0] ^ seed, words[1] ^ multiplier);
+        if ((state & 0x8080808080808080) == 0) {
+            front.append(reinterpret_cast<const char*>(&state), 8);
+            return front;
+        }
+    }
+}
+
+int main() {
+    const auto front = forgetful_front();
+    const std::string plain(24, 'a');
+    std::printf("| Tile | Size, MB | `decode`, s | Peak, MB | `write_tile`, s | Peak, MB |\n|---|---|---|---|---|---|\n");
+    row("33,554,000 features without fields", bare_features());
+    row("4,200,000 layers without features", small_layers());
+    row("11,180,000 lines of 2 points in one feature", many_strokes(2, 11'180'000, {9, 0, 0, 10, 4, 2}));
+    row("7,450,000 rings of 3 points in one feature", many_strokes(3, 7'450'000, {9, 0, 0, 18, 4, 0, 3, 4, 15}));
+    row("one text of 65,536 bytes in 10,000 features", long_text(65'536, 10'000));
+    row("20,000 keys in one feature", many_attributes(20'000, plain));
+    row("20,000 keys of one hash in one feature", many_attributes(20'000, front));
+    row("40,000 keys of one hash in one feature", many_attributes(40'000, front));
+    row("20,000 layers", many_names(20'000, plain));
+    row("20,000 layers whose names have one hash", many_names(20'000, front));
+    row("40,000 layers whose names have one hash", many_names(40'000, front));
+}
