@@ -3,6 +3,7 @@ pub mod TextLemmas
 pub mod WalkLemmas
 pub mod KindLemmas
 pub mod ValueLemmas
+pub mod SaidLemmas
 pub mod KnownLemmas
 pub mod FeatureLemmas
 pub mod FeatureLaws

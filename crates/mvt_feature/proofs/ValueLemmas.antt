@@ -1,5 +1,5 @@
 -- Values: the rules and the grammar say the same.
-use Rattle.std.proofs.Common.{◌≡◌, ℕ, ◌+◌, ◌/◌, ◌%◌, ◌≤◌, ◌==◌, ◌↔◌, inl, inr, Bool, true, false, not, nat_le, ℤ, pos, negsuc, List, [], ◌∷◌, Option, Some, None, refl, sym, ap, ◌∙◌, subst, arith, rules, if◌then◌else◌}
+use Rattle.std.proofs.Common.{◌≡◌, ℕ, ◌+◌, ◌%◌, ◌≤◌, ◌==◌, ◌↔◌, inl, inr, Bool, true, false, not, nat_le, ℤ, pos, negsuc, List, [], ◌∷◌, Option, Some, None, refl, sym, ap, ◌∙◌, subst, arith, rules, if◌then◌else◌}
 use Rattle.std.specs.Prelude.{IsUtf8}
 use Rattle.std.specs.Int.{w64, cast_signed}
 use Rattle.std.specs.List.{AllByRecursion, list_all, last_or}
@@ -29,6 +29,7 @@ use Rattle.mvt_feature.specs.declared.message_error.MessageError.{MessageError}
 use Rattle.mvt_feature.specs.declared.message_error.MessageError.TheVariants.{Memory, Fault}
 use Rattle.mvt_feature.specs.Selection.{only, last_only, HaveForm}
 use Rattle.mvt_feature.specs.Values.{IsVarint, IsFixed32, IsFixed64, IsText, IsKind, Means, IsValue, IsValueOf}
+use Rattle.mvt_feature.specs.ValueIn.{unzig}
 use Rattle.mvt_feature.specs.ValueRules.{text_rules, varint_rules, fixed32_rules, fixed64_rules, kind_rules, is_kind, kinds, are_one_kind, value_field_rules, value_table, value_rules, value_fault}
 use Rattle.mvt_feature.proofs.TextLemmas.{text_clean}
 
@@ -180,7 +181,7 @@ same_test kind x is one = elim (cases_eq x.number kind) [
     refused true h = absurd (h refl)
     refused false h = refl
 
-only_kinds : (kind : ℕ) (xs : List Entry) → IsKind kind → AllByRecursion (IsOnly kind) xs → only kind xs ≡ kinds xs
+pub only_kinds : (kind : ℕ) (xs : List Entry) → IsKind kind → AllByRecursion (IsOnly kind) xs → only kind xs ≡ kinds xs
 only_kinds kind [] is one = refl
 only_kinds kind (x ∷ xs) is one = only_step kind (x.number == kind) (is_kind x) x (only kind xs) (kinds xs) (same_test kind x is one.0) (only_kinds kind xs is one.1)
 
@@ -205,7 +206,7 @@ all_numbered (x ∷ xs) last one is =
     let of_last : last.number ≡ x.number = last_of_all (λ (y : Entry). y.number ≡ x.number) (x ∷ xs) last all is in
     all_weaker (λ (y : Entry). y.number ≡ x.number) (λ (y : Entry). y.number ≡ last.number) (λ y e. e ∙ sym of_last) (x ∷ xs) all
 
-means_kind : (n : ℕ) (c : Content) (v : Value) → Means n c v → IsKind n
+pub means_kind : (n : ℕ) (c : Content) (v : Value) → Means n c v → IsKind n
 means_kind n (bytes d) (Text t) h = let e : n ≡ 1 = h.0 in (omega arith, omega arith)
 means_kind n (fixed32 m) (Float b) h = let e : n ≡ 2 = h.0 in (omega arith, omega arith)
 means_kind n (fixed64 m) (Double b) h = let e : n ≡ 3 = h.0 in (omega arith, omega arith)
@@ -278,10 +279,6 @@ varint_means k (varint n) make means h = (make n, means n)
 varint_means k (bytes d) make means h = absurd h
 varint_means k (fixed64 n) make means h = absurd h
 varint_means k (fixed32 n) make means h = absurd h
-
--- the number that has this zigzag code
-unzig : ℕ → ℤ
-unzig n = if n % 2 == 0 then pos (n / 2) else negsuc (n / 2)
 
 zig-unzig : (n : ℕ) → zig (unzig n) ≡ n
 unfolding unzig

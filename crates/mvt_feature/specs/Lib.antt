@@ -3,6 +3,7 @@ pub mod Faults
 pub mod Selection
 pub mod Values
 pub mod ValueRules
+pub mod ValueIn
 pub mod Features
 pub mod FeatureRules
 pub mod Canonical

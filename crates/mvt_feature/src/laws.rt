@@ -21,6 +21,7 @@ ghost use Rattle.mvt_feature.specs.Valid.{ValidValue, ValidFeature};
 ghost use Rattle.mvt_feature.specs.Features.{IsFeatureOf};
 ghost use Rattle.mvt_feature.specs.FeatureRules.{feature_rules, feature_fault};
 ghost use Rattle.mvt_feature.specs.Values.{IsValueOf};
+ghost use Rattle.mvt_feature.specs.ValueIn.{value_in};
 ghost use Rattle.mvt_feature.specs.ValueRules.{value_rules, value_fault};
 ghost use Rattle.mvt_feature.specs.Walks.{IsSoFar, Walk};
 
@@ -32,6 +33,13 @@ pub fn value_or_fault()
         → value_fault payload base own ≡ None }
     ensures once { (payload : List ℕ) (value other : Value) → IsValueOf payload value
         → IsValueOf payload other → value ≡ other }
+{
+    mvt_wire::laws::split_function();
+}
+
+/// The value of a payload that is one is `value_in` of it.
+pub fn value_function()
+    ensures { (payload : List ℕ) (value : Value) → IsValueOf payload value → value_in payload ≡ Some value }
 {
     mvt_wire::laws::split_function();
 }

@@ -31,7 +31,7 @@ use Rattle.mvt_message.specs.Items.{IsUint32, HoldsValue, HoldsFeature, IsLayer,
 use Rattle.mvt_message.specs.Inner.{forms_fault, no_name_fault, values_fault, features_fault, head_fault, layer_fault}
 use Rattle.mvt_message.proofs.ChainLemmas.{item_chain, layer_chain}
 use Rattle.mvt_message.proofs.FormLemmas.{versions_form, form_versions, layer_forms, forms_layer, none_each_told, each_told_none, version_ordered, layer_field_ordered}
-use Rattle.mvt_message.proofs.SaidLemmas.{SplitOnly, values_said}
+use Rattle.mvt_message.proofs.SaidLemmas.{SplitOnly, ValueIs, values_said}
 
 -- what the levels below give
 abbrev pub SplitIs : Type 0
@@ -149,15 +149,15 @@ layer_from base own xs layer values clean name extent values_are features =
       features = features;
     }
 
-layer_there : SplitOnly → ValuesThere → FeaturesThere → (base own : ℕ) (xs : List Entry) → layer_fault base own xs ≡ None → (layer : ALayer) × IsLayer xs layer
-layer_there split_only values_are_there features_are_there base own xs none =
+layer_there : ValueIs → ValuesThere → FeaturesThere → (base own : ℕ) (xs : List Entry) → layer_fault base own xs ≡ None → (layer : ALayer) × IsLayer xs layer
+layer_there value_is values_are_there features_are_there base own xs none =
     let parts = option_or-nones _ _ (sym (layer_chain base own xs) ∙ none) in
     let later = option_or-nones _ _ parts.1 in
     let last = option_or-nones _ _ later.1 in
     let end = option_or-nones _ _ last.1 in
     let name = some_there (last_only 1 xs) (when_none (is_none (last_only 1 xs)) (fault_at own NoName) later.0) in
     let values = values_there values_are_there base xs last.0 in
-    let same : values_in xs ≡ values.0 = values_said split_only (only 4 xs) values.0 values.1 in
+    let same : values_in xs ≡ values.0 = values_said value_is (only 4 xs) values.0 values.1 in
     let features = features_there features_are_there base (keys_in xs) values.0 xs (subst (λ vs. features_fault base (keys_in xs) vs xs ≡ None) same end.0) in
     let layer : ALayer = record { name = bytes_of name.0.content; extent = extent_in xs; features = features.0 } in
     (layer, layer_from base own xs layer values.0 parts.0 (ap (option_map (λ (x : Entry). bytes_of x.content)) name.1) refl values.1 features.1)
@@ -173,9 +173,9 @@ pub layer_clean : (base own : ℕ) (xs : List Entry) → forms_fault base xs ≡
 layer_clean base own xs forms name values features =
     layer_chain base own xs ∙ option_or-none _ _ forms ∙ option_or-none _ _ name ∙ option_or-none _ _ values ∙ option_or-none _ _ features
 
-layer_keeps : SplitOnly → ValuesClean → FeaturesClean → (base own : ℕ) (xs : List Entry) (layer : ALayer) → IsLayer xs layer → layer_fault base own xs ≡ None
-layer_keeps split_only clean_values clean_features base own xs layer is =
-    let same : values_in xs ≡ is.values = values_said split_only (only 4 xs) is.values is.values_are in
+layer_keeps : ValueIs → ValuesClean → FeaturesClean → (base own : ℕ) (xs : List Entry) (layer : ALayer) → IsLayer xs layer → layer_fault base own xs ≡ None
+layer_keeps value_is clean_values clean_features base own xs layer is =
+    let same : values_in xs ≡ is.values = values_said value_is (only 4 xs) is.values is.values_are in
     layer_clean base own xs (forms_layer base xs is.names is.messages is.texts is.pool is.extents) (first-when_not _ _ (name_there xs layer.name is.name)) (values_clean clean_values base xs is.values is.values_are) (subst (λ vs. features_fault base (keys_in xs) vs xs ≡ None) (sym same) (features_clean clean_features base (keys_in xs) is.values xs layer.features is.features))
 
 -- no fault: the payload is an item
@@ -197,15 +197,15 @@ pub item_from : SplitIs → (payload : List ℕ) (item : AnItem) → (split payl
 unfolding IsItem
 item_from split_is payload item rest forms are = ((split payload).fields, whole_of split_is payload rest, forms, are)
 
-pub item_there : NoneRest → SplitIs → SplitOnly → ValuesThere → FeaturesThere → (payload : List ℕ) (base own : ℕ) → item_fault payload base own ≡ None → (item : AnItem) × IsItem payload item
-item_there none_rest split_is split_only values_are_there features_are_there payload base own none =
+pub item_there : NoneRest → SplitIs → ValueIs → ValuesThere → FeaturesThere → (payload : List ℕ) (base own : ℕ) → item_fault payload base own ≡ None → (item : AnItem) × IsItem payload item
+item_there none_rest split_is value_is values_are_there features_are_there payload base own none =
     let parts = option_or-nones _ _ (sym (item_chain payload base own) ∙ none) in
     let head = head_clean none_rest payload base own parts.0 in
     by_version (is_two (version_in (split payload).fields)) refl head.0 head.1 head.2 parts.1
   where
     by_version : (two : Bool) → is_two (version_in (split payload).fields) ≡ two → (split payload).rest ≡ [] → HaveForm 15 IsUint32 (split payload).fields → ((n : ℕ) × (version_in (split payload).fields ≡ Some n)) → FaultBehind base own (split payload).fields two ≡ None → (item : AnItem) × IsItem payload item
     by_version true is rest forms version behind =
-        let layer = layer_there split_only values_are_there features_are_there base own (split payload).fields behind in
+        let layer = layer_there value_is values_are_there features_are_there base own (split payload).fields behind in
         (Layer layer.0, item_from split_is payload (Layer layer.0) rest forms (two_there _ is, layer.1))
     by_version false is rest forms version behind =
         let other : version.0 ≢ 2 = eqb-false version.0 2 (sym (ap is_two version.1) ∙ is) in
@@ -231,16 +231,16 @@ pub item_of_other : (payload : List ℕ) (base own n : ℕ) → head_fault paylo
 item_of_other payload base own n head version other =
     item_chain payload base own ∙ option_or-none _ _ head ∙ ap (FaultBehind base own (split payload).fields) (ap is_two version ∙ ne_eqb n 2 other)
 
-pub item_keeps : RestNone → SplitOnly → ValuesClean → FeaturesClean → (payload : List ℕ) (base own : ℕ) (item : AnItem) → IsItem payload item → item_fault payload base own ≡ None
+pub item_keeps : RestNone → SplitOnly → ValueIs → ValuesClean → FeaturesClean → (payload : List ℕ) (base own : ℕ) (item : AnItem) → IsItem payload item → item_fault payload base own ≡ None
 unfolding IsItem
-item_keeps rest_none split_only clean_values clean_features payload base own item (xs, whole, forms, are) =
+item_keeps rest_none split_only value_is clean_values clean_features payload base own item (xs, whole, forms, are) =
     let only_split = split_only payload [] xs whole in
     let here : AreItem (split payload).fields payload item = subst (λ fs. AreItem fs payload item) only_split.0 are in
     by_item item (sym only_split.1) (subst (HaveForm 15 IsUint32) only_split.0 forms) here
   where
     by_item : (i : AnItem) → (split payload).rest ≡ [] → HaveForm 15 IsUint32 (split payload).fields → AreItem (split payload).fields payload i → item_fault payload base own ≡ None
     by_item (Layer layer) rest form is =
-        item_of_layer payload base own (head_keeps rest_none payload base own 2 rest form is.0) is.0 ∙ layer_keeps split_only clean_values clean_features base own (split payload).fields layer is.1
+        item_of_layer payload base own (head_keeps rest_none payload base own 2 rest form is.0) is.0 ∙ layer_keeps value_is clean_values clean_features base own (split payload).fields layer is.1
     by_item (Foreign version content) rest form is = item_of_other payload base own version (head_keeps rest_none payload base own version rest form is.0) is.0 is.1
 
 -- at most one item

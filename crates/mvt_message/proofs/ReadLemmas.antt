@@ -35,7 +35,7 @@ use Rattle.mvt_message.specs.Items.{HoldsValue, HoldsFeature, IsLayer, IsItem}
 use Rattle.mvt_message.specs.Inner.{versions_fault, forms_fault, no_name_fault, values_fault, features_fault, head_fault, layer_fault, IsVersionSoFar, name_after, extent_after, keys_at, AreValuesSoFar, AreFeaturesSoFar}
 use Rattle.mvt_message.proofs.ChainLemmas.{item_chain, layer_chain, tells_or, or_tells}
 use Rattle.mvt_message.proofs.FormLemmas.{placed_first, versions_form}
-use Rattle.mvt_message.proofs.SaidLemmas.{SplitOnly, values_said}
+use Rattle.mvt_message.proofs.SaidLemmas.{ValueIs, values_said}
 use Rattle.mvt_message.proofs.ItemLaws.{RestNone, NoneRest, SplitIs, value_first, feature_first, version_there, head_clean, layer_from, layer_clean, item_of_layer, item_from}
 
 -- a fault is told of whatever has it
@@ -240,15 +240,15 @@ pub values_told : (base own : ℕ) (xs : List Entry) (name : List ℕ) (e : Mess
 values_told base own xs name e forms is h =
     subst (TellsMessage e) (sym (layer_chain base own xs)) (or_tells e (forms_fault base xs) _ forms (or_tells e (no_name_fault own xs) _ (name_some own xs name is) (tells_or e (values_fault base xs) _ h)))
 
-pub features_told : SplitOnly → (base own : ℕ) (xs : List Entry) (name : List ℕ) (keys : List (List ℕ)) (values : List Value) (e : MessageError) → forms_fault base xs ≡ None → Some name ≡ name_in xs → values_fault base xs ≡ None → keys ≡ keys_in xs → AreRelated HoldsValue (only 4 xs) values → TellsMessage e (features_fault base keys values xs) → TellsMessage e (layer_fault base own xs)
-features_told split_only base own xs name keys values e forms is clean keys_are values_are h =
-    let same : values_in xs ≡ values = values_said split_only (only 4 xs) values values_are in
+pub features_told : ValueIs → (base own : ℕ) (xs : List Entry) (name : List ℕ) (keys : List (List ℕ)) (values : List Value) (e : MessageError) → forms_fault base xs ≡ None → Some name ≡ name_in xs → values_fault base xs ≡ None → keys ≡ keys_in xs → AreRelated HoldsValue (only 4 xs) values → TellsMessage e (features_fault base keys values xs) → TellsMessage e (layer_fault base own xs)
+features_told value_is base own xs name keys values e forms is clean keys_are values_are h =
+    let same : values_in xs ≡ values = values_said value_is (only 4 xs) values values_are in
     let here : TellsMessage e (features_fault base (keys_in xs) (values_in xs) xs) = subst (TellsMessage e) (ap₂ (λ ks vs. features_fault base ks vs xs) keys_are (sym same)) h in
     subst (TellsMessage e) (sym (layer_chain base own xs)) (or_tells e (forms_fault base xs) _ forms (or_tells e (no_name_fault own xs) _ (name_some own xs name is) (or_tells e (values_fault base xs) _ clean (tells_or e (features_fault base (keys_in xs) (values_in xs) xs) _ here))))
 
-pub layer_ok : SplitOnly → (base own : ℕ) (xs : List Entry) (name : List ℕ) (keys : List (List ℕ)) (values : List Value) → forms_fault base xs ≡ None → Some name ≡ name_in xs → values_fault base xs ≡ None → keys ≡ keys_in xs → AreRelated HoldsValue (only 4 xs) values → features_fault base keys values xs ≡ None → layer_fault base own xs ≡ None
-layer_ok split_only base own xs name keys values forms is clean keys_are values_are h =
-    let same : values_in xs ≡ values = values_said split_only (only 4 xs) values values_are in
+pub layer_ok : ValueIs → (base own : ℕ) (xs : List Entry) (name : List ℕ) (keys : List (List ℕ)) (values : List Value) → forms_fault base xs ≡ None → Some name ≡ name_in xs → values_fault base xs ≡ None → keys ≡ keys_in xs → AreRelated HoldsValue (only 4 xs) values → features_fault base keys values xs ≡ None → layer_fault base own xs ≡ None
+layer_ok value_is base own xs name keys values forms is clean keys_are values_are h =
+    let same : values_in xs ≡ values = values_said value_is (only 4 xs) values values_are in
     layer_clean base own xs forms (name_some own xs name is) clean (sym (ap₂ (λ ks vs. features_fault base ks vs xs) keys_are (sym same)) ∙ h)
 
 pub layer_read : (base own : ℕ) (xs : List Entry) (layer : ALayer) (name : List ℕ) (extent : ℕ) (keys : List (List ℕ)) (values : List Value) → forms_fault base xs ≡ None → Some name ≡ name_in xs → layer.name ≡ name → extent ≡ extent_in xs → layer.extent ≡ extent → keys ≡ keys_in xs → AreRelated HoldsValue (only 4 xs) values → AreRelated (HoldsFeature keys values) (only 2 xs) layer.features → IsLayer xs layer

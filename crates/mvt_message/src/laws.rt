@@ -16,6 +16,7 @@ pub fn item_or_fault()
 {
     mvt_wire::laws::split_function();
     mvt_feature::laws::rests();
+    mvt_feature::laws::value_function();
     mvt_feature::laws::value_or_fault();
     mvt_feature::laws::feature_or_fault();
 }

@@ -13,7 +13,7 @@ use crate::item::{Item, Layer};
 use crate::pool::read_values;
 use crate::version::read_version;
 use mvt_base::{Items, LIMIT, Text};
-use mvt_feature::laws::{read_is_valid, rests};
+use mvt_feature::laws::{read_is_valid, rests, value_function};
 use mvt_feature::{Cause, MessageError, fault_at};
 use mvt_wire::laws::split_function;
 use std::alloc::Global;
@@ -54,8 +54,8 @@ fn read_layer(alloc: Global, payload: &[u8], base: u64, own: u64) -> Result<Laye
     ensures layer { IfOk result (IsLayer (split payload.now).fields) }
     ensures fault { IfErr result (λ error. TellsMessage error (layer_fault base own (split payload.now).fields)) }
 {
-    // What the proof needs to know of splits; it does nothing.
-    split_function();
+    // What the proof needs to know of values; it does nothing.
+    value_function();
     let mut keys = Vec::new(alloc);
     let head = read_head(alloc, payload, base, &mut keys)?;
     let name = match head.name {

@@ -27,13 +27,13 @@ returns-in_err-features-clause-fault c =
     let p = err_from_is_err_and c.from_residual-in_err-features.result c.from_residual-in_err-features.ensures.1 in
     let name : Some c.in-Some.name.now ≡ name_in (split c.args.payload.now).fields = ap option_copied (sym c.in-Some.is) ∙ c.in_ok-head.ensures.name in
     let keys : c.deref.result.now ≡ keys_in (split c.args.payload.now).fields = c.deref.ensures.value ∙ c.in_ok-head.ensures.keys ∙ ap (λ held. held ++ keys_in (split c.args.payload.now).fields) c.new-keys.ensures.items in
-    rw (p.1, p.2) (features_told c.split_function.ensures.only c.args.base c.args.own (split c.args.payload.now).fields c.in-Some.name.now c.deref.result.now c.deref-2.result.now _ c.in_ok-head.ensures.ok name c.in_ok-values.ensures.ok keys (rw (← c.deref-2.ensures.value) at c.in_ok-values.ensures.values) c.in_err-features.ensures.err)
+    rw (p.1, p.2) (features_told c.value_function.ensures c.args.base c.args.own (split c.args.payload.now).fields c.in-Some.name.now c.deref.result.now c.deref-2.result.now _ c.in_ok-head.ensures.ok name c.in_ok-values.ensures.ok keys (rw (← c.deref-2.ensures.value) at c.in_ok-values.ensures.values) c.in_err-features.ensures.err)
 
 pub returns-clause-ok : goal.returns-clause-ok
 returns-clause-ok c =
     let name : Some c.in-Some.name.now ≡ name_in (split c.args.payload.now).fields = ap option_copied (sym c.in-Some.is) ∙ c.in_ok-head.ensures.name in
     let keys : c.deref.result.now ≡ keys_in (split c.args.payload.now).fields = c.deref.ensures.value ∙ c.in_ok-head.ensures.keys ∙ ap (λ held. held ++ keys_in (split c.args.payload.now).fields) c.new-keys.ensures.items in
-    layer_ok c.split_function.ensures.only c.args.base c.args.own (split c.args.payload.now).fields c.in-Some.name.now c.deref.result.now c.deref-2.result.now c.in_ok-head.ensures.ok name c.in_ok-values.ensures.ok keys (rw (← c.deref-2.ensures.value) at c.in_ok-values.ensures.values) c.in_ok-features.ensures.ok
+    layer_ok c.value_function.ensures c.args.base c.args.own (split c.args.payload.now).fields c.in-Some.name.now c.deref.result.now c.deref-2.result.now c.in_ok-head.ensures.ok name c.in_ok-values.ensures.ok keys (rw (← c.deref-2.ensures.value) at c.in_ok-values.ensures.values) c.in_ok-features.ensures.ok
 
 pub returns-clause-layer : goal.returns-clause-layer
 returns-clause-layer c =
