@@ -1,6 +1,6 @@
 //! Whole tiles, read and written.
 use super::rows::*;
-use super::support::{expect_tile, foreign_item, layer_a, one_feature, points};
+use super::support::{expect_tile, foreign_item, joined, layer_a, one_feature, points};
 use crate::{Tile, decode};
 use mvt_attrs::{Attribute, Value};
 use mvt_base::{Items, Text};
@@ -151,5 +151,9 @@ fn carries_foreign_items(rt: HostRuntime) -> Result<(), Fail> {
         expect_tile(&rt, input, &tile, input)?;
     }
     let tile = decode(alloc, FOREIGN)?;
-    expect_tile(&rt, LONG_FOREIGN, &tile, FOREIGN)
+    expect_tile(&rt, LONG_FOREIGN, &tile, FOREIGN)?;
+    let mixed = joined(alloc, FOREIGN, ONE_POINT)?;
+    let tile = decode(alloc, &mixed)?;
+    assert_eq!(rt; tile.items.as_slice().len(), 2);
+    expect_tile(&rt, &mixed, &tile, &mixed)
 }
