@@ -28,7 +28,9 @@ fn ends_at_the_limit(rt: HostRuntime) -> Result<(), Fail> {
     let tile = decode(alloc, &input)?;
     assert!(rt; tile.items.as_slice().is_empty());
     let mut decoder = TileDecoder::new(alloc);
-    decoder.feed(&input)?;
+    for byte in input.chunks(1) {
+        decoder.feed(byte)?;
+    }
     assert_eq!(rt; decoder.held(), 0);
     let error = outer(67_108_864, Cause::TooLarge);
     assert_eq!(rt; decoder.feed(b"\x00"), Err(error));
