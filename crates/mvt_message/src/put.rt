@@ -11,6 +11,8 @@ use mvt_attrs::{KeyPool, PoolError, ValuePool};
 use mvt_base::LIMIT;
 use mvt_wire::laws::short_lengths;
 use std::alloc::{AllocError, Global};
+use std::error::Error;
+use std::fmt;
 
 /// Why an item can't be written.
 #[derive(Clone, Copy, Debug, PartialEq, Eq)]
@@ -45,6 +47,17 @@ impl From<PoolError> for PutError {
         }
     }
 }
+
+impl fmt::Display for PutError {
+    fn fmt<W: fmt::Write>(&self, f: &mut fmt::Formatter<W>) -> fmt::Result {
+        f.write_str(match self {
+            PutError::Memory => "out of memory",
+            PutError::TooLarge => "the result is larger than 67108864 bytes",
+        })
+    }
+}
+
+impl Error for PutError {}
 
 /// The canonical payload of an item, without its tag and length.
 ///
