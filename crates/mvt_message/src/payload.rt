@@ -1,9 +1,8 @@
 //! What a field of a layer holds, and how its faults are told.
-ghost use Rattle.std.specs.Prelude.{◌≡◌, ◌+◌, ◌^◌, ◌<◌, None, Some, IfOk, IfErr, OnOk};
+ghost use Rattle.std.specs.Prelude.{◌≡◌, ◌<◌, None, Some, IfOk, IfErr, OnOk};
 ghost use Rattle.std.specs.Option.{option_map};
 ghost use Rattle.mvt_base.specs.Rules.{first};
 ghost use Rattle.mvt_wire.specs.Field.{content_of};
-ghost use Rattle.mvt_feature.specs.Causes.{of_wire};
 ghost use Rattle.mvt_feature.specs.Faults.{TellsMessage, fault_at as the_fault_at};
 ghost use Rattle.mvt_feature.specs.Features.{number_of};
 ghost use Rattle.mvt_feature.specs.ValueRules.{text_rules};
