@@ -1,3 +1,5 @@
+mod Commands
 mod Fronts
 mod Lines
-mod Walks
+mod Picks
+mod Replies

@@ -2,27 +2,58 @@
 use Rattle.std.proofs.Common.{◌≡◌, ◌≢◌, ℕ, Bool, true, false, List, [], ◌∷◌, ◌==◌, length, map, refl, sym, ap, ◌∙◌, codes, inl, inr}
 use Rattle.clap.specs.Kinds.{HasKind, Kinds}
 use Rattle.clap.specs.declared.error.Error.{Error}
+use Rattle.clap.specs.declared.parser.matches.ArgMatches.{ArgMatches}
 use Rattle.clap.specs.declared.error.kind.ErrorKind.TheVariants.{OutOfMemory}
 use Rattle.clap.proofs.OnLiterals.{clap_on_literals}
-use Rattle.clap.specs.Words.{App, fault_of, is_simple_and_free, kind_of}
-use Rattle.mvt_cli.specs.Words.{mvt, faults_in, IsPlainLine}
+use Rattle.clap.specs.Words.{App, HasMatchesOf, fault_of, is_simple, is_simple_and_free, kind_of, subcommand_of, subcommand_rows_of}
+use Rattle.mvt_cli.specs.Words.{mvt, extract_app, faults_in, subcommand_in, IsBare, IsPlainLine}
 
 pub mvt_free : is_simple_and_free mvt ≡ true
-unfolding clap_on_literals mvt
+unfolding clap_on_literals mvt extract_app
 mvt_free = refl
 
 pub name_alone : (name : List ℕ) → fault_of mvt (name ∷ []) ≡ []
-unfolding clap_on_literals mvt
+unfolding clap_on_literals mvt extract_app
 name_alone name = refl
 
 pub fields_alone : (name : List ℕ) → fault_of mvt (name ∷ codes "fields" ∷ []) ≡ []
-unfolding clap_on_literals mvt
+unfolding clap_on_literals mvt extract_app
 fields_alone name = refl
+
+pub show_alone : (name : List ℕ) → fault_of mvt (name ∷ codes "show" ∷ []) ≡ []
+unfolding clap_on_literals mvt extract_app
+show_alone name = refl
+
+pub check_alone : (name : List ℕ) → fault_of mvt (name ∷ codes "check" ∷ []) ≡ []
+unfolding clap_on_literals mvt extract_app
+check_alone name = refl
+
+pub rewrite_alone : (name : List ℕ) → fault_of mvt (name ∷ codes "rewrite" ∷ []) ≡ []
+unfolding clap_on_literals mvt extract_app
+rewrite_alone name = refl
+
+pub mvt_simple : is_simple mvt ≡ true
+unfolding clap_on_literals mvt extract_app
+mvt_simple = refl
+
+pub bare_alone : (name word : List ℕ) → IsBare word → fault_of mvt (name ∷ word ∷ []) ≡ []
+bare_alone name word (inl h) = ap (λ w. fault_of mvt (name ∷ w ∷ [])) h ∙ fields_alone name
+bare_alone name word (inr (inl h)) = ap (λ w. fault_of mvt (name ∷ w ∷ [])) h ∙ show_alone name
+bare_alone name word (inr (inr (inl h))) = ap (λ w. fault_of mvt (name ∷ w ∷ [])) h ∙ check_alone name
+bare_alone name word (inr (inr (inr h))) = ap (λ w. fault_of mvt (name ∷ w ∷ [])) h ∙ rewrite_alone name
 
 -- a list that isn't empty is given to clap
 pub given_to_clap : {A : Type 0} → (text : A → List ℕ) (words : List A) → (length words == 0) ≡ false → faults_in (map text words) ≡ fault_of mvt (map text words)
 given_to_clap text [] e = cc
 given_to_clap text (w ∷ ws) e = refl
+
+entered_by_clap : {A : Type 0} → (text : A → List ℕ) (words : List A) → (length words == 0) ≡ false → subcommand_in (map text words) ≡ subcommand_of mvt (map text words)
+entered_by_clap text [] e = cc
+entered_by_clap text (w ∷ ws) e = refl
+
+pub entered : {A : Type 0} → (a : App) (text : A → List ℕ) (words : List A) (m : ArgMatches) → a ≡ mvt → (length words == 0) ≡ false → HasMatchesOf a (map text words) m → subcommand_rows_of m ≡ subcommand_in (map text words)
+entered a text words m is some has =
+    (has (ap is_simple is ∙ mvt_simple)).1 ∙ ap (λ (x : App). subcommand_of x (map text words)) is ∙ sym (entered_by_clap text words some)
 
 -- an error that isn't want of memory has one of the kinds of the fault
 pub some_fault : (kinds : Kinds) (e : Error) → HasKind kinds e → kind_of e ≢ OutOfMemory → kinds ≢ []
@@ -41,5 +72,5 @@ refused a text words e is some kinds other none =
 pub plain_taken : (words : List (List ℕ)) → IsPlainLine words → faults_in words ≡ []
 plain_taken [] h = refl
 plain_taken (name ∷ []) h = name_alone name
-plain_taken (name ∷ word ∷ []) h = rw h (fields_alone name)
+plain_taken (name ∷ word ∷ []) h = bare_alone name word h
 plain_taken (name ∷ word ∷ more ∷ words) h = absurd h

@@ -2,4 +2,3 @@ pub mod Failures
 pub mod Refused
 pub mod Words
 pub mod Output
-pub mod Fields

@@ -1,27 +1,75 @@
 -- The command line of `mvt`, as clap's own definition of a command and of what it makes of words.
-use Rattle.std.specs.Prelude.{◌≡◌, ℕ, List, [], ◌∷◌, codes, ⊤}
-use Rattle.clap.specs.Words.{App, new_app, with_subcommand, fault_of}
+use Rattle.std.specs.Prelude.{◌≡◌, ℕ, ◌⊎◌, true, List, [], ◌∷◌, Option, Some, None, codes, bytes_eq, unwrap_or, if◌then◌else◌, ⊤}
+use Rattle.std.specs.Option.{option_map_or}
+use Rattle.clap.specs.Lexer.{usize_max}
+use Rattle.clap.specs.Words.{App, Row, Rule, new_app, new_rule, all_of, with_rule, with_subcommand, fault_of, subcommand_of}
 use Rattle.clap.specs.Kinds.{Kinds}
+use Rattle.clap.specs.declared.builder.action.ArgAction.TheVariants.{Append}
 use Rattle.mvt_cli.specs.declared.words.Task.{Task}
-use Rattle.mvt_cli.specs.declared.words.Task.TheVariants.{Fields}
+use Rattle.mvt_cli.specs.declared.words.Task.TheVariants.{Fields, Show, Check, Rewrite, Extract}
+
+-- the names of layers: one or more
+abbrev pub names_rule : Rule
+names_rule = record (new_rule (codes "name")) {
+  action = Some Append;
+  range = Some (record { start_inclusive = 1; end_inclusive = usize_max });
+  required = true;
+}
+
+-- the subcommand `extract NAME..`
+unfoldable pub extract_app : App
+extract_app = with_rule (new_app (codes "extract")) names_rule
+
+-- with a subcommand that takes no words of its own
+abbrev pub with_bare : App → List ℕ → App
+with_bare app name = with_subcommand app (new_app name).top
 
 -- the command `mvt` with its subcommands
 unfoldable pub mvt : App
-mvt = with_subcommand (new_app (codes "mvt")) (new_app (codes "fields")).top
+unfolding extract_app
+mvt =
+    with_subcommand
+    (with_bare (with_bare (with_bare (with_bare (new_app (codes "mvt")) (codes "fields")) (codes "show")) (codes "check")) (codes "rewrite"))
+    extract_app.top
 
 -- why the words are refused, or nothing; an empty list isn't given to clap
 abbrev pub faults_in : List (List ℕ) → Kinds
 faults_in [] = []
 faults_in (word ∷ words) = fault_of mvt (word ∷ words)
 
+-- the subcommand that the words name, and what it was given
+abbrev pub subcommand_in : List (List ℕ) → Option (List ℕ × List Row)
+subcommand_in [] = None
+subcommand_in (word ∷ words) = subcommand_of mvt (word ∷ words)
+
+abbrev pub names_given : List Row → List (List ℕ)
+names_given rows = unwrap_or (all_of (codes "name") rows) []
+
+abbrev pub task_named : List ℕ → List Row → Task
+task_named name rows =
+    if bytes_eq name (codes "fields") then Fields
+    else (if bytes_eq name (codes "show") then Show
+    else (if bytes_eq name (codes "rewrite") then Rewrite
+    else (if bytes_eq name (codes "extract") then Extract (names_given rows)
+    else Check)))
+
+-- of a line without a subcommand `check`
+abbrev pub task_of_subcommand : Option (List ℕ × List Row) → Task
+task_of_subcommand None = Check
+task_of_subcommand (Some (name, rows)) = task_named name rows
+
 -- what the words ask for
 abbrev pub task_in : List (List ℕ) → Task
-task_in words = Fields
+task_in words = task_of_subcommand (subcommand_in words)
+
+-- the subcommands that take no words of their own
+abbrev pub IsBare : List ℕ → Type 0
+IsBare word = (word ≡ codes "fields") ⊎ ((word ≡ codes "show") ⊎ ((word ≡ codes "check") ⊎ (word ≡ codes "rewrite")))
 
 -- a line that is never refused: nothing, the program's name, or its name and a subcommand without
 -- names
 abbrev pub IsPlainLine : List (List ℕ) → Type 0
 IsPlainLine [] = ⊤
 IsPlainLine (name ∷ []) = ⊤
-IsPlainLine (name ∷ word ∷ []) = word ≡ codes "fields"
+IsPlainLine (name ∷ word ∷ []) = IsBare word
 IsPlainLine (name ∷ word ∷ more ∷ words) = ⊥

@@ -1,8 +1,9 @@
-//! Why a run ends before its answer is out.
+//! Why a run ends before its output is complete.
 ghost use Rattle.std.specs.Prelude.{◌≡◌};
 ghost use Rattle.mvt_cli.specs.Failures.{status_of, line_of, failure_of};
 
 use mvt_io::ReadError;
+use mvt_view::ViewError;
 use std::alloc::AllocError;
 
 /// What went wrong around the tile, rather than in it.
@@ -42,6 +43,16 @@ impl From<AllocError> for Failure {
     ghost from_gives = { λ _ failure. failure ≡ Memory };
 
     fn from(_: AllocError) -> Self {
+        Failure::Memory
+    }
+}
+
+impl From<ViewError> for Failure {
+    ghost use Rattle.mvt_cli.specs.declared.failure.Failure.TheVariants.{Memory};
+
+    ghost from_gives = { λ _ failure. failure ≡ Memory };
+
+    fn from(_: ViewError) -> Self {
         Failure::Memory
     }
 }

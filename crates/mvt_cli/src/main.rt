@@ -1,10 +1,15 @@
 //! The program `mvt`: lists, shows, checks, rewrites and extracts Mapbox Vector Tiles.
 #![tactic(auto)]
 
+mod checking;
 mod failure;
-mod fields;
+mod listing;
+mod names;
+mod refusal;
 mod reply;
+mod rewriting;
 mod run;
+mod showing;
 #[cfg(test)]
 mod tests;
 mod words;

@@ -1,18 +1,23 @@
 //! The program over any reader and writers.
-ghost use Rattle.std.specs.Prelude.{◌≡◌, ◌≢◌, ◌+◌, ◌<◌, ◌≤◌, ◌⊎◌, ◌↔◌, [], map, string_bytes, IfOk, IfErr, IfSome, OnOk};
+ghost use Rattle.std.specs.Prelude.{◌≡◌, ◌≢◌, ◌+◌, ◌<◌, ◌≤◌, ◌⊎◌, ◌↔◌, List, ℕ, [], map, string_bytes, IfOk, IfErr, IfSome};
 ghost use Rattle.std.specs.Io.KnownBytes.{Appends};
 ghost use Rattle.mvt_io.specs.Counts.{counted, HasFailed, NoneFailed};
+ghost use Rattle.mvt_io.specs.Transfers.{TakesPrefix};
+ghost use Rattle.mvt_cli.specs.Failures.{IsCaused, LeavesOutput, line_of, status_of};
 ghost use Rattle.mvt_cli.specs.Words.{task_in, faults_in, IsPlainLine};
 ghost use Rattle.mvt_cli.specs.Refused.{IsUsage};
-ghost use Rattle.mvt_cli.specs.Output.{output, fields_answer, Gives, IsReply, IsFailureLine, FailsAsTold};
+ghost use Rattle.mvt_cli.specs.Output.{Answers, Gives, IsFlushed, IsWhole, is_made_whole};
 
+use crate::checking::check;
 use crate::failure::Failure;
-use crate::fields::{FieldsText, fault_text, fields_text};
-use crate::reply::{Reply, deliver, tell};
+use crate::listing::list_fields;
+use crate::reply::{deliver, tell};
+use crate::rewriting::{extract_layers, rewrite};
+use crate::showing::show;
 use crate::words::{Refusal, Task, read_words};
-use mvt_base::LIMIT;
-use mvt_io::{Sink, Source, read_all};
-use std::alloc::{AllocError, Global};
+use mvt_base::{LIMIT, Text};
+use mvt_io::{Sink, Source};
+use std::alloc::Global;
 
 /// Runs the program on the words of its command line, the first of which is its name, and answers
 /// its status: 0 where all went well, 1 where the tile is refused, 2 where the words are, 3 where a
@@ -24,19 +29,26 @@ pub fn run<R: Source, W: Sink, E: Sink>(
     writer: &mut W,
     errors: &mut E,
 ) -> u8
-    ensures output { result < 2 → IfSome (R.left reader.old) (λ input.
-        Gives (output (task_in (map string_bytes words.now)) input) result
-        (Appends (W.taken writer.old) (W.taken writer.new))
-        (λ told. NoneFailed (E.failed errors.old) (E.failed errors.new)
-        → Appends (E.taken errors.old) (E.taken errors.new) told)) }
-    ensures flushed { result < 2 → W.flushes writer.new ≡ counted (W.flushes writer.old) }
+    ensures output { result < 2 → IfSome (R.left reader.old) (Gives LIMIT (task_in (map string_bytes words.now)) result
+        (writer.new ≡ writer.old)
+        (λ text. Appends (W.taken writer.old) (W.taken writer.new) text
+        × (W.flushes writer.new ≡ counted (W.flushes writer.old)))
+        (errors.new ≡ errors.old)
+        (λ line. NoneFailed (E.failed errors.old) (E.failed errors.new)
+        → Appends (E.taken errors.old) (E.taken errors.new) line)) }
+    ensures flushed { result ≡ 0 → W.flushes writer.new ≡ counted (W.flushes writer.old) }
+    ensures once { result ≡ 1 → (writer.new ≡ writer.old) ⊎ (W.flushes writer.new ≡ counted (W.flushes writer.old)) }
 
-    // A status of 3 has its cause in the reader or the writer, and want of memory none there.
-    ensures failed { result ≡ 3 → HasFailed (R.failed reader.old) (R.failed reader.new)
-        ⊎ HasFailed (W.failed writer.old) (W.failed writer.new) }
-    ensures untouched { result ≡ 4 → writer.new ≡ writer.old }
-    ensures line { 2 < result → NoneFailed (E.failed errors.old) (E.failed errors.new)
-        → IsFailureLine result (Appends (E.taken errors.old) (E.taken errors.new)) }
+    // A status of 3 or 4 is that of a failure: its line, its cause, and what it leaves of the output.
+    ensures failed { 2 < result → (failure : Failure) × (result ≡ status_of failure)
+        × (NoneFailed (E.failed errors.old) (E.failed errors.new)
+        → Appends (E.taken errors.old) (E.taken errors.new) (line_of failure))
+        × IsCaused (HasFailed (R.failed reader.old) (R.failed reader.new))
+        (HasFailed (W.failed writer.old) (W.failed writer.new)) failure
+        × LeavesOutput (is_made_whole (task_in (map string_bytes words.now))) (writer.new ≡ writer.old)
+        (IfSome (R.left reader.old) (λ input. (text : List ℕ)
+        × IsWhole LIMIT (task_in (map string_bytes words.now)) input text
+        × TakesPrefix (W.taken writer.old) (W.taken writer.new) text)) failure }
 
     // A refused line reads and writes nothing, and no other line is refused.
     ensures refused { faults_in (map string_bytes words.now) ≢ []
@@ -51,9 +63,10 @@ pub fn run<R: Source, W: Sink, E: Sink>(
         Err(refusal) => return refuse(refusal, errors),
     };
     match answer(alloc, task, reader, writer) {
-        Ok(reply) => {
-            tell(errors, reply.told.as_str());
-            reply.status
+        Ok(None) => 0,
+        Ok(Some(line)) => {
+            tell(errors, line.as_str());
+            1
         }
         Err(failure) => {
             tell(errors, failure.line());
@@ -66,7 +79,7 @@ pub fn run<R: Source, W: Sink, E: Sink>(
 pub fn refuse<E: Sink>(refusal: Refusal, errors: &mut E) -> u8
     ensures usage { (result ≡ 2) ↔ IsUsage refusal }
     ensures line { 2 < result → NoneFailed (E.failed errors.old) (E.failed errors.new)
-        → IsFailureLine result (Appends (E.taken errors.old) (E.taken errors.new)) }
+        → Appends (E.taken errors.old) (E.taken errors.new) (line_of Failure.Memory) }
     ensures statuses { (result ≡ 2) ⊎ (result ≡ 4) }
 {
     match refusal {
@@ -81,69 +94,30 @@ pub fn refuse<E: Sink>(refusal: Refusal, errors: &mut E) -> u8
     }
 }
 
-/// Does what the line asks for, but for the line on the error stream.
+/// Does what the line asks for, but for the line on the error stream, which it answers.
 fn answer<R: Source, W: Sink>(
     alloc: Global,
     task: Task,
     reader: &mut R,
     writer: &mut W,
-) -> Result<Reply, Failure>
-    ensures output { IfOk result (λ reply. IfSome (R.left reader.old) (λ input.
-        IsReply (output task input) reply
-        × Appends (W.taken writer.old) (W.taken writer.new) (output task input).written)) }
-    ensures flushed { OnOk result (W.flushes writer.new ≡ counted (W.flushes writer.old)) }
-    ensures status { IfOk result (λ reply. reply.status < 2) }
-    ensures failed { IfErr result (FailsAsTold (HasFailed (R.failed reader.old) (R.failed reader.new))
-        (HasFailed (W.failed writer.old) (W.failed writer.new)) (writer.new ≡ writer.old)) }
+) -> Result<Option<Text>, Failure>
+    ensures output { IfOk result (λ told. IfSome (R.left reader.old) (Answers LIMIT task told (writer.new ≡ writer.old)
+        (λ text. Appends (W.taken writer.old) (W.taken writer.new) text
+        × (W.flushes writer.new ≡ counted (W.flushes writer.old))))) }
+    ensures flushed { IfOk result (IsFlushed (writer.new ≡ writer.old)
+        (W.flushes writer.new ≡ counted (W.flushes writer.old))) }
+    ensures caused { IfErr result (IsCaused (HasFailed (R.failed reader.old) (R.failed reader.new))
+        (HasFailed (W.failed writer.old) (W.failed writer.new))) }
+    ensures partly { IfErr result (LeavesOutput (is_made_whole task) (writer.new ≡ writer.old)
+        (IfSome (R.left reader.old) (λ input. (text : List ℕ) × IsWhole LIMIT task input text
+        × TakesPrefix (W.taken writer.old) (W.taken writer.new) text))) }
     ensures reads { R.reads reader.new ≤ R.reads reader.old + 67108866 }
 {
     match task {
-        Task::Fields => list_fields(alloc, reader, writer),
-    }
-}
-
-/// Lists the top-level fields.
-fn list_fields<R: Source, W: Sink>(
-    alloc: Global,
-    reader: &mut R,
-    writer: &mut W,
-) -> Result<Reply, Failure>
-    ensures output { IfOk result (λ reply. IfSome (R.left reader.old) (λ input.
-        IsReply (fields_answer LIMIT input) reply
-        × Appends (W.taken writer.old) (W.taken writer.new) (fields_answer LIMIT input).written)) }
-    ensures flushed { OnOk result (W.flushes writer.new ≡ counted (W.flushes writer.old)) }
-    ensures status { IfOk result (λ reply. reply.status < 2) }
-    ensures failed { IfErr result (FailsAsTold (HasFailed (R.failed reader.old) (R.failed reader.new))
-        (HasFailed (W.failed writer.old) (W.failed writer.new)) (writer.new ≡ writer.old)) }
-    ensures reads { R.reads reader.new ≤ R.reads reader.old + 67108866 }
-{
-    let input = read_all(alloc, reader)?;
-    let reply = fields_reply(alloc, &input)?;
-    deliver(reply.written.as_str(), writer)?;
-    Ok(reply)
-}
-
-/// What `fields` answers for an input. The line of the fault is made before anything is put out.
-#[tactic(auto, unfolding(crate::specs::Output::fields_answer))]
-fn fields_reply(alloc: Global, input: &[u8]) -> Result<Reply, AllocError>
-    ensures answer { IfOk result (IsReply (fields_answer LIMIT input.now)) }
-    ensures status { IfOk result (λ reply. reply.status < 2) }
-{
-    let FieldsText { lines, fault } = fields_text(alloc, input)?;
-    match fault {
-        None => Ok(Reply {
-            written: lines,
-            told: String::new(alloc),
-            status: 0,
-        }),
-        Some(fault) => {
-            let mut told = fault_text(alloc, &fault)?;
-            told.push_str("\n")?;
-            Ok(Reply {
-                written: lines,
-                told,
-                status: 1,
-            })
-        }
+        Task::Fields => deliver(list_fields(alloc, reader)?, writer),
+        Task::Show => deliver(show(alloc, reader)?, writer),
+        Task::Check => deliver(check(alloc, reader)?, writer),
+        Task::Rewrite => rewrite(alloc, reader, writer),
+        Task::Extract(names) => extract_layers(alloc, &names, reader, writer),
     }
 }

@@ -1,20 +1,30 @@
 //! The words of the command line, as clap reads them.
-ghost use Rattle.std.specs.Prelude.{◌≡◌, ◌≢◌, [], map, string_bytes, IfOk, IfErr, OnOk};
-ghost use Rattle.clap.specs.Words.{app_of, kind_of};
-ghost use Rattle.mvt_cli.specs.Words.{mvt, task_in, faults_in};
+ghost use Rattle.std.specs.Prelude.{◌≡◌, ◌≢◌, [], false, map, string_bytes, IfOk, IfErr, OnOk};
+ghost use Rattle.clap.specs.declared.builder.command.Command.TheViews.{out-Command as fields_of};
+ghost use Rattle.clap.specs.Words.{app_of, found_of, kind_of, new_app, rows_of, subcommand_rows_of};
+ghost use Rattle.mvt_cli.specs.Words.{mvt, extract_app, task_in, task_named as named, task_of_subcommand, names_given, faults_in};
 ghost use Rattle.mvt_cli.specs.Refused.{IsUsage};
 
+use crate::names::Names;
 use clap::error::ErrorKind;
-use clap::{Command, Error};
+use clap::{Arg, ArgAction, ArgMatches, Command, Error};
 use std::alloc::{AllocError, Global};
 use std::rt::Env;
 use std::{env, io};
 
 /// What a line asks for.
-#[derive(Clone, Copy, Debug, PartialEq, Eq)]
+#[derive(Debug, Drop)]
 pub enum Task {
     /// The top-level fields of the input, a line each.
     Fields,
+    /// The tile as JSON.
+    Show,
+    /// Whether the tile is accepted, and what is noted of it.
+    Check,
+    /// The tile in canonical form.
+    Rewrite,
+    /// The named layers in canonical form.
+    Extract(Names),
 }
 
 /// Why a line isn't run.
@@ -51,10 +61,41 @@ pub fn arguments(rt: &(impl Env + AllocGlobal)) -> Result<Vec<String>, Refusal> 
 fn mvt_command<'a>(alloc: Global) -> Result<Command<'a>, AllocError>
     ensures { IfOk result (λ command. app_of command ≡ mvt) }
 {
-    let fields = Command::new(alloc, "fields").about("Lists the top-level fields of the input");
+    let fields = bare_command(alloc, "fields", "Lists the top-level fields of the input");
+    let show = bare_command(alloc, "show", "Shows the tile as JSON");
+    let check = bare_command(alloc, "check", "Checks the tile and reports on it (the default)");
+    let rewrite = bare_command(alloc, "rewrite", "Writes the tile in its canonical form");
+    let extract = extract_command(alloc)?;
     Command::new(alloc, "mvt")
-        .about("Lists the fields of a Mapbox Vector Tile")
-        .subcommand(fields)
+        .about("Reads a Mapbox Vector Tile from standard input")
+        .subcommand(fields)?
+        .subcommand(show)?
+        .subcommand(check)?
+        .subcommand(rewrite)?
+        .subcommand(extract)
+}
+
+/// A subcommand that takes no words of its own.
+fn bare_command<'a>(alloc: Global, name: &'a str, about: &'a str) -> Command<'a>
+    ensures shape { app_of result ≡ new_app name.entry.now }
+    ensures local { (fields_of result).has_globals ≡ false }
+{
+    Command::new(alloc, name).about(about)
+}
+
+/// The subcommand `extract`, which takes one name or more.
+fn extract_command<'a>(alloc: Global) -> Result<Command<'a>, AllocError>
+    ensures shape { IfOk result (λ command. app_of command ≡ extract_app) }
+    ensures local { IfOk result (λ command. (fields_of command).has_globals ≡ false) }
+{
+    let names = Arg::new(alloc, "name")
+        .action(ArgAction::Append)
+        .num_args(1..)
+        .required(true)
+        .help("The name of a layer");
+    Command::new(alloc, "extract")
+        .about("Writes the named layers in their canonical form")
+        .arg(names)
 }
 
 /// The refusal for an error of clap's.
@@ -71,17 +112,60 @@ fn refusal_of(alloc: Global, error: Error) -> Refusal
 }
 
 /// The task that the words ask for; the first word is the program's name. An empty list of words,
-/// and a line without a subcommand, ask for the fields.
+/// and a line without a subcommand, ask for a check.
 pub fn read_words(alloc: Global, words: &[String]) -> Result<Task, Refusal>
     ensures task { IfOk result (λ task. task ≡ task_in (map string_bytes words.now)) }
     ensures ok { OnOk result (faults_in (map string_bytes words.now) ≡ []) }
     ensures usage { IfErr result (λ refusal. IsUsage refusal → faults_in (map string_bytes words.now) ≢ []) }
 {
     if words.is_empty() {
-        return Ok(Task::Fields);
+        return Ok(Task::Check);
     }
     match mvt_command(alloc)?.try_get_matches_from(words) {
-        Ok(_) => Ok(Task::Fields),
+        Ok(matches) => Ok(task_of(alloc, &matches)?),
         Err(error) => Err(refusal_of(alloc, error)),
     }
+}
+
+/// The task that clap's matches tell.
+fn task_of(alloc: Global, matches: &ArgMatches<'_>) -> Result<Task, AllocError>
+    ensures { IfOk result (λ task. task ≡ task_of_subcommand (subcommand_rows_of matches.now)) }
+{
+    match matches.subcommand() {
+        Some((name, given)) => task_named(alloc, name, given),
+        None => Ok(Task::Check),
+    }
+}
+
+/// The task of a subcommand, which was given these words.
+fn task_named(alloc: Global, name: &str, given: &ArgMatches<'_>) -> Result<Task, AllocError>
+    ensures { IfOk result (λ task. task ≡ named name.now (rows_of (found_of given.now))) }
+{
+    match name {
+        "fields" => Ok(Task::Fields),
+        "show" => Ok(Task::Show),
+        "rewrite" => Ok(Task::Rewrite),
+        "extract" => Ok(Task::Extract(names_of(alloc, given)?)),
+        _ => Ok(Task::Check),
+    }
+}
+
+/// The names of the layers to extract.
+fn names_of(alloc: Global, matches: &ArgMatches<'_>) -> Result<Names, AllocError>
+    ensures { IfOk result (λ names. names ≡ names_given (rows_of (found_of matches.now))) }
+{
+    match matches.get_strs("name") {
+        Some(texts) => copied(alloc, texts),
+        None => Ok(Names::new(Vec::new(alloc))),
+    }
+}
+
+fn copied(alloc: Global, texts: &[&str]) -> Result<Names, AllocError>
+    ensures { IfOk result (λ names. names ≡ map (λ text. text.now) texts.now) }
+{
+    let mut names = Vec::new(alloc);
+    for text in texts {
+        names.push(String::from_str(alloc, text)?)?;
+    }
+    Ok(Names::new(names))
 }

@@ -1,17 +1,17 @@
-use Rattle.std.proofs.Common.{rules, ◌≡◌, ap, ap₂, refl, ◌∙◌, codes, false}
+use Rattle.std.proofs.Common.{◌≡◌, ap, ◌∙◌, codes}
 use Rattle.std.proofs.lemmas.Result.{IfOk-weaker}
 use Rattle.clap.specs.Simple.{app_of_fields}
-use Rattle.clap.specs.Words.{App, app_of, new_app, with_subcommand}
-use Rattle.clap.specs.declared.builder.command.Command.TheViews.{out-Command as fields_of}
-use Rattle.clap.specs.declared.builder.command.Command.{Command}
-use Rattle.clap.specs.declared.builder.command.Command.TheOpen.{Command-F}
+use Rattle.clap.specs.Words.{app_of, new_app}
 use Rattle.mvt_cli.specs.Words.{mvt}
+use Rattle.mvt_cli.proofs.Commands.{added}
 use Rattle.mvt_cli.proofs.words.mvt_command.Goals as goal
 
 pub returns : goal.returns
 unfolding mvt
 returns c =
-    let fields_is : app_of c.about-fields.result ≡ new_app (codes "fields") = ap app_of_fields c.about-fields.ensures ∙ c.new.ensures.app in
-    let top_is : app_of c.about.result ≡ new_app (codes "mvt") = ap app_of_fields c.about.ensures ∙ c.new-2.ensures.app in
-    let local : (fields_of c.about-fields.result).has_globals ≡ false = ap (λ (f : Command-F Command). f.has_globals) c.about-fields.ensures ∙ c.new.ensures.local in
-    IfOk-weaker c.subcommand.result _ _ (λ m h. h.shape local ∙ ap₂ with_subcommand top_is (ap (λ (a : App). a.top) fields_is)) c.subcommand.ensures
+    let top : app_of c.about.result ≡ new_app (codes "mvt") = ap app_of_fields c.about.ensures ∙ c.new.ensures.app in
+    let one = added _ _ _ _ _ c.in_ok-subcommand.ensures top c.bare_command-fields.ensures.shape c.bare_command-fields.ensures.local in
+    let two = added _ _ _ _ _ c.in_ok-subcommand-2.ensures one c.bare_command-show.ensures.shape c.bare_command-show.ensures.local in
+    let three = added _ _ _ _ _ c.in_ok-subcommand-3.ensures two c.bare_command-check.ensures.shape c.bare_command-check.ensures.local in
+    let four = added _ _ _ _ _ c.in_ok-subcommand-4.ensures three c.bare_command-rewrite.ensures.shape c.bare_command-rewrite.ensures.local in
+    IfOk-weaker c.subcommand-5.result _ _ (λ m h. added _ _ _ _ _ h four c.in_ok-extract.ensures.shape c.in_ok-extract.ensures.local) c.subcommand-5.ensures

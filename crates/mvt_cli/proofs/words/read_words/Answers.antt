@@ -1,11 +1,16 @@
-use Rattle.std.proofs.Common.{rules, string_bytes}
-use Rattle.mvt_cli.proofs.Lines.{accepted, refused}
+use Rattle.std.proofs.Common.{rules, ◌≡◌, string_bytes, ap, ◌∙◌}
+use Rattle.mvt_cli.specs.Words.{task_of_subcommand}
+use Rattle.mvt_cli.proofs.Lines.{accepted, refused, entered}
 use Rattle.mvt_cli.proofs.words.read_words.Goals as goal
 
-pub returns-in-Ok-clause-ok : goal.returns-in-Ok-clause-ok
-returns-in-Ok-clause-ok c =
+pub returns-in_ok-task_of-in-Ok-clause-task : goal.returns-in_ok-task_of-in-Ok-clause-task
+returns-in_ok-task_of-in-Ok-clause-task c =
+    c.in_ok-task_of-in-Ok.ensures ∙ ap task_of_subcommand (entered _ string_bytes c.args.words.now c.in-Ok.matches c.in_ok-mvt_command.ensures (search rules) c.in-Ok.ensures.matches)
+
+pub returns-in_ok-task_of-in-Ok-clause-ok : goal.returns-in_ok-task_of-in-Ok-clause-ok
+returns-in_ok-task_of-in-Ok-clause-ok c =
     accepted _ string_bytes c.args.words.now c.in_ok-mvt_command.ensures (search rules) c.in-Ok.ensures.kinds
 
-pub returns-clause-usage : goal.returns-clause-usage
-returns-clause-usage c usage =
+pub returns-in-Err-clause-usage : goal.returns-in-Err-clause-usage
+returns-in-Err-clause-usage c usage =
     refused _ string_bytes c.args.words.now c.in-Err.error c.in_ok-mvt_command.ensures (search rules) c.in-Err.ensures.kinds (c.refusal_of.ensures usage)
