@@ -1,5 +1,5 @@
 -- The first bytes of an input, one more than the limit, tell the same as the whole of it.
-use Rattle.std.proofs.Common.{◌≡◌, ℕ, ◌+◌, ◌<◌, ◌≤◌, ◌⊎◌, inl, inr, List, length, take, min, nat_lt, refl, sym, ap, ap₂, subst, ◌∙◌, arith, Option, Some, None, Bool, true}
+use Rattle.std.proofs.Common.{◌≡◌, ℕ, ◌+◌, ◌≤◌, inl, inr, List, length, take, min, nat_lt, sym, ap, ap₂, subst, ◌∙◌, arith, Option, Some, None, Bool, true}
 use Rattle.std.proofs.lemmas.List.{length-take, take-take, take_all}
 use Rattle.std.proofs.lemmas.Bool.{cases_lt}
 use Rattle.std.proofs.lemmas.Bool.Decides.{nat_tests}
@@ -8,12 +8,11 @@ use Rattle.std.specs.Option.{option_map}
 use Rattle.mvt_base.specs.Rules.{first}
 use Rattle.mvt_tile.specs.declared.fault.Fault.{Fault}
 use Rattle.mvt_tile.specs.TileRules.{fault_within, beyond, tile_rules}
-use Rattle.mvt_tile.specs.Tiles.{IsTile}
 use Rattle.mvt_view.specs.FaultLines.{fault_line}
 use Rattle.mvt_view.specs.FieldLines.{fields_lines, fields_fault}
 use Rattle.mvt_cli.specs.declared.reply.Reply.{Reply}
 use Rattle.mvt_cli.specs.declared.words.Task.TheVariants.{Check}
-use Rattle.mvt_cli.specs.Output.{IsReply, IsTold, fields_reply, check_lines, done, refused}
+use Rattle.mvt_cli.specs.Output.{IsReply, fields_reply}
 
 take_front : (n : ℕ) (xs : List ℕ) → take n (take (n + 1) xs) ≡ take n xs
 take_front n xs = take-take n (n + 1) xs (omega arith)

@@ -1,5 +1,5 @@
 -- A reply that was put out answers its input.
-use Rattle.std.proofs.Common.{◌≡◌, ℕ, ◌<◌, ◌≤◌, Bool, true, false, nat_lt, List, length, slice_get, Option, Some, None, inl, inr, refl, sym, ap, subst, ◌∙◌, arith, codes, if◌then◌else◌}
+use Rattle.std.proofs.Common.{◌≡◌, ℕ, ◌<◌, ◌≤◌, Bool, true, false, nat_lt, List, length, slice_get, Option, Some, None, inr, refl, sym, ap, subst, ◌∙◌, arith, codes, if◌then◌else◌}
 use Rattle.std.specs.Prelude.{IfSome}
 use Rattle.std.specs.Option.{option_map}
 use Rattle.std.proofs.lemmas.Bool.Decides.{nat_tests}
@@ -14,7 +14,7 @@ use Rattle.mvt_cli.specs.declared.reply.Reply.{Reply}
 use Rattle.mvt_cli.specs.declared.words.Task.{Task}
 use Rattle.mvt_cli.specs.declared.words.Task.TheVariants.{Rewrite, Extract}
 use Rattle.mvt_cli.specs.Failures.{IsRefusal}
-use Rattle.mvt_cli.specs.Output.{IsReply, IsTold, IsWhole, Answers, PutsOut, done, refused, bytes_reply, layers_reply, layers_reply_or, missing_line}
+use Rattle.mvt_cli.specs.Output.{IsReply, IsTold, Answers, PutsOut, done, refused, bytes_reply, layers_reply, layers_reply_or, missing_line}
 use Rattle.mvt_cli.proofs.Picks.{missing_at, none_missing}
 
 pub answered : (limit : ℕ) (task : Task) (left : Option (List ℕ)) (reply : Reply) (told : Option (List ℕ)) (Untouched : Type 0) (Writes : List ℕ → Type 0)

@@ -1,5 +1,5 @@
 -- Why a run ends before its output is complete: its status, its line, its cause, and what it leaves of the output.
-use Rattle.std.specs.Prelude.{◌≡◌, ℕ, ◌⊎◌, Bool, true, false, List, ◌++◌, [], ◌∷◌, codes, ⊤}
+use Rattle.std.specs.Prelude.{◌≡◌, ℕ, ◌⊎◌, Bool, true, false, List, ◌++◌, codes, ⊤}
 use Rattle.mvt_io.specs.declared.read_error.ReadError.{ReadError}
 use Rattle.mvt_io.specs.declared.read_error.ReadError.TheVariants as reading
 use Rattle.mvt_tile.specs.declared.fault.DecodeError.{DecodeError}

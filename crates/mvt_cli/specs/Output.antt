@@ -2,7 +2,6 @@
 use Rattle.std.specs.Prelude.{◌≡◌, ℕ, ◌⊎◌, List, ◌++◌, length, nat_lt, find, not, Bool, Option, Some, None, bytes_eq, if◌then◌else◌, codes, true, false, MatchOption, IsSome, ⊤}
 use Rattle.std.specs.Option.{option_map}
 use Rattle.std.specs.List.{list_any}
-use Rattle.mvt_base.specs.declared.TheConstants.{LIMIT}
 use Rattle.serde_json.specs.Written.{compact_text}
 use Rattle.mvt_tile.specs.declared.fault.Fault.{Fault}
 use Rattle.mvt_tile.specs.declared.tile.Tile.{Tile}

@@ -1,6 +1,5 @@
 -- The command line of `mvt`, as clap's own definition of a command and of what it makes of words.
 use Rattle.std.specs.Prelude.{◌≡◌, ℕ, ◌⊎◌, true, List, [], ◌∷◌, Option, Some, None, codes, bytes_eq, unwrap_or, if◌then◌else◌, ⊤}
-use Rattle.std.specs.Option.{option_map_or}
 use Rattle.clap.specs.Lexer.{usize_max}
 use Rattle.clap.specs.Words.{App, Row, Rule, new_app, new_rule, all_of, with_rule, with_subcommand, fault_of, subcommand_of}
 use Rattle.clap.specs.Kinds.{Kinds}

@@ -3,6 +3,7 @@
 
 mod checking;
 mod failure;
+mod laws;
 mod listing;
 mod names;
 mod refusal;

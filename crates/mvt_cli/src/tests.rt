@@ -92,13 +92,7 @@ fn run_on(
     let words = words_of(alloc, words)?;
     let step = devices.step.max(1);
     let mut reader = MemorySource::new(input, step, devices.read_from);
-    let mut writer = MemorySink::new(
-        alloc,
-        devices.room,
-        step,
-        devices.write_from,
-        devices.flush,
-    )?;
+    let mut writer = MemorySink::new(alloc, devices.room, step, devices.write_from, devices.flush)?;
     let mut errors = MemorySink::new(alloc, 2000, 65_536, u64::MAX, false)?;
     let status = run(alloc, &words, &mut reader, &mut writer, &mut errors);
     let reads = reader.calls();

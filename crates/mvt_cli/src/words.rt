@@ -63,7 +63,11 @@ fn mvt_command<'a>(alloc: Global) -> Result<Command<'a>, AllocError>
 {
     let fields = bare_command(alloc, "fields", "Lists the top-level fields of the input");
     let show = bare_command(alloc, "show", "Shows the tile as JSON");
-    let check = bare_command(alloc, "check", "Checks the tile and reports on it (the default)");
+    let check = bare_command(
+        alloc,
+        "check",
+        "Checks the tile and reports on it (the default)",
+    );
     let rewrite = bare_command(alloc, "rewrite", "Writes the tile in its canonical form");
     let extract = extract_command(alloc)?;
     Command::new(alloc, "mvt")

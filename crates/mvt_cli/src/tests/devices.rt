@@ -56,10 +56,7 @@ fn tells_failed_devices(rt: HostRuntime) -> Result<(), Fail> {
     let cases: [(&[&str], &[u8]); 5] = [
         (&["mvt", "fields"], b"0 3 len 17\n"),
         (&["mvt", "show"], ONE_POINT_SHOWN.as_bytes()),
-        (
-            &["mvt", "check"],
-            b"ok layers 1 features 1 canonical yes\n",
-        ),
+        (&["mvt", "check"], b"ok layers 1 features 1 canonical yes\n"),
         (&["mvt", "rewrite"], &one_point),
         (&["mvt", "extract", "a"], &one_point),
     ];

@@ -43,7 +43,10 @@ fn refuses_spellings(rt: HostRuntime) -> Result<(), Fail> {
             "1A0B 7802 0A0161 288080808010",
             "layer 0 feature - at 7: 6 NumberRange\n",
         ),
-        ("1A06 788080808010", "layer 0 feature - at 2: 6 NumberRange\n"),
+        (
+            "1A06 788080808010",
+            "layer 0 feature - at 2: 6 NumberRange\n",
+        ),
     ];
     Ok(refuses_all(&rt, &rows)?)
 }
@@ -59,7 +62,10 @@ fn refuses_layers(rt: HostRuntime) -> Result<(), Fail> {
         ("1A05 7801 0A0261", "layer 0 feature - at 4: 1 Truncated\n"),
         ("1A03 0A0161", "layer 0 feature - at 0: 8 NoVersion\n"),
         ("1A02 7802", "layer 0 feature - at 0: 10 NoName\n"),
-        ("1A07 7802 0A0161 2200", "layer 0 feature - at 7: 11 ValueKind\n"),
+        (
+            "1A07 7802 0A0161 2200",
+            "layer 0 feature - at 7: 11 ValueKind\n",
+        ),
         (
             "1A0B 7802 0A0161 220420052805",
             "layer 0 feature - at 7: 11 ValueKind\n",
@@ -79,7 +85,10 @@ fn refuses_layers(rt: HostRuntime) -> Result<(), Fail> {
 #[test]
 fn refuses_features(rt: HostRuntime) -> Result<(), Fail> {
     let rows: [Row; 13] = [
-        ("1A09 7802 0A0161 12021804", "layer 0 feature 0 at 9: 12 GeomType\n"),
+        (
+            "1A09 7802 0A0161 12021804",
+            "layer 0 feature 0 at 9: 12 GeomType\n",
+        ),
         (
             "1A11 7802 0A0161 12031201 00 1A016B 22022805",
             "layer 0 feature 0 at 1: 13 OddTags\n",
@@ -100,7 +109,10 @@ fn refuses_features(rt: HostRuntime) -> Result<(), Fail> {
             "1A0E 7802 0A0161 12071802 22030A0202",
             "layer 0 feature 0 at 0: 17 Command\n",
         ),
-        ("1A0C 7802 0A0161 12051801 220101", "layer 0 feature 0 at 0: 18 Count\n"),
+        (
+            "1A0C 7802 0A0161 12051801 220101",
+            "layer 0 feature 0 at 0: 18 Count\n",
+        ),
         (
             "1A0C 7802 0A0161 12051801 220109",
             "layer 0 feature 0 at 0: 19 Parameters\n",

@@ -45,7 +45,13 @@ fn wants_once(
 #[test]
 fn made_whole_refused_memory(rt: HostRuntime) {
     let lines = b"0 3 len 3\n5 4 varint 5\n";
-    wants_once(&rt, &["mvt", "fields"], "1A030A016120051A", true, (1, lines));
+    wants_once(
+        &rt,
+        &["mvt", "fields"],
+        "1A030A016120051A",
+        true,
+        (1, lines),
+    );
     let shown = ONE_POINT_SHOWN.as_bytes();
     wants_once(&rt, &["mvt", "show"], ONE_POINT, true, (0, shown));
     let report = b"ok layers 1 features 1 canonical yes\n";

@@ -118,8 +118,7 @@ fn accepts_geometry_and_values(rt: HostRuntime) -> Result<(), Fail> {
 fn accepts_features(rt: HostRuntime) -> Result<(), Fail> {
     let keys_shown =
         "{\"layers\":[{\"extent\":4096,\"features\":[{\"attributes\":[[\"k\",{\"uint\":5}]],\"geometry\":{\"points\":[[25,17]]},\"id\":null},{\"attributes\":[[\"k\",{\"uint\":5}]],\"geometry\":{\"points\":[[25,17]]},\"id\":null}],\"name\":\"a\"}]}\n";
-    let same_id =
-        "1A1E 7802 0A0161 1209080718012203093222 1209080718012203093222 288020";
+    let same_id = "1A1E 7802 0A0161 1209080718012203093222 1209080718012203093222 288020";
     let same_id_shown =
         "{\"layers\":[{\"extent\":4096,\"features\":[{\"attributes\":[],\"geometry\":{\"points\":[[25,17]]},\"id\":7},{\"attributes\":[],\"geometry\":{\"points\":[[25,17]]},\"id\":7}],\"name\":\"a\"}]}\n";
     let rows: [Row; 4] = [
@@ -191,7 +190,12 @@ fn accepts_other_versions(rt: HostRuntime) -> Result<(), Fail> {
             ten,
         ),
         // Its text isn't read.
-        ("1A05 7801 0A01FF", canonical, FOREIGN_SHOWN, "1A05 7801 0A01FF"),
+        (
+            "1A05 7801 0A01FF",
+            canonical,
+            FOREIGN_SHOWN,
+            "1A05 7801 0A01FF",
+        ),
         (
             "1A02 7800",
             "ok layers 1 features 0 canonical yes\nnote Foreign layer 0 version 0\n",

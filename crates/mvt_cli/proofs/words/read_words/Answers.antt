@@ -1,4 +1,4 @@
-use Rattle.std.proofs.Common.{rules, ◌≡◌, string_bytes, ap, ◌∙◌}
+use Rattle.std.proofs.Common.{rules, string_bytes, ap, ◌∙◌}
 use Rattle.mvt_cli.specs.Words.{task_of_subcommand}
 use Rattle.mvt_cli.proofs.Lines.{accepted, refused, entered}
 use Rattle.mvt_cli.proofs.words.read_words.Goals as goal

@@ -1,0 +1,16 @@
+use Rattle.std.proofs.Common.{refl}
+use Rattle.clap.proofs.OnLiterals.{clap_on_literals}
+use Rattle.mvt_cli.specs.Words.{mvt, extract_app}
+use Rattle.mvt_cli.proofs.laws.lines_ask.Goals as goal
+
+pub returns : goal.returns
+unfolding clap_on_literals mvt extract_app
+returns c = record {
+  nothing = refl;
+  alone = λ name. refl;
+  fields = λ name. refl;
+  show = λ name. refl;
+  check = λ name. refl;
+  rewrite = λ name. refl;
+  extract = λ name. refl;
+}

@@ -1,0 +1,30 @@
+//! Laws about the definitions alone: functions without effect, whose contract is the law.
+ghost use Rattle.std.specs.Prelude.{◌≡◌, ℕ, List, [], ◌∷◌, codes};
+ghost use Rattle.mvt_cli.specs.declared.reply.Reply.{Reply as AReply};
+ghost use Rattle.mvt_cli.specs.declared.words.Task.{Task as ATask};
+ghost use Rattle.mvt_cli.specs.Output.{IsReply};
+ghost use Rattle.mvt_cli.specs.Words.{task_in};
+
+use crate::words::Task;
+use mvt_base::LIMIT;
+
+/// A task has one reply for each input.
+pub fn one_reply()
+    ensures there { (task : ATask) (input : List ℕ) → (reply : AReply) × IsReply LIMIT task input reply }
+    ensures once { (task : ATask) (input : List ℕ) (a b : AReply)
+        → IsReply LIMIT task input a → IsReply LIMIT task input b → a ≡ b }
+{
+    mvt_tile::laws::tile_or_fault();
+}
+
+/// The lines ask for what they name, whatever the program's own name is.
+pub fn lines_ask()
+    ensures nothing { task_in [] ≡ Task.Check }
+    ensures alone { (name : List ℕ) → task_in (name ∷ []) ≡ Task.Check }
+    ensures fields { (name : List ℕ) → task_in (name ∷ codes "fields" ∷ []) ≡ Task.Fields }
+    ensures show { (name : List ℕ) → task_in (name ∷ codes "show" ∷ []) ≡ Task.Show }
+    ensures check { (name : List ℕ) → task_in (name ∷ codes "check" ∷ []) ≡ Task.Check }
+    ensures rewrite { (name : List ℕ) → task_in (name ∷ codes "rewrite" ∷ []) ≡ Task.Rewrite }
+    ensures extract { (name : List ℕ) → task_in (name ∷ codes "extract" ∷ codes "b" ∷ codes "a" ∷ [])
+        ≡ Task.Extract (codes "b" ∷ codes "a" ∷ []) }
+{}
