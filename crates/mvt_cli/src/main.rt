@@ -2,6 +2,7 @@
 #![tactic(auto)]
 
 mod checking;
+mod extraction;
 mod failure;
 mod laws;
 mod listing;

@@ -1,22 +1,20 @@
-//! The commands `rewrite` and `extract`.
-ghost use Rattle.std.specs.Prelude.{◌≡◌, ◌+◌, ◌<◌, ◌≤◌, false, List, ℕ, length, map, option_map, slice_get, string_bytes, IfOk, IfErr, IfSome};
+//! The command `rewrite`.
+ghost use Rattle.std.specs.Prelude.{◌≡◌, ◌+◌, ◌≤◌, false, List, ℕ, IfOk, IfErr, IfSome};
 ghost use Rattle.std.specs.Io.KnownBytes.{Appends};
 ghost use Rattle.mvt_io.specs.Counts.{counted, HasFailed};
 ghost use Rattle.mvt_io.specs.Transfers.{TakesPrefix};
 ghost use Rattle.mvt_tile.specs.CanonicalTiles.{canonical};
-ghost use Rattle.mvt_tile.specs.Extraction.{pick};
 ghost use Rattle.mvt_tile.specs.ValidTiles.{Valid};
 ghost use Rattle.mvt_cli.specs.Failures.{IsCaused, LeavesOutput};
-ghost use Rattle.mvt_cli.specs.Output.{Answers, IsFlushed, IsWhole, PutsOut, bytes_reply, layers_reply, missing_line};
+ghost use Rattle.mvt_cli.specs.Output.{Answers, IsFlushed, IsWhole, PutsOut, bytes_reply};
 
 use crate::failure::Failure;
-use crate::names::Names;
 use crate::refusal::refusal;
 use crate::words::Task;
 use mvt_base::{LIMIT, Text};
 use mvt_io::{Sink, Source};
-use mvt_tile::{ExtractError, Tile, WriteError, extract, read_tile, write_tile};
-use std::alloc::{AllocError, Global};
+use mvt_tile::{Tile, WriteError, read_tile, write_tile};
+use std::alloc::Global;
 
 /// Writes a tile in its canonical form. Answers the line that is to be told, if there is one.
 pub fn rewrite<R: Source, W: Sink>(
@@ -42,56 +40,12 @@ pub fn rewrite<R: Source, W: Sink>(
     }
 }
 
-/// Writes the named layers of a tile.
-pub fn extract_layers<R: Source, W: Sink>(
-    alloc: Global,
-    names: &Names,
-    reader: &mut R,
-    writer: &mut W,
-) -> Result<Option<Text>, Failure>
-    ensures output { IfOk result (λ told. IfSome (R.left reader.old) (Answers LIMIT (Task.Extract names.now) told (writer.new ≡ writer.old)
-        (λ text. Appends (W.taken writer.old) (W.taken writer.new) text
-        × (W.flushes writer.new ≡ counted (W.flushes writer.old))))) }
-    ensures flushed { IfOk result (IsFlushed (writer.new ≡ writer.old)
-        (W.flushes writer.new ≡ counted (W.flushes writer.old))) }
-    ensures caused { IfErr result (IsCaused (HasFailed (R.failed reader.old) (R.failed reader.new))
-        (HasFailed (W.failed writer.old) (W.failed writer.new))) }
-    ensures partly { IfErr result (LeavesOutput false (writer.new ≡ writer.old)
-        (IfSome (R.left reader.old) (λ input. (text : List ℕ) × IsWhole LIMIT (Task.Extract names.now) input text
-        × TakesPrefix (W.taken writer.old) (W.taken writer.new) text))) }
-    ensures reads { R.reads reader.new ≤ R.reads reader.old + 67108866 }
-{
-    match read_tile(alloc, reader) {
-        Ok(tile) => put_layers(alloc, &tile, names.as_slice(), writer),
-        Err(error) => Ok(Some(refusal(alloc, error)?)),
-    }
-}
-
-fn put_layers<W: Sink>(
+/// Writes a tile and flushes once. Answers the line that is to be told, if there is one.
+pub fn put_tile<W: Sink>(
     alloc: Global,
     tile: &Tile,
-    names: &[String],
     writer: &mut W,
 ) -> Result<Option<Text>, Failure>
-    requires { Valid tile.now }
-    ensures output { IfOk result (λ told. (told ≡ (layers_reply LIMIT (map string_bytes names.now) tile.now).told)
-        × PutsOut (writer.new ≡ writer.old) (λ text. Appends (W.taken writer.old) (W.taken writer.new) text
-        × (W.flushes writer.new ≡ counted (W.flushes writer.old))) (layers_reply LIMIT (map string_bytes names.now) tile.now)) }
-    ensures flushed { IfOk result (IsFlushed (writer.new ≡ writer.old)
-        (W.flushes writer.new ≡ counted (W.flushes writer.old))) }
-    ensures caused { IfErr result (IsCaused ⊥ (HasFailed (W.failed writer.old) (W.failed writer.new))) }
-    ensures partly { IfErr result (LeavesOutput false (writer.new ≡ writer.old)
-        (TakesPrefix (W.taken writer.old) (W.taken writer.new) (canonical (pick tile.now (map string_bytes names.now))))) }
-{
-    match extract(alloc, tile, names) {
-        Ok(picked) => put_tile(alloc, &picked, writer),
-        Err(ExtractError::MissingLayer(index)) => Ok(Some(missing(alloc, names, index)?)),
-        Err(ExtractError::Memory) => Err(Failure::Memory),
-    }
-}
-
-/// Writes a tile and flushes once.
-fn put_tile<W: Sink>(alloc: Global, tile: &Tile, writer: &mut W) -> Result<Option<Text>, Failure>
     requires { Valid tile.now }
     ensures output { IfOk result (λ told. (told ≡ (bytes_reply LIMIT tile.now).told)
         × PutsOut (writer.new ≡ writer.old) (λ text. Appends (W.taken writer.old) (W.taken writer.new) text
@@ -114,21 +68,4 @@ fn put_tile<W: Sink>(alloc: Global, tile: &Tile, writer: &mut W) -> Result<Optio
         Err(WriteError::Write(_)) => Err(Failure::Write),
         Err(WriteError::Memory) => Err(Failure::Memory),
     }
-}
-
-/// The line of the name at an index, which no layer has.
-fn missing(alloc: Global, names: &[String], index: usize) -> Result<Text, Failure>
-    requires { index < length names.now }
-    ensures line { IfOk result (λ line. Some line
-        ≡ option_map missing_line (slice_get (map string_bytes names.now) index)) }
-    ensures failed { IfErr result (λ failure. failure ≡ Failure.Memory) }
-{
-    Ok(missing_text(alloc, names[index].as_str())?)
-}
-
-fn missing_text(alloc: Global, name: &str) -> Result<Text, AllocError>
-    ensures { IfOk result (λ line. line ≡ missing_line name.now) }
-{
-    let line = format!(in alloc; "mvt: layer not found: {name}\n")?;
-    Ok(Text::new(line))
 }

@@ -9,10 +9,11 @@ ghost use Rattle.mvt_cli.specs.Refused.{IsUsage};
 ghost use Rattle.mvt_cli.specs.Output.{Answers, Gives, IsFlushed, IsWhole, is_made_whole};
 
 use crate::checking::check;
+use crate::extraction::extract_layers;
 use crate::failure::Failure;
 use crate::listing::list_fields;
 use crate::reply::{deliver, tell};
-use crate::rewriting::{extract_layers, rewrite};
+use crate::rewriting::rewrite;
 use crate::showing::show;
 use crate::words::{Refusal, Task, read_words};
 use mvt_base::{LIMIT, Text};

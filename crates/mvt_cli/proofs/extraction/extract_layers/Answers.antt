@@ -2,7 +2,7 @@ use Rattle.std.proofs.Common.{◌≡◌, refl}
 use Rattle.std.specs.Io.KnownBytes.{Appends}
 use Rattle.mvt_io.specs.Counts.{counted}
 use Rattle.mvt_cli.proofs.Replies.{extract_refused}
-use Rattle.mvt_cli.proofs.rewriting.extract_layers.Goals as goal
+use Rattle.mvt_cli.proofs.extraction.extract_layers.Goals as goal
 
 pub returns-in_ok-refusal-in-Err-clause-output : goal.returns-in_ok-refusal-in-Err-clause-output
 returns-in_ok-refusal-in-Err-clause-output g c =

@@ -10,7 +10,7 @@ use Rattle.mvt_cli.specs.declared.reply.Reply.{Reply}
 use Rattle.mvt_cli.specs.Output.{PutsOut}
 use Rattle.mvt_cli.proofs.Picks.{picked_valid, missing_at}
 use Rattle.mvt_cli.proofs.Replies.{picked_reply, missing_reply, refused_put}
-use Rattle.mvt_cli.proofs.rewriting.put_layers.Goals as goal
+use Rattle.mvt_cli.proofs.extraction.put_layers.Goals as goal
 
 pub put_tile-requires : goal.put_tile-requires
 put_tile-requires g c =
