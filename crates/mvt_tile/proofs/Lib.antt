@@ -12,4 +12,5 @@ pub mod TakingLemmas
 pub mod WritingLemmas
 pub mod RoundTripLemmas
 pub mod ExtractionLemmas
+pub mod PickLemmas
 pub mod NoteLemmas

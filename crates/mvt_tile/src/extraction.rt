@@ -15,7 +15,7 @@ use mvt_message::{Item, is_valid_item};
 use std::alloc::{AllocError, Global};
 
 /// The layers of version 2 that are named, in the order of the tile. Foreign items are left out, and
-/// a name that stands twice counts once.
+/// a name that stands twice counts once. Of a valid tile that is a valid tile.
 ///
 /// # Errors
 ///
@@ -23,6 +23,7 @@ use std::alloc::{AllocError, Global};
 /// memory.
 pub fn extract(alloc: Global, tile: &Tile, names: &[String]) -> Result<Tile, ExtractError>
     ensures pick { IfOk result (λ picked. picked ≡ pick tile.now (map string_bytes names.now)) }
+    ensures valid { Valid tile.now → IfOk result Valid }
     ensures there { OnOk result (first_missing tile.now (map string_bytes names.now) ≡ None) }
     ensures missing { IfErr result (λ error. TellsMissing error (first_missing tile.now (map string_bytes names.now))) }
 {

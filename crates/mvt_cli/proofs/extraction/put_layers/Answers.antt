@@ -5,16 +5,11 @@ use Rattle.std.specs.Io.KnownBytes.{Appends}
 use Rattle.mvt_base.specs.declared.TheConstants.{LIMIT}
 use Rattle.mvt_io.specs.Counts.{counted}
 use Rattle.mvt_tile.specs.Extraction.{first_missing, TellsMissing}
-use Rattle.mvt_tile.specs.ValidTiles.{Valid}
 use Rattle.mvt_cli.specs.declared.reply.Reply.{Reply}
 use Rattle.mvt_cli.specs.Output.{PutsOut}
-use Rattle.mvt_cli.proofs.Picks.{picked_valid, missing_at}
+use Rattle.mvt_cli.proofs.Picks.{missing_at}
 use Rattle.mvt_cli.proofs.Replies.{picked_reply, missing_reply, refused_put}
 use Rattle.mvt_cli.proofs.extraction.put_layers.Goals as goal
-
-pub put_tile-requires : goal.put_tile-requires
-put_tile-requires g c =
-    subst Valid (sym c.in-Ok.ensures.pick) (picked_valid c.args.tile.now (map string_bytes c.args.names.now) c.requires)
 
 pub missing-requires : goal.missing-requires
 missing-requires g c =
