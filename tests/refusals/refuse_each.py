@@ -1,14 +1,14 @@
 #!/usr/bin/env python3
 """Runs each test whose name has a given word once for each of its allocations, that one refused.
 
-    refuse_each.py SHIM WORD [--seen NAME TEXT] TESTS..
+    refuse_each.py SHIM WORD [--seen TEST TEXT] TESTS..
 
 SHIM is the library built of refuse.c, WORD a part of the names of the tests, and TESTS are the
 executables of tests that `rt ci` leaves (crates/NAME/out/NAME_tests). A test passes here if it
 passes under every refusal, and one that asks for no memory if it passes; a line tells how many runs
-there were. The test named NAME (without its modules) has to print TEXT in one of its runs too. The last
-line is 'N passed, M failed', and the exit status is 1 where a test failed, where no test has the word or
-the name, or where the shim told nothing.
+there were. TEST, an executable's name and a test's, as 'NAME_tests tests::reads', has to print TEXT in one
+of its runs too. The last line is 'N passed, M failed', and the exit status is 1 where a test failed, where
+no test has the word or is TEST, or where the shim told nothing.
 """
 
 import os
@@ -76,7 +76,7 @@ def main():
     passed = failed = 0
     for executable in executables:
         for name in names_in(executable, word):
-            text = seen.pop(name.rsplit("::", 1)[-1], "")
+            text = seen.pop("%s %s" % (os.path.basename(executable), name), "")
             why, runs = sweep(executable, name, os.path.abspath(shim), text)
             if why is None:
                 passed += 1
