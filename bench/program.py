@@ -5,10 +5,11 @@
     bench/program.py [crates/mvt_cli/out/mvt_cli]
 
 Wants the program as `rt ci` or `rt run` leaves it, and Debian's protobuf-compiler and gdal-bin. Prints
-a table: the best wall time of the runs and the peak memory of that program alone. Input comes from a
-file, output goes to /dev/null.
+a table: the best wall time of the runs and the peak memory of that program alone (15 MB at least, which
+are this script's). Input comes from a file, output goes to /dev/null.
 """
 
+import multiprocessing
 import os
 import random
 import struct
@@ -103,7 +104,15 @@ def run(words, path):
         program = subprocess.Popen(words, stdin=file, stdout=sink)
         _, status, usage = os.wait4(program.pid, 0)
         seconds = time.perf_counter() - started
-    return seconds, usage.ru_maxrss / 1000, status
+    return seconds, usage.ru_maxrss / 1000, os.waitstatus_to_exitcode(status)
+
+
+def make(path, layers, size):
+    """Writes a tile of so many layers of about so many bytes."""
+    dice = random.Random(1)
+    with open(path, "wb") as file:
+        for index in range(layers):
+            file.write(layer(dice, b"layer %d" % index, size))
 
 
 def main():
@@ -111,11 +120,11 @@ def main():
     print("| Tile | Program | Seconds | Peak, MB |")
     print("|---|---|---|---|")
     for label, layers, size in [("500 kB", 4, 93_000), ("60 MiB", 12, 5_100_000)]:
-        dice = random.Random(1)
         with tempfile.NamedTemporaryFile(suffix=".mvt") as file:
-            for index in range(layers):
-                file.write(layer(dice, b"layer %d" % index, size))
-            file.flush()
+            # A process begins with the peak memory of the one that starts it, so another makes the tile.
+            maker = multiprocessing.Process(target=make, args=(file.name, layers, size))
+            maker.start()
+            maker.join()
             runs = [("`mvt %s`" % word, [program, word]) for word in ("check", "show", "rewrite")]
             runs += [("`protoc --decode`", PROTO),
                      ("`ogrinfo -al -so`", ["ogrinfo", "-al", "-so", "MVT:" + file.name]),
