@@ -11,3 +11,5 @@ pub use text::Text;
 
 /// The most bytes that an input, canonical bytes or a list of pool entries may have: 2^26.
 pub const LIMIT: u64 = 67_108_864;
+
+const _: () = prove!(LIMIT == 1 << 26);
