@@ -72,6 +72,9 @@ pub(super) const SAME_ID: &[u8] = b"\x1A\x1E\x78\x02\x0A\x01\x61\
 // A layer of version 1, and the same with a longer spelling of its length.
 pub(super) const FOREIGN: &[u8] = b"\x1A\x05\x78\x01\x0A\x01\x61";
 
+// A layer whose last version is 1.
+pub(super) const NUMBERED_ONE: &[u8] = b"\x1A\x0A\x78\x02\x78\x01\x0A\x01\x61\x28\x80\x20";
+
 pub(super) const LONG_FOREIGN: &[u8] = b"\x1A\x85\x00\x78\x01\x0A\x01\x61";
 
 // Layer `a` without features; and inputs that are the same tile.
