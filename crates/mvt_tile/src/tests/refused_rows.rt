@@ -71,11 +71,7 @@ fn refused_tiles(rt: HostRuntime) {
 }
 
 // The input in pieces of this size. A want of memory stays.
-fn fed_in(
-    rt: &(impl Abort + AllocGlobal),
-    input: &[u8],
-    size: usize,
-) -> Result<Tile, DecodeError> {
+fn fed_in(rt: &(impl Abort + AllocGlobal), input: &[u8], size: usize) -> Result<Tile, DecodeError> {
     let mut decoder = TileDecoder::new(rt.alloc());
     for piece in input.chunks(size.max(1)) {
         if let Err(error) = decoder.feed(piece) {
