@@ -18,8 +18,14 @@ fn refuses_all(rt: &(impl Abort + AllocGlobal), rows: &[Row]) -> Result<(), Allo
 
 #[test]
 fn refuses_spellings(rt: HostRuntime) -> Result<(), Fail> {
-    let rows: [Row; 13] = [
+    let rows: [Row; 16] = [
         ("1A", "layer - feature - at 0: 1 Truncated\n"),
+        ("2005 1A", "layer - feature - at 2: 1 Truncated\n"),
+        (
+            "0A 808080808080808080 01",
+            "layer - feature - at 0: 1 Truncated\n",
+        ),
+        ("1A03 0A0161 2005", "layer 0 feature - at 0: 8 NoVersion\n"),
         ("1A05 7802 0A0261", "layer 0 feature - at 4: 1 Truncated\n"),
         (
             "1A0A 7802 0A0161 12032201 80",

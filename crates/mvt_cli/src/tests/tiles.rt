@@ -82,6 +82,29 @@ fn accepts_points(rt: HostRuntime) -> Result<(), Fail> {
     Ok(accepts(&rt, &rows)?)
 }
 
+// Fields that aren't layers, and two layers.
+#[test]
+fn accepts_fields_and_layers(rt: HostRuntime) -> Result<(), Fail> {
+    let both = "1A1178020A0161120718012203093222288020 1A1178020A0162120718012203093222288020";
+    let both_shown =
+        "{\"layers\":[{\"extent\":4096,\"features\":[{\"attributes\":[],\"geometry\":{\"points\":[[25,17]]},\"id\":null}],\"name\":\"a\"},{\"extent\":4096,\"features\":[{\"attributes\":[],\"geometry\":{\"points\":[[25,17]]},\"id\":null}],\"name\":\"b\"}]}\n";
+    let rows: [Row; 2] = [
+        (
+            "0D01000000 090200000000000000",
+            "ok layers 0 features 0 canonical no\nnote NoLayers\n",
+            "{\"layers\":[]}\n",
+            "",
+        ),
+        (
+            both,
+            "ok layers 2 features 2 canonical yes\n",
+            both_shown,
+            both,
+        ),
+    ];
+    Ok(accepts(&rt, &rows)?)
+}
+
 #[test]
 fn accepts_geometry_and_values(rt: HostRuntime) -> Result<(), Fail> {
     let rings =
