@@ -4,4 +4,5 @@ pub mod Pools
 pub mod Tags
 pub mod TagRules
 pub mod TagPlaces
+pub mod Texts
 pub mod Inner

@@ -49,6 +49,11 @@ impl From<PoolError> for PutError {
 }
 
 impl fmt::Display for PutError {
+    ghost use Rattle.std.specs.Prelude.{Some};
+    ghost use Rattle.mvt_message.specs.PutErrors.{put_error_text};
+
+    ghost output = { λ error. Some (put_error_text error) };
+
     fn fmt<W: fmt::Write>(&self, f: &mut fmt::Formatter<W>) -> fmt::Result {
         f.write_str(match self {
             PutError::Memory => "out of memory",
