@@ -1,6 +1,7 @@
 pub mod FirstUse
 pub mod Values
 pub mod Pools
+pub mod Placed
 pub mod Tags
 pub mod TagRules
 pub mod TagPlaces

@@ -138,6 +138,7 @@ fn put_layer(alloc: Global, layer: &Layer) -> Result<Vec<u8>, PutError>
 fn foreign_len(bytes: &[u8]) -> Result<u64, PutError>
     ensures len { IfOk result (λ n. (n ≡ length bytes.now) × (n ≤ LIMIT)) }
     ensures too_large { IsErrOf result PutError.TooLarge → LIMIT < length bytes.now }
+    ensures memory { ¬ (IsErrOf result PutError.Memory) }
 {
     let len = bytes.len() as u64;
     if len > LIMIT {
