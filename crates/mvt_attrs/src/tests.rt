@@ -137,17 +137,42 @@ fn places_many_texts(rt: HostRuntime) -> Result<(), Fail> {
 // two turns, of which one at most may want memory.
 
 #[test]
-fn refused_places(rt: HostRuntime) {
+fn refused_keys(rt: HostRuntime) {
     let mut refused = 0u8;
     for _turn in 0..2 {
         let mut keys = KeyPool::new(rt.alloc());
-        if let Err(error) = keys.place("k") {
-            assert_eq!(rt; error, PoolError::Memory);
-            assert!(rt; keys.is_empty());
-            refused = refused.saturating_add(1);
-        } else {
-            assert_eq!(rt; keys.get(0), Some("k"));
+        for (key, place, before) in [("k", 0, 0), ("m", 1, 1)] {
+            while keys.place(key) != Ok(place) && refused < 2 {
+                assert_eq!(rt; keys.len(), before);
+                refused = refused.saturating_add(1);
+            }
         }
+        // A key that is there takes no memory.
+        assert_eq!(rt; keys.place("k"), Ok(0));
+        assert_eq!(rt; keys.get(1), Some("m"));
+    }
+    assert!(rt; refused < 2);
+}
+
+#[test]
+fn refused_values(rt: HostRuntime) {
+    let mut refused = 0u8;
+    for _turn in 0..2 {
+        let Ok(text) = Text::from_str(rt.alloc(), "k") else {
+            refused = refused.saturating_add(1);
+            continue;
+        };
+        let entries = [Value::Int(5), Value::Text(text)];
+        let mut values = ValuePool::new(rt.alloc());
+        for (place, value) in entries.iter().enumerate() {
+            while values.place(value) != Ok(place as u32) && refused < 2 {
+                assert_eq!(rt; values.len(), place);
+                refused = refused.saturating_add(1);
+            }
+        }
+        // A value that is there takes no memory.
+        assert_eq!(rt; values.place(&entries[0]), Ok(0));
+        assert!(rt; values.get(1) == Some(&entries[1]));
     }
     assert!(rt; refused < 2);
 }
@@ -177,19 +202,47 @@ fn refused_tags(rt: HostRuntime) {
 
 #[test]
 fn refused_attributes(rt: HostRuntime) {
+    let rows: [(&[u32], Option<TagError>); 5] = [
+        (&[0, 0, 0], fault(3, TagCause::OddTags)),
+        (&[1, 0], fault(0, TagCause::KeyIndex)),
+        (&[0, 1], fault(1, TagCause::ValueIndex)),
+        (&[0, 0], None),
+        (&[], None),
+    ];
+    let mut refused = 0u8;
+    for (tags, answer) in rows {
+        for _turn in 0..2 {
+            let Ok(key) = Text::from_str(rt.alloc(), "k") else {
+                refused = refused.saturating_add(1);
+                continue;
+            };
+            let (keys, values) = ([key], [Value::Uint(5)]);
+            match resolve(rt.alloc(), &keys, &values, tags) {
+                Ok(found) => {
+                    assert!(rt; answer.is_none() && found.len() == tags.len() / 2);
+                    assert!(rt; found.iter().all(|a| a.key == keys[0] && a.value == values[0]));
+                }
+                Err(TagError::Memory) => refused = refused.saturating_add(1),
+                error => assert!(rt; error.err() == answer),
+            }
+        }
+    }
+    assert!(rt; refused < 2);
+}
+
+#[test]
+fn refused_repeated_keys(rt: HostRuntime) {
     let mut refused = 0u8;
     for _turn in 0..2 {
-        let Ok(key) = Text::from_str(rt.alloc(), "k") else {
+        let first = Text::from_str(rt.alloc(), "k");
+        let (Ok(first), Ok(second)) = (first, Text::from_str(rt.alloc(), "k")) else {
             refused = refused.saturating_add(1);
             continue;
         };
-        let (keys, values) = ([key], [Value::Uint(5)]);
-        match resolve(rt.alloc(), &keys, &values, &[0, 0]) {
-            Ok(found) => assert!(rt; found.iter().any(|a| a.key == keys[0])),
-            Err(error) => {
-                assert_eq!(rt; error, TagError::Memory);
-                refused = refused.saturating_add(1);
-            }
+        let (keys, values) = ([first, second], [Value::Uint(5)]);
+        match resolve(rt.alloc(), &keys, &values, &[0, 0, 1, 0]).err() {
+            Some(TagError::Memory) => refused = refused.saturating_add(1),
+            error => assert_eq!(rt; error, fault(2, TagCause::RepeatedKey)),
         }
     }
     assert!(rt; refused < 2);

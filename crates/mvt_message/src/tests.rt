@@ -77,6 +77,14 @@ fn item_of(alloc: Global, payload: &[u8]) -> Result<Item, Fail> {
     }
 }
 
+// The same, where it may want memory.
+fn read_short(alloc: Global, payload: &[u8]) -> Result<Item, MessageError> {
+    if payload.len() > 100 {
+        return Err(MessageError::Memory);
+    }
+    read_item(alloc, payload, 2, 0)
+}
+
 // What such a payload is refused for.
 fn refused_for(
     alloc: Global,
@@ -413,15 +421,44 @@ fn refused_writes(rt: HostRuntime) {
 fn refused_payloads(rt: HostRuntime) {
     let alloc = rt.alloc();
     let mut refused = 0u8;
+    for (payload, written) in [(&ONE_POINT[..], &ONE_POINT[..]), (&TWICE_A_KEY, &ONCE_A_KEY)] {
+        for _turn in 0..2 {
+            let Ok(item) = read_short(alloc, payload) else {
+                refused = refused.saturating_add(1);
+                continue;
+            };
+            if is_valid_item(&item) {
+                match put_item(alloc, &item) {
+                    Ok(bytes) => assert_eq!(rt; bytes.as_slice(), written),
+                    Err(error) => {
+                        assert_eq!(rt; error, PutError::Memory);
+                        refused = refused.saturating_add(1);
+                    }
+                }
+            }
+        }
+    }
+    assert!(rt; refused < 2);
+}
+
+#[test]
+fn refused_foreign_items(rt: HostRuntime) {
+    let alloc = rt.alloc();
+    let mut refused = 0u8;
     for _turn in 0..2 {
-        let Ok(layer) = layer_with(alloc, &["k"]) else {
+        let Ok(item) = foreign(alloc, 1, &FOREIGN) else {
             refused = refused.saturating_add(1);
             continue;
         };
-        let item = Item::Layer(layer);
+        match item.copy(alloc) {
+            Ok(copy) => assert!(rt; copy == item),
+            Err(AllocError) => refused = refused.saturating_add(1),
+        }
         if is_valid_item(&item) {
+            // A length takes no memory.
+            assert_eq!(rt; item_len(alloc, &item), Ok(5));
             match put_item(alloc, &item) {
-                Ok(bytes) => assert_eq!(rt; bytes.len(), 28),
+                Ok(bytes) => assert_eq!(rt; bytes.as_slice(), FOREIGN.as_slice()),
                 Err(error) => {
                     assert_eq!(rt; error, PutError::Memory);
                     refused = refused.saturating_add(1);
@@ -430,4 +467,31 @@ fn refused_payloads(rt: HostRuntime) {
         }
     }
     assert!(rt; refused < 2);
+}
+
+// A name of 67,108,852 bytes leaves just room for the layer without its tag and length.
+#[test]
+fn writes_a_large_layer(rt: HostRuntime) -> Result<(), Fail> {
+    let alloc = rt.alloc();
+    let mut name = String::with_capacity(alloc, 67_108_852)?;
+    for _byte in 0..67_108_852u32 {
+        name.push('a')?;
+    }
+    let item = Item::Layer(Layer {
+        name: Text::new(name),
+        extent: 4096,
+        features: Items::new(Vec::new(alloc)),
+    });
+    assert!(rt; is_valid_item(&item));
+    if !is_valid_item(&item) {
+        return Err(Fail::new("an invalid item"));
+    }
+    assert_eq!(rt; item_len(alloc, &item), Ok(67_108_862));
+    let Ok(bytes) = put_item(alloc, &item) else {
+        return Err(Fail::new("no bytes"));
+    };
+    assert_eq!(rt; bytes.len(), 67_108_862);
+    assert_eq!(rt; bytes.first(), Some(&0x78));
+    assert_eq!(rt; bytes.last(), Some(&0x20));
+    Ok(())
 }
