@@ -4,6 +4,9 @@ use mvt_base::Text;
 use std::alloc::{AllocError, Global};
 use std::test::Fail;
 
+// A text that isn't kept in place, so that it wants memory.
+const LONG: &str = "a key that is long";
+
 fn attribute(alloc: Global, key: &str, value: Value) -> Result<Attribute, AllocError> {
     let key = Text::from_str(alloc, key)?;
     Ok(Attribute { key, value })
@@ -57,7 +60,7 @@ fn resolves_many_tags(rt: HostRuntime) -> Result<(), Fail> {
     let mut tags = Vec::new(alloc);
     for index in 0..20u32 {
         let number = index % 19;
-        keys.push(Text::new(format!(in alloc; "{number}")?))?;
+        keys.push(Text::from_string(format!(in alloc; "{number}")?)?)?;
         tags.extend_from_slice(&[index, 0])?;
     }
     let values = [Value::Bool(true)];
@@ -76,7 +79,8 @@ fn places_keys(rt: HostRuntime) -> Result<(), Fail> {
     let mut keys = KeyPool::new(rt.alloc());
     assert!(rt; keys.is_empty());
     for (key, place) in [("k", 0), ("m", 1), ("k", 0)] {
-        assert_eq!(rt; keys.place(key), Ok(place));
+        let key = Text::from_str(rt.alloc(), key)?;
+        assert_eq!(rt; keys.place(&key), Ok(place));
     }
     assert_eq!(rt; keys.len(), 2);
     assert_eq!(rt; keys.get(1), Some("m"));
@@ -125,7 +129,7 @@ fn places_many_texts(rt: HostRuntime) -> Result<(), Fail> {
     let mut keys = KeyPool::new(rt.alloc());
     for _turn in 0..2 {
         for number in 0..10_000u32 {
-            let key = format!(in rt.alloc(); "{number}")?;
+            let key = Text::from_string(format!(in rt.alloc(); "{number}")?)?;
             assert_eq!(rt; keys.place(&key), Ok(number));
         }
     }
@@ -140,13 +144,17 @@ fn places_many_texts(rt: HostRuntime) -> Result<(), Fail> {
 fn refused_places(rt: HostRuntime) {
     let mut refused = 0u8;
     for _turn in 0..2 {
+        let Ok(key) = Text::from_str(rt.alloc(), LONG) else {
+            refused = refused.saturating_add(1);
+            continue;
+        };
         let mut keys = KeyPool::new(rt.alloc());
-        if let Err(error) = keys.place("k") {
+        if let Err(error) = keys.place(&key) {
             assert_eq!(rt; error, PoolError::Memory);
             assert!(rt; keys.is_empty());
             refused = refused.saturating_add(1);
         } else {
-            assert_eq!(rt; keys.get(0), Some("k"));
+            assert_eq!(rt; keys.get(0), Some(LONG));
         }
     }
     assert!(rt; refused < 2);
@@ -156,7 +164,7 @@ fn refused_places(rt: HostRuntime) {
 fn refused_tags(rt: HostRuntime) {
     let mut refused = 0u8;
     for _turn in 0..2 {
-        let Ok(used) = attribute(rt.alloc(), "k", Value::Uint(5)) else {
+        let Ok(used) = attribute(rt.alloc(), LONG, Value::Uint(5)) else {
             refused = refused.saturating_add(1);
             continue;
         };
@@ -166,7 +174,7 @@ fn refused_tags(rt: HostRuntime) {
             Ok(tags) => assert_eq!(rt; tags.as_slice(), [0, 0].as_slice()),
             Err(error) => {
                 assert_eq!(rt; error, PoolError::Memory);
-                assert!(rt; keys.is_empty() || keys.get(0) == Some("k"));
+                assert!(rt; keys.is_empty() || keys.get(0) == Some(LONG));
                 assert!(rt; values.is_empty() || values.get(0) == Some(&Value::Uint(5)));
                 refused = refused.saturating_add(1);
             }
@@ -179,7 +187,7 @@ fn refused_tags(rt: HostRuntime) {
 fn refused_attributes(rt: HostRuntime) {
     let mut refused = 0u8;
     for _turn in 0..2 {
-        let Ok(key) = Text::from_str(rt.alloc(), "k") else {
+        let Ok(key) = Text::from_str(rt.alloc(), LONG) else {
             refused = refused.saturating_add(1);
             continue;
         };
@@ -199,7 +207,7 @@ fn refused_attributes(rt: HostRuntime) {
 fn refused_copies(rt: HostRuntime) {
     let mut refused = 0u8;
     for _turn in 0..2 {
-        let Ok(key) = Text::from_str(rt.alloc(), "k") else {
+        let Ok(key) = Text::from_str(rt.alloc(), LONG) else {
             refused = refused.saturating_add(1);
             continue;
         };

@@ -37,7 +37,7 @@ returns-in_err-key-clause-values_left c =
 pub returns-in_err-value-clause-keys_left : goal.returns-in_err-value-clause-keys_left
 returns-in_err-value-clause-keys_left c =
     keys_left_at c.from_residual-in_err-value.result c.args.keys.now c.loop-attribute.keys _ c.args.attributes.now c.loop-attribute.attribute-index c.attribute-item.result _
-    c.loop-attribute.invariant.keys c.loop-attribute-test.true c.attribute-item.is c.as_str.ensures.text (record { kept = c.in_ok-key.ensures.kept; added = c.in_ok-key.ensures.added })
+    c.loop-attribute.invariant.keys c.loop-attribute-test.true c.attribute-item.is refl (record { kept = c.in_ok-key.ensures.kept; added = c.in_ok-key.ensures.added })
 
 pub returns-in_err-value-clause-values_left : goal.returns-in_err-value-clause-values_left
 returns-in_err-value-clause-values_left c =
@@ -46,7 +46,7 @@ returns-in_err-value-clause-values_left c =
 pub returns-in_err-extend_from_slice-clause-keys_left : goal.returns-in_err-extend_from_slice-clause-keys_left
 returns-in_err-extend_from_slice-clause-keys_left c =
     keys_left_at c.from_residual-in_err-extend_from_slice.result c.args.keys.now c.loop-attribute.keys _ c.args.attributes.now c.loop-attribute.attribute-index c.attribute-item.result _
-    c.loop-attribute.invariant.keys c.loop-attribute-test.true c.attribute-item.is c.as_str.ensures.text (record { kept = c.in_ok-key.ensures.kept; added = c.in_ok-key.ensures.added })
+    c.loop-attribute.invariant.keys c.loop-attribute-test.true c.attribute-item.is refl (record { kept = c.in_ok-key.ensures.kept; added = c.in_ok-key.ensures.added })
 
 pub returns-in_err-extend_from_slice-clause-values_left : goal.returns-in_err-extend_from_slice-clause-values_left
 returns-in_err-extend_from_slice-clause-values_left c =
@@ -58,9 +58,9 @@ loop-attribute-preserved c =
     let attributes = c.args.attributes.now in
     let i = c.loop-attribute.attribute-index in
     let a = c.attribute-item.result in
-    let key : IsPlaced c.loop-attribute.keys c.place.new.self c.as_str.result.now = record { kept = c.in_ok-key.ensures.kept; added = c.in_ok-key.ensures.added } in
+    let key : IsPlaced c.loop-attribute.keys c.place.new.self a.key = record { kept = c.in_ok-key.ensures.kept; added = c.in_ok-key.ensures.added } in
     let value : IsPlaced c.loop-attribute.values c.place-in-loop-attribute.new.self a.value = record { kept = c.in_ok-value.ensures.kept; added = c.in_ok-value.ensures.added } in
-    let of_key : slice_get c.place.new.self c.in_ok-key.key ≡ Some a.key = c.in_ok-key.ensures.index ∙ ap Some c.as_str.ensures.text in
+    let of_key : slice_get c.place.new.self c.in_ok-key.key ≡ Some a.key = c.in_ok-key.ensures.index in
     record {
       so_far = c.loop-attribute.invariant.so_far ++ c.in_ok-key.key ∷ (c.in_ok-value.value ∷ []);
       tags = c.in_ok-extend_from_slice.ensures.items ∙ ap (λ ts. ts ++ c.in_ok-key.key ∷ (c.in_ok-value.value ∷ [])) c.loop-attribute.invariant.tags ∙ append_assoc c.args.tags.now.items c.loop-attribute.invariant.so_far (c.in_ok-key.key ∷ (c.in_ok-value.value ∷ []));
@@ -68,7 +68,7 @@ loop-attribute-preserved c =
           c.loop-attribute.invariant.names c.loop-attribute-test.true c.attribute-item.is
           (pool_longer bytes_eq bytes_eq-Decides (λ (b : Attribute). b.key) _ _ _ key) (pool_longer equal_values equal_values-Decides (λ (b : Attribute). b.value) _ _ _ value)
           of_key c.in_ok-value.ensures.index;
-      keys = pool_more bytes_eq bytes_eq-Decides (λ (b : Attribute). b.key) c.args.keys.now c.loop-attribute.keys _ attributes i a _ c.loop-attribute.invariant.keys c.loop-attribute-test.true c.attribute-item.is c.as_str.ensures.text key;
+      keys = pool_more bytes_eq bytes_eq-Decides (λ (b : Attribute). b.key) c.args.keys.now c.loop-attribute.keys _ attributes i a _ c.loop-attribute.invariant.keys c.loop-attribute-test.true c.attribute-item.is refl key;
       values = pool_more equal_values equal_values-Decides (λ (b : Attribute). b.value) c.args.values.now c.loop-attribute.values _ attributes i a _ c.loop-attribute.invariant.values c.loop-attribute-test.true c.attribute-item.is refl value;
     }
 
