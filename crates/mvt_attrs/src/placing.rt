@@ -74,7 +74,7 @@ pub fn append_tags(
 {
     let _ = (keys.len(), values.len());
     for attribute in attributes {
-        let key = keys.place(attribute.key.as_str())?;
+        let key = keys.place(&attribute.key)?;
         let value = values.place(&attribute.value)?;
         tags.extend_from_slice(&[key, value])?;
     }

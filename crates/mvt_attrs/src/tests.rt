@@ -4,6 +4,9 @@ use mvt_base::Text;
 use std::alloc::{AllocError, Global};
 use std::test::Fail;
 
+// A text that isn't kept in place, so that it wants memory.
+const LONG: &str = "a key that is long";
+
 fn attribute(alloc: Global, key: &str, value: Value) -> Result<Attribute, AllocError> {
     let key = Text::from_str(alloc, key)?;
     Ok(Attribute { key, value })
@@ -57,7 +60,7 @@ fn resolves_many_tags(rt: HostRuntime) -> Result<(), Fail> {
     let mut tags = Vec::new(alloc);
     for index in 0..20u32 {
         let number = index % 19;
-        keys.push(Text::new(format!(in alloc; "{number}")?))?;
+        keys.push(Text::from_string(format!(in alloc; "{number}")?)?)?;
         tags.extend_from_slice(&[index, 0])?;
     }
     let values = [Value::Bool(true)];
@@ -76,7 +79,8 @@ fn places_keys(rt: HostRuntime) -> Result<(), Fail> {
     let mut keys = KeyPool::new(rt.alloc());
     assert!(rt; keys.is_empty());
     for (key, place) in [("k", 0), ("m", 1), ("k", 0)] {
-        assert_eq!(rt; keys.place(key), Ok(place));
+        let key = Text::from_str(rt.alloc(), key)?;
+        assert_eq!(rt; keys.place(&key), Ok(place));
     }
     assert_eq!(rt; keys.len(), 2);
     assert_eq!(rt; keys.get(1), Some("m"));
@@ -97,7 +101,7 @@ fn places_values(rt: HostRuntime) {
 
 #[test]
 fn copies_values(rt: HostRuntime) -> Result<(), Fail> {
-    let text = Value::Text(Text::from_str(rt.alloc(), "k")?);
+    let text = Value::Text(Text::from_str(rt.alloc(), LONG)?);
     assert!(rt; text.copy(rt.alloc())? == text);
     Ok(())
 }
@@ -125,7 +129,7 @@ fn places_many_texts(rt: HostRuntime) -> Result<(), Fail> {
     let mut keys = KeyPool::new(rt.alloc());
     for _turn in 0..2 {
         for number in 0..10_000u32 {
-            let key = format!(in rt.alloc(); "{number}")?;
+            let key = Text::from_string(format!(in rt.alloc(); "{number}")?)?;
             assert_eq!(rt; keys.place(&key), Ok(number));
         }
     }
@@ -140,15 +144,20 @@ fn places_many_texts(rt: HostRuntime) -> Result<(), Fail> {
 fn refused_keys(rt: HostRuntime) {
     let mut refused = 0u8;
     for _turn in 0..2 {
+        let first = Text::from_str(rt.alloc(), LONG);
+        let (Ok(first), Ok(second)) = (first, Text::from_str(rt.alloc(), "m")) else {
+            refused = refused.saturating_add(1);
+            continue;
+        };
         let mut keys = KeyPool::new(rt.alloc());
-        for (key, place, before) in [("k", 0, 0), ("m", 1, 1)] {
+        for (key, place, before) in [(&first, 0, 0), (&second, 1, 1)] {
             while keys.place(key) != Ok(place) && refused < 2 {
                 assert_eq!(rt; keys.len(), before);
                 refused = refused.saturating_add(1);
             }
         }
         // A key that is there takes no memory.
-        assert_eq!(rt; keys.place("k"), Ok(0));
+        assert_eq!(rt; keys.place(&first), Ok(0));
         assert_eq!(rt; keys.get(1), Some("m"));
     }
     assert!(rt; refused < 2);
@@ -158,7 +167,7 @@ fn refused_keys(rt: HostRuntime) {
 fn refused_values(rt: HostRuntime) {
     let mut refused = 0u8;
     for _turn in 0..2 {
-        let Ok(text) = Text::from_str(rt.alloc(), "k") else {
+        let Ok(text) = Text::from_str(rt.alloc(), LONG) else {
             refused = refused.saturating_add(1);
             continue;
         };
@@ -181,7 +190,7 @@ fn refused_values(rt: HostRuntime) {
 fn refused_tags(rt: HostRuntime) {
     let mut refused = 0u8;
     for _turn in 0..2 {
-        let Ok(used) = attribute(rt.alloc(), "k", Value::Uint(5)) else {
+        let Ok(used) = attribute(rt.alloc(), LONG, Value::Uint(5)) else {
             refused = refused.saturating_add(1);
             continue;
         };
@@ -191,7 +200,7 @@ fn refused_tags(rt: HostRuntime) {
             Ok(tags) => assert_eq!(rt; tags.as_slice(), [0, 0].as_slice()),
             Err(error) => {
                 assert_eq!(rt; error, PoolError::Memory);
-                assert!(rt; keys.is_empty() || keys.get(0) == Some("k"));
+                assert!(rt; keys.is_empty() || keys.get(0) == Some(LONG));
                 assert!(rt; values.is_empty() || values.get(0) == Some(&Value::Uint(5)));
                 refused = refused.saturating_add(1);
             }
@@ -212,7 +221,7 @@ fn refused_attributes(rt: HostRuntime) {
     let mut refused = 0u8;
     for (tags, answer) in rows {
         for _turn in 0..2 {
-            let Ok(key) = Text::from_str(rt.alloc(), "k") else {
+            let Ok(key) = Text::from_str(rt.alloc(), LONG) else {
                 refused = refused.saturating_add(1);
                 continue;
             };
@@ -234,8 +243,8 @@ fn refused_attributes(rt: HostRuntime) {
 fn refused_repeated_keys(rt: HostRuntime) {
     let mut refused = 0u8;
     for _turn in 0..2 {
-        let first = Text::from_str(rt.alloc(), "k");
-        let (Ok(first), Ok(second)) = (first, Text::from_str(rt.alloc(), "k")) else {
+        let first = Text::from_str(rt.alloc(), LONG);
+        let (Ok(first), Ok(second)) = (first, Text::from_str(rt.alloc(), LONG)) else {
             refused = refused.saturating_add(1);
             continue;
         };
@@ -252,7 +261,7 @@ fn refused_repeated_keys(rt: HostRuntime) {
 fn refused_copies(rt: HostRuntime) {
     let mut refused = 0u8;
     for _turn in 0..2 {
-        let Ok(key) = Text::from_str(rt.alloc(), "k") else {
+        let Ok(key) = Text::from_str(rt.alloc(), LONG) else {
             refused = refused.saturating_add(1);
             continue;
         };

@@ -2,10 +2,12 @@
 //! contents, and the words in which every crate states its rules (`specs/Rules.antt`).
 #![tactic(auto)]
 
+mod inline;
 mod items;
 pub mod laws;
 mod text;
 
+pub use inline::ROOM;
 pub use items::Items;
 pub use text::Text;
 

@@ -54,7 +54,7 @@ fn reported(alloc: Global, tile: &Tile, input: &[u8]) -> Result<Reply, Failure>
     let canonical = is_canonical(alloc, tile, input)?;
     let text = report_text(alloc, tile, canonical)?;
     Ok(Reply {
-        written: Some(Text::new(text)),
+        written: Some(Text::from_string(text)?),
         told: None,
     })
 }

@@ -85,5 +85,5 @@ fn missing_text(alloc: Global, name: &str) -> Result<Text, AllocError>
     ensures { IfOk result (λ line. line ≡ missing_line name.now) }
 {
     let line = format!(in alloc; "mvt: layer not found: {name}\n")?;
-    Ok(Text::new(line))
+    Text::from_string(line)
 }

@@ -40,7 +40,7 @@ fn listed(alloc: Global, input: &[u8]) -> Result<Reply, Failure>
         Some(fault) => Some(fault_told(alloc, &fault)?),
     };
     Ok(Reply {
-        written: Some(Text::new(lines)),
+        written: Some(Text::from_string(lines)?),
         told,
     })
 }

@@ -39,7 +39,7 @@ fn shown(alloc: Global, tile: &Tile) -> Result<Reply, Failure>
     let mut text = json_text(alloc, tile)?;
     text.push_str("\n")?;
     Ok(Reply {
-        written: Some(Text::new(text)),
+        written: Some(Text::from_string(text)?),
         told: None,
     })
 }

@@ -32,6 +32,11 @@ const BARE: [u8; 14] = [
     0x78, 0x02, 0x0A, 0x01, 0x61, 0x12, 0x04, 0x18, 0x00, 0x22, 0x00, 0x28, 0x80, 0x20,
 ];
 
+// A layer with a name, a key and a value that are too long to be kept in place, and a feature of nothing.
+const LONG_TEXTS: &[u8] = b"\x78\x02\x0A\x12a name of 18 bytes\
+    \x12\x08\x12\x02\x00\x00\x18\x00\x22\x00\
+    \x1A\x12a text of 18 bytes\x22\x14\x0A\x12a text of 18 bytes\x28\x80\x20";
+
 const FOREIGN: [u8; 5] = [0x78, 0x01, 0x0A, 0x01, 0x61];
 
 // A feature with the point (25,17), and these keys with the value 5 each.
@@ -377,7 +382,7 @@ fn refuses_features(rt: HostRuntime) -> Result<(), Fail> {
 fn refused_reads(rt: HostRuntime) {
     let alloc = rt.alloc();
     let mut refused = 0u8;
-    for payload in [TWICE_A_KEY.as_slice(), FOREIGN.as_slice()] {
+    for payload in [TWICE_A_KEY.as_slice(), LONG_TEXTS, FOREIGN.as_slice()] {
         for _turn in 0..2 {
             match read_item(alloc, payload, 2, 0) {
                 Ok(item) => assert!(rt; is_valid_item(&item)),
@@ -396,7 +401,7 @@ fn refused_writes(rt: HostRuntime) {
     let alloc = rt.alloc();
     let mut refused = 0u8;
     for _turn in 0..2 {
-        let Ok(item) = read_item(alloc, &TWICE_A_KEY, 2, 0) else {
+        let Ok(item) = read_item(alloc, LONG_TEXTS, 2, 0) else {
             refused = refused.saturating_add(1);
             continue;
         };
@@ -406,7 +411,7 @@ fn refused_writes(rt: HostRuntime) {
         }
         if is_valid_item(&item) {
             match item_len(alloc, &item) {
-                Ok(len) => assert_eq!(rt; len, 41),
+                Ok(len) => assert_eq!(rt; len, 77),
                 Err(error) => {
                     assert_eq!(rt; error, PutError::Memory);
                     refused = refused.saturating_add(1);
@@ -478,7 +483,7 @@ fn writes_a_large_layer(rt: HostRuntime) -> Result<(), Fail> {
         name.push('a')?;
     }
     let item = Item::Layer(Layer {
-        name: Text::new(name),
+        name: Text::from_string(name)?,
         extent: 4096,
         features: Items::new(Vec::new(alloc)),
     });

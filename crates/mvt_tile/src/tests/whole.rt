@@ -157,3 +157,15 @@ fn carries_foreign_items(rt: HostRuntime) -> Result<(), Fail> {
     assert_eq!(rt; tile.items.as_slice().len(), 2);
     expect_tile(&rt, &mixed, &tile, &mixed)
 }
+
+// A tile can be sent to another thread, and be shared by several.
+fn is_shareable<T: Send + Sync>(_: &T) -> bool {
+    true
+}
+
+#[test]
+fn tiles_are_sent(rt: HostRuntime) -> Result<(), Fail> {
+    let tile = decode(rt.alloc(), LONG_TEXTS)?;
+    assert!(rt; is_shareable(&tile));
+    Ok(())
+}
