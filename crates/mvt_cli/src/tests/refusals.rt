@@ -54,6 +54,8 @@ fn made_whole_refused_memory(rt: HostRuntime) {
     );
     let shown = ONE_POINT_SHOWN.as_bytes();
     wants_once(&rt, &["mvt", "show"], ONE_POINT, true, (0, shown));
+    let drawn = ONE_POINT_DRAWN.as_bytes();
+    wants_once(&rt, &["mvt", "draw"], ONE_POINT, true, (0, drawn));
     let report = b"ok layers 1 features 1 canonical yes\n";
     wants_once(&rt, &["mvt", "check"], ONE_POINT, true, (0, report));
 }
