@@ -9,6 +9,7 @@ ghost use Rattle.mvt_cli.specs.Refused.{IsUsage, usage_text};
 ghost use Rattle.mvt_cli.specs.Output.{Answers, Gives, IsFlushed, IsWhole, is_made_whole};
 
 use crate::checking::check;
+use crate::drawing::draw;
 use crate::extraction::extract_layers;
 use crate::failure::Failure;
 use crate::listing::list_fields;
@@ -128,6 +129,7 @@ fn answer<R: Source, W: Sink>(
     match task {
         Task::Fields => deliver(list_fields(alloc, reader)?, writer),
         Task::Show => deliver(show(alloc, reader)?, writer),
+        Task::Draw => deliver(draw(alloc, reader)?, writer),
         Task::Check => deliver(check(alloc, reader)?, writer),
         Task::Rewrite => rewrite(alloc, reader, writer),
         Task::Extract(names) => extract_layers(alloc, &names, reader, writer),

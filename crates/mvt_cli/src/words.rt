@@ -19,6 +19,8 @@ pub enum Task {
     Fields,
     /// The tile as JSON.
     Show,
+    /// The tile as a picture.
+    Draw,
     /// Whether the tile is accepted, and what is noted of it.
     Check,
     /// The tile in canonical form.
@@ -63,6 +65,7 @@ fn mvt_command<'a>(alloc: Global) -> Result<Command<'a>, AllocError>
 {
     let fields = bare_command(alloc, "fields", "Lists the top-level fields of the input");
     let show = bare_command(alloc, "show", "Shows the tile as JSON");
+    let draw = bare_command(alloc, "draw", "Draws the tile as a picture in SVG");
     let check = bare_command(
         alloc,
         "check",
@@ -74,6 +77,7 @@ fn mvt_command<'a>(alloc: Global) -> Result<Command<'a>, AllocError>
         .about("Reads a Mapbox Vector Tile from standard input")
         .subcommand(fields)?
         .subcommand(show)?
+        .subcommand(draw)?
         .subcommand(check)?
         .subcommand(rewrite)?
         .subcommand(extract)
@@ -148,6 +152,7 @@ fn task_named(alloc: Global, name: &str, given: &ArgMatches<'_>) -> Result<Task,
     match name {
         "fields" => Ok(Task::Fields),
         "show" => Ok(Task::Show),
+        "draw" => Ok(Task::Draw),
         "rewrite" => Ok(Task::Rewrite),
         "extract" => Ok(Task::Extract(names_of(alloc, given)?)),
         _ => Ok(Task::Check),

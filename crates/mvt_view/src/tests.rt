@@ -9,6 +9,8 @@ use std::alloc::{AllocError, Global};
 use std::process::Abort;
 use std::test::Fail;
 
+mod svg;
+
 const ONE_POINT: &str =
     r#"{"layers":[{"extent":4096,"features":[{"attributes":[],"geometry":{"points":[[25,17]]},"id":null}],"name":"a"}]}"#;
 

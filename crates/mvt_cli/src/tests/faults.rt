@@ -8,7 +8,7 @@ type Row = (&'static str, &'static str);
 // Each command that reads the tile refuses it; the fields are told up to a broken spelling alone.
 fn refuses_all(rt: &(impl Abort + AllocGlobal), rows: &[Row]) -> Result<(), AllocError> {
     for (input, line) in rows {
-        for command in ["check", "show", "rewrite"] {
+        for command in ["check", "show", "draw", "rewrite"] {
             refuses(rt, &["mvt", command], input, line)?;
         }
         refuses(rt, &["mvt", "extract", "a"], input, line)?;

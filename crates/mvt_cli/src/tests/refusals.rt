@@ -72,6 +72,8 @@ fn made_whole_refused_memory(rt: HostRuntime) {
     wants_once(&rt, &fields, ONE_POINT, true, (0, point, NOTHING));
     let shown = ONE_POINT_SHOWN.as_bytes();
     wants_once(&rt, &["mvt", "show"], ONE_POINT, true, (0, shown, NOTHING));
+    let drawn = ONE_POINT_DRAWN.as_bytes();
+    wants_once(&rt, &["mvt", "draw"], ONE_POINT, true, (0, drawn, NOTHING));
     let report = b"ok layers 1 features 1 canonical yes\n";
     let lines: [&[&str]; 3] = [&["mvt", "check"], &["mvt"], &[]];
     for words in lines {

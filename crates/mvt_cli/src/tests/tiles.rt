@@ -37,6 +37,18 @@ fn accepts(rt: &(impl Abort + AllocGlobal), rows: &[Row]) -> Result<(), AllocErr
     Ok(())
 }
 
+// The picture of a tile, and of one in which nothing is drawn.
+#[test]
+fn draws_tiles(rt: HostRuntime) -> Result<(), Fail> {
+    answers(&rt, &["mvt", "draw"], ONE_POINT, ONE_POINT_DRAWN.as_bytes())?;
+    let head = ONE_POINT_DRAWN
+        .split_once("<svg color")
+        .map(|(head, _)| head);
+    let nothing = format!(in rt.alloc(); "{}</svg>\n", head.unwrap_or_default())?;
+    answers(&rt, &["mvt", "draw"], FOREIGN, nothing.as_bytes())?;
+    Ok(())
+}
+
 #[test]
 fn accepts_points(rt: HostRuntime) -> Result<(), Fail> {
     let rows: [Row; 6] = [
