@@ -1,0 +1,3 @@
+mod FeatureLemmas
+mod FoldLemmas
+mod NameLemmas

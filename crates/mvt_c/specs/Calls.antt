@@ -1,0 +1,134 @@
+-- What the calls answer.
+use Rattle.std.specs.Prelude.{◌≡◌, ℕ, ◌<◌, List, length, Some, Result, Ok, Err, ⊤}
+use Rattle.mvt_base.specs.declared.TheConstants.{LIMIT}
+use Rattle.mvt_attrs.specs.declared.pool_error.PoolError.{PoolError}
+use Rattle.mvt_attrs.specs.declared.pool_error.PoolError.TheVariants as pools
+use Rattle.mvt_message.specs.declared.put.PutError.{PutError}
+use Rattle.mvt_message.specs.declared.put.PutError.TheVariants as put
+use Rattle.mvt_tile.specs.declared.fault.DecodeError.{DecodeError}
+use Rattle.mvt_tile.specs.declared.fault.DecodeError.TheVariants as decoding
+use Rattle.mvt_tile.specs.declared.extract_error.ExtractError.{ExtractError}
+use Rattle.mvt_tile.specs.declared.extract_error.ExtractError.TheVariants as extracting
+use Rattle.mvt_tile.specs.declared.fault.Fault.{Fault as TileFault}
+use Rattle.mvt_tile.specs.declared.tile.Tile.{Tile}
+use Rattle.mvt_tile.specs.CanonicalTiles.{canonical}
+use Rattle.mvt_tile.specs.Extraction.{pick, first_missing}
+use Rattle.mvt_tile.specs.TileRules.{fault_within}
+use Rattle.mvt_tile.specs.Tiles.{IsTile}
+use Rattle.serde_json.specs.Written.{compact_text}
+use Rattle.mvt_view.specs.JsonForms.{json}
+use Rattle.mvt_c.specs.declared.fault.Fault.{Fault}
+use Rattle.mvt_c.specs.declared.refusal.Refusal.{Refusal}
+use Rattle.mvt_c.specs.declared.refusal.Refusal.TheVariants.{Refused, Memory, TooLarge, NoLayer, BadName, NoTile}
+use Rattle.mvt_c.specs.Faults.{IsFault}
+use Rattle.mvt_c.specs.Tables.{Table, rows_of}
+
+abbrev pub status_of_refusal : Refusal → ℕ
+status_of_refusal (Refused fault) = 1
+status_of_refusal Memory = 2
+status_of_refusal TooLarge = 3
+status_of_refusal NoLayer = 4
+status_of_refusal BadName = 5
+status_of_refusal NoTile = 6
+
+abbrev pub status_of : {A : Type 0} → Result A Refusal → ℕ
+status_of (Ok made) = 0
+status_of (Err refusal) = status_of_refusal refusal
+
+-- a tile that is refused has its fault told; else what C has stays as it was
+abbrev pub TellsFault : Refusal → Fault → Fault → Type 0
+TellsFault (Refused fault) old new = IsFault fault new
+TellsFault Memory old new = new ≡ old
+TellsFault TooLarge old new = new ≡ old
+TellsFault NoLayer old new = new ≡ old
+TellsFault BadName old new = new ≡ old
+TellsFault NoTile old new = new ≡ old
+
+abbrev pub of_decode : DecodeError → Refusal
+of_decode decoding.Memory = Memory
+of_decode (decoding.Fault fault) = Refused fault
+of_decode (decoding.Read kind) = Memory
+
+abbrev pub of_put : PutError → Refusal
+of_put put.Memory = Memory
+of_put put.TooLarge = TooLarge
+
+abbrev pub of_extract : ExtractError → Refusal
+of_extract extracting.Memory = Memory
+of_extract (extracting.MissingLayer index) = NoLayer
+
+abbrev pub of_pool : PoolError → Refusal
+of_pool pools.Memory = Memory
+of_pool pools.Full = TooLarge
+
+-- the bytes are a tile, and these are its canonical bytes
+abbrev pub IsRewritten : List ℕ → List ℕ → Type 0
+IsRewritten input made = (tile : Tile) × IsTile LIMIT input tile × (made ≡ canonical tile)
+
+-- the bytes are a tile whose canonical bytes are more than the limit
+abbrev pub IsTooLarge : List ℕ → Type 0
+IsTooLarge input = (tile : Tile) × IsTile LIMIT input tile × (LIMIT < length (canonical tile))
+
+-- the first broken rule of the bytes, as C sees it
+abbrev pub IsTold : List ℕ → Fault → Type 0
+IsTold input told = (fault : TileFault) × (fault_within LIMIT input ≡ Some fault) × IsFault fault told
+
+-- why nothing is made of the bytes
+abbrev pub RefusedAs : List ℕ → Refusal → Type 0
+RefusedAs input (Refused fault) = fault_within LIMIT input ≡ Some fault
+RefusedAs input Memory = ⊤
+RefusedAs input TooLarge = IsTooLarge input
+RefusedAs input NoLayer = ⊥
+RefusedAs input BadName = ⊥
+RefusedAs input NoTile = ⊥
+
+-- the bytes are a tile, and these are the canonical bytes of its named layers
+abbrev pub IsExtracted : List ℕ → List (List ℕ) → List ℕ → Type 0
+IsExtracted input names made = (tile : Tile) × IsTile LIMIT input tile × (made ≡ canonical (pick tile names))
+
+-- the canonical bytes of the named layers are more than the limit
+abbrev pub IsTooLargeOf : List ℕ → List (List ℕ) → Type 0
+IsTooLargeOf input names = (tile : Tile) × IsTile LIMIT input tile × (LIMIT < length (canonical (pick tile names)))
+
+-- the bytes are a tile, and no layer of version 2 has one of the names
+abbrev pub LacksLayer : List ℕ → List (List ℕ) → Type 0
+LacksLayer input names = (tile : Tile) × (n : ℕ) × IsTile LIMIT input tile × (first_missing tile names ≡ Some n)
+
+-- why no layers are extracted from the bytes
+abbrev pub NotExtracted : List ℕ → List (List ℕ) → Refusal → Type 0
+NotExtracted input names (Refused fault) = fault_within LIMIT input ≡ Some fault
+NotExtracted input names Memory = ⊤
+NotExtracted input names TooLarge = IsTooLargeOf input names
+NotExtracted input names NoLayer = LacksLayer input names
+NotExtracted input names BadName = ⊥
+NotExtracted input names NoTile = ⊥
+
+-- the bytes are a tile, and this is a text of it
+abbrev pub IsTextOf : (Tile → List ℕ) → List ℕ → List ℕ → Type 0
+IsTextOf text_of input made = (tile : Tile) × IsTile LIMIT input tile × (made ≡ text_of tile)
+
+-- the JSON, as one line
+abbrev pub json_line : Tile → List ℕ
+json_line tile = compact_text (json tile)
+
+-- why no text is made of the bytes
+abbrev pub NotShown : List ℕ → Refusal → Type 0
+NotShown input (Refused fault) = fault_within LIMIT input ≡ Some fault
+NotShown input Memory = ⊤
+NotShown input TooLarge = ⊥
+NotShown input NoLayer = ⊥
+NotShown input BadName = ⊥
+NotShown input NoTile = ⊥
+
+-- the bytes are a tile, and these are its rows
+abbrev pub IsRead : List ℕ → Table → Type 0
+IsRead input table = (tile : Tile) × IsTile LIMIT input tile × (table ≡ rows_of tile)
+
+-- why the bytes can't be read as rows; a layer has more keys or values than the limit
+abbrev pub NotRead : List ℕ → Refusal → Type 0
+NotRead input (Refused fault) = fault_within LIMIT input ≡ Some fault
+NotRead input Memory = ⊤
+NotRead input TooLarge = ⊤
+NotRead input NoLayer = ⊥
+NotRead input BadName = ⊥
+NotRead input NoTile = ⊥

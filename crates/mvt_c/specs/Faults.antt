@@ -1,0 +1,17 @@
+-- A fault as C sees it: an index is -1 where there is none.
+use Rattle.std.specs.Prelude.{◌≡◌, ℕ, ℤ, pos, negsuc, Option, Some, None}
+use Rattle.mvt_feature.specs.Causes.{cause_number, cause_name}
+use Rattle.mvt_tile.specs.declared.fault.Fault.{Fault as TileFault}
+use Rattle.mvt_c.specs.declared.fault.Fault.{Fault}
+
+abbrev pub index_of : Option ℕ → ℤ
+index_of None = negsuc 0
+index_of (Some n) = pos n
+
+-- the fields are the fault's, and the name is its cause's
+pub record IsFault (fault : TileFault) (told : Fault) : Type 0 where
+  pub layer : told.layer ≡ index_of fault.layer
+  pub feature : told.feature ≡ index_of fault.feature
+  pub at : told.at ≡ fault.at
+  pub cause : told.cause ≡ cause_number fault.cause
+  pub name : told.name.bytes.now ≡ cause_name fault.cause

@@ -1,0 +1,5 @@
+pub mod Faults
+pub mod Names
+pub mod Calls
+pub mod Tables
+pub mod Lent

@@ -1,0 +1,91 @@
+//! The calls that make bytes and texts of a tile's bytes.
+ghost use Rattle.std.specs.Prelude.{◌≡◌, ◌≢◌, ◌≤◌, map, string_bytes, Any, IsUtf8, IfOk, IfErr};
+ghost use Rattle.mvt_c.specs.Calls.{IsExtracted, IsRewritten, IsTextOf, IsTold, IsTooLarge, IsTooLargeOf, LacksLayer, NotExtracted, NotShown, RefusedAs, json_line};
+ghost use Rattle.mvt_c.specs.Names.{texts_of};
+
+use crate::fault::Fault;
+use crate::lent::Bytes;
+use crate::names::read_names;
+use crate::refusal::{Refusal, hand_out, tell};
+use mvt_tile::{decode, encode, extract};
+use mvt_view::json_text;
+use std::alloc::Global;
+
+/// The canonical bytes of a tile (`mvt_rewrite`).
+#[unsafe(no_mangle)]
+pub extern "C" fn mvt_rewrite(
+    alloc: Global,
+    bytes: &[u8],
+    out: &mut Bytes,
+    fault: &mut Fault,
+) -> u32
+    ensures done { result ≡ 0 → IsRewritten bytes.now out.new.bytes.now }
+    ensures refused { result ≡ 1 → IsTold bytes.now fault.new }
+    ensures too_large { result ≡ 3 → IsTooLarge bytes.now }
+    ensures few { result ≤ 3 }
+    ensures out_kept { result ≢ 0 → out.new ≡ out.old }
+    ensures fault_kept { result ≢ 1 → fault.new ≡ fault.old }
+{
+    hand_out(rewritten(alloc, bytes), out, fault)
+}
+
+fn rewritten(alloc: Global, bytes: &[u8]) -> Result<Vec<u8>, Refusal>
+    ensures done { IfOk result (λ made. IsRewritten bytes.now made.items) }
+    ensures refused { IfErr result (RefusedAs bytes.now) }
+{
+    let tile = decode(alloc, bytes)?;
+    Ok(encode(alloc, &tile)?)
+}
+
+/// The canonical bytes of a tile's named layers, in the order of the tile (`mvt_extract`).
+#[unsafe(no_mangle)]
+pub extern "C" fn mvt_extract(
+    alloc: Global,
+    bytes: &[u8],
+    names: &[Bytes],
+    out: &mut Bytes,
+    fault: &mut Fault,
+) -> u32
+    ensures done { result ≡ 0 → IsExtracted bytes.now (texts_of names.now) out.new.bytes.now }
+    ensures refused { result ≡ 1 → IsTold bytes.now fault.new }
+    ensures too_large { result ≡ 3 → IsTooLargeOf bytes.now (texts_of names.now) }
+    ensures missing { result ≡ 4 → LacksLayer bytes.now (texts_of names.now) }
+    ensures bad_name { result ≡ 5 → Any (λ text. IsUtf8 text → ⊥) (texts_of names.now) }
+    ensures few { result ≤ 5 }
+    ensures out_kept { result ≢ 0 → out.new ≡ out.old }
+    ensures fault_kept { result ≢ 1 → fault.new ≡ fault.old }
+{
+    match read_names(alloc, names) {
+        Ok(names) => hand_out(extracted(alloc, bytes, &names), out, fault),
+        Err(refusal) => tell(refusal, fault),
+    }
+}
+
+fn extracted(alloc: Global, bytes: &[u8], names: &[String]) -> Result<Vec<u8>, Refusal>
+    ensures done { IfOk result (λ made. IsExtracted bytes.now (map string_bytes names.now) made.items) }
+    ensures refused { IfErr result (NotExtracted bytes.now (map string_bytes names.now)) }
+{
+    let tile = decode(alloc, bytes)?;
+    let picked = extract(alloc, &tile, names)?;
+    Ok(encode(alloc, &picked)?)
+}
+
+/// A tile as JSON, in one line (`mvt_json`).
+#[unsafe(no_mangle)]
+pub extern "C" fn mvt_json(alloc: Global, bytes: &[u8], out: &mut Bytes, fault: &mut Fault) -> u32
+    ensures done { result ≡ 0 → IsTextOf json_line bytes.now out.new.bytes.now }
+    ensures refused { result ≡ 1 → IsTold bytes.now fault.new }
+    ensures few { result ≤ 2 }
+    ensures out_kept { result ≢ 0 → out.new ≡ out.old }
+    ensures fault_kept { result ≢ 1 → fault.new ≡ fault.old }
+{
+    hand_out(json_made(alloc, bytes), out, fault)
+}
+
+fn json_made(alloc: Global, bytes: &[u8]) -> Result<Vec<u8>, Refusal>
+    ensures done { IfOk result (λ made. IsTextOf json_line bytes.now made.items) }
+    ensures refused { IfErr result (NotShown bytes.now) }
+{
+    let tile = decode(alloc, bytes)?;
+    Ok(json_text(alloc, &tile)?.into_bytes())
+}

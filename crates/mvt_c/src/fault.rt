@@ -1,0 +1,43 @@
+//! A fault as C sees it.
+ghost use Rattle.std.specs.Prelude.{◌≡◌};
+ghost use Rattle.mvt_c.specs.Faults.{IsFault, index_of};
+
+use crate::lent::Bytes;
+use mvt_tile::Fault as TileFault;
+
+/// The first broken rule of a tile. An index is -1 where there is none.
+#[repr(C)]
+#[derive(Clone, Copy, Debug)]
+pub struct Fault {
+    pub layer: i64,
+    pub feature: i64,
+    pub at: u64,
+    pub cause: u32,
+    /// The name of the cause, which is never freed.
+    pub name: Bytes,
+}
+
+impl Fault {
+    pub(crate) fn new(fault: TileFault) -> Self
+        ensures { IsFault fault result }
+    {
+        Fault {
+            layer: index_of_part(fault.layer),
+            feature: index_of_part(fault.feature),
+            at: fault.at,
+            cause: fault.cause.number(),
+            name: Bytes {
+                bytes: fault.cause.name().as_bytes(),
+            },
+        }
+    }
+}
+
+fn index_of_part(index: Option<u32>) -> i64
+    ensures { result ≡ index_of index }
+{
+    match index {
+        Some(index) => i64::from(index),
+        None => -1,
+    }
+}

@@ -1,0 +1,157 @@
+//! Why a call hands nothing out.
+ghost use Rattle.std.specs.Prelude.{◌≡◌, IfOk, IfErr};
+ghost use Rattle.mvt_c.specs.Calls.{status_of, status_of_refusal, TellsFault};
+
+use crate::fault::Fault;
+use crate::lent::Bytes;
+use mvt_attrs::PoolError;
+use mvt_tile::{DecodeError, ExtractError, Fault as TileFault, PutError};
+use mvt_view::ViewError;
+use std::alloc::{AllocError, AllocFailed};
+
+/// Why a call hands nothing out. Each has a status of its own.
+#[derive(Clone, Copy, Debug, PartialEq, Eq)]
+pub(crate) enum Refusal {
+    /// The bytes are no tile: 1.
+    Refused(TileFault),
+    /// A growth was refused memory: 2.
+    Memory,
+    /// The result would be larger than the limit: 3.
+    TooLarge,
+    /// A name that no layer has: 4.
+    NoLayer,
+    /// A name that isn't UTF-8: 5.
+    BadName,
+    /// Rows that are no tile: 6.
+    NoTile,
+}
+
+impl From<AllocError> for Refusal {
+    ghost use Rattle.std.specs.Prelude.{◌≡◌};
+    ghost use Rattle.mvt_c.specs.declared.refusal.Refusal.TheVariants.{Memory};
+
+    ghost from_gives = { λ _ refusal. refusal ≡ Memory };
+
+    fn from(_: AllocError) -> Self {
+        Refusal::Memory
+    }
+}
+
+impl From<DecodeError> for Refusal {
+    ghost use Rattle.std.specs.Prelude.{◌≡◌};
+    ghost use Rattle.mvt_c.specs.Calls.{of_decode};
+
+    ghost from_gives = { λ error refusal. refusal ≡ of_decode error };
+
+    // `decode` reads nothing, so a failed read never comes here.
+    fn from(error: DecodeError) -> Self {
+        match error {
+            DecodeError::Memory => Refusal::Memory,
+            DecodeError::Fault(fault) => Refusal::Refused(fault),
+            DecodeError::Read(_) => Refusal::Memory,
+        }
+    }
+}
+
+impl From<PutError> for Refusal {
+    ghost use Rattle.std.specs.Prelude.{◌≡◌};
+    ghost use Rattle.mvt_c.specs.Calls.{of_put};
+
+    ghost from_gives = { λ error refusal. refusal ≡ of_put error };
+
+    fn from(error: PutError) -> Self {
+        match error {
+            PutError::Memory => Refusal::Memory,
+            PutError::TooLarge => Refusal::TooLarge,
+        }
+    }
+}
+
+impl From<ExtractError> for Refusal {
+    ghost use Rattle.std.specs.Prelude.{◌≡◌};
+    ghost use Rattle.mvt_c.specs.Calls.{of_extract};
+
+    ghost from_gives = { λ error refusal. refusal ≡ of_extract error };
+
+    fn from(error: ExtractError) -> Self {
+        match error {
+            ExtractError::Memory => Refusal::Memory,
+            ExtractError::MissingLayer(_) => Refusal::NoLayer,
+        }
+    }
+}
+
+impl From<ViewError> for Refusal {
+    ghost use Rattle.std.specs.Prelude.{◌≡◌};
+    ghost use Rattle.mvt_c.specs.declared.refusal.Refusal.TheVariants.{Memory};
+
+    ghost from_gives = { λ _ refusal. refusal ≡ Memory };
+
+    fn from(error: ViewError) -> Self {
+        match error {
+            ViewError::Memory => Refusal::Memory,
+        }
+    }
+}
+
+impl<T: Drop> From<AllocFailed<T>> for Refusal {
+    ghost use Rattle.std.specs.Prelude.{◌≡◌};
+    ghost use Rattle.mvt_c.specs.declared.refusal.Refusal.TheVariants.{Memory};
+
+    ghost from_gives = { λ _ refusal. refusal ≡ Memory };
+
+    fn from(_: AllocFailed<T>) -> Self {
+        Refusal::Memory
+    }
+}
+
+impl From<PoolError> for Refusal {
+    ghost use Rattle.std.specs.Prelude.{◌≡◌};
+    ghost use Rattle.mvt_c.specs.Calls.{of_pool};
+
+    ghost from_gives = { λ error refusal. refusal ≡ of_pool error };
+
+    fn from(error: PoolError) -> Self {
+        match error {
+            PoolError::Memory => Refusal::Memory,
+            PoolError::Full => Refusal::TooLarge,
+        }
+    }
+}
+
+/// Hands bytes out, or tells why there are none. Answers the status.
+pub(crate) fn hand_out(made: Result<Vec<u8>, Refusal>, out: &mut Bytes, fault: &mut Fault) -> u32
+    ensures status { result ≡ status_of made }
+    ensures bytes { IfOk made (λ bytes. out.new.bytes.now ≡ bytes.items) }
+    ensures fault_kept { IfOk made (λ _. fault.new ≡ fault.old) }
+    ensures out_kept { IfErr made (λ _. out.new ≡ out.old) }
+    ensures fault { IfErr made (λ refusal. TellsFault refusal fault.old fault.new) }
+{
+    match made {
+        Ok(bytes) => {
+            *out = Bytes {
+                bytes: bytes.leak(),
+            };
+            0
+        }
+        Err(refusal) => tell(refusal, fault),
+    }
+}
+
+/// Tells the fault, where there is one. Answers the status.
+pub(crate) fn tell(refusal: Refusal, fault: &mut Fault) -> u32
+    ensures status { result ≡ status_of_refusal refusal }
+    ensures fault { TellsFault refusal fault.old fault.new }
+{
+    match refusal {
+        Refusal::Refused(first) => {
+            *fault = Fault::new(first);
+            1
+        }
+        Refusal::Memory => 2,
+        Refusal::TooLarge => 3,
+        Refusal::NoLayer => 4,
+        Refusal::BadName => 5,
+        Refusal::NoTile => 6,
+    }
+}

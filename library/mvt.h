@@ -1,0 +1,122 @@
+/* mvt: reads, judges and writes Mapbox Vector Tiles (Mapbox Vector Tile Specification 2.1).
+ *
+ * Each call answers a status. Where it is MVT_OK the result was put where the last parameters say; else these
+ * stay as they were, but for the fault of a tile that is refused. What a call hands out is memory of malloc,
+ * which belongs to the caller: give it back by mvt_bytes_free or mvt_tile_free. Nothing is shared between
+ * calls, so any number of threads may call at a time.
+ *
+ * The parameters `bytes` and `len` are the bytes of one tile, uncompressed. With `len` 0 `bytes` may be NULL.
+ * No other pointer may be NULL. The library wants a processor of x86-64-v2.
+ */
+#ifndef MVT_H
+#define MVT_H
+
+#include <stddef.h>
+#include <stdint.h>
+
+#ifdef __cplusplus
+extern "C" {
+#endif
+
+enum {
+    MVT_OK = 0,
+    MVT_REFUSED = 1,     /* the bytes are no tile, and the fault tells why */
+    MVT_NO_MEMORY = 2,   /* out of memory */
+    MVT_TOO_LARGE = 3,   /* the result would be larger than 67,108,864 bytes */
+    MVT_NO_LAYER = 4,    /* no layer has one of the names */
+    MVT_BAD_NAME = 5,    /* a name isn't UTF-8 */
+    MVT_NO_TILE = 6      /* the rows are no valid tile */
+};
+
+/* Bytes, or a text in UTF-8, which doesn't end with a zero. */
+typedef struct {
+    const uint8_t *data;
+    size_t len;
+} mvt_bytes;
+
+/* The first broken rule. An index is -1 where there is none: for a fault of a top-level field's own spelling, and
+ * for a fault of a layer outside its features. `at` is an offset in the tile, or an index in the tags or the
+ * integers of the feature's geometry. `name` is the cause's name, and isn't freed. */
+typedef struct {
+    int64_t layer, feature;
+    uint64_t at;
+    uint32_t cause;
+    mvt_bytes name;
+} mvt_fault;
+
+/* A tile as rows. Each row names the parts that belong to it by a span: where they begin in the list of their kind,
+ * and how many there are. */
+typedef struct {
+    uint64_t start, len;
+} mvt_span;
+
+/* A layer of version 2 has a name, an extent, features and its keys and values; one of another version has its bytes,
+ * which are carried as they are. What a layer hasn't is 0. */
+typedef struct {
+    uint32_t version, extent;
+    mvt_span name;      /* of texts */
+    mvt_span features;
+    mvt_span keys;
+    mvt_span values;
+    mvt_span bytes;     /* of texts */
+} mvt_layer;
+
+enum { MVT_UNKNOWN = 0, MVT_POINTS = 1, MVT_LINES = 2, MVT_POLYGONS = 3 };
+
+/* A feature. Its tags are pairs of an index of a key and an index of a value, both counted from the first of its
+ * layer. Its parts are its lines, its rings, or one part with all its points; of an unknown geometry it has the
+ * integers alone. */
+typedef struct {
+    uint64_t id;
+    uint32_t has_id;    /* 1 or 0 */
+    uint32_t kind;      /* MVT_UNKNOWN .. MVT_POLYGONS */
+    mvt_span tags;
+    mvt_span parts;
+    mvt_span integers;
+} mvt_feature;
+
+enum { MVT_TEXT = 1, MVT_FLOAT = 2, MVT_DOUBLE = 3, MVT_INT = 4, MVT_UINT = 5, MVT_SINT = 6, MVT_BOOL = 7 };
+
+/* A value: a text, or 64 bits. A float and a double are their bit patterns, an int and a sint stand in two's
+ * complement, a bool is 1 or 0. */
+typedef struct {
+    uint32_t kind;      /* MVT_TEXT .. MVT_BOOL */
+    uint64_t bits;
+    mvt_span text;      /* of texts */
+} mvt_value;
+
+/* A line, a ring, or the points of a feature. The last point of a ring is joined to its first. */
+typedef struct {
+    uint32_t exterior;  /* 1 where an exterior ring begins a polygon, else 0 */
+    mvt_span points;
+} mvt_part;
+
+/* A position: x to the right, y down. */
+typedef struct {
+    int32_t x, y;
+} mvt_point;
+
+typedef struct {
+    const mvt_layer *layers;     size_t layer_count;
+    const mvt_feature *features; size_t feature_count;
+    const mvt_span *keys;        size_t key_count;     /* of texts */
+    const mvt_value *values;     size_t value_count;
+    const uint32_t *tags;        size_t tag_count;
+    const mvt_part *parts;       size_t part_count;
+    const mvt_point *points;     size_t point_count;
+    const uint32_t *integers;    size_t integer_count;
+    const uint8_t *texts;        size_t text_len;
+} mvt_tile;
+
+/* The canonical bytes of a tile: MVT_REFUSED, MVT_NO_MEMORY, MVT_TOO_LARGE. */
+uint32_t mvt_rewrite(const uint8_t *bytes, size_t len, mvt_bytes *out, mvt_fault *fault);
+
+/* Gives back what a call handed out; afterwards there is nothing left to be given back. */
+void mvt_bytes_free(mvt_bytes *bytes);
+void mvt_tile_free(mvt_tile *tile);
+
+#ifdef __cplusplus
+}
+#endif
+
+#endif
