@@ -103,6 +103,14 @@ is_made_whole Check = true
 is_made_whole Rewrite = false
 is_made_whole (Extract names) = false
 
+-- of a task that reads its input whole before it works
+abbrev pub IfReadWhole : Task → Type 0 → Type 0
+IfReadWhole Fields P = P
+IfReadWhole Show P = ⊤
+IfReadWhole Check P = P
+IfReadWhole Rewrite P = ⊤
+IfReadWhole (Extract names) P = ⊤
+
 -- a line is told exactly with status 1
 abbrev pub status_with : Option (List ℕ) → ℕ
 status_with None = 0

@@ -2,11 +2,11 @@
 ghost use Rattle.std.specs.Prelude.{◌≡◌, ◌≢◌, ◌+◌, ◌<◌, ◌≤◌, ◌⊎◌, ◌↔◌, max, List, ℕ, [], map, string_bytes, IfOk, IfErr, IfSome, OnOk};
 ghost use Rattle.std.specs.Io.KnownBytes.{Appends};
 ghost use Rattle.mvt_io.specs.Counts.{counted, NoneFailed};
-ghost use Rattle.mvt_io.specs.Transfers.{TakesPrefix};
+ghost use Rattle.mvt_io.specs.Transfers.{TakesAtMost, TakesPrefix};
 ghost use Rattle.mvt_cli.specs.Failures.{EndsFailed, IsCaused, LeavesOutput, line_of, status_of};
 ghost use Rattle.mvt_cli.specs.Words.{task_in, faults_in, IsPlainLine};
 ghost use Rattle.mvt_cli.specs.Refused.{IsUsage, usage_text};
-ghost use Rattle.mvt_cli.specs.Output.{Answers, Gives, IsFlushed, IsWhole, is_made_whole};
+ghost use Rattle.mvt_cli.specs.Output.{Answers, Gives, IfReadWhole, IsFlushed, IsWhole, is_made_whole};
 
 use crate::checking::check;
 use crate::drawing::draw;
@@ -64,6 +64,8 @@ pub fn run<R: Source, W: Sink, E: Sink>(
     ensures plain { IsPlainLine (map string_bytes words.now) → result ≢ 2 }
     ensures reads { R.reads reader.new ≤ R.reads reader.old + 67108866 }
     ensures asked { R.asked reader.new ≤ max (R.asked reader.old) 65536 }
+    ensures leaves { IfReadWhole (task_in (map string_bytes words.now))
+        (TakesAtMost (LIMIT + 1) (R.left reader.old) (R.left reader.new)) }
     ensures statuses { result < 5 }
 {
     let task = match read_words(alloc, words) {
@@ -125,6 +127,7 @@ fn answer<R: Source, W: Sink>(
         × TakesPrefix (W.taken writer.old) (W.taken writer.new) text))) }
     ensures reads { R.reads reader.new ≤ R.reads reader.old + 67108866 }
     ensures asked { R.asked reader.new ≤ max (R.asked reader.old) 65536 }
+    ensures leaves { IfReadWhole task (TakesAtMost (LIMIT + 1) (R.left reader.old) (R.left reader.new)) }
 {
     match task {
         Task::Fields => deliver(list_fields(alloc, reader)?, writer),

@@ -1,13 +1,13 @@
 //! The words of the command line, as clap reads them.
 ghost use Rattle.std.specs.Prelude.{◌≡◌, ◌≢◌, [], false, map, string_bytes, IfOk, IfErr, OnOk};
 ghost use Rattle.clap.specs.declared.builder.command.Command.TheViews.{out-Command as fields_of};
-ghost use Rattle.clap.specs.Words.{app_of, found_of, kind_of, new_app, rows_of, subcommand_rows_of};
+ghost use Rattle.clap.specs.Words.{app_of, found_of, new_app, rows_of, subcommand_rows_of};
 ghost use Rattle.mvt_cli.specs.Words.{mvt, extract_app, task_in, task_named as named, task_of_subcommand, names_given, faults_in};
 ghost use Rattle.mvt_cli.specs.Refused.{IsUsage};
 
 use crate::names::Names;
 use clap::error::ErrorKind;
-use clap::{Arg, ArgAction, ArgMatches, Command, Error};
+use clap::{Arg, ArgAction, ArgMatches, Command};
 use std::alloc::{AllocError, Global};
 use std::rt::Env;
 use std::{env, io};
@@ -106,16 +106,17 @@ fn extract_command<'a>(alloc: Global) -> Result<Command<'a>, AllocError>
         .arg(names)
 }
 
-/// The refusal for an error of clap's.
-fn refusal_of(alloc: Global, error: Error) -> Refusal
-    ensures { IsUsage result → kind_of error ≢ ErrorKind.OutOfMemory }
+/// The refusal for an error of clap's, by its kind and its text, for which memory may be wanting.
+fn refusal_of(kind: ErrorKind, text: Result<String, AllocError>) -> Refusal
+    ensures usage { IsUsage result → kind ≢ ErrorKind.OutOfMemory }
+    ensures told { kind ≢ ErrorKind.OutOfMemory → IfOk text (λ text. result ≡ Refusal.Usage text) }
 {
-    if error.kind() == ErrorKind::OutOfMemory {
+    if kind == ErrorKind::OutOfMemory {
         return Refusal::Memory;
     }
-    match error.to_string(alloc) {
+    match text {
         Ok(text) => Refusal::Usage(text),
-        Err(_) => Refusal::Memory,
+        Err(AllocError) => Refusal::Memory,
     }
 }
 
@@ -131,7 +132,7 @@ pub fn read_words(alloc: Global, words: &[String]) -> Result<Task, Refusal>
     }
     match mvt_command(alloc)?.try_get_matches_from(words) {
         Ok(matches) => Ok(task_of(alloc, &matches)?),
-        Err(error) => Err(refusal_of(alloc, error)),
+        Err(error) => Err(refusal_of(error.kind(), error.to_string(alloc))),
     }
 }
 

@@ -406,7 +406,7 @@ fn fields_refused_memory(rt: HostRuntime) {
         for _ in 0..2 {
             match fields_text(rt.alloc(), input) {
                 Ok(text) => {
-                    assert_eq!(rt; text.lines.as_str(), lines);
+                    assert_eq!(rt; text.lines.as_str(), *lines);
                     assert_eq!(rt; text.fault, *fault);
                 }
                 Err(ViewError::Memory) => wanted = wanted.saturating_add(1),
