@@ -24,8 +24,7 @@ enum {
     MVT_NO_MEMORY = 2,   /* out of memory */
     MVT_TOO_LARGE = 3,   /* the result would be larger than 67,108,864 bytes */
     MVT_NO_LAYER = 4,    /* no layer has one of the names */
-    MVT_BAD_NAME = 5,    /* a name isn't UTF-8 */
-    MVT_NO_TILE = 6      /* the rows are no valid tile */
+    MVT_BAD_NAME = 5     /* a name isn't UTF-8 */
 };
 
 /* Bytes, or a text in UTF-8, which doesn't end with a zero. */
@@ -108,8 +107,22 @@ typedef struct {
     const uint8_t *texts;        size_t text_len;
 } mvt_tile;
 
-/* The canonical bytes of a tile: MVT_REFUSED, MVT_NO_MEMORY, MVT_TOO_LARGE. */
+/* The canonical bytes of a tile: equal tiles have equal bytes.
+ * MVT_OK, MVT_REFUSED, MVT_NO_MEMORY, MVT_TOO_LARGE. */
 uint32_t mvt_rewrite(const uint8_t *bytes, size_t len, mvt_bytes *out, mvt_fault *fault);
+
+/* The canonical bytes of the named layers of version 2, in the order of the tile. A name that stands twice counts
+ * once, and no name at all gives a tile without layers. The names are read before the tile.
+ * MVT_OK, MVT_REFUSED, MVT_NO_MEMORY, MVT_TOO_LARGE, MVT_NO_LAYER, MVT_BAD_NAME. */
+uint32_t mvt_extract(const uint8_t *bytes, size_t len, const mvt_bytes *names, size_t count, mvt_bytes *out,
+                     mvt_fault *fault);
+
+/* A tile as JSON, in one line without a line end. MVT_OK, MVT_REFUSED, MVT_NO_MEMORY. */
+uint32_t mvt_json(const uint8_t *bytes, size_t len, mvt_bytes *out, mvt_fault *fault);
+
+/* A tile as rows. MVT_OK, MVT_REFUSED, MVT_NO_MEMORY; MVT_TOO_LARGE for a layer of more than 67,108,864 keys or
+ * values. */
+uint32_t mvt_read(const uint8_t *bytes, size_t len, mvt_tile *out, mvt_fault *fault);
 
 /* Gives back what a call handed out; afterwards there is nothing left to be given back. */
 void mvt_bytes_free(mvt_bytes *bytes);

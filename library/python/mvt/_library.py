@@ -1,0 +1,94 @@
+"""The shared library and the structures of `mvt.h`."""
+
+import ctypes
+import os
+from ctypes import POINTER, Structure, c_char_p, c_int32, c_int64, c_size_t, c_uint8, c_uint32, c_uint64, c_void_p
+from pathlib import Path
+
+
+class Bytes(Structure):
+    _fields_ = [("data", c_void_p), ("len", c_size_t)]
+
+    def copy(self) -> bytes:
+        return ctypes.string_at(self.data, self.len) if self.len else b""
+
+
+class FaultRow(Structure):
+    _fields_ = [("layer", c_int64), ("feature", c_int64), ("at", c_uint64), ("cause", c_uint32), ("name", Bytes)]
+
+
+class Span(Structure):
+    _fields_ = [("start", c_uint64), ("len", c_uint64)]
+
+
+class LayerRow(Structure):
+    _fields_ = [
+        ("version", c_uint32),
+        ("extent", c_uint32),
+        ("name", Span),
+        ("features", Span),
+        ("keys", Span),
+        ("values", Span),
+        ("bytes", Span),
+    ]
+
+
+class FeatureRow(Structure):
+    _fields_ = [
+        ("id", c_uint64),
+        ("has_id", c_uint32),
+        ("kind", c_uint32),
+        ("tags", Span),
+        ("parts", Span),
+        ("integers", Span),
+    ]
+
+
+class ValueRow(Structure):
+    _fields_ = [("kind", c_uint32), ("bits", c_uint64), ("text", Span)]
+
+
+class PartRow(Structure):
+    _fields_ = [("exterior", c_uint32), ("points", Span)]
+
+
+class PointRow(Structure):
+    _fields_ = [("x", c_int32), ("y", c_int32)]
+
+
+# The lists of a tile, in the order of `mvt_tile`.
+LISTS = {
+    "layers": LayerRow,
+    "features": FeatureRow,
+    "keys": Span,
+    "values": ValueRow,
+    "tags": c_uint32,
+    "parts": PartRow,
+    "points": PointRow,
+    "integers": c_uint32,
+    "texts": c_uint8,
+}
+
+
+class TileRows(Structure):
+    _fields_ = [pair for name in LISTS for pair in ((name, c_void_p), (name + "_count", c_size_t))]
+
+
+def _load() -> ctypes.CDLL:
+    named = os.environ.get("MVT_LIBRARY")
+    beside = Path(__file__).with_name("libmvt.so.1")
+    return ctypes.CDLL(named or (str(beside) if beside.exists() else "libmvt.so.1"))
+
+
+library = _load()
+_TILE = [c_char_p, c_size_t]
+library.mvt_rewrite.argtypes = [*_TILE, POINTER(Bytes), POINTER(FaultRow)]
+library.mvt_extract.argtypes = [*_TILE, POINTER(Bytes), c_size_t, POINTER(Bytes), POINTER(FaultRow)]
+library.mvt_json.argtypes = [*_TILE, POINTER(Bytes), POINTER(FaultRow)]
+library.mvt_read.argtypes = [*_TILE, POINTER(TileRows), POINTER(FaultRow)]
+for _call in (library.mvt_rewrite, library.mvt_extract, library.mvt_json, library.mvt_read):
+    _call.restype = c_uint32
+library.mvt_bytes_free.argtypes = [POINTER(Bytes)]
+library.mvt_bytes_free.restype = None
+library.mvt_tile_free.argtypes = [POINTER(TileRows)]
+library.mvt_tile_free.restype = None
