@@ -1,6 +1,9 @@
 -- A loop that places the keys and values of attributes in pools.
-use Rattle.std.proofs.Common.{◌≡◌, ℕ, ◌+◌, ◌<◌, ◌≤◌, Bool, List, [], ◌∷◌, ◌++◌, length, map, take, get_or, Some, Result, Ok, Err, Contains, Decides, bytes_eq, slice_get, OnErr, refl, sym, ap, ap₂, subst, ◌∙◌, arith, append_assoc, append-nil}
-use Rattle.std.proofs.lemmas.List.{take_more, map_push, take_all}
+use Rattle.std.proofs.Common.{◌≡◌, ℕ, ◌+◌, ◌<◌, ◌≤◌, Bool, List, [], ◌∷◌, ◌++◌, length, map, take, get_or, Some, Result, Ok, Err, Contains, Decides, bytes_eq, slice_get, OnErr, drop, inl, inr, ◌⊎◌, refl, sym, ap, ap₂, subst, ◌∙◌, arith, append_assoc, append-nil, length-append}
+use Rattle.std.proofs.lemmas.List.{take_more, map_push, take_all, take-append-drop}
+use Rattle.std.proofs.lemmas.Option.{slice_get_within, get_or_from_slice_get}
+use Rattle.mvt_base.specs.declared.TheConstants.{LIMIT}
+use Rattle.mvt_attrs.specs.Placed.{IsFullAt}
 use Rattle.mvt_attrs.specs.declared.value.Value.{Value}
 use Rattle.mvt_attrs.specs.declared.value.Attribute.{Attribute}
 use Rattle.mvt_attrs.specs.FirstUse.{first_use, AreDistinct}
@@ -11,7 +14,7 @@ use Rattle.mvt_attrs.proofs.EqualityLemmas.{equal_values-Decides}
 use Rattle.mvt_attrs.specs.Tags.{Names}
 use Rattle.mvt_attrs.specs.TagPlaces.{tags_in}
 use Rattle.mvt_attrs.proofs.FirstUseLemmas.{put, put_is, put_cases, first_use-push, first_use-own, first_use-distinct}
-use Rattle.mvt_attrs.proofs.PlaceLemmas.{names_longer, names_push, names_places}
+use Rattle.mvt_attrs.proofs.PlaceLemmas.{names_longer, names_push, names_places, pool_grows}
 
 -- what placing x promises of a pool
 pub record IsPlaced {A : Type 0} (pool after : List A) (x : A) : Type 0 where
@@ -33,6 +36,17 @@ module _ {A : Type 0} (same : A → A → Bool) (decides : (x y : A) → Decides
       ∙ sym (first_use-push same decides (held ++ map part (take i attributes)) (part a))
       ∙ ap (first_use same) (append_assoc held (map part (take i attributes)) (part a ∷ [])
       ∙ ap (λ xs. held ++ xs) (sym (map_push part (take i attributes) a) ∙ ap (map part) (ap (λ b. take i attributes ++ b ∷ []) at ∙ sym (take_more attributes i a within))))
+
+  -- a pool that is full has met a new entry: the pool of all attributes is longer
+  pub pool_passes : (held pool : List A) (attributes : List Attribute) (i : ℕ) (a : Attribute) (x : A) (limit : ℕ)
+      → pool ≡ first_use same (held ++ map part (take i attributes)) → i < length attributes → a ≡ get_or attributes i a → x ≡ part a
+      → length pool ≡ limit → (Contains pool x → ⊥) → limit < length (first_use same (held ++ map part attributes))
+  pool_passes held pool attributes i a x limit so_far within at of_part full new =
+      let more = pool_more held pool (pool ++ x ∷ []) attributes i a x so_far within at of_part (record { kept = λ there. absurd (new there); added = λ _. refl }) in
+      let grown = pool_grows same decides part held (take (i + 1) attributes) (drop (i + 1) attributes) in
+      let all : first_use same (held ++ map part attributes) ≡ (pool ++ x ∷ []) ++ grown.0 =
+      ap (λ as'. first_use same (held ++ map part as')) (sym (take-append-drop (i + 1) attributes)) ∙ grown.1 ∙ ap (λ p. p ++ grown.0) (sym more) in
+      omega (arith, ap length all, length-append (pool ++ x ∷ []) grown.0, length-append pool (x ∷ []), full)
 
   pub pool_longer : (pool after : List A) (x : A) → IsPlaced pool after x → (more : List A) × (after ≡ pool ++ more)
   pool_longer pool after x placed =
@@ -61,18 +75,36 @@ pub on_err_at : {T E : Type 0} → (P : ℕ → Type 0) (r : Result T E) (n : �
 on_err_at P (Ok x) n h = tt
 on_err_at P (Err e) n h = (n, h)
 
--- a call that failed behind a key's place left the keys of some first attributes
-pub keys_left_at : {T E : Type 0} → (r : Result T E) (held pool after : List (List ℕ)) (attributes : List Attribute) (i : ℕ) (a : Attribute) (key : List ℕ)
+-- pools behind attributes placed, where each entry that is met is placed or its pool is full
+pub keys_more : (held pool after : List (List ℕ)) (attributes : List Attribute) (i : ℕ) (a : Attribute) (key : List ℕ)
     → pool ≡ key_pool held (take i attributes) → i < length attributes → a ≡ get_or attributes i a → key ≡ a.key → IsPlaced pool after key
-    → OnErr r ((n : ℕ) × (after ≡ key_pool held (take n attributes)))
-keys_left_at r held pool after attributes i a key so_far within at of_key placed =
-    on_err_at (λ n. after ≡ key_pool held (take n attributes)) r (i + 1) (pool_more bytes_eq bytes_eq-Decides (λ (b : Attribute). b.key) held pool after attributes i a key so_far within at of_key placed)
+    → after ≡ key_pool held (take (i + 1) attributes)
+keys_more held pool after attributes i a key so_far within at of_key placed =
+    pool_more bytes_eq bytes_eq-Decides (λ (b : Attribute). b.key) held pool after attributes i a key so_far within at of_key placed
 
-pub values_left_at : {T E : Type 0} → (r : Result T E) (held pool after : List Value) (attributes : List Attribute) (i : ℕ) (a : Attribute)
+pub values_more : (held pool after : List Value) (attributes : List Attribute) (i : ℕ) (a : Attribute)
     → pool ≡ value_pool held (take i attributes) → i < length attributes → a ≡ get_or attributes i a → IsPlaced pool after a.value
-    → OnErr r ((n : ℕ) × (after ≡ value_pool held (take n attributes)))
-values_left_at r held pool after attributes i a so_far within at placed =
-    on_err_at (λ n. after ≡ value_pool held (take n attributes)) r (i + 1) (pool_more equal_values equal_values-Decides (λ (b : Attribute). b.value) held pool after attributes i a a.value so_far within at refl placed)
+    → after ≡ value_pool held (take (i + 1) attributes)
+values_more held pool after attributes i a so_far within at placed =
+    pool_more equal_values equal_values-Decides (λ (b : Attribute). b.value) held pool after attributes i a a.value so_far within at refl placed
+
+-- no pool is full at an attribute where neither entry finds its pool so
+pub not_full_at : (attributes : List Attribute) (i : ℕ) (a : Attribute) (key : List ℕ) (keys : List (List ℕ)) (values : List Value)
+    → a ≡ get_or attributes i a → key ≡ a.key
+    → ((length keys ≡ LIMIT) × (Contains keys key → ⊥) → ⊥)
+    → (Contains keys key → (length values ≡ LIMIT) × (Contains values a.value → ⊥) → ⊥)
+    → IsFullAt i attributes keys values → ⊥
+not_full_at attributes i a key keys values at of_key no_key no_value full =
+    let is : full.0 ≡ a = sym (get_or_from_slice_get attributes i full.0 a full.1) ∙ sym at in
+    let same_key : full.0.key ≡ key = ap (λ (b : Attribute). b.key) is ∙ sym of_key in
+    let same_value : full.0.value ≡ a.value = ap (λ (b : Attribute). b.value) is in
+    elim full.2 [
+      | inl key_full ↦ no_key (key_full.0, λ there. key_full.1 (subst (Contains keys) (sym same_key) there))
+      | inr value_full ↦ no_value (subst (Contains keys) same_key value_full.0) (value_full.1, λ there. value_full.2 (subst (Contains values) (sym same_value) there))
+    ]
+
+pub contains_at : {A : Type 0} (xs : List A) (i : ℕ) (x : A) → slice_get xs i ≡ Some x → Contains xs x
+contains_at xs i x at = (i, slice_get_within xs i x at, get_or_from_slice_get xs i x x at)
 
 -- tags in pools that are first uses are the places there
 pub all_places : (held_keys keys : List (List ℕ)) (held_values values : List Value) (tags : List ℕ) (attributes : List Attribute) (i : ℕ)
@@ -95,3 +127,17 @@ all_named held_keys keys held_values values tags attributes i past of_keys of_va
 pub tags_left_at : {T E : Type 0} → (r : Result T E) (old new so_far : List ℕ) → new ≡ old ++ so_far → OnErr r ((more : List ℕ) × (new ≡ old ++ more))
 tags_left_at (Ok x) old new so_far e = tt
 tags_left_at (Err d) old new so_far e = (so_far, e)
+
+-- tags told so far are the places in the pools, which may have grown since
+pub told_tags : (held_keys keys keys_after : List (List ℕ)) (held_values values values_after : List Value) (tags old new : List ℕ) (attributes : List Attribute)
+    → keys ≡ key_pool held_keys attributes → values ≡ value_pool held_values attributes → Names keys values tags attributes
+    → (more : List (List ℕ)) × (keys_after ≡ keys ++ more) → (further : List Value) × (values_after ≡ values ++ further)
+    → new ≡ old ++ tags → new ≡ old ++ tags_in keys_after values_after attributes
+told_tags held_keys keys keys_after held_values values values_after tags old new attributes of_keys of_values names longer_keys longer_values is =
+    let distinct_keys : AreDistinct keys = subst AreDistinct (sym of_keys) (first_use-distinct bytes_eq bytes_eq-Decides _) in
+    let distinct_values : AreDistinct values = subst AreDistinct (sym of_values) (first_use-distinct equal_values equal_values-Decides _) in
+    is ∙ ap (λ ts. old ++ ts) (names_places keys longer_keys.0 values longer_values.0 tags attributes distinct_keys distinct_values names
+    ∙ ap₂ (λ ks vs. tags_in ks vs attributes) (sym longer_keys.1) (sym longer_values.1))
+
+pub not_longer : {A : Type 0} (xs ys : List A) → ys ≡ xs → (more : List A) × (ys ≡ xs ++ more)
+not_longer xs ys e = ([], e ∙ sym (append-nil xs))

@@ -1,7 +1,9 @@
 pub mod FirstUse
 pub mod Values
 pub mod Pools
+pub mod Placed
 pub mod Tags
 pub mod TagRules
 pub mod TagPlaces
+pub mod Texts
 pub mod Inner

@@ -1,37 +1,38 @@
 //! The keys of a layer, each once, in order of first use.
-ghost use Rattle.std.specs.Prelude.{◌≡◌, ◌≤◌, ◌↔◌, List, [], ◌∷◌, ◌++◌, length, map, Contains, slice_get, option_copied, string_bytes, IsOk, IsErrOf, IfOk, OnOk, OnErr, IsTrue};
+ghost use Rattle.std.specs.Prelude.{◌≡◌, ◌≤◌, ◌↔◌, List, [], ◌∷◌, ◌++◌, length, Contains, slice_get, option_copied, IsOk, IsErrOf, IfOk, OnOk, OnErr, IsTrue};
 ghost use Rattle.mvt_attrs.specs.FirstUse.{AreDistinct};
 ghost use Rattle.mvt_attrs.specs.Inner.Found.{IsPlaceOf};
 
 use crate::pool_error::PoolError;
 use indexmap::IndexSet;
-use mvt_base::LIMIT;
+use mvt_base::{LIMIT, Text};
 use std::alloc::{AllocError, Global};
 use std::marker::Model;
 
 /// The keys of a layer, each once: a key's tag is its place here.
 ///
 /// ```text
+/// let (name, kind) = (Text::from_str(alloc, "name")?, Text::from_str(alloc, "kind")?);
 /// let mut keys = KeyPool::new(alloc);
-/// keys.place("name")?; // 0
-/// keys.place("kind")?; // 1
-/// keys.place("name")?; // 0, without memory
-/// keys.get(1);         // Some("kind")
+/// keys.place(&name)?; // 0
+/// keys.place(&kind)?; // 1
+/// keys.place(&name)?; // 0, without memory
+/// keys.get(1);        // Some("kind")
 /// ```
 ///
-/// It is hashed, so a place is found without a walk. After an error it is as it was.
+/// It is hashed, so a place is found without a walk, and shares the texts. After an error it is as it was.
 #[derive(Drop)]
 pub struct KeyPool {
-    keys: IndexSet<String>,
+    keys: IndexSet<Text>,
 }
 
 impl Model for KeyPool {
-    ghost use Rattle.std.specs.Prelude.{List, ℕ, ◌≤◌, length, map, string_bytes};
+    ghost use Rattle.std.specs.Prelude.{List, ℕ, ◌≤◌, length};
     ghost use Rattle.mvt_base.specs.declared.TheConstants.{LIMIT};
 
     ghost Value = { List (List ℕ) };
 
-    ghost view = { λ p. map string_bytes p.keys.keys };
+    ghost view = { λ p. p.keys.keys };
 
     ghost invariant = { λ p. length p.keys.keys ≤ LIMIT };
 }
@@ -68,7 +69,7 @@ impl KeyPool {
     }
 
     /// The place of a key, which is added last where it is new. A key that is there needs no memory.
-    pub fn place(&mut self, key: &str) -> Result<u32, PoolError>
+    pub fn place(&mut self, key: &Text) -> Result<u32, PoolError>
         ensures index { IfOk result (λ i. slice_get self.new i ≡ Some key.now) }
 
         // A key that is there is found.
@@ -88,20 +89,20 @@ impl KeyPool {
             return Err(PoolError::Full);
         }
         let alloc = *self.keys.allocator();
-        add_key(&mut self.keys, String::from_str(alloc, key)?)?;
+        add_key(&mut self.keys, key.copy(alloc)?)?;
         Ok(index as u32)
     }
 }
 
-fn place_of_key(keys: &IndexSet<String>, key: &str) -> Option<usize>
-    ensures { IsPlaceOf (map string_bytes keys.now.keys) key.now result }
+fn place_of_key(keys: &IndexSet<Text>, key: &Text) -> Option<usize>
+    ensures { IsPlaceOf keys.now.keys key.now result }
 {
     keys.get_index_of(key)
 }
 
-fn add_key(keys: &mut IndexSet<String>, key: String) -> Result<(), AllocError>
-    requires { ¬ (Contains (map string_bytes keys.old.keys) (string_bytes key)) }
-    ensures added { OnOk result (map string_bytes keys.new.keys ≡ map string_bytes keys.old.keys ++ string_bytes key ∷ []) }
+fn add_key(keys: &mut IndexSet<Text>, key: Text) -> Result<(), AllocError>
+    requires { ¬ (Contains keys.old.keys key) }
+    ensures added { OnOk result (keys.new.keys ≡ keys.old.keys ++ key ∷ []) }
     ensures unchanged { OnErr result (keys.new.keys ≡ keys.old.keys) }
 {
     keys.insert(key)?;

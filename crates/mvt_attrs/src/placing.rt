@@ -1,6 +1,7 @@
 //! The tags of attributes, whose keys and values are placed in pools.
-ghost use Rattle.std.specs.Prelude.{◌≡◌, ◌⊎◌, ◌++◌, ℕ, List, length, take, IfOk, OnOk, OnErr, IsErrOf};
+ghost use Rattle.std.specs.Prelude.{◌≡◌, ◌<◌, ◌⊎◌, ◌++◌, ℕ, List, length, take, IfOk, OnOk, OnErr, IsErrOf};
 ghost use Rattle.mvt_attrs.specs.Pools.{key_pool, value_pool};
+ghost use Rattle.mvt_attrs.specs.Placed.{ArePlaced, AreTold, IsFullAt};
 ghost use Rattle.mvt_attrs.specs.Tags.{Names};
 ghost use Rattle.mvt_attrs.specs.TagPlaces.{tags_in};
 
@@ -28,9 +29,15 @@ pub fn tags_of(
     // Each pool gains the entries that it lacked, in order of first use.
     ensures keys { OnOk result (keys.new ≡ key_pool keys.old attributes.now) }
     ensures values { OnOk result (values.new ≡ value_pool values.old attributes.now) }
-    ensures keys_left { OnErr result ((n : ℕ) × (keys.new ≡ key_pool keys.old (take n attributes.now))) }
-    ensures values_left { OnErr result ((n : ℕ) × (values.new ≡ value_pool values.old (take n attributes.now))) }
+    ensures left { OnErr result ((n : ℕ) × ArePlaced n attributes.now keys.old keys.new values.old values.new) }
+
+    // A pool that is full has met an entry that is new; want of memory has met none.
     ensures full { IsErrOf result PoolError.Full → (length keys.new ≡ LIMIT) ⊎ (length values.new ≡ LIMIT) }
+    ensures too_many { IsErrOf result PoolError.Full
+        → (LIMIT < length (key_pool keys.old attributes.now)) ⊎ (LIMIT < length (value_pool values.old attributes.now)) }
+    ensures memory { IsErrOf result PoolError.Memory → (n : ℕ)
+        × AreTold n attributes.now keys.old keys.new values.old values.new
+        × ¬ (IsFullAt n attributes.now keys.new values.new) }
 {
     let mut tags = Vec::new(alloc);
     append_tags(attributes, keys, values, &mut tags)?;
@@ -54,13 +61,20 @@ pub fn append_tags(
     // Each pool gains the entries that it lacked, in order of first use.
     ensures keys { OnOk result (keys.new ≡ key_pool keys.old attributes.now) }
     ensures values { OnOk result (values.new ≡ value_pool values.old attributes.now) }
-    ensures keys_left { OnErr result ((n : ℕ) × (keys.new ≡ key_pool keys.old (take n attributes.now))) }
-    ensures values_left { OnErr result ((n : ℕ) × (values.new ≡ value_pool values.old (take n attributes.now))) }
+    ensures left { OnErr result ((n : ℕ) × ArePlaced n attributes.now keys.old keys.new values.old values.new) }
+
+    // A pool that is full has met an entry that is new; want of memory has met none.
     ensures full { IsErrOf result PoolError.Full → (length keys.new ≡ LIMIT) ⊎ (length values.new ≡ LIMIT) }
+    ensures too_many { IsErrOf result PoolError.Full
+        → (LIMIT < length (key_pool keys.old attributes.now)) ⊎ (LIMIT < length (value_pool values.old attributes.now)) }
+    ensures memory { IsErrOf result PoolError.Memory → (n : ℕ)
+        × AreTold n attributes.now keys.old keys.new values.old values.new
+        × (tags.new.items ≡ tags.old.items ++ tags_in keys.new values.new (take n attributes.now))
+        × ¬ (IsFullAt n attributes.now keys.new values.new) }
 {
     let _ = (keys.len(), values.len());
     for attribute in attributes {
-        let key = keys.place(attribute.key.as_str())?;
+        let key = keys.place(&attribute.key)?;
         let value = values.place(&attribute.value)?;
         tags.extend_from_slice(&[key, value])?;
     }

@@ -35,6 +35,11 @@ impl<T: Drop> From<AllocFailed<T>> for PoolError {
 }
 
 impl fmt::Display for PoolError {
+    ghost use Rattle.std.specs.Prelude.{Some};
+    ghost use Rattle.mvt_attrs.specs.Texts.{pool_error_text};
+
+    ghost output = { λ error. Some (pool_error_text error) };
+
     fn fmt<W: fmt::Write>(&self, f: &mut fmt::Formatter<W>) -> fmt::Result {
         match self {
             PoolError::Memory => f.write_str("out of memory"),

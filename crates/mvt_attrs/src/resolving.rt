@@ -55,6 +55,11 @@ impl<T: Drop> From<AllocFailed<T>> for TagError {
 }
 
 impl fmt::Display for TagCause {
+    ghost use Rattle.std.specs.Prelude.{Some};
+    ghost use Rattle.mvt_attrs.specs.Texts.{cause_name};
+
+    ghost output = { λ cause. Some (cause_name cause) };
+
     fn fmt<W: fmt::Write>(&self, f: &mut fmt::Formatter<W>) -> fmt::Result {
         f.write_str(match self {
             TagCause::OddTags => "OddTags",
@@ -66,6 +71,11 @@ impl fmt::Display for TagCause {
 }
 
 impl fmt::Display for TagError {
+    ghost use Rattle.std.specs.Prelude.{Some};
+    ghost use Rattle.mvt_attrs.specs.Texts.{tag_error_text};
+
+    ghost output = { λ error. Some (tag_error_text error) };
+
     fn fmt<W: fmt::Write>(&self, f: &mut fmt::Formatter<W>) -> fmt::Result {
         match self {
             TagError::Memory => f.write_str("out of memory"),

@@ -4,6 +4,9 @@ use mvt_base::Text;
 use std::alloc::{AllocError, Global};
 use std::test::Fail;
 
+// A text that isn't kept in place, so that it wants memory.
+const LONG: &str = "a key that is long";
+
 fn attribute(alloc: Global, key: &str, value: Value) -> Result<Attribute, AllocError> {
     let key = Text::from_str(alloc, key)?;
     Ok(Attribute { key, value })
@@ -57,7 +60,7 @@ fn resolves_many_tags(rt: HostRuntime) -> Result<(), Fail> {
     let mut tags = Vec::new(alloc);
     for index in 0..20u32 {
         let number = index % 19;
-        keys.push(Text::new(format!(in alloc; "{number}")?))?;
+        keys.push(Text::from_string(format!(in alloc; "{number}")?)?)?;
         tags.extend_from_slice(&[index, 0])?;
     }
     let values = [Value::Bool(true)];
@@ -76,7 +79,8 @@ fn places_keys(rt: HostRuntime) -> Result<(), Fail> {
     let mut keys = KeyPool::new(rt.alloc());
     assert!(rt; keys.is_empty());
     for (key, place) in [("k", 0), ("m", 1), ("k", 0)] {
-        assert_eq!(rt; keys.place(key), Ok(place));
+        let key = Text::from_str(rt.alloc(), key)?;
+        assert_eq!(rt; keys.place(&key), Ok(place));
     }
     assert_eq!(rt; keys.len(), 2);
     assert_eq!(rt; keys.get(1), Some("m"));
@@ -97,7 +101,7 @@ fn places_values(rt: HostRuntime) {
 
 #[test]
 fn copies_values(rt: HostRuntime) -> Result<(), Fail> {
-    let text = Value::Text(Text::from_str(rt.alloc(), "k")?);
+    let text = Value::Text(Text::from_str(rt.alloc(), LONG)?);
     assert!(rt; text.copy(rt.alloc())? == text);
     Ok(())
 }
@@ -125,7 +129,7 @@ fn places_many_texts(rt: HostRuntime) -> Result<(), Fail> {
     let mut keys = KeyPool::new(rt.alloc());
     for _turn in 0..2 {
         for number in 0..10_000u32 {
-            let key = format!(in rt.alloc(); "{number}")?;
+            let key = Text::from_string(format!(in rt.alloc(); "{number}")?)?;
             assert_eq!(rt; keys.place(&key), Ok(number));
         }
     }
@@ -137,17 +141,47 @@ fn places_many_texts(rt: HostRuntime) -> Result<(), Fail> {
 // two turns, of which one at most may want memory.
 
 #[test]
-fn refused_places(rt: HostRuntime) {
+fn refused_keys(rt: HostRuntime) {
     let mut refused = 0u8;
     for _turn in 0..2 {
-        let mut keys = KeyPool::new(rt.alloc());
-        if let Err(error) = keys.place("k") {
-            assert_eq!(rt; error, PoolError::Memory);
-            assert!(rt; keys.is_empty());
+        let first = Text::from_str(rt.alloc(), LONG);
+        let (Ok(first), Ok(second)) = (first, Text::from_str(rt.alloc(), "m")) else {
             refused = refused.saturating_add(1);
-        } else {
-            assert_eq!(rt; keys.get(0), Some("k"));
+            continue;
+        };
+        let mut keys = KeyPool::new(rt.alloc());
+        for (key, place, before) in [(&first, 0, 0), (&second, 1, 1)] {
+            while keys.place(key) != Ok(place) && refused < 2 {
+                assert_eq!(rt; keys.len(), before);
+                refused = refused.saturating_add(1);
+            }
         }
+        // A key that is there takes no memory.
+        assert_eq!(rt; keys.place(&first), Ok(0));
+        assert_eq!(rt; keys.get(1), Some("m"));
+    }
+    assert!(rt; refused < 2);
+}
+
+#[test]
+fn refused_values(rt: HostRuntime) {
+    let mut refused = 0u8;
+    for _turn in 0..2 {
+        let Ok(text) = Text::from_str(rt.alloc(), LONG) else {
+            refused = refused.saturating_add(1);
+            continue;
+        };
+        let entries = [Value::Int(5), Value::Text(text)];
+        let mut values = ValuePool::new(rt.alloc());
+        for (place, value) in entries.iter().enumerate() {
+            while values.place(value) != Ok(place as u32) && refused < 2 {
+                assert_eq!(rt; values.len(), place);
+                refused = refused.saturating_add(1);
+            }
+        }
+        // A value that is there takes no memory.
+        assert_eq!(rt; values.place(&entries[0]), Ok(0));
+        assert!(rt; values.get(1) == Some(&entries[1]));
     }
     assert!(rt; refused < 2);
 }
@@ -156,7 +190,7 @@ fn refused_places(rt: HostRuntime) {
 fn refused_tags(rt: HostRuntime) {
     let mut refused = 0u8;
     for _turn in 0..2 {
-        let Ok(used) = attribute(rt.alloc(), "k", Value::Uint(5)) else {
+        let Ok(used) = attribute(rt.alloc(), LONG, Value::Uint(5)) else {
             refused = refused.saturating_add(1);
             continue;
         };
@@ -166,7 +200,7 @@ fn refused_tags(rt: HostRuntime) {
             Ok(tags) => assert_eq!(rt; tags.as_slice(), [0, 0].as_slice()),
             Err(error) => {
                 assert_eq!(rt; error, PoolError::Memory);
-                assert!(rt; keys.is_empty() || keys.get(0) == Some("k"));
+                assert!(rt; keys.is_empty() || keys.get(0) == Some(LONG));
                 assert!(rt; values.is_empty() || values.get(0) == Some(&Value::Uint(5)));
                 refused = refused.saturating_add(1);
             }
@@ -177,19 +211,47 @@ fn refused_tags(rt: HostRuntime) {
 
 #[test]
 fn refused_attributes(rt: HostRuntime) {
+    let rows: [(&[u32], Option<TagError>); 5] = [
+        (&[0, 0, 0], fault(3, TagCause::OddTags)),
+        (&[1, 0], fault(0, TagCause::KeyIndex)),
+        (&[0, 1], fault(1, TagCause::ValueIndex)),
+        (&[0, 0], None),
+        (&[], None),
+    ];
+    let mut refused = 0u8;
+    for (tags, answer) in rows {
+        for _turn in 0..2 {
+            let Ok(key) = Text::from_str(rt.alloc(), LONG) else {
+                refused = refused.saturating_add(1);
+                continue;
+            };
+            let (keys, values) = ([key], [Value::Uint(5)]);
+            match resolve(rt.alloc(), &keys, &values, tags) {
+                Ok(found) => {
+                    assert!(rt; answer.is_none() && found.len() == tags.len() / 2);
+                    assert!(rt; found.iter().all(|a| a.key == keys[0] && a.value == values[0]));
+                }
+                Err(TagError::Memory) => refused = refused.saturating_add(1),
+                error => assert!(rt; error.err() == answer),
+            }
+        }
+    }
+    assert!(rt; refused < 2);
+}
+
+#[test]
+fn refused_repeated_keys(rt: HostRuntime) {
     let mut refused = 0u8;
     for _turn in 0..2 {
-        let Ok(key) = Text::from_str(rt.alloc(), "k") else {
+        let first = Text::from_str(rt.alloc(), LONG);
+        let (Ok(first), Ok(second)) = (first, Text::from_str(rt.alloc(), LONG)) else {
             refused = refused.saturating_add(1);
             continue;
         };
-        let (keys, values) = ([key], [Value::Uint(5)]);
-        match resolve(rt.alloc(), &keys, &values, &[0, 0]) {
-            Ok(found) => assert!(rt; found.iter().any(|a| a.key == keys[0])),
-            Err(error) => {
-                assert_eq!(rt; error, TagError::Memory);
-                refused = refused.saturating_add(1);
-            }
+        let (keys, values) = ([first, second], [Value::Uint(5)]);
+        match resolve(rt.alloc(), &keys, &values, &[0, 0, 1, 0]).err() {
+            Some(TagError::Memory) => refused = refused.saturating_add(1),
+            error => assert_eq!(rt; error, fault(2, TagCause::RepeatedKey)),
         }
     }
     assert!(rt; refused < 2);
@@ -199,7 +261,7 @@ fn refused_attributes(rt: HostRuntime) {
 fn refused_copies(rt: HostRuntime) {
     let mut refused = 0u8;
     for _turn in 0..2 {
-        let Ok(key) = Text::from_str(rt.alloc(), "k") else {
+        let Ok(key) = Text::from_str(rt.alloc(), LONG) else {
             refused = refused.saturating_add(1);
             continue;
         };

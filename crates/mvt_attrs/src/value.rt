@@ -20,7 +20,7 @@ pub enum Value {
 }
 
 impl Value {
-    /// An equal value. Only a text takes memory.
+    /// An equal value, which shares a text's memory.
     pub fn copy(&self, alloc: Global) -> Result<Value, AllocError>
         ensures { IfOk result (λ copy. copy ≡ self.now) }
     {
@@ -42,3 +42,5 @@ pub struct Attribute {
     pub key: Text,
     pub value: Value,
 }
+
+const _: () = prove!(std::mem::size_of::<Value>() == 24);

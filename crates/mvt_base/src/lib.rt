@@ -2,12 +2,16 @@
 //! contents, and the words in which every crate states its rules (`specs/Rules.antt`).
 #![tactic(auto)]
 
+mod inline;
 mod items;
 pub mod laws;
 mod text;
 
+pub use inline::ROOM;
 pub use items::Items;
 pub use text::Text;
 
 /// The most bytes that an input, canonical bytes or a list of pool entries may have: 2^26.
 pub const LIMIT: u64 = 67_108_864;
+
+const _: () = prove!(LIMIT == 1 << 26);

@@ -1,61 +1,107 @@
 //! A text that contracts see as its bytes.
-ghost use Rattle.std.specs.Prelude.{◌≡◌, IfOk, string_bytes, IsUtf8};
+ghost use Rattle.std.specs.Prelude.{◌≡◌, ◌≤◌, length, IfOk, IsOk, string_bytes, IsUtf8};
+ghost use Rattle.std.specs.Arc.{arc_str_bytes};
 
+use crate::inline::{Inline, ROOM};
 use std::alloc::{AllocError, Global};
+use std::cmp::Ordering;
+use std::fmt;
 use std::hash::{Hash, Hasher};
 use std::marker::Model;
+use std::sync::ArcStr;
 
-/// A `String` that contracts see as its bytes, which are UTF-8.
+/// A text that contracts see as its bytes, which are UTF-8.
 ///
-/// It is made of a `String`, and gives it back, without memory.
-#[derive(Debug, Drop)]
+/// Up to `ROOM` bytes lie in the value itself; a longer text is one block of memory, which its
+/// copies share. So a copy of a text never copies a long text's bytes.
+#[derive(Drop)]
 pub struct Text {
-    string: String,
+    repr: Repr,
+}
+
+#[derive(Drop)]
+enum Repr {
+    Short(Inline),
+    Long(ArcStr),
 }
 
 impl Model for Text {
-    ghost use Rattle.std.specs.Prelude.{List, ℕ, string_bytes, IsUtf8};
+    ghost use Rattle.std.specs.Prelude.{List, ℕ};
+    ghost use Rattle.mvt_base.specs.Texts.{repr_bytes, IsInItsForm};
 
     ghost Value = { List ℕ };
 
-    ghost view = { λ t. string_bytes t.string };
+    ghost view = { λ t. repr_bytes t.repr };
 
-    ghost invariant = { λ t. IsUtf8 (string_bytes t.string) };
+    ghost invariant = { λ t. IsInItsForm t.repr };
 }
 
 impl Text {
-    pub fn new(string: String) -> Self
-        ensures { result ≡ string_bytes string }
+    /// The same text. A short one needs no memory.
+    pub fn from_str(alloc: Global, text: &str) -> Result<Self, AllocError>
+        ensures same { IfOk result (λ copy. copy ≡ text.now) }
+        ensures short { length text.now ≤ ROOM → IsOk result }
     {
-        let _is_utf8 = string.as_str();
-        Text { string }
+        let repr = if text.len() <= ROOM {
+            Repr::Short(Inline::of(text))
+        } else {
+            Repr::Long(ArcStr::from_str(alloc, text)?)
+        };
+        Ok(Text { repr })
     }
 
-    pub fn from_str(alloc: Global, text: &str) -> Result<Self, AllocError>
-        ensures { IfOk result (λ copy. copy ≡ text.now) }
+    /// The text of a `String`, whose memory a long text keeps. A short one needs no memory.
+    pub fn from_string(string: String) -> Result<Self, AllocError>
+        ensures same { IfOk result (λ text. text ≡ string_bytes string) }
+        ensures short { length (string_bytes string) ≤ ROOM → IsOk result }
     {
-        Ok(Text::new(String::from_str(alloc, text)?))
+        let repr = if string.len() <= ROOM {
+            Repr::Short(Inline::of(string.as_str()))
+        } else {
+            Repr::Long(ArcStr::from_string(string)?)
+        };
+        Ok(Text { repr })
     }
 
     pub fn as_str(&self) -> &str
         ensures text { result.now ≡ self.now }
         ensures utf8 { IsUtf8 self.now }
     {
-        self.string.as_str()
+        match &self.repr {
+            Repr::Short(text) => text.as_str(),
+            Repr::Long(text) => text.as_str(),
+        }
     }
 
-    pub fn into_string(self) -> String
-        ensures { string_bytes result ≡ self }
-    {
-        let Text { string } = self;
-        string
-    }
-
-    /// A text of the same bytes.
+    /// A text of the same bytes, which shares a long text's memory.
+    ///
+    /// # Errors
+    /// Memory is wanted only where a long text has as many copies as can be counted, which then
+    /// begins a block of its own.
     pub fn copy(&self, alloc: Global) -> Result<Self, AllocError>
-        ensures { IfOk result (λ copy. copy ≡ self.now) }
+        ensures same { IfOk result (λ copy. copy ≡ self.now) }
+        ensures short { length self.now ≤ ROOM → IsOk result }
     {
-        Text::from_str(alloc, self.as_str())
+        let repr = match &self.repr {
+            Repr::Short(text) => Repr::Short(text.copy()),
+            Repr::Long(text) => Repr::Long(share(alloc, text)?),
+        };
+        Ok(Text { repr })
+    }
+}
+
+fn share(alloc: Global, text: &ArcStr) -> Result<ArcStr, AllocError>
+    ensures { IfOk result (λ copy. arc_str_bytes copy ≡ arc_str_bytes text.now) }
+{
+    match text.clone() {
+        Ok(shared) => Ok(shared),
+        Err(AllocError) => ArcStr::from_str(alloc, text.as_str()),
+    }
+}
+
+impl fmt::Debug for Text {
+    fn fmt<W: fmt::Write>(&self, f: &mut fmt::Formatter<W>) -> fmt::Result {
+        fmt::Debug::fmt(&self.as_str(), f)
     }
 }
 
@@ -80,6 +126,43 @@ impl Eq for Text {
     ghost laws = { Prim.search (comparing, rules) };
 }
 
+impl PartialOrd for Text {
+    ghost use Rattle.std.specs.Ordering.{nat_cmp, as_partial_cmp};
+    ghost use Rattle.std.specs.Cmp.Lexicographic.{slice_cmp};
+    ghost use Rattle.std.specs.Cmp.{partial_order_from_own_ties};
+    ghost use Rattle.std.proofs.Common.{rules};
+    ghost use Rattle.std.specs.Cmp.Rules.{comparing};
+
+    ghost partial_cmp = { as_partial_cmp (slice_cmp nat_cmp) };
+
+    ghost laws = { partial_order_from_own_ties (Prim.search (comparing, rules))
+        (Prim.search (comparing, rules)) };
+
+    fn partial_cmp(&self, other: &Self) -> Option<Ordering> {
+        Some(self.cmp(other))
+    }
+}
+
+/// By bytes, one by one.
+impl Ord for Text {
+    ghost use Rattle.std.specs.Ordering.{nat_cmp};
+    ghost use Rattle.std.specs.Cmp.Lexicographic.{slice_cmp};
+    ghost use Rattle.std.proofs.Common.{rules};
+    ghost use Rattle.std.specs.Cmp.Rules.{comparing};
+
+    ghost cmp = { slice_cmp nat_cmp };
+
+    ghost total = { Prim.search (comparing, rules) };
+
+    ghost matches_partial_cmp = { Prim.search (comparing, rules) };
+
+    ghost matches_eq = { Prim.search (comparing, rules) };
+
+    fn cmp(&self, other: &Self) -> Ordering {
+        self.as_str().cmp(other.as_str())
+    }
+}
+
 impl Hash for Text {
     ghost use Rattle.std.specs.Hash as fed;
     ghost use Rattle.std.proofs.Common.{rules};
@@ -93,3 +176,5 @@ impl Hash for Text {
         self.as_str().hash(state);
     }
 }
+
+const _: () = prove!(std::mem::size_of::<Text>() == 16);

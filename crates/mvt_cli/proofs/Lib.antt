@@ -1,5 +1,6 @@
 mod Commands
 mod Fronts
+mod Inputs
 mod Lines
 mod OneReply
 mod Picks

@@ -24,6 +24,10 @@ pub show_alone : (name : List ℕ) → fault_of mvt (name ∷ codes "show" ∷ [
 unfolding clap_on_literals mvt extract_app
 show_alone name = refl
 
+pub draw_alone : (name : List ℕ) → fault_of mvt (name ∷ codes "draw" ∷ []) ≡ []
+unfolding clap_on_literals mvt extract_app
+draw_alone name = refl
+
 pub check_alone : (name : List ℕ) → fault_of mvt (name ∷ codes "check" ∷ []) ≡ []
 unfolding clap_on_literals mvt extract_app
 check_alone name = refl
@@ -39,8 +43,9 @@ mvt_simple = refl
 pub bare_alone : (name word : List ℕ) → IsBare word → fault_of mvt (name ∷ word ∷ []) ≡ []
 bare_alone name word (inl h) = ap (λ w. fault_of mvt (name ∷ w ∷ [])) h ∙ fields_alone name
 bare_alone name word (inr (inl h)) = ap (λ w. fault_of mvt (name ∷ w ∷ [])) h ∙ show_alone name
-bare_alone name word (inr (inr (inl h))) = ap (λ w. fault_of mvt (name ∷ w ∷ [])) h ∙ check_alone name
-bare_alone name word (inr (inr (inr h))) = ap (λ w. fault_of mvt (name ∷ w ∷ [])) h ∙ rewrite_alone name
+bare_alone name word (inr (inr (inl h))) = ap (λ w. fault_of mvt (name ∷ w ∷ [])) h ∙ draw_alone name
+bare_alone name word (inr (inr (inr (inl h)))) = ap (λ w. fault_of mvt (name ∷ w ∷ [])) h ∙ check_alone name
+bare_alone name word (inr (inr (inr (inr h)))) = ap (λ w. fault_of mvt (name ∷ w ∷ [])) h ∙ rewrite_alone name
 
 -- a list that isn't empty is given to clap
 pub given_to_clap : {A : Type 0} → (text : A → List ℕ) (words : List A) → (length words == 0) ≡ false → faults_in (map text words) ≡ fault_of mvt (map text words)

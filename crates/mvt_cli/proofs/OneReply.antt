@@ -7,8 +7,8 @@ use Rattle.mvt_tile.specs.Tiles.{IsTile}
 use Rattle.mvt_view.specs.FaultLines.{fault_line}
 use Rattle.mvt_cli.specs.declared.reply.Reply.{Reply}
 use Rattle.mvt_cli.specs.declared.words.Task.{Task}
-use Rattle.mvt_cli.specs.declared.words.Task.TheVariants.{Fields, Show, Check, Rewrite, Extract}
-use Rattle.mvt_cli.specs.Output.{IsReply, IsTold, fields_reply, bytes_reply, layers_reply, done, refused, json_lines, check_lines}
+use Rattle.mvt_cli.specs.declared.words.Task.TheVariants.{Fields, Show, Draw, Check, Rewrite, Extract}
+use Rattle.mvt_cli.specs.Output.{IsReply, IsTold, fields_reply, bytes_reply, layers_reply, done, refused, json_lines, svg_lines, check_lines}
 
 there_is : (limit : ℕ) (of_tile : Tile → Reply) (input : List ℕ) (o : Option Fault) → fault_within limit input ≡ o → (o ≡ None → (tile : Tile) × IsTile limit input tile) → (reply : Reply) × IsTold limit of_tile input reply
 there_is limit of_tile input None is there = let (tile, is_tile) = there refl in (of_tile tile, inl (tile, is_tile, refl))
@@ -20,6 +20,7 @@ told limit of_tile there input = there_is limit of_tile input (fault_within limi
 pub has_reply : (limit : ℕ) → ((b : List ℕ) → fault_within limit b ≡ None → (tile : Tile) × IsTile limit b tile) → (task : Task) (input : List ℕ) → (reply : Reply) × IsReply limit task input reply
 has_reply limit there Fields input = (fields_reply limit input, refl)
 has_reply limit there Show input = told limit (λ tile. done (json_lines tile)) there input
+has_reply limit there Draw input = told limit (λ tile. done (svg_lines tile)) there input
 has_reply limit there Check input = told limit (λ tile. done (check_lines input tile)) there input
 has_reply limit there Rewrite input = told limit (bytes_reply limit) there input
 has_reply limit there (Extract names) input = told limit (layers_reply limit names) there input
@@ -38,6 +39,7 @@ pub has_one_reply : (limit : ℕ) → ((b : List ℕ) (tile : Tile) → IsTile l
     → (task : Task) (input : List ℕ) (a b : Reply) → IsReply limit task input a → IsReply limit task input b → a ≡ b
 has_one_reply limit clean once Fields input a b a_is b_is = a_is ∙ sym b_is
 has_one_reply limit clean once Show input a b a_is b_is = told_once limit (λ tile. done (json_lines tile)) clean once input a b a_is b_is
+has_one_reply limit clean once Draw input a b a_is b_is = told_once limit (λ tile. done (svg_lines tile)) clean once input a b a_is b_is
 has_one_reply limit clean once Check input a b a_is b_is = told_once limit (λ tile. done (check_lines input tile)) clean once input a b a_is b_is
 has_one_reply limit clean once Rewrite input a b a_is b_is = told_once limit (bytes_reply limit) clean once input a b a_is b_is
 has_one_reply limit clean once (Extract names) input a b a_is b_is = told_once limit (layers_reply limit names) clean once input a b a_is b_is

@@ -1,5 +1,6 @@
 -- Why a run ends before its output is complete: its status, its line, its cause, and what it leaves of the output.
-use Rattle.std.specs.Prelude.{◌≡◌, ℕ, ◌⊎◌, Bool, true, false, List, ◌++◌, codes, ⊤}
+use Rattle.std.specs.Prelude.{◌≡◌, ℕ, ◌⊎◌, Bool, true, false, List, ◌++◌, codes}
+use Rattle.mvt_io.specs.Counts.{HasFailed}
 use Rattle.mvt_io.specs.declared.read_error.ReadError.{ReadError}
 use Rattle.mvt_io.specs.declared.read_error.ReadError.TheVariants as reading
 use Rattle.mvt_tile.specs.declared.fault.DecodeError.{DecodeError}
@@ -23,11 +24,15 @@ abbrev pub failure_of : ReadError → Failure
 failure_of (reading.Read kind) = Read
 failure_of reading.Memory = Memory
 
+-- one call of a device failed, and it was the last
+abbrev pub EndsFailed : ℕ → ℕ → Bool → Type 0
+EndsFailed old new ended = HasFailed old new × (ended ≡ true)
+
 -- a failure has its cause in the reader, in the writer, or in neither
-abbrev pub IsCaused : Type 0 → Type 0 → Failure → Type 0
-IsCaused ReadFailed WriteFailed Read = ReadFailed
-IsCaused ReadFailed WriteFailed Write = WriteFailed
-IsCaused ReadFailed WriteFailed Memory = ⊤
+abbrev pub IsCaused : Type 0 → Type 0 → Type 0 → Failure → Type 0
+IsCaused ReadFailed WriteFailed NothingFailed Read = ReadFailed
+IsCaused ReadFailed WriteFailed NothingFailed Write = WriteFailed
+IsCaused ReadFailed WriteFailed NothingFailed Memory = NothingFailed
 
 -- a failure leaves the output as it was, or partly written: after a failed write, and for want of memory where the text
 -- isn't made whole before it is written

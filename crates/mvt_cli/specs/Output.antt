@@ -13,9 +13,10 @@ use Rattle.mvt_view.specs.FaultLines.{fault_line}
 use Rattle.mvt_view.specs.FieldLines.{fields_lines, fields_fault}
 use Rattle.mvt_view.specs.JsonForms.{json}
 use Rattle.mvt_view.specs.Reports.{report_lines}
+use Rattle.mvt_view.specs.Svg.{svg}
 use Rattle.mvt_cli.specs.declared.reply.Reply.{Reply}
 use Rattle.mvt_cli.specs.declared.words.Task.{Task}
-use Rattle.mvt_cli.specs.declared.words.Task.TheVariants.{Fields, Show, Check, Rewrite, Extract}
+use Rattle.mvt_cli.specs.declared.words.Task.TheVariants.{Fields, Show, Draw, Check, Rewrite, Extract}
 
 -- a text is written, and no line is told
 abbrev pub done : List ℕ → Reply
@@ -35,6 +36,10 @@ fields_reply limit input = record {
 -- the JSON, and a line feed
 abbrev pub json_lines : Tile → List ℕ
 json_lines tile = compact_text (json tile) ++ codes "\n"
+
+-- the picture, and a line feed
+abbrev pub svg_lines : Tile → List ℕ
+svg_lines tile = svg tile ++ codes "\n"
 
 -- the report, which says yes exactly where the input is the tile's canonical bytes
 abbrev pub check_lines : List ℕ → Tile → List ℕ
@@ -71,6 +76,7 @@ IsTold limit of_tile input reply =
 abbrev pub IsReply : ℕ → Task → List ℕ → Reply → Type 0
 IsReply limit Fields input reply = reply ≡ fields_reply limit input
 IsReply limit Show input reply = IsTold limit (λ tile. done (json_lines tile)) input reply
+IsReply limit Draw input reply = IsTold limit (λ tile. done (svg_lines tile)) input reply
 IsReply limit Check input reply = IsTold limit (λ tile. done (check_lines input tile)) input reply
 IsReply limit Rewrite input reply = IsTold limit (bytes_reply limit) input reply
 IsReply limit (Extract names) input reply = IsTold limit (layers_reply limit names) input reply
@@ -83,6 +89,7 @@ IsOf limit of_tile input text = (tile : Tile) × IsTile limit input tile × (tex
 abbrev pub IsWhole : ℕ → Task → List ℕ → List ℕ → Type 0
 IsWhole limit Fields input text = text ≡ fields_lines limit input
 IsWhole limit Show input text = IsOf limit json_lines input text
+IsWhole limit Draw input text = IsOf limit svg_lines input text
 IsWhole limit Check input text = IsOf limit (check_lines input) input text
 IsWhole limit Rewrite input text = IsOf limit canonical input text
 IsWhole limit (Extract names) input text = IsOf limit (λ tile. canonical (pick tile names)) input text
@@ -91,9 +98,18 @@ IsWhole limit (Extract names) input text = IsOf limit (λ tile. canonical (pick 
 abbrev pub is_made_whole : Task → Bool
 is_made_whole Fields = true
 is_made_whole Show = true
+is_made_whole Draw = true
 is_made_whole Check = true
 is_made_whole Rewrite = false
 is_made_whole (Extract names) = false
+
+-- of a task that reads its input whole before it works
+abbrev pub IfReadWhole : Task → Type 0 → Type 0
+IfReadWhole Fields P = P
+IfReadWhole Show P = ⊤
+IfReadWhole Check P = P
+IfReadWhole Rewrite P = ⊤
+IfReadWhole (Extract names) P = ⊤
 
 -- a line is told exactly with status 1
 abbrev pub status_with : Option (List ℕ) → ℕ

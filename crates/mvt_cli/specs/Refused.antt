@@ -1,5 +1,5 @@
 -- Why a line isn't run.
-use Rattle.std.specs.Prelude.{⊤}
+use Rattle.std.specs.Prelude.{ℕ, List, [], string_bytes, ⊤}
 use Rattle.mvt_cli.specs.declared.words.Refusal.{Refusal}
 use Rattle.mvt_cli.specs.declared.words.Refusal.TheVariants.{Usage, Memory}
 
@@ -7,3 +7,8 @@ use Rattle.mvt_cli.specs.declared.words.Refusal.TheVariants.{Usage, Memory}
 abbrev pub IsUsage : Refusal → Type 0
 IsUsage (Usage text) = ⊤
 IsUsage Memory = ⊥
+
+-- what the user is told of the words
+abbrev pub usage_text : Refusal → List ℕ
+usage_text (Usage text) = string_bytes text
+usage_text Memory = []

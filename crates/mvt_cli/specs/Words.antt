@@ -5,7 +5,7 @@ use Rattle.clap.specs.Words.{App, Row, Rule, new_app, new_rule, all_of, with_rul
 use Rattle.clap.specs.Kinds.{Kinds}
 use Rattle.clap.specs.declared.builder.action.ArgAction.TheVariants.{Append}
 use Rattle.mvt_cli.specs.declared.words.Task.{Task}
-use Rattle.mvt_cli.specs.declared.words.Task.TheVariants.{Fields, Show, Check, Rewrite, Extract}
+use Rattle.mvt_cli.specs.declared.words.Task.TheVariants.{Fields, Show, Draw, Check, Rewrite, Extract}
 
 -- the names of layers: one or more
 abbrev pub names_rule : Rule
@@ -28,7 +28,7 @@ unfoldable pub mvt : App
 unfolding extract_app
 mvt =
     with_subcommand
-    (with_bare (with_bare (with_bare (with_bare (new_app (codes "mvt")) (codes "fields")) (codes "show")) (codes "check")) (codes "rewrite"))
+    (with_bare (with_bare (with_bare (with_bare (with_bare (new_app (codes "mvt")) (codes "fields")) (codes "show")) (codes "draw")) (codes "check")) (codes "rewrite"))
     extract_app.top
 
 -- why the words are refused, or nothing; an empty list isn't given to clap
@@ -48,9 +48,10 @@ abbrev pub task_named : List ℕ → List Row → Task
 task_named name rows =
     if bytes_eq name (codes "fields") then Fields
     else (if bytes_eq name (codes "show") then Show
+    else (if bytes_eq name (codes "draw") then Draw
     else (if bytes_eq name (codes "rewrite") then Rewrite
     else (if bytes_eq name (codes "extract") then Extract (names_given rows)
-    else Check)))
+    else Check))))
 
 -- of a line without a subcommand `check`
 abbrev pub task_of_subcommand : Option (List ℕ × List Row) → Task
@@ -63,7 +64,7 @@ task_in words = task_of_subcommand (subcommand_in words)
 
 -- the subcommands that take no words of their own
 abbrev pub IsBare : List ℕ → Type 0
-IsBare word = (word ≡ codes "fields") ⊎ ((word ≡ codes "show") ⊎ ((word ≡ codes "check") ⊎ (word ≡ codes "rewrite")))
+IsBare word = (word ≡ codes "fields") ⊎ ((word ≡ codes "show") ⊎ ((word ≡ codes "draw") ⊎ ((word ≡ codes "check") ⊎ (word ≡ codes "rewrite"))))
 
 -- a line that is never refused: nothing, the program's name, or its name and a subcommand without
 -- names

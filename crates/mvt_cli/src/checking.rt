@@ -1,9 +1,9 @@
 //! The command `check`.
-ghost use Rattle.std.specs.Prelude.{◌≡◌, ◌+◌, ◌≤◌, length, bytes_eq, IfOk, IfErr, IfSome};
-ghost use Rattle.mvt_io.specs.Counts.{HasFailed};
+ghost use Rattle.std.specs.Prelude.{◌≡◌, ◌+◌, ◌≤◌, max, length, bytes_eq, IfOk, IfErr, IfSome, OnOk};
+ghost use Rattle.mvt_io.specs.Transfers.{TakesAtMost};
 ghost use Rattle.mvt_tile.specs.CanonicalTiles.{canonical};
 ghost use Rattle.mvt_tile.specs.ValidTiles.{Valid};
-ghost use Rattle.mvt_cli.specs.Failures.{IsCaused};
+ghost use Rattle.mvt_cli.specs.Failures.{EndsFailed, IsCaused};
 ghost use Rattle.mvt_cli.specs.Output.{IsReply, HasOutput, done, check_lines};
 
 use crate::failure::Failure;
@@ -20,8 +20,12 @@ use std::alloc::Global;
 pub fn check<R: Source>(alloc: Global, reader: &mut R) -> Result<Reply, Failure>
     ensures reply { IfOk result (λ reply. IfSome (R.left reader.old) (λ input. IsReply LIMIT Task.Check input reply)) }
     ensures output { IfOk result HasOutput }
-    ensures failed { IfErr result (IsCaused (HasFailed (R.failed reader.old) (R.failed reader.new)) ⊥) }
+    ensures failed { IfErr result (IsCaused (EndsFailed (R.failed reader.old) (R.failed reader.new) (R.ended reader.new))
+        ⊥ (R.failed reader.new ≡ R.failed reader.old)) }
+    ensures sound { OnOk result (R.failed reader.new ≡ R.failed reader.old) }
     ensures reads { R.reads reader.new ≤ R.reads reader.old + 67108866 }
+    ensures asked { R.asked reader.new ≤ max (R.asked reader.old) 65536 }
+    ensures leaves { TakesAtMost (LIMIT + 1) (R.left reader.old) (R.left reader.new) }
 {
     let input = read_all(alloc, reader)?;
     checked(alloc, &input)
@@ -50,7 +54,7 @@ fn reported(alloc: Global, tile: &Tile, input: &[u8]) -> Result<Reply, Failure>
     let canonical = is_canonical(alloc, tile, input)?;
     let text = report_text(alloc, tile, canonical)?;
     Ok(Reply {
-        written: Some(Text::new(text)),
+        written: Some(Text::from_string(text)?),
         told: None,
     })
 }

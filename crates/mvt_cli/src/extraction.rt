@@ -1,12 +1,12 @@
 //! The command `extract`.
-ghost use Rattle.std.specs.Prelude.{◌≡◌, ◌+◌, ◌<◌, ◌≤◌, false, List, ℕ, length, map, option_map, slice_get, string_bytes, IfOk, IfErr, IfSome};
+ghost use Rattle.std.specs.Prelude.{◌≡◌, ◌+◌, ◌<◌, ◌≤◌, max, false, List, ℕ, length, map, option_map, slice_get, string_bytes, IfOk, IfErr, IfSome, OnOk};
 ghost use Rattle.std.specs.Io.KnownBytes.{Appends};
-ghost use Rattle.mvt_io.specs.Counts.{counted, HasFailed};
+ghost use Rattle.mvt_io.specs.Counts.{counted};
 ghost use Rattle.mvt_io.specs.Transfers.{TakesPrefix};
 ghost use Rattle.mvt_tile.specs.CanonicalTiles.{canonical};
 ghost use Rattle.mvt_tile.specs.Extraction.{pick};
 ghost use Rattle.mvt_tile.specs.ValidTiles.{Valid};
-ghost use Rattle.mvt_cli.specs.Failures.{IsCaused, LeavesOutput};
+ghost use Rattle.mvt_cli.specs.Failures.{EndsFailed, IsCaused, LeavesOutput};
 ghost use Rattle.mvt_cli.specs.Output.{Answers, IsFlushed, IsWhole, PutsOut, layers_reply, missing_line};
 
 use crate::failure::Failure;
@@ -31,12 +31,15 @@ pub fn extract_layers<R: Source, W: Sink>(
         × (W.flushes writer.new ≡ counted (W.flushes writer.old))))) }
     ensures flushed { IfOk result (IsFlushed (writer.new ≡ writer.old)
         (W.flushes writer.new ≡ counted (W.flushes writer.old))) }
-    ensures caused { IfErr result (IsCaused (HasFailed (R.failed reader.old) (R.failed reader.new))
-        (HasFailed (W.failed writer.old) (W.failed writer.new))) }
+    ensures caused { IfErr result (IsCaused ((EndsFailed (R.failed reader.old) (R.failed reader.new) (R.ended reader.new)) × (W.failed writer.new ≡ W.failed writer.old))
+        ((R.failed reader.new ≡ R.failed reader.old) × (EndsFailed (W.failed writer.old) (W.failed writer.new) (W.ended writer.new)))
+        ((R.failed reader.new ≡ R.failed reader.old) × (W.failed writer.new ≡ W.failed writer.old))) }
+    ensures sound { OnOk result ((R.failed reader.new ≡ R.failed reader.old) × (W.failed writer.new ≡ W.failed writer.old)) }
     ensures partly { IfErr result (LeavesOutput false (writer.new ≡ writer.old)
         (IfSome (R.left reader.old) (λ input. (text : List ℕ) × IsWhole LIMIT (Task.Extract names.now) input text
         × TakesPrefix (W.taken writer.old) (W.taken writer.new) text))) }
     ensures reads { R.reads reader.new ≤ R.reads reader.old + 67108866 }
+    ensures asked { R.asked reader.new ≤ max (R.asked reader.old) 65536 }
 {
     match read_tile(alloc, reader) {
         Ok(tile) => put_layers(alloc, &tile, names.as_slice(), writer),
@@ -56,7 +59,8 @@ fn put_layers<W: Sink>(
         × (W.flushes writer.new ≡ counted (W.flushes writer.old))) (layers_reply LIMIT (map string_bytes names.now) tile.now)) }
     ensures flushed { IfOk result (IsFlushed (writer.new ≡ writer.old)
         (W.flushes writer.new ≡ counted (W.flushes writer.old))) }
-    ensures caused { IfErr result (IsCaused ⊥ (HasFailed (W.failed writer.old) (W.failed writer.new))) }
+    ensures caused { IfErr result (IsCaused ⊥ (EndsFailed (W.failed writer.old) (W.failed writer.new) (W.ended writer.new)) (W.failed writer.new ≡ W.failed writer.old)) }
+    ensures honest { OnOk result (W.failed writer.new ≡ W.failed writer.old) }
     ensures partly { IfErr result (LeavesOutput false (writer.new ≡ writer.old)
         (TakesPrefix (W.taken writer.old) (W.taken writer.new) (canonical (pick tile.now (map string_bytes names.now))))) }
 {
@@ -81,5 +85,5 @@ fn missing_text(alloc: Global, name: &str) -> Result<Text, AllocError>
     ensures { IfOk result (λ line. line ≡ missing_line name.now) }
 {
     let line = format!(in alloc; "mvt: layer not found: {name}\n")?;
-    Ok(Text::new(line))
+    Text::from_string(line)
 }

@@ -23,6 +23,7 @@ pub fn lines_ask()
     ensures alone { (name : List ℕ) → task_in (name ∷ []) ≡ Task.Check }
     ensures fields { (name : List ℕ) → task_in (name ∷ codes "fields" ∷ []) ≡ Task.Fields }
     ensures show { (name : List ℕ) → task_in (name ∷ codes "show" ∷ []) ≡ Task.Show }
+    ensures draw { (name : List ℕ) → task_in (name ∷ codes "draw" ∷ []) ≡ Task.Draw }
     ensures check { (name : List ℕ) → task_in (name ∷ codes "check" ∷ []) ≡ Task.Check }
     ensures rewrite { (name : List ℕ) → task_in (name ∷ codes "rewrite" ∷ []) ≡ Task.Rewrite }
     ensures extract { (name : List ℕ) → task_in (name ∷ codes "extract" ∷ codes "b" ∷ codes "a" ∷ [])

@@ -1,7 +1,7 @@
 //! The command `fields`.
-ghost use Rattle.std.specs.Prelude.{◌≡◌, ◌+◌, ◌≤◌, IfOk, IfErr, IfSome};
-ghost use Rattle.mvt_io.specs.Counts.{HasFailed};
-ghost use Rattle.mvt_cli.specs.Failures.{IsCaused};
+ghost use Rattle.std.specs.Prelude.{◌≡◌, ◌+◌, ◌≤◌, max, IfOk, IfErr, IfSome, OnOk};
+ghost use Rattle.mvt_io.specs.Transfers.{TakesAtMost};
+ghost use Rattle.mvt_cli.specs.Failures.{EndsFailed, IsCaused};
 ghost use Rattle.mvt_cli.specs.Output.{IsReply, fields_reply, HasOutput};
 
 use crate::failure::Failure;
@@ -17,8 +17,12 @@ use std::alloc::Global;
 pub fn list_fields<R: Source>(alloc: Global, reader: &mut R) -> Result<Reply, Failure>
     ensures reply { IfOk result (λ reply. IfSome (R.left reader.old) (λ input. IsReply LIMIT Task.Fields input reply)) }
     ensures output { IfOk result HasOutput }
-    ensures failed { IfErr result (IsCaused (HasFailed (R.failed reader.old) (R.failed reader.new)) ⊥) }
+    ensures failed { IfErr result (IsCaused (EndsFailed (R.failed reader.old) (R.failed reader.new) (R.ended reader.new))
+        ⊥ (R.failed reader.new ≡ R.failed reader.old)) }
+    ensures sound { OnOk result (R.failed reader.new ≡ R.failed reader.old) }
     ensures reads { R.reads reader.new ≤ R.reads reader.old + 67108866 }
+    ensures asked { R.asked reader.new ≤ max (R.asked reader.old) 65536 }
+    ensures leaves { TakesAtMost (LIMIT + 1) (R.left reader.old) (R.left reader.new) }
 {
     mvt_view::laws::front_tells();
     let input = read_all(alloc, reader)?;
@@ -36,7 +40,7 @@ fn listed(alloc: Global, input: &[u8]) -> Result<Reply, Failure>
         Some(fault) => Some(fault_told(alloc, &fault)?),
     };
     Ok(Reply {
-        written: Some(Text::new(lines)),
+        written: Some(Text::from_string(lines)?),
         told,
     })
 }

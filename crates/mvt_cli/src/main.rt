@@ -1,7 +1,8 @@
-//! The program `mvt`: lists, shows, checks, rewrites and extracts Mapbox Vector Tiles.
+//! The program `mvt`: lists, shows, draws, checks, rewrites and extracts Mapbox Vector Tiles.
 #![tactic(auto)]
 
 mod checking;
+mod drawing;
 mod extraction;
 mod failure;
 mod laws;

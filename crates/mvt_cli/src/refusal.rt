@@ -16,7 +16,7 @@ pub fn fault_told(alloc: Global, fault: &Fault) -> Result<Text, Failure>
 {
     let mut line = fault_text(alloc, fault)?;
     line.push_str("\n")?;
-    Ok(Text::new(line))
+    Ok(Text::from_string(line)?)
 }
 
 /// The line of a tile that is refused, where it isn't memory or a read that failed.

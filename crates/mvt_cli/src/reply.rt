@@ -1,8 +1,9 @@
 //! What a command answers, and how it is put out.
 ghost use Rattle.std.specs.Prelude.{◌≡◌, OnOk, OnErr, IfOk, IfErr};
 ghost use Rattle.std.specs.Io.KnownBytes.{Appends};
-ghost use Rattle.mvt_io.specs.Counts.{counted, HasFailed, NoneFailed};
+ghost use Rattle.mvt_io.specs.Counts.{counted, NoneFailed};
 ghost use Rattle.mvt_io.specs.Transfers.{TakesPrefix};
+ghost use Rattle.mvt_cli.specs.Failures.{EndsFailed};
 ghost use Rattle.mvt_cli.specs.Output.{PutsOut};
 
 use crate::failure::Failure;
@@ -29,7 +30,8 @@ pub fn deliver<W: Sink>(reply: Reply, writer: &mut W) -> Result<Option<Text>, Fa
         × (W.flushes writer.new ≡ counted (W.flushes writer.old))) reply) }
     ensures prefix { OnErr result (PutsOut ⊥ (TakesPrefix (W.taken writer.old) (W.taken writer.new)) reply) }
     ensures failed { IfErr result (λ failure. (failure ≡ Failure.Write)
-        × HasFailed (W.failed writer.old) (W.failed writer.new)) }
+        × EndsFailed (W.failed writer.old) (W.failed writer.new) (W.ended writer.new)) }
+    ensures honest { OnOk result (W.failed writer.new ≡ W.failed writer.old) }
 {
     let Reply { written, told } = reply;
     if let Some(text) = written {
@@ -44,7 +46,8 @@ fn put_out<W: Sink>(text: &str, writer: &mut W) -> Result<(), Failure>
     ensures flushed { OnOk result (W.flushes writer.new ≡ counted (W.flushes writer.old)) }
     ensures prefix { OnErr result (TakesPrefix (W.taken writer.old) (W.taken writer.new) text.now) }
     ensures failed { IfErr result (λ failure. (failure ≡ Failure.Write)
-        × HasFailed (W.failed writer.old) (W.failed writer.new)) }
+        × EndsFailed (W.failed writer.old) (W.failed writer.new) (W.ended writer.new)) }
+    ensures honest { OnOk result (W.failed writer.new ≡ W.failed writer.old) }
 {
     write_all(writer, text.as_bytes()).map_err(|_| Failure::Write)?;
     writer.flush().map_err(|_| Failure::Write)

@@ -1,14 +1,15 @@
 //! The program over any reader and writers.
-ghost use Rattle.std.specs.Prelude.{◌≡◌, ◌≢◌, ◌+◌, ◌<◌, ◌≤◌, ◌⊎◌, ◌↔◌, List, ℕ, [], map, string_bytes, IfOk, IfErr, IfSome};
+ghost use Rattle.std.specs.Prelude.{◌≡◌, ◌≢◌, ◌+◌, ◌<◌, ◌≤◌, ◌⊎◌, ◌↔◌, max, List, ℕ, [], map, string_bytes, IfOk, IfErr, IfSome, OnOk};
 ghost use Rattle.std.specs.Io.KnownBytes.{Appends};
-ghost use Rattle.mvt_io.specs.Counts.{counted, HasFailed, NoneFailed};
-ghost use Rattle.mvt_io.specs.Transfers.{TakesPrefix};
-ghost use Rattle.mvt_cli.specs.Failures.{IsCaused, LeavesOutput, line_of, status_of};
+ghost use Rattle.mvt_io.specs.Counts.{counted, NoneFailed};
+ghost use Rattle.mvt_io.specs.Transfers.{TakesAtMost, TakesPrefix};
+ghost use Rattle.mvt_cli.specs.Failures.{EndsFailed, IsCaused, LeavesOutput, line_of, status_of};
 ghost use Rattle.mvt_cli.specs.Words.{task_in, faults_in, IsPlainLine};
-ghost use Rattle.mvt_cli.specs.Refused.{IsUsage};
-ghost use Rattle.mvt_cli.specs.Output.{Answers, Gives, IsFlushed, IsWhole, is_made_whole};
+ghost use Rattle.mvt_cli.specs.Refused.{IsUsage, usage_text};
+ghost use Rattle.mvt_cli.specs.Output.{Answers, Gives, IfReadWhole, IsFlushed, IsWhole, is_made_whole};
 
 use crate::checking::check;
+use crate::drawing::draw;
 use crate::extraction::extract_layers;
 use crate::failure::Failure;
 use crate::listing::list_fields;
@@ -44,19 +45,27 @@ pub fn run<R: Source, W: Sink, E: Sink>(
     ensures failed { 2 < result → (failure : Failure) × (result ≡ status_of failure)
         × (NoneFailed (E.failed errors.old) (E.failed errors.new)
         → Appends (E.taken errors.old) (E.taken errors.new) (line_of failure))
-        × IsCaused (HasFailed (R.failed reader.old) (R.failed reader.new))
-        (HasFailed (W.failed writer.old) (W.failed writer.new)) failure
+        × IsCaused ((EndsFailed (R.failed reader.old) (R.failed reader.new) (R.ended reader.new)) × (W.failed writer.new ≡ W.failed writer.old))
+        ((R.failed reader.new ≡ R.failed reader.old) × (EndsFailed (W.failed writer.old) (W.failed writer.new) (W.ended writer.new)))
+        ((R.failed reader.new ≡ R.failed reader.old) × (W.failed writer.new ≡ W.failed writer.old)) failure
         × LeavesOutput (is_made_whole (task_in (map string_bytes words.now))) (writer.new ≡ writer.old)
         (IfSome (R.left reader.old) (λ input. (text : List ℕ)
         × IsWhole LIMIT (task_in (map string_bytes words.now)) input text
         × TakesPrefix (W.taken writer.old) (W.taken writer.new) text)) failure }
 
+    ensures sound { result < 2 → (R.failed reader.new ≡ R.failed reader.old) × (W.failed writer.new ≡ W.failed writer.old) }
+
     // A refused line reads and writes nothing, and no other line is refused.
     ensures refused { faults_in (map string_bytes words.now) ≢ []
         → ((result ≡ 2) ⊎ (result ≡ 4)) × (reader.new ≡ reader.old) × (writer.new ≡ writer.old) }
     ensures usage { result ≡ 2 → faults_in (map string_bytes words.now) ≢ [] }
+    ensures told { result ≡ 2 → (text : List ℕ) × (NoneFailed (E.failed errors.old) (E.failed errors.new)
+        → Appends (E.taken errors.old) (E.taken errors.new) text) }
     ensures plain { IsPlainLine (map string_bytes words.now) → result ≢ 2 }
     ensures reads { R.reads reader.new ≤ R.reads reader.old + 67108866 }
+    ensures asked { R.asked reader.new ≤ max (R.asked reader.old) 65536 }
+    ensures leaves { IfReadWhole (task_in (map string_bytes words.now))
+        (TakesAtMost (LIMIT + 1) (R.left reader.old) (R.left reader.new)) }
     ensures statuses { result < 5 }
 {
     let task = match read_words(alloc, words) {
@@ -79,6 +88,8 @@ pub fn run<R: Source, W: Sink, E: Sink>(
 /// Tells why a line isn't run.
 pub fn refuse<E: Sink>(refusal: Refusal, errors: &mut E) -> u8
     ensures usage { (result ≡ 2) ↔ IsUsage refusal }
+    ensures told { result ≡ 2 → NoneFailed (E.failed errors.old) (E.failed errors.new)
+        → Appends (E.taken errors.old) (E.taken errors.new) (usage_text refusal) }
     ensures line { 2 < result → NoneFailed (E.failed errors.old) (E.failed errors.new)
         → Appends (E.taken errors.old) (E.taken errors.new) (line_of Failure.Memory) }
     ensures statuses { (result ≡ 2) ⊎ (result ≡ 4) }
@@ -107,16 +118,21 @@ fn answer<R: Source, W: Sink>(
         × (W.flushes writer.new ≡ counted (W.flushes writer.old))))) }
     ensures flushed { IfOk result (IsFlushed (writer.new ≡ writer.old)
         (W.flushes writer.new ≡ counted (W.flushes writer.old))) }
-    ensures caused { IfErr result (IsCaused (HasFailed (R.failed reader.old) (R.failed reader.new))
-        (HasFailed (W.failed writer.old) (W.failed writer.new))) }
+    ensures caused { IfErr result (IsCaused ((EndsFailed (R.failed reader.old) (R.failed reader.new) (R.ended reader.new)) × (W.failed writer.new ≡ W.failed writer.old))
+        ((R.failed reader.new ≡ R.failed reader.old) × (EndsFailed (W.failed writer.old) (W.failed writer.new) (W.ended writer.new)))
+        ((R.failed reader.new ≡ R.failed reader.old) × (W.failed writer.new ≡ W.failed writer.old))) }
+    ensures sound { OnOk result ((R.failed reader.new ≡ R.failed reader.old) × (W.failed writer.new ≡ W.failed writer.old)) }
     ensures partly { IfErr result (LeavesOutput (is_made_whole task) (writer.new ≡ writer.old)
         (IfSome (R.left reader.old) (λ input. (text : List ℕ) × IsWhole LIMIT task input text
         × TakesPrefix (W.taken writer.old) (W.taken writer.new) text))) }
     ensures reads { R.reads reader.new ≤ R.reads reader.old + 67108866 }
+    ensures asked { R.asked reader.new ≤ max (R.asked reader.old) 65536 }
+    ensures leaves { IfReadWhole task (TakesAtMost (LIMIT + 1) (R.left reader.old) (R.left reader.new)) }
 {
     match task {
         Task::Fields => deliver(list_fields(alloc, reader)?, writer),
         Task::Show => deliver(show(alloc, reader)?, writer),
+        Task::Draw => deliver(draw(alloc, reader)?, writer),
         Task::Check => deliver(check(alloc, reader)?, writer),
         Task::Rewrite => rewrite(alloc, reader, writer),
         Task::Extract(names) => extract_layers(alloc, &names, reader, writer),

@@ -20,6 +20,16 @@ const ONE_POINT_B: &str = "1A1178020A016212071801220309322228 8020";
 const ONE_POINT_SHOWN: &str =
     "{\"layers\":[{\"extent\":4096,\"features\":[{\"attributes\":[],\"geometry\":{\"points\":[[25,17]]},\"id\":null}],\"name\":\"a\"}]}\n";
 
+const ONE_POINT_DRAWN: &str = concat!(
+    r#"<svg xmlns="http://www.w3.org/2000/svg" viewBox="0 0 1 1">"#,
+    "\n<style>path{fill:none;stroke:currentColor;stroke-width:.2%;stroke-linecap:round;stroke-linejoin:round}",
+    ".points{stroke-width:1%}.polygons{fill:currentColor;fill-opacity:.2;fill-rule:evenodd}</style>\n",
+    r##"<svg color="#0072b2" viewBox="0 0 4096 4096"><title>a</title>"##,
+    "\n",
+    r#"<path class="points" d="M25 17h0"><title>{"attributes":[],"id":null}</title></path>"#,
+    "\n</svg>\n</svg>\n"
+);
+
 // How a run's devices behave: the most bytes in a call, the first read and the first write that fail,
 // whether the flush fails, and the room of the writer.
 #[derive(Clone, Copy)]

@@ -1,13 +1,13 @@
 //! The words of the command line, as clap reads them.
 ghost use Rattle.std.specs.Prelude.{◌≡◌, ◌≢◌, [], false, map, string_bytes, IfOk, IfErr, OnOk};
 ghost use Rattle.clap.specs.declared.builder.command.Command.TheViews.{out-Command as fields_of};
-ghost use Rattle.clap.specs.Words.{app_of, found_of, kind_of, new_app, rows_of, subcommand_rows_of};
+ghost use Rattle.clap.specs.Words.{app_of, found_of, new_app, rows_of, subcommand_rows_of};
 ghost use Rattle.mvt_cli.specs.Words.{mvt, extract_app, task_in, task_named as named, task_of_subcommand, names_given, faults_in};
 ghost use Rattle.mvt_cli.specs.Refused.{IsUsage};
 
 use crate::names::Names;
 use clap::error::ErrorKind;
-use clap::{Arg, ArgAction, ArgMatches, Command, Error};
+use clap::{Arg, ArgAction, ArgMatches, Command};
 use std::alloc::{AllocError, Global};
 use std::rt::Env;
 use std::{env, io};
@@ -19,6 +19,8 @@ pub enum Task {
     Fields,
     /// The tile as JSON.
     Show,
+    /// The tile as a picture.
+    Draw,
     /// Whether the tile is accepted, and what is noted of it.
     Check,
     /// The tile in canonical form.
@@ -63,6 +65,7 @@ fn mvt_command<'a>(alloc: Global) -> Result<Command<'a>, AllocError>
 {
     let fields = bare_command(alloc, "fields", "Lists the top-level fields of the input");
     let show = bare_command(alloc, "show", "Shows the tile as JSON");
+    let draw = bare_command(alloc, "draw", "Draws the tile as a picture in SVG");
     let check = bare_command(
         alloc,
         "check",
@@ -74,6 +77,7 @@ fn mvt_command<'a>(alloc: Global) -> Result<Command<'a>, AllocError>
         .about("Reads a Mapbox Vector Tile from standard input")
         .subcommand(fields)?
         .subcommand(show)?
+        .subcommand(draw)?
         .subcommand(check)?
         .subcommand(rewrite)?
         .subcommand(extract)
@@ -102,16 +106,17 @@ fn extract_command<'a>(alloc: Global) -> Result<Command<'a>, AllocError>
         .arg(names)
 }
 
-/// The refusal for an error of clap's.
-fn refusal_of(alloc: Global, error: Error) -> Refusal
-    ensures { IsUsage result → kind_of error ≢ ErrorKind.OutOfMemory }
+/// The refusal for an error of clap's, by its kind and its text, for which memory may be wanting.
+fn refusal_of(kind: ErrorKind, text: Result<String, AllocError>) -> Refusal
+    ensures usage { IsUsage result → kind ≢ ErrorKind.OutOfMemory }
+    ensures told { kind ≢ ErrorKind.OutOfMemory → IfOk text (λ text. result ≡ Refusal.Usage text) }
 {
-    if error.kind() == ErrorKind::OutOfMemory {
+    if kind == ErrorKind::OutOfMemory {
         return Refusal::Memory;
     }
-    match error.to_string(alloc) {
+    match text {
         Ok(text) => Refusal::Usage(text),
-        Err(_) => Refusal::Memory,
+        Err(AllocError) => Refusal::Memory,
     }
 }
 
@@ -127,7 +132,7 @@ pub fn read_words(alloc: Global, words: &[String]) -> Result<Task, Refusal>
     }
     match mvt_command(alloc)?.try_get_matches_from(words) {
         Ok(matches) => Ok(task_of(alloc, &matches)?),
-        Err(error) => Err(refusal_of(alloc, error)),
+        Err(error) => Err(refusal_of(error.kind(), error.to_string(alloc))),
     }
 }
 
@@ -148,6 +153,7 @@ fn task_named(alloc: Global, name: &str, given: &ArgMatches<'_>) -> Result<Task,
     match name {
         "fields" => Ok(Task::Fields),
         "show" => Ok(Task::Show),
+        "draw" => Ok(Task::Draw),
         "rewrite" => Ok(Task::Rewrite),
         "extract" => Ok(Task::Extract(names_of(alloc, given)?)),
         _ => Ok(Task::Check),

@@ -1,5 +1,11 @@
 -- Lengths of what is written, and the lists that an error leaves.
-use Rattle.std.proofs.Common.{◌≡◌, ℕ, ◌+◌, ◌*◌, ◌<◌, List, [], ◌∷◌, ◌++◌, length, Result, Ok, Err, sym, ap, ◌∙◌, append-nil, arith}
+use Rattle.std.proofs.Common.{◌≡◌, ℕ, ◌+◌, ◌*◌, ◌<◌, List, [], ◌∷◌, ◌++◌, length, take, Result, Ok, Err, inl, sym, ap, subst, ◌∙◌, append-nil, arith}
+use Rattle.std.proofs.lemmas.List.{take_all}
+use Rattle.std.proofs.lemmas.Option.{slice_get_within}
+use Rattle.mvt_attrs.specs.declared.value.Value.{Value}
+use Rattle.mvt_attrs.specs.declared.value.Attribute.{Attribute}
+use Rattle.mvt_attrs.specs.Placed.{ArePlaced, AreTold, IsFullAt}
+use Rattle.mvt_attrs.specs.Pools.{key_pool, value_pool}
 use Rattle.std.specs.Prelude.{OnErr}
 use Rattle.std.proofs.lemmas.Grind.{flat_map-append}
 use Rattle.mvt_wire.specs.Field.{Content, varint, fixed64, fixed32, wire_type}
@@ -28,7 +34,32 @@ short_field_len short_one field_length number n small low = varint_field_len sho
 pub spelled-append : (fs gs : List Plain) → spelled (fs ++ gs) ≡ spelled fs ++ spelled gs
 spelled-append fs gs = flat_map-append (λ (f : Plain). short_field f.number f.content) fs gs
 
--- some places, after an error
+-- what an error leaves
 pub on_err_at : {T E : Type 0} → (P : ℕ → Type 0) (r : Result T E) (n : ℕ) → P n → OnErr r ((m : ℕ) × P m)
 on_err_at P (Ok x) n h = tt
 on_err_at P (Err e) n h = (n, h)
+
+pub kept_as_it_was : {T E : Type 0} → (r : Result T E) (l : List ℕ) → OnErr r ((more : List ℕ) × (l ≡ l ++ more))
+kept_as_it_was (Ok x) l = tt
+kept_as_it_was (Err e) l = ([], sym (append-nil l))
+
+-- attributes that were passed on are all placed, and none is left to find a pool full
+module _ (attributes passed : List Attribute) (is : passed ≡ attributes) (keys new_keys : List (List ℕ)) (values new_values : List Value) where
+  pub all_placed : new_keys ≡ key_pool keys passed → new_values ≡ value_pool values passed → ArePlaced (length attributes) attributes keys new_keys values new_values
+  all_placed keys_grown values_grown =
+      let whole : passed ≡ take (length attributes) attributes = is ∙ sym (take_all (length attributes) attributes (omega arith)) in
+      record { within = omega arith; keys_are = inl (keys_grown ∙ ap (key_pool keys) whole); values_are = values_grown ∙ ap (value_pool values) whole }
+
+  pub all_told : new_keys ≡ key_pool keys passed → new_values ≡ value_pool values passed → AreTold (length attributes) attributes keys new_keys values new_values
+  all_told keys_grown values_grown =
+      let whole : passed ≡ take (length attributes) attributes = is ∙ sym (take_all (length attributes) attributes (omega arith)) in
+      record { within = omega arith; keys_are = inl (keys_grown ∙ ap (key_pool keys) whole); values_are = inl (values_grown ∙ ap (value_pool values) whole) }
+
+  pub none_full : IsFullAt (length attributes) attributes new_keys new_values → ⊥
+  none_full full = omega (arith, slice_get_within attributes (length attributes) full.0 full.1)
+
+  pub told_as : (n : ℕ) → AreTold n passed keys new_keys values new_values → AreTold n attributes keys new_keys values new_values
+  told_as n told = subst (λ as'. AreTold n as' keys new_keys values new_values) is told
+
+  pub full_as : (n : ℕ) → (IsFullAt n passed new_keys new_values → ⊥) → IsFullAt n attributes new_keys new_values → ⊥
+  full_as n none = subst (λ as'. IsFullAt n as' new_keys new_values → ⊥) is none

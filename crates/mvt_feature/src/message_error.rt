@@ -78,6 +78,11 @@ impl From<GeometryError> for MessageError {
 }
 
 impl fmt::Display for MessageError {
+    ghost use Rattle.std.specs.Prelude.{Some};
+    ghost use Rattle.mvt_feature.specs.Texts.{message_error_text};
+
+    ghost output = { λ error. Some (message_error_text error) };
+
     fn fmt<W: fmt::Write>(&self, f: &mut fmt::Formatter<W>) -> fmt::Result {
         match self {
             MessageError::Memory => f.write_str("out of memory"),

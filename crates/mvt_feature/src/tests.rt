@@ -160,8 +160,8 @@ fn writes(rt: HostRuntime) -> Result<(), Fail> {
 fn refused_reads(rt: HostRuntime) {
     let mut refused = 0u8;
     for _turn in 0..2 {
-        match value_of(rt.alloc(), &[0x0A, 0x01, 0x61]) {
-            Ok(Value::Text(text)) => assert_eq!(rt; text.as_str(), "a"),
+        match value_of(rt.alloc(), b"\x0A\x12a text of 18 bytes") {
+            Ok(Value::Text(text)) => assert_eq!(rt; text.as_str(), "a text of 18 bytes"),
             Ok(_) => assert!(rt; false),
             Err(error) => {
                 assert_eq!(rt; error, MessageError::Memory);
@@ -186,7 +186,7 @@ fn refused_reads(rt: HostRuntime) {
 fn refused_writes(rt: HostRuntime) {
     let mut refused = 0u8;
     for _turn in 0..2 {
-        let Ok(feature) = feature_with(rt.alloc(), &["k"]) else {
+        let Ok(feature) = feature_with(rt.alloc(), &["a text of 18 bytes"]) else {
             refused = refused.saturating_add(1);
             continue;
         };

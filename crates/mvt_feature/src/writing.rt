@@ -1,15 +1,18 @@
 //! Values and features in their canonical spelling.
-ghost use Rattle.std.specs.Prelude.{◌≡◌, ◌⊎◌, ℕ, ◌^◌, ◌<◌, ◌++◌, length, take, OnOk, OnErr, IsErrOf};
+ghost use Rattle.std.specs.Prelude.{◌≡◌, ◌⊎◌, ℕ, ◌^◌, ◌<◌, List, ◌++◌, length, OnOk, OnErr, IsErrOf};
 ghost use Rattle.mvt_attrs.specs.Pools.{key_pool, value_pool};
+ghost use Rattle.mvt_attrs.specs.Placed.{ArePlaced, AreTold, IsFullAt};
 ghost use Rattle.mvt_attrs.specs.Tags.{Names};
 ghost use Rattle.mvt_attrs.specs.TagPlaces.{tags_in};
 ghost use Rattle.mvt_geometry.specs.Valid.{IsValid};
 ghost use Rattle.mvt_wire.specs.Spelling.{spelled};
 ghost use Rattle.mvt_feature.specs.Canonical.{value_fields, id_fields, tags_fields, drawing_fields, feature_fields, type_number as the_type_number};
+ghost use Rattle.mvt_feature.specs.Inner.{Extends};
 
 use crate::feature::Feature;
 use crate::room::Room;
 use mvt_attrs::{KeyPool, PoolError, Value, ValuePool, append_tags};
+use mvt_base::LIMIT;
 use mvt_geometry::{Kind, append_geometry, kind_of};
 use mvt_wire::laws::short_lengths;
 use mvt_wire::{Payload, field_len, put_field, put_packed, varint_len, zigzag64};
@@ -70,9 +73,18 @@ pub fn append_feature(
     // Each pool gains the entries that it lacked, in order of first use.
     ensures keys { OnOk result (keys.new ≡ key_pool keys.old feature.now.attributes) }
     ensures values { OnOk result (values.new ≡ value_pool values.old feature.now.attributes) }
-    ensures keys_left { OnErr result ((n : ℕ) × (keys.new ≡ key_pool keys.old (take n feature.now.attributes))) }
-    ensures values_left { OnErr result ((n : ℕ) × (values.new ≡ value_pool values.old (take n feature.now.attributes))) }
-    ensures full { IsErrOf result PoolError.Full → (length keys.new ≡ 67108864) ⊎ (length values.new ≡ 67108864) }
+    ensures out_left { OnErr result ((more : List ℕ) × (out.new.items ≡ out.old.items ++ more)) }
+    ensures left { OnErr result
+        ((n : ℕ) × ArePlaced n feature.now.attributes keys.old keys.new values.old values.new) }
+
+    // A pool that is full has met an entry that is new; want of memory has met none.
+    ensures full { IsErrOf result PoolError.Full → (length keys.new ≡ LIMIT) ⊎ (length values.new ≡ LIMIT) }
+    ensures too_many { IsErrOf result PoolError.Full →
+        (LIMIT < length (key_pool keys.old feature.now.attributes))
+        ⊎ (LIMIT < length (value_pool values.old feature.now.attributes)) }
+    ensures memory { IsErrOf result PoolError.Memory → (n : ℕ)
+        × AreTold n feature.now.attributes keys.old keys.new values.old values.new
+        × ¬ (IsFullAt n feature.now.attributes keys.new values.new) }
 {
     room.tags.clear();
     room.integers.clear();
@@ -96,8 +108,9 @@ fn append_fields(
     kind: Kind,
     integers: &[u32],
 ) -> Result<(), AllocError>
-    ensures { OnOk result (out.new.items ≡ out.old.items
+    ensures ok { OnOk result (out.new.items ≡ out.old.items
         ++ spelled (id_fields id ++ (tags_fields tags.now ++ drawing_fields kind integers.now))) }
+    ensures left { OnErr result (Extends out.old.items out.new.items) }
 {
     append_id(out, id)?;
     append_tags_field(out, tags)?;
@@ -105,7 +118,8 @@ fn append_fields(
 }
 
 fn append_id(out: &mut Vec<u8>, id: Option<u64>) -> Result<(), AllocError>
-    ensures { OnOk result (out.new.items ≡ out.old.items ++ spelled (id_fields id)) }
+    ensures ok { OnOk result (out.new.items ≡ out.old.items ++ spelled (id_fields id)) }
+    ensures err { OnErr result (out.new.items ≡ out.old.items) }
 {
     match id {
         Some(id) => put_field(out, 1, &Payload::Varint(id)),
@@ -114,7 +128,8 @@ fn append_id(out: &mut Vec<u8>, id: Option<u64>) -> Result<(), AllocError>
 }
 
 fn append_tags_field(out: &mut Vec<u8>, tags: &[u32]) -> Result<(), AllocError>
-    ensures { OnOk result (out.new.items ≡ out.old.items ++ spelled (tags_fields tags.now)) }
+    ensures ok { OnOk result (out.new.items ≡ out.old.items ++ spelled (tags_fields tags.now)) }
+    ensures err { OnErr result (out.new.items ≡ out.old.items) }
 {
     if tags.is_empty() {
         return Ok(());
@@ -123,7 +138,8 @@ fn append_tags_field(out: &mut Vec<u8>, tags: &[u32]) -> Result<(), AllocError>
 }
 
 fn append_drawing(out: &mut Vec<u8>, kind: Kind, integers: &[u32]) -> Result<(), AllocError>
-    ensures { OnOk result (out.new.items ≡ out.old.items ++ spelled (drawing_fields kind integers.now)) }
+    ensures ok { OnOk result (out.new.items ≡ out.old.items ++ spelled (drawing_fields kind integers.now)) }
+    ensures left { OnErr result (Extends out.old.items out.new.items) }
 {
     put_field(out, 3, &Payload::Varint(type_number(kind)))?;
     put_packed(out, 4, integers)

@@ -16,3 +16,4 @@ pub mod PutLemmas
 pub mod ValidLemmas
 pub mod OrderedLemmas
 pub mod LawLemmas
+pub mod CountLemmas

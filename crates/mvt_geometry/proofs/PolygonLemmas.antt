@@ -63,7 +63,7 @@ record Closed (g : List ℕ) (k s : ℕ) (c : Point) : Type 0 where
   fine : k ≡ 0 → c ≡ origin → pos 0 ≤ℤ area2 (head ∷ tail)
   further : s < end
 
-stroke_closed : (c p : Point) (ps : List Point) (more : List ℕ) → stroke [] c (p ∷ ps) ++ (15 ∷ more) ≡ stroke (15 ∷ []) c (p ∷ ps) ++ more
+pub stroke_closed : (c p : Point) (ps : List Point) (more : List ℕ) → stroke [] c (p ∷ ps) ++ (15 ∷ more) ≡ stroke (15 ∷ []) c (p ∷ ps) ++ more
 stroke_closed c p ps more = stroke-more [] c p ps (15 ∷ more) ∙ sym (stroke-more (15 ∷ []) c p ps more)
 
 ring_found : (g : List ℕ) (k s : ℕ) (c : Point) → Reached kinds.Polygon g k s c → k % 3 ≡ 0 → geometry_fault kinds.Polygon g ≡ None → s < length g → AreSmall g → Closed g k s c

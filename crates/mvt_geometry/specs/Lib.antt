@@ -5,4 +5,5 @@ pub mod Drawing
 pub mod Commands
 pub mod Table
 pub mod Tells
+pub mod Texts
 pub mod Inner

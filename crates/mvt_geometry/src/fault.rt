@@ -66,6 +66,11 @@ impl From<AllocError> for GeometryError {
 }
 
 impl fmt::Display for GeometryCause {
+    ghost use Rattle.std.specs.Prelude.{Some};
+    ghost use Rattle.mvt_geometry.specs.Texts.{cause_name};
+
+    ghost output = { λ cause. Some (cause_name cause) };
+
     fn fmt<W: fmt::Write>(&self, f: &mut fmt::Formatter<W>) -> fmt::Result {
         f.write_str(match self {
             GeometryCause::Command => "Command",
@@ -81,6 +86,11 @@ impl fmt::Display for GeometryCause {
 }
 
 impl fmt::Display for GeometryError {
+    ghost use Rattle.std.specs.Prelude.{Some};
+    ghost use Rattle.mvt_geometry.specs.Texts.{geometry_error_text};
+
+    ghost output = { λ error. Some (geometry_error_text error) };
+
     fn fmt<W: fmt::Write>(&self, f: &mut fmt::Formatter<W>) -> fmt::Result {
         match self {
             GeometryError::Memory => f.write_str("out of memory"),

@@ -1,11 +1,17 @@
 //! Whether integers draw a geometry: one pass over them, without memory.
-ghost use Rattle.std.specs.Prelude.{◌≡◌, ◌≢◌, ◌+◌, ◌*◌, ◌/◌, ◌%◌, ◌-◌, ◌<◌, ◌≤◌, ◌^◌, ℕ, suc, Bool, true, ℤ, pos, [], length, slice_index, ◌==◌, ◌&&◌, IfOk, IfErr, OnOk, IsTrue, ◌↔◌, IfSome, IfNone, ◌+ℤ◌};
+ghost use Rattle.std.specs.Prelude.{◌≡◌, ◌≢◌, ◌+◌, ◌*◌, ◌/◌, ◌%◌, ◌-◌, ◌<◌, ◌≤◌, ◌^◌, ℕ, suc, Bool, true, ℤ, pos, List, [], ◌∷◌, ◌++◌, length, drop, slice_index, ◌==◌, ◌&&◌, IfOk, IfErr, OnOk, IsTrue, ◌↔◌, IfSome, IfNone, ◌+ℤ◌};
 ghost use Rattle.std.specs.Int.RustNames.{unsigned_abs};
 ghost use Rattle.mvt_base.specs.Rules.{first, rows, each};
-ghost use Rattle.mvt_geometry.specs.Shape.{InRange, IsPlace};
+ghost use Rattle.mvt_geometry.specs.declared.shape.Geometry.{Geometry};
+ghost use Rattle.mvt_geometry.specs.declared.shape.Point.{Point};
+ghost use Rattle.mvt_geometry.specs.Shape.{AreSteps, InRange, IsPlace};
+ghost use Rattle.mvt_geometry.specs.Area.{area2};
+ghost use Rattle.mvt_geometry.specs.Drawing.{Draws};
+ghost use Rattle.mvt_geometry.specs.Valid.{IsStroke};
 ghost use Rattle.mvt_geometry.specs.Commands.{Pair, pair_count, pairs_of, due, may_not_end, unzig, stepped, moved, positions};
 ghost use Rattle.mvt_geometry.specs.Table.{step_rules, pair_rules, header_rows, geometry_fault};
-ghost use Rattle.mvt_geometry.specs.Inner.Judging.{IsHeader, Reached, edges};
+ghost use Rattle.mvt_geometry.specs.Inner.Judging.{IsHeader, Reached, edges, last_of, part_count};
+ghost use Rattle.mvt_geometry.specs.Inner.Strokes.{stroke};
 
 use crate::area::cross;
 use crate::command::Command;
@@ -28,6 +34,7 @@ struct Pen {
 /// How many lines or polygons the integers draw, or the first broken rule.
 pub(crate) fn judge(kind: Kind, integers: &[u32]) -> Result<usize, Fault>
     ensures ok { OnOk result (geometry_fault kind integers.now ≡ None) }
+    ensures count { IfOk result (λ n. (g : Geometry) → Draws kind integers.now g → n ≡ part_count g) }
     ensures err { IfErr result (λ f. geometry_fault kind integers.now ≡ Some (f.index, f.cause)) }
 {
     if kind == Kind::Unknown {
@@ -50,6 +57,7 @@ pub(crate) fn judge(kind: Kind, integers: &[u32]) -> Result<usize, Fault>
 fn judge_points(integers: &[u32]) -> Result<usize, Fault>
     requires { 0 < length integers.now }
     ensures ok { OnOk result (geometry_fault Kind.Point integers.now ≡ None) }
+    ensures count { IfOk result (λ n. (g : Geometry) → Draws Kind.Point integers.now g → n ≡ part_count g) }
     ensures err { IfErr result (λ f. geometry_fault Kind.Point integers.now ≡ Some (f.index, f.cause)) }
 {
     let pen = Pen {
@@ -69,6 +77,7 @@ fn judge_points(integers: &[u32]) -> Result<usize, Fault>
 fn judge_lines(integers: &[u32]) -> Result<usize, Fault>
     requires { 0 < length integers.now }
     ensures ok { OnOk result (geometry_fault Kind.LineString integers.now ≡ None) }
+    ensures count { IfOk result (λ n. (g : Geometry) → Draws Kind.LineString integers.now g → n ≡ part_count g) }
     ensures err { IfErr result (λ f. geometry_fault Kind.LineString integers.now ≡ Some (f.index, f.cause)) }
 {
     let mut pen = Pen {
@@ -87,6 +96,7 @@ fn judge_lines(integers: &[u32]) -> Result<usize, Fault>
 fn judge_polygons(integers: &[u32]) -> Result<usize, Fault>
     requires { 0 < length integers.now }
     ensures ok { OnOk result (geometry_fault Kind.Polygon integers.now ≡ None) }
+    ensures count { IfOk result (λ n. (g : Geometry) → Draws Kind.Polygon integers.now g → n ≡ part_count g) }
     ensures err { IfErr result (λ f. geometry_fault Kind.Polygon integers.now ≡ Some (f.index, f.cause)) }
 {
     let mut pen = Pen {
@@ -111,6 +121,10 @@ fn judge_ring(integers: &[u32], pen: Pen) -> Result<(Pen, i128), Fault>
     ensures ok { IfOk result (λ r. (k : ℕ) → k % 3 ≡ 0
         → Reached Kind.Polygon integers.now k pen.at pen.cursor
         → Reached Kind.Polygon integers.now (k + 3) r.0.at r.0.cursor) }
+    ensures ring { IfOk result (λ r. (k : ℕ) (p : Point) (ps : List Point) (more : List ℕ) → k % 3 ≡ 0
+        → Reached Kind.Polygon integers.now k pen.at pen.cursor → IsStroke 3 (p ∷ ps) → AreSteps pen.cursor (p ∷ ps)
+        → drop pen.at integers.now ≡ stroke (15 ∷ []) pen.cursor (p ∷ ps) ++ more
+        → (r.1 ≡ area2 (p ∷ ps)) × (drop r.0.at integers.now ≡ more) × (r.0.cursor ≡ last_of p ps)) }
     ensures err { IfErr result (λ f. (k : ℕ) → k % 3 ≡ 0
         → Reached Kind.Polygon integers.now k pen.at pen.cursor
         → geometry_fault Kind.Polygon integers.now ≡ Some (f.index, f.cause)) }

@@ -5,7 +5,7 @@ ghost use Rattle.mvt_geometry.specs.Drawing.{Draws};
 ghost use Rattle.mvt_geometry.specs.Commands.{pairs_of, moved, positions};
 ghost use Rattle.mvt_geometry.specs.Table.{geometry_fault};
 ghost use Rattle.mvt_geometry.specs.Tells.{Tells};
-ghost use Rattle.mvt_geometry.specs.Inner.Judging.{last_of};
+ghost use Rattle.mvt_geometry.specs.Inner.Judging.{last_of, part_count};
 ghost use Rattle.mvt_geometry.specs.Inner.Building.{ArePlaces, IsFront, AreLines, AreRings};
 ghost use Rattle.mvt_geometry.specs.Inner.Grouping.{opened, polygons_of};
 
@@ -39,7 +39,7 @@ pub fn read_geometry(alloc: Global, kind: Kind, integers: &[u32]) -> Result<Geom
 
 /// The geometry, with room for so many lines or polygons.
 fn build(alloc: Global, kind: Kind, integers: &[u32], count: usize) -> Result<Geometry, AllocError>
-    requires { (g : Geometry) × Draws kind integers.now g }
+    requires { (g : Geometry) × Draws kind integers.now g × (count ≡ part_count g) }
     ensures { (g : Geometry) → Draws kind integers.now g → IfOk result (λ r. r ≡ g) }
 {
     match kind {
@@ -69,7 +69,7 @@ fn build_lines(
     integers: &[u32],
     count: usize,
 ) -> Result<Vec<Items<Point>>, AllocError>
-    requires { (ls : List (List Point)) × AreLines [] origin integers.now ls }
+    requires { (ls : List (List Point)) × AreLines [] origin integers.now ls × (count ≡ length ls) }
     ensures { (ls : List (List Point)) → AreLines [] origin integers.now ls → IfOk result (λ r. r.items ≡ ls) }
 {
     let mut lines = Vec::with_capacity(alloc, count)?;
@@ -85,7 +85,7 @@ fn build_lines(
 }
 
 fn build_polygons(alloc: Global, integers: &[u32], count: usize) -> Result<Vec<Polygon>, AllocError>
-    requires { (rings : List (List Point)) × AreRings integers.now rings }
+    requires { (rings : List (List Point)) × AreRings integers.now rings × (count ≡ length (polygons_of rings)) }
     ensures { (rings : List (List Point)) → AreRings integers.now rings
         → IfOk result (λ r. r.items ≡ polygons_of rings) }
 {

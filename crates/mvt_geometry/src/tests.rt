@@ -239,19 +239,25 @@ fn measures_and_judges(rt: HostRuntime) -> Result<(), Fail> {
 // The tests of refused growths pass too where one allocation, whichever, is refused: each call has
 // two turns, of which one at most may want memory.
 
+const TWO_LINES: [u32; 14] = [9, 4, 4, 18, 0, 16, 16, 0, 9, 17, 17, 10, 4, 8];
+
+// Two lines, one polygon, far points, rings and holes, and integers of no known type.
+const DRAWN: [(Kind, &[u32]); 6] = [
+    (Kind::LineString, &TWO_LINES),
+    (Kind::Polygon, &[9, 6, 12, 18, 10, 12, 24, 44, 15]),
+    (Kind::Point, &[9, 2_147_483_648, 0]),
+    (Kind::Point, &[17, 4_294_967_294, 0, 4_294_967_293, 0]),
+    (Kind::Polygon, &HOLES),
+    (Kind::Unknown, &[1, 2, 3]),
+];
+
 #[test]
 fn refused_reads(rt: HostRuntime) {
-    let line = [9, 4, 4, 18, 0, 16, 16, 0, 9, 17, 17, 10, 4, 8];
-    let rows: [(Kind, &[u32]); 3] = [
-        (Kind::Point, &[9, 2_147_483_648, 0]),
-        (Kind::LineString, &line),
-        (Kind::Polygon, &HOLES),
-    ];
     let mut refused = 0u8;
-    for (kind, integers) in rows {
+    for (kind, integers) in DRAWN {
         for _turn in 0..2 {
             match read_geometry(rt.alloc(), kind, integers) {
-                Ok(read) => assert!(rt; kind_of(&read) == kind),
+                Ok(read) => assert!(rt; kind_of(&read) == kind && is_valid_geometry(&read)),
                 Err(error) => {
                     assert_eq!(rt; error, GeometryError::Memory);
                     refused = refused.saturating_add(1);
@@ -284,18 +290,20 @@ fn refused_faults(rt: HostRuntime) {
 #[test]
 fn refused_puts_and_copies(rt: HostRuntime) {
     let mut refused = 0u8;
-    for _turn in 0..2 {
-        let Ok(read) = read_geometry(rt.alloc(), Kind::Polygon, &HOLES) else {
-            refused = refused.saturating_add(1);
-            continue;
-        };
-        match put_geometry(rt.alloc(), &read) {
-            Ok(put) => assert!(rt; put.as_slice() == HOLES.as_slice()),
-            Err(AllocError) => refused = refused.saturating_add(1),
-        }
-        match read.copy(rt.alloc()) {
-            Ok(copy) => assert!(rt; copy == read),
-            Err(AllocError) => refused = refused.saturating_add(1),
+    for (kind, integers) in DRAWN {
+        for _turn in 0..2 {
+            let Ok(read) = read_geometry(rt.alloc(), kind, integers) else {
+                refused = refused.saturating_add(1);
+                continue;
+            };
+            match put_geometry(rt.alloc(), &read) {
+                Ok(put) => assert!(rt; put.as_slice() == integers),
+                Err(AllocError) => refused = refused.saturating_add(1),
+            }
+            match read.copy(rt.alloc()) {
+                Ok(copy) => assert!(rt; copy == read),
+                Err(AllocError) => refused = refused.saturating_add(1),
+            }
         }
     }
     assert!(rt; refused < 2);

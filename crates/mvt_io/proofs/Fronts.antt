@@ -3,9 +3,9 @@ use Rattle.std.proofs.Common.{◌≡◌, ℕ, ◌+◌, ◌-◌, ◌≤◌, List,
 use Rattle.std.proofs.lemmas.List.{drop-drop, take-append-le}
 use Rattle.std.proofs.Math.Seq.{take-append_seam, take-append-add}
 use Rattle.std.proofs.lemmas.Grind.{common_steps}
-use Rattle.std.specs.Io.KnownBytes.{Appends, Keeps}
-use Rattle.std.proofs.KnownBytes.{Appends-nil, Appends-trans, Appends-kept}
-use Rattle.mvt_io.specs.Transfers.{TakesPrefix}
+use Rattle.std.specs.Io.KnownBytes.{Appends, Consumes, Keeps}
+use Rattle.std.proofs.KnownBytes.{Appends-nil, Appends-trans, Appends-kept, Consumes-trans}
+use Rattle.mvt_io.specs.Transfers.{TakesAtMost, TakesPrefix}
 
 -- the next n bytes stand at the front of a buffer, before bytes of its own
 pub front_given : (left all front rest : List ℕ) (at n : ℕ) → drop at all ≡ left → front ≡ take n left → n ≤ length left
@@ -16,6 +16,11 @@ front_given left all front rest at n is e h =
     let there : take n (front ++ rest) ≡ take n left =
     ap (λ k. take k (front ++ rest)) (sym size) ∙ take-append_seam front rest ∙ e in
     sym (ap₂ (λ x y. x ++ y) there gone ∙ take-append-drop n left)
+
+-- one more piece was taken from a reader
+pub TakesAtMost-more : (most n : ℕ) (a b c : Option (List ℕ)) (bytes buffer : List ℕ) → Consumes a b bytes → Consumes b c (take n buffer) → length bytes + n ≤ most → TakesAtMost most a c
+TakesAtMost-more most n a b c bytes buffer before piece few =
+    (bytes ++ take n buffer, omega (arith, length-append bytes (take n buffer), length-take n buffer), Consumes-trans a b c bytes (take n buffer) before piece)
 
 -- the writer took a front of the bytes, and this rest is to come
 pub record TakesFront (old now : Option (List ℕ)) (bytes rest : List ℕ) : Type 0 where

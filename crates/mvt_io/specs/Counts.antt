@@ -1,5 +1,5 @@
 -- Counts of calls and of failed calls.
-use Rattle.std.specs.Prelude.{◌≡◌, ℕ, ◌+◌, ◌-◌, ◌^◌, ◌<◌, ◌==◌, ◌&&◌, ◌⊎◌, min, nat_lt, Bool, true, List, length, Result, Ok, Err}
+use Rattle.std.specs.Prelude.{◌≡◌, ℕ, ◌+◌, ◌-◌, ◌^◌, ◌<◌, ◌==◌, ◌&&◌, min, nat_lt, Bool, true, List, length, Result, Ok, Err}
 
 -- where a count stops
 abbrev pub last_count : ℕ
@@ -14,9 +14,14 @@ abbrev pub write_fails : {E : Type 0} → Result ℕ E → List ℕ → Bool
 write_fails (Ok n) piece = (n == 0) && nat_lt 0 (length piece)
 write_fails (Err e) piece = true
 
--- a call failed between the two counts of failed calls, or the count stands where it stops
+-- one call failed between the two counts of failed calls
 abbrev pub HasFailed : ℕ → ℕ → Type 0
-HasFailed old new = (old < new) ⊎ (new ≡ last_count)
+HasFailed old new = new ≡ counted old
+
+-- how many bytes a read gave
+abbrev pub given_by : {E : Type 0} → Result ℕ E → ℕ
+given_by (Ok n) = n
+given_by (Err e) = 0
 
 -- no call failed between the two counts of failed calls
 abbrev pub NoneFailed : ℕ → ℕ → Type 0

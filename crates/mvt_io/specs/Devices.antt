@@ -1,5 +1,5 @@
 -- The devices over memory: what each of their calls answers, and their state after it.
-use Rattle.std.specs.Prelude.{ℕ, ◌-◌, ◌&&◌, ◌||◌, min, nat_lt, nat_le, Bool, List, ◌++◌, length, take, drop, Option, Some, Result, Ok, Err, if◌then◌else◌}
+use Rattle.std.specs.Prelude.{ℕ, ◌-◌, ◌&&◌, ◌||◌, min, max, nat_lt, nat_le, Bool, true, false, List, ◌++◌, length, take, drop, Option, Some, Result, Ok, Err, if◌then◌else◌}
 use Rattle.std.specs.declared.io.ErrorKind.{ErrorKind}
 use Rattle.std.specs.declared.io.ErrorKind.TheVariants.{Other, WriteZero}
 use Rattle.mvt_io.specs.Counts.{counted}
@@ -11,24 +11,40 @@ pub record SourceState : Type 0 where
   pub step : ℕ
   pub fails_from : ℕ
   pub calls : ℕ
+  pub given : ℕ
+  pub asked : ℕ
   pub failed : ℕ
   pub fault : Option ErrorKind
+  pub ended : Bool
 
 -- reads are numbered from 0
 abbrev pub read_fails : SourceState → Bool
 read_fails s = nat_le s.fails_from s.calls
 
 -- how many bytes a read into so much room gives
-abbrev pub given : SourceState → ℕ → ℕ
-given s room = min s.step (min room (length s.left))
+abbrev pub can_give : SourceState → ℕ → ℕ
+can_give s room = min s.step (min room (length s.left))
 
 abbrev pub read_answer : SourceState → ℕ → Result ℕ ErrorKind
-read_answer s room = if read_fails s then Err Other else Ok (given s room)
+read_answer s room = if read_fails s then Err Other else Ok (can_give s room)
 
 abbrev pub after_read : SourceState → ℕ → SourceState
 after_read s room = if read_fails s
-    then record s { calls = counted s.calls; failed = counted s.failed; fault = Some Other }
-    else record s { left = drop (given s room) s.left; calls = counted s.calls }
+    then record s {
+      calls = counted s.calls;
+      given = 0;
+      asked = max s.asked room;
+      failed = counted s.failed;
+      fault = Some Other;
+      ended = true;
+    }
+    else record s {
+      left = drop (can_give s room) s.left;
+      calls = counted s.calls;
+      given = can_give s room;
+      asked = max s.asked room;
+      ended = false;
+    }
 
 -- a sink: the bytes that it took, the most that it takes in all and in a write, the number of the
 -- first write that fails
@@ -42,6 +58,7 @@ pub record SinkState : Type 0 where
   pub flushes : ℕ
   pub failed : ℕ
   pub fault : Option ErrorKind
+  pub ended : Bool
 
 -- writes are numbered from 0, and a nonempty one fails once the room is used up
 abbrev pub refuses : SinkState → List ℕ → Bool
@@ -60,12 +77,13 @@ write_answer s piece = if refuses s piece then Err Other else Ok (accepted s pie
 
 abbrev pub after_write : SinkState → List ℕ → SinkState
 after_write s piece = if refuses s piece
-    then record s { calls = counted s.calls; failed = counted s.failed; fault = Some Other }
+    then record s { calls = counted s.calls; failed = counted s.failed; fault = Some Other; ended = true }
     else record s {
       taken = s.taken ++ take (accepted s piece) piece;
       calls = counted s.calls;
       failed = if stalls s piece then counted s.failed else s.failed;
       fault = if stalls s piece then Some WriteZero else s.fault;
+      ended = stalls s piece;
     }
 
 abbrev pub flush_answer : SinkState → Result (Unit {0}) ErrorKind
@@ -73,5 +91,5 @@ flush_answer s = if s.flush_fails then Err Other else Ok tt
 
 abbrev pub after_flush : SinkState → SinkState
 after_flush s = if s.flush_fails
-    then record s { flushes = counted s.flushes; failed = counted s.failed; fault = Some Other }
-    else record s { flushes = counted s.flushes }
+    then record s { flushes = counted s.flushes; failed = counted s.failed; fault = Some Other; ended = true }
+    else record s { flushes = counted s.flushes; ended = false }

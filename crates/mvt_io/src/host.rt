@@ -1,5 +1,5 @@
 //! The readers and writers of std.
-ghost use Rattle.std.specs.Prelude.{◌≡◌, None};
+ghost use Rattle.std.specs.Prelude.{◌≡◌, false, None};
 
 use super::failures::Failures;
 use super::{Sink, Source};
@@ -17,6 +17,8 @@ use std::marker::Model;
 pub struct Host<T> {
     inner: T,
     reads: u64,
+    given: usize,
+    asked: usize,
     failures: Failures,
     flushes: u64,
 }
@@ -29,19 +31,33 @@ impl<T> Model for Host<T> {
     ghost view = { λ h. record {
       inner = h.inner;
       reads = h.reads;
+      given = h.given;
+      asked = h.asked;
       failed = h.failures.count;
       fault = h.failures.last;
+      ended = h.failures.ended;
       flushes = h.flushes;
     } };
 }
 
 impl<T> Host<T> {
     pub fn new(inner: T) -> Self
-        ensures { result ≡ record { inner = inner; reads = 0; failed = 0; fault = None; flushes = 0 } }
+        ensures { result ≡ record {
+          inner = inner;
+          reads = 0;
+          given = 0;
+          asked = 0;
+          failed = 0;
+          fault = None;
+          ended = false;
+          flushes = 0;
+        } }
     {
         Host {
             inner,
             reads: 0,
+            given: 0,
+            asked: 0,
             failures: Failures::none(),
             flushes: 0,
         }
@@ -57,12 +73,24 @@ impl<T: Read> Source for Host<T> {
 
     ghost fault = { λ h. h.fault };
 
+    ghost ended = { λ h. h.ended };
+
+    ghost given = { λ h. h.given };
+
+    ghost asked = { λ h. h.asked };
+
     fn read(&mut self, buffer: &mut [u8]) -> Result<usize, ErrorKind> {
         self.reads = self.reads.saturating_add(1);
+        self.asked = self.asked.max(buffer.len());
         match self.inner.read(buffer) {
-            Ok(count) => Ok(count),
+            Ok(count) => {
+                self.given = count;
+                self.failures.pass();
+                Ok(count)
+            }
             Err(error) => {
                 let kind = error.kind();
+                self.given = 0;
                 self.failures.add(kind);
                 Err(kind)
             }
@@ -77,6 +105,8 @@ impl<T: Write> Sink for Host<T> {
 
     ghost fault = { λ h. h.fault };
 
+    ghost ended = { λ h. h.ended };
+
     ghost flushes = { λ h. h.flushes };
 
     fn write(&mut self, piece: &[u8]) -> Result<usize, ErrorKind> {
@@ -84,6 +114,8 @@ impl<T: Write> Sink for Host<T> {
             Ok(count) => {
                 if count == 0 && !piece.is_empty() {
                     self.failures.add(ErrorKind::WriteZero);
+                } else {
+                    self.failures.pass();
                 }
                 Ok(count)
             }
@@ -98,7 +130,10 @@ impl<T: Write> Sink for Host<T> {
     fn flush(&mut self) -> Result<(), ErrorKind> {
         self.flushes = self.flushes.saturating_add(1);
         match self.inner.flush() {
-            Ok(()) => Ok(()),
+            Ok(()) => {
+                self.failures.pass();
+                Ok(())
+            }
             Err(error) => {
                 let kind = error.kind();
                 self.failures.add(kind);

@@ -1,5 +1,5 @@
 //! A writer into memory, for tests.
-ghost use Rattle.std.specs.Prelude.{◌≡◌, ◌≤◌, [], false, length, None, Some, IfOk, is_ok, if◌then◌else◌};
+ghost use Rattle.std.specs.Prelude.{◌≡◌, ◌≤◌, [], false, length, None, Some, IfOk, is_ok, is_err, if◌then◌else◌};
 ghost use Rattle.std.specs.Io.KnownBytes.{Keeps, WriteAppends};
 ghost use Rattle.mvt_io.specs.Counts.{counted, write_fails};
 ghost use Rattle.mvt_io.specs.Kinds.{fault_after, write_fault};
@@ -45,6 +45,7 @@ impl Model for MemorySink {
       flushes = s.flushes;
       failed = s.failures.count;
       fault = s.failures.last;
+      ended = s.failures.ended;
     } };
 
     ghost invariant = { λ s. (vec_len s.bytes ≤ s.room) × (s.room ≤ vec_capacity s.bytes) };
@@ -72,6 +73,7 @@ impl MemorySink {
           flushes = 0;
           failed = 0;
           fault = None;
+          ended = false;
         }) }
     {
         Ok(MemorySink {
@@ -115,6 +117,8 @@ impl Sink for MemorySink {
 
     ghost fault = { λ s. s.fault };
 
+    ghost ended = { λ s. s.ended };
+
     ghost flushes = { λ s. s.flushes };
 
     fn write(&mut self, piece: &[u8]) -> Result<usize, ErrorKind>
@@ -125,6 +129,7 @@ impl Sink for MemorySink {
         ensures within { IfOk result (λ n. n ≤ length piece.now) }
         ensures bytes { WriteAppends (Some self.old.taken) (Some self.new.taken) result piece.now }
         ensures fault { self.new.fault ≡ write_fault result piece.now self.old.fault }
+        ensures ended { self.new.ended ≡ write_fails result piece.now }
         ensures flushes { self.new.flushes ≡ self.old.flushes }
         ensures failed { self.new.failed
             ≡ (if write_fails result piece.now then counted self.old.failed else self.old.failed) }
@@ -140,6 +145,8 @@ impl Sink for MemorySink {
         self.bytes.extend_from_slice(&piece[..count]).unwrap();
         if count == 0 && !piece.is_empty() {
             self.failures.add(ErrorKind::WriteZero);
+        } else {
+            self.failures.pass();
         }
         Ok(count)
     }
@@ -151,6 +158,7 @@ impl Sink for MemorySink {
         // What every writer promises.
         ensures bytes { Keeps (Some self.old.taken) (Some self.new.taken) }
         ensures fault { self.new.fault ≡ fault_after result self.old.fault }
+        ensures ended { self.new.ended ≡ is_err result }
         ensures flushes { self.new.flushes ≡ counted self.old.flushes }
         ensures failed { self.new.failed
             ≡ (if is_ok result then self.old.failed else counted self.old.failed) }
@@ -160,6 +168,7 @@ impl Sink for MemorySink {
             self.failures.add(ErrorKind::Other);
             return Err(ErrorKind::Other);
         }
+        self.failures.pass();
         Ok(())
     }
 }

@@ -1,7 +1,7 @@
 //! A reader over memory, for tests.
-ghost use Rattle.std.specs.Prelude.{◌≡◌, ◌≤◌, length, None, Some, IfOk, is_ok, if◌then◌else◌};
+ghost use Rattle.std.specs.Prelude.{◌≡◌, ◌≤◌, max, length, false, None, Some, IfOk, is_ok, is_err, if◌then◌else◌};
 ghost use Rattle.std.specs.Io.KnownBytes.{ReadConsumes};
-ghost use Rattle.mvt_io.specs.Counts.{counted};
+ghost use Rattle.mvt_io.specs.Counts.{counted, given_by};
 ghost use Rattle.mvt_io.specs.Kinds.{fault_after};
 ghost use Rattle.mvt_io.specs.Devices.{read_answer, after_read};
 
@@ -22,6 +22,8 @@ pub struct MemorySource {
     step: usize,
     fails_from: u64,
     calls: u64,
+    given: usize,
+    asked: usize,
     failures: Failures,
 }
 
@@ -36,8 +38,11 @@ impl Model for MemorySource {
       step = s.step;
       fails_from = s.fails_from;
       calls = s.calls;
+      given = s.given;
+      asked = s.asked;
       failed = s.failures.count;
       fault = s.failures.last;
+      ended = s.failures.ended;
     } };
 
     ghost invariant = { λ s. (s.at ≤ vec_len s.bytes) × (1 ≤ s.step) };
@@ -53,8 +58,11 @@ impl MemorySource {
           step = step;
           fails_from = fails_from;
           calls = 0;
+          given = 0;
+          asked = 0;
           failed = 0;
           fault = None;
+          ended = false;
         } }
     {
         MemorySource {
@@ -63,6 +71,8 @@ impl MemorySource {
             step,
             fails_from,
             calls: 0,
+            given: 0,
+            asked: 0,
             failures: Failures::none(),
         }
     }
@@ -84,6 +94,12 @@ impl Source for MemorySource {
 
     ghost fault = { λ s. s.fault };
 
+    ghost ended = { λ s. s.ended };
+
+    ghost given = { λ s. s.given };
+
+    ghost asked = { λ s. s.asked };
+
     fn read(&mut self, buffer: &mut [u8]) -> Result<usize, ErrorKind>
         ensures answer { result ≡ read_answer self.old (length buffer.old) }
         ensures after { self.new ≡ after_read self.old (length buffer.old) }
@@ -93,12 +109,17 @@ impl Source for MemorySource {
         ensures bytes { ReadConsumes (Some self.old.left) (Some self.new.left) result buffer.new }
         ensures reads { self.new.calls ≡ counted self.old.calls }
         ensures fault { self.new.fault ≡ fault_after result self.old.fault }
+        ensures ended { self.new.ended ≡ is_err result }
+        ensures given { self.new.given ≡ given_by result }
+        ensures asked { self.new.asked ≡ max self.old.asked (length buffer.old) }
         ensures failed { self.new.failed
             ≡ (if is_ok result then self.old.failed else counted self.old.failed) }
     {
         let number = self.calls;
         self.calls = number.saturating_add(1);
+        self.asked = self.asked.max(buffer.len());
         if number >= self.fails_from {
+            self.given = 0;
             self.failures.add(ErrorKind::Other);
             return Err(ErrorKind::Other);
         }
@@ -106,6 +127,8 @@ impl Source for MemorySource {
         let count = self.step.min(buffer.len()).min(left.len());
         buffer[..count].copy_from_slice(&left[..count]);
         self.at += count;
+        self.given = count;
+        self.failures.pass();
         Ok(count)
     }
 }

@@ -36,6 +36,47 @@ impl Write for Broken {
     }
 }
 
+// Gives one byte a read, and fails in its third.
+#[derive(Drop)]
+struct Faltering {
+    reads: u8,
+}
+
+impl Read for Faltering {
+    fn read(&mut self, buf: &mut [u8]) -> io::Result<usize> {
+        self.reads = self.reads.saturating_add(1);
+        match (self.reads, buf) {
+            (3, _) => Err(io::Error::from(ErrorKind::Interrupted)),
+            (_, [first, ..]) => {
+                *first = self.reads;
+                Ok(1)
+            }
+            _ => Ok(0),
+        }
+    }
+}
+
+// Counts what reaches it.
+#[derive(Drop)]
+struct Counting {
+    writes: u8,
+    bytes: usize,
+    flushes: u8,
+}
+
+impl Write for Counting {
+    fn write(&mut self, buf: &[u8]) -> io::Result<usize> {
+        self.writes = self.writes.saturating_add(1);
+        self.bytes = self.bytes.saturating_add(buf.len());
+        Ok(buf.len())
+    }
+
+    fn flush(&mut self) -> io::Result<()> {
+        self.flushes = self.flushes.saturating_add(1);
+        Ok(())
+    }
+}
+
 #[test]
 fn reads_whole(rt: HostRuntime) -> Result<(), Fail> {
     for (step, calls) in [(1, 20), (7, 4), (65_536, 2)] {
@@ -97,6 +138,29 @@ fn hosts_pass_on(rt: HostRuntime) -> Result<(), Fail> {
     assert_eq!(rt; gone.flush(), Err(ErrorKind::StorageFull));
     let text = format!(in rt.alloc(); "{error}, {}", ReadError::Memory)?;
     assert_eq!(rt; text.as_str(), "read failed, out of memory");
+    Ok(())
+}
+
+// Every call reaches the inner device once, whole, and fails exactly where that one does.
+#[test]
+fn hosts_add_nothing(rt: HostRuntime) -> Result<(), Fail> {
+    let mut inner = Counting {
+        writes: 0,
+        bytes: 0,
+        flushes: 0,
+    };
+    let mut writer = Host::new(&mut inner);
+    assert_eq!(rt; writer.write(&[7; 70_000]), Ok(70_000));
+    assert_eq!(rt; writer.flush(), Ok(()));
+    assert_eq!(rt; (inner.writes, inner.bytes, inner.flushes), (1, 70_000, 1));
+
+    let mut reader = Host::new(Faltering { reads: 0 });
+    let mut buffer = [0; 4];
+    assert_eq!(rt; reader.read(&mut buffer), Ok(1));
+    assert_eq!(rt; reader.read(&mut buffer), Ok(1));
+    assert_eq!(rt; reader.read(&mut buffer), Err(ErrorKind::Interrupted));
+    assert_eq!(rt; reader.read(&mut buffer), Ok(1));
+    assert_eq!(rt; buffer, [4, 0, 0, 0]);
     Ok(())
 }
 

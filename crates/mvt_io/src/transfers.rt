@@ -1,8 +1,8 @@
 //! Reading a whole reader and writing a whole slice.
-ghost use Rattle.std.specs.Prelude.{◌≡◌, ◌+◌, ◌<◌, ◌≤◌, length, take, Some, Err, IfOk, IfErr, IfSome, OnOk, OnErr};
+ghost use Rattle.std.specs.Prelude.{◌≡◌, ◌+◌, ◌<◌, ◌≤◌, max, true, length, take, Some, Err, IfOk, IfErr, IfSome, OnOk, OnErr};
 ghost use Rattle.std.specs.Io.KnownBytes.{Appends, Consumes, IsAtEnd};
 ghost use Rattle.mvt_io.specs.Counts.{HasFailed};
-ghost use Rattle.mvt_io.specs.Transfers.{IsReadFault, IsFaultOf, TakesPrefix};
+ghost use Rattle.mvt_io.specs.Transfers.{IsReadFault, IsFaultOf, TakesAtMost, TakesPrefix};
 
 use super::{ReadError, Sink, Source};
 use mvt_base::LIMIT;
@@ -24,10 +24,13 @@ pub fn read_all<R: Source>(alloc: Global, reader: &mut R) -> Result<Vec<u8>, Rea
         (λ left. bytes.items ≡ take (LIMIT + 1) left)) }
     ensures short { IfOk result (λ bytes. length bytes.items ≤ LIMIT → IsAtEnd (R.left reader.new)) }
     ensures most { IfOk result (λ bytes. length bytes.items ≤ LIMIT + 1) }
+    ensures leaves { TakesAtMost (LIMIT + 1) (R.left reader.old) (R.left reader.new) }
     ensures reads { R.reads reader.new ≤ R.reads reader.old + (LIMIT + 2) }
+    ensures asked { R.asked reader.new ≤ max (R.asked reader.old) 65536 }
     ensures honest { OnOk result (R.failed reader.new ≡ R.failed reader.old) }
     ensures failed { IfErr result (λ error. IsReadFault error
         → HasFailed (R.failed reader.old) (R.failed reader.new)) }
+    ensures ended { IfErr result (λ error. IsReadFault error → R.ended reader.new ≡ true) }
     ensures kind { IfErr result (λ error. IsFaultOf error (R.fault reader.new)) }
     ensures memory { result ≡ Err ReadError.Memory → R.failed reader.new ≡ R.failed reader.old }
 {
@@ -41,10 +44,13 @@ fn read_up_to<R: Source>(alloc: Global, reader: &mut R, most: usize) -> Result<V
         (λ left. bytes.items ≡ take most left)) }
     ensures short { IfOk result (λ bytes. length bytes.items < most → IsAtEnd (R.left reader.new)) }
     ensures most { IfOk result (λ bytes. length bytes.items ≤ most) }
+    ensures leaves { TakesAtMost most (R.left reader.old) (R.left reader.new) }
     ensures reads { R.reads reader.new ≤ R.reads reader.old + most }
+    ensures asked { R.asked reader.new ≤ max (R.asked reader.old) 65536 }
     ensures honest { OnOk result (R.failed reader.new ≡ R.failed reader.old) }
     ensures failed { IfErr result (λ error. IsReadFault error
         → HasFailed (R.failed reader.old) (R.failed reader.new)) }
+    ensures ended { IfErr result (λ error. IsReadFault error → R.ended reader.new ≡ true) }
     ensures kind { IfErr result (λ error. IsFaultOf error (R.fault reader.new)) }
     ensures memory { result ≡ Err ReadError.Memory → R.failed reader.new ≡ R.failed reader.old }
 {
@@ -53,7 +59,10 @@ fn read_up_to<R: Source>(alloc: Global, reader: &mut R, most: usize) -> Result<V
     let mut missing = most;
     while missing > 0 {
         let asked = missing.min(PIECE);
-        let count = reader.read(&mut piece[..asked]).map_err(ReadError::Read)?;
+        let count = match reader.read(&mut piece[..asked]) {
+            Ok(count) => count,
+            Err(kind) => return Err(ReadError::Read(kind)),
+        };
         if count == 0 {
             break;
         }
@@ -74,6 +83,7 @@ pub fn write_all<W: Sink>(writer: &mut W, bytes: &[u8]) -> Result<(), ErrorKind>
     ensures honest { OnOk result (W.failed writer.new ≡ W.failed writer.old) }
     ensures prefix { OnErr result (TakesPrefix (W.taken writer.old) (W.taken writer.new) bytes.now) }
     ensures failed { OnErr result (HasFailed (W.failed writer.old) (W.failed writer.new)) }
+    ensures ended { OnErr result (W.ended writer.new ≡ true) }
     ensures kind { IfErr result (λ kind. W.fault writer.new ≡ Some kind) }
     ensures flushes { W.flushes writer.new ≡ W.flushes writer.old }
 {

@@ -133,36 +133,28 @@ features_long features i keys values start out bound so_far long =
     let size = ap length so_far.out_is ∙ length-append start (spelled (map field (take i features))) in
     front_long field features i (length start) bound (omega (arith, size))
 
--- a pool that is left full is a front of the pool of all features
-split_here : (features : List Feature) (i n : ℕ) (f : Feature) → i < length features → f ≡ get_or features i f → attributes_of features ≡ (attributes_of (take i features) ++ take n f.attributes) ++ (drop n f.attributes ++ attributes_of (drop (i + 1) features))
-split_here features i n f within here =
-    let front = attributes_of (take i features) in
-    let back = attributes_of (drop (i + 1) features) in
-    ap attributes_of (sym (take-append-drop (i + 1) features)) ∙ attributes-append (take (i + 1) features) (drop (i + 1) features) ∙ ap (λ l. l ++ back) (ap attributes_of (front_more features i f within here) ∙ attributes_more (take i features) f ∙ ap (λ l. front ++ l) (sym (take-append-drop n f.attributes)) ∙ sym (append_assoc front (take n f.attributes) (drop n f.attributes))) ∙ append_assoc (front ++ take n f.attributes) (drop n f.attributes) back
-
-pub keys_within : PoolLaws → (features : List Feature) (i n : ℕ) (f : Feature) (keys new_keys : List (List ℕ)) → keys ≡ keys_of (take i features) → i < length features → f ≡ get_or features i f → new_keys ≡ key_pool keys (take n f.attributes) → length new_keys ≤ length (keys_of features)
-unfolding keys_of
-keys_within laws features i n f keys new_keys is within here grown =
-    let now : new_keys ≡ key_pool [] (attributes_of (take i features) ++ take n f.attributes) = grown ∙ ap (λ k. key_pool k (take n f.attributes)) is ∙ laws.keys_by_parts [] (attributes_of (take i features)) (take n f.attributes) in
-    let later = laws.keys_grow [] (attributes_of (take i features) ++ take n f.attributes) (drop n f.attributes ++ attributes_of (drop (i + 1) features)) in
-    let all : key_pool [] (attributes_of features) ≡ new_keys ++ later.0 = ap (key_pool []) (split_here features i n f within here) ∙ later.1 ∙ ap (λ k. k ++ later.0) (sym now) in
-    let size = ap length all ∙ length-append new_keys later.0 in
+-- pools that a feature takes past a bound are fronts of the pools of all features
+keys_pass : PoolLaws → (features : List Feature) (i : ℕ) (f : Feature) (keys : List (List ℕ)) (bound : ℕ) → keys ≡ keys_of (take i features) → i < length features → f ≡ get_or features i f → bound < length (key_pool keys f.attributes) → bound < length (keys_of features)
+keys_pass laws features i f keys bound is within here more =
+    let now : key_pool keys f.attributes ≡ keys_of (take (i + 1) features) = keys_more laws (take i features) f keys _ is refl ∙ ap keys_of (sym (front_more features i f within here)) in
+    let later = keys_front laws (take (i + 1) features) (drop (i + 1) features) in
+    let all : keys_of features ≡ key_pool keys f.attributes ++ later.0 = ap keys_of (sym (take-append-drop (i + 1) features)) ∙ later.1 ∙ ap (λ k. k ++ later.0) (sym now) in
+    let size = ap length all ∙ length-append (key_pool keys f.attributes) later.0 in
     omega (arith, size)
 
-pub values_within : PoolLaws → (features : List Feature) (i n : ℕ) (f : Feature) (values new_values : List Value) → values ≡ values_of (take i features) → i < length features → f ≡ get_or features i f → new_values ≡ value_pool values (take n f.attributes) → length new_values ≤ length (values_of features)
-unfolding values_of
-values_within laws features i n f values new_values is within here grown =
-    let now : new_values ≡ value_pool [] (attributes_of (take i features) ++ take n f.attributes) = grown ∙ ap (λ k. value_pool k (take n f.attributes)) is ∙ laws.values_by_parts [] (attributes_of (take i features)) (take n f.attributes) in
-    let later = laws.values_grow [] (attributes_of (take i features) ++ take n f.attributes) (drop n f.attributes ++ attributes_of (drop (i + 1) features)) in
-    let all : value_pool [] (attributes_of features) ≡ new_values ++ later.0 = ap (value_pool []) (split_here features i n f within here) ∙ later.1 ∙ ap (λ k. k ++ later.0) (sym now) in
-    let size = ap length all ∙ length-append new_values later.0 in
+values_pass : PoolLaws → (features : List Feature) (i : ℕ) (f : Feature) (values : List Value) (bound : ℕ) → values ≡ values_of (take i features) → i < length features → f ≡ get_or features i f → bound < length (value_pool values f.attributes) → bound < length (values_of features)
+values_pass laws features i f values bound is within here more =
+    let now : value_pool values f.attributes ≡ values_of (take (i + 1) features) = values_more laws (take i features) f values _ is refl ∙ ap values_of (sym (front_more features i f within here)) in
+    let later = values_front laws (take (i + 1) features) (drop (i + 1) features) in
+    let all : values_of features ≡ value_pool values f.attributes ++ later.0 = ap values_of (sym (take-append-drop (i + 1) features)) ∙ later.1 ∙ ap (λ k. k ++ later.0) (sym now) in
+    let size = ap length all ∙ length-append (value_pool values f.attributes) later.0 in
     omega (arith, size)
 
-pub features_full : PoolLaws → (features : List Feature) (i n m : ℕ) (f : Feature) (keys new_keys : List (List ℕ)) (values new_values : List Value) (bound : ℕ) → keys ≡ keys_of (take i features) → values ≡ values_of (take i features) → i < length features → f ≡ get_or features i f → new_keys ≡ key_pool keys (take n f.attributes) → new_values ≡ value_pool values (take m f.attributes) → (length new_keys ≡ bound) ⊎ (length new_values ≡ bound) → (bound ≤ length (keys_of features)) ⊎ (bound ≤ length (values_of features))
-features_full laws features i n m f keys new_keys values new_values bound keys_are values_are within here keys_grown values_grown (inl full) =
-    let less = keys_within laws features i n f keys new_keys keys_are within here keys_grown in inl (omega arith)
-features_full laws features i n m f keys new_keys values new_values bound keys_are values_are within here keys_grown values_grown (inr full) =
-    let less = values_within laws features i m f values new_values values_are within here values_grown in inr (omega arith)
+pub features_full : PoolLaws → (features : List Feature) (i : ℕ) (f : Feature) (keys : List (List ℕ)) (values : List Value) (bound : ℕ) → keys ≡ keys_of (take i features) → values ≡ values_of (take i features) → i < length features → f ≡ get_or features i f → (bound < length (key_pool keys f.attributes)) ⊎ (bound < length (value_pool values f.attributes)) → (bound ≤ length (keys_of features)) ⊎ (bound ≤ length (values_of features))
+features_full laws features i f keys values bound keys_are values_are within here (inl more) =
+    let all = keys_pass laws features i f keys bound keys_are within here more in inl (omega arith)
+features_full laws features i f keys values bound keys_are values_are within here (inr more) =
+    let all = values_pass laws features i f values bound values_are within here more in inr (omega arith)
 
 -- the whole layer
 abbrev pub IsLong : ℕ → ℕ → List Feature → Type 0

@@ -54,6 +54,7 @@ fn with_field(len: u64, number: u32, size: u64) -> Result<u64, PutError>
         → IfOk result (λ n. (n ≡ len + length (short_field number (bytes d))) × (n ≤ LIMIT)) }
     ensures too_large { (d : List ℕ) → length d ≡ size
         → IsErrOf result PutError.TooLarge → LIMIT < len + length (short_field number (bytes d)) }
+    ensures memory { ¬ (IsErrOf result PutError.Memory) }
 {
     // What the proof needs to know of lengths; it does nothing.
     short_lengths();

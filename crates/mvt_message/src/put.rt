@@ -49,6 +49,11 @@ impl From<PoolError> for PutError {
 }
 
 impl fmt::Display for PutError {
+    ghost use Rattle.std.specs.Prelude.{Some};
+    ghost use Rattle.mvt_message.specs.PutErrors.{put_error_text};
+
+    ghost output = { λ error. Some (put_error_text error) };
+
     fn fmt<W: fmt::Write>(&self, f: &mut fmt::Formatter<W>) -> fmt::Result {
         f.write_str(match self {
             PutError::Memory => "out of memory",
@@ -133,6 +138,7 @@ fn put_layer(alloc: Global, layer: &Layer) -> Result<Vec<u8>, PutError>
 fn foreign_len(bytes: &[u8]) -> Result<u64, PutError>
     ensures len { IfOk result (λ n. (n ≡ length bytes.now) × (n ≤ LIMIT)) }
     ensures too_large { IsErrOf result PutError.TooLarge → LIMIT < length bytes.now }
+    ensures memory { ¬ (IsErrOf result PutError.Memory) }
 {
     let len = bytes.len() as u64;
     if len > LIMIT {

@@ -32,6 +32,11 @@ const BARE: [u8; 14] = [
     0x78, 0x02, 0x0A, 0x01, 0x61, 0x12, 0x04, 0x18, 0x00, 0x22, 0x00, 0x28, 0x80, 0x20,
 ];
 
+// A layer with a name, a key and a value that are too long to be kept in place, and a feature of nothing.
+const LONG_TEXTS: &[u8] = b"\x78\x02\x0A\x12a name of 18 bytes\
+    \x12\x08\x12\x02\x00\x00\x18\x00\x22\x00\
+    \x1A\x12a text of 18 bytes\x22\x14\x0A\x12a text of 18 bytes\x28\x80\x20";
+
 const FOREIGN: [u8; 5] = [0x78, 0x01, 0x0A, 0x01, 0x61];
 
 // A feature with the point (25,17), and these keys with the value 5 each.
@@ -75,6 +80,14 @@ fn item_of(alloc: Global, payload: &[u8]) -> Result<Item, Fail> {
         Ok(item) => Ok(item),
         Err(_) => Err(Fail::new("no item")),
     }
+}
+
+// The same, where it may want memory.
+fn read_short(alloc: Global, payload: &[u8]) -> Result<Item, MessageError> {
+    if payload.len() > 100 {
+        return Err(MessageError::Memory);
+    }
+    read_item(alloc, payload, 2, 0)
 }
 
 // What such a payload is refused for.
@@ -369,7 +382,7 @@ fn refuses_features(rt: HostRuntime) -> Result<(), Fail> {
 fn refused_reads(rt: HostRuntime) {
     let alloc = rt.alloc();
     let mut refused = 0u8;
-    for payload in [TWICE_A_KEY.as_slice(), FOREIGN.as_slice()] {
+    for payload in [TWICE_A_KEY.as_slice(), LONG_TEXTS, FOREIGN.as_slice()] {
         for _turn in 0..2 {
             match read_item(alloc, payload, 2, 0) {
                 Ok(item) => assert!(rt; is_valid_item(&item)),
@@ -388,7 +401,7 @@ fn refused_writes(rt: HostRuntime) {
     let alloc = rt.alloc();
     let mut refused = 0u8;
     for _turn in 0..2 {
-        let Ok(item) = read_item(alloc, &TWICE_A_KEY, 2, 0) else {
+        let Ok(item) = read_item(alloc, LONG_TEXTS, 2, 0) else {
             refused = refused.saturating_add(1);
             continue;
         };
@@ -398,7 +411,7 @@ fn refused_writes(rt: HostRuntime) {
         }
         if is_valid_item(&item) {
             match item_len(alloc, &item) {
-                Ok(len) => assert_eq!(rt; len, 41),
+                Ok(len) => assert_eq!(rt; len, 77),
                 Err(error) => {
                     assert_eq!(rt; error, PutError::Memory);
                     refused = refused.saturating_add(1);
@@ -413,15 +426,44 @@ fn refused_writes(rt: HostRuntime) {
 fn refused_payloads(rt: HostRuntime) {
     let alloc = rt.alloc();
     let mut refused = 0u8;
+    for (payload, written) in [(&ONE_POINT[..], &ONE_POINT[..]), (&TWICE_A_KEY, &ONCE_A_KEY)] {
+        for _turn in 0..2 {
+            let Ok(item) = read_short(alloc, payload) else {
+                refused = refused.saturating_add(1);
+                continue;
+            };
+            if is_valid_item(&item) {
+                match put_item(alloc, &item) {
+                    Ok(bytes) => assert_eq!(rt; bytes.as_slice(), written),
+                    Err(error) => {
+                        assert_eq!(rt; error, PutError::Memory);
+                        refused = refused.saturating_add(1);
+                    }
+                }
+            }
+        }
+    }
+    assert!(rt; refused < 2);
+}
+
+#[test]
+fn refused_foreign_items(rt: HostRuntime) {
+    let alloc = rt.alloc();
+    let mut refused = 0u8;
     for _turn in 0..2 {
-        let Ok(layer) = layer_with(alloc, &["k"]) else {
+        let Ok(item) = foreign(alloc, 1, &FOREIGN) else {
             refused = refused.saturating_add(1);
             continue;
         };
-        let item = Item::Layer(layer);
+        match item.copy(alloc) {
+            Ok(copy) => assert!(rt; copy == item),
+            Err(AllocError) => refused = refused.saturating_add(1),
+        }
         if is_valid_item(&item) {
+            // A length takes no memory.
+            assert_eq!(rt; item_len(alloc, &item), Ok(5));
             match put_item(alloc, &item) {
-                Ok(bytes) => assert_eq!(rt; bytes.len(), 28),
+                Ok(bytes) => assert_eq!(rt; bytes.as_slice(), FOREIGN.as_slice()),
                 Err(error) => {
                     assert_eq!(rt; error, PutError::Memory);
                     refused = refused.saturating_add(1);
@@ -430,4 +472,31 @@ fn refused_payloads(rt: HostRuntime) {
         }
     }
     assert!(rt; refused < 2);
+}
+
+// A name of 67,108,852 bytes leaves just room for the layer without its tag and length.
+#[test]
+fn writes_a_large_layer(rt: HostRuntime) -> Result<(), Fail> {
+    let alloc = rt.alloc();
+    let mut name = String::with_capacity(alloc, 67_108_852)?;
+    for _byte in 0..67_108_852u32 {
+        name.push('a')?;
+    }
+    let item = Item::Layer(Layer {
+        name: Text::from_string(name)?,
+        extent: 4096,
+        features: Items::new(Vec::new(alloc)),
+    });
+    assert!(rt; is_valid_item(&item));
+    if !is_valid_item(&item) {
+        return Err(Fail::new("an invalid item"));
+    }
+    assert_eq!(rt; item_len(alloc, &item), Ok(67_108_862));
+    let Ok(bytes) = put_item(alloc, &item) else {
+        return Err(Fail::new("no bytes"));
+    };
+    assert_eq!(rt; bytes.len(), 67_108_862);
+    assert_eq!(rt; bytes.first(), Some(&0x78));
+    assert_eq!(rt; bytes.last(), Some(&0x20));
+    Ok(())
 }

@@ -62,7 +62,7 @@ weaker_taken (Fault f) o h = h
 weaker_taken (Read k) o h = tt
 
 pub taken_fails : (limit : ℕ) (a b c : Option (List ℕ)) (old new : Decoding) (reads : ℕ) (buffer piece : List ℕ) (n size : ℕ) (r : Result (Unit {0}) DecodeError) (e : DecodeError) → HasTaken limit a b old reads → Consumes b c (take n buffer)
-    → piece ≡ take n buffer → length buffer ≤ size → Feeds limit old new piece → Answers new.failure r → r ≡ Err e → HasStopped limit size a c e
+    → piece ≡ take n buffer → size ≡ n → Feeds limit old new piece → Answers new.failure r → r ≡ Err e → HasStopped limit size a c e
 taken_fails limit a b c old new reads buffer piece n size r e has consumed is of_size feeds answers failed =
     let short : length piece ≤ size = let count : length piece ≡ length (take n buffer) = ap length is in omega (arith, length-take n buffer) in
     record {
@@ -108,8 +108,10 @@ early_from splits limit size (Some xs) (Some ys) front back consumed few calm =
           (calm_front splits limit (take (all - size) front) (drop (all - size) front) (subst (λ s. IsCalm (fault_within limit s)) (sym (take-append-drop (all - size) front)) calm)),
     )
 
-pub stopped_early : SplitLaws → (limit size : ℕ) (a b : Option (List ℕ)) (e : DecodeError) → HasStopped limit size a b e → StopsEarly limit size a b
-stopped_early splits limit size a b e h = early_from splits limit size a b h.front h.back h.consumed h.few h.calm
+pub stopped_early : SplitLaws → (limit given size : ℕ) (a b : Option (List ℕ)) (e : DecodeError) → given ≤ size → HasStopped limit given a b e → StopsEarly limit size a b
+stopped_early splits limit given size a b e within h =
+    let few : length h.back ≤ given = h.few in
+    early_from splits limit size a b h.front h.back h.consumed (omega arith) h.calm
 
 pub taken_early : SplitLaws → (limit size : ℕ) (a b : Option (List ℕ)) (decoder : Decoding) (reads : ℕ) → HasTaken limit a b decoder reads → StopsEarly limit size a b
 taken_early splits limit size a b decoder reads has =

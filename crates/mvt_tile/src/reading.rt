@@ -1,5 +1,5 @@
 //! Reading a tile from a reader.
-ghost use Rattle.std.specs.Prelude.{◌≡◌, ℕ, ◌+◌, ◌<◌, ◌≤◌, List, [], length, Err, None, IfOk, IfErr, IfSome, OnOk, OnErr};
+ghost use Rattle.std.specs.Prelude.{◌≡◌, ℕ, ◌+◌, ◌<◌, ◌≤◌, max, true, List, [], length, Err, None, IfOk, IfErr, IfSome, OnOk, OnErr};
 ghost use Rattle.std.specs.Io.KnownBytes.{IsAtEnd};
 ghost use Rattle.mvt_io.specs.Counts.{HasFailed};
 ghost use Rattle.mvt_tile.specs.Inner.Taking.{HasTaken, HasStopped};
@@ -35,11 +35,15 @@ pub fn read_tile<R: Source>(alloc: Global, reader: &mut R) -> Result<Tile, Decod
     ensures fault { IfErr result (λ error. IfSome (R.left reader.old)
         (λ input. TellsInput error (fault_within LIMIT input))) }
     ensures early { StopsEarly LIMIT 65536 (R.left reader.old) (R.left reader.new) }
+    ensures stops { StopsEarly LIMIT (R.given reader.new) (R.left reader.old) (R.left reader.new) }
     ensures reads { R.reads reader.new ≤ R.reads reader.old + 67108866 }
+    ensures asked { R.asked reader.new ≤ max (R.asked reader.old) 65536 }
     ensures failed { IfErr result (λ error. IsReadError error
         → HasFailed (R.failed reader.old) (R.failed reader.new)) }
+    ensures ended { IfErr result (λ error. IsReadError error → R.ended reader.new ≡ true) }
     ensures kind { IfErr result (λ error. IsKindOf error (R.fault reader.new)) }
     ensures honest { OnOk result (R.failed reader.new ≡ R.failed reader.old) }
+    ensures sound { IfErr result (λ error. (IsReadError error → ⊥) → R.failed reader.new ≡ R.failed reader.old) }
 {
     below::split_laws();
     let mut decoder = TileDecoder::new(alloc);
@@ -60,12 +64,16 @@ fn feed_all<R: Source>(
     requires stands { StandsFor LIMIT decoder.old [] }
     ensures taken { OnOk result (HasTaken LIMIT (R.left reader.old) (R.left reader.new) decoder.new 0) }
     ensures end { OnOk result (IsAtEnd (R.left reader.new)) }
-    ensures stopped { IfErr result (HasStopped LIMIT 65536 (R.left reader.old) (R.left reader.new)) }
+    ensures stopped { IfErr result (HasStopped LIMIT (R.given reader.new) (R.left reader.old) (R.left reader.new)) }
+    ensures given { R.given reader.new ≤ 65536 }
     ensures reads { R.reads reader.new ≤ R.reads reader.old + MOST_READS }
+    ensures asked { R.asked reader.new ≤ max (R.asked reader.old) 65536 }
     ensures failed { IfErr result (λ error. IsReadError error
         → HasFailed (R.failed reader.old) (R.failed reader.new)) }
+    ensures ended { IfErr result (λ error. IsReadError error → R.ended reader.new ≡ true) }
     ensures kind { IfErr result (λ error. IsKindOf error (R.fault reader.new)) }
     ensures honest { OnOk result (R.failed reader.new ≡ R.failed reader.old) }
+    ensures sound { IfErr result (λ error. (IsReadError error → ⊥) → R.failed reader.new ≡ R.failed reader.old) }
 {
     below::split_laws();
     for _turn in 0..MOST_READS {

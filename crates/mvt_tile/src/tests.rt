@@ -3,6 +3,7 @@ mod devices;
 mod faults;
 mod limits;
 mod refused;
+mod refused_rows;
 mod rows;
 mod streams;
 mod support;

@@ -1,5 +1,5 @@
 //! Writing a tile as its canonical bytes.
-ghost use Rattle.std.specs.Prelude.{◌≡◌, ◌+◌, ◌<◌, ◌≤◌, ◌++◌, length, map, IfOk, IfErr, IsErrOf, OnOk, OnErr};
+ghost use Rattle.std.specs.Prelude.{◌≡◌, ◌+◌, ◌<◌, ◌≤◌, ◌++◌, true, length, map, IfOk, IfErr, IsErrOf, OnOk, OnErr};
 ghost use Rattle.std.specs.Io.KnownBytes.{Appends};
 ghost use Rattle.std.specs.List.{AllByRecursion};
 ghost use Rattle.mvt_io.specs.Counts.{HasFailed};
@@ -55,6 +55,8 @@ pub fn write_tile<W: Sink>(alloc: Global, tile: &Tile, writer: &mut W) -> Result
     ensures prefix { OnErr result (TakesPrefix (W.taken writer.old) (W.taken writer.new) (canonical tile.now)) }
     ensures failed { IfErr result (λ error. IsWriteFault error
         → HasFailed (W.failed writer.old) (W.failed writer.new)) }
+    ensures ended { IfErr result (λ error. IsWriteFault error → W.ended writer.new ≡ true) }
+    ensures sound { IfErr result (λ error. (IsWriteFault error → ⊥) → W.failed writer.new ≡ W.failed writer.old) }
     ensures kind { IfErr result (λ error. IsWriteKind error (W.fault writer.new)) }
     ensures flushes { W.flushes writer.new ≡ W.flushes writer.old }
 {
@@ -124,6 +126,8 @@ fn write_items<W: Sink>(alloc: Global, items: &[Item], writer: &mut W) -> Result
         (TakesPrefix (W.taken writer.old) (W.taken writer.new) (spelled (map item_field items.now))) }
     ensures failed { IfErr result (λ error. IsWriteFault error
         → HasFailed (W.failed writer.old) (W.failed writer.new)) }
+    ensures ended { IfErr result (λ error. IsWriteFault error → W.ended writer.new ≡ true) }
+    ensures sound { IfErr result (λ error. (IsWriteFault error → ⊥) → W.failed writer.new ≡ W.failed writer.old) }
     ensures kind { IfErr result (λ error. IsWriteKind error (W.fault writer.new)) }
     ensures flushes { W.flushes writer.new ≡ W.flushes writer.old }
 {
@@ -146,6 +150,8 @@ fn write_item<W: Sink>(alloc: Global, item: &Item, writer: &mut W) -> Result<(),
         (short_field 3 (bytes (canonical_item item.now)))) }
     ensures failed { IfErr result (λ error. IsWriteFault error
         → HasFailed (W.failed writer.old) (W.failed writer.new)) }
+    ensures ended { IfErr result (λ error. IsWriteFault error → W.ended writer.new ≡ true) }
+    ensures sound { IfErr result (λ error. (IsWriteFault error → ⊥) → W.failed writer.new ≡ W.failed writer.old) }
     ensures kind { IfErr result (λ error. IsWriteKind error (W.fault writer.new)) }
     ensures flushes { W.flushes writer.new ≡ W.flushes writer.old }
 {

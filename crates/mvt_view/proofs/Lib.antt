@@ -2,3 +2,4 @@ mod EventLemmas
 mod FrontLemmas
 mod WalkLemmas
 mod WholeLemmas
+mod SvgLemmas

@@ -1,4 +1,4 @@
--- The JSON of a tile has no float.
+-- The JSON of a tile, and of what is told of a feature, has no float.
 use Rattle.std.proofs.Common.{◌≡◌, ℕ, ℤ, pos, negsuc, Bool, false, ◌||◌, List, [], ◌∷◌, Option, Some, None, refl, ap₂}
 use Rattle.serde_json.specs.Data.{Data, number}
 use Rattle.serde_json.specs.Find.{of_integer}
@@ -15,6 +15,7 @@ use Rattle.mvt_message.specs.declared.item.Layer.{Layer as ALayer}
 use Rattle.mvt_message.specs.declared.item.Item.{Item}
 use Rattle.mvt_message.specs.declared.item.Item.TheVariants.{Layer, Foreign}
 use Rattle.mvt_tile.specs.declared.tile.Tile.{Tile}
+use Rattle.mvt_view.specs.Svg.{title_json}
 use Rattle.mvt_view.specs.JsonForms.{each, number_json, id_json, value_json, attribute_json, point_json, line_json, polygon_json, geometry_json, feature_json, layer_json, item_json, json}
 
 -- two parts without a float
@@ -65,6 +66,9 @@ geometry_whole (Polygons ps) = neither _ _ (each_whole polygon_json polygon_whol
 
 feature_whole : (f : Feature) → has_float (feature_json f) ≡ false
 feature_whole f = neither _ _ (each_whole attribute_json attribute_whole f.attributes) (neither _ _ (geometry_whole f.geometry) (neither _ _ (id_whole f.id) refl))
+
+pub title_whole : (f : Feature) → has_float (title_json f) ≡ false
+title_whole f = neither _ _ (each_whole attribute_json attribute_whole f.attributes) (neither _ _ (id_whole f.id) refl)
 
 layer_whole : (l : ALayer) → has_float (layer_json l) ≡ false
 layer_whole l = neither _ _ (each_whole feature_json feature_whole l.features) refl

@@ -2,3 +2,5 @@ pub mod FaultLines
 pub mod FieldLines
 pub mod JsonForms
 pub mod Reports
+pub mod Xml
+pub mod Svg

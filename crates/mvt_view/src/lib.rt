@@ -1,18 +1,22 @@
-//! Texts of tiles: JSON, the lines of top-level fields, faults and reports.
+//! Texts of tiles: JSON, pictures, the lines of top-level fields, faults and reports.
 #![tactic(auto)]
 
 mod fault;
 mod fields;
 pub mod laws;
 mod parts;
+mod paths;
 mod report;
 mod shown;
+mod svg;
 mod tile_json;
 mod view_error;
+mod xml;
 
 pub use fault::fault_text;
 pub use fields::{FieldsText, fields_text};
 pub use report::report_text;
+pub use svg::svg_text;
 pub use tile_json::{json_of, json_text};
 pub use view_error::ViewError;
 

@@ -9,6 +9,8 @@ use std::alloc::{AllocError, Global};
 use std::process::Abort;
 use std::test::Fail;
 
+mod svg;
+
 const ONE_POINT: &str =
     r#"{"layers":[{"extent":4096,"features":[{"attributes":[],"geometry":{"points":[[25,17]]},"id":null}],"name":"a"}]}"#;
 
@@ -376,16 +378,39 @@ fn lines_refused_memory(rt: HostRuntime) {
     let alloc = rt.alloc();
     let kind = fault(Some(0), None, 14, Cause::ValueKind);
     let line = "layer 0 feature - at 14: 11 ValueKind";
-    let cut = fault(None, None, 2, Cause::Truncated);
     let mut wanted: u32 = 0;
     for _ in 0..2 {
         wanted = wanted.saturating_add(wants(&rt, fault_text(alloc, &kind), line));
-        match fields_text(alloc, b"\x20\x05\x1A") {
-            Ok(text) => {
-                assert_eq!(rt; text.lines.as_str(), "0 4 varint 5\n");
-                assert_eq!(rt; text.fault, Some(cut));
+    }
+    assert!(rt; wanted <= 1);
+}
+
+#[test]
+fn fields_refused_memory(rt: HostRuntime) {
+    let cut = fault(None, None, 2, Cause::Truncated);
+    let rows: [(&[u8], &str, Option<Fault>); 3] = [
+        (
+            b"\x1A\x03\x0A\x01\x61\x20\x05",
+            "0 3 len 3\n5 4 varint 5\n",
+            None,
+        ),
+        (b"\x20\x05\x1A", "0 4 varint 5\n", Some(cut)),
+        (
+            b"\x0D\x01\x00\x00\x00\x09\x02\x00\x00\x00\x00\x00\x00\x00",
+            "0 1 i32 1\n5 1 i64 2\n",
+            None,
+        ),
+    ];
+    let mut wanted: u32 = 0;
+    for (input, lines, fault) in &rows {
+        for _ in 0..2 {
+            match fields_text(rt.alloc(), input) {
+                Ok(text) => {
+                    assert_eq!(rt; text.lines.as_str(), *lines);
+                    assert_eq!(rt; text.fault, *fault);
+                }
+                Err(ViewError::Memory) => wanted = wanted.saturating_add(1),
             }
-            Err(ViewError::Memory) => wanted = wanted.saturating_add(1),
         }
     }
     assert!(rt; wanted <= 1);

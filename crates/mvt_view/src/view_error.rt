@@ -34,6 +34,10 @@ impl From<serde_json::Error> for ViewError {
 }
 
 impl fmt::Display for ViewError {
+    ghost use Rattle.std.specs.Prelude.{Some, codes};
+
+    ghost output = { λ _. Some (codes "out of memory") };
+
     fn fmt<W: fmt::Write>(&self, f: &mut fmt::Formatter<W>) -> fmt::Result {
         match self {
             ViewError::Memory => f.write_str("out of memory"),

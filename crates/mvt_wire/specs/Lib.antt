@@ -7,5 +7,6 @@ pub mod Rest
 pub mod Span
 pub mod Spelling
 pub mod Split
+pub mod Texts
 pub mod Varint
 pub mod Zigzag

@@ -25,6 +25,11 @@ pub struct WireFault {
 }
 
 impl fmt::Display for WireCause {
+    ghost use Rattle.std.specs.Prelude.{Some};
+    ghost use Rattle.mvt_wire.specs.Texts.{cause_name};
+
+    ghost output = { λ cause. Some (cause_name cause) };
+
     fn fmt<W: fmt::Write>(&self, f: &mut fmt::Formatter<W>) -> fmt::Result {
         f.write_str(match self {
             WireCause::Truncated => "Truncated",
@@ -36,6 +41,11 @@ impl fmt::Display for WireCause {
 }
 
 impl fmt::Display for WireFault {
+    ghost use Rattle.std.specs.Prelude.{Some};
+    ghost use Rattle.mvt_wire.specs.Texts.{fault_text};
+
+    ghost output = { λ fault. Some (fault_text fault) };
+
     fn fmt<W: fmt::Write>(&self, f: &mut fmt::Formatter<W>) -> fmt::Result {
         write!(f, "{} at {}", self.cause, self.at)
     }

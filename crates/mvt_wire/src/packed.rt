@@ -34,6 +34,11 @@ impl From<AllocError> for PackedError {
 }
 
 impl fmt::Display for PackedError {
+    ghost use Rattle.std.specs.Prelude.{Some};
+    ghost use Rattle.mvt_wire.specs.Texts.{packed_error_text};
+
+    ghost output = { λ error. Some (packed_error_text error) };
+
     fn fmt<W: fmt::Write>(&self, f: &mut fmt::Formatter<W>) -> fmt::Result {
         match self {
             Self::Memory => f.write_str("out of memory"),

@@ -150,6 +150,9 @@ fn wire_calls(rt: HostRuntime) {
     assert_eq!(rt; numbers.as_slice(), [9, 50, 34, 7].as_slice());
 }
 
+// The tests of refused growths pass too where one allocation, whichever, is refused: each call has
+// two turns, of which one at most may want memory.
+
 /// Each call with one growth refused: the vector is then as it was, and the next call succeeds.
 #[test]
 fn refused_put(rt: HostRuntime) {
@@ -162,19 +165,56 @@ fn refused_put(rt: HostRuntime) {
         } else {
             assert_eq!(rt; out.as_slice(), [0x80, 0x20].as_slice());
         }
-        let mut out = Vec::new(rt.alloc());
-        if put_field(&mut out, 4, &Payload::Len(&[0x61; 40])).is_err() {
-            refusals = refusals.saturating_add(1);
-            assert_eq!(rt; out.len(), 0);
-        } else {
-            assert_eq!(rt; out.len(), 42);
+    }
+    assert!(rt; refusals < 2);
+}
+
+#[test]
+fn refused_put_field(rt: HostRuntime) {
+    let long = [0x61; 40];
+    let rows: [(u32, Payload, usize); 4] = [
+        (15, Payload::Varint(2), 2),
+        (4, Payload::Len(&long), 42),
+        (1, Payload::I64(2), 9),
+        (1, Payload::I32(1), 5),
+    ];
+    let mut refusals = 0u32;
+    for (number, payload, len) in rows {
+        for _ in 0..2 {
+            let mut out = Vec::new(rt.alloc());
+            if put_field(&mut out, number, &payload).is_err() {
+                refusals = refusals.saturating_add(1);
+                assert_eq!(rt; out.len(), 0);
+            } else {
+                assert_eq!(rt; out.len(), len);
+            }
         }
-        let mut out = Vec::new(rt.alloc());
-        if put_packed(&mut out, 4, &[4294967290; 9]).is_err() {
-            refusals = refusals.saturating_add(1);
-            assert_eq!(rt; out.len(), 0);
-        } else {
-            assert_eq!(rt; out.len(), 47);
+    }
+    assert!(rt; refusals < 2);
+}
+
+#[test]
+fn refused_put_packed(rt: HostRuntime) {
+    let rows: [(&[u32], &[u8]); 3] = [
+        (&[9, 50, 34], &[0x22, 0x03, 0x09, 0x32, 0x22]),
+        (&[], &[0x22, 0x00]),
+        (
+            &[4294967290, 4294967290],
+            &[
+                0x22, 0x0A, 0xFA, 0xFF, 0xFF, 0xFF, 0x0F, 0xFA, 0xFF, 0xFF, 0xFF, 0x0F,
+            ],
+        ),
+    ];
+    let mut refusals = 0u32;
+    for (numbers, bytes) in rows {
+        for _ in 0..2 {
+            let mut out = Vec::new(rt.alloc());
+            if put_packed(&mut out, 4, numbers).is_err() {
+                refusals = refusals.saturating_add(1);
+                assert_eq!(rt; out.len(), 0);
+            } else {
+                assert_eq!(rt; out.as_slice(), bytes);
+            }
         }
     }
     assert!(rt; refusals < 2);
@@ -197,6 +237,25 @@ fn refused_read_packed(rt: HostRuntime) {
             Err(error) => {
                 refusals = refusals.saturating_add(1);
                 assert_eq!(rt; error, PackedError::Memory);
+            }
+        }
+    }
+    assert!(rt; refusals < 2);
+}
+
+/// A fault, or want of memory where the list for the numbers was refused.
+#[test]
+fn refused_read_packed_faults(rt: HostRuntime) {
+    let rows: [(&[u8], PackedError); 2] = [
+        (&[0x80, 0x80, 0x80, 0x80, 0x10], PackedError::NumberRange),
+        (&[0x80], PackedError::Truncated),
+    ];
+    let mut refusals = 0u32;
+    for (bytes, fault) in rows {
+        for _ in 0..2 {
+            match read_packed(rt.alloc(), bytes).err() {
+                Some(PackedError::Memory) => refusals = refusals.saturating_add(1),
+                error => assert_eq!(rt; error, Some(fault)),
             }
         }
     }

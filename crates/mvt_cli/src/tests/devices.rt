@@ -53,9 +53,10 @@ fn fails_writing(
 #[test]
 fn tells_failed_devices(rt: HostRuntime) -> Result<(), Fail> {
     let one_point = hex(rt.alloc(), ONE_POINT)?;
-    let cases: [(&[&str], &[u8]); 5] = [
+    let cases: [(&[&str], &[u8]); 6] = [
         (&["mvt", "fields"], b"0 3 len 17\n"),
         (&["mvt", "show"], ONE_POINT_SHOWN.as_bytes()),
+        (&["mvt", "draw"], ONE_POINT_DRAWN.as_bytes()),
         (&["mvt", "check"], b"ok layers 1 features 1 canonical yes\n"),
         (&["mvt", "rewrite"], &one_point),
         (&["mvt", "extract", "a"], &one_point),

@@ -8,7 +8,7 @@ type Row = (&'static str, &'static str);
 // Each command that reads the tile refuses it; the fields are told up to a broken spelling alone.
 fn refuses_all(rt: &(impl Abort + AllocGlobal), rows: &[Row]) -> Result<(), AllocError> {
     for (input, line) in rows {
-        for command in ["check", "show", "rewrite"] {
+        for command in ["check", "show", "draw", "rewrite"] {
             refuses(rt, &["mvt", command], input, line)?;
         }
         refuses(rt, &["mvt", "extract", "a"], input, line)?;
@@ -18,8 +18,14 @@ fn refuses_all(rt: &(impl Abort + AllocGlobal), rows: &[Row]) -> Result<(), Allo
 
 #[test]
 fn refuses_spellings(rt: HostRuntime) -> Result<(), Fail> {
-    let rows: [Row; 13] = [
+    let rows: [Row; 16] = [
         ("1A", "layer - feature - at 0: 1 Truncated\n"),
+        ("2005 1A", "layer - feature - at 2: 1 Truncated\n"),
+        (
+            "0A 808080808080808080 01",
+            "layer - feature - at 0: 1 Truncated\n",
+        ),
+        ("1A03 0A0161 2005", "layer 0 feature - at 0: 8 NoVersion\n"),
         ("1A05 7802 0A0261", "layer 0 feature - at 4: 1 Truncated\n"),
         (
             "1A0A 7802 0A0161 12032201 80",

@@ -7,6 +7,9 @@ const TOO_LARGE: &str = "layer - feature - at 67108864: 25 TooLarge\n";
 
 const CUT: &str = "layer - feature - at 0: 25 TooLarge\n";
 
+// A payload of 2^63 bytes, of which there are more than any reader takes.
+const ENDLESS: &str = "0A 808080808080808080 01";
+
 // The front, and one byte over and over, up to so many bytes beyond the limit.
 fn padded(alloc: Global, front: &str, byte: u8, beyond: usize) -> Result<Vec<u8>, AllocError> {
     let mut bytes = hex(alloc, front)?;
@@ -29,12 +32,11 @@ fn expect_padded(
 
 #[test]
 fn lists_up_to_the_limit(rt: HostRuntime) -> Result<(), Fail> {
-    let endless = "0A 808080808080808080 01";
     for (front, beyond, answer) in [
         ("0AFBFFFF1F", 0, (0, "0 1 len 67108859\n", "")),
         ("0AFBFFFF1F", 1, (1, "0 1 len 67108859\n", TOO_LARGE)),
         ("0AFCFFFF1F", 1, (1, "", CUT)),
-        (endless, 9, (1, "", CUT)),
+        (ENDLESS, 9, (1, "", CUT)),
     ] {
         let input = padded(rt.alloc(), front, 0, beyond)?;
         expect_padded(&rt, "fields", input, answer)?;
@@ -56,6 +58,8 @@ fn reads_up_to_the_limit(rt: HostRuntime) -> Result<(), Fail> {
         expect_padded(&rt, command, longer, (1, "", TOO_LARGE))?;
         let cut = padded(rt.alloc(), "0AFCFFFF1F", 0, 1)?;
         expect_padded(&rt, command, cut, (1, "", CUT))?;
+        let endless = padded(rt.alloc(), ENDLESS, 0, 1)?;
+        expect_padded(&rt, command, endless, (1, "", CUT))?;
     }
     Ok(())
 }
@@ -70,5 +74,25 @@ fn refuses_a_larger_result(rt: HostRuntime) -> Result<(), Fail> {
     let larger = "mvt: result larger than 67108864 bytes\n";
     let rewritten = padded(rt.alloc(), front, b'a', 0)?;
     expect_padded(&rt, "rewrite", rewritten, (1, "", larger))?;
+    Ok(())
+}
+
+// The same layer as JSON: its name is all but a few bytes of the text.
+#[test]
+fn shows_a_large_layer(rt: HostRuntime) -> Result<(), Fail> {
+    let input = padded(rt.alloc(), "1AFBFFFF1F 7802 0AF4FFFF1F", b'a', 0)?;
+    let room = (LIMIT as usize).saturating_add(100);
+    let devices = Streams { room, ..SOUND };
+    let found = run_on(rt.alloc(), &["mvt", "show"], input, devices)?;
+    assert_eq!(rt; found.status, 0);
+    assert!(rt; found.errors.taken().is_empty());
+    let front = b"{\"layers\":[{\"extent\":4096,\"features\":[],\"name\":\"";
+    let name = found
+        .writer
+        .taken()
+        .strip_prefix(front)
+        .and_then(|text| text.strip_suffix(b"\"}]}\n"));
+    assert_eq!(rt; name.map(|name| name.len()), Some(67_108_852));
+    assert!(rt; name.is_some_and(|name| name.iter().all(|byte| *byte == b'a')));
     Ok(())
 }

@@ -37,6 +37,18 @@ fn accepts(rt: &(impl Abort + AllocGlobal), rows: &[Row]) -> Result<(), AllocErr
     Ok(())
 }
 
+// The picture of a tile, and of one in which nothing is drawn.
+#[test]
+fn draws_tiles(rt: HostRuntime) -> Result<(), Fail> {
+    answers(&rt, &["mvt", "draw"], ONE_POINT, ONE_POINT_DRAWN.as_bytes())?;
+    let head = ONE_POINT_DRAWN
+        .split_once("<svg color")
+        .map(|(head, _)| head);
+    let nothing = format!(in rt.alloc(); "{}</svg>\n", head.unwrap_or_default())?;
+    answers(&rt, &["mvt", "draw"], FOREIGN, nothing.as_bytes())?;
+    Ok(())
+}
+
 #[test]
 fn accepts_points(rt: HostRuntime) -> Result<(), Fail> {
     let rows: [Row; 6] = [
@@ -77,6 +89,29 @@ fn accepts_points(rt: HostRuntime) -> Result<(), Fail> {
             ONE_FEATURE,
             PIECES_SHOWN,
             PIECES,
+        ),
+    ];
+    Ok(accepts(&rt, &rows)?)
+}
+
+// Fields that aren't layers, and two layers.
+#[test]
+fn accepts_fields_and_layers(rt: HostRuntime) -> Result<(), Fail> {
+    let both = "1A1178020A0161120718012203093222288020 1A1178020A0162120718012203093222288020";
+    let both_shown =
+        "{\"layers\":[{\"extent\":4096,\"features\":[{\"attributes\":[],\"geometry\":{\"points\":[[25,17]]},\"id\":null}],\"name\":\"a\"},{\"extent\":4096,\"features\":[{\"attributes\":[],\"geometry\":{\"points\":[[25,17]]},\"id\":null}],\"name\":\"b\"}]}\n";
+    let rows: [Row; 2] = [
+        (
+            "0D01000000 090200000000000000",
+            "ok layers 0 features 0 canonical no\nnote NoLayers\n",
+            "{\"layers\":[]}\n",
+            "",
+        ),
+        (
+            both,
+            "ok layers 2 features 2 canonical yes\n",
+            both_shown,
+            both,
         ),
     ];
     Ok(accepts(&rt, &rows)?)

@@ -2,6 +2,8 @@
 use Rattle.std.specs.Prelude.{◌≡◌, ℕ, ◌+◌, ◌*◌, ◌/◌, ◌%◌, ◌<◌, ◌≤◌, true, ℤ, pos, ◌+ℤ◌, Bool, List, [], ◌∷◌, ◌++◌, length, slice_index, Some, None}
 use Rattle.mvt_base.specs.Rules.{first, each}
 use Rattle.mvt_geometry.specs.declared.shape.Point.{Point}
+use Rattle.mvt_geometry.specs.declared.shape.Geometry.{Geometry}
+use Rattle.mvt_geometry.specs.declared.shape.Geometry.TheVariants.{Unknown, Points, Lines, Polygons}
 use Rattle.mvt_geometry.specs.declared.shape.Kind.{Kind}
 use Rattle.mvt_geometry.specs.declared.command.Command.{Command}
 use Rattle.mvt_geometry.specs.Area.{cross}
@@ -42,3 +44,10 @@ edges c (p ∷ points) = cross c p +ℤ edges p points
 abbrev pub last_of : Point → List Point → Point
 last_of c [] = c
 last_of c (p ∷ points) = last_of p points
+
+-- how many lines or polygons a geometry has
+abbrev pub part_count : Geometry → ℕ
+part_count (Unknown integers) = 0
+part_count (Points points) = 0
+part_count (Lines lines) = length lines
+part_count (Polygons polygons) = length polygons

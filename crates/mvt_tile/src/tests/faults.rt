@@ -82,6 +82,8 @@ fn tells_cuts(rt: HostRuntime) -> Result<(), Fail> {
     for input in BARE {
         expect_fronts(&rt, input)?;
     }
-    expect_fronts(&rt, POINT_TWICE)?;
+    for input in [PLAIN, FOREIGN, NUMBERED_ONE, POINT_TWICE] {
+        expect_fronts(&rt, input)?;
+    }
     expect_fronts(&rt, EMPTY_NAME)
 }

@@ -1,9 +1,9 @@
 //! Inputs and tiles of 64 MiB.
 use super::support::outer;
-use crate::{Note, PutError, TileDecoder, WriteError, decode, encode, notes, write_tile};
+use crate::{Note, PutError, Tile, TileDecoder, WriteError, decode, encode, notes, write_tile};
 use mvt_base::LIMIT;
 use mvt_io::MemorySink;
-use mvt_message::Cause;
+use mvt_message::{Cause, item_len, put_item};
 use std::alloc::{AllocError, Global};
 use std::process::Abort;
 use std::test::Fail;
@@ -69,6 +69,17 @@ fn goes_on_behind_the_limit(rt: HostRuntime) -> Result<(), Fail> {
     expect_endless(&rt, b"\x0A\x80\x80\x80\x80\x80\x80\x80\x80\x80\x01")
 }
 
+// The payload of the tile's only item is within the limit, though the tile isn't.
+fn expect_payload(rt: &(impl Abort + AllocGlobal), tile: &Tile) {
+    for item in tile.items.as_slice() {
+        assert_eq!(rt; item_len(rt.alloc(), item), Ok(67_108_862));
+        match put_item(rt.alloc(), item) {
+            Ok(payload) => assert_eq!(rt; payload.len(), 67_108_862),
+            Err(error) => assert_eq!(rt; Some(error), None),
+        }
+    }
+}
+
 // A layer with a long name, whose extent isn't there: canonical bytes have it, and are too many.
 #[test]
 fn is_too_large_to_write(rt: HostRuntime) -> Result<(), Fail> {
@@ -79,6 +90,7 @@ fn is_too_large_to_write(rt: HostRuntime) -> Result<(), Fail> {
         b'a',
     )?;
     let tile = decode(alloc, &input)?;
+    expect_payload(&rt, &tile);
     assert_eq!(rt; encode(alloc, &tile).err(), Some(PutError::TooLarge));
     let mut writer = MemorySink::new(alloc, 100, 100, u64::MAX, false)?;
     let done = write_tile(alloc, &tile, &mut writer);

@@ -11,7 +11,7 @@ use std::alloc::{AllocError, Global};
 use std::process::Abort;
 
 // Canonical bytes of tiles that need memory in many ways.
-const TILES: [&[u8]; 4] = [RINGS, ONCE_A_KEY, KINDS_CANONICAL, FOREIGN];
+const TILES: [&[u8]; 5] = [RINGS, ONCE_A_KEY, LONG_TEXTS, KINDS_CANONICAL, FOREIGN];
 
 // Whether an answer wants memory; if not, it is a tile.
 fn is_refused(rt: &impl Abort, answer: Result<Tile, DecodeError>) -> bool {

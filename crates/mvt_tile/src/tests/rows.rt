@@ -52,6 +52,11 @@ pub(super) const ONCE_A_KEY: &[u8] = b"\x1A\x29\x78\x02\x0A\x01\x61\
     \x12\x0B\x12\x02\x00\x00\x18\x01\x22\x03\x09\x32\x22\
     \x1A\x01\x6B\x22\x02\x28\x05\x28\x80\x20";
 
+// A name, a key and a value that are too long to be kept in place.
+pub(super) const LONG_TEXTS: &[u8] = b"\x1A\x4D\x78\x02\x0A\x12a name of 18 bytes\
+    \x12\x08\x12\x02\x00\x00\x18\x00\x22\x00\
+    \x1A\x12a text of 18 bytes\x22\x14\x0A\x12a text of 18 bytes\x28\x80\x20";
+
 // A feature with a value of each kind of number; its truth is 7, and 1 where it is canonical.
 pub(super) const KINDS: &[u8] = b"\x1A\x50\x78\x02\x0A\x01\x61\
     \x12\x12\x12\x0C\x00\x00\x01\x01\x02\x02\x03\x03\x04\x04\x05\x05\x18\x00\x22\x00\
@@ -71,6 +76,9 @@ pub(super) const SAME_ID: &[u8] = b"\x1A\x1E\x78\x02\x0A\x01\x61\
 
 // A layer of version 1, and the same with a longer spelling of its length.
 pub(super) const FOREIGN: &[u8] = b"\x1A\x05\x78\x01\x0A\x01\x61";
+
+// A layer whose last version is 1.
+pub(super) const NUMBERED_ONE: &[u8] = b"\x1A\x0A\x78\x02\x78\x01\x0A\x01\x61\x28\x80\x20";
 
 pub(super) const LONG_FOREIGN: &[u8] = b"\x1A\x85\x00\x78\x01\x0A\x01\x61";
 

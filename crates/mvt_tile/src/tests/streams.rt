@@ -67,10 +67,13 @@ fn tells_faults_early(rt: HostRuntime) -> Result<(), Fail> {
     assert_eq!(rt; decoder.feed(ONE_POINT), Err(error));
     assert_eq!(rt; decoder.held(), 0);
     assert_eq!(rt; decoder.finish().err(), Some(error));
-    // Inside a layer that isn't whole nothing is judged.
-    let decoder = fed_by(alloc, b"\x1A\x05\x7A\x00", 4)?;
-    assert_eq!(rt; decoder.held(), 4);
-    assert_eq!(rt; decoder.finish().err(), Some(outer(0, Cause::Truncated)));
+    // Inside a layer that isn't whole nothing is judged, neither a wrong version field nor another
+    // version.
+    for front in [b"\x1A\x05\x7A\x00", b"\x1A\x05\x78\x01"] {
+        let decoder = fed_by(alloc, front, 4)?;
+        assert_eq!(rt; decoder.held(), 4);
+        assert_eq!(rt; decoder.finish().err(), Some(outer(0, Cause::Truncated)));
+    }
     // Nor is a field 3 that isn't whole.
     let mut decoder = fed_by(alloc, b"\x18", 1)?;
     assert_eq!(rt; decoder.held(), 1);

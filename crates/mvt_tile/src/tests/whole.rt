@@ -137,7 +137,7 @@ fn carries_foreign_items(rt: HostRuntime) -> Result<(), Fail> {
     let alloc = rt.alloc();
     let rows: [(u32, &[u8]); 4] = [
         (1, FOREIGN),
-        (1, b"\x1A\x0A\x78\x02\x78\x01\x0A\x01\x61\x28\x80\x20"),
+        (1, NUMBERED_ONE),
         (1, b"\x1A\x05\x78\x01\x0A\x01\xFF"),
         (0, b"\x1A\x02\x78\x00"),
     ];
@@ -156,4 +156,16 @@ fn carries_foreign_items(rt: HostRuntime) -> Result<(), Fail> {
     let tile = decode(alloc, &mixed)?;
     assert_eq!(rt; tile.items.as_slice().len(), 2);
     expect_tile(&rt, &mixed, &tile, &mixed)
+}
+
+// A tile can be sent to another thread, and be shared by several.
+fn is_shareable<T: Send + Sync>(_: &T) -> bool {
+    true
+}
+
+#[test]
+fn tiles_are_sent(rt: HostRuntime) -> Result<(), Fail> {
+    let tile = decode(rt.alloc(), LONG_TEXTS)?;
+    assert!(rt; is_shareable(&tile));
+    Ok(())
 }

@@ -1,10 +1,13 @@
-use Rattle.std.proofs.Common.{◌≡◌, ◌∙◌, ◌++◌, ◌∷◌, [], sym, append-nil, append_assoc, take, slice_get, Some, ap, bytes_eq, refl}
+use Rattle.std.proofs.Common.{◌≡◌, ◌+◌, ◌∙◌, ◌++◌, ◌∷◌, [], sym, append-nil, append_assoc, take, slice_get, Some, ap, bytes_eq, refl, inl, inr, length, Contains, subst, arith}
+use Rattle.std.proofs.lemmas.Result.{err_from_is_err_and}
+use Rattle.mvt_base.specs.declared.TheConstants.{LIMIT}
+use Rattle.mvt_attrs.specs.Placed.{ArePlaced}
 use Rattle.mvt_attrs.specs.Pools.{key_pool, value_pool}
 use Rattle.mvt_attrs.specs.declared.value.Attribute.{Attribute}
 use Rattle.mvt_attrs.specs.Values.{equal_values}
 use Rattle.std.proofs.lemmas.Slice.Eq.{bytes_eq-Decides}
 use Rattle.mvt_attrs.proofs.EqualityLemmas.{equal_values-Decides}
-use Rattle.mvt_attrs.proofs.PlacingLemmas.{IsPlaced, pool_none, pool_more, pool_longer, names_more, names_none, on_err_at, keys_left_at, values_left_at, all_places, all_named, tags_left_at}
+use Rattle.mvt_attrs.proofs.PlacingLemmas.{IsPlaced, pool_none, pool_more, pool_longer, names_more, names_none, pool_passes, on_err_at, keys_more, values_more, not_full_at, contains_at, told_tags, not_longer, all_places, all_named, tags_left_at}
 use Rattle.mvt_attrs.proofs.placing.append_tags.Goals as goal
 
 pub loop-attribute-init : goal.loop-attribute-init
@@ -26,41 +29,14 @@ returns-clause-names c =
     let all = c.loop-attribute.invariant in
     all_named c.args.keys.now c.loop-attribute.keys c.args.values.now c.loop-attribute.values all.so_far c.args.attributes.now c.loop-attribute.attribute-index c.loop-attribute-test.false all.keys all.values all.names
 
-pub returns-in_err-key-clause-keys_left : goal.returns-in_err-key-clause-keys_left
-returns-in_err-key-clause-keys_left c =
-    on_err_at (λ n. c.place.new.self ≡ key_pool c.args.keys.now (take n c.args.attributes.now)) c.from_residual.result c.loop-attribute.attribute-index (c.in_err-key.ensures.unchanged ∙ c.loop-attribute.invariant.keys)
-
-pub returns-in_err-key-clause-values_left : goal.returns-in_err-key-clause-values_left
-returns-in_err-key-clause-values_left c =
-    on_err_at (λ n. c.loop-attribute.values ≡ value_pool c.args.values.now (take n c.args.attributes.now)) c.from_residual.result c.loop-attribute.attribute-index c.loop-attribute.invariant.values
-
-pub returns-in_err-value-clause-keys_left : goal.returns-in_err-value-clause-keys_left
-returns-in_err-value-clause-keys_left c =
-    keys_left_at c.from_residual-in_err-value.result c.args.keys.now c.loop-attribute.keys _ c.args.attributes.now c.loop-attribute.attribute-index c.attribute-item.result _
-    c.loop-attribute.invariant.keys c.loop-attribute-test.true c.attribute-item.is c.as_str.ensures.text (record { kept = c.in_ok-key.ensures.kept; added = c.in_ok-key.ensures.added })
-
-pub returns-in_err-value-clause-values_left : goal.returns-in_err-value-clause-values_left
-returns-in_err-value-clause-values_left c =
-    on_err_at (λ n. c.place-in-loop-attribute.new.self ≡ value_pool c.args.values.now (take n c.args.attributes.now)) c.from_residual-in_err-value.result c.loop-attribute.attribute-index (c.in_err-value.ensures.unchanged ∙ c.loop-attribute.invariant.values)
-
-pub returns-in_err-extend_from_slice-clause-keys_left : goal.returns-in_err-extend_from_slice-clause-keys_left
-returns-in_err-extend_from_slice-clause-keys_left c =
-    keys_left_at c.from_residual-in_err-extend_from_slice.result c.args.keys.now c.loop-attribute.keys _ c.args.attributes.now c.loop-attribute.attribute-index c.attribute-item.result _
-    c.loop-attribute.invariant.keys c.loop-attribute-test.true c.attribute-item.is c.as_str.ensures.text (record { kept = c.in_ok-key.ensures.kept; added = c.in_ok-key.ensures.added })
-
-pub returns-in_err-extend_from_slice-clause-values_left : goal.returns-in_err-extend_from_slice-clause-values_left
-returns-in_err-extend_from_slice-clause-values_left c =
-    values_left_at c.from_residual-in_err-extend_from_slice.result c.args.values.now c.loop-attribute.values _ c.args.attributes.now c.loop-attribute.attribute-index c.attribute-item.result
-    c.loop-attribute.invariant.values c.loop-attribute-test.true c.attribute-item.is (record { kept = c.in_ok-value.ensures.kept; added = c.in_ok-value.ensures.added })
-
 pub loop-attribute-preserved : goal.loop-attribute-preserved
 loop-attribute-preserved c =
     let attributes = c.args.attributes.now in
     let i = c.loop-attribute.attribute-index in
     let a = c.attribute-item.result in
-    let key : IsPlaced c.loop-attribute.keys c.place.new.self c.as_str.result.now = record { kept = c.in_ok-key.ensures.kept; added = c.in_ok-key.ensures.added } in
+    let key : IsPlaced c.loop-attribute.keys c.place.new.self a.key = record { kept = c.in_ok-key.ensures.kept; added = c.in_ok-key.ensures.added } in
     let value : IsPlaced c.loop-attribute.values c.place-in-loop-attribute.new.self a.value = record { kept = c.in_ok-value.ensures.kept; added = c.in_ok-value.ensures.added } in
-    let of_key : slice_get c.place.new.self c.in_ok-key.key ≡ Some a.key = c.in_ok-key.ensures.index ∙ ap Some c.as_str.ensures.text in
+    let of_key : slice_get c.place.new.self c.in_ok-key.key ≡ Some a.key = c.in_ok-key.ensures.index in
     record {
       so_far = c.loop-attribute.invariant.so_far ++ c.in_ok-key.key ∷ (c.in_ok-value.value ∷ []);
       tags = c.in_ok-extend_from_slice.ensures.items ∙ ap (λ ts. ts ++ c.in_ok-key.key ∷ (c.in_ok-value.value ∷ [])) c.loop-attribute.invariant.tags ∙ append_assoc c.args.tags.now.items c.loop-attribute.invariant.so_far (c.in_ok-key.key ∷ (c.in_ok-value.value ∷ []));
@@ -68,7 +44,7 @@ loop-attribute-preserved c =
           c.loop-attribute.invariant.names c.loop-attribute-test.true c.attribute-item.is
           (pool_longer bytes_eq bytes_eq-Decides (λ (b : Attribute). b.key) _ _ _ key) (pool_longer equal_values equal_values-Decides (λ (b : Attribute). b.value) _ _ _ value)
           of_key c.in_ok-value.ensures.index;
-      keys = pool_more bytes_eq bytes_eq-Decides (λ (b : Attribute). b.key) c.args.keys.now c.loop-attribute.keys _ attributes i a _ c.loop-attribute.invariant.keys c.loop-attribute-test.true c.attribute-item.is c.as_str.ensures.text key;
+      keys = pool_more bytes_eq bytes_eq-Decides (λ (b : Attribute). b.key) c.args.keys.now c.loop-attribute.keys _ attributes i a _ c.loop-attribute.invariant.keys c.loop-attribute-test.true c.attribute-item.is refl key;
       values = pool_more equal_values equal_values-Decides (λ (b : Attribute). b.value) c.args.values.now c.loop-attribute.values _ attributes i a _ c.loop-attribute.invariant.values c.loop-attribute-test.true c.attribute-item.is refl value;
     }
 
@@ -84,3 +60,101 @@ pub returns-in_err-extend_from_slice-clause-tags_left : goal.returns-in_err-exte
 returns-in_err-extend_from_slice-clause-tags_left c =
     tags_left_at c.from_residual-in_err-extend_from_slice.result c.args.tags.now.items c.extend_from_slice.new.self.items c.loop-attribute.invariant.so_far
     (c.in_err-extend_from_slice.ensures.items ∙ c.loop-attribute.invariant.tags)
+
+pub returns-in_err-key-clause-left : goal.returns-in_err-key-clause-left
+returns-in_err-key-clause-left c =
+    on_err_at (λ n. ArePlaced n c.args.attributes.now c.args.keys.now c.place.new.self c.args.values.now c.loop-attribute.values) c.from_residual.result c.loop-attribute.attribute-index
+    (record { within = omega arith; keys_are = inl (c.in_err-key.ensures.unchanged ∙ c.loop-attribute.invariant.keys); values_are = c.loop-attribute.invariant.values })
+
+pub returns-in_err-key-clause-too_many : goal.returns-in_err-key-clause-too_many
+returns-in_err-key-clause-too_many c =
+    let p = err_from_is_err_and c.from_residual.result c.from_residual.ensures.1 in
+    λ h. (let full = c.in_err-key.ensures.full.0 (let k = rw p.1 at h in let q = p.2 in cc) in
+    inl (pool_passes bytes_eq bytes_eq-Decides (λ (b : Attribute). b.key) c.args.keys.now c.loop-attribute.keys c.args.attributes.now c.loop-attribute.attribute-index c.attribute-item.result _ LIMIT
+    c.loop-attribute.invariant.keys c.loop-attribute-test.true c.attribute-item.is refl full.0 full.1))
+
+pub returns-in_err-key-clause-memory : goal.returns-in_err-key-clause-memory
+returns-in_err-key-clause-memory c =
+    let p = err_from_is_err_and c.from_residual.result c.from_residual.ensures.1 in
+    let all = c.loop-attribute.invariant in
+    let stays = c.in_err-key.ensures.unchanged in
+    λ h. (
+      c.loop-attribute.attribute-index,
+      record { within = omega arith; keys_are = inl (stays ∙ all.keys); values_are = inl all.values },
+      told_tags c.args.keys.now c.loop-attribute.keys c.place.new.self c.args.values.now c.loop-attribute.values c.loop-attribute.values all.so_far c.args.tags.now.items c.loop-attribute.tags.items _
+          all.keys all.values all.names (not_longer _ _ stays) (not_longer _ _ refl) all.tags,
+      not_full_at c.args.attributes.now c.loop-attribute.attribute-index c.attribute-item.result _ c.place.new.self c.loop-attribute.values c.attribute-item.is refl
+          (λ full. (let k = rw p.1 at h in let q = p.2 in let other = c.in_err-key.ensures.full.1 (subst (λ ks. (length ks ≡ LIMIT) × (Contains ks c.attribute-item.result.key → ⊥)) stays full) in cc))
+          (λ there. (let found = c.in_err-key.ensures.present (subst (λ ks. Contains ks c.attribute-item.result.key) stays there) in cc)),
+    )
+
+pub returns-in_err-value-clause-left : goal.returns-in_err-value-clause-left
+returns-in_err-value-clause-left c =
+    let key : IsPlaced c.loop-attribute.keys c.place.new.self c.attribute-item.result.key = record { kept = c.in_ok-key.ensures.kept; added = c.in_ok-key.ensures.added } in
+    on_err_at (λ n. ArePlaced n c.args.attributes.now c.args.keys.now c.place.new.self c.args.values.now c.place-in-loop-attribute.new.self) c.from_residual-in_err-value.result c.loop-attribute.attribute-index
+    (record {
+      within = omega arith;
+      keys_are = inr (keys_more c.args.keys.now c.loop-attribute.keys _ c.args.attributes.now c.loop-attribute.attribute-index c.attribute-item.result _ c.loop-attribute.invariant.keys c.loop-attribute-test.true c.attribute-item.is refl key);
+      values_are = c.in_err-value.ensures.unchanged ∙ c.loop-attribute.invariant.values;
+    })
+
+pub returns-in_err-value-clause-too_many : goal.returns-in_err-value-clause-too_many
+returns-in_err-value-clause-too_many c =
+    let p = err_from_is_err_and c.from_residual-in_err-value.result c.from_residual-in_err-value.ensures.1 in
+    λ h. (let full = c.in_err-value.ensures.full.0 (let k = rw p.1 at h in let q = p.2 in cc) in
+    inr (pool_passes equal_values equal_values-Decides (λ (b : Attribute). b.value) c.args.values.now c.loop-attribute.values c.args.attributes.now c.loop-attribute.attribute-index c.attribute-item.result _ LIMIT
+    c.loop-attribute.invariant.values c.loop-attribute-test.true c.attribute-item.is refl full.0 full.1))
+
+pub returns-in_err-value-clause-memory : goal.returns-in_err-value-clause-memory
+returns-in_err-value-clause-memory c =
+    let p = err_from_is_err_and c.from_residual-in_err-value.result c.from_residual-in_err-value.ensures.1 in
+    let all = c.loop-attribute.invariant in
+    let a = c.attribute-item.result in
+    let stays = c.in_err-value.ensures.unchanged in
+    let key : IsPlaced c.loop-attribute.keys c.place.new.self c.attribute-item.result.key = record { kept = c.in_ok-key.ensures.kept; added = c.in_ok-key.ensures.added } in
+    λ h. (
+      c.loop-attribute.attribute-index,
+      record {
+        within = omega arith;
+        keys_are = inr (keys_more c.args.keys.now c.loop-attribute.keys _ c.args.attributes.now c.loop-attribute.attribute-index a _ all.keys c.loop-attribute-test.true c.attribute-item.is refl key);
+        values_are = inl (stays ∙ all.values);
+      },
+      told_tags c.args.keys.now c.loop-attribute.keys c.place.new.self c.args.values.now c.loop-attribute.values c.place-in-loop-attribute.new.self all.so_far c.args.tags.now.items c.loop-attribute.tags.items _
+          all.keys all.values all.names (pool_longer bytes_eq bytes_eq-Decides (λ (b : Attribute). b.key) _ _ _ key) (not_longer _ _ stays) all.tags,
+      not_full_at c.args.attributes.now c.loop-attribute.attribute-index a _ c.place.new.self c.place-in-loop-attribute.new.self c.attribute-item.is refl
+          (λ full. full.1 (contains_at c.place.new.self c.in_ok-key.key c.attribute-item.result.key c.in_ok-key.ensures.index))
+          (λ there full. (let k = rw p.1 at h in let q = p.2 in let other = c.in_err-value.ensures.full.1 (subst (λ vs. (length vs ≡ LIMIT) × (Contains vs a.value → ⊥)) stays full) in cc)),
+    )
+
+pub returns-in_err-extend_from_slice-clause-left : goal.returns-in_err-extend_from_slice-clause-left
+returns-in_err-extend_from_slice-clause-left c =
+    let a = c.attribute-item.result in
+    let key : IsPlaced c.loop-attribute.keys c.place.new.self c.attribute-item.result.key = record { kept = c.in_ok-key.ensures.kept; added = c.in_ok-key.ensures.added } in
+    let value : IsPlaced c.loop-attribute.values c.place-in-loop-attribute.new.self a.value = record { kept = c.in_ok-value.ensures.kept; added = c.in_ok-value.ensures.added } in
+    on_err_at (λ n. ArePlaced n c.args.attributes.now c.args.keys.now c.place.new.self c.args.values.now c.place-in-loop-attribute.new.self) c.from_residual-in_err-extend_from_slice.result (c.loop-attribute.attribute-index + 1)
+    (record {
+      within = omega arith;
+      keys_are = inl (keys_more c.args.keys.now c.loop-attribute.keys _ c.args.attributes.now c.loop-attribute.attribute-index a _ c.loop-attribute.invariant.keys c.loop-attribute-test.true c.attribute-item.is refl key);
+      values_are = values_more c.args.values.now c.loop-attribute.values _ c.args.attributes.now c.loop-attribute.attribute-index a c.loop-attribute.invariant.values c.loop-attribute-test.true c.attribute-item.is value;
+    })
+
+pub returns-in_err-extend_from_slice-clause-memory : goal.returns-in_err-extend_from_slice-clause-memory
+returns-in_err-extend_from_slice-clause-memory c =
+    let all = c.loop-attribute.invariant in
+    let a = c.attribute-item.result in
+    let key : IsPlaced c.loop-attribute.keys c.place.new.self c.attribute-item.result.key = record { kept = c.in_ok-key.ensures.kept; added = c.in_ok-key.ensures.added } in
+    let value : IsPlaced c.loop-attribute.values c.place-in-loop-attribute.new.self a.value = record { kept = c.in_ok-value.ensures.kept; added = c.in_ok-value.ensures.added } in
+    λ h. (
+      c.loop-attribute.attribute-index,
+      record {
+        within = omega arith;
+        keys_are = inr (keys_more c.args.keys.now c.loop-attribute.keys _ c.args.attributes.now c.loop-attribute.attribute-index a _ all.keys c.loop-attribute-test.true c.attribute-item.is refl key);
+        values_are = inr (values_more c.args.values.now c.loop-attribute.values _ c.args.attributes.now c.loop-attribute.attribute-index a all.values c.loop-attribute-test.true c.attribute-item.is value);
+      },
+      told_tags c.args.keys.now c.loop-attribute.keys c.place.new.self c.args.values.now c.loop-attribute.values c.place-in-loop-attribute.new.self all.so_far c.args.tags.now.items c.extend_from_slice.new.self.items _
+          all.keys all.values all.names (pool_longer bytes_eq bytes_eq-Decides (λ (b : Attribute). b.key) _ _ _ key) (pool_longer equal_values equal_values-Decides (λ (b : Attribute). b.value) _ _ _ value)
+          (c.in_err-extend_from_slice.ensures.items ∙ all.tags),
+      not_full_at c.args.attributes.now c.loop-attribute.attribute-index a _ c.place.new.self c.place-in-loop-attribute.new.self c.attribute-item.is refl
+          (λ full. full.1 (contains_at c.place.new.self c.in_ok-key.key c.attribute-item.result.key c.in_ok-key.ensures.index))
+          (λ there full. full.1 (contains_at c.place-in-loop-attribute.new.self c.in_ok-value.value a.value c.in_ok-value.ensures.index)),
+    )

@@ -27,9 +27,9 @@ pub loop-rest-preserved : goal.loop-rest-preserved
 loop-rest-preserved c =
     let is_new = new_from c.in_ok-add.field-0 c.deref.result.now c.loop-rest.attributes.items c.as_str.result.now c.in-Some.key.now c.in_ok-add.ensures.new c.deref.ensures.value c.as_str.ensures.text c.if-not-branch.false in
     let more = progress_more c.args.keys.now c.args.values.now c.args.tags.now c.loop-rest.rest.now c.loop-rest.attributes.items c.loop-rest.invariant.progress c.if-tags-eq1.false c.in-len2-up.len_at_least c.in-Some.key.now c.in-Some.ensures c.in-Some-entry_at.value.now c.in-Some-entry_at.ensures _ (take_rest c.loop-rest.rest.now 2) is_new in
-    let same : c.in_ok-copy.field-0 ≡ c.in-Some.key.now = c.in_ok-copy.ensures in
+    let same : c.in_ok-copy.field-0 ≡ c.in-Some.key.now = c.in_ok-copy.ensures.same in
     let same_value : c.in_ok-copy-2.field-0 ≡ c.in-Some-entry_at.value.now = c.in_ok-copy-2.ensures in
-    let pushed : c.push.new.self.items ≡ c.loop-rest.attributes.items ++ record { key = c.in-Some.key.now; value = c.in-Some-entry_at.value.now } ∷ [] =
+    let pushed : c.push-in-len2-up.new.self.items ≡ c.loop-rest.attributes.items ++ record { key = c.in-Some.key.now; value = c.in-Some-entry_at.value.now } ∷ [] =
     c.in_ok-push.ensures.items ∙ (λ j. c.loop-rest.attributes.items ++ record { key = same j; value = same_value j } ∷ []) in
     record {
       progress = subst (λ as'. Progress c.args.keys.now c.args.values.now c.args.tags.now (take (length c.loop-rest.rest.now - 2) (drop 2 c.loop-rest.rest.now)) as') (sym pushed) more;

@@ -10,6 +10,7 @@ returns c = record {
   alone = λ name. refl;
   fields = λ name. refl;
   show = λ name. refl;
+  draw = λ name. refl;
   check = λ name. refl;
   rewrite = λ name. refl;
   extract = λ name. refl;

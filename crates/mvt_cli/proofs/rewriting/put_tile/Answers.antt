@@ -14,4 +14,4 @@ pub returns-in_ok-from_str-in-Err-TooLarge-clause-output : goal.returns-in_ok-fr
 returns-in_ok-from_str-in-Err-TooLarge-clause-output g c =
     let large = c.in-Err-TooLarge.ensures.too_large (ap Err c.in-Err-TooLarge.field-0-is) in
     refused_put _ _ (c.write_tile.new.writer ≡ c.args.writer.now) (λ text. Appends (g.W.Sink.taken c.args.writer.now) (g.W.Sink.taken c.write_tile.new.writer) text × (g.W.Sink.flushes c.write_tile.new.writer ≡ counted (g.W.Sink.flushes c.args.writer.now)))
-    (large_reply _ _ large.0 ∙ ap refused (sym c.in_ok-from_str-in-Err-TooLarge.ensures)) large.1
+    (large_reply _ _ large.0 ∙ ap refused (sym c.in_ok-from_str-in-Err-TooLarge.ensures.same)) large.1

@@ -13,4 +13,4 @@ returns-in_ok-task_of-in-Ok-clause-ok c =
 
 pub returns-in-Err-clause-usage : goal.returns-in-Err-clause-usage
 returns-in-Err-clause-usage c usage =
-    refused _ string_bytes c.args.words.now c.in-Err.error c.in_ok-mvt_command.ensures (search rules) c.in-Err.ensures.kinds (c.refusal_of.ensures usage)
+    refused _ string_bytes c.args.words.now c.in-Err.error c.in_ok-mvt_command.ensures (search rules) c.in-Err.ensures.kinds (λ wanting. c.refusal_of.ensures.usage usage (c.kind.ensures ∙ wanting))

@@ -10,6 +10,7 @@ use Rattle.mvt_geometry.specs.declared.command.Command.TheVariants.{LineTo, Clos
 use Rattle.mvt_geometry.specs.Commands.{may_not_end}
 use Rattle.mvt_geometry.proofs.CommandLemmas.{header_stops, pairs_stop}
 use Rattle.mvt_geometry.proofs.RingLemmas.{ring_due, must_draw, reached_close, ring_stops, ring_goes}
+use Rattle.mvt_geometry.proofs.CountLemmas.{ring_passed}
 use Rattle.mvt_geometry.proofs.judge.judge_ring.Goals as goal
 use Rattle.mvt_geometry.proofs.judge.judge_ring.Goals.{else-pen-eq0-via-then-pen-eq0+else-area-lt0, else-pen-eq0-via-else-pen-eq0}
 
@@ -99,3 +100,19 @@ returns-clause-ok c = λ k e r.
     let next = c.in_ok-first.ensures.ok k (ring_due k e).0 r in
     let fine : c.args.pen.at ≡ 0 → pos 0 ≤ℤ the_area c.in_ok-last.path c.cross.result = elim c.else-pen-eq0.branch [ else-pen-eq0-via-then-pen-eq0+else-area-lt0 w ↦ λ z. not_negative _ w.if-area-lt0.false | else-pen-eq0-via-else-pen-eq0 w ↦ λ z. absurd (w.if-pen-eq0.false z) ] in
     ring_goes e r next c.in_ok-count.ensures.ok n c.in_ok-count.ensures.count (take ((s + 1 + 2 * n) - (s + 1)) (drop (s + 1) g)) (ap (λ m. take m (drop (s + 1) g)) length_is) c.in_ok-last.ensures.ok c.in_ok-last.last c.in_ok-last.ensures.cursor c.in_ok-judge_header.ensures.ok (the_area c.in_ok-last.path c.cross.result) area_is fine
+
+pub returns-clause-ring : goal.returns-clause-ring
+returns-clause-ring c = λ k p ps more e r is small spelled.
+    let g = c.args.integers.now in
+    let s = c.in_ok-first.first.at in
+    let n = c.in_ok-count.count in
+    let path : to_z w128 (of_z w128 c.in_ok-last.path) ≡ c.in_ok-last.path = search rules in
+    let edge : to_z w128 (of_z w128 c.cross.result) ≡ c.cross.result = search rules in
+    let few : length (take ((s + 1 + 2 * n) - (s + 1)) (drop (s + 1) g)) ≤ 2 * n = omega (arith, length-take ((s + 1 + 2 * n) - (s + 1)) (drop (s + 1) g)) in
+    let room : 2 * n < 2 ^ 64 = omega (arith, c.in_ok-count.ensures.ok.room, c.in_ok-count.ensures.count, c.type_inv.integers s) in
+    let sum = area_fits c.in_ok-last.path c.cross.result _ _ _ (2 * n) path edge c.in_ok-last.ensures.small few room c.cross.ensures.small in
+    let area_is = sum.1 ∙ ap₂ (λ a b. a +ℤ b) c.in_ok-last.ensures.area c.cross.ensures.value in
+    let length_is : (s + 1 + 2 * n) - (s + 1) ≡ 2 * n = omega arith in
+    let next = c.in_ok-first.ensures.ok k (ring_due k e).0 r in
+    let passed = ring_passed e r next c.in_ok-count.ensures.ok n c.in_ok-count.ensures.count (take ((s + 1 + 2 * n) - (s + 1)) (drop (s + 1) g)) (ap (λ m. take m (drop (s + 1) g)) length_is) c.in_ok-last.ensures.ok c.in_ok-last.last c.in_ok-last.ensures.cursor p ps more is small spelled in
+    (area_is ∙ passed.0, passed.1, passed.2)

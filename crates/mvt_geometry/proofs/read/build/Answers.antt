@@ -1,10 +1,11 @@
-use Rattle.std.proofs.Common.{◌++◌, sym, ap, ap₂, ◌∙◌, subst}
+use Rattle.std.proofs.Common.{◌++◌, length, sym, ap, ap₂, ◌∙◌, subst}
 use Rattle.std.proofs.lemmas.List.{take_rest}
 use Rattle.mvt_geometry.specs.declared.shape.Geometry.TheVariants.{Points, Lines, Polygons}
 use Rattle.mvt_geometry.specs.Shape.{origin}
 use Rattle.mvt_geometry.specs.Drawing.{Draws}
 use Rattle.mvt_geometry.specs.Commands.{pairs_of, positions}
 use Rattle.mvt_geometry.specs.Inner.Building.{ArePlaces}
+use Rattle.mvt_geometry.specs.Inner.Judging.{part_count}
 use Rattle.mvt_geometry.proofs.BuildLemmas.{draws_points, draws_lines, draws_polygons, positions-path}
 use Rattle.mvt_geometry.proofs.read.build.Goals as goal
 
@@ -26,13 +27,13 @@ pub build_lines-requires : goal.build_lines-requires
 build_lines-requires c =
     let g = c.args.integers.now in
     let p = draws_lines g c.requires.0 (subst (λ k. Draws k g c.requires.0) c.in-LineString.is c.requires.1) in
-    (p.0, p.2)
+    (p.0, p.2, c.requires.2 ∙ ap part_count p.1)
 
 pub build_polygons-requires : goal.build_polygons-requires
 build_polygons-requires c =
     let g = c.args.integers.now in
     let p = draws_polygons g c.requires.0 (subst (λ k. Draws k g c.requires.0) c.in-Polygon.is c.requires.1) in
-    (_, p.2)
+    (_, p.2, c.requires.2 ∙ ap part_count p.1 ∙ ap length (sym p.3))
 
 pub returns-in_ok-lines-in-LineString : goal.returns-in_ok-lines-in-LineString
 returns-in_ok-lines-in-LineString c = λ geometry draws.

@@ -14,7 +14,8 @@ pub build-requires : goal.build-requires
 build-requires c =
     let g = c.args.integers.now in
     let small = all_small g (λ i. let fits = c.type_inv.integers i in omega (arith, fits)) in
-    faultless_drawn c.args.kind g small c.in_ok-count.ensures.ok
+    let there = faultless_drawn c.args.kind g small c.in_ok-count.ensures.ok in
+    (there.0, there.1, c.in_ok-count.ensures.count there.0 there.1)
 
 pub returns-in_err-build-clause-memory : goal.returns-in_err-build-clause-memory
 returns-in_err-build-clause-memory c = λ memory.

@@ -1,4 +1,4 @@
-use Rattle.std.proofs.Common.{◌≡◌, ◌+◌, ◌≤◌, length}
+use Rattle.std.proofs.Common.{◌≡◌, ◌+◌, ◌≤◌, max, length}
 use Rattle.std.specs.Io.KnownBytes.{Consumes}
 use Rattle.mvt_io.proofs.transfers.read_up_to.Given as goal
 
@@ -7,6 +7,7 @@ invariant-loop-missing g l = record {
   consumed : Consumes (g.R.Source.left l.initial.reader) (g.R.Source.left l.reader) l.bytes.items;
   missing : length l.bytes.items + l.missing ≡ l.fn.most;
   reads : g.R.Source.reads l.reader ≤ g.R.Source.reads l.initial.reader + length l.bytes.items;
+  asked : g.R.Source.asked l.reader ≤ max (g.R.Source.asked l.initial.reader) 65536;
   honest : g.R.Source.failed l.reader ≡ g.R.Source.failed l.initial.reader;
 }
 

@@ -20,7 +20,7 @@ returns-in_err-append_feature-clause-too_large c = λ h.
     let e = c.in_err-append_feature.ensures in
     let told : Err (of_pool c.in_err-append_feature.field-0.0) ≡ Err TooLarge = ap Err (sym p.2) ∙ sym p.1 ∙ h in
     let full : of_pool c.in_err-append_feature.field-0.0 ≡ TooLarge = cc in
-    inr (features_full c.pool_laws.ensures c.args.features.now c.loop-feature.feature-index e.keys_left.0 e.values_left.0 c.feature-item.result c.loop-feature.keys c.append_feature.new.keys c.loop-feature.values c.append_feature.new.values LIMIT c.loop-feature.invariant.1.keys_are c.loop-feature.invariant.1.values_are c.loop-feature-test.true c.feature-item.is e.keys_left.1 e.values_left.1 (e.full (ap Err (pool_full _ full))))
+    inr (features_full c.pool_laws.ensures c.args.features.now c.loop-feature.feature-index c.feature-item.result c.loop-feature.keys c.loop-feature.values LIMIT c.loop-feature.invariant.1.keys_are c.loop-feature.invariant.1.values_are c.loop-feature-test.true c.feature-item.is (e.too_many (ap Err (pool_full _ full))))
 
 pub returns-in_err-len-clause-too_large : goal.returns-in_err-len-clause-too_large
 returns-in_err-len-clause-too_large c = λ h.

@@ -39,4 +39,4 @@ pub returns-clause-layer : goal.returns-clause-layer
 returns-clause-layer c =
     let name : Some c.in-Some.name.now ≡ name_in (split c.args.payload.now).fields = ap option_copied (sym c.in-Some.is) ∙ c.in_ok-head.ensures.name in
     let keys : c.deref.result.now ≡ keys_in (split c.args.payload.now).fields = c.deref.ensures.value ∙ c.in_ok-head.ensures.keys ∙ ap (λ held. held ++ keys_in (split c.args.payload.now).fields) c.new-keys.ensures.items in
-    layer_read c.args.base c.args.own (split c.args.payload.now).fields _ c.in-Some.name.now c.in_ok-head.head.extent c.deref.result.now c.deref-2.result.now c.in_ok-head.ensures.ok name c.in_ok-from_str.ensures c.in_ok-head.ensures.extent refl keys (rw (← c.deref-2.ensures.value) at c.in_ok-values.ensures.values) (rw (← c.new.ensures) at c.in_ok-features.ensures.features)
+    layer_read c.args.base c.args.own (split c.args.payload.now).fields _ c.in-Some.name.now c.in_ok-head.head.extent c.deref.result.now c.deref-2.result.now c.in_ok-head.ensures.ok name c.in_ok-from_str.ensures.same c.in_ok-head.ensures.extent refl keys (rw (← c.deref-2.ensures.value) at c.in_ok-values.ensures.values) (rw (← c.new.ensures) at c.in_ok-features.ensures.features)

@@ -1,4 +1,4 @@
-use Rattle.std.proofs.Common.{subst, ◌∙◌, map-id}
+use Rattle.std.proofs.Common.{subst}
 use Rattle.mvt_attrs.specs.FirstUse.{AreDistinct}
 use Rattle.mvt_attrs.specs.contracts.value.ValuePartialEq.TheImpl.{ghosts}
 use Rattle.mvt_attrs.proofs.PoolLemmas.{all_distinct}
@@ -7,4 +7,4 @@ use Rattle.mvt_attrs.proofs.value_pool.ValuePool.len.Goals as goal
 
 pub returns-clause-distinct : goal.returns-clause-distinct
 returns-clause-distinct c =
-    subst AreDistinct (map-id c.self.inside.values.keys ∙ c.self.view_is) (all_distinct (λ v. v) ghosts.eq derived-Decides c.self.inside.values.keys c.len.ensures.unique)
+    subst AreDistinct c.self.view_is (all_distinct ghosts.eq derived-Decides c.self.inside.values.keys c.len.ensures.unique)

@@ -1,0 +1,139 @@
+#!/usr/bin/env python3
+"""Runs the program on a tile of some 10 kB, each command once for each of its allocations, that one refused.
+
+    sweep_program.py SHIM MVT
+
+SHIM is the library built of refuse.c, MVT the executable that `rt ci` leaves. The tile and all that the
+commands answer for it are made here, from the format alone. A run answers as ever, or wants memory: then
+its status is 4, its line stands on the error stream, and on the output is nothing, or for `rewrite` and
+`extract` a front of the canonical bytes. The last line is 'N passed, M failed'.
+"""
+
+import json
+import os
+import subprocess
+import sys
+
+FEATURES = 400
+TIMEOUT_SECONDS = 60
+MOST_ALLOCATIONS = 100_000
+
+
+def varint(number):
+    spelled = b""
+    while number >= 128:
+        spelled += bytes([number % 128 + 128])
+        number //= 128
+    return spelled + bytes([number])
+
+
+def field(number, payload):
+    return varint(8 * number + 2) + varint(len(payload)) + payload
+
+
+def number_field(number, value):
+    return varint(8 * number) + varint(value)
+
+
+def zigzag(number):
+    return 2 * number if number >= 0 else -2 * number - 1
+
+
+def feature(index):
+    """A point with an id and two attributes: a name of its own, and a key and a value for all."""
+    tags = varint(0) + varint(0) + varint(1) + varint(index + 1)
+    point = varint(9) + varint(zigzag(index)) + varint(zigzag(-index))
+    return number_field(1, index) + field(2, tags) + number_field(3, 1) + field(4, point)
+
+
+def name_of(index):
+    return "place %d" % index
+
+
+def tile():
+    """The tile's canonical bytes: a value is first used in the order of the features."""
+    layer = number_field(15, 2) + field(1, b"places")
+    layer += b"".join(field(2, feature(index)) for index in range(FEATURES))
+    layer += field(3, b"kind") + field(3, b"name")
+    layer += field(4, number_field(5, 7))
+    layer += b"".join(field(4, field(1, name_of(index).encode())) for index in range(FEATURES))
+    return field(3, layer + number_field(5, 4096)), len(layer) + 3
+
+
+def shown():
+    features = [
+        {
+            "attributes": [["kind", {"uint": 7}], ["name", {"string": name_of(index)}]],
+            "geometry": {"points": [[index, -index]]},
+            "id": index,
+        }
+        for index in range(FEATURES)
+    ]
+    layer = {"extent": 4096, "features": features, "name": "places"}
+    return json.dumps({"layers": [layer]}, separators=(",", ":")).encode() + b"\n"
+
+
+def run(mvt, words, canonical, shim, refused):
+    """Status, output, error stream, and how many allocations the run asked for."""
+    reader, writer = os.pipe()
+    environment = dict(os.environ, LD_PRELOAD=shim, REFUSE=str(refused), REFUSE_COUNT=str(writer))
+    done = subprocess.run(
+        [mvt, *words],
+        env=environment,
+        pass_fds=[writer],
+        input=canonical,
+        capture_output=True,
+        timeout=TIMEOUT_SECONDS,
+    )
+    os.close(writer)
+    with os.fdopen(reader) as counts:
+        told = counts.read()
+    return done.returncode, done.stdout, done.stderr, int(told) if told.isdigit() else None
+
+
+def sweep(mvt, words, canonical, shim, written, is_made_whole):
+    """Why a command fails, or None, and how many runs there were."""
+    status, output, errors, count = run(mvt, words, canonical, shim, 0)
+    if count is None:
+        return "the shim told no count", 1
+    if (status, output, errors) != (0, written, b""):
+        return "with no allocation refused: status %d, %r" % (status, errors), 1
+    wanted = 0
+    for refused in range(1, min(count, MOST_ALLOCATIONS) + 1):
+        status, output, errors, _ = run(mvt, words, canonical, shim, refused)
+        if (status, output, errors) == (0, written, b""):
+            continue
+        wanted += 1
+        is_front = output == b"" if is_made_whole else written.startswith(output)
+        if (status, errors) != (4, b"mvt: out of memory\n") or not is_front:
+            return "allocation %d refused: status %d, %d bytes, %r" % (refused, status, len(output), errors), refused + 1
+    return None if wanted else "no run wanted memory", count + 1
+
+
+def main():
+    shim, mvt = os.path.abspath(sys.argv[1]), os.path.abspath(sys.argv[2])
+    canonical, length = tile()
+    report = b"ok layers 1 features %d canonical yes\n" % FEATURES
+    commands = [
+        (["fields"], b"0 3 len %d\n" % length, True),
+        (["show"], shown(), True),
+        (["check"], report, True),
+        ([], report, True),
+        (["rewrite"], canonical, False),
+        (["extract", "places"], canonical, False),
+    ]
+    passed = failed = 0
+    for words, written, is_made_whole in commands:
+        line = " ".join(["mvt", *words])
+        why, runs = sweep(mvt, words, canonical, shim, written, is_made_whole)
+        if why is None:
+            passed += 1
+            print("%s: want of memory or the answer, %d runs on %d bytes" % (line, runs, len(canonical)))
+        else:
+            failed += 1
+            print("%s: %s" % (line, why))
+    print("%d passed, %d failed" % (passed, failed))
+    sys.exit(1 if failed else 0)
+
+
+main()
