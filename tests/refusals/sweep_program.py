@@ -14,7 +14,7 @@ import os
 import subprocess
 import sys
 
-FEATURES = 400
+FEATURES = 305
 TIMEOUT_SECONDS = 60
 MOST_ALLOCATIONS = 100_000
 
