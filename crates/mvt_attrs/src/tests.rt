@@ -229,7 +229,11 @@ fn refused_attributes(rt: HostRuntime) {
             match resolve(rt.alloc(), &keys, &values, tags) {
                 Ok(found) => {
                     assert!(rt; answer.is_none() && found.len() == tags.len() / 2);
-                    assert!(rt; found.iter().all(|a| a.key == keys[0] && a.value == values[0]));
+                    assert!(rt;
+                        found
+                            .iter()
+                            .all(|a| a.key == keys[0] && a.value == values[0])
+                    );
                 }
                 Err(TagError::Memory) => refused = refused.saturating_add(1),
                 error => assert!(rt; error.err() == answer),

@@ -426,7 +426,10 @@ fn refused_writes(rt: HostRuntime) {
 fn refused_payloads(rt: HostRuntime) {
     let alloc = rt.alloc();
     let mut refused = 0u8;
-    for (payload, written) in [(&ONE_POINT[..], &ONE_POINT[..]), (&TWICE_A_KEY, &ONCE_A_KEY)] {
+    for (payload, written) in [
+        (&ONE_POINT[..], &ONE_POINT[..]),
+        (&TWICE_A_KEY, &ONCE_A_KEY),
+    ] {
         for _turn in 0..2 {
             let Ok(item) = read_short(alloc, payload) else {
                 refused = refused.saturating_add(1);
