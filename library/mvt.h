@@ -120,6 +120,9 @@ uint32_t mvt_extract(const uint8_t *bytes, size_t len, const mvt_bytes *names, s
 /* A tile as JSON, in one line without a line end. MVT_OK, MVT_REFUSED, MVT_NO_MEMORY. */
 uint32_t mvt_json(const uint8_t *bytes, size_t len, mvt_bytes *out, mvt_fault *fault);
 
+/* A picture of a tile in SVG: MVT_OK, MVT_REFUSED, MVT_NO_MEMORY. */
+uint32_t mvt_svg(const uint8_t *bytes, size_t len, mvt_bytes *out, mvt_fault *fault);
+
 /* A tile as rows. MVT_OK, MVT_REFUSED, MVT_NO_MEMORY; MVT_TOO_LARGE for a layer of more than 67,108,864 keys or
  * values. */
 uint32_t mvt_read(const uint8_t *bytes, size_t len, mvt_tile *out, mvt_fault *fault);

@@ -5,6 +5,7 @@ import json
 import struct
 import unittest
 from pathlib import Path
+from xml.etree import ElementTree
 
 import mvt
 
@@ -66,6 +67,12 @@ class WholeTiles(unittest.TestCase):
         for name in WHOLE:
             self.assertEqual(mvt.to_json(tile(name + ".mvt")) + "\n", (TILES / (name + ".json")).read_text())
 
+    def test_draws(self):
+        for name in WHOLE:
+            root = ElementTree.fromstring(mvt.to_svg(tile(name + ".mvt")))
+            names = [layer.find("{http://www.w3.org/2000/svg}title").text for layer in root.findall("{http://www.w3.org/2000/svg}svg")]
+            self.assertEqual(names, ["places", "roads", "water"])
+
     def test_extracts_in_the_order_of_the_tile(self):
         picked = mvt.read(mvt.extract(tile("gdal.mvt"), ["water", "roads", "water"]))
         self.assertEqual([layer.name for layer in picked.layers], ["roads", "water"])
@@ -87,7 +94,7 @@ class BrokenTiles(unittest.TestCase):
         self.assertGreater(len(lines), 20)
         for line in lines:
             name, _, told = line.split("\t")
-            for call in (mvt.read, mvt.rewrite, mvt.to_json):
+            for call in (mvt.read, mvt.rewrite, mvt.to_json, mvt.to_svg):
                 with self.assertRaises(mvt.Refused) as caught:
                     call(broken(name))
                 self.assertEqual(str(caught.exception), told)

@@ -1,5 +1,6 @@
 //! The calls that make bytes and texts of a tile's bytes.
 ghost use Rattle.std.specs.Prelude.{◌≡◌, ◌≢◌, ◌≤◌, map, string_bytes, Any, IsUtf8, IfOk, IfErr};
+ghost use Rattle.mvt_view.specs.Svg.{svg};
 ghost use Rattle.mvt_c.specs.Calls.{IsExtracted, IsRewritten, IsTextOf, IsTold, IsTooLarge, IsTooLargeOf, LacksLayer, NotExtracted, NotShown, RefusedAs, json_line};
 ghost use Rattle.mvt_c.specs.Names.{texts_of};
 
@@ -8,7 +9,7 @@ use crate::lent::Bytes;
 use crate::names::read_names;
 use crate::refusal::{Refusal, hand_out, tell};
 use mvt_tile::{decode, encode, extract};
-use mvt_view::json_text;
+use mvt_view::{json_text, svg_text};
 use std::alloc::Global;
 
 /// The canonical bytes of a tile (`mvt_rewrite`).
@@ -88,4 +89,29 @@ fn json_made(alloc: Global, bytes: &[u8]) -> Result<Vec<u8>, Refusal>
 {
     let tile = decode(alloc, bytes)?;
     Ok(json_text(alloc, &tile)?.into_bytes())
+}
+
+/// A picture of a tile (`mvt_svg`).
+#[unsafe(no_mangle)]
+pub extern "C" fn mvt_svg(
+    alloc: Global,
+    bytes: &[u8],
+    out: &mut Bytes,
+    fault: &mut Fault,
+) -> u32
+    ensures done { result ≡ 0 → IsTextOf svg bytes.now out.new.bytes.now }
+    ensures refused { result ≡ 1 → IsTold bytes.now fault.new }
+    ensures few { result ≤ 2 }
+    ensures out_kept { result ≢ 0 → out.new ≡ out.old }
+    ensures fault_kept { result ≢ 1 → fault.new ≡ fault.old }
+{
+    hand_out(svg_made(alloc, bytes), out, fault)
+}
+
+fn svg_made(alloc: Global, bytes: &[u8]) -> Result<Vec<u8>, Refusal>
+    ensures done { IfOk result (λ made. IsTextOf svg bytes.now made.items) }
+    ensures refused { IfErr result (NotShown bytes.now) }
+{
+    let tile = decode(alloc, bytes)?;
+    Ok(svg_text(alloc, &tile)?.into_bytes())
 }

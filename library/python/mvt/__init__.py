@@ -9,7 +9,7 @@ A tile that breaks a rule raises `Refused`, which tells the layer, the feature, 
 broken one. Each call takes the bytes of one uncompressed tile. Threads may call at the same time.
 """
 
-from ._calls import MvtError, NoLayer, Refused, TooLarge, extract, rewrite, to_json
+from ._calls import MvtError, NoLayer, Refused, TooLarge, extract, rewrite, to_json, to_svg
 from ._tiles import Feature, Foreign, Layer, Rows, Tile, read, rows
 
 __all__ = [
@@ -27,4 +27,5 @@ __all__ = [
     "rewrite",
     "rows",
     "to_json",
+    "to_svg",
 ]

@@ -79,3 +79,8 @@ def extract(tile: bytes, names: Iterable[str]) -> bytes:
 def to_json(tile: bytes) -> str:
     """A tile as JSON, in one line."""
     return _made(library.mvt_json, tile).decode()
+
+
+def to_svg(tile: bytes) -> str:
+    """A picture of a tile in SVG."""
+    return _made(library.mvt_svg, tile).decode()

@@ -85,8 +85,9 @@ _TILE = [c_char_p, c_size_t]
 library.mvt_rewrite.argtypes = [*_TILE, POINTER(Bytes), POINTER(FaultRow)]
 library.mvt_extract.argtypes = [*_TILE, POINTER(Bytes), c_size_t, POINTER(Bytes), POINTER(FaultRow)]
 library.mvt_json.argtypes = [*_TILE, POINTER(Bytes), POINTER(FaultRow)]
+library.mvt_svg.argtypes = [*_TILE, POINTER(Bytes), POINTER(FaultRow)]
 library.mvt_read.argtypes = [*_TILE, POINTER(TileRows), POINTER(FaultRow)]
-for _call in (library.mvt_rewrite, library.mvt_extract, library.mvt_json, library.mvt_read):
+for _call in (library.mvt_rewrite, library.mvt_extract, library.mvt_json, library.mvt_svg, library.mvt_read):
     _call.restype = c_uint32
 library.mvt_bytes_free.argtypes = [POINTER(Bytes)]
 library.mvt_bytes_free.restype = None
