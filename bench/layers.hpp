@@ -157,6 +157,20 @@ inline std::string many_features(std::uint64_t count) {
     return layer.finish();
 }
 
+// The payload of a layer of features with a point and two texts of more than 30 bytes.
+inline std::string long_texts(std::uint64_t count) {
+    std::mt19937 random{4};
+    Layer layer{"signs"};
+    for (std::uint64_t id = 0; id < count; ++id) {
+        const Attributes attributes{
+            {"name", text_value("A street whose name has the number " + std::to_string(random() % 20'000))},
+            {"operator", text_value("The road office of the district " + std::to_string(random() % 100))},
+        };
+        layer.add(&id, attributes, 1, {9, 50, 34});
+    }
+    return layer.finish();
+}
+
 // A million points in one feature.
 inline std::string many_points() {
     std::mt19937 random{3};

@@ -51,6 +51,7 @@ int main() {
     rows("8 lines of 4,190,000 points", big_features(), 9);
     rows("1,000,000 layers", many_layers(), 2'000'000);
     rows("1,000,000 features", tile_of(many_features(1'000'000)), 1'000'001);
+    rows("500,000 features, texts above 30 bytes", tile_of(long_texts(500'000)), 500'001);
     const auto payload = many_features(100'000);
     const std::vector<Work> works{{"`read_item`", 100'001, [&] {
         return mvt_read_item(reinterpret_cast<const unsigned char*>(payload.data()), payload.size());
