@@ -1,5 +1,5 @@
 //! The command `check`.
-ghost use Rattle.std.specs.Prelude.{◌≡◌, ◌+◌, ◌≤◌, length, bytes_eq, IfOk, IfErr, IfSome};
+ghost use Rattle.std.specs.Prelude.{◌≡◌, ◌+◌, ◌≤◌, length, bytes_eq, IfOk, IfErr, IfSome, OnOk};
 ghost use Rattle.mvt_io.specs.Counts.{HasFailed};
 ghost use Rattle.mvt_tile.specs.CanonicalTiles.{canonical};
 ghost use Rattle.mvt_tile.specs.ValidTiles.{Valid};
@@ -21,6 +21,7 @@ pub fn check<R: Source>(alloc: Global, reader: &mut R) -> Result<Reply, Failure>
     ensures reply { IfOk result (λ reply. IfSome (R.left reader.old) (λ input. IsReply LIMIT Task.Check input reply)) }
     ensures output { IfOk result HasOutput }
     ensures failed { IfErr result (IsCaused (HasFailed (R.failed reader.old) (R.failed reader.new)) ⊥) }
+    ensures sound { OnOk result (R.failed reader.new ≡ R.failed reader.old) }
     ensures reads { R.reads reader.new ≤ R.reads reader.old + 67108866 }
 {
     let input = read_all(alloc, reader)?;

@@ -5,14 +5,18 @@ mod checking;
 mod drawing;
 mod extraction;
 mod failure;
+mod files;
+mod folder;
 mod laws;
 mod listing;
+mod marks;
 mod names;
 mod refusal;
 mod reply;
 mod rewriting;
 mod run;
 mod showing;
+mod tally;
 #[cfg(test)]
 mod tests;
 mod words;
