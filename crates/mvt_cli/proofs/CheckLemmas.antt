@@ -1,10 +1,10 @@
 -- What is said of files, one after another.
-use Rattle.std.proofs.Common.{◌≡◌, ℕ, ◌+◌, ◌<◌, ◌≤◌, inl, inr, Bool, cond, List, [], ◌∷◌, ◌++◌, length, map, take, get_or, Option, Some, None, Result, Ok, Err, OnErr, is_some, refl, sym, ap, ap₂, subst, ◌∙◌, append_assoc, append-nil, zero-add, suc, arith}
+use Rattle.std.proofs.Common.{◌≡◌, ℕ, ◌+◌, ◌<◌, inl, inr, Bool, cond, List, [], ◌∷◌, ◌++◌, length, map, Option, Some, None, Result, Ok, Err, OnErr, refl, sym, ap, ap₂, subst, ◌∙◌, append_assoc, append-nil, zero-add, suc, arith}
 use Rattle.std.proofs.lemmas.List.{map-append}
 use Rattle.std.proofs.lemmas.List.Sums.{sum_by-append}
 use Rattle.std.proofs.lemmas.Grind.{flat_map-append}
 use Rattle.std.proofs.KnownBytes.{Appends-trans}
-use Rattle.std.specs.List.{flat_map, count_by}
+use Rattle.std.specs.List.{flat_map}
 use Rattle.std.specs.Io.KnownBytes.{Appends}
 use Rattle.mvt_base.proofs.ListLemmas.{related-append, length-related}
 use Rattle.mvt_io.specs.Counts.{NoneFailed, last_count}
@@ -13,7 +13,7 @@ use Rattle.mvt_cli.specs.declared.tally.Tally.{Tally}
 use Rattle.mvt_cli.specs.declared.tally.Verdict.{Verdict}
 use Rattle.mvt_cli.specs.declared.tally.Verdict.TheVariants.{Accepted, Refused, Unread}
 use Rattle.mvt_cli.specs.Visits.{AddsAll}
-use Rattle.mvt_cli.specs.Checks.{Checked, AreChecked, IsLater, IsSaid, IsSaidOf, IsSaidOfOne, Tells, TellsSome, count_of, is_accepted, is_refused, is_unread, tally_of, told_of, verdict_of, visit_of, written_of}
+use Rattle.mvt_cli.specs.Checks.{Checked, IsLater, IsSaid, IsSaidOf, IsSaidOfOne, Tells, TellsSome, count_of, is_accepted, is_refused, is_unread, tally_of, told_of, verdict_of, visit_of, written_of}
 
 -- ---- the error stream
 
@@ -114,7 +114,7 @@ said_more limit holds names name v0 v1 v2 w0 w1 w2 f0 f1 f2 e0 e1 e2 old new ver
       checked = related-append (λ n (f : Checked). (f.name ≡ n) × IsSaid limit (holds n) f.reply) names files (name ∷ []) (file ∷ []) said.checked ((refl, one.checked), tt);
       visited = subst (AddsAll v0 v2) (sym (map-append (λ (f : Checked). visit_of f.name f.reply) files (file ∷ []))) (adds-trans v0 v1 v2 (visits files) (visits (file ∷ [])) said.visited one.visited);
       written = subst (Appends w0 w2) (sym (flat_map-append written_of files (file ∷ []) ∙ ap (λ t. flat_map written_of files ++ t) (append-nil (written_of file)))) (Appends-trans w0 w1 w2 (flat_map written_of files) (written_of file) said.written one.written);
-      told = subst (Tells f0 f2 e0 e2) (ap (λ t. t ++ told_of file) (append-nil (flat_map told_of files)) ∙ sym (append-nil (flat_map told_of (files ++ file ∷ []) ) ∙ flat_map-append told_of files (file ∷ []) ∙ ap (λ t. flat_map told_of files ++ t) (append-nil (told_of file))))
+      told = subst (Tells f0 f2 e0 e2) (ap (λ t. t ++ told_of file) (append-nil (flat_map told_of files)) ∙ sym (append-nil (flat_map told_of (files ++ file ∷ [])) ∙ flat_map-append told_of files (file ∷ []) ∙ ap (λ t. flat_map told_of files ++ t) (append-nil (told_of file))))
           (tells-trans f0 f1 f2 e0 e1 e2 (flat_map told_of files ++ []) (told_of file) said.told one.told);
       counted =
           let a : new.accepted ≡ count_of is_accepted (files ++ file ∷ []) = is_a ∙ ap₂ (λ (t : Tally) (v : Verdict). t.accepted + cond (is_accepted v) 1 0) said.counted one.judged ∙ sym (count_more is_accepted files file) in

@@ -1,5 +1,5 @@
 -- A text with marks, byte by byte.
-use Rattle.std.proofs.Common.{◌≡◌, ℕ, ◌+◌, ◌<◌, ◌==◌, Bool, true, false, List, [], ◌∷◌, ◌++◌, length, take, get_or, refl, sym, ap, ap₂, ◌∙◌, append_assoc, append-nil, if◌then◌else◌}
+use Rattle.std.proofs.Common.{◌≡◌, ℕ, ◌+◌, ◌<◌, ◌==◌, Bool, true, List, [], ◌∷◌, ◌++◌, length, take, get_or, refl, sym, ap, ap₂, ◌∙◌, append_assoc, if◌then◌else◌}
 use Rattle.std.proofs.lemmas.List.{take_more}
 use Rattle.mvt_cli.specs.Checks.{marked}
 
@@ -25,7 +25,8 @@ pub marked_more : (mark text : List ℕ) (i : ℕ) (old mid new : List ℕ) (is_
 marked_more mark text i old mid new is_start h (so_far, start) led e =
     let front = take i text in
     let b : ℕ = get_or text i 0 in
-    let lead = λ (s : Bool). if s then mark else [] in
-    (e ∙ ap (λ t. t ++ b ∷ []) led ∙ append_assoc old (lead is_start) (b ∷ []) ∙ ap₂ (λ (o : List ℕ) (s : Bool). o ++ (lead s ++ (b ∷ []))) so_far start
-    ∙ sym (ap (marked mark true) (take_more text i 0 h) ∙ marked-append mark true front (b ∷ [])),
-    sym (ap (starts_line true) (take_more text i 0 h) ∙ starts_line-append true front b))
+    let lead = λ (s : Bool). if s then mark else [] in (
+      e ∙ ap (λ t. t ++ b ∷ []) led ∙ append_assoc old (lead is_start) (b ∷ []) ∙ ap₂ (λ (o : List ℕ) (s : Bool). o ++ (lead s ++ (b ∷ []))) so_far start
+          ∙ sym (ap (marked mark true) (take_more text i 0 h) ∙ marked-append mark true front (b ∷ [])),
+      sym (ap (starts_line true) (take_more text i 0 h) ∙ starts_line-append true front b),
+    )

@@ -1,10 +1,10 @@
 -- What is said of files that are checked one after another.
-use Rattle.std.specs.Prelude.{◌≡◌, ℕ, ◌+◌, ◌⊎◌, ◌≤◌, ◌==◌, List, [], ◌∷◌, ◌++◌, length, map, nat_lt, count_by, Bool, true, false, Option, Some, None, is_some, IfSome, codes, if◌then◌else◌, ⊤}
+use Rattle.std.specs.Prelude.{◌≡◌, ℕ, ◌⊎◌, ◌≤◌, ◌==◌, List, [], ◌∷◌, ◌++◌, length, map, nat_lt, count_by, Bool, true, false, Option, Some, None, is_some, IfSome, codes, if◌then◌else◌, ⊤}
 use Rattle.std.specs.Fmt.{decimal}
 use Rattle.std.specs.List.{flat_map}
 use Rattle.std.specs.Io.KnownBytes.{Appends}
 use Rattle.mvt_base.specs.Related.{AreRelated}
-use Rattle.mvt_io.specs.Counts.{NoneFailed, last_count}
+use Rattle.mvt_io.specs.Counts.{NoneFailed, counted, last_count}
 use Rattle.mvt_cli.specs.declared.failure.Failure.{Failure}
 use Rattle.mvt_cli.specs.declared.failure.Failure.TheVariants.{Read, Write, Memory}
 use Rattle.mvt_cli.specs.declared.folder.Visit.{Visit}
@@ -13,6 +13,7 @@ use Rattle.mvt_cli.specs.declared.tally.Tally.{Tally}
 use Rattle.mvt_cli.specs.declared.tally.Verdict.{Verdict}
 use Rattle.mvt_cli.specs.declared.tally.Verdict.TheVariants.{Accepted, Refused, Unread}
 use Rattle.mvt_cli.specs.declared.words.Task.TheVariants.{Check}
+use Rattle.mvt_cli.specs.Failures.{line_of, status_of}
 use Rattle.mvt_cli.specs.Output.{IsReply}
 use Rattle.mvt_cli.specs.Visits.{visit, Adds, AddsAll}
 
@@ -141,3 +142,13 @@ IsOver WriteFailed Memory = ⊤
 -- the error stream grew by some lines
 abbrev pub TellsSome : ℕ → ℕ → Option (List ℕ) → Option (List ℕ) → Type 0
 TellsSome failed_old failed_new old new = (lines : List ℕ) × Tells failed_old failed_new old new lines
+
+-- all is said of the files of these names, the output was flushed once, and the status tells how they were judged; or the
+-- run was over before, which the last line tells
+abbrev pub IsToldOfAll : ℕ → (List ℕ → Option (List ℕ)) → List (List ℕ) → Option (List Visit) → Option (List Visit) → Option (List ℕ) → Option (List ℕ) → ℕ → ℕ → Type 0
+    → ℕ → ℕ → Option (List ℕ) → Option (List ℕ) → ℕ → Type 0
+IsToldOfAll limit holds names visits_old visits_new output_old output_new flushes_old flushes_new WriteFailed failed_old failed_new errors_old errors_new status =
+    ((tally : Tally) × IsSaidOf limit holds names visits_old visits_new output_old output_new failed_old failed_new errors_old errors_new (summary (length names) tally) tally
+    × (flushes_new ≡ counted flushes_old) × (status ≡ status_after tally))
+    ⊎ ((failure : Failure) × IsOver WriteFailed failure × (status ≡ status_of failure)
+    × ((lines : List ℕ) × (NoneFailed failed_old failed_new → Appends errors_old errors_new (lines ++ line_of failure))))

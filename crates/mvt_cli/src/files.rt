@@ -3,10 +3,7 @@ ghost use Rattle.std.specs.Prelude.{◌≡◌, ◌≢◌, ◌⊎◌, [], ◌∷�
 ghost use Rattle.std.specs.List.{flat_map};
 ghost use Rattle.std.specs.Io.KnownBytes.{Appends};
 ghost use Rattle.mvt_io.specs.Counts.{counted, HasFailed};
-ghost use Rattle.mvt_cli.specs.Checks.{Checked, IsOver, IsSaid, IsSaidOf, IsSaidOfOne, Tells, TellsSome, line_told, marked_text, status_after, summary, text_of, told_of, verdict_of, visit_of, written_of};
-ghost use Rattle.mvt_cli.specs.declared.failure.Failure.{Failure as AFailure};
-ghost use Rattle.mvt_cli.specs.declared.tally.Tally.{Tally as ATally};
-ghost use Rattle.mvt_cli.specs.Failures.{line_of, status_of};
+ghost use Rattle.mvt_cli.specs.Checks.{Checked, IsOver, IsSaid, IsSaidOf, IsSaidOfOne, IsToldOfAll, Tells, TellsSome, line_told, marked_text, status_after, summary, text_of, told_of, verdict_of, visit_of, written_of};
 ghost use Rattle.mvt_cli.specs.Visits.{Adds};
 
 use crate::checking::check;
@@ -29,12 +26,9 @@ pub fn check_files<F: Folder, W: Sink, E: Sink>(
     writer: &mut W,
     errors: &mut E,
 ) -> u8
-    ensures { ((tally : ATally) × IsSaidOf LIMIT (F.holds folder.old) (map string_bytes names.now) (F.visits folder.old) (F.visits folder.new)
-        (W.taken writer.old) (W.taken writer.new) (E.failed errors.old) (E.failed errors.new) (E.taken errors.old) (E.taken errors.new) (summary (length names.now) tally) tally
-        × (W.flushes writer.new ≡ counted (W.flushes writer.old)) × (result ≡ status_after tally))
-        ⊎ ((failure : AFailure) × IsOver (HasFailed (W.failed writer.old) (W.failed writer.new)) failure
-        × ((lines : List ℕ) × Tells (E.failed errors.old) (E.failed errors.new) (E.taken errors.old) (E.taken errors.new) (lines ++ line_of failure))
-        × (result ≡ status_of failure)) }
+    ensures { IsToldOfAll LIMIT (F.holds folder.old) (map string_bytes names.now) (F.visits folder.old) (F.visits folder.new)
+        (W.taken writer.old) (W.taken writer.new) (W.flushes writer.old) (W.flushes writer.new) (HasFailed (W.failed writer.old) (W.failed writer.new))
+        (E.failed errors.old) (E.failed errors.new) (E.taken errors.old) (E.taken errors.new) result }
 {
     match check_all(alloc, names, folder, writer, errors) {
         Ok(tally) => tally.status(),
@@ -53,7 +47,7 @@ fn check_all<F: Folder, W: Sink, E: Sink>(
     errors: &mut E,
 ) -> Result<Tally, Failure>
     ensures said { IfOk result (λ tally. IsSaidOf LIMIT (F.holds folder.old) (map string_bytes names.now) (F.visits folder.old) (F.visits folder.new)
-        (W.taken writer.old) (W.taken writer.new) (E.failed errors.old) (E.failed errors.new) (E.taken errors.old) (E.taken errors.new) (summary (length names.now) tally) tally) }
+        (W.taken writer.old) (W.taken writer.new) (E.failed errors.old) (E.failed errors.new) (E.taken errors.old) (E.taken errors.new) (summary (length (map string_bytes names.now)) tally) tally) }
     ensures flushed { OnOk result (W.flushes writer.new ≡ counted (W.flushes writer.old)) }
     ensures failed { IfErr result (IsOver (HasFailed (W.failed writer.old) (W.failed writer.new))) }
     ensures partly { OnErr result (TellsSome (E.failed errors.old) (E.failed errors.new) (E.taken errors.old) (E.taken errors.new)) }

@@ -88,6 +88,8 @@ impl Tally {
         if all < 2 {
             return Ok(String::new(alloc));
         }
-        format!(in alloc; "mvt: {all} tiles: {accepted} accepted, {refused} refused, {unread} unread\n")
+        format!(in alloc;
+            "mvt: {all} tiles: {accepted} accepted, {refused} refused, {unread} unread\n"
+        )
     }
 }

@@ -1,5 +1,16 @@
+use Rattle.std.proofs.Common.{◌<◌, inl, inr, [], arith}
+use Rattle.mvt_cli.specs.declared.failure.Failure.TheVariants.{Memory}
 use Rattle.mvt_cli.proofs.Lines.{plain_taken}
 use Rattle.mvt_cli.proofs.run.run.Goals as goal
 
 pub returns-in-Err-clause-plain : goal.returns-in-Err-clause-plain
 returns-in-Err-clause-plain g c = λ plain two. c.in-Err.ensures.usage (c.refuse.ensures.usage.0 two) (plain_taken _ plain)
+
+pub returns-in-Err-clause-files : goal.returns-in-Err-clause-files
+returns-in-Err-clause-files g c = λ some accepted.
+    elim (c.refuse.ensures.statuses) [
+      | inl two ↦ absurd (c.in-Err.ensures.usage (c.refuse.ensures.usage.0 two) accepted)
+      | inr four ↦
+          let above : 2 < c.refuse.result = omega arith in
+          inr (Memory, tt, four, ([], λ none. c.refuse.ensures.line above none))
+    ]
