@@ -1,7 +1,9 @@
+mod CheckLemmas
 mod Commands
 mod Fronts
 mod Inputs
 mod Lines
+mod MarkLemmas
 mod OneReply
 mod Picks
 mod Replies

@@ -6,38 +6,38 @@ use Rattle.clap.specs.declared.parser.matches.ArgMatches.{ArgMatches}
 use Rattle.clap.specs.declared.error.kind.ErrorKind.TheVariants.{OutOfMemory}
 use Rattle.clap.proofs.OnLiterals.{clap_on_literals}
 use Rattle.clap.specs.Words.{App, HasMatchesOf, fault_of, is_simple, is_simple_and_free, kind_of, subcommand_of, subcommand_rows_of}
-use Rattle.mvt_cli.specs.Words.{mvt, extract_app, faults_in, subcommand_in, IsBare, IsPlainLine}
+use Rattle.mvt_cli.specs.Words.{mvt, extract_app, check_app, faults_in, subcommand_in, IsBare, IsPlainLine}
 
 pub mvt_free : is_simple_and_free mvt ≡ true
-unfolding clap_on_literals mvt extract_app
+unfolding clap_on_literals mvt extract_app check_app
 mvt_free = refl
 
 pub name_alone : (name : List ℕ) → fault_of mvt (name ∷ []) ≡ []
-unfolding clap_on_literals mvt extract_app
+unfolding clap_on_literals mvt extract_app check_app
 name_alone name = refl
 
 pub fields_alone : (name : List ℕ) → fault_of mvt (name ∷ codes "fields" ∷ []) ≡ []
-unfolding clap_on_literals mvt extract_app
+unfolding clap_on_literals mvt extract_app check_app
 fields_alone name = refl
 
 pub show_alone : (name : List ℕ) → fault_of mvt (name ∷ codes "show" ∷ []) ≡ []
-unfolding clap_on_literals mvt extract_app
+unfolding clap_on_literals mvt extract_app check_app
 show_alone name = refl
 
 pub draw_alone : (name : List ℕ) → fault_of mvt (name ∷ codes "draw" ∷ []) ≡ []
-unfolding clap_on_literals mvt extract_app
+unfolding clap_on_literals mvt extract_app check_app
 draw_alone name = refl
 
 pub check_alone : (name : List ℕ) → fault_of mvt (name ∷ codes "check" ∷ []) ≡ []
-unfolding clap_on_literals mvt extract_app
+unfolding clap_on_literals mvt extract_app check_app
 check_alone name = refl
 
 pub rewrite_alone : (name : List ℕ) → fault_of mvt (name ∷ codes "rewrite" ∷ []) ≡ []
-unfolding clap_on_literals mvt extract_app
+unfolding clap_on_literals mvt extract_app check_app
 rewrite_alone name = refl
 
 pub mvt_simple : is_simple mvt ≡ true
-unfolding clap_on_literals mvt extract_app
+unfolding clap_on_literals mvt extract_app check_app
 mvt_simple = refl
 
 pub bare_alone : (name word : List ℕ) → IsBare word → fault_of mvt (name ∷ word ∷ []) ≡ []

@@ -2,3 +2,5 @@ pub mod Failures
 pub mod Refused
 pub mod Words
 pub mod Output
+pub mod Visits
+pub mod Checks

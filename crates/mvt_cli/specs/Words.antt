@@ -19,16 +19,29 @@ names_rule = record (new_rule (codes "name")) {
 unfoldable pub extract_app : App
 extract_app = with_rule (new_app (codes "extract")) names_rule
 
+-- the names of files: none or more
+abbrev pub files_rule : Rule
+files_rule = record (new_rule (codes "file")) {
+  action = Some Append;
+  range = Some (record { start_inclusive = 1; end_inclusive = usize_max });
+}
+
+-- the subcommand `check FILE..`
+unfoldable pub check_app : App
+check_app = with_rule (new_app (codes "check")) files_rule
+
 -- with a subcommand that takes no words of its own
 abbrev pub with_bare : App → List ℕ → App
 with_bare app name = with_subcommand app (new_app name).top
 
 -- the command `mvt` with its subcommands
 unfoldable pub mvt : App
-unfolding extract_app
+unfolding extract_app check_app
 mvt =
     with_subcommand
-    (with_bare (with_bare (with_bare (with_bare (with_bare (new_app (codes "mvt")) (codes "fields")) (codes "show")) (codes "draw")) (codes "check")) (codes "rewrite"))
+    (with_bare
+    (with_subcommand (with_bare (with_bare (with_bare (new_app (codes "mvt")) (codes "fields")) (codes "show")) (codes "draw")) check_app.top)
+    (codes "rewrite"))
     extract_app.top
 
 -- why the words are refused, or nothing; an empty list isn't given to clap
@@ -41,8 +54,11 @@ abbrev pub subcommand_in : List (List ℕ) → Option (List ℕ × List Row)
 subcommand_in [] = None
 subcommand_in (word ∷ words) = subcommand_of mvt (word ∷ words)
 
+abbrev pub texts_given : List ℕ → List Row → List (List ℕ)
+texts_given key rows = unwrap_or (all_of key rows) []
+
 abbrev pub names_given : List Row → List (List ℕ)
-names_given rows = unwrap_or (all_of (codes "name") rows) []
+names_given rows = texts_given (codes "name") rows
 
 abbrev pub task_named : List ℕ → List Row → Task
 task_named name rows =
@@ -61,6 +77,18 @@ task_of_subcommand (Some (name, rows)) = task_named name rows
 -- what the words ask for
 abbrev pub task_in : List (List ℕ) → Task
 task_in words = task_of_subcommand (subcommand_in words)
+
+-- the files that a subcommand names
+abbrev pub files_named : List ℕ → List Row → List (List ℕ)
+files_named name rows = if bytes_eq name (codes "check") then texts_given (codes "file") rows else []
+
+abbrev pub files_of_subcommand : Option (List ℕ × List Row) → List (List ℕ)
+files_of_subcommand None = []
+files_of_subcommand (Some (name, rows)) = files_named name rows
+
+-- the files that the words name; where there are some, these are checked, and not the input
+abbrev pub files_in : List (List ℕ) → List (List ℕ)
+files_in words = files_of_subcommand (subcommand_in words)
 
 -- the subcommands that take no words of their own
 abbrev pub IsBare : List ℕ → Type 0

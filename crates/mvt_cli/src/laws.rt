@@ -3,7 +3,7 @@ ghost use Rattle.std.specs.Prelude.{◌≡◌, ℕ, List, [], ◌∷◌, codes};
 ghost use Rattle.mvt_cli.specs.declared.reply.Reply.{Reply as AReply};
 ghost use Rattle.mvt_cli.specs.declared.words.Task.{Task as ATask};
 ghost use Rattle.mvt_cli.specs.Output.{IsReply};
-ghost use Rattle.mvt_cli.specs.Words.{task_in};
+ghost use Rattle.mvt_cli.specs.Words.{files_in, task_in};
 
 use crate::words::Task;
 use mvt_base::LIMIT;
@@ -28,4 +28,9 @@ pub fn lines_ask()
     ensures rewrite { (name : List ℕ) → task_in (name ∷ codes "rewrite" ∷ []) ≡ Task.Rewrite }
     ensures extract { (name : List ℕ) → task_in (name ∷ codes "extract" ∷ codes "b" ∷ codes "a" ∷ [])
         ≡ Task.Extract (codes "b" ∷ codes "a" ∷ []) }
+    ensures no_files { (name : List ℕ) → files_in (name ∷ codes "check" ∷ []) ≡ [] }
+    ensures files { (name : List ℕ) → files_in (name ∷ codes "check" ∷ codes "b" ∷ codes "a" ∷ [])
+        ≡ codes "b" ∷ codes "a" ∷ [] }
+    ensures hyphens { (name : List ℕ) → files_in (name ∷ codes "check" ∷ codes "--" ∷ codes "-b" ∷ [])
+        ≡ codes "-b" ∷ [] }
 {}

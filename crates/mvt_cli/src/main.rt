@@ -5,18 +5,23 @@ mod checking;
 mod drawing;
 mod extraction;
 mod failure;
+mod files;
+mod folder;
 mod laws;
 mod listing;
+mod marks;
 mod names;
 mod refusal;
 mod reply;
 mod rewriting;
 mod run;
 mod showing;
+mod tally;
 #[cfg(test)]
 mod tests;
 mod words;
 
+use folder::Disk;
 use mvt_io::Host;
 use run::{refuse, run};
 use std::process::ExitCode;
@@ -27,7 +32,14 @@ fn main(rt: HostRuntime) -> ExitCode {
     let mut writer = Host::new(rt.stdout());
     let mut errors = Host::new(rt.stderr());
     let status = match arguments(&rt) {
-        Ok(words) => run(rt.alloc(), &words, &mut reader, &mut writer, &mut errors),
+        Ok(words) => run(
+            rt.alloc(),
+            &words,
+            &mut Disk::new(&rt),
+            &mut reader,
+            &mut writer,
+            &mut errors,
+        ),
         Err(refusal) => refuse(refusal, &mut errors),
     };
     ExitCode::from(status)

@@ -1,5 +1,5 @@
 //! The names of layers on the command line.
-ghost use Rattle.std.specs.Prelude.{◌≡◌, map, string_bytes};
+ghost use Rattle.std.specs.Prelude.{◌≡◌, ◌≢◌, [], true, false, map, string_bytes};
 
 use std::marker::Model;
 
@@ -22,6 +22,13 @@ impl Names {
         ensures { result ≡ map string_bytes strings.items }
     {
         Names { strings }
+    }
+
+    pub fn is_empty(&self) -> bool
+        ensures none { result ≡ true → self.now ≡ [] }
+        ensures some { result ≡ false → self.now ≢ [] }
+    {
+        self.strings.is_empty()
     }
 
     pub fn as_slice(&self) -> &[String]

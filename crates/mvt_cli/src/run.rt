@@ -1,10 +1,11 @@
 //! The program over any reader and writers.
 ghost use Rattle.std.specs.Prelude.{◌≡◌, ◌≢◌, ◌+◌, ◌<◌, ◌≤◌, ◌⊎◌, ◌↔◌, max, List, ℕ, [], map, string_bytes, IfOk, IfErr, IfSome, OnOk};
 ghost use Rattle.std.specs.Io.KnownBytes.{Appends};
-ghost use Rattle.mvt_io.specs.Counts.{counted, NoneFailed};
+ghost use Rattle.mvt_io.specs.Counts.{counted, HasFailed, NoneFailed};
 ghost use Rattle.mvt_io.specs.Transfers.{TakesAtMost, TakesPrefix};
 ghost use Rattle.mvt_cli.specs.Failures.{EndsFailed, IsCaused, LeavesOutput, line_of, status_of};
-ghost use Rattle.mvt_cli.specs.Words.{task_in, faults_in, IsPlainLine};
+ghost use Rattle.mvt_cli.specs.Checks.{IsToldOfAll};
+ghost use Rattle.mvt_cli.specs.Words.{task_in, faults_in, files_in, IsPlainLine};
 ghost use Rattle.mvt_cli.specs.Refused.{IsUsage, usage_text};
 ghost use Rattle.mvt_cli.specs.Output.{Answers, Gives, IfReadWhole, IsFlushed, IsWhole, is_made_whole};
 
@@ -12,11 +13,13 @@ use crate::checking::check;
 use crate::drawing::draw;
 use crate::extraction::extract_layers;
 use crate::failure::Failure;
+use crate::files::check_files;
+use crate::folder::Folder;
 use crate::listing::list_fields;
 use crate::reply::{deliver, tell};
 use crate::rewriting::rewrite;
 use crate::showing::show;
-use crate::words::{Refusal, Task, read_words};
+use crate::words::{Asked, Refusal, Task, read_words};
 use mvt_base::{LIMIT, Text};
 use mvt_io::{Sink, Source};
 use std::alloc::Global;
@@ -24,25 +27,28 @@ use std::alloc::Global;
 /// Runs the program on the words of its command line, the first of which is its name, and answers
 /// its status: 0 where all went well, 1 where the tile is refused, 2 where the words are, 3 where a
 /// read or a write failed, 4 for want of memory. Faults of `errors` are ignored.
-pub fn run<R: Source, W: Sink, E: Sink>(
+///
+/// Where the words name files, these are checked, and the reader isn't touched.
+pub fn run<F: Folder, R: Source, W: Sink, E: Sink>(
     alloc: Global,
     words: &[String],
+    folder: &mut F,
     reader: &mut R,
     writer: &mut W,
     errors: &mut E,
 ) -> u8
-    ensures output { result < 2 → IfSome (R.left reader.old) (Gives LIMIT (task_in (map string_bytes words.now)) result
+    ensures output { files_in (map string_bytes words.now) ≡ [] → result < 2 → IfSome (R.left reader.old) (Gives LIMIT (task_in (map string_bytes words.now)) result
         (writer.new ≡ writer.old)
         (λ text. Appends (W.taken writer.old) (W.taken writer.new) text
         × (W.flushes writer.new ≡ counted (W.flushes writer.old)))
         (errors.new ≡ errors.old)
         (λ line. NoneFailed (E.failed errors.old) (E.failed errors.new)
         → Appends (E.taken errors.old) (E.taken errors.new) line)) }
-    ensures flushed { result ≡ 0 → W.flushes writer.new ≡ counted (W.flushes writer.old) }
-    ensures once { result ≡ 1 → (writer.new ≡ writer.old) ⊎ (W.flushes writer.new ≡ counted (W.flushes writer.old)) }
+    ensures flushed { files_in (map string_bytes words.now) ≡ [] → result ≡ 0 → W.flushes writer.new ≡ counted (W.flushes writer.old) }
+    ensures once { files_in (map string_bytes words.now) ≡ [] → result ≡ 1 → (writer.new ≡ writer.old) ⊎ (W.flushes writer.new ≡ counted (W.flushes writer.old)) }
 
     // A status of 3 or 4 is that of a failure: its line, its cause, and what it leaves of the output.
-    ensures failed { 2 < result → (failure : Failure) × (result ≡ status_of failure)
+    ensures failed { files_in (map string_bytes words.now) ≡ [] → 2 < result → (failure : Failure) × (result ≡ status_of failure)
         × (NoneFailed (E.failed errors.old) (E.failed errors.new)
         → Appends (E.taken errors.old) (E.taken errors.new) (line_of failure))
         × IsCaused ((EndsFailed (R.failed reader.old) (R.failed reader.new) (R.ended reader.new)) × (W.failed writer.new ≡ W.failed writer.old))
@@ -54,6 +60,14 @@ pub fn run<R: Source, W: Sink, E: Sink>(
         × TakesPrefix (W.taken writer.old) (W.taken writer.new) text)) failure }
 
     ensures sound { result < 2 → (R.failed reader.new ≡ R.failed reader.old) × (W.failed writer.new ≡ W.failed writer.old) }
+
+    // Files are each told of under their names, in order, and the reader is left as it was.
+    ensures files { files_in (map string_bytes words.now) ≢ [] → faults_in (map string_bytes words.now) ≡ []
+        → IsToldOfAll LIMIT (F.holds folder.old) (files_in (map string_bytes words.now)) (F.visits folder.old) (F.visits folder.new)
+        (W.taken writer.old) (W.taken writer.new) (W.flushes writer.old) (W.flushes writer.new) (HasFailed (W.failed writer.old) (W.failed writer.new))
+        (E.failed errors.old) (E.failed errors.new) (E.taken errors.old) (E.taken errors.new) result }
+    ensures unread { files_in (map string_bytes words.now) ≢ [] → reader.new ≡ reader.old }
+    ensures unopened { files_in (map string_bytes words.now) ≡ [] → folder.new ≡ folder.old }
 
     // A refused line reads and writes nothing, and no other line is refused.
     ensures refused { faults_in (map string_bytes words.now) ≢ []
@@ -68,10 +82,13 @@ pub fn run<R: Source, W: Sink, E: Sink>(
         (TakesAtMost (LIMIT + 1) (R.left reader.old) (R.left reader.new)) }
     ensures statuses { result < 5 }
 {
-    let task = match read_words(alloc, words) {
-        Ok(task) => task,
+    let Asked { task, files } = match read_words(alloc, words) {
+        Ok(asked) => asked,
         Err(refusal) => return refuse(refusal, errors),
     };
+    if !files.is_empty() {
+        return check_files(alloc, files.as_slice(), folder, writer, errors);
+    }
     match answer(alloc, task, reader, writer) {
         Ok(None) => 0,
         Ok(Some(line)) => {

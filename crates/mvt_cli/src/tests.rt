@@ -1,12 +1,14 @@
 //! The program from end to end, over memory.
 mod devices;
 mod faults;
+mod folders;
 mod limits;
 mod lines;
 mod refusals;
 mod tiles;
 
 use super::run::run;
+use folders::MemoryFolder;
 use mvt_io::{MemorySink, MemorySource};
 use std::alloc::{AllocError, Global};
 use std::process::Abort;
@@ -104,7 +106,15 @@ fn run_on(
     let mut reader = MemorySource::new(input, step, devices.read_from);
     let mut writer = MemorySink::new(alloc, devices.room, step, devices.write_from, devices.flush)?;
     let mut errors = MemorySink::new(alloc, 2000, 65_536, u64::MAX, false)?;
-    let status = run(alloc, &words, &mut reader, &mut writer, &mut errors);
+    let mut folder = MemoryFolder::new(alloc, &[]);
+    let status = run(
+        alloc,
+        &words,
+        &mut folder,
+        &mut reader,
+        &mut writer,
+        &mut errors,
+    );
     let reads = reader.calls();
     Ok(Outcome {
         status,

@@ -2,7 +2,7 @@
 ghost use Rattle.std.specs.Prelude.{◌≡◌, ◌≢◌, [], false, map, string_bytes, IfOk, IfErr, OnOk};
 ghost use Rattle.clap.specs.declared.builder.command.Command.TheViews.{out-Command as fields_of};
 ghost use Rattle.clap.specs.Words.{app_of, found_of, new_app, rows_of, subcommand_rows_of};
-ghost use Rattle.mvt_cli.specs.Words.{mvt, extract_app, task_in, task_named as named, task_of_subcommand, names_given, faults_in};
+ghost use Rattle.mvt_cli.specs.Words.{mvt, extract_app, check_app, task_in, task_named as named, task_of_subcommand, texts_given, faults_in, files_in, files_named as named_files, files_of_subcommand};
 ghost use Rattle.mvt_cli.specs.Refused.{IsUsage};
 
 use crate::names::Names;
@@ -27,6 +27,13 @@ pub enum Task {
     Rewrite,
     /// The named layers in canonical form.
     Extract(Names),
+}
+
+/// What a line asks for, and the files that it names, which are then checked in place of the input.
+#[derive(Debug, Drop)]
+pub struct Asked {
+    pub task: Task,
+    pub files: Names,
 }
 
 /// Why a line isn't run.
@@ -66,11 +73,7 @@ fn mvt_command<'a>(alloc: Global) -> Result<Command<'a>, AllocError>
     let fields = bare_command(alloc, "fields", "Lists the top-level fields of the input");
     let show = bare_command(alloc, "show", "Shows the tile as JSON");
     let draw = bare_command(alloc, "draw", "Draws the tile as a picture in SVG");
-    let check = bare_command(
-        alloc,
-        "check",
-        "Checks the tile and reports on it (the default)",
-    );
+    let check = check_command(alloc)?;
     let rewrite = bare_command(alloc, "rewrite", "Writes the tile in its canonical form");
     let extract = extract_command(alloc)?;
     Command::new(alloc, "mvt")
@@ -89,6 +92,20 @@ fn bare_command<'a>(alloc: Global, name: &'a str, about: &'a str) -> Command<'a>
     ensures local { (fields_of result).has_globals ≡ false }
 {
     Command::new(alloc, name).about(about)
+}
+
+/// The subcommand `check`, which takes the names of files.
+fn check_command<'a>(alloc: Global) -> Result<Command<'a>, AllocError>
+    ensures shape { IfOk result (λ command. app_of command ≡ check_app) }
+    ensures local { IfOk result (λ command. (fields_of command).has_globals ≡ false) }
+{
+    let files = Arg::new(alloc, "file")
+        .action(ArgAction::Append)
+        .num_args(1..)
+        .help("The name of a file to check in place of the input");
+    Command::new(alloc, "check")
+        .about("Checks the tile, or each of the files, and reports on it (the default)")
+        .arg(files)
 }
 
 /// The subcommand `extract`, which takes one name or more.
@@ -120,18 +137,24 @@ fn refusal_of(kind: ErrorKind, text: Result<String, AllocError>) -> Refusal
     }
 }
 
-/// The task that the words ask for; the first word is the program's name. An empty list of words,
-/// and a line without a subcommand, ask for a check.
-pub fn read_words(alloc: Global, words: &[String]) -> Result<Task, Refusal>
-    ensures task { IfOk result (λ task. task ≡ task_in (map string_bytes words.now)) }
+/// What the words ask for; the first word is the program's name. An empty list of words, and a line
+/// without a subcommand, ask for a check.
+pub fn read_words(alloc: Global, words: &[String]) -> Result<Asked, Refusal>
+    ensures task { IfOk result (λ asked. asked.task ≡ task_in (map string_bytes words.now)) }
+    ensures files { IfOk result (λ asked. asked.files ≡ files_in (map string_bytes words.now)) }
     ensures ok { OnOk result (faults_in (map string_bytes words.now) ≡ []) }
     ensures usage { IfErr result (λ refusal. IsUsage refusal → faults_in (map string_bytes words.now) ≢ []) }
 {
     if words.is_empty() {
-        return Ok(Task::Check);
+        let files = Names::new(Vec::new(alloc));
+        let task = Task::Check;
+        return Ok(Asked { task, files });
     }
     match mvt_command(alloc)?.try_get_matches_from(words) {
-        Ok(matches) => Ok(task_of(alloc, &matches)?),
+        Ok(matches) => Ok(Asked {
+            task: task_of(alloc, &matches)?,
+            files: files_of(alloc, &matches)?,
+        }),
         Err(error) => Err(refusal_of(error.kind(), error.to_string(alloc))),
     }
 }
@@ -155,16 +178,36 @@ fn task_named(alloc: Global, name: &str, given: &ArgMatches<'_>) -> Result<Task,
         "show" => Ok(Task::Show),
         "draw" => Ok(Task::Draw),
         "rewrite" => Ok(Task::Rewrite),
-        "extract" => Ok(Task::Extract(names_of(alloc, given)?)),
+        "extract" => Ok(Task::Extract(texts_of(alloc, given, "name")?)),
         _ => Ok(Task::Check),
     }
 }
 
-/// The names of the layers to extract.
-fn names_of(alloc: Global, matches: &ArgMatches<'_>) -> Result<Names, AllocError>
-    ensures { IfOk result (λ names. names ≡ names_given (rows_of (found_of matches.now))) }
+/// The files that clap's matches tell.
+fn files_of(alloc: Global, matches: &ArgMatches<'_>) -> Result<Names, AllocError>
+    ensures { IfOk result (λ files. files ≡ files_of_subcommand (subcommand_rows_of matches.now)) }
 {
-    match matches.get_strs("name") {
+    match matches.subcommand() {
+        Some((name, given)) => files_named(alloc, name, given),
+        None => Ok(Names::new(Vec::new(alloc))),
+    }
+}
+
+/// The files of a subcommand, which was given these words.
+fn files_named(alloc: Global, name: &str, given: &ArgMatches<'_>) -> Result<Names, AllocError>
+    ensures { IfOk result (λ files. files ≡ named_files name.now (rows_of (found_of given.now))) }
+{
+    match name {
+        "check" => texts_of(alloc, given, "file"),
+        _ => Ok(Names::new(Vec::new(alloc))),
+    }
+}
+
+/// The texts that a subcommand was given under a key.
+fn texts_of(alloc: Global, matches: &ArgMatches<'_>, key: &str) -> Result<Names, AllocError>
+    ensures { IfOk result (λ names. names ≡ texts_given key.now (rows_of (found_of matches.now))) }
+{
+    match matches.get_strs(key) {
         Some(texts) => copied(alloc, texts),
         None => Ok(Names::new(Vec::new(alloc))),
     }

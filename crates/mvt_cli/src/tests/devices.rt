@@ -112,7 +112,15 @@ fn ignores_the_error_stream(rt: HostRuntime) -> Result<(), Fail> {
     let mut reader = MemorySource::new(hex(alloc, ONE_POINT)?, 7, u64::MAX);
     let mut writer = MemorySink::new(alloc, 100, 7, u64::MAX, false)?;
     let mut errors = MemorySink::new(alloc, 100, 7, 0, true)?;
-    let status = run(alloc, &words, &mut reader, &mut writer, &mut errors);
+    let mut folder = MemoryFolder::new(alloc, &[]);
+    let status = run(
+        alloc,
+        &words,
+        &mut folder,
+        &mut reader,
+        &mut writer,
+        &mut errors,
+    );
     assert_eq!(rt; status, 1);
     assert_eq!(rt; writer.calls(), 0);
     assert!(rt; errors.taken().is_empty());

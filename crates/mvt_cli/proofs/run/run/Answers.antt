@@ -1,3 +1,5 @@
+use Rattle.std.proofs.Common.{◌<◌, inl, inr, [], arith}
+use Rattle.mvt_cli.specs.declared.failure.Failure.TheVariants.{Memory}
 use Rattle.mvt_cli.proofs.Lines.{plain_taken}
 use Rattle.mvt_cli.proofs.Inputs.{nothing_taken}
 use Rattle.mvt_cli.proofs.run.run.Goals as goal
@@ -7,3 +9,12 @@ returns-in-Err-clause-plain g c = λ plain two. c.in-Err.ensures.usage (c.refuse
 
 pub returns-in-Err-clause-leaves : goal.returns-in-Err-clause-leaves
 returns-in-Err-clause-leaves g c = nothing_taken _ _ _
+
+pub returns-in-Err-clause-files : goal.returns-in-Err-clause-files
+returns-in-Err-clause-files g c = λ some accepted.
+    elim (c.refuse.ensures.statuses) [
+      | inl two ↦ absurd (c.in-Err.ensures.usage (c.refuse.ensures.usage.0 two) accepted)
+      | inr four ↦
+          let above : 2 < c.refuse.result = omega arith in
+          inr (Memory, tt, four, ([], λ none. c.refuse.ensures.line above none))
+    ]
