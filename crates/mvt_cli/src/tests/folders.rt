@@ -65,19 +65,19 @@ impl Folder for MemoryFolder<'_> {
     }
 }
 
-const fn file<'a>(name: &'a str, bytes: &'a str) -> MemoryFile<'a> {
-    MemoryFile {
-        name,
-        bytes: Some(bytes),
-        read_from: u64::MAX,
-    }
-}
-
-// A tile, one without its last byte, one that can't be opened, one whose second read fails, one
-// with a note, and one with a name that begins with a hyphen.
+// A tile, one that is refused, one that can't be opened, one whose second read fails, one with a
+// note, and one with a name that begins with a hyphen.
 const FILES: [MemoryFile<'static>; 6] = [
-    file("good", ONE_POINT),
-    file("cut", "1A1178020A0161120718012203093222280020"),
+    MemoryFile {
+        name: "good",
+        bytes: Some(ONE_POINT),
+        read_from: u64::MAX,
+    },
+    MemoryFile {
+        name: "bad",
+        bytes: Some("1B"),
+        read_from: u64::MAX,
+    },
     MemoryFile {
         name: "locked",
         bytes: None,
@@ -88,8 +88,16 @@ const FILES: [MemoryFile<'static>; 6] = [
         bytes: Some(ONE_POINT),
         read_from: 1,
     },
-    file("noted", ""),
-    file("-x", ONE_POINT),
+    MemoryFile {
+        name: "noted",
+        bytes: Some(""),
+        read_from: u64::MAX,
+    },
+    MemoryFile {
+        name: "-x",
+        bytes: Some(ONE_POINT),
+        read_from: u64::MAX,
+    },
 ];
 
 // What a run over these files answers: its status, its output, and its error stream.
@@ -124,7 +132,7 @@ fn checks(
 
 const GOOD: &str = "good: ok layers 1 features 1 canonical yes\n";
 
-const CUT: &str = "cut: layer 0 feature - at 15: 6 NumberRange\n";
+const BAD: &str = "bad: layer - feature - at 0: 4 WireType\n";
 
 const NOTED: &str = "noted: ok layers 0 features 0 canonical yes\nnoted: note NoLayers\n";
 
@@ -132,6 +140,7 @@ const NOTED: &str = "noted: ok layers 0 features 0 canonical yes\nnoted: note No
 fn checks_files(rt: HostRuntime) -> Result<(), Fail> {
     checks(&rt, &["mvt", "check", "good"], SOUND, (0, GOOD, ""))?;
     checks(&rt, &["mvt", "check", "noted"], SOUND, (0, NOTED, ""))?;
+    checks(&rt, &["mvt", "check", "bad"], SOUND, (1, "", BAD))?;
     let hyphen = "-x: ok layers 1 features 1 canonical yes\n";
     checks(&rt, &["mvt", "check", "--", "-x"], SOUND, (0, hyphen, ""))?;
     for name in ["locked", "torn", "absent", ""] {
@@ -144,13 +153,18 @@ fn checks_files(rt: HostRuntime) -> Result<(), Fail> {
 // A refused or unread file doesn't end the run, and the status tells the worst.
 #[test]
 fn checks_many_files(rt: HostRuntime) -> Result<(), Fail> {
-    let words = ["mvt", "check", "good", "torn", "noted", "locked"];
+    let words = ["mvt", "check", "good", "torn", "bad", "noted", "locked"];
     let written = format!(in rt.alloc(); "{GOOD}{NOTED}")?;
     let told = concat!(
-        "torn: read failed\nlocked: read failed\n",
-        "mvt: 4 tiles: 2 accepted, 0 refused, 2 unread\n"
+        "torn: read failed\n",
+        "bad: layer - feature - at 0: 4 WireType\n",
+        "locked: read failed\n",
+        "mvt: 5 tiles: 2 accepted, 1 refused, 2 unread\n"
     );
     checks(&rt, &words, SOUND, (3, written.as_str(), told))?;
+    let refused = format!(in rt.alloc(); "{BAD}mvt: 2 tiles: 1 accepted, 1 refused, 0 unread\n")?;
+    let good = (1, GOOD, refused.as_str());
+    checks(&rt, &["mvt", "check", "bad", "good"], SOUND, good)?;
     let twice = format!(in rt.alloc(); "{GOOD}{GOOD}")?;
     let both = (
         0,
