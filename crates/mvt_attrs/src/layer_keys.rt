@@ -1,9 +1,10 @@
 //! The keys of a layer, among which a feature's repeated key is found without a walk.
-ghost use Rattle.std.specs.Prelude.{◌≡◌, ◌+◌, ◌<◌, ◌==◌, ℕ, List, length, not, slice_index, slice_set, IfOk, Some};
+ghost use Rattle.std.specs.Prelude.{◌≡◌, ◌+◌, ◌<◌, ◌==◌, ℕ, List, length, not, slice_index, slice_set, false, IfOk, OnOk, OnErr, Some};
+ghost use Rattle.std.specs.Bool.{OnTrue};
 ghost use Rattle.std.specs.Prelude.{bytes_eq};
 ghost use Rattle.std.specs.Map.{update};
 ghost use Rattle.std.specs.Option.{unwrap_or};
-ghost use Rattle.mvt_attrs.specs.Inner.Marking.{IsGrouped, AreBelow, place_in_map};
+ghost use Rattle.mvt_attrs.specs.Inner.Marking.{IsGrouped, IsReady, AreBelow, place_in_map};
 
 use mvt_base::Text;
 use std::alloc::{AllocError, Global};
@@ -13,18 +14,20 @@ use std::marker::Model;
 /// The keys of a layer, which features name by their indices.
 ///
 /// ```text
-/// let mut keys = LayerKeys::new(alloc, &texts)?;
+/// let mut keys = LayerKeys::new(alloc, &texts);
 /// for tags in features {
 ///     resolve_in(alloc, &mut keys, &values, tags)?;
 /// }
 /// ```
 ///
-/// It is made once a layer, in time that grows as sorting its keys, and then finds out in constant
-/// time whether a feature has named a key's text before. Contracts see the texts.
+/// The first feature of two pairs or more has the keys put in groups, in time that grows as sorting
+/// them; from then on it is found out in constant time whether a feature has named a key's text
+/// before. Contracts see the texts.
 #[derive(Drop)]
 pub struct LayerKeys<'k> {
     pub(crate) texts: &'k [Text],
-    /// For each key the first index of its text.
+    pub(crate) is_grouped: bool,
+    /// For each key the first index of its text, where they are grouped.
     pub(crate) places: Vec<usize>,
     /// For each place the last turn that named it.
     pub(crate) marks: Vec<u32>,
@@ -33,28 +36,50 @@ pub struct LayerKeys<'k> {
 
 impl<'k> Model for LayerKeys<'k> {
     ghost use Rattle.std.specs.Prelude.{List, ℕ};
+    ghost use Rattle.std.specs.Bool.{OnTrue};
     ghost use Rattle.mvt_attrs.specs.Inner.Marking.{IsReady};
 
     ghost Value = { List (List ℕ) };
 
     ghost view = { λ k. k.texts.now };
 
-    ghost invariant = { λ k. IsReady k.texts.now k.places.items k.marks.items k.turn };
+    ghost invariant = { λ k. OnTrue k.is_grouped (IsReady k.texts.now k.places.items k.marks.items k.turn) };
 }
 
 impl<'k> LayerKeys<'k> {
-    pub fn new(alloc: Global, texts: &'k [Text]) -> Result<Self, AllocError>
-        ensures { IfOk result (λ keys. keys ≡ texts.now) }
+    /// The keys as they stand, without memory.
+    pub fn new(alloc: Global, texts: &'k [Text]) -> Self
+        ensures { result ≡ texts.now }
     {
-        let places = group(alloc, texts)?;
-        let marks = vec![in alloc; 0; texts.len()]?;
-        Ok(LayerKeys {
+        LayerKeys {
             texts,
-            places,
-            marks,
+            is_grouped: false,
+            places: Vec::new(alloc),
+            marks: Vec::new(alloc),
             turn: 0,
-        })
+        }
     }
+}
+
+/// Puts the keys in groups, where they aren't yet.
+pub(crate) fn make_ready(
+    alloc: Global,
+    texts: &[Text],
+    is_grouped: bool,
+    places: &mut Vec<usize>,
+    marks: &mut Vec<u32>,
+    turn: u32,
+) -> Result<(), AllocError>
+    requires { OnTrue is_grouped (IsReady texts.now places.old.items marks.old.items turn) }
+    ensures ready { OnOk result (IsReady texts.now places.new.items marks.new.items turn) }
+    ensures err { OnErr result (is_grouped ≡ false) }
+{
+    if is_grouped {
+        return Ok(());
+    }
+    *places = group(alloc, texts)?;
+    *marks = vec![in alloc; 0; texts.len()]?;
+    Ok(())
 }
 
 /// For each text the first index at which it stands.

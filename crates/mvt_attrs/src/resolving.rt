@@ -1,10 +1,10 @@
 //! Tags resolved to the attributes that they name.
-ghost use Rattle.std.specs.Prelude.{◌≡◌, ◌+◌, length, slice_get, option_copied, IfOk, IfErr, OnOk};
+ghost use Rattle.std.specs.Prelude.{◌≡◌, ◌+◌, ◌≤◌, length, slice_get, option_copied, IfOk, IfErr, OnOk};
 ghost use Rattle.mvt_attrs.specs.Tags.{Resolved};
 ghost use Rattle.mvt_attrs.specs.TagRules.{tag_fault, Tells};
 ghost use Rattle.mvt_attrs.specs.Inner.Marking.{IsGrouped, AreBelow};
 
-use crate::layer_keys::{LayerKeys, mark, next_turn};
+use crate::layer_keys::{LayerKeys, make_ready, mark, next_turn};
 use crate::value::{Attribute, Value};
 use mvt_base::Text;
 use std::alloc::{AllocError, AllocFailed, Global};
@@ -94,7 +94,7 @@ pub fn resolve(
     ensures ok { OnOk result (tag_fault keys.now values.now tags.now ≡ None) }
     ensures err { IfErr result (λ error. Tells error (tag_fault keys.now values.now tags.now)) }
 {
-    resolve_in(alloc, &mut LayerKeys::new(alloc, keys)?, values, tags)
+    resolve_in(alloc, &mut LayerKeys::new(alloc, keys), values, tags)
 }
 
 /// The same with the keys of a layer, which stay: its cost grows with the number of tags alone.
@@ -112,9 +112,21 @@ pub fn resolve_in(
     ensures err { IfErr result (λ error. Tells error (tag_fault keys.old values.now tags.now)) }
     ensures same { keys.new ≡ keys.old }
 {
+    let texts = keys.texts;
+    if tags.len() <= 2 {
+        return resolve_pair(alloc, texts, values, tags);
+    }
+    make_ready(
+        alloc,
+        texts,
+        keys.is_grouped,
+        &mut keys.places,
+        &mut keys.marks,
+        keys.turn,
+    )?;
+    keys.is_grouped = true;
     let turn = next_turn(&mut keys.marks, keys.turn);
     keys.turn = turn;
-    let texts = keys.texts;
     resolve_marked(
         alloc,
         texts,
@@ -124,6 +136,38 @@ pub fn resolve_in(
         values,
         tags,
     )
+}
+
+/// The same where there is one pair at most, which repeats no key.
+fn resolve_pair(
+    alloc: Global,
+    texts: &[Text],
+    values: &[Value],
+    tags: &[u32],
+) -> Result<Vec<Attribute>, TagError>
+    requires { length tags.now ≤ 2 }
+    ensures attributes { IfOk result (λ found. Resolved texts.now values.now tags.now found.items) }
+    ensures ok { OnOk result (tag_fault texts.now values.now tags.now ≡ None) }
+    ensures err { IfErr result (λ error. Tells error (tag_fault texts.now values.now tags.now)) }
+{
+    let mut attributes = Vec::new(alloc);
+    match tags {
+        [] => Ok(attributes),
+        [_] => Err(fault(tags.len(), TagCause::OddTags)),
+        [key, value, ..] => {
+            let Some(text) = entry_at(texts, *key) else {
+                return Err(fault(0, TagCause::KeyIndex));
+            };
+            let Some(value) = entry_at(values, *value) else {
+                return Err(fault(1, TagCause::ValueIndex));
+            };
+            attributes.push(Attribute {
+                key: text.copy(alloc)?,
+                value: value.copy(alloc)?,
+            })?;
+            Ok(attributes)
+        }
+    }
 }
 
 /// The same, over keys in their groups and marks below this turn.

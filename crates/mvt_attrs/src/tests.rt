@@ -71,7 +71,7 @@ fn resolves_many_tags(rt: HostRuntime) -> Result<(), Fail> {
         return Err(Fail::new("no attributes"));
     };
     assert_eq!(rt; found.len(), 19);
-    let mut layer = LayerKeys::new(alloc, &keys)?;
+    let mut layer = LayerKeys::new(alloc, &keys);
     for _feature in 0..3 {
         assert!(rt; resolve_in(alloc, &mut layer, &values, &tags).is_ok());
         let twice = resolve_in(alloc, &mut layer, &values, &[19, 0, 0, 0]).err();

@@ -34,7 +34,7 @@ pub fn read_feature(
     ensures ok { OnOk result (feature_fault payload.now base keys.now values.now ≡ None) }
     ensures err { IfErr result (λ error. TellsMessage error (feature_fault payload.now base keys.now values.now)) }
 {
-    let mut keys = LayerKeys::new(alloc, keys)?;
+    let mut keys = LayerKeys::new(alloc, keys);
     let mut room = Room::new(alloc);
     read_feature_in(alloc, payload, base, &mut keys, values, &mut room)
 }

@@ -39,7 +39,7 @@ pub(crate) fn read_features(
     // What the proof needs to know of splits and of walks; they do nothing.
     split_function();
     walks();
-    let mut keys = LayerKeys::new(alloc, keys)?;
+    let mut keys = LayerKeys::new(alloc, keys);
     let mut room = Room::new(alloc);
     let mut features = Vec::new(alloc);
     for field in Fields::new(payload) {

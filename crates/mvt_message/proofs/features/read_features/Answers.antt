@@ -26,7 +26,7 @@ loop-field-preserved c =
 pub returns-in_err-append_feature-in-Ok-clause-err :
     goal.returns-in_err-append_feature-in-Ok-clause-err
 returns-in_err-append_feature-in-Ok-clause-err c =
-    let p = err_from_is_err_and c.from_residual-in_err-append_feature-in-Ok.result c.from_residual-in_err-append_feature-in-Ok.ensures.1 in
+    let p = err_from_is_err_and c.from_residual.result c.from_residual.ensures.1 in
     let done = c.loop-field.invariant.0 in
     let keys : c.loop-field.keys ≡ c.args.keys.now = c.loop-field.invariant.3 in
     let so_far = subst (λ ks. AreFeaturesSoFar c.args.base ks c.args.values.now done c.loop-field.features.items) (sym keys) c.loop-field.invariant.2 in
