@@ -1,7 +1,7 @@
 pub mod EqualityLemmas
 pub mod FirstUseLemmas
 pub mod PoolLemmas
-pub mod SeenLemmas
+pub mod MarkingLemmas
 pub mod TagLemmas
 pub mod ResolvedLemmas
 pub mod PlaceLemmas

@@ -1,3 +1,3 @@
 -- What only the private functions' contracts cite.
 pub mod Found
-pub mod Following
+pub mod Marking

@@ -4,17 +4,18 @@
 
 mod key_pool;
 pub mod laws;
+mod layer_keys;
 mod placing;
 mod pool_error;
 mod resolving;
-mod seen;
 mod value;
 mod value_pool;
 
 pub use key_pool::KeyPool;
+pub use layer_keys::LayerKeys;
 pub use placing::{append_tags, tags_of};
 pub use pool_error::PoolError;
-pub use resolving::{TagCause, TagError, resolve};
+pub use resolving::{TagCause, TagError, resolve, resolve_in};
 pub use value::{Attribute, Value};
 pub use value_pool::ValuePool;
 

@@ -52,7 +52,7 @@ fn resolves_tags(rt: HostRuntime) -> Result<(), Fail> {
     Ok(())
 }
 
-// Twenty keys are more than are compared one by one; the last is the first again.
+// Twenty keys, the last of which is the first again; and features of one layer, one after the other.
 #[test]
 fn resolves_many_tags(rt: HostRuntime) -> Result<(), Fail> {
     let alloc = rt.alloc();
@@ -71,6 +71,12 @@ fn resolves_many_tags(rt: HostRuntime) -> Result<(), Fail> {
         return Err(Fail::new("no attributes"));
     };
     assert_eq!(rt; found.len(), 19);
+    let mut layer = LayerKeys::new(alloc, &keys);
+    for _feature in 0..3 {
+        assert!(rt; resolve_in(alloc, &mut layer, &values, &tags).is_ok());
+        let twice = resolve_in(alloc, &mut layer, &values, &[19, 0, 0, 0]).err();
+        assert_eq!(rt; twice, fault(2, TagCause::RepeatedKey));
+    }
     Ok(())
 }
 

@@ -8,7 +8,7 @@ use crate::feature::Feature;
 use crate::known::read_known;
 use crate::message_error::MessageError;
 use crate::room::Room;
-use mvt_attrs::{Value, resolve};
+use mvt_attrs::{LayerKeys, Value, resolve_in};
 use mvt_base::{Items, Text};
 use mvt_geometry::read_geometry;
 use mvt_wire::laws::{packed_function, split_function};
@@ -34,10 +34,13 @@ pub fn read_feature(
     ensures ok { OnOk result (feature_fault payload.now base keys.now values.now ≡ None) }
     ensures err { IfErr result (λ error. TellsMessage error (feature_fault payload.now base keys.now values.now)) }
 {
-    read_feature_in(alloc, payload, base, keys, values, &mut Room::new(alloc))
+    let mut keys = LayerKeys::new(alloc, keys);
+    let mut room = Room::new(alloc);
+    read_feature_in(alloc, payload, base, &mut keys, values, &mut room)
 }
 
-/// The same in room that is lent, so that a row of features needs no new lists for tags and integers.
+/// The same with the keys of a layer, which stay, and in room that is lent: a row of features looks at
+/// the keys once, and needs no new lists for tags and integers.
 ///
 /// # Errors
 ///
@@ -46,20 +49,21 @@ pub fn read_feature_in(
     alloc: Global,
     payload: &[u8],
     base: u64,
-    keys: &[Text],
+    keys: &mut LayerKeys<'_>,
     values: &[Value],
     room: &mut Room,
 ) -> Result<Feature, MessageError>
     requires { base + length payload.now < 2 ^ 64 }
-    ensures feature { IfOk result (IsFeatureOf payload.now keys.now values.now) }
-    ensures ok { OnOk result (feature_fault payload.now base keys.now values.now ≡ None) }
-    ensures err { IfErr result (λ error. TellsMessage error (feature_fault payload.now base keys.now values.now)) }
+    ensures feature { IfOk result (IsFeatureOf payload.now keys.old values.now) }
+    ensures ok { OnOk result (feature_fault payload.now base keys.old values.now ≡ None) }
+    ensures err { IfErr result (λ error. TellsMessage error (feature_fault payload.now base keys.old values.now)) }
+    ensures same { keys.new ≡ keys.old }
 {
     // What the proof needs to know of splits and of packed numbers; they do nothing.
     split_function();
     packed_function();
     let known = read_known(payload, base, room)?;
-    let attributes = resolve(alloc, keys, values, &room.tags)?;
+    let attributes = resolve_in(alloc, keys, values, &room.tags)?;
     let geometry = read_geometry(alloc, known.kind, &room.integers)?;
     Ok(Feature {
         id: known.id,

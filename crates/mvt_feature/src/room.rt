@@ -6,7 +6,7 @@ use std::alloc::Global;
 /// ```text
 /// let mut room = Room::new(alloc);
 /// for payload in payloads {
-///     features.push(read_feature_in(alloc, payload, base, keys, values, &mut room)?)?;
+///     features.push(read_feature_in(alloc, payload, base, &mut keys, values, &mut room)?)?;
 /// }
 /// ```
 ///

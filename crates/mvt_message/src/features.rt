@@ -11,7 +11,7 @@ ghost use Rattle.mvt_message.specs.Items.{HoldsFeature};
 ghost use Rattle.mvt_message.specs.Inner.{features_fault, AreFeaturesSoFar};
 
 use crate::payload::bytes_of;
-use mvt_attrs::Value;
+use mvt_attrs::{LayerKeys, Value};
 use mvt_base::Text;
 use mvt_feature::laws::walks;
 use mvt_feature::{Feature, MessageError, Room, read_feature_in};
@@ -39,6 +39,7 @@ pub(crate) fn read_features(
     // What the proof needs to know of splits and of walks; they do nothing.
     split_function();
     walks();
+    let mut keys = LayerKeys::new(alloc, keys);
     let mut room = Room::new(alloc);
     let mut features = Vec::new(alloc);
     for field in Fields::new(payload) {
@@ -47,7 +48,7 @@ pub(crate) fn read_features(
                 alloc,
                 &field,
                 base,
-                keys,
+                &mut keys,
                 values,
                 &mut room,
                 &mut features,
@@ -63,18 +64,19 @@ fn append_feature(
     alloc: Global,
     field: &Field<'_>,
     base: u64,
-    keys: &[Text],
+    keys: &mut LayerKeys<'_>,
     values: &[Value],
     room: &mut Room,
     features: &mut Vec<Feature>,
 ) -> Result<(), MessageError>
     requires few { vec_len features.old < 2 ^ 32 }
     requires body { base + (field.now.body + bytes_size (content_of field.now.payload)) < 2 ^ 64 }
-    ensures ok { (done : List Entry) → AreFeaturesSoFar base keys.now values.now done features.old.items
-        → OnOk result (AreFeaturesSoFar base keys.now values.now (done ++ entry_of field.now ∷ []) features.new.items) }
-    ensures err { (done more : List Entry) → AreFeaturesSoFar base keys.now values.now done features.old.items
+    ensures ok { (done : List Entry) → AreFeaturesSoFar base keys.old values.now done features.old.items
+        → OnOk result (AreFeaturesSoFar base keys.old values.now (done ++ entry_of field.now ∷ []) features.new.items) }
+    ensures err { (done more : List Entry) → AreFeaturesSoFar base keys.old values.now done features.old.items
         → IfErr result (λ error. TellsMessage error
-        (features_fault base keys.now values.now ((done ++ entry_of field.now ∷ []) ++ more))) }
+        (features_fault base keys.old values.now ((done ++ entry_of field.now ∷ []) ++ more))) }
+    ensures same { keys.new ≡ keys.old }
 {
     if field.number != 2 {
         return Ok(());

@@ -10,14 +10,14 @@ ghost use Rattle.mvt_tile.specs.Tiles.{HasDistinctNames};
 use mvt_base::Text;
 use mvt_message::Item;
 use std::alloc::{AllocError, Global};
-use std::collections::HashSet;
+use std::collections::BTreeSet;
 use std::marker::Model;
 
-/// The items so far. A hashed set of the names beside them tells a repeated one without a walk.
+/// The items so far. An ordered set of the names beside them tells a repeated one without a walk, whatever the names are.
 #[derive(Drop)]
 pub(crate) struct Layers {
     items: Vec<Item>,
-    names: HashSet<Text>,
+    names: BTreeSet<Text>,
 }
 
 impl Model for Layers {
@@ -39,7 +39,7 @@ impl Layers {
     {
         Layers {
             items: Vec::new(alloc),
-            names: HashSet::new(alloc),
+            names: BTreeSet::new(alloc),
         }
     }
 
@@ -74,7 +74,7 @@ impl Layers {
 }
 
 /// Adds the name of a layer to the names, and answers whether it is new. A foreign item has none.
-fn add_names(alloc: Global, names: &mut HashSet<Text>, item: &Item) -> Result<bool, AllocError>
+fn add_names(alloc: Global, names: &mut BTreeSet<Text>, item: &Item) -> Result<bool, AllocError>
     ensures new { IfOk result (λ new. new ≡ not (repeats names.old.keys (names_in item.now))) }
     ensures named { IfOk result (λ new. IsTrue new → (n : List ℕ) → list_any (bytes_eq n) names.new.keys
         ≡ (list_any (bytes_eq n) names.old.keys || list_any (bytes_eq n) (names_in item.now))) }

@@ -1,0 +1,38 @@
+-- How a key that a feature repeats is found: keys of one text have one place, and a feature marks the
+-- places that it has named.
+use Rattle.std.specs.Prelude.{◌≡◌, ℕ, ◌+◌, ◌<◌, ◌==◌, Bool, List, length, Option, Some, slice_get, slice_index, bytes_eq}
+use Rattle.std.specs.List.{list_any}
+use Rattle.std.specs.Borrow.{Bor}
+use Rattle.std.specs.Ordering.{nat_cmp}
+use Rattle.std.specs.Cmp.Lexicographic.{slice_cmp}
+use Rattle.std.specs.BTreeMap.{BTreeMap, get_by}
+use Rattle.mvt_attrs.specs.declared.value.Attribute.{Attribute}
+
+-- two keys have one place exactly where they are one text
+pub record IsGrouped (texts : List (List ℕ)) (places : List ℕ) : Type 0 where
+  pub len : length places ≡ length texts
+  pub within : (i : ℕ) → i < length texts → slice_index places i < length texts
+  pub together : (i j : ℕ) (a : List ℕ) → slice_get texts i ≡ Some a → slice_get texts j ≡ Some a → slice_index places i ≡ slice_index places j
+  pub apart : (i j : ℕ) (a b : List ℕ) → slice_get texts i ≡ Some a → slice_get texts j ≡ Some b → slice_index places i ≡ slice_index places j → a ≡ b
+
+-- whether an attribute has a key
+abbrev pub has_key : List ℕ → List Attribute → Bool
+has_key key attributes = list_any (λ (a : Attribute). bytes_eq a.key key) attributes
+
+-- the places marked with this turn are those of the attributes' keys
+abbrev pub IsMarked : List (List ℕ) → List ℕ → List ℕ → ℕ → List Attribute → Type 0
+IsMarked texts places marks turn attributes =
+    (i : ℕ) (text : List ℕ) → slice_get texts i ≡ Some text → (slice_index marks (slice_index places i) == turn) ≡ has_key text attributes
+
+abbrev pub AreBelow : List ℕ → ℕ → Type 0
+AreBelow marks n = (i : ℕ) → slice_index marks i < n
+
+-- keys in their groups, and marks of turns up to the last
+pub record IsReady (texts : List (List ℕ)) (places marks : List ℕ) (turn : ℕ) : Type 0 where
+  pub grouped : IsGrouped texts places
+  pub room : length marks ≡ length texts
+  pub below : AreBelow marks (turn + 1)
+
+-- the place of a text among the places so far
+abbrev pub place_in_map : BTreeMap (Bor (List ℕ)) ℕ → List ℕ → Option ℕ
+place_in_map places text = get_by (λ k. slice_cmp nat_cmp text k.now) places
