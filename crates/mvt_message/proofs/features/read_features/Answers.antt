@@ -1,8 +1,7 @@
-use Rattle.std.proofs.Common.{◌≡◌, ◌++◌, ◌∷◌, [], ◌<◌, ◌^◌, length, List, ℕ, sym, subst, ◌∙◌, arith}
+use Rattle.std.proofs.Common.{◌≡◌, ◌++◌, ◌∷◌, [], ◌<◌, ◌^◌, length, sym, subst, ◌∙◌, arith}
 use Rattle.std.proofs.lemmas.Result.{err_from_is_err_and}
 use Rattle.mvt_wire.specs.Field.{entry_of}
-use Rattle.mvt_feature.specs.Faults.{TellsMessage}
-use Rattle.mvt_message.specs.Inner.{AreFeaturesSoFar, features_fault}
+use Rattle.mvt_message.specs.Inner.{AreFeaturesSoFar}
 use Rattle.mvt_message.proofs.ReadLemmas.{features_few}
 use Rattle.mvt_message.proofs.features.read_features.Goals as goal
 
@@ -17,11 +16,13 @@ loop-field-preserved c =
     let done = c.loop-field.invariant.0 in
     let more = done ++ entry_of c.in-Ok.field ∷ [] in
     let features = c.append_feature.new.features.items in
-    let keys : c.loop-field.keys ≡ c.args.keys.now = c.loop-field.invariant.3 in
-    (more, c.walks.ensures.step _ _ _ _ _ c.loop-field.invariant.1 (rw c.in-Ok.is at c.in-Some.ensures.steps),
-    subst (λ ks. AreFeaturesSoFar c.args.base ks c.args.values.now more features) keys
-    (c.in_ok-append_feature-in-Ok.ensures.ok done (subst (λ ks. AreFeaturesSoFar c.args.base ks c.args.values.now done c.loop-field.features.items) (sym keys) c.loop-field.invariant.2)),
-    c.in_ok-append_feature-in-Ok.ensures.same ∙ keys)
+    let keys : c.loop-field.keys ≡ c.args.keys.now = c.loop-field.invariant.3 in (
+      more,
+      c.walks.ensures.step _ _ _ _ _ c.loop-field.invariant.1 (rw c.in-Ok.is at c.in-Some.ensures.steps),
+      subst (λ ks. AreFeaturesSoFar c.args.base ks c.args.values.now more features) keys
+          (c.in_ok-append_feature-in-Ok.ensures.ok done (subst (λ ks. AreFeaturesSoFar c.args.base ks c.args.values.now done c.loop-field.features.items) (sym keys) c.loop-field.invariant.2)),
+      c.in_ok-append_feature-in-Ok.ensures.same ∙ keys,
+    )
 
 pub returns-in_err-append_feature-in-Ok-clause-err :
     goal.returns-in_err-append_feature-in-Ok-clause-err
