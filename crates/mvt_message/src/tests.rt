@@ -481,8 +481,15 @@ fn refused_foreign_items(rt: HostRuntime) {
 #[test]
 fn writes_a_large_layer(rt: HostRuntime) -> Result<(), Fail> {
     let alloc = rt.alloc();
+    let mut piece = String::new(alloc);
+    for _byte in 0..4096u32 {
+        piece.push('a')?;
+    }
     let mut name = String::with_capacity(alloc, 67_108_852)?;
-    for _byte in 0..67_108_852u32 {
+    for _piece in 0..16_383u32 {
+        name.push_str(piece.as_str())?;
+    }
+    for _byte in 0..4084u32 {
         name.push('a')?;
     }
     let item = Item::Layer(Layer {
