@@ -3,12 +3,13 @@ use Rattle.std.proofs.Common.{◌≡◌, ℕ, List, [], Option, subst, arith}
 use Rattle.std.proofs.KnownBytes.{Consumes-nil}
 use Rattle.mvt_io.specs.Transfers.{TakesAtMost}
 use Rattle.mvt_cli.specs.declared.words.Task.{Task}
-use Rattle.mvt_cli.specs.declared.words.Task.TheVariants.{Fields, Show, Check, Rewrite, Extract}
+use Rattle.mvt_cli.specs.declared.words.Task.TheVariants.{Fields, Show, Draw, Check, Rewrite, Extract}
 use Rattle.mvt_cli.specs.Output.{IfReadWhole}
 
 read_whole : (task : Task) (P : Type 0) → P → IfReadWhole task P
 read_whole Fields P p = p
 read_whole Show P p = tt
+read_whole Draw P p = tt
 read_whole Check P p = p
 read_whole Rewrite P p = tt
 read_whole (Extract names) P p = tt

@@ -107,6 +107,7 @@ is_made_whole (Extract names) = false
 abbrev pub IfReadWhole : Task → Type 0 → Type 0
 IfReadWhole Fields P = P
 IfReadWhole Show P = ⊤
+IfReadWhole Draw P = ⊤
 IfReadWhole Check P = P
 IfReadWhole Rewrite P = ⊤
 IfReadWhole (Extract names) P = ⊤
