@@ -1,7 +1,6 @@
 //! The command `draw`.
-ghost use Rattle.std.specs.Prelude.{◌≡◌, ◌+◌, ◌≤◌, IfOk, IfErr, IfSome};
-ghost use Rattle.mvt_io.specs.Counts.{HasFailed};
-ghost use Rattle.mvt_cli.specs.Failures.{IsCaused};
+ghost use Rattle.std.specs.Prelude.{◌≡◌, ◌+◌, ◌≤◌, max, IfOk, IfErr, IfSome, OnOk};
+ghost use Rattle.mvt_cli.specs.Failures.{EndsFailed, IsCaused};
 ghost use Rattle.mvt_cli.specs.Output.{IsReply, HasOutput, done, svg_lines};
 
 use crate::failure::Failure;
@@ -18,8 +17,11 @@ use std::alloc::Global;
 pub fn draw<R: Source>(alloc: Global, reader: &mut R) -> Result<Reply, Failure>
     ensures reply { IfOk result (λ reply. IfSome (R.left reader.old) (λ input. IsReply LIMIT Task.Draw input reply)) }
     ensures output { IfOk result HasOutput }
-    ensures failed { IfErr result (IsCaused (HasFailed (R.failed reader.old) (R.failed reader.new)) ⊥) }
+    ensures failed { IfErr result (IsCaused (EndsFailed (R.failed reader.old) (R.failed reader.new) (R.ended reader.new))
+        ⊥ (R.failed reader.new ≡ R.failed reader.old)) }
+    ensures sound { OnOk result (R.failed reader.new ≡ R.failed reader.old) }
     ensures reads { R.reads reader.new ≤ R.reads reader.old + 67108866 }
+    ensures asked { R.asked reader.new ≤ max (R.asked reader.old) 65536 }
 {
     match read_tile(alloc, reader) {
         Ok(tile) => drawn(alloc, &tile),
@@ -37,7 +39,7 @@ fn drawn(alloc: Global, tile: &Tile) -> Result<Reply, Failure>
     let mut text = svg_text(alloc, tile)?;
     text.push_str("\n")?;
     Ok(Reply {
-        written: Some(Text::new(text)),
+        written: Some(Text::from_string(text)?),
         told: None,
     })
 }
