@@ -1,6 +1,6 @@
 //! Values and features read, refused and written.
 use super::*;
-use mvt_attrs::{Attribute, KeyPool, PoolError, Value, ValuePool};
+use mvt_attrs::{Attribute, KeyPool, LayerKeys, PoolError, Value, ValuePool};
 use mvt_base::{Items, Text};
 use mvt_geometry::{Geometry, Point};
 use std::alloc::{AllocError, Global};
@@ -76,9 +76,10 @@ fn reads_values(rt: HostRuntime) {
 fn reads_features(rt: HostRuntime) -> Result<(), Fail> {
     let alloc = rt.alloc();
     let one_point = [0x18, 0x01, 0x22, 0x03, 0x09, 0x32, 0x22];
+    let mut keys = LayerKeys::new(alloc, &[]);
     let mut room = Room::new(alloc);
     for _turn in 0..2 {
-        let Ok(feature) = read_feature_in(alloc, &one_point, 9, &[], &[], &mut room) else {
+        let Ok(feature) = read_feature_in(alloc, &one_point, 9, &mut keys, &[], &mut room) else {
             return Err(Fail::new("no feature"));
         };
         assert!(rt; feature == feature_with(alloc, &[])?);
