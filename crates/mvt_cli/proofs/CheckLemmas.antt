@@ -24,6 +24,11 @@ appends_nothing (Some xs) = sym (append-nil xs)
 pub tells_nothing : (n : ℕ) (o : Option (List ℕ)) → Tells n n o o []
 tells_nothing n o = record { counts = inl (omega arith); tells = λ none. appends_nothing o }
 
+-- an error before anything was told
+pub tells_none : {A F : Type 0} (result : Result A F) (n : ℕ) (o : Option (List ℕ)) → OnErr result (TellsSome n n o o)
+tells_none (Ok answer) n o = tt
+tells_none (Err failure) n o = ([], tells_nothing n o)
+
 later-trans : (a b c : ℕ) → IsLater a b → IsLater b c → IsLater a c
 later-trans a b c (inl h) (inl k) = inl (omega arith)
 later-trans a b c (inl h) (inr k) = inr k

@@ -18,3 +18,6 @@ returns-in-Err-clause-files g c = λ some accepted.
           let above : 2 < c.refuse.result = omega arith in
           inr (Memory, tt, four, ([], λ none. c.refuse.ensures.line above none))
     ]
+
+pub returns-then-not-is_empty-clause-leaves : goal.returns-then-not-is_empty-clause-leaves
+returns-then-not-is_empty-clause-leaves g c = nothing_taken _ _ _
