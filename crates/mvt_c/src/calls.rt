@@ -93,12 +93,7 @@ fn json_made(alloc: Global, bytes: &[u8]) -> Result<Vec<u8>, Refusal>
 
 /// A picture of a tile (`mvt_svg`).
 #[unsafe(no_mangle)]
-pub extern "C" fn mvt_svg(
-    alloc: Global,
-    bytes: &[u8],
-    out: &mut Bytes,
-    fault: &mut Fault,
-) -> u32
+pub extern "C" fn mvt_svg(alloc: Global, bytes: &[u8], out: &mut Bytes, fault: &mut Fault) -> u32
     ensures done { result ≡ 0 → IsTextOf svg bytes.now out.new.bytes.now }
     ensures refused { result ≡ 1 → IsTold bytes.now fault.new }
     ensures few { result ≤ 2 }
