@@ -4,7 +4,7 @@ use super::rows::*;
 use super::support::{joined, names};
 use crate::{
     DecodeError, ExtractError, PutError, Tile, TileDecoder, WriteError, decode, encode, extract,
-    read_tile, write_tile,
+    is_valid, read_tile, write_tile,
 };
 use mvt_io::{MemorySink, MemorySource};
 use std::alloc::Global;
@@ -34,6 +34,10 @@ fn is_refused(
             return true;
         }
     };
+    assert!(rt; is_valid(&tile));
+    if !is_valid(&tile) {
+        return false;
+    }
     match encode(rt.alloc(), &tile) {
         Ok(bytes) => {
             assert_eq!(rt; bytes.as_slice(), canonical);
