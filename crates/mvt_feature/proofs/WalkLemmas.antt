@@ -6,7 +6,7 @@ use Rattle.mvt_base.specs.Rules.{Rules, each, first}
 use Rattle.mvt_wire.specs.declared.fault.WireFault.{WireFault}
 use Rattle.mvt_wire.specs.declared.field.Field.{Field}
 use Rattle.mvt_wire.specs.Field.{Entry, entry_of}
-use Rattle.mvt_wire.specs.Fields.{GivesField}
+use Rattle.mvt_wire.specs.Fields.{GivesEntry}
 use Rattle.mvt_wire.specs.Fronts.{rest_cause}
 use Rattle.mvt_wire.specs.Split.{Parts, split}
 use Rattle.mvt_feature.specs.declared.message_error.MessageError.{MessageError}
@@ -22,7 +22,7 @@ walk_start payload it is bound = record {
   bound = rw is at bound;
 }
 
-pub walk_step : (payload : List ℕ) (old new : Parts) (done : List Entry) (field : Field) → Walk payload old done → GivesField old (Some (Ok field)) new → Walk payload new (done ++ entry_of field ∷ [])
+pub walk_step : (payload : List ℕ) (old new : Parts) (done : List Entry) (field : Field) → Walk payload old done → GivesEntry old (Some (Ok field)) new → Walk payload new (done ++ entry_of field ∷ [])
 walk_step payload old new done field walk step = record {
   fields = walk.fields ∙ ap (λ (p : Parts). done ++ p.fields) step.0 ∙ sym (append_assoc done (entry_of field ∷ []) new.fields);
   rest = sym (ap (λ (p : Parts). p.rest) step.0) ∙ walk.rest;
@@ -31,14 +31,14 @@ walk_step payload old new done field walk step = record {
 }
 
 -- the tag of the next field stands inside the payload
-pub walk_fits : (payload : List ℕ) (old new : Parts) (done : List Entry) (field : Field) (base : ℕ) → Walk payload old done → GivesField old (Some (Ok field)) new → base + length payload < 2 ^ 64 → base + field.at < 2 ^ 64
+pub walk_fits : (payload : List ℕ) (old new : Parts) (done : List Entry) (field : Field) (base : ℕ) → Walk payload old done → GivesEntry old (Some (Ok field)) new → base + length payload < 2 ^ 64 → base + field.at < 2 ^ 64
 walk_fits payload old new done field base walk step small =
     let inside : field.at < old.rest_at = step.1.0 in
     let place = walk.place in
     let bound = walk.bound in
     omega arith
 
-pub walk_fault_fits : (payload : List ℕ) (old new : Parts) (done : List Entry) (fault : WireFault) (base : ℕ) → Walk payload old done → GivesField old (Some (Err fault)) new → base + length payload < 2 ^ 64 → base + fault.at < 2 ^ 64
+pub walk_fault_fits : (payload : List ℕ) (old new : Parts) (done : List Entry) (fault : WireFault) (base : ℕ) → Walk payload old done → GivesEntry old (Some (Err fault)) new → base + length payload < 2 ^ 64 → base + fault.at < 2 ^ 64
 walk_fault_fits payload old new done fault base walk step small =
     let at : fault.at ≡ old.rest_at = step.2 in
     let place = walk.place in
@@ -46,7 +46,7 @@ walk_fault_fits payload old new done fault base walk step small =
     omega arith
 
 -- at the end these were all fields
-pub walk_end : (payload : List ℕ) (old new : Parts) (done : List Entry) → Walk payload old done → GivesField old None new → ((split payload).fields ≡ done) × ((split payload).rest ≡ [])
+pub walk_end : (payload : List ℕ) (old new : Parts) (done : List Entry) → Walk payload old done → GivesEntry old None new → ((split payload).fields ≡ done) × ((split payload).rest ≡ [])
 walk_end payload old new done walk step =
     (walk.fields ∙ ap (λ l. done ++ l) step.0 ∙ append-nil done, sym walk.rest ∙ step.1)
 
@@ -54,7 +54,7 @@ rest_told : (at : ℕ) (rest : List ℕ) → rest ≢ [] → first (rest_rules_a
 rest_told at [] some = absurd (some refl)
 rest_told at (b ∷ bs) some = refl
 
-pub walk_fault : (payload : List ℕ) (old new : Parts) (done : List Entry) (fault : WireFault) (base : ℕ) → Walk payload old done → GivesField old (Some (Err fault)) new → first (rest_rules base (split payload)) ≡ Some (fault_at (base + fault.at) (of_wire fault.cause))
+pub walk_fault : (payload : List ℕ) (old new : Parts) (done : List Entry) (fault : WireFault) (base : ℕ) → Walk payload old done → GivesEntry old (Some (Err fault)) new → first (rest_rules base (split payload)) ≡ Some (fault_at (base + fault.at) (of_wire fault.cause))
 unfolding rest_rules
 walk_fault payload old new done fault base walk step =
     let at : (split payload).rest_at ≡ fault.at = sym walk.place ∙ sym step.2 in
@@ -75,19 +75,19 @@ unfolding rest_rules
 none_rest base parts h = nothing_left (base + parts.rest_at) parts.rest h
 
 -- at the end of a walk: what holds of the fields so far holds of all
-pub end_whole : {K : Type 0} → (payload : List ℕ) (old new : Parts) (done : List Entry) (r : Result K MessageError) → Walk payload old done → GivesField old None new → OnOk r ((split payload).rest ≡ [])
+pub end_whole : {K : Type 0} → (payload : List ℕ) (old new : Parts) (done : List Entry) (r : Result K MessageError) → Walk payload old done → GivesEntry old None new → OnOk r ((split payload).rest ≡ [])
 end_whole payload old new done (Ok k) walk step = (walk_end payload old new done walk step).1
 end_whole payload old new done (Err e) walk step = tt
 
-pub end_clean : {K : Type 0} → (payload : List ℕ) (old new : Parts) (done : List Entry) (rules : Entry → Rules MessageFault) (Holds : List Entry → K → Type 0) (r : Result K MessageError) → Walk payload old done → GivesField old None new → IsSoFar rules Holds done r → OnOk r (first (each (λ _. rules) [] (split payload).fields) ≡ None)
+pub end_clean : {K : Type 0} → (payload : List ℕ) (old new : Parts) (done : List Entry) (rules : Entry → Rules MessageFault) (Holds : List Entry → K → Type 0) (r : Result K MessageError) → Walk payload old done → GivesEntry old None new → IsSoFar rules Holds done r → OnOk r (first (each (λ _. rules) [] (split payload).fields) ≡ None)
 end_clean payload old new done rules Holds (Ok k) walk step so_far = rw (walk_end payload old new done walk step).0 so_far.0
 end_clean payload old new done rules Holds (Err e) walk step so_far = tt
 
-pub end_holds : {K : Type 0} → (payload : List ℕ) (old new : Parts) (done : List Entry) (rules : Entry → Rules MessageFault) (Holds : List Entry → K → Type 0) (r : Result K MessageError) → Walk payload old done → GivesField old None new → IsSoFar rules Holds done r → IfOk r (Holds (split payload).fields)
+pub end_holds : {K : Type 0} → (payload : List ℕ) (old new : Parts) (done : List Entry) (rules : Entry → Rules MessageFault) (Holds : List Entry → K → Type 0) (r : Result K MessageError) → Walk payload old done → GivesEntry old None new → IsSoFar rules Holds done r → IfOk r (Holds (split payload).fields)
 end_holds payload old new done rules Holds (Ok k) walk step so_far = subst (λ fields. Holds fields k) (sym (walk_end payload old new done walk step).0) so_far.1
 end_holds payload old new done rules Holds (Err e) walk step so_far = tt
 
-pub end_told : {K : Type 0} → (payload : List ℕ) (old new : Parts) (done : List Entry) (base : ℕ) (rules : Entry → Rules MessageFault) (Holds : List Entry → K → Type 0) (r : Result K MessageError) → Walk payload old done → GivesField old None new → IsSoFar rules Holds done r
+pub end_told : {K : Type 0} → (payload : List ℕ) (old new : Parts) (done : List Entry) (base : ℕ) (rules : Entry → Rules MessageFault) (Holds : List Entry → K → Type 0) (r : Result K MessageError) → Walk payload old done → GivesEntry old None new → IsSoFar rules Holds done r
     → IfErr r (λ e. TellsMessage e (option_or (first (rest_rules base (split payload))) (first (each (λ _. rules) [] (split payload).fields))))
 end_told payload old new done base rules Holds (Ok k) walk step so_far = tt
 end_told payload old new done base rules Holds (Err e) walk step so_far =

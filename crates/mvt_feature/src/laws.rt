@@ -9,7 +9,7 @@ ghost use Rattle.mvt_attrs.specs.Tags.{Names};
 ghost use Rattle.mvt_wire.specs.declared.fault.WireFault.{WireFault};
 ghost use Rattle.mvt_wire.specs.declared.field.Field.{Field};
 ghost use Rattle.mvt_wire.specs.Field.{Entry, entry_of};
-ghost use Rattle.mvt_wire.specs.Fields.{GivesField};
+ghost use Rattle.mvt_wire.specs.Fields.{GivesEntry};
 ghost use Rattle.mvt_wire.specs.Spelling.{spelled};
 ghost use Rattle.mvt_wire.specs.Split.{Parts, Whole, split};
 ghost use Rattle.mvt_feature.specs.declared.message_error.MessageError.{MessageError};
@@ -119,34 +119,34 @@ pub fn walks()
     ensures start { (payload : List ℕ) (it : Parts) → it ≡ split payload
         → it.rest_at + length it.rest ≡ length payload → Walk payload it [] }
     ensures step { (payload : List ℕ) (old new : Parts) (done : List Entry) (field : Field) → Walk payload old done
-        → GivesField old (Some (Ok field)) new → Walk payload new (done ++ entry_of field ∷ []) }
+        → GivesEntry old (Some (Ok field)) new → Walk payload new (done ++ entry_of field ∷ []) }
     ensures fits { (payload : List ℕ) (old new : Parts) (done : List Entry) (field : Field) (base : ℕ)
-        → Walk payload old done → GivesField old (Some (Ok field)) new → base + length payload < 2 ^ 64
+        → Walk payload old done → GivesEntry old (Some (Ok field)) new → base + length payload < 2 ^ 64
         → base + field.at < 2 ^ 64 }
     ensures end { (payload : List ℕ) (old new : Parts) (done : List Entry) → Walk payload old done
-        → GivesField old None new → ((split payload).fields ≡ done) × ((split payload).rest ≡ []) }
+        → GivesEntry old None new → ((split payload).fields ≡ done) × ((split payload).rest ≡ []) }
     ensures fault_fits { (payload : List ℕ) (old new : Parts) (done : List Entry) (fault : WireFault) (base : ℕ)
-        → Walk payload old done → GivesField old (Some (Err fault)) new → base + length payload < 2 ^ 64
+        → Walk payload old done → GivesEntry old (Some (Err fault)) new → base + length payload < 2 ^ 64
         → base + fault.at < 2 ^ 64 }
     ensures fault { (payload : List ℕ) (old new : Parts) (done : List Entry) (fault : WireFault) (base : ℕ)
-        → Walk payload old done → GivesField old (Some (Err fault)) new
+        → Walk payload old done → GivesEntry old (Some (Err fault)) new
         → first (rest_rules base (split payload)) ≡ Some (fault_at (base + fault.at) (of_wire fault.cause)) }
 {}
 
 /// At the end of a walk, what was found in the fields so far is what is found in all.
 pub fn walk_results<K>()
     ensures whole { (payload : List ℕ) (old new : Parts) (done : List Entry) (r : Result K MessageError)
-        → Walk payload old done → GivesField old None new → OnOk r ((split payload).rest ≡ []) }
+        → Walk payload old done → GivesEntry old None new → OnOk r ((split payload).rest ≡ []) }
     ensures clean { (payload : List ℕ) (old new : Parts) (done : List Entry) (rules : Entry → Rules MessageFault)
-        (found : List Entry → K) (r : Result K MessageError) → Walk payload old done → GivesField old None new
+        (found : List Entry → K) (r : Result K MessageError) → Walk payload old done → GivesEntry old None new
         → IsSoFar rules (λ fields k. k ≡ found fields) done r
         → OnOk r (first (each (λ _. rules) [] (split payload).fields) ≡ None) }
     ensures found { (payload : List ℕ) (old new : Parts) (done : List Entry) (rules : Entry → Rules MessageFault)
-        (found : List Entry → K) (r : Result K MessageError) → Walk payload old done → GivesField old None new
+        (found : List Entry → K) (r : Result K MessageError) → Walk payload old done → GivesEntry old None new
         → IsSoFar rules (λ fields k. k ≡ found fields) done r → IfOk r (λ k. k ≡ found (split payload).fields) }
     ensures told { (payload : List ℕ) (old new : Parts) (done : List Entry) (base : ℕ)
         (rules : Entry → Rules MessageFault) (found : List Entry → K) (r : Result K MessageError)
-        → Walk payload old done → GivesField old None new → IsSoFar rules (λ fields k. k ≡ found fields) done r
+        → Walk payload old done → GivesEntry old None new → IsSoFar rules (λ fields k. k ≡ found fields) done r
         → IfErr r (λ error. TellsMessage error (option_or (first (rest_rules base (split payload)))
         (first (each (λ _. rules) [] (split payload).fields)))) }
 {}

@@ -14,7 +14,7 @@ use Rattle.mvt_attrs.specs.declared.value.Value.{Value}
 use Rattle.mvt_wire.specs.declared.field.Field.{Field}
 use Rattle.mvt_wire.specs.declared.fault.WireFault.{WireFault}
 use Rattle.mvt_wire.specs.Field.{Entry, content_of}
-use Rattle.mvt_wire.specs.Fields.{GivesField, bytes_size}
+use Rattle.mvt_wire.specs.Fields.{GivesEntry, bytes_size}
 use Rattle.mvt_wire.specs.Split.{Parts, split}
 use Rattle.mvt_feature.specs.declared.cause.Cause.TheVariants.{NoVersion, NoName}
 use Rattle.mvt_feature.specs.declared.feature.Feature.{Feature}
@@ -187,14 +187,14 @@ features_few split_count payload to_come base keys values done features walk so_
     omega arith
 
 -- the walk over a payload that is known to split into fields
-pub walk_body_fits : (payload : List ℕ) (old new : Parts) (done : List Entry) (field : Field) (base : ℕ) → Walk payload old done → GivesField old (Some (Ok field)) new → base + length payload < 2 ^ 64 → base + (field.body + bytes_size (content_of field.payload)) < 2 ^ 64
+pub walk_body_fits : (payload : List ℕ) (old new : Parts) (done : List Entry) (field : Field) (base : ℕ) → Walk payload old done → GivesEntry old (Some (Ok field)) new → base + length payload < 2 ^ 64 → base + (field.body + bytes_size (content_of field.payload)) < 2 ^ 64
 walk_body_fits payload old new done field base walk step small =
     let inside : field.body + bytes_size (content_of field.payload) ≤ old.rest_at = step.1.1 in
     let place = walk.place in
     let bound = walk.bound in
     omega arith
 
-pub walk_whole : (payload : List ℕ) (old new : Parts) (done : List Entry) (fault : WireFault) → Walk payload old done → GivesField old (Some (Err fault)) new → (split payload).rest ≡ [] → ⊥
+pub walk_whole : (payload : List ℕ) (old new : Parts) (done : List Entry) (fault : WireFault) → Walk payload old done → GivesEntry old (Some (Err fault)) new → (split payload).rest ≡ [] → ⊥
 walk_whole payload old new done fault walk step whole = step.1 (walk.rest ∙ whole)
 
 -- the exits of `read_version`

@@ -10,7 +10,7 @@ use Rattle.mvt_base.proofs.ListLemmas.{length-related}
 use Rattle.mvt_wire.specs.Field.{Entry, Content, bytes, entry_of, content_of}
 use Rattle.mvt_wire.specs.declared.field.Payload.{Payload}
 use Rattle.mvt_wire.specs.declared.field.Payload.TheVariants.{Varint, I64, I32}
-use Rattle.mvt_wire.specs.Fields.{GivesField, EndsBy, bytes_size}
+use Rattle.mvt_wire.specs.Fields.{GivesEntry, EndsBy, bytes_size}
 use Rattle.mvt_wire.specs.Fronts.{rest_cause}
 use Rattle.mvt_wire.specs.Split.{Parts, split, split_from}
 use Rattle.mvt_wire.specs.declared.fault.WireFault.{WireFault}
@@ -116,7 +116,7 @@ so_far_start offset b items to_come all = record {
   few = omega arith;
 }
 
-pub so_far_step : (offset : ℕ) (b : List ℕ) (old now after : List Item) (before to_come : Parts) (field : Field) → JudgedSoFar offset b old now before → GivesField before (Some (Ok field)) to_come
+pub so_far_step : (offset : ℕ) (b : List ℕ) (old now after : List Item) (before to_come : Parts) (field : Field) → JudgedSoFar offset b old now before → GivesEntry before (Some (Ok field)) to_come
     → ((front : List Entry) → AreItems front now → AreItems (front ++ shifted offset (entry_of field) ∷ []) after) → length after ≤ length now + 1
     → JudgedSoFar offset b old after to_come
 so_far_step offset b old now after before to_come field so_far step taken few = record {
@@ -132,7 +132,7 @@ so_far_step offset b old now after before to_come field so_far step taken few = 
 }
 
 -- a field to come stands within the bytes
-pub so_far_place : SplitLaws → (offset : ℕ) (b : List ℕ) (old now : List Item) (before to_come : Parts) (field : Field) → JudgedSoFar offset b old now before → GivesField before (Some (Ok field)) to_come
+pub so_far_place : SplitLaws → (offset : ℕ) (b : List ℕ) (old now : List Item) (before to_come : Parts) (field : Field) → JudgedSoFar offset b old now before → GivesEntry before (Some (Ok field)) to_come
     → (field.at ≤ length b) × (field.body + bytes_size (entry_of field).content ≤ length b)
 so_far_place laws offset b old now before to_come field so_far step =
     let within = place_within laws b in
@@ -156,7 +156,7 @@ each_behind : (front xs ys : List Entry) → first (each field_rules front (xs +
 each_behind front xs ys = ap first (each-append field_rules front xs ys) ∙ first-append (each field_rules front xs) (each field_rules (front ++ xs) ys)
 
 -- the field that is at fault
-pub so_far_fails : ItemLaws → SplitLaws → (offset : ℕ) (b : List ℕ) (old now : List Item) (before to_come : Parts) (field : Field) (e : DecodeError) → JudgedSoFar offset b old now before → GivesField before (Some (Ok field)) to_come
+pub so_far_fails : ItemLaws → SplitLaws → (offset : ℕ) (b : List ℕ) (old now : List Item) (before to_come : Parts) (field : Field) (e : DecodeError) → JudgedSoFar offset b old now before → GivesEntry before (Some (Ok field)) to_come
     → ((front : List Entry) → AreItems front now → Tells e (first (field_rules front (shifted offset (entry_of field)))))
     → TellsBehind e offset b old
 so_far_fails laws splits offset b old now before to_come field e so_far step told front are =
@@ -198,7 +198,7 @@ judged_all splits offset b old now before used so_far none is unfinished =
     }
 
 -- no byte is left
-pub so_far_ends : SplitLaws → (offset : ℕ) (b : List ℕ) (old now : List Item) (before to_come : Parts) → JudgedSoFar offset b old now before → GivesField before None to_come → IsJudged offset b old now (length b)
+pub so_far_ends : SplitLaws → (offset : ℕ) (b : List ℕ) (old now : List Item) (before to_come : Parts) → JudgedSoFar offset b old now before → GivesEntry before None to_come → IsJudged offset b old now (length b)
 so_far_ends splits offset b old now before to_come so_far step =
     let empty : (split b).rest ≡ [] = sym so_far.rest ∙ step.1 in
     let place = splits.place 0 b in
@@ -216,14 +216,14 @@ shut_cause at wire.FieldNumber ne = refl
 shut_cause at wire.WireType ne = refl
 
 -- the rest is unfinished, or at fault
-pub so_far_rest : ItemLaws → SplitLaws → (offset : ℕ) (b : List ℕ) (old now : List Item) (before to_come : Parts) (fault : WireFault) (r : Result ℕ DecodeError) → JudgedSoFar offset b old now before → GivesField before (Some (Err fault)) to_come
+pub so_far_rest : ItemLaws → SplitLaws → (offset : ℕ) (b : List ℕ) (old now : List Item) (before to_come : Parts) (fault : WireFault) (r : Result ℕ DecodeError) → JudgedSoFar offset b old now before → GivesEntry before (Some (Err fault)) to_come
     → IfOk r (λ n. (n ≡ fault.at) × (fault.cause ≡ wire.Truncated))
     → IfOk r (IsJudged offset b old now)
 so_far_rest laws splits offset b old now before to_come fault (Err e) so_far step h = tt
 so_far_rest laws splits offset b old now before to_come fault (Ok n) so_far step h =
     judged_all splits offset b old now before n so_far step.0 (h.0 ∙ step.2 ∙ so_far.place) (ap rest_cause (sym so_far.rest) ∙ sym step.3 ∙ h.1)
 
-pub so_far_broken : ItemLaws → SplitLaws → (offset : ℕ) (b : List ℕ) (old now : List Item) (before to_come : Parts) (fault : WireFault) (r : Result ℕ DecodeError) → JudgedSoFar offset b old now before → GivesField before (Some (Err fault)) to_come
+pub so_far_broken : ItemLaws → SplitLaws → (offset : ℕ) (b : List ℕ) (old now : List Item) (before to_come : Parts) (fault : WireFault) (r : Result ℕ DecodeError) → JudgedSoFar offset b old now before → GivesEntry before (Some (Err fault)) to_come
     → IfErr r (λ e. (fault.cause ≢ wire.Truncated) × (e ≡ Fault (outer_fault (offset + fault.at) (of_wire fault.cause))))
     → IfErr r (λ e. TellsBehind e offset b old)
 so_far_broken laws splits offset b old now before to_come fault (Ok n) so_far step h = tt

@@ -6,7 +6,7 @@ use Rattle.std.proofs.lemmas.Grind.{flat_map-append}
 use Rattle.mvt_wire.specs.declared.fault.WireFault.{WireFault}
 use Rattle.mvt_wire.specs.declared.field.Field.{Field}
 use Rattle.mvt_wire.specs.Field.{Entry, entry_of}
-use Rattle.mvt_wire.specs.Fields.{GivesField}
+use Rattle.mvt_wire.specs.Fields.{GivesEntry}
 use Rattle.mvt_wire.specs.Fronts.{rest_cause}
 use Rattle.mvt_wire.specs.Split.{Parts, split}
 use Rattle.mvt_tile.specs.declared.fault.Fault.{Fault}
@@ -30,7 +30,7 @@ listed_start limit input front to_come lines is all none = record {
   told_so_far = none;
 }
 
-pub listed_step : (limit : ℕ) (input : List ℕ) (old new : Parts) (lines after : List ℕ) (field : Field) → Listed limit input old lines → GivesField old (Some (Ok field)) new → after ≡ lines ++ field_line (entry_of field) → Listed limit input new after
+pub listed_step : (limit : ℕ) (input : List ℕ) (old new : Parts) (lines after : List ℕ) (field : Field) → Listed limit input old lines → GivesEntry old (Some (Ok field)) new → after ≡ lines ++ field_line (entry_of field) → Listed limit input new after
 listed_step limit input old new lines after field so_far step is = record {
   done = so_far.done ++ entry_of field ∷ [];
   fields = so_far.fields ∙ ap (λ (p : Parts). so_far.done ++ p.fields) step.0 ∙ sym (append_assoc so_far.done (entry_of field ∷ []) new.fields);
@@ -53,7 +53,7 @@ unfolding fields_fault
 the_fault limit input old lines longer so_far is =
     ap (λ l. rest_fault limit l old.rest_at old.rest) is ∙ ap₂ (rest_fault limit (nat_lt limit (length input))) so_far.place so_far.rest
 
-pub listed_fault : (limit : ℕ) (input : List ℕ) (old new : Parts) (lines : List ℕ) (longer : Bool) (fault : WireFault) (f : Fault) → Listed limit input old lines → GivesField old (Some (Err fault)) new → longer ≡ nat_lt limit (length input) → f ≡ told longer fault.at fault.cause → (lines ≡ fields_lines limit input) × (Some f ≡ fields_fault limit input)
+pub listed_fault : (limit : ℕ) (input : List ℕ) (old new : Parts) (lines : List ℕ) (longer : Bool) (fault : WireFault) (f : Fault) → Listed limit input old lines → GivesEntry old (Some (Err fault)) new → longer ≡ nat_lt limit (length input) → f ≡ told longer fault.at fault.cause → (lines ≡ fields_lines limit input) × (Some f ≡ fields_fault limit input)
 listed_fault limit input old new lines longer fault f so_far step is f_is =
     (all_told limit input old lines so_far step.0, ap Some (f_is ∙ ap₂ (told longer) step.2 step.3) ∙ sym (fault_of_rest limit longer old.rest_at old.rest step.1) ∙ the_fault limit input old lines longer so_far is)
 
@@ -61,6 +61,6 @@ behind_limit : (limit : ℕ) (longer : Bool) (at : ℕ) → then_some longer (ou
 behind_limit limit true at = refl
 behind_limit limit false at = refl
 
-pub listed_end : (limit : ℕ) (input : List ℕ) (old new : Parts) (lines : List ℕ) (longer : Bool) (o : Option Fault) → Listed limit input old lines → GivesField old None new → longer ≡ nat_lt limit (length input) → o ≡ then_some longer (outer_fault limit TooLarge) → (lines ≡ fields_lines limit input) × (o ≡ fields_fault limit input)
+pub listed_end : (limit : ℕ) (input : List ℕ) (old new : Parts) (lines : List ℕ) (longer : Bool) (o : Option Fault) → Listed limit input old lines → GivesEntry old None new → longer ≡ nat_lt limit (length input) → o ≡ then_some longer (outer_fault limit TooLarge) → (lines ≡ fields_lines limit input) × (o ≡ fields_fault limit input)
 listed_end limit input old new lines longer o so_far step is o_is =
     (all_told limit input old lines so_far step.0, o_is ∙ behind_limit limit longer old.rest_at ∙ ap (rest_fault limit longer old.rest_at) (sym step.1) ∙ the_fault limit input old lines longer so_far is)

@@ -1,5 +1,5 @@
 -- What `next_field`, a step of `Fields` and `field_span` give.
-use Rattle.std.proofs.Common.{◌≡◌, ◌≢◌, ℕ, suc, ◌+◌, ◌-◌, ◌<◌, ◌≤◌, List, [], ◌∷◌, ◌++◌, length, take, drop, None, Some, Ok, Err, refl, sym, ap, subst, ◌∙◌, arith, append_assoc}
+use Rattle.std.proofs.Common.{◌≡◌, ◌≢◌, ℕ, Bor, suc, ◌+◌, ◌-◌, ◌<◌, ◌≤◌, List, [], ◌∷◌, ◌++◌, length, take, drop, None, Some, Ok, Err, refl, sym, ap, subst, ◌∙◌, arith, append_assoc}
 use Rattle.std.specs.Prelude.{slice_range}
 use Rattle.std.proofs.lemmas.List.{length-append, length-drop, length-take-le, take-append-drop, take_rest, drop-drop, drop_all}
 use Rattle.std.proofs.Math.Seq.{take-append_seam, drop-append_seam}
@@ -9,7 +9,7 @@ use Rattle.mvt_wire.specs.declared.fault.WireFault.{WireFault}
 use Rattle.mvt_wire.specs.declared.field.Field.{Field}
 use Rattle.mvt_wire.specs.Varint.{SpellsNone}
 use Rattle.mvt_wire.specs.Field.{Content, varint, fixed64, bytes, fixed32, IsPayload, StartsNoField, Entry, body_size, IsFieldAt, IsSliceAt, entry_of}
-use Rattle.mvt_wire.specs.Fields.{bytes_size, EndsBy, GivesField}
+use Rattle.mvt_wire.specs.Fields.{Ahead, bytes_size, EndsBy, GivesEntry}
 use Rattle.mvt_wire.specs.Fronts.{entry_at, rest_cause}
 use Rattle.mvt_wire.specs.Rest.{no_tag}
 use Rattle.mvt_wire.specs.Split.{Parts, behind, no_fields, split_from}
@@ -84,6 +84,9 @@ next_none source at c within other is =
 abbrev pub to_come : List ℕ → ℕ → Parts
 to_come source at = split_from at (drop at source)
 
+abbrev pub ahead : Bor (List ℕ) → ℕ → Ahead
+ahead source at = record { source = source; to_come = to_come source.now at }
+
 pub end_step : (source : List ℕ) (at : ℕ) → at ≡ length source → to_come source at ≡ no_fields at []
 end_step source at is = ap (split_from at) (drop_all at source (omega arith)) ∙ split_none at [] nil_none
 
@@ -113,15 +116,15 @@ field_step source at after e step =
     let least : bytes_size e.content ≤ body_size f.field.payload e.content = bytes_size-le f.field.payload e.content in
     (whole, (omega arith, omega arith))
 
-pub gives_none : (source : List ℕ) (at : ℕ) → at ≡ length source → GivesField (to_come source at) None (to_come source at)
+pub gives_none : (source : List ℕ) (at : ℕ) → at ≡ length source → GivesEntry (to_come source at) None (to_come source at)
 gives_none source at is = let end = end_step source at is in (ap (λ p. p.fields) end, ap (λ p. p.rest) end, refl)
 
 pub gives_field : (source : List ℕ) (at after : ℕ) (f : Field) → (at < after) × (after ≤ length source) × IsFieldAt at (slice_range source at after) (entry_of f)
-    → GivesField (to_come source at) (Some (Ok f)) (to_come source after)
+    → GivesEntry (to_come source at) (Some (Ok f)) (to_come source after)
 gives_field source at after f step = field_step source at after (entry_of f) step
 
 pub gives_fault : (source : List ℕ) (at : ℕ) (fault : WireFault) → (at < length source) × StartsNoField (drop at source) × (fault.at ≡ at) × (fault.cause ≡ rest_cause (drop at source))
-    → GivesField (to_come source at) (Some (Err fault)) (to_come source (length source))
+    → GivesEntry (to_come source at) (Some (Err fault)) (to_come source (length source))
 gives_fault source at fault why =
     let old = fault_step source at why.1 in
     let new = end_step source (length source) refl in (
@@ -144,7 +147,7 @@ some_less : (rest : List ℕ) (m n k : ℕ) → rest ≢ [] → m ≡ 0 → n �
 some_less [] m n k some fields left = absurd (some refl)
 some_less (x ∷ xs) m n k some fields left = omega arith
 
-pub less_after_fault : (old new : Parts) (fault : WireFault) → GivesField old (Some (Err fault)) new → length new.fields + length new.rest < length old.fields + length old.rest
+pub less_after_fault : (old new : Parts) (fault : WireFault) → GivesEntry old (Some (Err fault)) new → length new.fields + length new.rest < length old.fields + length old.rest
 less_after_fault old new fault g = some_less old.rest _ _ _ g.1 (ap length g.4) (ap length g.5)
 
 -- ---- `field_span`

@@ -15,7 +15,8 @@ use std::marker::Model;
 /// }
 /// ```
 ///
-/// Contracts see the split that is still to come: the fields, then the rest and its place.
+/// Contracts see the slice, and the split that is still to come: the fields, then the rest and its
+/// place.
 #[derive(Debug, Drop)]
 pub struct Fields<'a> {
     source: &'a [u8],
@@ -24,11 +25,12 @@ pub struct Fields<'a> {
 
 impl<'a> Model for Fields<'a> {
     ghost use Rattle.std.specs.Prelude.{◌≤◌, length, drop};
-    ghost use Rattle.mvt_wire.specs.Split.{Parts, split_from};
+    ghost use Rattle.mvt_wire.specs.Fields.{Ahead};
+    ghost use Rattle.mvt_wire.specs.Split.{split_from};
 
-    ghost Value = { Parts };
+    ghost Value = { Ahead };
 
-    ghost view = { λ s. split_from s.at (drop s.at s.source.now) };
+    ghost view = { λ s. record { source = s.source; to_come = split_from s.at (drop s.at s.source.now) } };
 
     ghost invariant = { λ s. s.at ≤ length s.source.now };
 }
@@ -37,8 +39,9 @@ impl<'a> Fields<'a> {
     /// The fields from the front on.
     #[inline(always)]
     pub fn new(source: &'a [u8]) -> Self
-        ensures fields { result ≡ split source.now }
-        ensures place { result.rest_at + length result.rest ≡ length source.now }
+        ensures source { result.source ≡ source.entry }
+        ensures fields { result.to_come ≡ split source.now }
+        ensures place { result.to_come.rest_at + length result.to_come.rest ≡ length source.now }
     {
         Fields { source, at: 0 }
     }

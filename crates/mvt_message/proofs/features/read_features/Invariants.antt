@@ -6,4 +6,4 @@ use Rattle.mvt_message.proofs.features.read_features.Given as goal
 
 abbrev pub invariant-loop-field : goal.invariant-loop-field
 invariant-loop-field l =
-    (done : List Entry) × Walk l.payload l.field-iterator done × AreFeaturesSoFar l.base l.fn.keys l.values done l.features.items × (l.keys ≡ l.fn.keys)
+    (done : List Entry) × Walk l.payload l.field-iterator.to_come done × AreFeaturesSoFar l.base l.fn.keys l.values done l.features.items × (l.keys ≡ l.fn.keys)

@@ -7,4 +7,4 @@ use Rattle.mvt_message.proofs.head.read_head.Given as goal
 
 abbrev pub invariant-loop-field : goal.invariant-loop-field
 invariant-loop-field l =
-    (done : List Entry) × Walk l.payload l.field-iterator done × HeadSoFar l.base done (option_copied l.head.name) l.head.extent l.fn.keys.items l.keys.items
+    (done : List Entry) × Walk l.payload l.field-iterator.to_come done × HeadSoFar l.base done (option_copied l.head.name) l.head.extent l.fn.keys.items l.keys.items

@@ -5,4 +5,4 @@ use Rattle.mvt_message.specs.Inner.{AreValuesSoFar}
 use Rattle.mvt_message.proofs.pool.read_values.Given as goal
 
 abbrev pub invariant-loop-field : goal.invariant-loop-field
-invariant-loop-field l = (done : List Entry) × Walk l.payload l.field-iterator done × AreValuesSoFar l.base done l.values.items
+invariant-loop-field l = (done : List Entry) × Walk l.payload l.field-iterator.to_come done × AreValuesSoFar l.base done l.values.items

@@ -3,4 +3,4 @@ use Rattle.mvt_view.proofs.WalkLemmas.{Listed}
 use Rattle.mvt_view.proofs.fields.fields_within.Given as goal
 
 abbrev pub invariant-loop-field : goal.invariant-loop-field
-invariant-loop-field l = Listed l.limit l.input l.field-iterator (string_bytes l.lines)
+invariant-loop-field l = Listed l.limit l.input l.field-iterator.to_come (string_bytes l.lines)
