@@ -7,3 +7,4 @@ pub mod ResolvedLemmas
 pub mod PlaceLemmas
 pub mod PlacingLemmas
 pub mod OrderedLemmas
+pub mod JudgingLemmas

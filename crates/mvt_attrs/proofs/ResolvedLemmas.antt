@@ -190,8 +190,5 @@ module _ (keys : List (List ℕ)) (values : List Value) (tags rest : List ℕ) (
   all_clean : first (each (rules_of_pair keys values) [] (pairs_of tags)) ≡ None
   all_clean = subst (λ ps. first (each (rules_of_pair keys values) [] ps) ≡ None) all_done read.clean
 
-  pub read_resolved : Resolved keys values tags attributes
-  read_resolved = resolved_from keys values tags attributes even (subst (λ ps. AreRelated (NamesOne keys values) ps attributes) all_done read.entries) all_clean
-
   pub read_faultless : tag_fault keys values tags ≡ None
   read_faultless = tag_fault-even keys values tags even ∙ all_clean

@@ -2,6 +2,7 @@
 //! and values that a layer holds, and the tags that name entries of these pools.
 #![tactic(auto)]
 
+mod judging;
 mod key_pool;
 pub mod laws;
 mod layer_keys;
@@ -11,6 +12,7 @@ mod resolving;
 mod value;
 mod value_pool;
 
+pub use judging::judge_tags;
 pub use key_pool::KeyPool;
 pub use layer_keys::LayerKeys;
 pub use placing::{append_tags, tags_of};

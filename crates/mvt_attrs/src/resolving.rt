@@ -1,10 +1,10 @@
 //! Tags resolved to the attributes that they name.
-ghost use Rattle.std.specs.Prelude.{◌≡◌, ◌+◌, ◌≤◌, length, slice_get, option_copied, IfOk, IfErr, OnOk};
+ghost use Rattle.std.specs.Prelude.{◌≡◌, length, None, IfOk, IfErr, OnOk};
 ghost use Rattle.mvt_attrs.specs.Tags.{Resolved};
 ghost use Rattle.mvt_attrs.specs.TagRules.{tag_fault, Tells};
-ghost use Rattle.mvt_attrs.specs.Inner.Marking.{IsGrouped, AreBelow};
 
-use crate::layer_keys::{LayerKeys, make_ready, mark, next_turn};
+use crate::judging::judge_tags;
+use crate::layer_keys::LayerKeys;
 use crate::value::{Attribute, Value};
 use mvt_base::Text;
 use std::alloc::{AllocError, AllocFailed, Global};
@@ -107,7 +107,8 @@ pub fn resolve(
     resolve_in(alloc, &mut LayerKeys::new(alloc, keys), values, tags)
 }
 
-/// The same with the keys of a layer, which stay: its cost grows with the number of tags alone.
+/// The same with the keys of a layer, which stay: its cost grows with the number of tags alone. All tags
+/// are judged before anything is built.
 ///
 /// # Errors
 /// As `resolve`.
@@ -122,116 +123,28 @@ pub fn resolve_in(
     ensures err { IfErr result (λ error. Tells error (tag_fault keys.old values.now tags.now)) }
     ensures same { keys.new ≡ keys.old }
 {
-    let texts = keys.texts;
-    if tags.len() <= 2 {
-        return resolve_pair(alloc, texts, values, tags);
-    }
-    make_ready(
-        alloc,
-        texts,
-        keys.is_grouped,
-        &mut keys.places,
-        &mut keys.marks,
-        keys.turn,
-    )?;
-    keys.is_grouped = true;
-    let turn = next_turn(&mut keys.marks, keys.turn);
-    keys.turn = turn;
-    resolve_marked(
-        alloc,
-        texts,
-        &keys.places,
-        &mut keys.marks,
-        turn,
-        values,
-        tags,
-    )
+    judge_tags(alloc, keys, values.len(), tags)?;
+    Ok(attributes_of(alloc, keys.texts, values, tags)?)
 }
 
-/// The same where there is one pair at most, which repeats no key.
-fn resolve_pair(
+/// The attributes that tags name which keep all rules.
+fn attributes_of(
     alloc: Global,
     texts: &[Text],
     values: &[Value],
     tags: &[u32],
-) -> Result<Vec<Attribute>, TagError>
-    requires { length tags.now ≤ 2 }
-    ensures attributes { IfOk result (λ found. Resolved texts.now values.now tags.now found.items) }
-    ensures ok { OnOk result (tag_fault texts.now values.now tags.now ≡ None) }
-    ensures err { IfErr result (λ error. Tells error (tag_fault texts.now values.now tags.now)) }
+) -> Result<Vec<Attribute>, AllocError>
+    requires { tag_fault texts.now values.now tags.now ≡ None }
+    ensures { IfOk result (λ found. Resolved texts.now values.now tags.now found.items) }
 {
-    let mut attributes = Vec::new(alloc);
-    match tags {
-        [] => Ok(attributes),
-        [_] => Err(fault(tags.len(), TagCause::OddTags)),
-        [key, value, ..] => {
-            let Some(text) = entry_at(texts, *key) else {
-                return Err(fault(0, TagCause::KeyIndex));
-            };
-            let Some(value) = entry_at(values, *value) else {
-                return Err(fault(1, TagCause::ValueIndex));
-            };
-            attributes.push(Attribute {
-                key: text.copy(alloc)?,
-                value: value.copy(alloc)?,
-            })?;
-            Ok(attributes)
-        }
-    }
-}
-
-/// The same, over keys in their groups and marks below this turn.
-fn resolve_marked(
-    alloc: Global,
-    texts: &[Text],
-    places: &[usize],
-    marks: &mut [u32],
-    turn: u32,
-    values: &[Value],
-    tags: &[u32],
-) -> Result<Vec<Attribute>, TagError>
-    requires grouped { IsGrouped texts.now places.now }
-    requires room { length marks.old ≡ length texts.now }
-    requires fresh { AreBelow marks.old turn }
-    ensures attributes { IfOk result (λ found. Resolved texts.now values.now tags.now found.items) }
-    ensures ok { OnOk result (tag_fault texts.now values.now tags.now ≡ None) }
-    ensures err { IfErr result (λ error. Tells error (tag_fault texts.now values.now tags.now)) }
-    ensures below { AreBelow marks.new (turn + 1) }
-{
-    if tags.len() % 2 == 1 {
-        return Err(fault(tags.len(), TagCause::OddTags));
-    }
-    let most = (tags.len() / 2).min(texts.len());
-    let mut attributes = Vec::with_capacity(alloc, most)?;
+    let mut attributes = Vec::with_capacity(alloc, tags.len() / 2)?;
     let mut rest = tags;
     while let [key, value, others @ ..] = rest {
-        let index = tags.len() - rest.len();
-        let Some(text) = entry_at(texts, *key) else {
-            return Err(fault(index, TagCause::KeyIndex));
-        };
-        let Some(value) = entry_at(values, *value) else {
-            return Err(fault(index + 1, TagCause::ValueIndex));
-        };
-        if !mark(places, marks, turn, *key as usize) {
-            return Err(fault(index, TagCause::RepeatedKey));
-        }
         attributes.push(Attribute {
-            key: text.copy(alloc)?,
-            value: value.copy(alloc)?,
+            key: texts[*key as usize].copy(alloc)?,
+            value: values[*value as usize].copy(alloc)?,
         })?;
         rest = others;
     }
     Ok(attributes)
-}
-
-fn fault(index: usize, cause: TagCause) -> TagError
-    ensures { result ≡ TagError.Fault index cause }
-{
-    TagError::Fault { index, cause }
-}
-
-fn entry_at<T>(entries: &[T], index: u32) -> Option<&T>
-    ensures { option_copied result ≡ slice_get entries.now index }
-{
-    entries.get(index as usize)
 }

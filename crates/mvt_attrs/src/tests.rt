@@ -2,6 +2,7 @@
 use super::*;
 use mvt_base::Text;
 use std::alloc::{AllocError, Global};
+use std::process::Abort;
 use std::test::Fail;
 
 // A text that isn't kept in place, so that it wants memory.
@@ -12,11 +13,15 @@ fn attribute(alloc: Global, key: &str, value: Value) -> Result<Attribute, AllocE
     Ok(Attribute { key, value })
 }
 
-// The fault of tags over the keys `k`, `m` and the value 5.
-fn fault_of(alloc: Global, tags: &[u32]) -> Result<Option<TagError>, AllocError> {
+// The fault of tags over the keys `k`, `m` and the value 5; where they are only judged, it is the same.
+fn fault_of(rt: &(impl Abort + AllocGlobal), tags: &[u32]) -> Result<Option<TagError>, AllocError> {
+    let alloc = rt.alloc();
     let keys = [Text::from_str(alloc, "k")?, Text::from_str(alloc, "m")?];
     let values = [Value::Uint(5)];
-    Ok(resolve(alloc, &keys, &values, tags).err())
+    let judged = judge_tags(alloc, &mut LayerKeys::new(alloc, &keys), 1, tags).err();
+    let found = resolve(alloc, &keys, &values, tags).err();
+    assert!(rt; judged == found);
+    Ok(found)
 }
 
 fn fault(index: usize, cause: TagCause) -> Option<TagError> {
@@ -26,14 +31,14 @@ fn fault(index: usize, cause: TagCause) -> Option<TagError> {
 #[test]
 fn resolves_tags(rt: HostRuntime) -> Result<(), Fail> {
     let alloc = rt.alloc();
-    assert_eq!(rt; fault_of(alloc, &[0, 0, 0])?, fault(3, TagCause::OddTags));
-    assert_eq!(rt; fault_of(alloc, &[2, 0])?, fault(0, TagCause::KeyIndex));
-    assert_eq!(rt; fault_of(alloc, &[0, 1])?, fault(1, TagCause::ValueIndex));
+    assert_eq!(rt; fault_of(&rt, &[0, 0, 0])?, fault(3, TagCause::OddTags));
+    assert_eq!(rt; fault_of(&rt, &[2, 0])?, fault(0, TagCause::KeyIndex));
+    assert_eq!(rt; fault_of(&rt, &[0, 1])?, fault(1, TagCause::ValueIndex));
     assert_eq!(rt;
-        fault_of(alloc, &[0, 0, 1, 0, 0, 0])?,
+        fault_of(&rt, &[0, 0, 1, 0, 0, 0])?,
         fault(4, TagCause::RepeatedKey)
     );
-    assert_eq!(rt; fault_of(alloc, &[0, 0, 1, 0])?, None);
+    assert_eq!(rt; fault_of(&rt, &[0, 0, 1, 0])?, None);
 
     let repeated = [Text::from_str(alloc, "k")?, Text::from_str(alloc, "k")?];
     let values = [Value::Uint(5)];

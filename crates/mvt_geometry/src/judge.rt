@@ -1,5 +1,5 @@
 //! Whether integers draw a geometry: one pass over them, without memory.
-ghost use Rattle.std.specs.Prelude.{◌≡◌, ◌≢◌, ◌+◌, ◌*◌, ◌/◌, ◌%◌, ◌-◌, ◌<◌, ◌≤◌, ◌^◌, ℕ, suc, Bool, true, ℤ, pos, List, [], ◌∷◌, ◌++◌, length, drop, slice_index, ◌==◌, ◌&&◌, IfOk, IfErr, OnOk, IsTrue, ◌↔◌, IfSome, IfNone, ◌+ℤ◌};
+ghost use Rattle.std.specs.Prelude.{◌≡◌, ◌≢◌, ◌+◌, ◌*◌, ◌/◌, ◌%◌, ◌-◌, ◌<◌, ◌≤◌, ◌^◌, ℕ, suc, Bool, true, ℤ, pos, List, [], ◌∷◌, ◌++◌, length, drop, slice_index, ◌==◌, ◌&&◌, IfOk, IfErr, OnOk, OnErr, IsTrue, ◌↔◌, IfSome, IfNone, ◌+ℤ◌};
 ghost use Rattle.std.specs.Int.RustNames.{unsigned_abs};
 ghost use Rattle.mvt_base.specs.Rules.{first, rows, each};
 ghost use Rattle.mvt_geometry.specs.declared.shape.Geometry.{Geometry};
@@ -10,12 +10,13 @@ ghost use Rattle.mvt_geometry.specs.Drawing.{Draws};
 ghost use Rattle.mvt_geometry.specs.Valid.{IsStroke};
 ghost use Rattle.mvt_geometry.specs.Commands.{Pair, pair_count, pairs_of, due, may_not_end, unzig, stepped, moved, positions};
 ghost use Rattle.mvt_geometry.specs.Table.{step_rules, pair_rules, header_rows, geometry_fault};
+ghost use Rattle.mvt_geometry.specs.Tells.{Tells};
 ghost use Rattle.mvt_geometry.specs.Inner.Judging.{IsHeader, Reached, edges, last_of, part_count};
 ghost use Rattle.mvt_geometry.specs.Inner.Strokes.{stroke};
 
 use crate::area::cross;
 use crate::command::Command;
-use crate::fault::{Fault, GeometryCause};
+use crate::fault::{Fault, GeometryCause, GeometryError};
 use crate::shape::{Kind, Point};
 use mvt_wire::unzigzag32;
 
@@ -29,6 +30,20 @@ pub(crate) const ORIGIN: Point = Point { x: 0, y: 0 };
 struct Pen {
     at: usize,
     cursor: Point,
+}
+
+/// Whether integers draw a geometry of this type, without memory.
+///
+/// # Errors
+///
+/// The first broken rule.
+pub fn judge_geometry(kind: Kind, integers: &[u32]) -> Result<(), GeometryError>
+    ensures ok { OnOk result (geometry_fault kind integers.now ≡ None) }
+    ensures err { IfErr result (λ e. Tells e (geometry_fault kind integers.now)) }
+    ensures fault { OnErr result (geometry_fault kind integers.now ≢ None) }
+{
+    judge(kind, integers)?;
+    Ok(())
 }
 
 /// How many lines or polygons the integers draw, or the first broken rule.

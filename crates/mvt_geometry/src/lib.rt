@@ -1,7 +1,8 @@
 //! Geometries and the integers that draw them (Mapbox Vector Tile Specification 2.1, section 4.3).
 //!
 //! [`read_geometry`] judges all integers in one pass before it builds anything, so that want of
-//! memory is answered only for integers that draw a geometry; [`put_geometry`] gives them back.
+//! memory is answered only for integers that draw a geometry; [`judge_geometry`] builds nothing, and
+//! [`put_geometry`] gives the integers back.
 #![tactic(auto)]
 
 mod area;
@@ -16,6 +17,7 @@ mod valid;
 
 pub use area::twice_area;
 pub use fault::{GeometryCause, GeometryError};
+pub use judge::judge_geometry;
 pub use put::{append_geometry, put_geometry};
 pub use read::read_geometry;
 pub use shape::{Geometry, Kind, Point, Polygon, kind_of};

@@ -1,8 +1,7 @@
-use Rattle.std.proofs.Common.{◌≡◌, ◌+◌, ◌∙◌, ◌++◌, ◌∷◌, [], sym, append-nil, append_assoc, take, slice_get, Some, ap, bytes_eq, refl, inl, inr, length, Contains, subst, arith}
+use Rattle.std.proofs.Common.{◌≡◌, ◌+◌, ◌∙◌, ◌++◌, ◌∷◌, [], sym, append-nil, append_assoc, slice_get, Some, ap, bytes_eq, refl, inl, inr, length, Contains, subst, arith}
 use Rattle.std.proofs.lemmas.Result.{err_from_is_err_and}
 use Rattle.mvt_base.specs.declared.TheConstants.{LIMIT}
 use Rattle.mvt_attrs.specs.Placed.{ArePlaced}
-use Rattle.mvt_attrs.specs.Pools.{key_pool, value_pool}
 use Rattle.mvt_attrs.specs.declared.value.Attribute.{Attribute}
 use Rattle.mvt_attrs.specs.Values.{equal_values}
 use Rattle.std.proofs.lemmas.Slice.Eq.{bytes_eq-Decides}

@@ -1,0 +1,112 @@
+//! Whether tags name attributes: one pass over them, which builds nothing.
+ghost use Rattle.std.specs.Prelude.{◌≡◌, ◌+◌, ◌≤◌, List, length, None, IfErr, OnOk};
+ghost use Rattle.mvt_attrs.specs.declared.value.Value.{Value};
+ghost use Rattle.mvt_attrs.specs.TagRules.{tag_fault, Tells};
+ghost use Rattle.mvt_attrs.specs.Inner.Marking.{IsGrouped, AreBelow};
+
+use crate::layer_keys::{LayerKeys, make_ready, mark, next_turn};
+use crate::resolving::{TagCause, TagError};
+use mvt_base::Text;
+use std::alloc::Global;
+
+/// Whether a feature's tags name attributes, in a layer with these keys and so many values (4.4).
+///
+/// The cost grows with the number of tags alone, but for the first feature of two pairs or more, which
+/// has the keys put in groups.
+///
+/// # Errors
+///
+/// The first broken rule, with its index into the tags; want of memory for the groups.
+pub fn judge_tags(
+    alloc: Global,
+    keys: &mut LayerKeys<'_>,
+    values: usize,
+    tags: &[u32],
+) -> Result<(), TagError>
+    ensures ok { OnOk result ((held : List Value) → length held ≡ values → tag_fault keys.old held tags.now ≡ None) }
+    ensures err { IfErr result (λ error. (held : List Value) → length held ≡ values
+        → Tells error (tag_fault keys.old held tags.now)) }
+    ensures same { keys.new ≡ keys.old }
+{
+    let texts = keys.texts;
+    if tags.len() <= 2 {
+        return judge_pair(texts, values, tags);
+    }
+    make_ready(
+        alloc,
+        texts,
+        keys.is_grouped,
+        &mut keys.places,
+        &mut keys.marks,
+        keys.turn,
+    )?;
+    keys.is_grouped = true;
+    let turn = next_turn(&mut keys.marks, keys.turn);
+    keys.turn = turn;
+    judge_marked(texts, &keys.places, &mut keys.marks, turn, values, tags)
+}
+
+/// The same where there is one pair at most, which repeats no key.
+fn judge_pair(texts: &[Text], values: usize, tags: &[u32]) -> Result<(), TagError>
+    requires { length tags.now ≤ 2 }
+    ensures ok { OnOk result ((held : List Value) → length held ≡ values → tag_fault texts.now held tags.now ≡ None) }
+    ensures err { IfErr result (λ error. (held : List Value) → length held ≡ values
+        → Tells error (tag_fault texts.now held tags.now)) }
+{
+    match tags {
+        [] => Ok(()),
+        [_] => Err(fault(tags.len(), TagCause::OddTags)),
+        [key, value, ..] => {
+            if *key as usize >= texts.len() {
+                return Err(fault(0, TagCause::KeyIndex));
+            }
+            if *value as usize >= values {
+                return Err(fault(1, TagCause::ValueIndex));
+            }
+            Ok(())
+        }
+    }
+}
+
+/// The same, over keys in their groups and marks below this turn.
+fn judge_marked(
+    texts: &[Text],
+    places: &[usize],
+    marks: &mut [u32],
+    turn: u32,
+    values: usize,
+    tags: &[u32],
+) -> Result<(), TagError>
+    requires grouped { IsGrouped texts.now places.now }
+    requires room { length marks.old ≡ length texts.now }
+    requires fresh { AreBelow marks.old turn }
+    ensures ok { OnOk result ((held : List Value) → length held ≡ values → tag_fault texts.now held tags.now ≡ None) }
+    ensures err { IfErr result (λ error. (held : List Value) → length held ≡ values
+        → Tells error (tag_fault texts.now held tags.now)) }
+    ensures below { AreBelow marks.new (turn + 1) }
+{
+    if tags.len() % 2 == 1 {
+        return Err(fault(tags.len(), TagCause::OddTags));
+    }
+    let mut rest = tags;
+    while let [key, value, others @ ..] = rest {
+        let index = tags.len() - rest.len();
+        if *key as usize >= texts.len() {
+            return Err(fault(index, TagCause::KeyIndex));
+        }
+        if *value as usize >= values {
+            return Err(fault(index + 1, TagCause::ValueIndex));
+        }
+        if !mark(places, marks, turn, *key as usize) {
+            return Err(fault(index, TagCause::RepeatedKey));
+        }
+        rest = others;
+    }
+    Ok(())
+}
+
+fn fault(index: usize, cause: TagCause) -> TagError
+    ensures { result ≡ TagError.Fault index cause }
+{
+    TagError::Fault { index, cause }
+}
