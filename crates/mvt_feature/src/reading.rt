@@ -1,5 +1,6 @@
 //! Reading features (Mapbox Vector Tile Specification 2.1, 4.1, message Feature).
-ghost use Rattle.std.specs.Prelude.{◌≡◌, ◌+◌, ◌^◌, ◌<◌, length, None, IfOk, IfErr, OnOk};
+ghost use Rattle.std.specs.Prelude.{◌≡◌, ◌+◌, ◌^◌, ◌<◌, List, length, None, IfOk, IfErr, OnOk};
+ghost use Rattle.mvt_attrs.specs.declared.value.Value.{Value};
 ghost use Rattle.mvt_feature.specs.Faults.{TellsMessage};
 ghost use Rattle.mvt_feature.specs.Features.{IsFeatureOf};
 ghost use Rattle.mvt_feature.specs.FeatureRules.{feature_fault};
@@ -8,9 +9,9 @@ use crate::feature::Feature;
 use crate::known::read_known;
 use crate::message_error::MessageError;
 use crate::room::Room;
-use mvt_attrs::{LayerKeys, Value, resolve_in};
+use mvt_attrs::{LayerKeys, Value, judge_tags, resolve_in};
 use mvt_base::{Items, Text};
-use mvt_geometry::read_geometry;
+use mvt_geometry::{judge_geometry, read_geometry};
 use mvt_wire::laws::{packed_function, split_function};
 use std::alloc::Global;
 
@@ -70,4 +71,31 @@ pub fn read_feature_in(
         attributes: Items::new(attributes),
         geometry,
     })
+}
+
+/// Whether a payload is a feature, in a layer with these keys and so many values: nothing is built, and
+/// the tags and the integers stand in the room.
+///
+/// # Errors
+///
+/// As `read_feature`.
+pub fn judge_feature(
+    alloc: Global,
+    payload: &[u8],
+    base: u64,
+    keys: &mut LayerKeys<'_>,
+    values: usize,
+    room: &mut Room,
+) -> Result<(), MessageError>
+    requires { base + length payload.now < 2 ^ 64 }
+    ensures ok { OnOk result ((held : List Value) → length held ≡ values
+        → feature_fault payload.now base keys.old held ≡ None) }
+    ensures err { IfErr result (λ error. (held : List Value) → length held ≡ values
+        → TellsMessage error (feature_fault payload.now base keys.old held)) }
+    ensures same { keys.new ≡ keys.old }
+{
+    let known = read_known(payload, base, room)?;
+    judge_tags(alloc, keys, values, &room.tags)?;
+    judge_geometry(known.kind, &room.integers)?;
+    Ok(())
 }

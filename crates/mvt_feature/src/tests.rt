@@ -17,8 +17,24 @@ fn refused_for(alloc: Global, payload: &[u8]) -> Result<Option<(u64, u32)>, Allo
     let values = [Value::Uint(5)];
     match read_feature(alloc, payload, 9, &keys, &values) {
         Ok(_) => Ok(None),
-        Err(MessageError::Memory) => Err(AllocError),
-        Err(MessageError::Fault { at, cause, .. }) => Ok(Some((at, cause.number()))),
+        Err(error) => Ok(Some(place_of(error)?)),
+    }
+}
+
+// The same where it is only judged.
+fn judged_for(alloc: Global, payload: &[u8]) -> Result<Option<(u64, u32)>, AllocError> {
+    let keys = [Text::from_str(alloc, "k")?];
+    let mut keys = LayerKeys::new(alloc, &keys);
+    match judge_feature(alloc, payload, 9, &mut keys, 1, &mut Room::new(alloc)) {
+        Ok(()) => Ok(None),
+        Err(error) => Ok(Some(place_of(error)?)),
+    }
+}
+
+fn place_of(error: MessageError) -> Result<(u64, u32), AllocError> {
+    match error {
+        MessageError::Memory => Err(AllocError),
+        MessageError::Fault { at, cause, .. } => Ok((at, cause.number())),
     }
 }
 
@@ -64,12 +80,16 @@ fn reads_values(rt: HostRuntime) {
         cause: Cause::ValueKind,
     };
     assert!(rt; value_of(alloc, &[]) == Err(of_no_kind));
+    assert_eq!(rt; judge_value(&[], 16, 14), Err(of_no_kind));
+    assert_eq!(rt; judge_value(&float, 16, 14), Ok(()));
     let of_two_kinds = MessageError::Fault {
         feature: None,
         at: 7,
         cause: Cause::ValueKind,
     };
-    assert!(rt; read_value(alloc, &[0x20, 0x05, 0x28, 0x05], 9, 7) == Err(of_two_kinds));
+    let two_kinds = [0x20, 0x05, 0x28, 0x05];
+    assert!(rt; read_value(alloc, &two_kinds, 9, 7) == Err(of_two_kinds));
+    assert_eq!(rt; judge_value(&two_kinds, 9, 7), Err(of_two_kinds));
 }
 
 #[test]
@@ -127,6 +147,7 @@ fn refuses_features(rt: HostRuntime) -> Result<(), Fail> {
     ];
     for (payload, at, number) in rows {
         assert_eq!(rt; refused_for(alloc, payload)?, Some((at, number)));
+        assert_eq!(rt; judged_for(alloc, payload)?, Some((at, number)));
     }
     Ok(())
 }
@@ -172,6 +193,10 @@ fn refused_reads(rt: HostRuntime) {
     }
     let payload = [0x08, 0x07, 0x18, 0x01, 0x22, 0x03, 0x09, 0x32, 0x22];
     for _turn in 0..2 {
+        if let Err(error) = judged_for(rt.alloc(), &payload) {
+            assert_eq!(rt; error, AllocError);
+            refused = refused.saturating_add(1);
+        }
         match read_feature(rt.alloc(), &payload, 0, &[], &[]) {
             Ok(feature) => assert_eq!(rt; feature.id, Some(7)),
             Err(error) => {

@@ -34,10 +34,34 @@ pub fn read_value(alloc: Global, payload: &[u8], base: u64, own: u64) -> Result<
     ensures ok { OnOk result (value_fault payload.now base own ≡ None) }
     ensures err { IfErr result (λ error. TellsMessage error (value_fault payload.now base own)) }
 {
+    Ok(read_meaning(payload, base, own)?.into_value(alloc)?)
+}
+
+/// Whether a payload is a value, without memory.
+///
+/// # Errors
+///
+/// As `read_value`, but never want of memory.
+pub fn judge_value(payload: &[u8], base: u64, own: u64) -> Result<(), MessageError>
+    requires { base + length payload.now < 2 ^ 64 }
+    ensures ok { OnOk result (value_fault payload.now base own ≡ None) }
+    ensures err { IfErr result (λ error. TellsMessage error (value_fault payload.now base own)) }
+{
+    read_meaning(payload, base, own)?;
+    Ok(())
+}
+
+/// What the last field of the only kind says.
+fn read_meaning(payload: &[u8], base: u64, own: u64) -> Result<Meaning<'_>, MessageError>
+    requires { base + length payload.now < 2 ^ 64 }
+    ensures value { IfOk result (λ meaning. IsValueOf payload.now (value_of meaning)) }
+    ensures ok { OnOk result (value_fault payload.now base own ≡ None) }
+    ensures err { IfErr result (λ error. TellsMessage error (value_fault payload.now base own)) }
+{
     // What the proof needs to know of splits; it does nothing.
     split_function();
     match read_kinds(payload, base)? {
-        Kinds::One { meaning, .. } => Ok(meaning.into_value(alloc)?),
+        Kinds::One { meaning, .. } => Ok(meaning),
         Kinds::Nothing => Err(fault_at(own, Cause::ValueKind)),
         Kinds::Several => Err(fault_at(own, Cause::ValueKind)),
     }
