@@ -7,3 +7,4 @@ pub mod ValidLemmas
 pub mod CanonicalLemmas
 pub mod PutLemmas
 pub mod LenLemmas
+pub mod HeldLemmas

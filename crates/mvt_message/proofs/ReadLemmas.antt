@@ -1,7 +1,7 @@
 -- The steps of the walks over a layer's fields.
 use Rattle.std.proofs.Common.{◌≡◌, ◌≢◌, ℕ, ◌+◌, ◌^◌, ◌<◌, ◌≤◌, ◌==◌, Bool, true, false, List, [], ◌∷◌, ◌++◌, length, map, Option, Some, None, Ok, Err, refl, sym, ap, ap₂, ◌∙◌, subst, append_assoc, append-nil, arith, if◌then◌else◌, length-append}
 use Rattle.std.specs.Prelude.{is_none, unwrap_or}
-use Rattle.std.specs.Option.{option_map}
+use Rattle.std.specs.Option.{option_map, option_to_list}
 use Rattle.std.proofs.lemmas.Bool.{eq-eqb, ne_eqb}
 use Rattle.std.proofs.lemmas.List.{map-append}
 use Rattle.std.proofs.lemmas.List.Elements.{filter-append}
@@ -29,8 +29,8 @@ use Rattle.mvt_feature.specs.ValueRules.{value_fault}
 use Rattle.mvt_feature.specs.Walks.{Walk}
 use Rattle.mvt_message.specs.declared.item.Layer.{Layer as ALayer}
 use Rattle.mvt_message.specs.declared.item.Item.TheVariants.{Layer, Foreign}
-use Rattle.mvt_message.specs.LayerFields.{bytes_of, version_in, name_in, extent_in, keys_in, values_in}
-use Rattle.mvt_message.specs.ItemRules.{uint32_rules, version_rules, version_form_rules, layer_form_rules, layer_field_rules, value_rules_of, feature_rules_of, item_fault}
+use Rattle.mvt_message.specs.LayerFields.{bytes_of, version_in, is_two, name_in, extent_in, keys_in, values_in}
+use Rattle.mvt_message.specs.ItemRules.{uint32_rules, version_rules, version_form_rules, layer_form_rules, layer_field_rules, value_rules_of, feature_rules_of, item_fault, payload_names}
 use Rattle.mvt_message.specs.Items.{HoldsValue, HoldsFeature, IsLayer, IsItem}
 use Rattle.mvt_message.specs.Inner.{versions_fault, forms_fault, no_name_fault, values_fault, features_fault, head_fault, layer_fault, IsVersionSoFar, name_after, extent_after, keys_at, AreValuesSoFar, AreFeaturesSoFar}
 use Rattle.mvt_message.proofs.ChainLemmas.{item_chain, layer_chain, tells_or, or_tells}
@@ -178,10 +178,9 @@ only_few k (x ∷ xs) = by_test (x.number == k) (only_few k xs)
 abbrev pub SplitCount : Type 0
 SplitCount = (b : List ℕ) → length (split b).fields + length (split b).rest ≤ length b
 
-pub features_few : SplitCount → (payload : List ℕ) (to_come : Parts) (base : ℕ) (keys : List (List ℕ)) (values : List Value) (done : List Entry) (features : List Feature) → Walk payload to_come done → AreFeaturesSoFar base keys values done features → length payload < 2 ^ 32 → length features < 2 ^ 32
-features_few split_count payload to_come base keys values done features walk so_far small =
-    let same : length (only 2 done) ≡ length features = length-related (HoldsFeature keys values) (only 2 done) features so_far.1 in
-    let few = only_few 2 done in
+pub selected_few : SplitCount → (payload : List ℕ) (to_come : Parts) (done : List Entry) (k : ℕ) → Walk payload to_come done → length payload < 2 ^ 32 → length (only k done) < 2 ^ 32
+selected_few split_count payload to_come done k walk small =
+    let few = only_few k done in
     let all : length (split payload).fields ≡ length done + length to_come.fields = ap length walk.fields ∙ length-append done to_come.fields in
     let count = split_count payload in
     omega arith
@@ -274,3 +273,14 @@ pub other_item : NoneRest → SplitIs → (payload : List ℕ) (base own n : ℕ
 other_item none_rest split_is payload base own n content head version other is =
     let parts = head_clean none_rest payload base own head in
     item_from split_is payload (Foreign n content) parts.0 parts.1 (version, other, is)
+
+-- the names of a payload
+pub names_of_layer : (payload name : List ℕ) → version_in (split payload).fields ≡ Some 2 → Some name ≡ name_in (split payload).fields → payload_names payload ≡ name ∷ []
+unfolding payload_names
+names_of_layer payload name version is =
+    ap (λ o. if is_two o then option_to_list (name_in (split payload).fields) else []) version ∙ ap option_to_list (sym is)
+
+pub names_of_other : (payload : List ℕ) (n : ℕ) → version_in (split payload).fields ≡ Some n → n ≢ 2 → payload_names payload ≡ []
+unfolding payload_names
+names_of_other payload n version other =
+    ap (λ o. if is_two o then option_to_list (name_in (split payload).fields) else []) version ∙ ap (λ b. if b then option_to_list (name_in (split payload).fields) else []) (ne_eqb n 2 other)

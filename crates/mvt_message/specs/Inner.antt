@@ -1,5 +1,6 @@
 -- Definitions between private functions, which no public contract cites.
-use Rattle.std.specs.Prelude.{◌≡◌, ℕ, ◌==◌, List, [], ◌∷◌, ◌++◌, Option, Some, None, Result, is_none, unwrap_or, ⊤, if◌then◌else◌}
+use Rattle.std.specs.Prelude.{◌≡◌, ℕ, ◌==◌, Bool, List, [], ◌∷◌, ◌++◌, length, Option, Some, None, Result, is_none, unwrap_or, ⊤, if◌then◌else◌}
+use Rattle.std.specs.Bool.{OnTrue}
 use Rattle.std.specs.Option.{option_or}
 use Rattle.mvt_base.specs.Related.{AreRelated}
 use Rattle.mvt_base.specs.Rules.{when, rows, each, first}
@@ -19,6 +20,7 @@ use Rattle.mvt_feature.specs.Faults.{MessageFault, fault_at, rest_rules}
 use Rattle.mvt_feature.specs.Features.{number_of}
 use Rattle.mvt_feature.specs.Walks.{IsSoFar}
 use Rattle.mvt_feature.specs.Selection.{only, last_only}
+use Rattle.mvt_message.specs.declared.item.Layer.{Layer as ALayer}
 use Rattle.mvt_message.specs.ItemRules.{version_rules, layer_field_rules, value_rules_of, feature_rules_of, layer_table}
 use Rattle.mvt_message.specs.Items.{HoldsValue, HoldsFeature}
 use Rattle.mvt_message.specs.LayerFields.{bytes_of, version_in}
@@ -74,6 +76,24 @@ AreValuesSoFar base done values = (values_fault base done ≡ None) × AreRelate
 abbrev pub AreFeaturesSoFar : ℕ → List (List ℕ) → List Value → List Entry → List Feature → Type 0
 AreFeaturesSoFar base keys values done features =
     (features_fault base keys values done ≡ None) × AreRelated (HoldsFeature keys values) (only 2 done) features
+
+-- things that are counted, and kept where that is wanted
+abbrev pub AreHeld : {A : Type 0} → Bool → List A → ℕ → List A → Type 0
+AreHeld keep things count kept = (count ≡ length things) × OnTrue keep (kept ≡ things)
+
+abbrev pub AreValuesHeld : Bool → ℕ → List Entry → ℕ → List Value → Type 0
+AreValuesHeld keep base done count kept =
+    (values : List Value) × AreValuesSoFar base done values × AreHeld keep values count kept
+
+abbrev pub AreFeaturesHeld : Bool → ℕ → List (List ℕ) → List Value → List Entry → ℕ → List Feature → Type 0
+AreFeaturesHeld keep base keys values done count kept =
+    (features : List Feature) × AreFeaturesSoFar base keys values done features × AreHeld keep features count kept
+
+-- what was read of a layer: its name, and the rest where it is kept
+pub record AreParts (keep : Bool) (layer : ALayer) (name : List ℕ) (extent : ℕ) (features : List Feature) : Type 0 where
+  pub name_is : name ≡ layer.name
+  pub extent_is : extent ≡ layer.extent
+  pub features_are : OnTrue keep (features ≡ layer.features)
 
 -- an error that isn't want of memory
 abbrev pub IsFault : MessageError → Type 0

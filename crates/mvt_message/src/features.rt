@@ -1,47 +1,66 @@
 //! The features of a layer (Mapbox Vector Tile Specification 2.1, 4.1).
-ghost use Rattle.std.specs.Prelude.{◌≡◌, ◌+◌, ◌^◌, ◌<◌, List, [], ◌∷◌, ◌++◌, length, Option, None, IfOk, IfErr, OnOk, vec_len};
+ghost use Rattle.std.specs.Prelude.{◌≡◌, ◌+◌, ◌^◌, ◌<◌, List, [], ◌∷◌, ◌++◌, length, Option, None, IfOk, IfErr, OnOk};
+ghost use Rattle.std.specs.Bool.{OnTrue};
 ghost use Rattle.std.specs.Option.{option_map};
 ghost use Rattle.mvt_base.specs.Related.{AreRelated};
+ghost use Rattle.mvt_attrs.specs.declared.value.Value.{Value};
 ghost use Rattle.mvt_wire.specs.Field.{Entry, entry_of, content_of};
 ghost use Rattle.mvt_wire.specs.Fields.{bytes_size};
 ghost use Rattle.mvt_wire.specs.Split.{split};
 ghost use Rattle.mvt_feature.specs.Faults.{MessageFault, TellsMessage, in_feature as the_in_feature};
 ghost use Rattle.mvt_feature.specs.Selection.{only};
 ghost use Rattle.mvt_message.specs.Items.{HoldsFeature};
-ghost use Rattle.mvt_message.specs.Inner.{features_fault, AreFeaturesSoFar};
+ghost use Rattle.mvt_message.specs.Inner.{features_fault, AreHeld, AreFeaturesHeld};
 
 use crate::payload::bytes_of;
-use mvt_attrs::{LayerKeys, Value};
+use crate::pool::LayerValues;
+use mvt_attrs::LayerKeys;
 use mvt_base::Text;
-use mvt_feature::laws::walks;
-use mvt_feature::{Feature, MessageError, Room, read_feature_in};
+use mvt_feature::laws::{feature_or_fault, walks};
+use mvt_feature::{Feature, MessageError, Room, judge_feature, read_feature_in};
 use mvt_wire::laws::split_function;
 use mvt_wire::{Field, Fields};
 use std::alloc::Global;
 
-/// The features of a layer with these keys and values, in order.
+/// The features of a layer, in order: how many, and the features themselves where they are kept.
+#[derive(Drop)]
+struct LayerFeatures {
+    count: usize,
+    kept: Vec<Feature>,
+}
+
+/// The features of a layer with these keys and values, which are built where they are to be kept, and
+/// only judged otherwise.
 pub(crate) fn read_features(
     alloc: Global,
     payload: &[u8],
     base: u64,
     keys: &[Text],
-    values: &[Value],
+    values: &LayerValues,
+    keeps: bool,
 ) -> Result<Vec<Feature>, MessageError>
     requires small { length payload.now < 2 ^ 32 }
     requires fits { base + length payload.now < 2 ^ 64 }
     requires whole { (split payload.now).rest ≡ [] }
-    ensures ok { OnOk result (features_fault base keys.now values.now (split payload.now).fields ≡ None) }
-    ensures features { IfOk result (λ features.
-        AreRelated (HoldsFeature keys.now values.now) (only 2 (split payload.now).fields) features.items) }
-    ensures err { IfErr result (λ error.
-        TellsMessage error (features_fault base keys.now values.now (split payload.now).fields)) }
+    requires held { (held : List Value) × AreHeld keeps held values.now.count values.now.kept.items }
+    ensures ok { (held : List Value) → AreHeld keeps held values.now.count values.now.kept.items
+        → OnOk result (features_fault base keys.now held (split payload.now).fields ≡ None) }
+    ensures features { (held : List Value) → AreHeld keeps held values.now.count values.now.kept.items
+        → IfOk result (λ found. (features : List Feature)
+        × AreRelated (HoldsFeature keys.now held) (only 2 (split payload.now).fields) features
+        × OnTrue keeps (found.items ≡ features)) }
+    ensures err { (held : List Value) → AreHeld keeps held values.now.count values.now.kept.items
+        → IfErr result (λ error. TellsMessage error (features_fault base keys.now held (split payload.now).fields)) }
 {
     // What the proof needs to know of splits and of walks; they do nothing.
     split_function();
     walks();
     let mut keys = LayerKeys::new(alloc, keys);
     let mut room = Room::new(alloc);
-    let mut features = Vec::new(alloc);
+    let mut features = LayerFeatures {
+        count: 0,
+        kept: Vec::new(alloc),
+    };
     for field in Fields::new(payload) {
         match field {
             Ok(field) => append_feature(
@@ -51,12 +70,13 @@ pub(crate) fn read_features(
                 &mut keys,
                 values,
                 &mut room,
+                keeps,
                 &mut features,
             )?,
             Err(_) => unreachable!(),
         }
     }
-    Ok(features)
+    Ok(features.kept)
 }
 
 /// Appends the feature of a field that holds one.
@@ -65,29 +85,41 @@ fn append_feature(
     field: &Field<'_>,
     base: u64,
     keys: &mut LayerKeys<'_>,
-    values: &[Value],
+    values: &LayerValues,
     room: &mut Room,
-    features: &mut Vec<Feature>,
+    keeps: bool,
+    features: &mut LayerFeatures,
 ) -> Result<(), MessageError>
-    requires few { vec_len features.old < 2 ^ 32 }
+    requires few { features.old.count < 2 ^ 32 }
     requires body { base + (field.now.body + bytes_size (content_of field.now.payload)) < 2 ^ 64 }
-    ensures ok { (done : List Entry) → AreFeaturesSoFar base keys.old values.now done features.old.items
-        → OnOk result (AreFeaturesSoFar base keys.old values.now (done ++ entry_of field.now ∷ []) features.new.items) }
-    ensures err { (done more : List Entry) → AreFeaturesSoFar base keys.old values.now done features.old.items
+    ensures ok { (held : List Value) (done : List Entry) → AreHeld keeps held values.now.count values.now.kept.items
+        → AreFeaturesHeld keeps base keys.old held done features.old.count features.old.kept.items
+        → OnOk result (AreFeaturesHeld keeps base keys.old held (done ++ entry_of field.now ∷ []) features.new.count features.new.kept.items) }
+    ensures err { (held : List Value) (done more : List Entry) → AreHeld keeps held values.now.count values.now.kept.items
+        → AreFeaturesHeld keeps base keys.old held done features.old.count features.old.kept.items
         → IfErr result (λ error. TellsMessage error
-        (features_fault base keys.old values.now ((done ++ entry_of field.now ∷ []) ++ more))) }
+        (features_fault base keys.old held ((done ++ entry_of field.now ∷ []) ++ more))) }
     ensures same { keys.new ≡ keys.old }
 {
+    // What the proof needs to know of features; it does nothing.
+    feature_or_fault();
     if field.number != 2 {
         return Ok(());
     }
+    let index = features.count as u32;
+    features.count += 1;
     let payload = bytes_of(&field.payload);
-    match read_feature_in(alloc, payload, base + field.body as u64, keys, values, room) {
-        Ok(feature) => {
-            features.push(feature)?;
-            Ok(())
+    let body = base + field.body as u64;
+    if keeps {
+        match read_feature_in(alloc, payload, body, keys, &values.kept, room) {
+            Ok(feature) => features.kept.push(feature)?,
+            Err(error) => return Err(in_feature(error, index)),
         }
-        Err(error) => Err(in_feature(error, features.len() as u32)),
+        return Ok(());
+    }
+    match judge_feature(alloc, payload, body, keys, values.count, room) {
+        Ok(()) => Ok(()),
+        Err(error) => Err(in_feature(error, index)),
     }
 }
 

@@ -7,33 +7,49 @@ ghost use Rattle.mvt_wire.specs.Split.{split};
 ghost use Rattle.mvt_feature.specs.Faults.{TellsMessage};
 ghost use Rattle.mvt_feature.specs.Selection.{only};
 ghost use Rattle.mvt_message.specs.Items.{HoldsValue};
-ghost use Rattle.mvt_message.specs.Inner.{values_fault, AreValuesSoFar};
+ghost use Rattle.mvt_message.specs.Inner.{values_fault, AreHeld, AreValuesHeld};
 
 use crate::payload::bytes_of;
 use mvt_attrs::Value;
-use mvt_feature::laws::walks;
-use mvt_feature::{MessageError, read_value};
+use mvt_feature::laws::{value_or_fault, walks};
+use mvt_feature::{MessageError, judge_value, read_value};
+use mvt_wire::laws::split_function;
 use mvt_wire::{Field, Fields};
 use std::alloc::Global;
 
-/// The values of a layer, in order.
+/// The values of a layer, in order: how many, and the values themselves where they are kept.
+#[derive(Drop)]
+pub(crate) struct LayerValues {
+    pub(crate) count: usize,
+    pub(crate) kept: Vec<Value>,
+}
+
+/// The values of a layer, which are built where they are to be kept, and only judged otherwise.
 pub(crate) fn read_values(
     alloc: Global,
     payload: &[u8],
     base: u64,
-) -> Result<Vec<Value>, MessageError>
+    keeps: bool,
+) -> Result<LayerValues, MessageError>
+    requires small { length payload.now < 2 ^ 32 }
     requires fits { base + length payload.now < 2 ^ 64 }
     requires whole { (split payload.now).rest ≡ [] }
     ensures ok { OnOk result (values_fault base (split payload.now).fields ≡ None) }
-    ensures values { IfOk result (λ values. AreRelated HoldsValue (only 4 (split payload.now).fields) values.items) }
+    ensures values { IfOk result (λ found. (values : List Value)
+        × AreRelated HoldsValue (only 4 (split payload.now).fields) values
+        × AreHeld keeps values found.count found.kept.items) }
     ensures err { IfErr result (λ error. TellsMessage error (values_fault base (split payload.now).fields)) }
 {
-    // What the proof needs to know of walks; it does nothing.
+    // What the proof needs to know of splits and of walks; they do nothing.
+    split_function();
     walks();
-    let mut values = Vec::new(alloc);
+    let mut values = LayerValues {
+        count: 0,
+        kept: Vec::new(alloc),
+    };
     for field in Fields::new(payload) {
         match field {
-            Ok(field) => append_value(alloc, &field, base, &mut values)?,
+            Ok(field) => append_value(alloc, &field, base, keeps, &mut values)?,
             Err(_) => unreachable!(),
         }
     }
@@ -45,24 +61,29 @@ fn append_value(
     alloc: Global,
     field: &Field<'_>,
     base: u64,
-    values: &mut Vec<Value>,
+    keeps: bool,
+    values: &mut LayerValues,
 ) -> Result<(), MessageError>
+    requires few { values.old.count < 2 ^ 32 }
     requires at { base + field.now.at < 2 ^ 64 }
     requires body { base + (field.now.body + bytes_size (content_of field.now.payload)) < 2 ^ 64 }
-    ensures ok { (done : List Entry) → AreValuesSoFar base done values.old.items
-        → OnOk result (AreValuesSoFar base (done ++ entry_of field.now ∷ []) values.new.items) }
-    ensures err { (done more : List Entry) → AreValuesSoFar base done values.old.items
+    ensures ok { (done : List Entry) → AreValuesHeld keeps base done values.old.count values.old.kept.items
+        → OnOk result (AreValuesHeld keeps base (done ++ entry_of field.now ∷ []) values.new.count values.new.kept.items) }
+    ensures err { (done more : List Entry) → AreValuesHeld keeps base done values.old.count values.old.kept.items
         → IfErr result (λ error. TellsMessage error (values_fault base ((done ++ entry_of field.now ∷ []) ++ more))) }
 {
+    // What the proof needs to know of values; it does nothing.
+    value_or_fault();
     if field.number != 4 {
         return Ok(());
     }
-    let value = read_value(
-        alloc,
-        bytes_of(&field.payload),
-        base + field.body as u64,
-        base + field.at as u64,
-    )?;
-    values.push(value)?;
-    Ok(())
+    values.count += 1;
+    let payload = bytes_of(&field.payload);
+    let body = base + field.body as u64;
+    let own = base + field.at as u64;
+    if keeps {
+        values.kept.push(read_value(alloc, payload, body, own)?)?;
+        return Ok(());
+    }
+    judge_value(payload, body, own)
 }

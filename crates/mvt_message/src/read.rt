@@ -1,11 +1,14 @@
 //! Reading an item (Mapbox Vector Tile Specification 2.1, 4.1).
 ghost use Rattle.std.specs.Prelude.{◌≡◌, ◌+◌, ◌^◌, ◌<◌, ◌≤◌, [], length, Some, None, IfOk, IfErr, OnOk};
+ghost use Rattle.std.specs.Option.{option_copied, option_to_list};
 ghost use Rattle.mvt_wire.specs.Split.{split};
 ghost use Rattle.mvt_feature.specs.Faults.{TellsMessage};
-ghost use Rattle.mvt_message.specs.ItemRules.{item_fault};
+ghost use Rattle.mvt_message.specs.declared.item.Layer.{Layer as ALayer};
+ghost use Rattle.mvt_message.specs.ItemRules.{item_fault, payload_names};
+ghost use Rattle.mvt_message.specs.LayerFields.{name_in};
 ghost use Rattle.mvt_message.specs.Items.{IsItem, IsLayer};
 ghost use Rattle.mvt_message.specs.ValidItems.{ValidItem};
-ghost use Rattle.mvt_message.specs.Inner.{layer_fault};
+ghost use Rattle.mvt_message.specs.Inner.{layer_fault, AreParts};
 
 use crate::features::read_features;
 use crate::head::read_head;
@@ -14,7 +17,7 @@ use crate::pool::read_values;
 use crate::version::read_version;
 use mvt_base::{Items, LIMIT, Text};
 use mvt_feature::laws::{read_is_valid, rests, value_function};
-use mvt_feature::{Cause, MessageError, fault_at};
+use mvt_feature::{Cause, Feature, MessageError, fault_at};
 use mvt_wire::laws::split_function;
 use std::alloc::Global;
 
@@ -45,6 +48,34 @@ pub fn read_item(alloc: Global, payload: &[u8], base: u64, own: u64) -> Result<I
     Ok(Item::Foreign { version, bytes })
 }
 
+/// Whether a payload is an item, and the name of the layer that it is. Nothing is built but the list of
+/// the layer's keys.
+///
+/// # Errors
+///
+/// As `read_item`.
+pub fn judge_item<'a>(
+    alloc: Global,
+    payload: &'a [u8],
+    base: u64,
+    own: u64,
+) -> Result<Option<&'a str>, MessageError>
+    requires small { length payload.now ≤ LIMIT }
+    requires fits { base + length payload.now < 2 ^ 64 }
+    ensures ok { OnOk result (item_fault payload.now base own ≡ None) }
+    ensures names { IfOk result (λ name. option_to_list (option_copied name) ≡ payload_names payload.now) }
+    ensures fault { IfErr result (λ error. TellsMessage error (item_fault payload.now base own)) }
+{
+    // What the proof needs to know of rests; it does nothing.
+    rests();
+    let version = read_version(payload, base, own)?;
+    if version != 2 {
+        return Ok(None);
+    }
+    let parts = read_parts(alloc, payload, base, own, false)?;
+    Ok(Some(parts.name))
+}
+
 /// The layer of a payload that splits into fields and has version 2.
 fn read_layer(alloc: Global, payload: &[u8], base: u64, own: u64) -> Result<Layer, MessageError>
     requires small { length payload.now ≤ LIMIT }
@@ -52,6 +83,39 @@ fn read_layer(alloc: Global, payload: &[u8], base: u64, own: u64) -> Result<Laye
     requires whole { (split payload.now).rest ≡ [] }
     ensures ok { OnOk result (layer_fault base own (split payload.now).fields ≡ None) }
     ensures layer { IfOk result (IsLayer (split payload.now).fields) }
+    ensures fault { IfErr result (λ error. TellsMessage error (layer_fault base own (split payload.now).fields)) }
+{
+    let parts = read_parts(alloc, payload, base, own, true)?;
+    Ok(Layer {
+        name: Text::from_str(alloc, parts.name)?,
+        extent: parts.extent,
+        features: Items::new(parts.features),
+    })
+}
+
+/// What is read of a layer: its features are there where they are kept.
+#[derive(Drop)]
+struct LayerParts<'a> {
+    name: &'a str,
+    extent: u32,
+    features: Vec<Feature>,
+}
+
+/// The parts of such a layer, whose features are kept or only judged.
+fn read_parts<'a>(
+    alloc: Global,
+    payload: &'a [u8],
+    base: u64,
+    own: u64,
+    keeps: bool,
+) -> Result<LayerParts<'a>, MessageError>
+    requires small { length payload.now ≤ LIMIT }
+    requires fits { base + length payload.now < 2 ^ 64 }
+    requires whole { (split payload.now).rest ≡ [] }
+    ensures ok { OnOk result (layer_fault base own (split payload.now).fields ≡ None) }
+    ensures name { IfOk result (λ parts. Some parts.name.now ≡ name_in (split payload.now).fields) }
+    ensures layer { IfOk result (λ parts. (layer : ALayer) × IsLayer (split payload.now).fields layer
+        × AreParts keeps layer parts.name.now parts.extent parts.features.items) }
     ensures fault { IfErr result (λ error. TellsMessage error (layer_fault base own (split payload.now).fields)) }
 {
     // What the proof needs to know of values; it does nothing.
@@ -62,11 +126,11 @@ fn read_layer(alloc: Global, payload: &[u8], base: u64, own: u64) -> Result<Laye
         Some(name) => name,
         None => return Err(fault_at(own, Cause::NoName)),
     };
-    let values = read_values(alloc, payload, base)?;
-    let features = read_features(alloc, payload, base, &keys, &values)?;
-    Ok(Layer {
-        name: Text::from_str(alloc, name)?,
+    let values = read_values(alloc, payload, base, keeps)?;
+    let features = read_features(alloc, payload, base, &keys, &values, keeps)?;
+    Ok(LayerParts {
+        name,
         extent: head.extent,
-        features: Items::new(features),
+        features,
     })
 }

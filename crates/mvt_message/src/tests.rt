@@ -100,8 +100,39 @@ fn refused_for(
     }
     match read_item(alloc, payload, 2, 0) {
         Ok(_) => Ok(None),
-        Err(MessageError::Memory) => Err(AllocError),
-        Err(MessageError::Fault { feature, at, cause }) => Ok(Some((feature, at, cause.number()))),
+        Err(error) => Ok(Some(place_of(error)?)),
+    }
+}
+
+// The same where it is only judged.
+fn judged_for(
+    alloc: Global,
+    payload: &[u8],
+) -> Result<Option<(Option<u32>, u64, u32)>, AllocError> {
+    if payload.len() > 100 {
+        return Ok(None);
+    }
+    match judge_item(alloc, payload, 2, 0) {
+        Ok(_) => Ok(None),
+        Err(error) => Ok(Some(place_of(error)?)),
+    }
+}
+
+fn place_of(error: MessageError) -> Result<(Option<u32>, u64, u32), AllocError> {
+    match error {
+        MessageError::Memory => Err(AllocError),
+        MessageError::Fault { feature, at, cause } => Ok((feature, at, cause.number())),
+    }
+}
+
+// The name that such a payload is judged to have.
+fn judged_name(alloc: Global, payload: &[u8]) -> Result<Option<&str>, Fail> {
+    if payload.len() > 100 {
+        return Err(Fail::new("a long payload"));
+    }
+    match judge_item(alloc, payload, 2, 0) {
+        Ok(name) => Ok(name),
+        Err(_) => Err(Fail::new("no item")),
     }
 }
 
@@ -254,7 +285,25 @@ fn refuses_layers(rt: HostRuntime) -> Result<(), Fail> {
     ];
     for (payload, at, number) in rows {
         assert_eq!(rt; refused_for(alloc, payload)?, Some((None, at, number)));
+        assert_eq!(rt; judged_for(alloc, payload)?, Some((None, at, number)));
     }
+    Ok(())
+}
+
+#[test]
+fn judges_items(rt: HostRuntime) -> Result<(), Fail> {
+    let alloc = rt.alloc();
+    for payload in [
+        ONE_POINT.as_slice(),
+        &TWICE_A_KEY,
+        &ONCE_A_KEY,
+        &PLAIN,
+        &BARE,
+    ] {
+        assert_eq!(rt; judged_name(alloc, payload)?, Some("a"));
+    }
+    assert_eq!(rt; judged_name(alloc, LONG_TEXTS)?, Some("a name of 18 bytes"));
+    assert_eq!(rt; judged_name(alloc, &FOREIGN)?, None);
     Ok(())
 }
 
@@ -367,11 +416,13 @@ fn refuses_features(rt: HostRuntime) -> Result<(), Fail> {
     ];
     for (payload, at, number) in rows {
         assert_eq!(rt; refused_for(alloc, payload)?, Some((Some(0), at, number)));
+        assert_eq!(rt; judged_for(alloc, payload)?, Some((Some(0), at, number)));
     }
     let second = [
         0x78, 0x02, 0x0A, 0x01, 0x61, 0x12, 0x00, 0x12, 0x03, 0x12, 0x01, 0x00,
     ];
     assert_eq!(rt; refused_for(alloc, &second)?, Some((Some(1), 1, 13)));
+    assert_eq!(rt; judged_for(alloc, &second)?, Some((Some(1), 1, 13)));
     Ok(())
 }
 

@@ -1,42 +1,11 @@
-use Rattle.std.proofs.Common.{◌≡◌, ◌++◌, Some, None, refl, ap, sym, ◌∙◌}
-use Rattle.std.specs.Option.{option_copied}
-use Rattle.std.proofs.lemmas.Result.{err_from_is_err_and}
+use Rattle.std.proofs.Common.{◌≡◌, subst, sym, ◌∙◌}
 use Rattle.mvt_wire.specs.Split.{split}
-use Rattle.mvt_message.specs.LayerFields.{name_in, keys_in}
-use Rattle.mvt_message.proofs.ReadLemmas.{forms_told, name_told, values_told, features_told, layer_ok, layer_read}
+use Rattle.mvt_message.specs.Items.{IsLayer}
 use Rattle.mvt_message.proofs.read.read_layer.Goals as goal
-
-pub returns-in_err-head-clause-fault : goal.returns-in_err-head-clause-fault
-returns-in_err-head-clause-fault c =
-    let p = err_from_is_err_and c.from_residual.result c.from_residual.ensures.1 in
-    rw (p.1, p.2) (forms_told c.args.base c.args.own (split c.args.payload.now).fields _ c.in_err-head.ensures.err)
-
-pub returns-in-None-clause-fault : goal.returns-in-None-clause-fault
-returns-in-None-clause-fault c =
-    let none : None ≡ name_in (split c.args.payload.now).fields = ap option_copied (sym c.in-None.is) ∙ c.in_ok-head.ensures.name in
-    rw c.fault_at.ensures (name_told c.args.base c.args.own (split c.args.payload.now).fields c.in_ok-head.ensures.ok none)
-
-pub returns-in_err-values-clause-fault : goal.returns-in_err-values-clause-fault
-returns-in_err-values-clause-fault c =
-    let p = err_from_is_err_and c.from_residual-in_err-values.result c.from_residual-in_err-values.ensures.1 in
-    let name : Some c.in-Some.name.now ≡ name_in (split c.args.payload.now).fields = ap option_copied (sym c.in-Some.is) ∙ c.in_ok-head.ensures.name in
-    rw (p.1, p.2) (values_told c.args.base c.args.own (split c.args.payload.now).fields c.in-Some.name.now _ c.in_ok-head.ensures.ok name c.in_err-values.ensures.err)
-
-pub returns-in_err-features-clause-fault : goal.returns-in_err-features-clause-fault
-returns-in_err-features-clause-fault c =
-    let p = err_from_is_err_and c.from_residual-in_err-features.result c.from_residual-in_err-features.ensures.1 in
-    let name : Some c.in-Some.name.now ≡ name_in (split c.args.payload.now).fields = ap option_copied (sym c.in-Some.is) ∙ c.in_ok-head.ensures.name in
-    let keys : c.deref.result.now ≡ keys_in (split c.args.payload.now).fields = c.deref.ensures.value ∙ c.in_ok-head.ensures.keys ∙ ap (λ held. held ++ keys_in (split c.args.payload.now).fields) c.new-keys.ensures.items in
-    rw (p.1, p.2) (features_told c.value_function.ensures c.args.base c.args.own (split c.args.payload.now).fields c.in-Some.name.now c.deref.result.now c.deref-2.result.now _ c.in_ok-head.ensures.ok name c.in_ok-values.ensures.ok keys (rw (← c.deref-2.ensures.value) at c.in_ok-values.ensures.values) c.in_err-features.ensures.err)
-
-pub returns-clause-ok : goal.returns-clause-ok
-returns-clause-ok c =
-    let name : Some c.in-Some.name.now ≡ name_in (split c.args.payload.now).fields = ap option_copied (sym c.in-Some.is) ∙ c.in_ok-head.ensures.name in
-    let keys : c.deref.result.now ≡ keys_in (split c.args.payload.now).fields = c.deref.ensures.value ∙ c.in_ok-head.ensures.keys ∙ ap (λ held. held ++ keys_in (split c.args.payload.now).fields) c.new-keys.ensures.items in
-    layer_ok c.value_function.ensures c.args.base c.args.own (split c.args.payload.now).fields c.in-Some.name.now c.deref.result.now c.deref-2.result.now c.in_ok-head.ensures.ok name c.in_ok-values.ensures.ok keys (rw (← c.deref-2.ensures.value) at c.in_ok-values.ensures.values) c.in_ok-features.ensures.ok
 
 pub returns-clause-layer : goal.returns-clause-layer
 returns-clause-layer c =
-    let name : Some c.in-Some.name.now ≡ name_in (split c.args.payload.now).fields = ap option_copied (sym c.in-Some.is) ∙ c.in_ok-head.ensures.name in
-    let keys : c.deref.result.now ≡ keys_in (split c.args.payload.now).fields = c.deref.ensures.value ∙ c.in_ok-head.ensures.keys ∙ ap (λ held. held ++ keys_in (split c.args.payload.now).fields) c.new-keys.ensures.items in
-    layer_read c.args.base c.args.own (split c.args.payload.now).fields _ c.in-Some.name.now c.in_ok-head.head.extent c.deref.result.now c.deref-2.result.now c.in_ok-head.ensures.ok name c.in_ok-from_str.ensures.same c.in_ok-head.ensures.extent refl keys (rw (← c.deref-2.ensures.value) at c.in_ok-values.ensures.values) (rw (← c.new.ensures) at c.in_ok-features.ensures.features)
+    let found = c.in_ok-parts.ensures.layer in
+    let name : found.0.name ≡ c.in_ok-from_str.field-0 = sym (c.in_ok-from_str.ensures.same ∙ found.2.name_is) in
+    let features : found.0.features ≡ c.new.result = sym (c.new.ensures ∙ found.2.features_are) in
+    subst (IsLayer (split c.args.payload.now).fields) (λ j. record { name = name j; extent = sym found.2.extent_is j; features = features j }) found.1
