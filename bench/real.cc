@@ -20,6 +20,7 @@
 #include <vector>
 
 extern "C" std::uint64_t mvt_decode(const unsigned char* bytes, std::size_t len, bool keeps);
+extern "C" bool mvt_judge(const unsigned char* bytes, std::size_t len);
 extern "C" std::uint64_t mvt_write(const unsigned char* bytes, std::size_t len, std::uint32_t times);
 
 namespace fs = std::filesystem;
@@ -88,6 +89,7 @@ static std::vector<Row> rows() {
         {"write_tile, none", [](const std::string& t) { return mvt_write(bytes_of(t), t.size(), 0); }},
         {"protoc, serialize", [](const std::string& t) { return serialized(t, writes); }},
         {"protoc, serialize, none", [](const std::string& t) { return serialized(t, 0); }},
+        {"judge", [](const std::string& t) { return std::uint64_t{mvt_judge(bytes_of(t), t.size())}; }},
     };
 }
 
@@ -102,17 +104,18 @@ static void table(const fs::path& folder) {
     }
     const auto seconds = [&](std::size_t i) { return measured[i].seconds; };
     const double writing = (seconds(4) - seconds(5)) / writes, serializing = (seconds(6) - seconds(7)) / writes;
-    std::printf("| %s | %zu, %zu | %.1f | %.0f | %.0f | %.2f | %.0f | %.0f | %.0f | %.0f | %.2f |\n",
-        folder.filename().c_str(), tiles.size(), refused, size / 1e6, size / seconds(0) / 1e6, size / seconds(1) / 1e6,
-        seconds(1) / seconds(0), size / seconds(2) / 1e6, size / seconds(3) / 1e6, size / writing / 1e6,
-        size / serializing / 1e6, serializing / writing);
+    const auto speed = [&](double time) { return size / time / 1e6; };
+    std::printf("| %s | %zu, %zu | %.1f | %.0f | %.0f | %.2f | %.0f | %.0f | %.2f | %.0f | %.0f | %.0f | %.2f |\n",
+        folder.filename().c_str(), tiles.size(), refused, size / 1e6, speed(seconds(0)), speed(seconds(1)),
+        seconds(1) / seconds(0), speed(seconds(8)), speed(seconds(2)), seconds(2) / seconds(8), speed(seconds(3)),
+        speed(writing), speed(serializing), serializing / writing);
     std::fflush(stdout);
 }
 
 int main(int argc, char** argv) {
     if (argc != 2) return 2;
-    std::printf("| Folder | Tiles, refused | MB | `decode`, MB/s | protozero into values | Speed | protozero, judged | protoc, parse | `write_tile` | protoc, serialize | Speed |\n"
-                "|---|---|---|---|---|---|---|---|---|---|---|\n");
+    std::printf("| Folder | Tiles, refused | MB | `decode`, MB/s | protozero into values | Speed | `judge` | protozero, judged | Speed | protoc, parse | `write_tile` | protoc, serialize | Speed |\n"
+                "|---|---|---|---|---|---|---|---|---|---|---|---|---|\n");
     std::vector<fs::path> folders;
     for (const auto& entry : fs::directory_iterator(argv[1])) {
         if (entry.is_directory()) folders.push_back(entry.path());

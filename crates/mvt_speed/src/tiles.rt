@@ -3,7 +3,7 @@
 use mvt_base::LIMIT;
 use mvt_io::{Host, MemorySink};
 use mvt_message::{Item, read_item};
-use mvt_tile::{DecodeError, Tile, TileDecoder, decode, write_tile};
+use mvt_tile::{DecodeError, Tile, TileDecoder, decode, judge, write_tile};
 use std::alloc::Global;
 use std::{io, mem};
 
@@ -34,6 +34,12 @@ fn settle(found: Result<Tile, DecodeError>, keeps: bool) -> u64 {
 #[unsafe(no_mangle)]
 pub extern "C" fn mvt_decode(alloc: Global, bytes: &[u8], keeps: bool) -> u64 {
     settle(decode(alloc, bytes), keeps)
+}
+
+/// Whether a tile has no fault, without building it; also `false` for want of memory.
+#[unsafe(no_mangle)]
+pub extern "C" fn mvt_judge(alloc: Global, bytes: &[u8]) -> bool {
+    judge(alloc, bytes).is_ok()
 }
 
 /// Feeds a tile in pieces, and keeps it.

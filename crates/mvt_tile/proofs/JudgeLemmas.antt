@@ -29,7 +29,7 @@ use Rattle.mvt_tile.specs.declared.fault.DecodeError.TheVariants.{Memory, Fault,
 use Rattle.mvt_tile.specs.declared.fault.Fault.{Fault as AFault}
 use Rattle.mvt_tile.specs.Faults.{outer_fault, in_layer, is_open}
 use Rattle.mvt_tile.specs.Inner.{ItemLaws, SplitLaws}
-use Rattle.mvt_tile.specs.Inner.Judging.{shifted, told_in, payload_fault, repeated_at, fault_behind, IsJudged, TellsBehind}
+use Rattle.mvt_tile.specs.Inner.Judging.{shifted, told_in, payload_fault, repeated_at, fault_behind, IsJudged, IsPlaceOf, TakesItem, TellsBehind}
 use Rattle.mvt_tile.specs.Streams.{Tells}
 use Rattle.mvt_tile.specs.TileRules.{layers_of, is_bytes, field_rules, repeats, rest_rules, rest_rules_at}
 use Rattle.mvt_tile.specs.Tiles.{HoldsItem, AreItems}
@@ -70,9 +70,6 @@ is_added names item added e is_new = not-true (repeats names (names_in item)) (s
 pub field_over : (items : List Item) (offset : ℕ) (x : Entry) → (x.number ≡ 3 → ⊥) → (front : List Entry) → AreItems front items → AreItems (front ++ shifted offset x ∷ []) items
 field_over items offset x other front are = are_over front items (shifted offset x) are (ne_eqb x.number 3 other)
 
-abbrev TakesItem : List Item → List Item → List ℕ → Type 0
-TakesItem old new d = (item : Item) × (new ≡ old ++ item ∷ []) × IsItem d item × (repeats (flat_map names_in old) (names_in item) ≡ false)
-
 pub field_taken : ItemLaws → (r : Result (Unit {0}) DecodeError) (old new : List Item) (offset : ℕ) (x : Entry) (d : List ℕ) → x.number ≡ 3 → x.content ≡ bytes d
     → OnOk r (TakesItem old new d) → OnOk r ((front : List Entry) → AreItems front old → AreItems (front ++ shifted offset x ∷ []) new)
 field_taken laws (Err e) old new offset x d three held h = tt
@@ -83,17 +80,18 @@ pub field_few : (r : Result (Unit {0}) DecodeError) (old new : List Item) (d : L
 field_few (Err e) old new d h = tt
 field_few (Ok u) old new d h = omega (arith, ap length h.1, length-append old (h.0 ∷ []))
 
-pub field_tells : ItemLaws → (r : Result (Unit {0}) DecodeError) (old : List Item) (offset : ℕ) (x : Entry) (d : List ℕ) → x.number ≡ 3 → x.content ≡ bytes d
-    → IfErr r (λ e. Tells e (payload_fault (length old) (flat_map names_in old) d (offset + x.body) (offset + x.at)))
+pub field_tells : ItemLaws → (r : Result (Unit {0}) DecodeError) (old : List Item) (offset : ℕ) (x : Entry) (d : List ℕ) (base own : ℕ) → IsPlaceOf offset x d base own
+    → IfErr r (λ e. Tells e (payload_fault (length old) (flat_map names_in old) d base own))
     → IfErr r (λ e. (front : List Entry) → AreItems front old → Tells e (first (field_rules front (shifted offset x))))
-field_tells laws (Ok u) old offset x d three held h = tt
-field_tells laws (Err e) old offset x d three held h = λ front are.
-    subst (Tells e) (sym (first-behind laws front old (shifted offset x) d are (eq-eqb x.number 3 three) held))
-    (subst (λ n. Tells e (payload_fault n (flat_map names_in old) d (offset + x.body) (offset + x.at))) (sym (length-related HoldsItem (layers_of front) old are.held)) h)
+field_tells laws (Ok u) old offset x d base own place h = tt
+field_tells laws (Err e) old offset x d base own place h = λ front are.
+    let here : Tells e (payload_fault (length old) (flat_map names_in old) d (offset + x.body) (offset + x.at)) = subst (λ b. Tells e (payload_fault (length old) (flat_map names_in old) d b (offset + x.at))) place.base_is (subst (λ o. Tells e (payload_fault (length old) (flat_map names_in old) d base o)) place.own_is h) in
+    subst (Tells e) (sym (first-behind laws front old (shifted offset x) d are (eq-eqb x.number 3 place.three) place.holds))
+    (subst (λ n. Tells e (payload_fault n (flat_map names_in old) d (offset + x.body) (offset + x.at))) (sym (length-related HoldsItem (layers_of front) old are.held)) here)
 
-pub field_wrong : (old : List Item) (offset : ℕ) (x : Entry) (c : Content) → x.number ≡ 3 → x.content ≡ c → is_bytes c ≡ false → (front : List Entry) → AreItems front old
+pub field_wrong : (offset : ℕ) (x : Entry) (c : Content) → x.number ≡ 3 → x.content ≡ c → is_bytes c ≡ false → (front : List Entry)
     → Tells (Fault (outer_fault (offset + x.at) WrongType)) (first (field_rules front (shifted offset x)))
-field_wrong old offset x c three held other front are =
+field_wrong offset x c three held other front =
     (first-wrong front (shifted offset x) (eq-eqb x.number 3 three) (ap is_bytes held ∙ other), refl)
 
 -- of the fields so far
@@ -244,3 +242,8 @@ pub not_bytes : (p : Payload) → ((n : ℕ) × (p ≡ Varint n)) ⊎ (((n : ℕ
 not_bytes p (inl h) = ap (λ x. is_bytes (content_of x)) h.1
 not_bytes p (inr (inl h)) = ap (λ x. is_bytes (content_of x)) h.1
 not_bytes p (inr (inr h)) = ap (λ x. is_bytes (content_of x)) h.1
+
+-- the items that are judged so far are there
+pub judged_there : (offset : ℕ) (b : List ℕ) (old now : List Item) (r : Result ℕ DecodeError) → IfOk r (IsJudged offset b old now) → IfOk r (λ used. (items : List Item) × IsJudged offset b old items used)
+judged_there offset b old now (Ok n) h = (now, h)
+judged_there offset b old now (Err e) h = tt

@@ -7,7 +7,9 @@ pub mod CanonicalLemmas
 pub mod KeptLemmas
 pub mod ShiftLemmas
 pub mod JudgeLemmas
+pub mod NamedLemmas
 pub mod DecoderLemmas
+pub mod WholeLemmas
 pub mod TakingLemmas
 pub mod WritingLemmas
 pub mod RoundTripLemmas

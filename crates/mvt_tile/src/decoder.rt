@@ -8,8 +8,8 @@ ghost use Rattle.mvt_tile.specs.ValidTiles.{Valid};
 
 use crate::below;
 use crate::fault::{DecodeError, Fault};
-use crate::judge::judge;
 use crate::layers::Layers;
+use crate::taking::take_fields;
 use crate::tile::Tile;
 use mvt_base::{Items, LIMIT};
 use mvt_message::Cause;
@@ -209,12 +209,12 @@ fn swallow(
     ensures fault { IfErr result (λ error. TellsBehind error offset (raw.old.items ++ piece.now) layers.old) }
 {
     if raw.is_empty() {
-        let used = judge(alloc, layers, piece, offset)?;
+        let used = take_fields(alloc, layers, piece, offset)?;
         raw.extend_from_slice(&piece[used..])?;
         return Ok(used);
     }
     raw.extend_from_slice(piece)?;
-    let used = judge(alloc, layers, raw.as_slice(), offset)?;
+    let used = take_fields(alloc, layers, raw.as_slice(), offset)?;
     if used > 0 {
         raw.drain(..used);
     }

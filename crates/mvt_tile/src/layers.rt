@@ -83,9 +83,17 @@ fn add_names(alloc: Global, names: &mut BTreeSet<Text>, item: &Item) -> Result<b
 {
     match item {
         Item::Foreign { .. } => Ok(true),
-        Item::Layer(layer) => {
-            let name = layer.name.copy(alloc)?;
-            Ok(names.insert(name)?)
-        }
+        Item::Layer(layer) => add_name(names, layer.name.copy(alloc)?),
     }
+}
+
+/// Adds a name, and answers whether it is new.
+pub(crate) fn add_name(names: &mut BTreeSet<Text>, name: Text) -> Result<bool, AllocError>
+    ensures new { IfOk result (λ new. new ≡ not (repeats names.old.keys (name ∷ []))) }
+    ensures named { IfOk result (λ new. IsTrue new → (n : List ℕ) → list_any (bytes_eq n) names.new.keys
+        ≡ (list_any (bytes_eq n) names.old.keys || list_any (bytes_eq n) (name ∷ []))) }
+    ensures same { IfOk result (λ new. OnFalse new (names.new.keys ≡ names.old.keys)) }
+    ensures err { OnErr result (names.new.keys ≡ names.old.keys) }
+{
+    Ok(names.insert(name)?)
 }

@@ -1,10 +1,10 @@
 -- What the private calls of a decoder promise each other.
-use Rattle.std.specs.Prelude.{◌≡◌, ℕ, ◌+◌, ◌≤◌, List, ◌++◌, length, drop, bytes_eq, Option, Some, None}
+use Rattle.std.specs.Prelude.{◌≡◌, ℕ, ◌+◌, ◌≤◌, false, List, [], ◌∷◌, ◌++◌, length, drop, bytes_eq, Option, Some, None}
 use Rattle.std.specs.List.{AllByRecursion, list_any, flat_map}
 use Rattle.std.specs.Option.{option_or, option_map}
 use Rattle.mvt_base.specs.Rules.{when, each, first}
 use Rattle.mvt_wire.specs.declared.fault.WireCause.TheVariants.{Truncated}
-use Rattle.mvt_wire.specs.Field.{Entry}
+use Rattle.mvt_wire.specs.Field.{Entry, bytes as held_bytes}
 use Rattle.mvt_wire.specs.Fronts.{rest_cause}
 use Rattle.mvt_wire.specs.Split.{Parts, split_from}
 use Rattle.mvt_feature.specs.declared.cause.Cause.TheVariants.{RepeatedName}
@@ -12,7 +12,7 @@ use Rattle.mvt_feature.specs.declared.message_error.MessageError.{MessageError}
 use Rattle.mvt_feature.specs.declared.message_error.MessageError.TheVariants as message
 use Rattle.mvt_message.specs.declared.item.Item.{Item}
 use Rattle.mvt_message.specs.ItemRules.{item_fault, payload_names}
-use Rattle.mvt_message.specs.Items.{names_in}
+use Rattle.mvt_message.specs.Items.{IsItem, names_in}
 use Rattle.mvt_message.specs.ValidItems.{ValidItem}
 use Rattle.mvt_tile.specs.declared.fault.Fault.{Fault as AFault}
 use Rattle.mvt_tile.specs.declared.fault.DecodeError.{DecodeError}
@@ -44,6 +44,22 @@ told_in n (message.Fault feature at cause) = Fault (record { layer = Some n; fea
 -- a field of a slice that stands at this place of the input
 abbrev pub shifted : ℕ → Entry → Entry
 shifted offset x = record { at = offset + x.at; body = offset + x.body; number = x.number; content = x.content }
+
+-- the field of a slice that stands at this place of the input holds this layer's payload
+pub record IsPlaceOf (offset : ℕ) (x : Entry) (payload : List ℕ) (base own : ℕ) : Type 0 where
+  pub three : x.number ≡ 3
+  pub holds : x.content ≡ held_bytes payload
+  pub base_is : base ≡ offset + x.body
+  pub own_is : own ≡ offset + x.at
+
+-- one item more, which this payload is, with a name that is new
+abbrev pub TakesItem : List Item → List Item → List ℕ → Type 0
+TakesItem old new d = (item : Item) × (new ≡ old ++ item ∷ []) × IsItem d item × (repeats (flat_map names_in old) (names_in item) ≡ false)
+
+-- a number of layers and the set of their names are those of these items
+pub record AreNamed (count : ℕ) (names : List (List ℕ)) (items : List Item) : Type 0 where
+  pub counted : count ≡ length items
+  pub named : (n : List ℕ) → list_any (bytes_eq n) names ≡ list_any (bytes_eq n) (flat_map names_in items)
 
 -- the first fault of fields behind others, or of their rest
 abbrev pub fault_behind : List Entry → Parts → Option AFault

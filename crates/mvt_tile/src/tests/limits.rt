@@ -1,6 +1,6 @@
 //! Inputs and tiles of 64 MiB.
 use super::support::outer;
-use crate::{Note, PutError, Tile, TileDecoder, WriteError, decode, encode, notes, write_tile};
+use crate::{Note, PutError, Tile, TileDecoder, WriteError, decode, encode, judge, notes, write_tile};
 use mvt_base::LIMIT;
 use mvt_io::MemorySink;
 use mvt_message::{Cause, is_valid_item, item_len, put_item};
@@ -35,8 +35,10 @@ fn ends_at_the_limit(rt: HostRuntime) -> Result<(), Fail> {
     let error = outer(67_108_864, Cause::TooLarge);
     assert_eq!(rt; decoder.feed(b"\x00"), Err(error));
     assert_eq!(rt; decoder.finish().err(), Some(error));
+    assert_eq!(rt; judge(alloc, &input), Ok(()));
     input.push(0)?;
     assert_eq!(rt; decode(alloc, &input).err(), Some(error));
+    assert_eq!(rt; judge(alloc, &input), Err(error));
     Ok(())
 }
 
@@ -53,12 +55,14 @@ fn expect_endless(rt: &(impl Abort + AllocGlobal), front: &[u8]) -> Result<(), F
         decode(alloc, &input).err(),
         Some(outer(0, Cause::Truncated))
     );
+    assert_eq!(rt; judge(alloc, &input), Err(outer(0, Cause::Truncated)));
     let error = outer(0, Cause::TooLarge);
     assert_eq!(rt; decoder.feed(b"\x00"), Err(error));
     assert_eq!(rt; decoder.held(), 0);
     assert_eq!(rt; decoder.finish().err(), Some(error));
     input.push(0)?;
     assert_eq!(rt; decode(alloc, &input).err(), Some(error));
+    assert_eq!(rt; judge(alloc, &input), Err(error));
     Ok(())
 }
 

@@ -4,7 +4,7 @@ use super::rows::*;
 use super::support::{joined, names};
 use crate::{
     DecodeError, ExtractError, PutError, Tile, TileDecoder, WriteError, decode, encode, extract,
-    is_valid, notes, read_tile, write_tile,
+    is_valid, judge, notes, read_tile, write_tile,
 };
 use mvt_io::{MemorySink, MemorySource};
 use std::alloc::{AllocError, Global};
@@ -49,6 +49,12 @@ fn is_read_refused(rt: &(impl Abort + AllocGlobal), input: &[u8]) -> bool {
     is_refused(rt, read_tile(rt.alloc(), &mut reader))
 }
 
+fn is_judge_refused(rt: &(impl Abort + AllocGlobal), input: &[u8]) -> bool {
+    let answer = judge(rt.alloc(), input);
+    assert!(rt; answer == Ok(()) || answer == Err(DecodeError::Memory));
+    answer.is_err()
+}
+
 #[test]
 fn refused_reads(rt: HostRuntime) {
     let mut refused = 0u32;
@@ -58,6 +64,7 @@ fn refused_reads(rt: HostRuntime) {
                 is_refused(&rt, decode(rt.alloc(), input)),
                 is_feed_refused(&rt, input),
                 is_read_refused(&rt, input),
+                is_judge_refused(&rt, input),
             ];
             for is_refused in answers {
                 refused = refused.saturating_add(u32::from(is_refused));

@@ -1,5 +1,5 @@
 //! Tiles made by hand, and what several tests compare.
-use crate::{DecodeError, Fault, Tile, TileDecoder, decode, encode, is_valid};
+use crate::{DecodeError, Fault, Tile, TileDecoder, decode, encode, is_valid, judge};
 use mvt_attrs::Attribute;
 use mvt_base::{Items, Text};
 use mvt_geometry::{Geometry, Point};
@@ -97,7 +97,8 @@ pub(super) fn fed(rt: &(impl Abort + AllocGlobal), input: &[u8]) -> Result<Tile,
     decoder.finish()
 }
 
-// The input is this tile, whole and byte by byte, and the tile is written as these bytes.
+// The input is this tile, whole and byte by byte, and where it is only judged it has no fault; the tile is
+// written as these bytes.
 pub(super) fn expect_tile(
     rt: &(impl Abort + AllocGlobal),
     input: &[u8],
@@ -107,12 +108,13 @@ pub(super) fn expect_tile(
     let read = decode(rt.alloc(), input)?;
     assert!(rt; read == *tile && is_valid(&read));
     assert!(rt; fed(rt, input)? == *tile);
+    judge(rt.alloc(), input)?;
     let written = encode(rt.alloc(), &read).map_err(|_| AllocError)?;
     assert_eq!(rt; written.as_slice(), canonical);
     Ok(())
 }
 
-// The input has this fault, whole and byte by byte.
+// The input has this fault, whole, byte by byte, and where it is only judged.
 pub(super) fn expect_fault(rt: &(impl Abort + AllocGlobal), input: &[u8], error: DecodeError) {
     assert_eq!(rt;
         decode(rt.alloc(), input).err(),
@@ -120,4 +122,5 @@ pub(super) fn expect_fault(rt: &(impl Abort + AllocGlobal), input: &[u8], error:
         "of {input:?}"
     );
     assert_eq!(rt; fed(rt, input).err(), Some(error), "of {input:?} by bytes");
+    assert_eq!(rt; judge(rt.alloc(), input), Err(error), "of {input:?} judged");
 }

@@ -1,16 +1,15 @@
-//! The whole fields at the front of some bytes, judged and taken as items.
-ghost use Rattle.std.specs.Prelude.{◌≡◌, ◌≢◌, ℕ, ◌+◌, ◌^◌, ◌<◌, ◌≤◌, List, [], ◌∷◌, ◌++◌, length, false, IfOk, IfErr, OnOk};
+//! The whole fields at the front of some bytes, taken as items.
+ghost use Rattle.std.specs.Prelude.{◌≡◌, ◌≢◌, ◌+◌, ◌≤◌, List, [], ◌∷◌, ◌++◌, length, IfOk, IfErr, OnOk, MatchOption};
 ghost use Rattle.std.specs.List.{flat_map};
 ghost use Rattle.mvt_base.specs.Rules.{first};
 ghost use Rattle.mvt_wire.specs.Field.{Entry, entry_of};
 ghost use Rattle.mvt_wire.specs.Fields.{bytes_size};
-ghost use Rattle.mvt_message.specs.declared.item.Item.{Item};
-ghost use Rattle.mvt_message.specs.Items.{IsItem, names_in};
+ghost use Rattle.mvt_message.specs.Items.{names_in};
 ghost use Rattle.mvt_feature.specs.Causes.{of_wire};
 ghost use Rattle.mvt_tile.specs.Faults.{outer_fault};
-ghost use Rattle.mvt_tile.specs.Inner.Judging.{IsJudged, TellsBehind, payload_fault, shifted, told_in};
+ghost use Rattle.mvt_tile.specs.Inner.Judging.{IsJudged, IsPlaceOf, TakesItem, TellsBehind, payload_fault, repeated_at, shifted, told_in};
 ghost use Rattle.mvt_tile.specs.Streams.{Tells};
-ghost use Rattle.mvt_tile.specs.TileRules.{field_rules, repeats};
+ghost use Rattle.mvt_tile.specs.TileRules.{field_rules};
 ghost use Rattle.mvt_tile.specs.Tiles.{AreItems};
 
 use crate::below;
@@ -23,7 +22,7 @@ use std::alloc::Global;
 
 /// Takes the items of the whole fields at the front, and answers how many bytes those are. The bytes
 /// stand at an offset of the input.
-pub(crate) fn judge(
+pub(crate) fn take_fields(
     alloc: Global,
     layers: &mut Layers,
     bytes: &[u8],
@@ -38,7 +37,7 @@ pub(crate) fn judge(
     below::split_laws();
     for field in Fields::new(bytes) {
         match field {
-            Ok(field) => judge_field(alloc, layers, &field, offset)?,
+            Ok(field) => take_field(alloc, layers, &field, offset)?,
             Err(fault) => return judge_rest(fault, offset),
         }
     }
@@ -46,7 +45,7 @@ pub(crate) fn judge(
 }
 
 /// An unfinished field ends the fields; another broken spelling is a fault.
-fn judge_rest(fault: WireFault, offset: u64) -> Result<usize, DecodeError>
+pub(crate) fn judge_rest(fault: WireFault, offset: u64) -> Result<usize, DecodeError>
     requires { offset + fault.at ≤ LIMIT }
     ensures unfinished { IfOk result (λ at. (at ≡ fault.at) × (fault.cause ≡ WireCause.Truncated)) }
     ensures fault { IfErr result (λ error. (fault.cause ≢ WireCause.Truncated)
@@ -54,17 +53,43 @@ fn judge_rest(fault: WireFault, offset: u64) -> Result<usize, DecodeError>
 {
     match fault.cause {
         WireCause::Truncated => Ok(fault.at),
-        cause => Err(DecodeError::Fault(Fault {
-            layer: None,
-            feature: None,
-            at: offset + fault.at as u64,
-            cause: Cause::from(cause),
-        })),
+        cause => Err(outer(offset + fault.at as u64, Cause::from(cause))),
     }
 }
 
-/// Takes the item of a field numbered 3. Other fields hold none.
-fn judge_field(
+/// A layer's payload in the input, with the places of its first byte and of its field's tag.
+#[derive(Clone, Copy, Debug)]
+pub(crate) struct Place<'a> {
+    pub(crate) payload: &'a [u8],
+    pub(crate) base: u64,
+    pub(crate) own: u64,
+}
+
+/// The payload of a field numbered 3. Other fields hold no layer.
+pub(crate) fn layer_in<'a>(field: &Field<'a>, offset: u64) -> Result<Option<Place<'a>>, DecodeError>
+    requires place { offset + field.now.at ≤ LIMIT }
+    requires fits { offset + (field.now.body + bytes_size (entry_of field.now).content) ≤ LIMIT }
+    ensures place { IfOk result (λ found. MatchOption found (field.now.number ≢ 3)
+        (λ place. IsPlaceOf offset (entry_of field.now) place.payload.now place.base place.own)) }
+    ensures fault { IfErr result (λ error. (front : List Entry) →
+        Tells error (first (field_rules front (shifted offset (entry_of field.now))))) }
+{
+    if field.number != 3 {
+        return Ok(None);
+    }
+    let own = offset + field.at as u64;
+    match field.payload {
+        Payload::Len(payload) => Ok(Some(Place {
+            payload,
+            base: offset + field.body as u64,
+            own,
+        })),
+        Payload::Varint(_) | Payload::I64(_) | Payload::I32(_) => Err(outer(own, Cause::WrongType)),
+    }
+}
+
+/// Takes the item of a field that holds one.
+fn take_field(
     alloc: Global,
     layers: &mut Layers,
     field: &Field<'_>,
@@ -80,27 +105,14 @@ fn judge_field(
         → Tells error (first (field_rules front (shifted offset (entry_of field.now))))) }
 {
     below::item_laws();
-    if field.number != 3 {
-        return Ok(());
-    }
-    let at = offset + field.at as u64;
-    match field.payload {
-        Payload::Len(payload) => {
-            judge_layer(alloc, layers, payload, offset + field.body as u64, at)
-        }
-        Payload::Varint(_) | Payload::I64(_) | Payload::I32(_) => {
-            Err(DecodeError::Fault(Fault {
-                layer: None,
-                feature: None,
-                at,
-                cause: Cause::WrongType,
-            }))
-        }
+    match layer_in(field, offset)? {
+        None => Ok(()),
+        Some(place) => take_layer(alloc, layers, place.payload, place.base, place.own),
     }
 }
 
 /// Takes the item of a payload.
-fn judge_layer(
+fn take_layer(
     alloc: Global,
     layers: &mut Layers,
     payload: &[u8],
@@ -109,8 +121,7 @@ fn judge_layer(
 ) -> Result<(), DecodeError>
     requires few { length layers.old ≤ LIMIT }
     requires fits { base + length payload.now ≤ LIMIT }
-    ensures item { OnOk result ((item : Item) × (layers.new ≡ layers.old ++ item ∷ []) × IsItem payload.now item
-        × (repeats (flat_map names_in layers.old) (names_in item) ≡ false)) }
+    ensures item { OnOk result (TakesItem layers.old layers.new payload.now) }
     ensures fault { IfErr result (λ error.
         Tells error (payload_fault (length layers.old) (flat_map names_in layers.old) payload.now base own)) }
 {
@@ -123,16 +134,11 @@ fn judge_layer(
     if layers.add(item)? {
         return Ok(());
     }
-    Err(DecodeError::Fault(Fault {
-        layer: Some(index),
-        feature: None,
-        at: own,
-        cause: Cause::RepeatedName,
-    }))
+    Err(repeated_name(index, own))
 }
 
 /// An error of a payload, as the tile tells it.
-fn in_layer(index: u32, error: MessageError) -> DecodeError
+pub(crate) fn in_layer(index: u32, error: MessageError) -> DecodeError
     ensures { result ≡ told_in index error }
 {
     match error {
@@ -144,4 +150,28 @@ fn in_layer(index: u32, error: MessageError) -> DecodeError
             cause,
         }),
     }
+}
+
+/// The fault of a layer whose name an earlier one has.
+pub(crate) fn repeated_name(index: u32, own: u64) -> DecodeError
+    ensures { result ≡ DecodeError.Fault (repeated_at index own) }
+{
+    DecodeError::Fault(Fault {
+        layer: Some(index),
+        feature: None,
+        at: own,
+        cause: Cause::RepeatedName,
+    })
+}
+
+/// A fault that stands in no layer.
+pub(crate) fn outer(at: u64, cause: Cause) -> DecodeError
+    ensures { result ≡ DecodeError.Fault (outer_fault at cause) }
+{
+    DecodeError::Fault(Fault {
+        layer: None,
+        feature: None,
+        at,
+        cause,
+    })
 }
