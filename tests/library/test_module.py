@@ -89,6 +89,10 @@ def zigzag(number):
     return number << 1 if number >= 0 else (-number << 1) - 1
 
 
+def zigzags(*numbers):
+    return b"".join(varint(zigzag(number)) for number in numbers)
+
+
 class WholeTiles(unittest.TestCase):
     def test_reads_what_the_json_says(self):
         for name in WHOLE:
@@ -101,6 +105,23 @@ class WholeTiles(unittest.TestCase):
             told = subprocess.run([os.environ["MVT"], "show"], input=path.read_bytes(), capture_output=True, check=True)
             self.assertEqual(shown(mvt.read(path.read_bytes())), json.loads(told.stdout), path.name)
             self.assertEqual(mvt.to_json(path.read_bytes()) + "\n", told.stdout.decode())
+
+    def test_notes_what_the_program_notes(self):
+        triangle = varint(9) + zigzags(0, 0) + varint(26) + zigzags(4, 0, 0, 4, -4, -4) + varint(15)
+        flat = varint(9) + zigzags(0, 0) + varint(18) + zigzags(4, 4, 2, 2) + varint(15)
+        features = [
+            field(2, field(1, id) + field(3, 3) + field(4, triangle + flat)) for id in (7, 8, 7)
+        ] + [field(2, field(1, 7) + field(3, 1) + field(4, varint(9) + zigzags(1, 1)))]
+        whole = [
+            field(3, field(15, 2) + field(1, b"a") + b"".join(features)),
+            field(3, field(15, 1) + field(1, b"b")),
+            field(3, field(15, 2) + field(1, b"c")),
+        ]
+        made = [b"", b"".join(whole)]
+        for of in [path.read_bytes() for path in sorted(TILES.glob("*.mvt"))] + made:
+            told = subprocess.run([os.environ["MVT"], "check"], input=of, capture_output=True, check=True).stdout.decode()
+            self.assertEqual(["note " + note for note in mvt.notes(mvt.rows(of))], told.splitlines()[1:])
+        self.assertEqual(len(mvt.notes(mvt.rows(made[1]))), 10)
 
     def test_rewrites(self):
         for name in WHOLE:

@@ -10,6 +10,7 @@ broken one. Each call takes the bytes of one uncompressed tile. Threads may call
 """
 
 from ._calls import Buffer, MvtError, NoLayer, Refused, TooLarge, extract, rewrite, to_json, to_svg
+from ._notes import notes
 from ._tiles import Feature, Foreign, Layer, Point, Rows, Tile, read, rows
 from ._values import Float, Sint, Uint, Value
 
@@ -30,6 +31,7 @@ __all__ = [
     "Uint",
     "Value",
     "extract",
+    "notes",
     "read",
     "rewrite",
     "rows",

@@ -96,12 +96,19 @@ class Rows:
             rows_of_kind: Any = (row * count).from_address(getattr(rows, name)) if count else (row * 0)()
             rows_of_kind.owner = owner
             setattr(self, name, rows_of_kind)
+        # x and y in turn, which Python reads faster than the rows of the points
+        self._numbers = (ctypes.c_int32 * (2 * len(self.points))).from_buffer(self.points)
 
     def array(self, name: str) -> "numpy.ndarray[Any, Any]":
         """One list as a numpy array over the same memory, with the names of the fields of its rows."""
         import numpy
 
         return numpy.ctypeslib.as_array(getattr(self, name))
+
+    def line(self, part: PartRow) -> List[Point]:
+        """The points of a part."""
+        start, end = 2 * part.points.start, 2 * (part.points.start + part.points.len)
+        return list(zip(self._numbers[start:end:2], self._numbers[start + 1 : end : 2]))
 
     def text(self, span: Span) -> str:
         """A text, such as the name of a layer or a key."""
@@ -112,23 +119,19 @@ class Rows:
         return bytes(self.texts[span.start : span.start + span.len])
 
 
-def _points(rows: Rows, part: PartRow) -> List[Point]:
-    return [(point.x, point.y) for point in rows.points[part.points.start : part.points.start + part.points.len]]
-
-
 def _geometry(rows: Rows, row: FeatureRow) -> List[Any]:
     if row.kind == 0:
         return list(rows.integers[row.integers.start : row.integers.start + row.integers.len])
     parts = rows.parts[row.parts.start : row.parts.start + row.parts.len]
     if row.kind == 1:
-        return [point for part in parts for point in _points(rows, part)]
+        return [point for part in parts for point in rows.line(part)]
     if row.kind == 2:
-        return [_points(rows, part) for part in parts]
+        return [rows.line(part) for part in parts]
     polygons: List[List[List[Point]]] = []
     for part in parts:
         if part.exterior:
             polygons.append([])
-        polygons[-1].append(_points(rows, part))
+        polygons[-1].append(rows.line(part))
     return polygons
 
 
