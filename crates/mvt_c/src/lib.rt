@@ -12,3 +12,5 @@ mod reading;
 mod refusal;
 mod rows;
 mod table;
+mod tiles;
+mod writing;
