@@ -12,5 +12,7 @@ mod reading;
 mod refusal;
 mod rows;
 mod table;
+#[cfg(test)]
+mod tests;
 mod tiles;
 mod writing;

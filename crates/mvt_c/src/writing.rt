@@ -37,7 +37,7 @@ pub extern "C" fn mvt_write(alloc: Global, rows: &Rows, out: &mut Bytes) -> u32
     }
 }
 
-fn written(alloc: Global, rows: &Rows) -> Result<Vec<u8>, Refusal>
+pub(crate) fn written(alloc: Global, rows: &Rows) -> Result<Vec<u8>, Refusal>
     ensures done { IfOk result (λ made. IsWritten (table_of rows.now) made.items) }
     ensures refused { IfErr result (NotWritten (table_of rows.now)) }
 {
