@@ -52,6 +52,11 @@ class bad_name : public error {
     using error::error;
 };
 
+/// The rows are no valid tile.
+class no_tile : public error {
+    using error::error;
+};
+
 /// The bytes are no tile. Tells the first broken rule.
 class refused : public error {
 public:
@@ -95,6 +100,7 @@ inline void require_ok(std::uint32_t status, const mvt_fault &fault) {
     case MVT_TOO_LARGE: throw too_large("the result is larger than 67108864 bytes");
     case MVT_NO_LAYER: throw no_layer("a layer isn't there");
     case MVT_BAD_NAME: throw bad_name("a layer's name isn't UTF-8");
+    case MVT_NO_TILE: throw no_tile("these rows are no valid tile");
     default: throw error("status " + std::to_string(status));
     }
 }
@@ -220,6 +226,11 @@ inline bytes extract(byte_span of, std::span<const std::string_view> names) {
     std::vector<mvt_bytes> rows;
     for (const std::string_view name : names) rows.push_back({bytes_of(name).data(), name.size()});
     return detail::made([&](auto... to) { return mvt_extract(of.data(), of.size(), rows.data(), rows.size(), to...); });
+}
+
+/// The canonical bytes of the tile that rows are, wherever these come from. Throws no_tile and too_large.
+inline bytes write(const mvt_tile &rows) {
+    return detail::made([&](mvt_bytes *out, mvt_fault *) { return mvt_write(&rows, out); });
 }
 
 /// A tile as JSON, in one line without a line end. Throws refused.

@@ -58,12 +58,25 @@ static uint32_t extract(const uint8_t *b, size_t n, output *o, mvt_fault *f) {
     const mvt_bytes names[] = {{(const uint8_t *)"water", 5}, {(const uint8_t *)"places", 6}};
     return mvt_extract(b, n, names, 2, &o->bytes, f);
 }
+/* Rows are read beside the count, and then written. */
+static uint32_t written(const uint8_t *b, size_t n, output *o, mvt_fault *f) {
+    mvt_tile tile;
+    const unsigned long number = refused;
+    refused = 0;
+    const uint32_t read = mvt_read(b, n, &tile, f);
+    refused = number, count = 0;
+    if (read != MVT_OK) return read;
+    const uint32_t status = mvt_write(&tile, &o->bytes);
+    mvt_tile_free(&tile);
+    return status;
+}
 static void free_bytes(output *o) { mvt_bytes_free(&o->bytes); }
 static void free_tile(output *o) { mvt_tile_free(&o->tile); }
 
 static const task TASKS[] = {
     {"mvt_rewrite", rewrite, free_bytes}, {"mvt_json", json, free_bytes}, {"mvt_svg", svg, free_bytes},
     {"mvt_extract", extract, free_bytes}, {"mvt_read", rows, free_tile},
+    {"mvt_write", written, free_bytes},
 };
 
 /* One call with the allocation `number` refused. Answers whether the call went so far. */

@@ -1,5 +1,6 @@
 // The wrapper for C++ as the program: wrapped COMMAND [NAME..] < tile. Its output, its line on standard error and its
-// status are those of `mvt COMMAND`. The command `hold` tests how owners are moved, and prints nothing.
+// status are those of `mvt COMMAND`. The commands `hold`, `look`, `write` and `share` test the owners, the views, what
+// is written of rows, and threads; they print nothing.
 #include "mvt.hpp"
 
 #include <algorithm>
@@ -55,6 +56,21 @@ void look(mvt::byte_span input) {
     require(points == tile.rows().point_count && tags == tile.rows().tag_count, "a row was left out");
 }
 
+/// Rows that were read are written as the canonical bytes, and a row that reaches beyond its list is refused.
+void write(mvt::byte_span input) {
+    const mvt::tile tile = mvt::read(input);
+    require(std::ranges::equal(mvt::write(tile.rows()), mvt::rewrite(input)), "rows are written as another tile");
+    mvt_tile rows = tile.rows();
+    rows.texts = nullptr;
+    rows.text_len = 0;
+    try {
+        mvt::write(rows);
+    } catch (const mvt::no_tile &) {
+        return;
+    }
+    require(false, "rows without their texts are written");
+}
+
 /// Four threads get what one gets.
 void share(mvt::byte_span input) {
     const mvt::bytes rewritten = mvt::rewrite(input), shown = mvt::json(input);
@@ -81,6 +97,7 @@ void call(const std::string &command, const std::vector<std::string_view> &names
     if (command == "hold") return hold(input);
     if (command == "look") return look(input);
     if (command == "share") return share(input);
+    if (command == "write") return write(input);
     put(command == "show" ? mvt::json(input) : mvt::svg(input));
     std::cout << '\n';
 }

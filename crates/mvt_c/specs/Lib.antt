@@ -3,3 +3,5 @@ pub mod Names
 pub mod Calls
 pub mod Tables
 pub mod Lent
+pub mod TileRows
+pub mod Written

@@ -12,3 +12,7 @@ mod reading;
 mod refusal;
 mod rows;
 mod table;
+#[cfg(test)]
+mod tests;
+mod tiles;
+mod writing;

@@ -5,7 +5,7 @@ from typing import Any, Callable, Iterable, Optional, Union
 
 from ._library import Bytes, FaultRow, library
 
-REFUSED, NO_MEMORY, TOO_LARGE, NO_LAYER, BAD_NAME = 1, 2, 3, 4, 5
+REFUSED, NO_MEMORY, TOO_LARGE, NO_LAYER, BAD_NAME, NO_TILE = 1, 2, 3, 4, 5, 6
 
 # What holds the bytes of a tile.
 Buffer = Union[bytes, bytearray, memoryview]
@@ -39,6 +39,10 @@ class NoLayer(MvtError):
     """No layer has one of the names."""
 
 
+class NoTile(MvtError):
+    """What was to be written is no valid tile."""
+
+
 def _index(index: Optional[int]) -> str:
     return "-" if index is None else str(index)
 
@@ -60,6 +64,8 @@ def raise_for(status: int, fault: FaultRow) -> None:
         raise TooLarge("the result is larger than 67108864 bytes")
     if status == NO_LAYER:
         raise NoLayer("a layer isn't there")
+    if status == NO_TILE:
+        raise NoTile("these rows are no valid tile")
     if status != 0:
         raise MvtError(f"status {status}")
 

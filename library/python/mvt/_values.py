@@ -1,7 +1,7 @@
 """The kinds of numbers that Python has one type for."""
 
 import struct
-from typing import Optional, Union
+from typing import Optional, Tuple, Union
 
 
 class Float(float):
@@ -21,15 +21,19 @@ class Float(float):
         return made
 
 
+class Int(int):
+    """A signed number that was, or is to be, spelled as an int: below zero it takes ten bytes."""
+
+
 class Uint(int):
-    """A number from 0 to 18446744073709551615, kept as such."""
+    """A number that isn't negative, spelled as a uint."""
 
 
 class Sint(int):
-    """A signed number that was, or is to be, spelled as sint."""
+    """A signed number, spelled as a sint."""
 
 
-# A text, a double, an int and a truth are Python's own; an int beyond 9223372036854775807 is written as a uint.
+# A text, a double and a truth are Python's own. A number of Python's own is written as a uint or, below zero, as a sint.
 Value = Union[str, float, int, bool]
 
 TEXT, FLOAT, DOUBLE, INT, UINT, SINT, BOOL = range(1, 8)
@@ -47,4 +51,20 @@ def number_of(kind: int, bits: int) -> Value:
     if kind == UINT:
         return Uint(bits)
     signed = bits - (1 << 64) if bits >> 63 else bits
-    return Sint(signed) if kind == SINT else signed
+    return Sint(signed) if kind == SINT else Int(signed)
+
+
+def bits_of(value: Union[float, int, bool]) -> Tuple[int, int]:
+    """The kind and the bits of a value that is no text. Whether a number is in the range of its kind isn't looked at."""
+    if isinstance(value, bool):
+        return BOOL, int(value)
+    if isinstance(value, Float):
+        return FLOAT, value.bits
+    if isinstance(value, float):
+        [bits] = struct.unpack("<Q", struct.pack("<d", value))
+        return DOUBLE, bits
+    if isinstance(value, Int):
+        return INT, int(value)
+    if isinstance(value, Uint) or value >= 0 and not isinstance(value, Sint):
+        return UINT, int(value)
+    return SINT, int(value)
