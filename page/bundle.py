@@ -1,5 +1,6 @@
 #!/usr/bin/env python3
-"""Puts the page into one file: its style, its scripts, the rules of docs/REFUSALS.md, two example tiles and the codec.
+"""Puts the page into one file: its style, its scripts, the rules of docs/REFUSALS.md and the
+notes of docs/PROGRAM.md, two example tiles and the codec.
 bundle.py CODEC.wasm PAGE.html"""
 import base64
 import gzip
@@ -45,16 +46,25 @@ def rules():
     return {number: {"name": name, "rule": rule, "place": place} for number, name, rule, place in rows}
 
 
+def notes():
+    """What the notes of `mvt check` mean, by their first word."""
+    rows = re.findall(r"^\| `note (\w+).*` \| (.*) \|$", (top / "docs/PROGRAM.md").read_text(), re.M)
+    if len(rows) < 6:
+        sys.exit("bundle.py: docs/PROGRAM.md has no table of the notes")
+    return dict(rows)
+
+
 def examples():
-    tiles = {"good.mvt": "gdal.mvt", "broken.mvt": "broken/20-ZeroSegment.mvt"}
-    read = lambda name: base64.b64encode((top / "examples/tiles" / name).read_bytes()).decode()
-    return {name: read(file) for name, file in tiles.items()}
+    """A tile of GDAL, and the same with a bit flipped, so that a ring of its lake runs the wrong way round."""
+    good = (top / "examples/tiles/gdal.mvt").read_bytes()
+    broken = good[:382] + bytes([good[382] ^ 1]) + good[383:]
+    return {name: base64.b64encode(tile).decode() for name, tile in (("good.mvt", good), ("broken.mvt", broken))}
 
 
 def main():
     codec, page = pathlib.Path(sys.argv[1]), pathlib.Path(sys.argv[2])
     packed = base64.b64encode(gzip.compress(codec.read_bytes(), 9, mtime=0)).decode()
-    data = json.dumps({"rules": rules(), "examples": examples(), "codec": packed}).replace("<", "\\u003c")
+    data = json.dumps({"rules": rules(), "notes": notes(), "examples": examples(), "codec": packed}).replace("<", "\\u003c")
     code = f"\n{script()}"
     mark = base64.b64encode(hashlib.sha256(code.encode()).digest()).decode()
     text = (source / "page.html").read_text()

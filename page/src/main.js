@@ -36,7 +36,7 @@ class Page {
     const read = await this.#load(input);
     if (read === null) return;
     const verdict = judge(this.#codec, read.bytes);
-    const shown = showTile({ name: input.name, ...read }, verdict, data.rules);
+    const shown = showTile({ name: input.name, ...read }, verdict, data);
     at('tile').replaceChildren(shown);
     this.#say(`${input.name}: ${verdictLine(verdict)}`);
     shown.querySelector('h2').focus();
@@ -74,7 +74,7 @@ class Page {
     const open = element('button', { type: 'button', class: 'link', onclick: () => this.#show(input) }, [input.name]);
     return element('tr', { class: verdict.kind }, [
       element('th', { scope: 'row' }, [open]),
-      element('td', { class: 'number' }, [read === null ? '' : size(read.bytes.length)]),
+      element('td', { class: 'size' }, [read === null ? '' : size(read.bytes.length)]),
       element('td', {}, [read === null ? 'unread' : verdictLine(verdict), read?.note ? element('small', {}, [read.note]) : '']),
     ]);
   }
@@ -85,7 +85,7 @@ class Page {
 }
 
 function tableOf(body) {
-  const heads = ['Tile', 'Size', 'Verdict'].map((head) => element('th', { scope: 'col' }, [head]));
+  const heads = ['Tile', 'Size', 'Verdict'].map((head) => element('th', { scope: 'col', class: head === 'Size' && 'size' }, [head]));
   return element('div', { class: 'wide' }, [element('table', {}, [element('thead', {}, [element('tr', {}, heads)]), body])]);
 }
 

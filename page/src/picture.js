@@ -5,12 +5,19 @@ import { counted, grouped } from './text.js';
 const NEAR = [0, 2, 4, 6, 8];
 const AT_ONCE = 100;
 
-export class Picture {
+/** The picture's part of the page; a text that the browser can't read as XML, as one of many megabytes, gives words. */
+export function pictureOf(svg, rows) {
+  const read = new DOMParser().parseFromString(svg, 'image/svg+xml').documentElement;
+  if (read.localName !== 'svg') return element('p', {}, ['The browser can’t draw this picture. “Save picture” saves it for other programs.']);
+  return new Picture(read, rows).root;
+}
+
+class Picture {
   #rows;
   #drawn;
   #chosen = null;
 
-  /** `svg` is the picture's text, `rows` the tile's. */
+  /** `svg` is the picture as it was read, `rows` are the tile's. */
   constructor(svg, rows) {
     this.#rows = rows;
     const paper = element('div', { class: 'paper' });
@@ -24,8 +31,7 @@ export class Picture {
 
   /** Puts the picture into a tree of its own, so that its style is its own; answers the squares of the layers. */
   #draw(paper, svg) {
-    const read = new DOMParser().parseFromString(svg, 'image/svg+xml').documentElement;
-    const picture = document.importNode(read, true);
+    const picture = document.importNode(svg, true);
     picture.setAttribute('role', 'img');
     picture.setAttribute('aria-label', `The tile's picture, ${counted(this.#rows.featureCount, 'feature')}`);
     const style = element('style', {}, [
@@ -76,9 +82,8 @@ export class Picture {
     const end = Math.min(from + AT_ONCE, layer.features.len);
     for (let index = from; index < end; index += 1) {
       const feature = this.#rows.feature(layer, index);
-      const id = feature.id === null ? '' : `, id ${feature.id}`;
-      const choose = element('button', { type: 'button', class: 'link', onclick: () => this.#choose(at, index) }, [`${feature.kind}${id}`]);
-      list.append(element('li', {}, [choose]));
+      const choose = element('button', { type: 'button', class: 'link', onclick: () => this.#choose(at, index) }, [feature.kind]);
+      list.append(element('li', {}, [choose, ` ${hintOf(feature)}`]));
     }
     more.hidden = end === layer.features.len;
   }
@@ -108,6 +113,12 @@ export class Picture {
 
 function pathsOf(square) {
   return [...square.children].filter((child) => child.localName === 'path');
+}
+
+/** What tells a feature from others in a list: its id and its first attribute. */
+function hintOf({ id, attributes: [first] }) {
+  const parts = [id === null ? null : `id ${id}`, first ? `${first.key} ${first.text.slice(0, 40)}` : null];
+  return parts.filter(Boolean).join(', ');
 }
 
 function sayFeature(layer, index, feature) {

@@ -4,7 +4,7 @@ import { element, folded, save } from './dom.js';
 import { HexView } from './hex.js';
 import { laidOut } from './json.js';
 import { locate, textsOf } from './locate.js';
-import { Picture } from './picture.js';
+import { pictureOf } from './picture.js';
 import { Rows } from './rows.js';
 import { counted, grouped, size, text } from './text.js';
 import { faultLine, sayPlace, sayTrail, sentence } from './words.js';
@@ -12,14 +12,18 @@ import { faultLine, sayPlace, sayTrail, sentence } from './words.js';
 const DRAWN_AT_ONCE = 1_000_000;
 const JSON_LAID_OUT = 300_000;
 const JSON_SHOWN = 100_000;
+const NOTES_SHOWN = 100;
 
-/** What a tile is shown as: `input` is `{name, bytes, note}`, `rules` the table of refusals by number. */
-export function showTile(input, verdict, rules) {
+/**
+ * What a tile is shown as: `input` is `{name, bytes, note}`; `rules` are the refusals by number, `notes` what the notes of
+ * the report mean.
+ */
+export function showTile(input, verdict, { rules, notes }) {
   const parts = [
     element('h2', { tabindex: '-1' }, [input.name]),
     element('p', { class: `verdict ${verdict.kind}` }, [titleOf(verdict)]),
     input.note && element('p', { class: 'note' }, [input.note]),
-    ...(verdict.kind === 'accepted' ? showAccepted(input, verdict) : []),
+    ...(verdict.kind === 'accepted' ? showAccepted(input, verdict, notes) : []),
     ...(verdict.kind === 'refused' ? showRefused(input, verdict, rules) : []),
     verdict.kind === 'unjudged' && element('p', {}, [`The browser gave no memory for this tile (${size(input.bytes.length)}).`]),
   ];
@@ -32,13 +36,13 @@ function titleOf({ kind }) {
 
 // ---- a tile that is accepted
 
-function showAccepted(input, { tile, canonical }) {
+function showAccepted(input, { tile, canonical }, notes) {
   const answer = tile.read();
   const rows = answer.status === OK ? new Rows(answer.rows) : null;
   const rewritten = canonical ?? tile.rewrite();
   return [
     element('p', { class: 'facts' }, [factsOf(input, rows, rewritten)]),
-    showReport(tile),
+    showReport(tile, notes),
     saving(input, tile, rewritten),
     element('h3', {}, ['Picture']),
     showPicture(input, tile, rows),
@@ -60,28 +64,37 @@ function sayCanonical(bytes, { status, bytes: made }) {
   return isSame ? 'In canonical form.' : `Not in canonical form, which has ${counted(made.length, 'byte')}.`;
 }
 
-/** What `mvt check` says, with its notes: shown as soon as the library has a call for it. */
-function showReport(tile) {
+/** What `mvt check` says, with its notes in words. A library without the call `mvt_report` has none to show. */
+function showReport(tile, notes) {
   const report = tile.report();
   if (report === null) return '';
   if (report.status !== OK) return element('p', {}, ['The browser gave no memory for the report.']);
-  return element('pre', { class: 'report' }, [text(report.bytes).trimEnd()]);
+  const [first, ...lines] = text(report.bytes).trimEnd().split('\n');
+  const told = lines.map((line) => {
+    const name = line.split(' ')[1];
+    return element('li', {}, [element('code', {}, [line]), name in notes ? `: ${notes[name]}` : '']);
+  });
+  const said = element('p', {}, ['The command mvt says: ', element('code', {}, [first])]);
+  const shown = element('ul', {}, told.slice(0, NOTES_SHOWN));
+  const more = told.length > NOTES_SHOWN ? element('p', { class: 'quiet' }, [`and ${counted(told.length - NOTES_SHOWN, 'note')} more`]) : '';
+  return element('section', { class: 'report', 'aria-label': 'The report' }, told.length > 0 ? [said, shown, more] : [said]);
 }
 
-function saving({ name, bytes }, tile, rewritten) {
+function saving({ name }, tile, rewritten) {
   const stem = name.replace(/(\.(mvt|pbf|gz|zz|bin))+$/i, '');
+  const told = element('span', { class: 'quiet', role: 'status' });
+  const saved = (file, type, { status, bytes: made }) => {
+    if (status === OK) save(file, type, made);
+    told.textContent = status === OK ? '' : status === TOO_LARGE ? 'They would be more than 64 MiB.' : 'The browser gave no memory for this.';
+  };
   const button = (title, file, type, make) =>
-    element('button', { type: 'button', onclick: () => saveAnswer(file, type, make()) }, [title]);
+    element('button', { type: 'button', onclick: () => saved(file, type, make()) }, [title]);
   return element('div', { class: 'buttons' }, [
     button('Save canonical bytes', `${stem}.canonical.mvt`, 'application/vnd.mapbox-vector-tile', () => rewritten),
     button('Save picture', `${stem}.svg`, 'image/svg+xml', () => tile.svg()),
     button('Save JSON', `${stem}.json`, 'application/json', () => tile.json()),
+    told,
   ]);
-}
-
-function saveAnswer(file, type, { status, bytes }) {
-  if (status === OK) save(file, type, bytes);
-  else alert(status === TOO_LARGE ? 'They would be more than 64 MiB.' : 'The browser gave no memory for this.');
 }
 
 function showPicture({ bytes }, tile, rows) {
@@ -89,7 +102,7 @@ function showPicture({ bytes }, tile, rows) {
   const draw = () => {
     const answer = tile.svg();
     if (rows === null || answer.status !== OK) box.replaceChildren('The browser gave no memory for the picture.');
-    else box.replaceChildren(new Picture(text(answer.bytes), rows).root);
+    else box.replaceChildren(pictureOf(text(answer.bytes), rows));
   };
   if (bytes.length <= DRAWN_AT_ONCE) draw();
   else box.append(element('button', { type: 'button', onclick: draw }, ['Draw the picture (the tile is large: this may take a while)']));
