@@ -3,6 +3,8 @@ use Rattle.std.specs.Prelude.{◌≡◌, ℕ, ◌<◌, List, length, Some, Resul
 use Rattle.mvt_base.specs.declared.TheConstants.{LIMIT}
 use Rattle.mvt_attrs.specs.declared.pool_error.PoolError.{PoolError}
 use Rattle.mvt_attrs.specs.declared.pool_error.PoolError.TheVariants as pools
+use Rattle.mvt_attrs.specs.declared.resolving.TagError.{TagError}
+use Rattle.mvt_attrs.specs.declared.resolving.TagError.TheVariants as tags
 use Rattle.mvt_message.specs.declared.put.PutError.{PutError}
 use Rattle.mvt_message.specs.declared.put.PutError.TheVariants as put
 use Rattle.mvt_tile.specs.declared.fault.DecodeError.{DecodeError}
@@ -60,6 +62,10 @@ of_extract (extracting.MissingLayer index) = NoLayer
 abbrev pub of_pool : PoolError → Refusal
 of_pool pools.Memory = Memory
 of_pool pools.Full = TooLarge
+
+abbrev pub of_tags : TagError → Refusal
+of_tags tags.Memory = Memory
+of_tags (tags.Fault index cause) = NoTile
 
 -- the bytes are a tile, and these are its canonical bytes
 abbrev pub IsRewritten : List ℕ → List ℕ → Type 0

@@ -9,8 +9,9 @@ A tile that breaks a rule raises `Refused`, which tells the layer, the feature, 
 broken one. Each call takes the bytes of one uncompressed tile. Threads may call at the same time.
 """
 
-from ._calls import MvtError, NoLayer, Refused, TooLarge, extract, rewrite, to_json, to_svg
+from ._calls import MvtError, NoLayer, NoTile, Refused, TooLarge, extract, rewrite, to_json, to_svg
 from ._tiles import Feature, Foreign, Layer, Rows, Tile, read, rows
+from ._writing import write
 
 __all__ = [
     "Feature",
@@ -18,6 +19,7 @@ __all__ = [
     "Layer",
     "MvtError",
     "NoLayer",
+    "NoTile",
     "Refused",
     "Rows",
     "Tile",
@@ -28,4 +30,5 @@ __all__ = [
     "rows",
     "to_json",
     "to_svg",
+    "write",
 ]

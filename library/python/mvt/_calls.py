@@ -5,7 +5,7 @@ from typing import Iterable, Optional
 
 from ._library import Bytes, FaultRow, library
 
-REFUSED, NO_MEMORY, TOO_LARGE, NO_LAYER, BAD_NAME = 1, 2, 3, 4, 5
+REFUSED, NO_MEMORY, TOO_LARGE, NO_LAYER, BAD_NAME, NO_TILE = 1, 2, 3, 4, 5, 6
 
 
 class MvtError(Exception):
@@ -32,6 +32,10 @@ class NoLayer(MvtError):
     """No layer has one of the names."""
 
 
+class NoTile(MvtError):
+    """What was to be written is no valid tile."""
+
+
 def _index(index: Optional[int]) -> str:
     return "-" if index is None else str(index)
 
@@ -48,6 +52,8 @@ def raise_for(status: int, fault: FaultRow) -> None:
         raise TooLarge("the result is larger than 67108864 bytes")
     if status == NO_LAYER:
         raise NoLayer("a layer isn't there")
+    if status == NO_TILE:
+        raise NoTile("these rows are no valid tile")
     if status != 0:
         raise MvtError("status %d" % status)
 

@@ -89,6 +89,8 @@ library.mvt_svg.argtypes = [*_TILE, POINTER(Bytes), POINTER(FaultRow)]
 library.mvt_read.argtypes = [*_TILE, POINTER(TileRows), POINTER(FaultRow)]
 for _call in (library.mvt_rewrite, library.mvt_extract, library.mvt_json, library.mvt_svg, library.mvt_read):
     _call.restype = c_uint32
+library.mvt_write.argtypes = [POINTER(TileRows), POINTER(Bytes)]
+library.mvt_write.restype = c_uint32
 library.mvt_bytes_free.argtypes = [POINTER(Bytes)]
 library.mvt_bytes_free.restype = None
 library.mvt_tile_free.argtypes = [POINTER(TileRows)]
