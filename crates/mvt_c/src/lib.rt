@@ -14,5 +14,6 @@ mod rows;
 mod table;
 #[cfg(test)]
 mod tests;
+mod texts;
 mod tiles;
 mod writing;
