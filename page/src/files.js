@@ -72,17 +72,20 @@ export function spelledBytes(text) {
   }
 }
 
-/** The files of a drop, those in dropped folders too, in order. */
+/** The files of a drop, those in dropped folders too, in order, each `{name, file}`. */
 export async function droppedFiles(transfer) {
   const entries = [...transfer.items].map((item) => item.webkitGetAsEntry?.() ?? null);
-  if (!entries.some((entry) => entry?.isDirectory)) return [...transfer.files];
+  if (!entries.some((entry) => entry?.isDirectory)) return [...transfer.files].map((file) => ({ name: file.name, file }));
   const found = [];
   for (const entry of entries) if (entry) await collect(entry, found);
   return found;
 }
 
 async function collect(entry, found) {
-  if (entry.isFile) found.push(await new Promise((resolve, reject) => entry.file(resolve, reject)));
+  if (entry.isFile) {
+    const file = await new Promise((resolve, reject) => entry.file(resolve, reject));
+    found.push({ name: entry.fullPath.slice(1), file });
+  }
   if (!entry.isDirectory) return;
   const reader = entry.createReader();
   for (;;) {

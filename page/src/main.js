@@ -1,8 +1,8 @@
 // The page: takes tiles in, has the library judge them, and shows what it says.
-import { Unsupported, loadCodec } from './codec.js';
+import { loadCodec } from './codec.js';
 import { drawn, element } from './dom.js';
 import { droppedFiles, prepared, readFile, spelledBytes } from './files.js';
-import { counted, size } from './text.js';
+import { counted, grouped, size } from './text.js';
 import { showTile } from './tile.js';
 import { judge, verdictLine } from './verdict.js';
 
@@ -90,10 +90,11 @@ function tableOf(body) {
 }
 
 function sayCounts({ accepted, refused, unjudged }) {
-  return `${accepted} accepted, ${refused} refused${unjudged > 0 ? `, ${unjudged} not judged` : ''}`;
+  const told = `${grouped(accepted)} accepted, ${grouped(refused)} refused`;
+  return unjudged > 0 ? `${told}, ${grouped(unjudged)} not judged` : told;
 }
 
-const fileInput = (file) => ({ name: file.webkitRelativePath || file.name, load: () => readFile(file) });
+const fileInput = ({ name, file }) => ({ name, load: () => readFile(file) });
 const bytesInput = (name, bytes, note = null) => ({
   name,
   load: async () => {
@@ -113,7 +114,10 @@ async function codecOf(base64) {
 
 /** Binds what a person does to the page. */
 function listen(page) {
-  at('files').addEventListener('change', (event) => page.open([...event.target.files].map(fileInput)).then(() => { event.target.value = ''; }));
+  at('files').addEventListener('change', async ({ target }) => {
+    await page.open([...target.files].map((file) => fileInput({ name: file.name, file })));
+    target.value = '';    // so that the same file can be chosen again
+  });
   document.addEventListener('dragover', (event) => {
     event.preventDefault();
     document.body.classList.add('over');
@@ -136,14 +140,12 @@ function listen(page) {
 }
 
 async function start() {
-  try {
-    const codec = await codecOf(data.codec);
+  const codec = await codecOf(data.codec).catch(() => null);
+  if (codec === null) at('unsupported').hidden = false;
+  else {
     listen(new Page(codec));
-    globalThis.mvt = { codec };
+    globalThis.mvt = { codec };    // for the console, and for tests
     at('start').hidden = false;
-  } catch (error) {
-    if (!(error instanceof Unsupported)) throw error;
-    at('unsupported').hidden = false;
   }
   document.body.dataset.ready = 'yes';
 }
