@@ -1,7 +1,7 @@
 // The page: takes tiles in, has the library judge them, and shows what it says.
 import { loadCodec } from './codec.js';
 import { drawn, element } from './dom.js';
-import { droppedFiles, prepared, readFile, spelledBytes } from './files.js';
+import { hasFolder, prepared, readFile, spelledBytes } from './files.js';
 import { counted, grouped, size } from './text.js';
 import { showTile } from './tile.js';
 import { judge, verdictLine } from './verdict.js';
@@ -94,7 +94,7 @@ function sayCounts({ accepted, refused, unjudged }) {
   return unjudged > 0 ? `${told}, ${grouped(unjudged)} not judged` : told;
 }
 
-const fileInput = ({ name, file }) => ({ name, load: () => readFile(file) });
+const fileInput = (file) => ({ name: file.webkitRelativePath || file.name, load: () => readFile(file) });
 const bytesInput = (name, bytes, note = null) => ({
   name,
   load: async () => {
@@ -114,19 +114,22 @@ async function codecOf(base64) {
 
 /** Binds what a person does to the page. */
 function listen(page) {
-  at('files').addEventListener('change', async ({ target }) => {
-    await page.open([...target.files].map((file) => fileInput({ name: file.name, file })));
-    target.value = '';    // so that the same file can be chosen again
-  });
+  for (const id of ['files', 'folder']) {
+    at(id).addEventListener('change', async ({ target }) => {
+      await page.open([...target.files].map(fileInput));
+      target.value = '';    // so that the same file can be chosen again
+    });
+  }
   document.addEventListener('dragover', (event) => {
     event.preventDefault();
     document.body.classList.add('over');
   });
   document.addEventListener('dragleave', (event) => event.relatedTarget ?? document.body.classList.remove('over'));
-  document.addEventListener('drop', async (event) => {
+  document.addEventListener('drop', (event) => {
     event.preventDefault();
     document.body.classList.remove('over');
-    page.open((await droppedFiles(event.dataTransfer)).map(fileInput));
+    at('undropped').textContent = hasFolder(event.dataTransfer) ? 'A folder can’t be dropped. “Choose a folder” reads all its files.' : '';
+    if (at('undropped').textContent === '') page.open([...event.dataTransfer.files].map(fileInput));
   });
   at('paste').addEventListener('submit', (event) => {
     event.preventDefault();

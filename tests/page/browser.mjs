@@ -109,9 +109,9 @@ class Tab {
   }
 
   /** Chooses files as a person does. */
-  async choose(paths) {
+  async choose(paths, input = '#files') {
     const { root } = await this.send('DOM.getDocument');
-    const { nodeId } = await this.send('DOM.querySelector', { nodeId: root.nodeId, selector: '#files' });
+    const { nodeId } = await this.send('DOM.querySelector', { nodeId: root.nodeId, selector: input });
     await this.send('DOM.setFileInputFiles', { nodeId, files: paths });
   }
 

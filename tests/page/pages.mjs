@@ -198,10 +198,15 @@ await onPage('fifty tiles at once', {}, async (page) => {
 });
 
 await onPage('a folder', {}, async (page) => {
-  await page.drop([`${tiles}/broken`]);
+  await page.choose([`${tiles}/broken`], '#folder');
   await page.until("document.querySelector('#list h2')?.textContent.includes(' tiles:') && !document.body.classList.contains('busy')");
   const names = await page.value(texts('#list tbody .link'));
   return names.includes('broken/22-FirstRing.mvt') || names.join(' ');
+});
+
+await onPage('a folder that is dropped', {}, async (page) => {
+  await page.drop([`${tiles}/broken`]);
+  await page.until("document.getElementById('undropped').textContent.startsWith('A folder')");
 });
 
 await onPage('no bytes at all', {}, async (page) => {
