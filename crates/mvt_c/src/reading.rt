@@ -1,6 +1,6 @@
 //! A tile's bytes read as rows.
 ghost use Rattle.std.specs.Prelude.{◌≡◌, ◌≢◌, ◌≤◌, IfOk, IfErr};
-ghost use Rattle.mvt_c.specs.Calls.{IsRead, IsTold, NotRead};
+ghost use Rattle.mvt_c.specs.Calls.{IsRead, IsTold, IsTooLargeToRead, NotRead};
 ghost use Rattle.mvt_c.specs.Lent.{table_of};
 
 use crate::fault::Fault;
@@ -15,6 +15,7 @@ use std::alloc::Global;
 pub extern "C" fn mvt_read(alloc: Global, bytes: &[u8], out: &mut Rows, fault: &mut Fault) -> u32
     ensures done { result ≡ 0 → IsRead bytes.now (table_of out.new) }
     ensures refused { result ≡ 1 → IsTold bytes.now fault.new }
+    ensures too_large { result ≡ 3 → IsTooLargeToRead bytes.now }
     ensures few { result ≤ 3 }
     ensures out_kept { result ≢ 0 → out.new ≡ out.old }
     ensures fault_kept { result ≢ 1 → fault.new ≡ fault.old }
