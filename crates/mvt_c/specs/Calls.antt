@@ -79,6 +79,10 @@ IsRewritten input made = (tile : Tile) × IsTile LIMIT input tile × (made ≡ c
 abbrev pub IsTooLarge : List ℕ → Type 0
 IsTooLarge input = (tile : Tile) × IsTile LIMIT input tile × (LIMIT < length (canonical tile))
 
+-- the bytes are a tile
+abbrev pub IsAccepted : List ℕ → Type 0
+IsAccepted input = (tile : Tile) × IsTile LIMIT input tile
+
 -- the first broken rule of the bytes, as C sees it
 abbrev pub IsTold : List ℕ → Fault → Type 0
 IsTold input told = (fault : TileFault) × (fault_within LIMIT input ≡ Some fault) × IsFault fault told
