@@ -10,6 +10,7 @@ pub mod JudgeLemmas
 pub mod DecoderLemmas
 pub mod TakingLemmas
 pub mod WritingLemmas
+pub mod ComparingLemmas
 pub mod RoundTripLemmas
 pub mod ExtractionLemmas
 pub mod PickLemmas
