@@ -9,7 +9,7 @@ use crate::lent::Bytes;
 use crate::refusal::Refusal;
 use crate::rows::Rows;
 use crate::tiles::tile_of;
-use mvt_tile::{encode, is_valid};
+use mvt_tile::{encode, validate};
 use std::alloc::Global;
 
 /// The canonical bytes of the tile that rows are (`mvt_write`).
@@ -43,7 +43,7 @@ pub(crate) fn written(alloc: Global, rows: &Rows) -> Result<Vec<u8>, Refusal>
 {
     mvt_attrs::laws::attributes_or_fault();
     let tile = tile_of(alloc, rows)?;
-    if !is_valid(&tile) {
+    if !validate(alloc, &tile)? {
         return Err(Refusal::NoTile);
     }
     Ok(encode(alloc, &tile)?)

@@ -12,7 +12,7 @@ use crate::reply::Reply;
 use crate::words::Task;
 use mvt_base::{LIMIT, Text};
 use mvt_io::{Source, read_all};
-use mvt_tile::{PutError, Tile, decode, encode};
+use mvt_tile::{Tile, decode, is_canonical};
 use mvt_view::report_text;
 use std::alloc::Global;
 
@@ -57,18 +57,4 @@ fn reported(alloc: Global, tile: &Tile, input: &[u8]) -> Result<Reply, Failure>
         written: Some(Text::from_string(text)?),
         told: None,
     })
-}
-
-/// Whether the input is what its tile is written as.
-fn is_canonical(alloc: Global, tile: &Tile, input: &[u8]) -> Result<bool, Failure>
-    requires valid { Valid tile.now }
-    requires small { length input.now ≤ LIMIT }
-    ensures answer { IfOk result (λ yes. yes ≡ bytes_eq input.now (canonical tile.now)) }
-    ensures failed { IfErr result (λ failure. failure ≡ Failure.Memory) }
-{
-    match encode(alloc, tile) {
-        Ok(bytes) => Ok(bytes.as_slice() == input),
-        Err(PutError::TooLarge) => Ok(false),
-        Err(PutError::Memory) => Err(Failure::Memory),
-    }
 }

@@ -21,7 +21,7 @@ pub use feature::Feature;
 pub use message_error::MessageError;
 pub use reading::{judge_feature, read_feature, read_feature_in};
 pub use room::Room;
-pub use validity::is_valid_feature;
+pub use validity::{is_valid_feature, validate_feature};
 pub use value::{judge_value, read_value, text_of, varint_of};
 pub use whole::{fault_at, rest_fault};
 pub use writing::{append_feature, append_value, value_len};

@@ -1,5 +1,5 @@
 //! Which features can be written.
-ghost use Rattle.std.specs.Prelude.{◌≡◌, ◌↔◌, bytes_eq, IsTrue};
+ghost use Rattle.std.specs.Prelude.{◌≡◌, ◌↔◌, bytes_eq, IfOk, IsTrue};
 ghost use Rattle.std.specs.List.{AllByRecursion, list_any};
 ghost use Rattle.mvt_attrs.specs.declared.value.Attribute.{Attribute as OneAttribute};
 ghost use Rattle.mvt_attrs.specs.Tags.{HasDistinctKeys};
@@ -8,6 +8,11 @@ ghost use Rattle.mvt_feature.specs.Valid.{ValidValue, ValidAttribute, ValidFeatu
 use crate::feature::Feature;
 use mvt_attrs::{Attribute, Value};
 use mvt_geometry::is_valid_geometry;
+use std::alloc::{AllocError, Global};
+use std::collections::BTreeSet;
+
+/// The most attributes among which a repeated key is looked for without memory.
+const FEW: usize = 16;
 
 /// Whether a feature can be written: no two attributes have one key, and integers draw the geometry.
 ///
@@ -19,6 +24,20 @@ pub fn is_valid_feature(feature: &Feature) -> bool
         let _id = id;
     }
     have_distinct_keys(feature.attributes.as_slice()) && is_valid_geometry(&feature.geometry)
+}
+
+/// The same, in time that grows as that of sorting the keys. Few attributes need no memory.
+pub fn validate_feature(alloc: Global, feature: &Feature) -> Result<bool, AllocError>
+    ensures { IfOk result (λ valid. IsTrue valid ↔ ValidFeature feature.now) }
+{
+    let attributes = feature.attributes.as_slice();
+    if attributes.len() <= FEW {
+        return Ok(is_valid_feature(feature));
+    }
+    if let Some(id) = feature.id {
+        let _id = id;
+    }
+    Ok(have_keys_apart(alloc, attributes)? && is_valid_geometry(&feature.geometry))
 }
 
 /// Whether no two attributes have one key. What they hold is in the range of its type.
@@ -34,6 +53,22 @@ fn have_distinct_keys(attributes: &[Attribute]) -> bool
         }
     }
     true
+}
+
+/// The same by a set of the keys so far.
+fn have_keys_apart(alloc: Global, attributes: &[Attribute]) -> Result<bool, AllocError>
+    ensures distinct { IfOk result (λ distinct. IsTrue distinct ↔ HasDistinctKeys attributes.now) }
+    ensures valid { IfOk result (λ distinct. IsTrue distinct → AllByRecursion ValidAttribute attributes.now) }
+{
+    let mut keys = BTreeSet::new(alloc);
+    for attribute in attributes {
+        let key = attribute.key.as_str();
+        see_range(&attribute.value);
+        if !keys.insert(key)? {
+            return Ok(false);
+        }
+    }
+    Ok(true)
 }
 
 /// A value is in the range of its type.

@@ -23,4 +23,4 @@ pub use mvt_base::LIMIT;
 pub use mvt_feature::{Cause, Feature, MessageError, read_feature, read_value};
 pub use put::{PutError, item_len, put_item};
 pub use read::{judge_item, read_item};
-pub use valid::{is_valid_item, is_valid_layer};
+pub use valid::{is_valid_item, is_valid_layer, validate_item};

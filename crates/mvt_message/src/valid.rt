@@ -1,5 +1,5 @@
 //! Which layers and items can be written.
-ghost use Rattle.std.specs.Prelude.{◌↔◌, IsTrue};
+ghost use Rattle.std.specs.Prelude.{◌↔◌, IfOk, IsTrue};
 ghost use Rattle.std.specs.List.{AllByRecursion};
 ghost use Rattle.mvt_feature.specs.Valid.{ValidFeature};
 ghost use Rattle.mvt_message.specs.ValidItems.{ValidItem, ValidLayer, AreOfVersion};
@@ -7,8 +7,9 @@ ghost use Rattle.mvt_message.specs.ValidItems.{ValidItem, ValidLayer, AreOfVersi
 use crate::item::{Item, Layer};
 use crate::version::read_version;
 use mvt_feature::laws::rests;
-use mvt_feature::{Feature, is_valid_feature};
+use mvt_feature::{Feature, is_valid_feature, validate_feature};
 use mvt_wire::laws::split_function;
+use std::alloc::{AllocError, Global};
 
 /// Whether a layer can be written: each of its features can. It takes no memory.
 #[tactic(auto, unfolding(crate::specs::ValidItems::ValidLayer))]
@@ -30,6 +31,37 @@ pub fn is_valid_item(item: &Item) -> bool
         Item::Layer(layer) => is_valid_layer(layer),
         Item::Foreign { version, bytes } => are_of_version(*version, bytes.as_slice()),
     }
+}
+
+/// The same, in time that grows as that of sorting the keys of each feature.
+#[tactic(auto, unfolding(crate::specs::ValidItems::ValidItem))]
+pub fn validate_item(alloc: Global, item: &Item) -> Result<bool, AllocError>
+    ensures { IfOk result (λ valid. IsTrue valid ↔ ValidItem item.now) }
+{
+    match item {
+        Item::Layer(layer) => validate_layer(alloc, layer),
+        Item::Foreign { version, bytes } => Ok(are_of_version(*version, bytes.as_slice())),
+    }
+}
+
+#[tactic(auto, unfolding(crate::specs::ValidItems::ValidLayer))]
+fn validate_layer(alloc: Global, layer: &Layer) -> Result<bool, AllocError>
+    ensures { IfOk result (λ valid. IsTrue valid ↔ ValidLayer layer.now) }
+{
+    let _name = layer.name.as_str();
+    let _extent = layer.extent;
+    validate_features(alloc, layer.features.as_slice())
+}
+
+fn validate_features(alloc: Global, features: &[Feature]) -> Result<bool, AllocError>
+    ensures { IfOk result (λ valid. IsTrue valid ↔ AllByRecursion ValidFeature features.now) }
+{
+    for feature in features {
+        if !validate_feature(alloc, feature)? {
+            return Ok(false);
+        }
+    }
+    Ok(true)
 }
 
 fn are_valid(features: &[Feature]) -> bool

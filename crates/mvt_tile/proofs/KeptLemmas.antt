@@ -1,7 +1,8 @@
 -- The set of names beside the items.
-use Rattle.std.proofs.Common.{◌≡◌, ℕ, Bool, true, false, not, ◌||◌, List, [], ◌∷◌, ◌++◌, bytes_eq, refl, sym, ap, subst, ◌∙◌}
+use Rattle.std.proofs.Common.{◌≡◌, ℕ, ◌≤◌, Bool, true, false, not, ◌||◌, List, [], ◌∷◌, ◌++◌, length, take, bytes_eq, refl, sym, ap, subst, ◌∙◌}
 use Rattle.std.specs.List.{list_any, flat_map}
 use Rattle.std.proofs.lemmas.Bool.{not-true}
+use Rattle.std.proofs.lemmas.List.{take_all}
 use Rattle.std.proofs.lemmas.List.Folds.{list_any-append}
 use Rattle.mvt_base.proofs.ListLemmas.{all_joined}
 use Rattle.mvt_message.specs.declared.item.Item.{Item as AnItem}
@@ -30,3 +31,6 @@ kept_more names after items longer item added kept valid is is_new named e =
       valid = all_joined ValidItem items (item ∷ []) kept.valid (valid, tt);
       distinct = distinct_more items item kept.distinct (not-true (repeats (flat_map names_in items) (names_in item)) (sym (kept_added names items item added kept is) ∙ is_new));
     })
+
+pub kept_all : (names : List (List ℕ)) (items : List AnItem) (i : ℕ) → length items ≤ i → AreKept names (take i items) → AreKept names items
+kept_all names items i past kept = subst (AreKept names) (take_all i items past) kept

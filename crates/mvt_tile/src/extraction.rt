@@ -1,17 +1,13 @@
-//! The layers of a tile that are named, and whether a tile can be written.
-ghost use Rattle.std.specs.Prelude.{◌≡◌, ◌↔◌, ℕ, List, [], ◌∷◌, ◌++◌, map, not, if◌then◌else◌, None, IsTrue, IfOk, IfErr, OnOk, string_bytes};
-ghost use Rattle.std.specs.List.{AllByRecursion, flat_map, list_any, position_from};
-ghost use Rattle.mvt_message.specs.Items.{names_in};
-ghost use Rattle.mvt_message.specs.ValidItems.{ValidItem};
+//! The layers of a tile that are named.
+ghost use Rattle.std.specs.Prelude.{◌≡◌, ℕ, List, [], ◌∷◌, ◌++◌, map, not, if◌then◌else◌, None, IfOk, IfErr, OnOk, string_bytes};
+ghost use Rattle.std.specs.List.{list_any, position_from};
 ghost use Rattle.mvt_tile.specs.Extraction.{is_named, pick, first_missing, TellsMissing};
-ghost use Rattle.mvt_tile.specs.TileRules.{repeats};
-ghost use Rattle.mvt_tile.specs.Tiles.{HasDistinctNames};
 ghost use Rattle.mvt_tile.specs.ValidTiles.{Valid};
 
 use crate::extract_error::ExtractError;
 use crate::tile::Tile;
 use mvt_base::Items;
-use mvt_message::{Item, is_valid_item};
+use mvt_message::Item;
 use std::alloc::{AllocError, Global};
 
 /// The layers of version 2 that are named, in the order of the tile. Foreign items are left out, and
@@ -68,7 +64,7 @@ fn missing_name(items: &[Item], names: &[String]) -> Option<usize>
     None
 }
 
-fn has_layer(items: &[Item], name: &str) -> bool
+pub(crate) fn has_layer(items: &[Item], name: &str) -> bool
     ensures { result ≡ list_any (is_named name.now) items.now }
 {
     items.iter().any(|item| has_name(item, name))
@@ -90,47 +86,6 @@ fn has_name(item: &Item, name: &str) -> bool
 {
     match item {
         Item::Layer(layer) => name == layer.name.as_str(),
-        Item::Foreign { .. } => false,
-    }
-}
-
-/// Whether a tile can be written. It takes no memory.
-pub fn is_valid(tile: &Tile) -> bool
-    ensures { IsTrue result ↔ Valid tile.now }
-{
-    let items = tile.items.as_slice();
-    are_valid(items) && are_distinct(items)
-}
-
-fn are_valid(items: &[Item]) -> bool
-    ensures { IsTrue result ↔ AllByRecursion ValidItem items.now }
-{
-    for item in items {
-        if !is_valid_item(item) {
-            return false;
-        }
-    }
-    true
-}
-
-/// Whether no two layers have one name.
-fn are_distinct(items: &[Item]) -> bool
-    ensures { IsTrue result ↔ HasDistinctNames items.now }
-{
-    for (index, item) in items.iter().enumerate() {
-        if is_repeated(&items[..index], item) {
-            return false;
-        }
-    }
-    true
-}
-
-/// Whether the name of an item stands in one before it.
-fn is_repeated(before: &[Item], item: &Item) -> bool
-    ensures { result ≡ repeats (flat_map names_in before.now) (names_in item.now) }
-{
-    match item {
-        Item::Layer(layer) => has_layer(before, layer.name.as_str()),
         Item::Foreign { .. } => false,
     }
 }

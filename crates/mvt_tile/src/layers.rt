@@ -74,7 +74,11 @@ impl Layers {
 }
 
 /// Adds the name of a layer to the names, and answers whether it is new. A foreign item has none.
-fn add_names(alloc: Global, names: &mut BTreeSet<Text>, item: &Item) -> Result<bool, AllocError>
+pub(crate) fn add_names(
+    alloc: Global,
+    names: &mut BTreeSet<Text>,
+    item: &Item,
+) -> Result<bool, AllocError>
     ensures new { IfOk result (λ new. new ≡ not (repeats names.old.keys (names_in item.now))) }
     ensures named { IfOk result (λ new. IsTrue new → (n : List ℕ) → list_any (bytes_eq n) names.new.keys
         ≡ (list_any (bytes_eq n) names.old.keys || list_any (bytes_eq n) (names_in item.now))) }

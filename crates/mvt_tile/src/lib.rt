@@ -2,6 +2,7 @@
 #![tactic(auto)]
 
 mod below;
+mod comparing;
 mod decoder;
 mod extract_error;
 mod extraction;
@@ -17,12 +18,14 @@ mod taking;
 #[cfg(test)]
 mod tests;
 mod tile;
+mod validity;
 mod write_error;
 mod writing;
 
+pub use comparing::is_canonical;
 pub use decoder::{TileDecoder, decode};
 pub use extract_error::ExtractError;
-pub use extraction::{extract, is_valid};
+pub use extraction::extract;
 pub use fault::{DecodeError, Fault};
 pub use judging::judge;
 pub use mvt_message::PutError;
@@ -31,5 +34,6 @@ pub use noting::notes;
 pub use reading::read_tile;
 pub use round_trip::write_and_read;
 pub use tile::Tile;
+pub use validity::{is_valid, validate};
 pub use write_error::WriteError;
 pub use writing::{encode, write_tile};

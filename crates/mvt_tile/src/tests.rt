@@ -7,5 +7,6 @@ mod refused_rows;
 mod rows;
 mod streams;
 mod support;
+mod validity;
 mod views;
 mod whole;

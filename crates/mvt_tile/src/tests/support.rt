@@ -1,5 +1,7 @@
 //! Tiles made by hand, and what several tests compare.
-use crate::{DecodeError, Fault, Tile, TileDecoder, decode, encode, is_valid, judge};
+use crate::{
+    DecodeError, Fault, Tile, TileDecoder, decode, encode, is_canonical, is_valid, judge, validate,
+};
 use mvt_attrs::Attribute;
 use mvt_base::{Items, Text};
 use mvt_geometry::{Geometry, Point};
@@ -111,6 +113,32 @@ pub(super) fn expect_tile(
     judge(rt.alloc(), input)?;
     let written = encode(rt.alloc(), &read).map_err(|_| AllocError)?;
     assert_eq!(rt; written.as_slice(), canonical);
+    assert!(rt; validate(rt.alloc(), &read)?);
+    expect_canonical(rt, &read, input, input == canonical)?;
+    expect_canonical(rt, &read, canonical, true)?;
+    let longer = joined(rt.alloc(), canonical, b"\x20\x05")?;
+    expect_canonical(rt, &read, &longer, false)?;
+    if let [shorter @ .., _] = canonical {
+        expect_canonical(rt, &read, shorter, false)?;
+    }
+    Ok(())
+}
+
+// Whether bytes are what a tile is written as.
+fn expect_canonical(
+    rt: &(impl Abort + AllocGlobal),
+    tile: &Tile,
+    bytes: &[u8],
+    answer: bool,
+) -> Result<(), Fail> {
+    assert!(rt; is_valid(tile));
+    if is_valid(tile) {
+        assert_eq!(rt;
+            is_canonical(rt.alloc(), tile, bytes)?,
+            answer,
+            "of {bytes:?}"
+        );
+    }
     Ok(())
 }
 

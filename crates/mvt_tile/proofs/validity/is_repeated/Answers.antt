@@ -4,7 +4,7 @@ use Rattle.mvt_message.specs.Items.{names_in}
 use Rattle.mvt_tile.specs.TileRules.{repeats}
 use Rattle.mvt_tile.specs.Extraction.{is_named}
 use Rattle.mvt_tile.proofs.ExtractionLemmas.{repeats_named}
-use Rattle.mvt_tile.proofs.extraction.is_repeated.Goals as goal
+use Rattle.mvt_tile.proofs.validity.is_repeated.Goals as goal
 
 pub returns-in-Layer : goal.returns-in-Layer
 returns-in-Layer c =

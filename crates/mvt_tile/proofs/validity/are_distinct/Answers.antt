@@ -3,7 +3,7 @@ use Rattle.std.proofs.lemmas.Bool.{false≢true}
 use Rattle.std.proofs.lemmas.List.{take_all}
 use Rattle.mvt_tile.specs.Tiles.{HasDistinctNames}
 use Rattle.mvt_tile.proofs.ExtractionLemmas.{distinct_next, distinct_not}
-use Rattle.mvt_tile.proofs.extraction.are_distinct.Goals as goal
+use Rattle.mvt_tile.proofs.validity.are_distinct.Goals as goal
 
 pub returns-then-is_repeated : goal.returns-then-is_repeated
 returns-then-is_repeated c =

@@ -1,6 +1,6 @@
 use Rattle.std.proofs.Common.{take}
 use Rattle.mvt_tile.specs.Tiles.{HasDistinctNames}
-use Rattle.mvt_tile.proofs.extraction.are_distinct.Given as goal
+use Rattle.mvt_tile.proofs.validity.are_distinct.Given as goal
 
 abbrev pub invariant-loop-index : goal.invariant-loop-index
 invariant-loop-index l = HasDistinctNames (take l.index l.items)

@@ -1,0 +1,31 @@
+use Rattle.std.proofs.Common.{◌≡◌, ◌+◌, ◌++◌, ◌∷◌, [], true, take, refl, sym, ap, subst, ◌∙◌, arith}
+use Rattle.std.specs.List.{AllByRecursion, flat_map}
+use Rattle.std.proofs.lemmas.Bool.{false≢true, not-false}
+use Rattle.std.proofs.lemmas.List.{take_more}
+use Rattle.mvt_message.specs.Items.{names_in}
+use Rattle.mvt_message.specs.ValidItems.{ValidItem}
+use Rattle.mvt_tile.specs.TileRules.{repeats}
+use Rattle.mvt_tile.specs.Tiles.{HasDistinctNames}
+use Rattle.mvt_tile.proofs.ExtractionLemmas.{distinct_not}
+use Rattle.mvt_tile.proofs.KeptLemmas.{kept_added, kept_more, kept_all}
+use Rattle.mvt_tile.proofs.validity.validate.Goals as goal
+
+pub returns-then-not-branch-2 : goal.returns-then-not-branch-2
+returns-then-not-branch-2 c =
+    let items = c.as_slice-items.result.now in
+    let i = c.loop-item.item-index in
+    let repeated : repeats (flat_map names_in (take i items)) (names_in c.item-item.result) ≡ true =
+    not-false _ (sym (kept_added _ (take i items) c.item-item.result _ c.loop-item.invariant c.in_ok-add_names.ensures.new) ∙ c.if-not-branch-2.true) in
+    (λ impossible. absurd (false≢true impossible), λ valid. absurd (distinct_not items i c.item-item.result true c.loop-item-test.true c.item-item.is (sym repeated) refl (subst HasDistinctNames (sym c.as_slice-items.ensures) valid.names)))
+
+pub loop-item-preserved : goal.loop-item-preserved
+loop-item-preserved c =
+    let items = c.as_slice-items.result.now in
+    let i = c.loop-item.item-index in
+    kept_more c.loop-item.names.keys c.add_names.new.names.keys (take i items) (take (i + 1) items) c.item-item.result c.in_ok-add_names.field-0 c.loop-item.invariant (c.in_ok-validate_item.ensures.0 c.if-not-branch.false) c.in_ok-add_names.ensures.new c.if-not-branch-2.false (c.in_ok-add_names.ensures.named c.if-not-branch-2.false)
+    (take_more items i c.item-item.result c.loop-item-test.true ∙ ap (λ x. take i items ++ x ∷ []) (sym c.item-item.is))
+
+pub returns : goal.returns
+returns c =
+    let kept = kept_all c.loop-item.names.keys c.as_slice-items.result.now c.loop-item.item-index (omega arith) c.loop-item.invariant in
+    (λ _. record { items = subst (AllByRecursion ValidItem) c.as_slice-items.ensures kept.valid; names = subst HasDistinctNames c.as_slice-items.ensures kept.distinct }, λ _. refl)

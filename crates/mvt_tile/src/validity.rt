@@ -1,0 +1,75 @@
+//! Whether a tile can be written.
+ghost use Rattle.std.specs.Prelude.{◌≡◌, ◌↔◌, IfOk, IsTrue};
+ghost use Rattle.std.specs.List.{AllByRecursion, flat_map};
+ghost use Rattle.mvt_message.specs.Items.{names_in};
+ghost use Rattle.mvt_message.specs.ValidItems.{ValidItem};
+ghost use Rattle.mvt_tile.specs.TileRules.{repeats};
+ghost use Rattle.mvt_tile.specs.Tiles.{HasDistinctNames};
+ghost use Rattle.mvt_tile.specs.ValidTiles.{Valid};
+
+use crate::extraction::has_layer;
+use crate::layers::add_names;
+use crate::tile::Tile;
+use mvt_message::{Item, is_valid_item, validate_item};
+use std::alloc::{AllocError, Global};
+use std::collections::BTreeSet;
+
+/// Whether a tile can be written. It takes no memory, and time that grows with the square of the
+/// number of layers and of a feature's attributes: `validate` is for tiles of strangers.
+pub fn is_valid(tile: &Tile) -> bool
+    ensures { IsTrue result ↔ Valid tile.now }
+{
+    let items = tile.items.as_slice();
+    are_valid(items) && are_distinct(items)
+}
+
+/// The same, in time that grows as that of sorting the names of the layers and the keys of each
+/// feature.
+pub fn validate(alloc: Global, tile: &Tile) -> Result<bool, AllocError>
+    ensures { IfOk result (λ valid. IsTrue valid ↔ Valid tile.now) }
+{
+    let mut names = BTreeSet::new(alloc);
+    let items = tile.items.as_slice();
+    for item in items {
+        if !validate_item(alloc, item)? {
+            return Ok(false);
+        }
+        if !add_names(alloc, &mut names, item)? {
+            return Ok(false);
+        }
+    }
+    Ok(true)
+}
+
+fn are_valid(items: &[Item]) -> bool
+    ensures { IsTrue result ↔ AllByRecursion ValidItem items.now }
+{
+    for item in items {
+        if !is_valid_item(item) {
+            return false;
+        }
+    }
+    true
+}
+
+/// Whether no two layers have one name.
+fn are_distinct(items: &[Item]) -> bool
+    ensures { IsTrue result ↔ HasDistinctNames items.now }
+{
+    for (index, item) in items.iter().enumerate() {
+        if is_repeated(&items[..index], item) {
+            return false;
+        }
+    }
+    true
+}
+
+/// Whether the name of an item stands in one before it.
+fn is_repeated(before: &[Item], item: &Item) -> bool
+    ensures { result ≡ repeats (flat_map names_in before.now) (names_in item.now) }
+{
+    match item {
+        Item::Layer(layer) => has_layer(before, layer.name.as_str()),
+        Item::Foreign { .. } => false,
+    }
+}
