@@ -124,6 +124,13 @@ uint32_t mvt_json(const uint8_t *bytes, size_t len, mvt_bytes *out, mvt_fault *f
 /* A picture of a tile in SVG: MVT_OK, MVT_REFUSED, MVT_NO_MEMORY. */
 uint32_t mvt_svg(const uint8_t *bytes, size_t len, mvt_bytes *out, mvt_fault *fault);
 
+/* Whether the bytes are a tile: MVT_OK, MVT_REFUSED, MVT_NO_MEMORY. */
+uint32_t mvt_judge(const uint8_t *bytes, size_t len, mvt_fault *fault);
+
+/* What `mvt check` says of a tile: the counts of its layers and features, whether the bytes are canonical, and a line for
+ * each note. Each line ends in a line feed. MVT_OK, MVT_REFUSED, MVT_NO_MEMORY. */
+uint32_t mvt_report(const uint8_t *bytes, size_t len, mvt_bytes *out, mvt_fault *fault);
+
 /* A tile as rows. MVT_OK, MVT_REFUSED, MVT_NO_MEMORY; MVT_TOO_LARGE for a layer of more than 67,108,864 keys or
  * values. */
 uint32_t mvt_read(const uint8_t *bytes, size_t len, mvt_tile *out, mvt_fault *fault);

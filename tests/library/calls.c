@@ -225,6 +225,9 @@ static void call(const char *path) {
     if (rewritten == MVT_OK) sum += sum_of(&out);
     const uint32_t shown = mvt_json(bytes, len, &out, &fault);
     if (shown == MVT_OK) sum += sum_of(&out);
+    require(mvt_judge(bytes, len, &fault) == shown, "a tile is accepted where it is shown");
+    require(mvt_report(bytes, len, &out, &fault) == shown, "a tile is reported on where it is shown");
+    if (shown == MVT_OK) sum += sum_of(&out);
     const uint32_t read = mvt_read(bytes, len, &rows, &fault);
     const mvt_bytes names[] = {{(const uint8_t *)"water", 5}, {(const uint8_t *)"\xff", 1}};
     const uint32_t extracted = mvt_extract(bytes, len, names, 1, &out, &fault);
