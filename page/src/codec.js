@@ -12,16 +12,9 @@ export const NO_MEMORY = 2;
 export const TOO_LARGE = 3;
 export const NO_LAYER = 4;
 
-/** What is thrown where the browser can't make the module. */
-export class Unsupported extends Error {}
-
-/** Compiles the module. */
+/** Compiles the module; rejects where the browser has no memories of 64 bits. */
 export async function loadCodec(wasm) {
-  try {
-    return new Codec(await WebAssembly.compile(wasm));
-  } catch (error) {
-    throw new Unsupported(String(error));
-  }
+  return new Codec(await WebAssembly.compile(wasm));
 }
 
 export class Codec {
@@ -43,6 +36,7 @@ export class OpenTile {
   #exports;
   #at;
   #len;
+  #lastView = null;
 
   constructor(exports, bytes) {
     this.#exports = exports;
@@ -95,7 +89,7 @@ export class OpenTile {
     return this.#made('mvt_report', []);
   }
 
-  /** `{status, rows}`: the lists of rows by name, each with its place in the memory and its count. */
+  /** `{status, rows}`: the lists of rows by name, each with its place in the memory and its count; and the memory. */
   read() {
     const out = this.#take(ROWS_SIZE);
     const answer = this.#call('mvt_read', [out]);
@@ -105,7 +99,7 @@ export class OpenTile {
       const [at, count] = this.#slice(out, 16 * index);
       return [name, { at, count }];
     });
-    return { status: OK, rows: { ...Object.fromEntries(lists), memory: this.#view() } };
+    return { status: OK, rows: { ...Object.fromEntries(lists), memory: () => this.#view() } };
   }
 
   #made(call, more) {
@@ -161,8 +155,10 @@ export class OpenTile {
     return new Uint8Array(this.#exports.memory.buffer, Number(at), len);
   }
 
-  // The memory may have grown since the last call, and then has another buffer.
+  // The memory may have grown since the last time, and then has another buffer.
   #view() {
-    return new DataView(this.#exports.memory.buffer);
+    const { buffer } = this.#exports.memory;
+    if (this.#lastView?.buffer !== buffer) this.#lastView = new DataView(buffer);
+    return this.#lastView;
   }
 }

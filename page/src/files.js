@@ -72,22 +72,7 @@ export function spelledBytes(text) {
   }
 }
 
-/** The files of a drop, those in dropped folders too, in order. */
-export async function droppedFiles(transfer) {
-  const entries = [...transfer.items].map((item) => item.webkitGetAsEntry?.() ?? null);
-  if (!entries.some((entry) => entry?.isDirectory)) return [...transfer.files];
-  const found = [];
-  for (const entry of entries) if (entry) await collect(entry, found);
-  return found;
-}
-
-async function collect(entry, found) {
-  if (entry.isFile) found.push(await new Promise((resolve, reject) => entry.file(resolve, reject)));
-  if (!entry.isDirectory) return;
-  const reader = entry.createReader();
-  for (;;) {
-    const some = await new Promise((resolve, reject) => reader.readEntries(resolve, reject));
-    if (some.length === 0) return;
-    for (const below of some) await collect(below, found);
-  }
+/** Whether a drop has a folder, whose files a page that was opened as a file may not read. */
+export function hasFolder(transfer) {
+  return [...transfer.items].some((item) => item.webkitGetAsEntry?.()?.isDirectory);
 }

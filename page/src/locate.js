@@ -1,6 +1,7 @@
 // Where a fault lies in the bytes: what the library says of it is a layer, a feature and a place, and here the bytes of
 // that place are found, with the fields round it.
 import { NAMES, fieldsOf, integersOf, nthField, packedOf, wholeOf } from './fields.js';
+import { LIMIT } from './codec.js';
 import { Pen, sayStep } from './geometry.js';
 import { text } from './text.js';
 
@@ -26,13 +27,10 @@ export function locate(bytes, fault) {
 }
 
 function locateTag(bytes, fault) {
+  if (fault.at >= LIMIT) return { trail: [], field: null, mark: { start: fault.at, end: fault.at + 1 }, integers: null };
   const trail = trailTo(bytes, fault.at);
-  if (fault.layer === null && trail.length > 0) trail[0].index = null;
-  const field = trail.at(-1)?.field;
-  if (field?.at !== fault.at) {
-    const end = Math.min(fault.at + 1, bytes.length);
-    return { trail, field: null, mark: { start: fault.at, end }, integers: null };
-  }
+  if (fault.layer === null) trail[0].index = null;
+  const { field } = trail.at(-1);
   return { trail, field, mark: markIn(bytes, fault, trail.at(-1)), integers: null };
 }
 

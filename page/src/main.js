@@ -1,8 +1,8 @@
 // The page: takes tiles in, has the library judge them, and shows what it says.
-import { Unsupported, loadCodec } from './codec.js';
+import { loadCodec } from './codec.js';
 import { drawn, element } from './dom.js';
-import { droppedFiles, prepared, readFile, spelledBytes } from './files.js';
-import { counted, size } from './text.js';
+import { hasFolder, prepared, readFile, spelledBytes } from './files.js';
+import { counted, grouped, size } from './text.js';
 import { showTile } from './tile.js';
 import { judge, verdictLine } from './verdict.js';
 
@@ -90,7 +90,8 @@ function tableOf(body) {
 }
 
 function sayCounts({ accepted, refused, unjudged }) {
-  return `${accepted} accepted, ${refused} refused${unjudged > 0 ? `, ${unjudged} not judged` : ''}`;
+  const told = `${grouped(accepted)} accepted, ${grouped(refused)} refused`;
+  return unjudged > 0 ? `${told}, ${grouped(unjudged)} not judged` : told;
 }
 
 const fileInput = (file) => ({ name: file.webkitRelativePath || file.name, load: () => readFile(file) });
@@ -113,16 +114,22 @@ async function codecOf(base64) {
 
 /** Binds what a person does to the page. */
 function listen(page) {
-  at('files').addEventListener('change', (event) => page.open([...event.target.files].map(fileInput)).then(() => { event.target.value = ''; }));
+  for (const id of ['files', 'folder']) {
+    at(id).addEventListener('change', async ({ target }) => {
+      await page.open([...target.files].map(fileInput));
+      target.value = '';    // so that the same file can be chosen again
+    });
+  }
   document.addEventListener('dragover', (event) => {
     event.preventDefault();
     document.body.classList.add('over');
   });
   document.addEventListener('dragleave', (event) => event.relatedTarget ?? document.body.classList.remove('over'));
-  document.addEventListener('drop', async (event) => {
+  document.addEventListener('drop', (event) => {
     event.preventDefault();
     document.body.classList.remove('over');
-    page.open((await droppedFiles(event.dataTransfer)).map(fileInput));
+    at('undropped').textContent = hasFolder(event.dataTransfer) ? 'A folder can’t be dropped. “Choose a folder” reads all its files.' : '';
+    if (at('undropped').textContent === '') page.open([...event.dataTransfer.files].map(fileInput));
   });
   at('paste').addEventListener('submit', (event) => {
     event.preventDefault();
@@ -136,14 +143,12 @@ function listen(page) {
 }
 
 async function start() {
-  try {
-    const codec = await codecOf(data.codec);
+  const codec = await codecOf(data.codec).catch(() => null);
+  if (codec === null) at('unsupported').hidden = false;
+  else {
     listen(new Page(codec));
-    globalThis.mvt = { codec };
+    globalThis.mvt = { codec };    // for the console, and for tests
     at('start').hidden = false;
-  } catch (error) {
-    if (!(error instanceof Unsupported)) throw error;
-    at('unsupported').hidden = false;
   }
   document.body.dataset.ready = 'yes';
 }

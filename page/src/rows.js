@@ -12,11 +12,13 @@ const VALUE_KINDS = { 1: 'string', 2: 'float', 3: 'double', 4: 'int', 5: 'uint',
 
 export class Rows {
   #rows;
-  #memory;
 
   constructor(rows) {
     this.#rows = rows;
-    this.#memory = rows.memory;
+  }
+
+  get #memory() {
+    return this.#rows.memory();
   }
 
   get layerCount() {

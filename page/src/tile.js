@@ -61,7 +61,7 @@ function sayCanonical(bytes, { status, bytes: made }) {
   if (status === TOO_LARGE) return 'Its canonical bytes would be more than 64 MiB.';
   if (status !== OK) return 'The browser gave no memory for its canonical bytes.';
   const isSame = made.length === bytes.length && made.every((byte, index) => byte === bytes[index]);
-  return isSame ? 'In canonical form.' : `Not in canonical form, which has ${counted(made.length, 'byte')}.`;
+  return isSame ? 'In canonical form.' : `Not in canonical form (which has ${counted(made.length, 'byte')}).`;
 }
 
 /** What `mvt check` says, with its notes in words. A library without the call `mvt_report` has none to show. */
@@ -85,7 +85,8 @@ function saving({ name }, tile, rewritten) {
   const told = element('span', { class: 'quiet', role: 'status' });
   const saved = (file, type, { status, bytes: made }) => {
     if (status === OK) save(file, type, made);
-    told.textContent = status === OK ? '' : status === TOO_LARGE ? 'They would be more than 64 MiB.' : 'The browser gave no memory for this.';
+    const why = status === TOO_LARGE ? 'They would be more than 64 MiB.' : 'The browser gave no memory for this.';
+    told.textContent = status === OK ? '' : why;
   };
   const button = (title, file, type, make) =>
     element('button', { type: 'button', onclick: () => saved(file, type, make()) }, [title]);
@@ -140,7 +141,7 @@ function showRefused({ bytes }, { fault }, rules) {
     ]),
     element('h3', {}, ['Bytes']),
     element('p', { class: 'quiet legend' }, [
-      element('mark', {}, ['The fault']), ' ', element('span', { class: 'field' }, ['the field that holds it']),
+      element('mark', {}, ['The fault']), ' ', place.field ? element('span', { class: 'field' }, ['the field that holds it']) : '',
     ]),
     new HexView(bytes, marks.filter(Boolean)).root,
   ];

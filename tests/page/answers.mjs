@@ -47,7 +47,7 @@ export function answersOf(codec, bytes) {
   if (read.status === 0) {
     const { memory, ...lists } = read.rows;
     const sizes = { layers: 88, features: 64, keys: 16, values: 32, tags: 4, parts: 24, points: 8, integers: 4, texts: 1 };
-    for (const [name, size] of Object.entries(sizes)) rows(lists[name], size, name === 'values' || name === 'parts', memory.buffer);
+    for (const [name, size] of Object.entries(sizes)) rows(lists[name], size, name === 'values' || name === 'parts', memory().buffer);
   }
   const all = new Uint8Array(parts.reduce((sum, part) => sum + part.length, 0));
   parts.reduce((at, part) => (all.set(part, at), at + part.length), 0);

@@ -109,9 +109,9 @@ class Tab {
   }
 
   /** Chooses files as a person does. */
-  async choose(paths) {
+  async choose(paths, input = '#files') {
     const { root } = await this.send('DOM.getDocument');
-    const { nodeId } = await this.send('DOM.querySelector', { nodeId: root.nodeId, selector: '#files' });
+    const { nodeId } = await this.send('DOM.querySelector', { nodeId: root.nodeId, selector: input });
     await this.send('DOM.setFileInputFiles', { nodeId, files: paths });
   }
 
@@ -128,15 +128,12 @@ class Tab {
     await this.send('Input.dispatchKeyEvent', { type: 'keyUp', ...event, text: undefined });
   }
 
-  /** The picture of the page as PNG; of all of it, or of what the window shows. */
-  async screenshot(isWhole = true) {
-    const { data } = await this.send('Page.captureScreenshot', { format: 'png', captureBeyondViewport: isWhole, ...(isWhole ? { clip: await this.#whole() } : {}) });
+  /** The picture of the whole page, in a window as high as the page. */
+  async screenshot() {
+    const { cssContentSize: { width, height } } = await this.send('Page.getLayoutMetrics');
+    await this.send('Emulation.setDeviceMetricsOverride', { width, height, deviceScaleFactor: 1, mobile: width < 600 });
+    const { data } = await this.send('Page.captureScreenshot', { format: 'png' });
     return Buffer.from(data, 'base64');
-  }
-
-  async #whole() {
-    const { cssContentSize } = await this.send('Page.getLayoutMetrics');
-    return { ...cssContentSize, scale: 1 };
   }
 
   async close() {

@@ -113,6 +113,26 @@ await onPage('buttons save the canonical bytes, the picture and the JSON', {}, a
     && same(`${saved('gdal.json')}\n`, readFileSync(`${tiles}/gdal.json`, 'utf8'));
 });
 
+const reports = `(() => {
+  const { codec } = mvt;
+  const open = codec.open.bind(codec);
+  const told = 'ok layers 3 features 7 canonical no\\nnote FlatRing layer 2 feature 0 ring 1\\n';
+  codec.open = (bytes) => Object.assign(open(bytes), { report: () => ({ status: 0, bytes: new TextEncoder().encode(told) }) });
+})()`;
+await onPage('notes are told in words, where the library has them', {}, async (page) => {
+  await page.value(reports);
+  await look(page, [`${tiles}/gdal.mvt`]);
+  const told = await page.value(texts('.report p, .report li'));
+  return same(told, ['The command mvt says: ok layers 3 features 7 canonical no', 'note FlatRing layer 2 feature 0 ring 1: a ring\'s area is 0']);
+});
+
+await onPage('the report is that of the program, where the library has it', {}, async (page) => {
+  await look(page, [`${tiles}/gdal.mvt`]);
+  const hasReport = await page.value("mvt.codec.open(new Uint8Array()).has('mvt_report')");
+  const wanted = hasReport ? readFileSync(`${tiles}/gdal.check`, 'utf8').trim() : '';
+  return same(await page.value(textOf('.report code')), wanted);
+});
+
 // ---- broken tiles
 
 for (const row of readFileSync(`${tiles}/broken/tiles.tsv`, 'utf8').trim().split('\n')) {
@@ -177,11 +197,39 @@ await onPage('fifty tiles at once', {}, async (page) => {
     [50, '50 tiles: 45 accepted, 5 refused', 'layer 0 feature 0 at 8: 22 FirstRing']);
 });
 
+await onPage('a folder', {}, async (page) => {
+  await page.choose([`${tiles}/broken`], '#folder');
+  await page.until("document.querySelector('#list h2')?.textContent.includes(' tiles:') && !document.body.classList.contains('busy')");
+  const names = await page.value(texts('#list tbody .link'));
+  return names.includes('broken/22-FirstRing.mvt') || names.join(' ');
+});
+
+await onPage('a folder that is dropped', {}, async (page) => {
+  await page.drop([`${tiles}/broken`]);
+  await page.until("document.getElementById('undropped').textContent.startsWith('A folder')");
+});
+
+await onPage('no bytes at all', {}, async (page) => {
+  await look(page, [made('empty.mvt', Buffer.alloc(0))]);
+  await page.value(clickNamed('Bytes'));
+  return same(await page.value(textOf('.facts')), '0 bytes, 0 layers, 0 features, 0 positions. In canonical form.');
+});
+
 await onPage('20 MB', {}, async (page) => {
   const large = largeTile(20_000_000);
   await look(page, [made('large.mvt', large.bytes)], 120);
   return (await page.value(textOf('.facts'))).startsWith(`20 MB, 1 layer, ${large.features.toLocaleString('en')} features`)
     || page.value(textOf('#tile'));
+});
+
+await onPage('a large tile is drawn when that is asked for', {}, async (page) => {
+  const large = largeTile(2_000_000);
+  await look(page, [made('large.mvt', large.bytes)]);
+  await page.value("[...document.querySelectorAll('#tile button')].find((each) => each.textContent.startsWith('Draw')).click()");
+  await page.value("document.querySelector('.layer details').open = true");
+  await page.until("document.querySelector('.layer li:nth-child(3) button')");
+  await page.value("document.querySelector('.layer li:nth-child(3) button').click()");
+  return same([await page.value(`${paths}.length`), await page.value(textOf('.feature h4'))], [large.features, 'a, feature 2']);
 });
 
 await onPage('20 MB with a fault near the end', {}, async (page) => {

@@ -53,6 +53,28 @@ for (const [name, [start, end]] of Object.entries(MARKS)) {
   await is(`the mark of ${name}`, place.mark, { start, end });
 }
 
+// The heap: blocks stand apart, at multiples of 16, and keep their bytes while others come and go.
+await counts.check('the heap', () => {
+  const { take, give, memory } = new WebAssembly.Instance(codec.module, {}).exports;
+  const held = [];
+  for (let step = 0, seed = 1; step < 20_000; step += 1) {
+    seed = (seed * 48271) % 2147483647;
+    const block = seed % 3 === 0 ? held.splice(seed % held.length, 1)[0] : undefined;
+    if (block) {
+      const bytes = new Uint8Array(memory.buffer, block.at, block.size);
+      if (!bytes.every((byte) => byte === block.mark)) return `a block of ${block.size} bytes was changed`;
+      give(BigInt(block.at));
+    }
+    const size = seed % 100 === 7 ? seed % 200_000 : seed % 600;
+    const at = Number(take(BigInt(size)));
+    if (at === 0 || at % 16 !== 0) return `a block at ${at}`;
+    new Uint8Array(memory.buffer, at, size).fill(step % 256);
+    held.push({ at, size, mark: step % 256 });
+  }
+  const last = held.sort((a, b) => a.at - b.at).find((block, index) => index > 0 && held[index - 1].at + held[index - 1].size > block.at);
+  return last === undefined && memory.buffer.byteLength < 50_000_000 || 'blocks overlap, or memory is not used again';
+});
+
 const rules = readFileSync(`${top}docs/REFUSALS.md`, 'utf8').matchAll(/^\| (\d+) \| (\w+) \|/gm);
 const place = { trail: [], field: null, mark: { start: 0, end: 1 }, integers: { list: 'tags', index: 0, count: 1, value: 0, rows: [] } };
 for (const [, cause, name] of rules) {
