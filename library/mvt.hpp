@@ -205,6 +205,12 @@ inline tile read(byte_span of) {
     return tile(rows);
 }
 
+/// Throws refused where the bytes are no tile. Makes nothing of them, so it is the fastest way to know.
+inline void judge(byte_span of) {
+    mvt_fault fault{};
+    require_ok(mvt_judge(of.data(), of.size(), &fault), fault);
+}
+
 namespace detail {
 /// What a call hands out through its last two parameters.
 template <class Call>
@@ -236,6 +242,11 @@ inline bytes write(const mvt_tile &rows) {
 /// A tile as JSON, in one line without a line end. Throws refused.
 inline bytes json(byte_span of) {
     return detail::made([&](auto... to) { return mvt_json(of.data(), of.size(), to...); });
+}
+
+/// What `mvt check` says of a tile, line by line. Throws refused.
+inline bytes report(byte_span of) {
+    return detail::made([&](auto... to) { return mvt_report(of.data(), of.size(), to...); });
 }
 
 /// A picture of a tile in SVG. Throws refused.

@@ -33,7 +33,7 @@ def judged(name: str) -> Tuple[object, ...]:
     except OSError:
         return (name, "unread", "", "", "", "", "", "")
     try:
-        notes = mvt.notes(mvt.rows(tile))
+        notes = [line.removeprefix("note ") for line in mvt.report(tile).splitlines()[1:]]
     except mvt.Refused as fault:
         layer, feature = ("" if index is None else index for index in (fault.layer, fault.feature))
         return (name, "refused", layer, feature, fault.at, fault.cause, fault.name, "")

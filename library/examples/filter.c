@@ -44,11 +44,9 @@ static void tell(uint64_t number, const mvt_fault *fault) {
 
 /* Whether the tile keeps every rule. */
 static int is_good(const uint8_t *bytes, uint32_t len, uint64_t number) {
-    mvt_tile tile;
     mvt_fault fault;
-    switch (mvt_read(bytes, len, &tile, &fault)) {
+    switch (mvt_judge(bytes, len, &fault)) {
     case MVT_OK:
-        mvt_tile_free(&tile);
         return 1;
     case MVT_REFUSED:
         tell(number, &fault);

@@ -53,6 +53,12 @@ typedef struct {
 static uint32_t rewrite(const uint8_t *b, size_t n, output *o, mvt_fault *f) { return mvt_rewrite(b, n, &o->bytes, f); }
 static uint32_t json(const uint8_t *b, size_t n, output *o, mvt_fault *f) { return mvt_json(b, n, &o->bytes, f); }
 static uint32_t svg(const uint8_t *b, size_t n, output *o, mvt_fault *f) { return mvt_svg(b, n, &o->bytes, f); }
+static uint32_t report(const uint8_t *b, size_t n, output *o, mvt_fault *f) { return mvt_report(b, n, &o->bytes, f); }
+static uint32_t judge(const uint8_t *b, size_t n, output *o, mvt_fault *f) {
+    const uint32_t status = mvt_judge(b, n, f);
+    if (status == MVT_OK) memset(o, 0, sizeof *o);
+    return status;
+}
 static uint32_t rows(const uint8_t *b, size_t n, output *o, mvt_fault *f) { return mvt_read(b, n, &o->tile, f); }
 static uint32_t extract(const uint8_t *b, size_t n, output *o, mvt_fault *f) {
     const mvt_bytes names[] = {{(const uint8_t *)"water", 5}, {(const uint8_t *)"places", 6}};
@@ -76,6 +82,7 @@ static void free_tile(output *o) { mvt_tile_free(&o->tile); }
 static const task TASKS[] = {
     {"mvt_rewrite", rewrite, free_bytes}, {"mvt_json", json, free_bytes}, {"mvt_svg", svg, free_bytes},
     {"mvt_extract", extract, free_bytes}, {"mvt_read", rows, free_tile},
+    {"mvt_report", report, free_bytes},   {"mvt_judge", judge, free_bytes},
     {"mvt_write", written, free_bytes},
 };
 

@@ -20,7 +20,7 @@ import mvt
 TILES = Path(__file__).resolve().parents[2] / "examples" / "tiles"
 WHOLE = ("gdal", "postgis")
 SVG = "{http://www.w3.org/2000/svg}"
-CALLS = (mvt.read, mvt.rows, mvt.rewrite, mvt.to_json, mvt.to_svg)
+CALLS = (mvt.judge, mvt.read, mvt.rows, mvt.report, mvt.rewrite, mvt.to_json, mvt.to_svg)
 
 
 def tile(name):
@@ -106,7 +106,7 @@ class WholeTiles(unittest.TestCase):
             self.assertEqual(shown(mvt.read(path.read_bytes())), json.loads(told.stdout), path.name)
             self.assertEqual(mvt.to_json(path.read_bytes()) + "\n", told.stdout.decode())
 
-    def test_notes_what_the_program_notes(self):
+    def test_reports_what_the_program_reports(self):
         triangle = varint(9) + zigzags(0, 0) + varint(26) + zigzags(4, 0, 0, 4, -4, -4) + varint(15)
         flat = varint(9) + zigzags(0, 0) + varint(18) + zigzags(4, 4, 2, 2) + varint(15)
         features = [
@@ -120,8 +120,9 @@ class WholeTiles(unittest.TestCase):
         made = [b"", b"".join(whole)]
         for of in [path.read_bytes() for path in sorted(TILES.glob("*.mvt"))] + made:
             told = subprocess.run([os.environ["MVT"], "check"], input=of, capture_output=True, check=True).stdout.decode()
-            self.assertEqual(["note " + note for note in mvt.notes(mvt.rows(of))], told.splitlines()[1:])
-        self.assertEqual(len(mvt.notes(mvt.rows(made[1]))), 10)
+            self.assertEqual(mvt.report(of), told)
+            self.assertIsNone(mvt.judge(of))
+        self.assertEqual(len(mvt.report(made[1]).splitlines()), 11)
 
     def test_rewrites(self):
         for name in WHOLE:

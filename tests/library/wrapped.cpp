@@ -40,6 +40,7 @@ void hold(mvt::byte_span input) {
 
 /// Views and attributes lie within the tile, and values have the kinds of their rows.
 void look(mvt::byte_span input) {
+    mvt::judge(input);
     const mvt::tile tile = mvt::read(input);
     std::size_t points = 0, tags = 0;
     for (const mvt_layer &layer : tile.layers()) {
@@ -98,6 +99,7 @@ void call(const std::string &command, const std::vector<std::string_view> &names
     if (command == "look") return look(input);
     if (command == "share") return share(input);
     if (command == "write") return write(input);
+    if (command == "check") return put(mvt::report(input));
     put(command == "show" ? mvt::json(input) : mvt::svg(input));
     std::cout << '\n';
 }

@@ -9,8 +9,7 @@ A tile that breaks a rule raises `Refused`, which tells the layer, the feature, 
 broken one. Each call takes the bytes of one uncompressed tile. Threads may call at the same time.
 """
 
-from ._calls import Buffer, MvtError, NoLayer, NoTile, Refused, TooLarge, extract, rewrite, to_json, to_svg
-from ._notes import notes
+from ._calls import Buffer, MvtError, NoLayer, NoTile, Refused, TooLarge, extract, judge, report, rewrite, to_json, to_svg
 from ._tiles import Feature, Foreign, Layer, Point, Rows, Tile, read, rows
 from ._values import Float, Int, Sint, Uint, Value
 from ._writing import write
@@ -34,8 +33,9 @@ __all__ = [
     "Uint",
     "Value",
     "extract",
-    "notes",
+    "judge",
     "read",
+    "report",
     "rewrite",
     "rows",
     "to_json",

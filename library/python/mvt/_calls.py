@@ -85,6 +85,12 @@ def made(call: Callable[..., int], *arguments: Any) -> bytes:
         library.mvt_bytes_free(ctypes.byref(out))
 
 
+def judge(tile: Buffer) -> None:
+    """Raises Refused where the bytes are no tile. Makes nothing of them, so it is the fastest way to know."""
+    tile, fault = held(tile), FaultRow()
+    raise_for(library.mvt_judge(tile, len(tile), ctypes.byref(fault)), fault)
+
+
 def rewrite(tile: Buffer) -> bytes:
     """The canonical bytes of a tile: equal tiles have equal bytes. Raises Refused and TooLarge."""
     tile = held(tile)
@@ -102,6 +108,13 @@ def extract(tile: Buffer, names: Iterable[str]) -> bytes:
     encoded = [name.encode() for name in names]
     rows = (Bytes * len(encoded))(*[Bytes(ctypes.cast(ctypes.c_char_p(name), ctypes.c_void_p), len(name)) for name in encoded])
     return made(library.mvt_extract, tile, len(tile), rows, len(encoded))
+
+
+def report(tile: Buffer) -> str:
+    """What `mvt check` says of a tile: a line of counts, and a line for each thing that is worth a remark. Raises
+    Refused."""
+    tile = held(tile)
+    return made(library.mvt_report, tile, len(tile)).decode()
 
 
 def to_json(tile: Buffer) -> str:

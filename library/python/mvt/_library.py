@@ -88,11 +88,12 @@ library.mvt_rewrite.argtypes = [*_TILE, POINTER(Bytes), POINTER(FaultRow)]
 library.mvt_extract.argtypes = [*_TILE, POINTER(Bytes), c_size_t, POINTER(Bytes), POINTER(FaultRow)]
 library.mvt_json.argtypes = [*_TILE, POINTER(Bytes), POINTER(FaultRow)]
 library.mvt_svg.argtypes = [*_TILE, POINTER(Bytes), POINTER(FaultRow)]
+library.mvt_report.argtypes = [*_TILE, POINTER(Bytes), POINTER(FaultRow)]
+library.mvt_judge.argtypes = [*_TILE, POINTER(FaultRow)]
 library.mvt_read.argtypes = [*_TILE, POINTER(TileRows), POINTER(FaultRow)]
-for _call in (library.mvt_rewrite, library.mvt_extract, library.mvt_json, library.mvt_svg, library.mvt_read):
-    _call.restype = c_uint32
 library.mvt_write.argtypes = [POINTER(TileRows), POINTER(Bytes)]
-library.mvt_write.restype = c_uint32
+for _name in ("judge", "read", "write", "rewrite", "extract", "json", "svg", "report"):
+    getattr(library, "mvt_" + _name).restype = c_uint32
 library.mvt_bytes_free.argtypes = [POINTER(Bytes)]
 library.mvt_bytes_free.restype = None
 library.mvt_tile_free.argtypes = [POINTER(TileRows)]
