@@ -133,6 +133,16 @@ await onPage('the report is that of the program, where the library has it', {}, 
   return same(await page.value(textOf('.report code')), wanted);
 });
 
+await onPage('the layers that are shown are saved', {}, async (page) => {
+  await browser.send('Browser.setDownloadBehavior', { behavior: 'allow', downloadPath: folder });
+  await look(page, [`${tiles}/gdal.mvt`]);
+  await page.value("document.querySelectorAll('.layer input')[0].click()");
+  await page.value(clickNamed('Save the layers shown'));
+  await new Promise((resolve) => setTimeout(resolve, 500));
+  await look(page, [join(folder, 'gdal.layers.mvt')]);
+  return same(await page.value(texts('.layer b')), ['roads', 'water']);
+});
+
 // ---- broken tiles
 
 for (const row of readFileSync(`${tiles}/broken/tiles.tsv`, 'utf8').trim().split('\n')) {
