@@ -43,11 +43,6 @@ class OpenTile {
     this.#bytes(this.#at, bytes.length).set(bytes);
   }
 
-  /** Whether the library has a call; those that it hasn't answer null. */
-  has(call) {
-    return call in this.#exports;
-  }
-
   /** `{status}`, with `fault` where it is REFUSED. */
   judge() {
     return this.#call('mvt_judge', []);
@@ -82,7 +77,7 @@ class OpenTile {
     return this.#made('mvt_svg', []);
   }
 
-  /** `{status, bytes}`: what `mvt check` says; null where the library hasn't the call. */
+  /** `{status, bytes}`: what `mvt check` says. */
   report() {
     return this.#made('mvt_report', []);
   }
@@ -91,7 +86,7 @@ class OpenTile {
   read() {
     const out = this.#take(ROWS_SIZE);
     const answer = this.#call('mvt_read', [out]);
-    if (answer?.status !== OK) return answer;
+    if (answer.status !== OK) return answer;
     const names = ['layers', 'features', 'keys', 'values', 'tags', 'parts', 'points', 'integers', 'texts'];
     const lists = names.map((name, index) => {
       const [at, count] = this.#slice(out, 16 * index);
@@ -103,7 +98,7 @@ class OpenTile {
   #made(call, more) {
     const out = this.#take(BYTES_SIZE);
     const answer = this.#call(call, [...more, out]);
-    if (answer?.status !== OK) return answer;
+    if (answer.status !== OK) return answer;
     const [at, count] = this.#slice(out, 0);
     const bytes = this.#bytes(BigInt(at), count).slice();
     if (count > 0) this.#exports.give(BigInt(at));
@@ -111,7 +106,6 @@ class OpenTile {
   }
 
   #call(call, more) {
-    if (!this.has(call)) return null;
     const fault = this.#take(FAULT_SIZE);
     const status = this.#exports[call](this.#at, this.#len, ...more, fault);
     return status === REFUSED ? { status, fault: this.#fault(fault) } : { status };

@@ -37,10 +37,10 @@ function titleOf({ kind }) {
 
 // ---- a tile that is accepted
 
-function showAccepted(input, { tile, canonical }, notes) {
+function showAccepted(input, { tile }, notes) {
   const answer = tile.read();
   const rows = answer.status === OK ? new Rows(answer.rows) : null;
-  const rewritten = canonical ?? tile.rewrite();
+  const rewritten = tile.rewrite();
   const saving = new Saving(input.name);
   return [
     element('p', { class: 'facts' }, [factsOf(input, rows, rewritten)]),
@@ -66,10 +66,9 @@ function sayCanonical(bytes, { status, bytes: made }) {
   return isSame ? 'In canonical form.' : `Not in canonical form (which has ${counted(made.length, 'byte')}).`;
 }
 
-/** What `mvt check` says, with its notes in words. A library without the call `mvt_report` has none to show. */
+/** What `mvt check` says, with its notes in words. */
 function showReport(tile, notes) {
   const report = tile.report();
-  if (report === null) return '';
   if (report.status !== OK) return element('p', {}, ['The browser gave no memory for the report.']);
   const [first, ...lines] = text(report.bytes).trimEnd().split('\n');
   const told = lines.map((line) => {
