@@ -8,16 +8,14 @@ export const LIMIT = 67_108_864;
 
 export const OK = 0;
 export const REFUSED = 1;
-export const NO_MEMORY = 2;
 export const TOO_LARGE = 3;
-export const NO_LAYER = 4;
 
 /** Compiles the module; rejects where the browser has no memories of 64 bits. */
 export async function loadCodec(wasm) {
   return new Codec(await WebAssembly.compile(wasm));
 }
 
-export class Codec {
+class Codec {
   constructor(module) {
     this.module = module;
   }
@@ -32,7 +30,7 @@ const FAULT_SIZE = 48;
 const BYTES_SIZE = 16;
 const ROWS_SIZE = 144;
 
-export class OpenTile {
+class OpenTile {
   #exports;
   #at;
   #len;
@@ -43,11 +41,6 @@ export class OpenTile {
     this.#len = BigInt(bytes.length);
     this.#at = this.#take(bytes.length);
     this.#bytes(this.#at, bytes.length).set(bytes);
-  }
-
-  /** Whether the library has a call; those that it hasn't answer null. */
-  has(call) {
-    return call in this.#exports;
   }
 
   /** `{status}`, with `fault` where it is REFUSED. */
@@ -84,7 +77,7 @@ export class OpenTile {
     return this.#made('mvt_svg', []);
   }
 
-  /** `{status, bytes}`: what `mvt check` says; null where the library hasn't the call. */
+  /** `{status, bytes}`: what `mvt check` says. */
   report() {
     return this.#made('mvt_report', []);
   }
@@ -93,7 +86,7 @@ export class OpenTile {
   read() {
     const out = this.#take(ROWS_SIZE);
     const answer = this.#call('mvt_read', [out]);
-    if (answer?.status !== OK) return answer;
+    if (answer.status !== OK) return answer;
     const names = ['layers', 'features', 'keys', 'values', 'tags', 'parts', 'points', 'integers', 'texts'];
     const lists = names.map((name, index) => {
       const [at, count] = this.#slice(out, 16 * index);
@@ -105,7 +98,7 @@ export class OpenTile {
   #made(call, more) {
     const out = this.#take(BYTES_SIZE);
     const answer = this.#call(call, [...more, out]);
-    if (answer?.status !== OK) return answer;
+    if (answer.status !== OK) return answer;
     const [at, count] = this.#slice(out, 0);
     const bytes = this.#bytes(BigInt(at), count).slice();
     if (count > 0) this.#exports.give(BigInt(at));
@@ -113,7 +106,6 @@ export class OpenTile {
   }
 
   #call(call, more) {
-    if (!this.has(call)) return null;
     const fault = this.#take(FAULT_SIZE);
     const status = this.#exports[call](this.#at, this.#len, ...more, fault);
     return status === REFUSED ? { status, fault: this.#fault(fault) } : { status };

@@ -25,7 +25,7 @@ export function varint(bytes, at, end) {
  * The field whose tag stands at an offset: its number and wire type, where its tag, its length and its payload stand,
  * and `whole`, which is false where it can't be split. What isn't known is null.
  */
-export function fieldAt(bytes, at, end) {
+function fieldAt(bytes, at, end) {
   const broken = { at, number: null, wire: null, head: at, body: end, end, whole: false };
   const tag = varint(bytes, at, end);
   if (tag === null || tag.value >= 2 ** 32 || tag.value < 8) {

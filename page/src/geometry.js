@@ -4,7 +4,7 @@ import { grouped, signed } from './text.js';
 const COMMANDS = { 1: 'MoveTo', 2: 'LineTo', 7: 'ClosePath' };
 
 /** A zigzag parameter as the number that it stands for. */
-export function unzigzag(integer) {
+function unzigzag(integer) {
   return integer % 2 === 0 ? integer / 2 : -(integer + 1) / 2;
 }
 

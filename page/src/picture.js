@@ -5,11 +5,14 @@ import { counted, grouped } from './text.js';
 const NEAR = [0, 2, 4, 6, 8];
 const AT_ONCE = 100;
 
-/** The picture's part of the page; a text that the browser can't read as XML, as one of many megabytes, gives words. */
-export function pictureOf(svg, rows) {
+/**
+ * The picture's part of the page; a text that the browser can't read as XML, as one of many megabytes, gives words.
+ * `saveShown` makes a button from a function that tells which layers are shown.
+ */
+export function pictureOf(svg, rows, saveShown) {
   const read = new DOMParser().parseFromString(svg, 'image/svg+xml').documentElement;
   if (read.localName !== 'svg') return element('p', {}, ['The browser can’t draw this picture. “Save picture” saves it for other programs.']);
-  return new Picture(read, rows).root;
+  return new Picture(read, rows, saveShown).root;
 }
 
 class Picture {
@@ -18,7 +21,7 @@ class Picture {
   #chosen = null;
 
   /** `svg` is the picture as it was read, `rows` are the tile's. */
-  constructor(svg, rows) {
+  constructor(svg, rows, saveShown) {
     this.#rows = rows;
     const paper = element('div', { class: 'paper' });
     this.#drawn = this.#draw(paper, svg);
@@ -26,6 +29,7 @@ class Picture {
       element('p', { class: 'quiet' }, ['Choose a feature in the picture or in the list to see its attributes.']),
     ]);
     const layers = element('fieldset', { class: 'layers' }, [element('legend', {}, ['Layers']), ...this.#layerEntries()]);
+    layers.append(saveShown(() => this.#shown()));
     this.root = element('div', { class: 'picture' }, [paper, element('div', {}, [layers, this.told])]);
   }
 
@@ -42,6 +46,12 @@ class Picture {
     shadow.append(style, picture);
     picture.addEventListener('click', (event) => this.#chooseAt(shadow, event));
     return [...picture.children].filter((child) => child.localName === 'svg');
+  }
+
+  /** The names of the layers that are drawn and not switched off. */
+  #shown() {
+    const drawn = this.#rows.layers().filter((layer) => layer.version === 2);
+    return drawn.filter((_, index) => !this.#drawn[index].hasAttribute('hidden')).map((layer) => layer.name);
   }
 
   #layerEntries() {

@@ -9,6 +9,7 @@ import { Rows } from './rows.js';
 import { counted, grouped, size, text } from './text.js';
 import { faultLine, sayPlace, sayTrail, sentence } from './words.js';
 
+const TILE_TYPE = 'application/vnd.mapbox-vector-tile';
 const DRAWN_AT_ONCE = 1_000_000;
 const JSON_LAID_OUT = 300_000;
 const JSON_SHOWN = 100_000;
@@ -36,16 +37,17 @@ function titleOf({ kind }) {
 
 // ---- a tile that is accepted
 
-function showAccepted(input, { tile, canonical }, notes) {
+function showAccepted(input, { tile }, notes) {
   const answer = tile.read();
   const rows = answer.status === OK ? new Rows(answer.rows) : null;
-  const rewritten = canonical ?? tile.rewrite();
+  const rewritten = tile.rewrite();
+  const saving = new Saving(input.name);
   return [
     element('p', { class: 'facts' }, [factsOf(input, rows, rewritten)]),
     showReport(tile, notes),
-    saving(input, tile, rewritten),
+    showButtons(saving, tile, rewritten),
     element('h3', {}, ['Picture']),
-    showPicture(input, tile, rows),
+    showPicture(input, tile, rows, saving),
     folded('JSON', () => showJson(tile)),
     folded('Bytes', () => new HexView(input.bytes, []).root),
   ];
@@ -64,10 +66,9 @@ function sayCanonical(bytes, { status, bytes: made }) {
   return isSame ? 'In canonical form.' : `Not in canonical form (which has ${counted(made.length, 'byte')}).`;
 }
 
-/** What `mvt check` says, with its notes in words. A library without the call `mvt_report` has none to show. */
+/** What `mvt check` says, with its notes in words. */
 function showReport(tile, notes) {
   const report = tile.report();
-  if (report === null) return '';
   if (report.status !== OK) return element('p', {}, ['The browser gave no memory for the report.']);
   const [first, ...lines] = text(report.bytes).trimEnd().split('\n');
   const told = lines.map((line) => {
@@ -80,30 +81,42 @@ function showReport(tile, notes) {
   return element('section', { class: 'report', 'aria-label': 'The report' }, told.length > 0 ? [said, shown, more] : [said]);
 }
 
-function saving({ name }, tile, rewritten) {
-  const stem = name.replace(/(\.(mvt|pbf|gz|zz|bin))+$/i, '');
-  const told = element('span', { class: 'quiet', role: 'status' });
-  const saved = (file, type, { status, bytes: made }) => {
-    if (status === OK) save(file, type, made);
-    const why = status === TOO_LARGE ? 'They would be more than 64 MiB.' : 'The browser gave no memory for this.';
-    told.textContent = status === OK ? '' : why;
-  };
-  const button = (title, file, type, make) =>
-    element('button', { type: 'button', onclick: () => saved(file, type, make()) }, [title]);
+/** Saves what the library makes of a tile, and tells where that can't be. */
+class Saving {
+  #stem;
+
+  constructor(name) {
+    this.#stem = name.replace(/(\.(mvt|pbf|gz|zz|bin))+$/i, '').split('/').at(-1);
+    this.told = element('span', { class: 'quiet', role: 'status' });
+  }
+
+  button(title, ending, type, make) {
+    return element('button', { type: 'button', onclick: () => this.#save(ending, type, make()) }, [title]);
+  }
+
+  #save(ending, type, { status, bytes }) {
+    if (status === OK) save(`${this.#stem}${ending}`, type, bytes);
+    const why = status === TOO_LARGE ? 'It would be more than 64 MiB.' : 'The browser gave no memory for it.';
+    this.told.textContent = status === OK ? '' : why;
+  }
+}
+
+function showButtons(saving, tile, rewritten) {
   return element('div', { class: 'buttons' }, [
-    button('Save canonical bytes', `${stem}.canonical.mvt`, 'application/vnd.mapbox-vector-tile', () => rewritten),
-    button('Save picture', `${stem}.svg`, 'image/svg+xml', () => tile.svg()),
-    button('Save JSON', `${stem}.json`, 'application/json', () => tile.json()),
-    told,
+    saving.button('Save canonical bytes', '.canonical.mvt', TILE_TYPE, () => rewritten),
+    saving.button('Save picture', '.svg', 'image/svg+xml', () => tile.svg()),
+    saving.button('Save JSON', '.json', 'application/json', () => tile.json()),
+    saving.told,
   ]);
 }
 
-function showPicture({ bytes }, tile, rows) {
+function showPicture({ bytes }, tile, rows, saving) {
   const box = element('div');
+  const saveShown = (names) => saving.button('Save the layers shown', '.layers.mvt', TILE_TYPE, () => tile.extract(names()));
   const draw = () => {
     const answer = tile.svg();
     if (rows === null || answer.status !== OK) box.replaceChildren('The browser gave no memory for the picture.');
-    else box.replaceChildren(pictureOf(text(answer.bytes), rows));
+    else box.replaceChildren(pictureOf(text(answer.bytes), rows, saveShown));
   };
   if (bytes.length <= DRAWN_AT_ONCE) draw();
   else box.append(element('button', { type: 'button', onclick: draw }, ['Draw the picture (the tile is large: this may take a while)']));

@@ -1,25 +1,20 @@
 // What the library says of a tile, as the page keeps it.
-import { OK, REFUSED, TOO_LARGE } from './codec.js';
+import { OK, REFUSED } from './codec.js';
 import { faultLine } from './words.js';
 
-/**
- * Judges bytes: `{kind, fault, tile, canonical}`. The kind is accepted, refused or unjudged; `canonical` is the
- * library's answer to `mvt_rewrite`, where it was asked.
- */
+/** Judges bytes: `{kind, fault, tile}`. The kind is accepted, refused or unjudged. */
 export function judge(codec, bytes) {
   try {
     const tile = codec.open(bytes);
-    const judged = tile.judge();
-    const canonical = judged === null ? tile.rewrite() : null;
-    const answer = judged ?? canonical;
-    return { kind: kindOf(answer.status), fault: answer.fault ?? null, tile, canonical };
-  } catch (error) {
-    return { kind: 'unjudged', fault: null, tile: null, canonical: null, error: String(error) };
+    const { status, fault = null } = tile.judge();
+    return { kind: kindOf(status), fault, tile };
+  } catch {
+    return { kind: 'unjudged', fault: null, tile: null };    // the memory couldn't grow
   }
 }
 
 function kindOf(status) {
-  if (status === OK || status === TOO_LARGE) return 'accepted';
+  if (status === OK) return 'accepted';
   return status === REFUSED ? 'refused' : 'unjudged';
 }
 

@@ -2,6 +2,7 @@
 // ANSWERS is what answers.c wrote of the files.
 import { readFileSync } from 'node:fs';
 import { basename } from 'node:path';
+import { pathToFileURL } from 'node:url';
 import { loadCodec } from '../../page/src/codec.js';
 import { answersOf, recordsOf } from './answers.mjs';
 import { Browser } from './browser.mjs';
@@ -23,7 +24,7 @@ async function inNode() {
 
 async function inBrowser() {
   const browser = new Browser(where, ['--allow-file-access-from-files']);
-  const page = await browser.page(`file://${module}`);
+  const page = await browser.page(pathToFileURL(module).href);
   await page.value(`globalThis.answersOf = ${answersOf}; 0`);
   await page.value(`globalThis.answersIn64 = ${answersIn64}; 0`);
   for (let from = 0; from < files.length; from += AT_ONCE) {

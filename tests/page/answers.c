@@ -69,16 +69,12 @@ static void answer(const uint8_t *bytes, size_t len) {
     mvt_fault fault = {0};
     mvt_bytes made = {0};
     mvt_tile tile = {0};
-#ifdef HAS_JUDGE
     put_status(mvt_judge(bytes, len, &fault), &fault);
-#endif
     put_made(mvt_rewrite(bytes, len, &made, &fault), &fault, &made);
     put_made(mvt_extract(bytes, len, names, 2, &made, &fault), &fault, &made);
     put_made(mvt_json(bytes, len, &made, &fault), &fault, &made);
     put_made(mvt_svg(bytes, len, &made, &fault), &fault, &made);
-#ifdef HAS_REPORT
     put_made(mvt_report(bytes, len, &made, &fault), &fault, &made);
-#endif
     put_tile(mvt_read(bytes, len, &tile, &fault), &fault, &tile);
 }
 

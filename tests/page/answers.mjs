@@ -34,14 +34,12 @@ export function answersOf(codec, bytes) {
     }
   };
   const tile = codec.open(bytes);
-  const judged = tile.judge();
-  if (judged) status(judged);
+  status(tile.judge());
   made(tile.rewrite());
   made(tile.extract(['water', 'roads']));
   made(tile.json());
   made(tile.svg());
-  const report = tile.report();
-  if (report) made(report);
+  made(tile.report());
   const read = tile.read();
   status(read);
   if (read.status === 0) {

@@ -1,6 +1,7 @@
 // The page in headless Chromium: pages.mjs CHROMIUM PAGE FOLDER. The folder is for what it makes.
 import { existsSync, readFileSync, writeFileSync } from 'node:fs';
 import { join } from 'node:path';
+import { pathToFileURL } from 'node:url';
 import { deflateSync, gzipSync } from 'node:zlib';
 import { Browser } from './browser.mjs';
 import { Counts } from './counts.mjs';
@@ -11,7 +12,7 @@ const top = new URL('../../', import.meta.url).pathname;
 const tiles = `${top}examples/tiles`;
 const counts = new Counts();
 const browser = new Browser(chromium);
-const url = `file://${file}`;
+const url = pathToFileURL(file).href;
 
 const texts = (selector) => `[...document.querySelectorAll(${JSON.stringify(selector)})].map((each) => each.textContent)`;
 const textOf = (selector) => `(document.querySelector(${JSON.stringify(selector)})?.textContent ?? '')`;
@@ -113,24 +114,24 @@ await onPage('buttons save the canonical bytes, the picture and the JSON', {}, a
     && same(`${saved('gdal.json')}\n`, readFileSync(`${tiles}/gdal.json`, 'utf8'));
 });
 
-const reports = `(() => {
-  const { codec } = mvt;
-  const open = codec.open.bind(codec);
-  const told = 'ok layers 3 features 7 canonical no\\nnote FlatRing layer 2 feature 0 ring 1\\n';
-  codec.open = (bytes) => Object.assign(open(bytes), { report: () => ({ status: 0, bytes: new TextEncoder().encode(told) }) });
-})()`;
-await onPage('notes are told in words, where the library has them', {}, async (page) => {
-  await page.value(reports);
+await onPage('the report is that of the program', {}, async (page) => {
   await look(page, [`${tiles}/gdal.mvt`]);
-  const told = await page.value(texts('.report p, .report li'));
-  return same(told, ['The command mvt says: ok layers 3 features 7 canonical no', 'note FlatRing layer 2 feature 0 ring 1: a ring\'s area is 0']);
+  return same(await page.value(textOf('.report code')), readFileSync(`${tiles}/gdal.check`, 'utf8').trim());
 });
 
-await onPage('the report is that of the program, where the library has it', {}, async (page) => {
+await onPage('notes are told in words', {}, async (page) => {
+  await look(page, [made('bare.mvt', Buffer.of(0x1a, 5, 0x78, 2, 0x0a, 1, 0x61))]);
+  return same(await page.value(texts('.report li')), ['note NoFeatures layer 0: a layer has no feature']);
+});
+
+await onPage('the layers that are shown are saved', {}, async (page) => {
+  await browser.send('Browser.setDownloadBehavior', { behavior: 'allow', downloadPath: folder });
   await look(page, [`${tiles}/gdal.mvt`]);
-  const hasReport = await page.value("mvt.codec.open(new Uint8Array()).has('mvt_report')");
-  const wanted = hasReport ? readFileSync(`${tiles}/gdal.check`, 'utf8').trim() : '';
-  return same(await page.value(textOf('.report code')), wanted);
+  await page.value("document.querySelectorAll('.layer input')[0].click()");
+  await page.value(clickNamed('Save the layers shown'));
+  await new Promise((resolve) => setTimeout(resolve, 500));
+  await look(page, [join(folder, 'gdal.layers.mvt')]);
+  return same(await page.value(texts('.layer b')), ['roads', 'water']);
 });
 
 // ---- broken tiles

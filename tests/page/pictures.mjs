@@ -1,6 +1,7 @@
 // The pictures of the page for the documents: pictures.mjs CHROMIUM PAGE FOLDER
 import { writeFileSync } from 'node:fs';
 import { join } from 'node:path';
+import { pathToFileURL } from 'node:url';
 import { Browser } from './browser.mjs';
 
 const [chromium, file, folder] = process.argv.slice(2);
@@ -10,7 +11,7 @@ const isShown = "document.querySelector('#tile article, #list tbody tr') && !doc
 
 /** Without files it is the page's own broken tile. */
 async function picture(name, how, files, then = null) {
-  const page = await browser.page(`file://${file}`, how);
+  const page = await browser.page(pathToFileURL(file).href, how);
   if (files.length > 0) await page.choose(files.map((each) => `${tiles}/${each}`));
   else await page.value("document.getElementById('broken.mvt').click()");
   await page.until(isShown);
