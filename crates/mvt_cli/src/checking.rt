@@ -1,7 +1,6 @@
 //! The command `check`.
-ghost use Rattle.std.specs.Prelude.{◌≡◌, ◌+◌, ◌≤◌, max, length, bytes_eq, IfOk, IfErr, IfSome, OnOk};
+ghost use Rattle.std.specs.Prelude.{◌≡◌, ◌+◌, ◌≤◌, max, length, IfOk, IfErr, IfSome, OnOk};
 ghost use Rattle.mvt_io.specs.Transfers.{TakesAtMost};
-ghost use Rattle.mvt_tile.specs.CanonicalTiles.{canonical};
 ghost use Rattle.mvt_tile.specs.ValidTiles.{Valid};
 ghost use Rattle.mvt_cli.specs.Failures.{EndsFailed, IsCaused};
 ghost use Rattle.mvt_cli.specs.Output.{IsReply, HasOutput, done, check_lines};
