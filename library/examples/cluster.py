@@ -40,7 +40,7 @@ def judged(name: str) -> Tuple[object, ...]:
     return (name, "accepted", "", "", "", "", "", "; ".join(notes))
 
 
-def make_part(names: List[str], part: str) -> Counter:
+def make_part(names: List[str], part: str) -> Counter[str]:
     """Judges tiles, and puts their lines in place all at once. Counts the verdicts."""
     lines = [judged(name) for name in names]
     unfinished = f"{part}.{os.getpid()}"
@@ -63,10 +63,10 @@ def partitions(names: Path, size: int) -> Iterator[List[str]]:
             yield held
 
 
-def run(client: Client, names: Path, table: Path, size: int, ahead: int = 1000) -> Counter:
+def run(client: Client, names: Path, table: Path, size: int, ahead: int = 1000) -> Counter[str]:
     """Makes the parts that aren't there, with so many waiting at the scheduler at most. Counts the verdicts."""
     table.mkdir(parents=True, exist_ok=True)
-    counts: Counter = Counter()
+    counts: Counter[str] = Counter()
     waiting = as_completed()
     for number, part_names in enumerate(partitions(names, size)):
         part = table / f"part-{number:07}.tsv"
