@@ -27,11 +27,11 @@ export function locate(bytes, fault) {
 }
 
 function locateTag(bytes, fault) {
-  if (fault.at >= LIMIT) return { trail: [], field: null, mark: { start: fault.at, end: fault.at + 1 }, integers: null };
-  const trail = trailTo(bytes, fault.at);
+  const trail = fault.at < LIMIT ? trailTo(bytes, fault.at) : [];
+  const last = trail.at(-1);
+  if (last?.field.at !== fault.at) return { trail, field: null, mark: { start: fault.at, end: fault.at + 1 }, integers: null };
   if (fault.layer === null) trail[0].index = null;
-  const { field } = trail.at(-1);
-  return { trail, field, mark: markIn(bytes, fault, trail.at(-1)), integers: null };
+  return { trail, field: last.field, mark: markIn(bytes, fault, last), integers: null };
 }
 
 /** The fields from the outermost to the one whose tag stands at an offset. */

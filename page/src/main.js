@@ -19,12 +19,19 @@ class Page {
   /** Judges inputs, each `{name, size, load}`, and shows one of them, or the list of several. */
   async open(inputs) {
     if (inputs.length === 0) return;
+    at('list').replaceChildren();
+    await this.#busy(() => (inputs.length === 1 ? this.#show(inputs[0]) : this.#list(inputs)));
+  }
+
+  /** Does something that may last, and tells where it failed. */
+  async #busy(work) {
     document.body.classList.add('busy');
     at('tile').replaceChildren();
-    at('list').replaceChildren();
     try {
-      if (inputs.length === 1) await this.#show(inputs[0]);
-      else await this.#list(inputs);
+      await work();
+    } catch (error) {
+      console.error(error);
+      at('tile').replaceChildren(element('p', { class: 'verdict unjudged' }, [`The page failed: ${error}`]));
     } finally {
       document.body.classList.remove('busy');
     }
@@ -46,7 +53,8 @@ class Page {
     try {
       return await input.load();
     } catch (error) {
-      this.#say(`${input.name} can’t be read: ${error}`);
+      this.#say(`${input.name} can’t be read.`);
+      at('tile').replaceChildren(element('p', { class: 'verdict unjudged' }, [`${input.name} can’t be read: ${error}`]));
       return null;
     }
   }
@@ -71,7 +79,7 @@ class Page {
   }
 
   #row(input, read, verdict) {
-    const open = element('button', { type: 'button', class: 'link', onclick: () => this.#show(input) }, [input.name]);
+    const open = element('button', { type: 'button', class: 'link', onclick: () => this.#busy(() => this.#show(input)) }, [input.name]);
     return element('tr', { class: verdict.kind }, [
       element('th', { scope: 'row' }, [open]),
       element('td', { class: 'size' }, [read === null ? '' : size(read.bytes.length)]),

@@ -1,12 +1,13 @@
-// The page's own modules: units.mjs CODEC. What the library says of tiles is compared elsewhere (agree.mjs).
+// The page's own modules: units.mjs CODEC FILE.. What the library says of tiles is compared elsewhere (agree.mjs).
 import { readFileSync } from 'node:fs';
+import { basename } from 'node:path';
 import { loadCodec } from '../../page/src/codec.js';
 import { packing, prepared, spelledBytes } from '../../page/src/files.js';
 import { laidOut } from '../../page/src/json.js';
 import { locate } from '../../page/src/locate.js';
 import { shortFloat } from '../../page/src/rows.js';
 import { grouped } from '../../page/src/text.js';
-import { sentence } from '../../page/src/words.js';
+import { sayPlace, sayTrail, sentence } from '../../page/src/words.js';
 import { Counts } from './counts.mjs';
 
 const counts = new Counts();
@@ -46,11 +47,30 @@ const MARKS = {
   '19-Parameters': [13, 14], '20-ZeroSegment': [17, 18], '21-CoordinateRange': [20, 21], '22-FirstRing': [21, 22],
   '23-EndsEarly': [11, 16], '24-RepeatedName': [19, 21], '26-ParameterRange': [14, 19],
 };
-const codec = await loadCodec(readFileSync(process.argv[2]));
+const [module, ...files] = process.argv.slice(2);
+const codec = await loadCodec(readFileSync(module));
 for (const [name, [start, end]] of Object.entries(MARKS)) {
   const bytes = readFileSync(`${top}examples/tiles/broken/${name}.mvt`);
   const place = locate(bytes, codec.open(bytes).rewrite().fault);
   await is(`the mark of ${name}`, place.mark, { start, end });
+}
+
+// What is found in the bytes of any refused tile fits what the library says of its fault.
+for (const file of files) {
+  const bytes = readFileSync(file);
+  const { fault } = codec.open(bytes).judge();
+  if (fault) await counts.check(`the place in ${basename(file)}`, () => fits(bytes, fault, locate(bytes, fault)) || JSON.stringify(fault));
+}
+
+function fits(bytes, fault, place) {
+  const { mark, trail, field, integers } = place;
+  const [layer, feature] = trail;
+  const isInside = mark.start >= 0 && mark.start < mark.end && mark.end <= bytes.length;
+  const isThere = integers === null ? field === null || field.at === fault.at : integers.index === fault.at;
+  const isLayer = fault.layer === null || layer.index === fault.layer;
+  const isFeature = fault.feature === null || (feature.name === 'feature' && feature.index === fault.feature);
+  const said = [sentence(fault, place), sayPlace(place), ...trail.map(sayTrail)].join(' ');
+  return isInside && isThere && isLayer && isFeature && !/undefined|null|NaN/.test(said);
 }
 
 // The heap: blocks stand apart, at multiples of 16, and keep their bytes while others come and go.
