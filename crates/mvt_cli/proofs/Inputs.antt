@@ -1,5 +1,5 @@
 -- How much of the input a task takes.
-use Rattle.std.proofs.Common.{◌≡◌, ℕ, List, [], Option, subst, arith}
+use Rattle.std.proofs.Common.{ℕ, List, [], Option, arith}
 use Rattle.std.proofs.KnownBytes.{Consumes-nil}
 use Rattle.mvt_io.specs.Transfers.{TakesAtMost}
 use Rattle.mvt_cli.specs.declared.words.Task.{Task}
