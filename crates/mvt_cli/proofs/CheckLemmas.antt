@@ -1,19 +1,23 @@
 -- What is said of files, one after another.
-use Rattle.std.proofs.Common.{◌≡◌, ℕ, ◌+◌, ◌<◌, inl, inr, Bool, cond, List, [], ◌∷◌, ◌++◌, length, map, Option, Some, None, Result, Ok, Err, OnErr, refl, sym, ap, ap₂, subst, ◌∙◌, append_assoc, append-nil, zero-add, suc, arith}
-use Rattle.std.proofs.lemmas.List.{map-append}
+use Rattle.std.proofs.Common.{◌≡◌, ℕ, ◌+◌, ◌<◌, ◌≤◌, inl, inr, Bool, cond, List, [], ◌∷◌, ◌++◌, length, map, take, Option, Some, None, Result, Ok, Err, IfErr, OnErr, refl, sym, ap, ap₂, subst, ◌∙◌, append_assoc, append-nil, zero-add, suc, arith}
+use Rattle.std.proofs.lemmas.List.{map-append, length-append}
+use Rattle.std.proofs.Math.Seq.{take-append-add}
 use Rattle.std.proofs.lemmas.List.Sums.{sum_by-append}
 use Rattle.std.proofs.lemmas.Grind.{flat_map-append}
 use Rattle.std.proofs.KnownBytes.{Appends-trans}
 use Rattle.std.specs.List.{flat_map}
-use Rattle.std.specs.Io.KnownBytes.{Appends}
+use Rattle.std.specs.Io.KnownBytes.{Appends, Keeps}
 use Rattle.mvt_base.proofs.ListLemmas.{related-append, length-related}
 use Rattle.mvt_io.specs.Counts.{NoneFailed, last_count}
+use Rattle.mvt_cli.specs.declared.failure.Failure.{Failure}
+use Rattle.mvt_cli.specs.declared.failure.Failure.TheVariants.{Read, Write, Memory}
 use Rattle.mvt_cli.specs.declared.folder.Visit.{Visit}
+use Rattle.mvt_cli.specs.declared.reply.Reply.{Reply}
 use Rattle.mvt_cli.specs.declared.tally.Tally.{Tally}
 use Rattle.mvt_cli.specs.declared.tally.Verdict.{Verdict}
 use Rattle.mvt_cli.specs.declared.tally.Verdict.TheVariants.{Accepted, Refused, Unread}
 use Rattle.mvt_cli.specs.Visits.{AddsAll}
-use Rattle.mvt_cli.specs.Checks.{Checked, IsLater, IsSaid, IsSaidOf, IsSaidOfOne, Tells, TellsSome, count_of, is_accepted, is_refused, is_unread, tally_of, told_of, verdict_of, visit_of, written_of}
+use Rattle.mvt_cli.specs.Checks.{AreChecked, Checked, IsCutShort, IsLater, IsSaid, IsSaidOf, IsSaidOfOne, TakesUntil, Tells, TellsSome, count_of, is_accepted, is_refused, is_unread, tally_of, told_of, verdict_of, visit_of, written_of}
 
 -- ---- the error stream
 
@@ -163,3 +167,108 @@ pub told_before : {T F : Type 0} → (r : Result T F) (limit : ℕ) (holds : Lis
     → IsSaidOf limit holds names v0 v1 w0 w1 f0 f1 e0 e1 [] tally → TellsSome f1 f2 e1 e2 → OnErr r (TellsSome f0 f2 e0 e2)
 told_before (Ok x) limit holds names v0 v1 w0 w1 f0 f1 f2 e0 e1 e2 tally said some = tt
 told_before (Err x) limit holds names v0 v1 w0 w1 f0 f1 f2 e0 e1 e2 tally said some = tells_more f0 f1 f2 e0 e1 e2 (flat_map told_of said.files ++ []) said.told some
+
+-- ---- a run that was over early
+
+-- what is said of a first part of the files, and then until the run was over
+takes_on : (x y z : Option (List ℕ)) (s t : List ℕ) (failure : Failure) → Appends x y s → TakesUntil y z t failure → TakesUntil x z (s ++ t) failure
+takes_on x y z s t Read first then = absurd then
+takes_on x y z s t Write first (n, small, then) = (
+  length s + n,
+  (let e : length s + n ≤ length (s ++ t) = subst (λ m. length s + n ≤ m) (sym (length-append s t)) (omega arith) in e),
+  subst (Appends x z) (sym (take-append-add s t n)) (Appends-trans x y z s (take n t) first then),
+)
+takes_on x y z s t Memory first then = Appends-trans x y z s t first then
+
+keeps_nothing : (x y : Option (List ℕ)) → Keeps x y → Appends x y []
+keeps_nothing None y keeps = tt
+keeps_nothing (Some xs) None keeps = absurd keeps
+keeps_nothing (Some xs) (Some ys) keeps = keeps ∙ sym (append-nil xs)
+
+-- an end before the first file
+pub cut_first : (limit : ℕ) (holds : List ℕ → Option (List ℕ)) (names : List (List ℕ)) (w : Option (List ℕ)) (failure : Failure)
+    → failure ≡ Memory → IsCutShort limit holds names w w failure
+cut_first limit holds names w failure is = record {
+  front = [];
+  rest = names;
+  files = [];
+  of_names = refl;
+  checked = tt;
+  taken = subst (TakesUntil w w []) (sym is) (appends_nothing w);
+}
+
+-- an end within a file, of which there is something to say
+pub cut_within : (limit : ℕ) (holds : List ℕ → Option (List ℕ)) (name : List ℕ) (w0 w1 : Option (List ℕ)) (failure : Failure) (reply : Option Reply)
+    → IsSaid limit (holds name) reply → TakesUntil w0 w1 (written_of (record { name = name; reply = reply })) failure → IsCutShort limit holds (name ∷ []) w0 w1 failure
+cut_within limit holds name w0 w1 failure reply said takes =
+    let file : Checked = record { name = name; reply = reply } in
+    record {
+      front = name ∷ [];
+      rest = [];
+      files = file ∷ [];
+      of_names = refl;
+      checked = ((refl, said), tt);
+      taken = subst (λ text. TakesUntil w0 w1 text failure) (sym (append-nil (written_of file))) takes;
+    }
+
+-- an end after the last file
+pub cut_last : (limit : ℕ) (holds : List ℕ → Option (List ℕ)) (names : List (List ℕ)) (v0 v1 : Option (List Visit)) (w0 w1 w2 : Option (List ℕ)) (f0 f1 : ℕ) (e0 e1 : Option (List ℕ)) (line : List ℕ) (tally : Tally) (failure : Failure)
+    → IsSaidOf limit holds names v0 v1 w0 w1 f0 f1 e0 e1 line tally → TakesUntil w1 w2 [] failure → IsCutShort limit holds names w0 w2 failure
+cut_last limit holds names v0 v1 w0 w1 w2 f0 f1 e0 e1 line tally failure said takes = record {
+  front = names;
+  rest = [];
+  files = said.files;
+  of_names = sym (append-nil names);
+  checked = said.checked;
+  taken = subst (λ text. TakesUntil w0 w2 text failure) (append-nil (flat_map written_of said.files)) (takes_on w0 w1 w2 (flat_map written_of said.files) [] failure said.written takes);
+}
+
+-- an end at a file behind others
+pub cut_later : (limit : ℕ) (holds held : List ℕ → Option (List ℕ)) (all names : List (List ℕ)) (name shown : List ℕ) (behind : List (List ℕ)) (v0 v1 : Option (List Visit)) (w0 w1 w2 : Option (List ℕ)) (f0 f1 : ℕ) (e0 e1 : Option (List ℕ)) (line : List ℕ) (tally : Tally) (failure : Failure)
+    → IsSaidOf limit holds names v0 v1 w0 w1 f0 f1 e0 e1 line tally → IsCutShort limit held (shown ∷ []) w1 w2 failure → held ≡ holds → shown ≡ name → all ≡ names ++ name ∷ behind
+    → IsCutShort limit holds all w0 w2 failure
+cut_later limit holds held all names name shown behind v0 v1 w0 w1 w2 f0 f1 e0 e1 line tally failure said cut same shows all_is =
+    let one : shown ∷ [] ≡ cut.front ++ cut.rest = cut.of_names in
+    record {
+      front = names ++ cut.front;
+      rest = cut.rest ++ behind;
+      files = said.files ++ cut.files;
+      of_names =
+          all_is ∙ ap (λ n. names ++ n ∷ behind) (sym shows) ∙ ap (λ ns. names ++ (ns ++ behind)) one
+          ∙ ap (λ ns. names ++ ns) (append_assoc cut.front cut.rest behind) ∙ sym (append_assoc names cut.front (cut.rest ++ behind));
+      checked =
+          related-append (λ n (f : Checked). (f.name ≡ n) × IsSaid limit (holds n) f.reply) names said.files cut.front cut.files said.checked
+          (subst (λ (h : List ℕ → Option (List ℕ)). AreChecked limit h cut.front cut.files) same cut.checked);
+      taken =
+          subst (λ text. TakesUntil w0 w2 text failure) (sym (flat_map-append written_of said.files cut.files))
+          (takes_on w0 w1 w2 (flat_map written_of said.files) (flat_map written_of cut.files) failure said.written cut.taken);
+    }
+
+pub cut_first_of : {T : Type 0} → (r : Result T Failure) (limit : ℕ) (holds : List ℕ → Option (List ℕ)) (names : List (List ℕ)) (w : Option (List ℕ))
+    → IfErr r (λ failure. failure ≡ Memory) → IfErr r (IsCutShort limit holds names w w)
+cut_first_of (Ok x) limit holds names w is = tt
+cut_first_of (Err failure) limit holds names w is = cut_first limit holds names w failure is
+
+pub cut_within_of : {T : Type 0} → (r : Result T Failure) (limit : ℕ) (holds : List ℕ → Option (List ℕ)) (name : List ℕ) (w0 w1 : Option (List ℕ)) (reply : Option Reply)
+    → IsSaid limit (holds name) reply → IfErr r (TakesUntil w0 w1 (written_of (record { name = name; reply = reply }))) → IfErr r (IsCutShort limit holds (name ∷ []) w0 w1)
+cut_within_of (Ok x) limit holds name w0 w1 reply said takes = tt
+cut_within_of (Err failure) limit holds name w0 w1 reply said takes = cut_within limit holds name w0 w1 failure reply said takes
+
+pub cut_unwritten : {T : Type 0} → (r : Result T Failure) (limit : ℕ) (holds : List ℕ → Option (List ℕ)) (names : List (List ℕ)) (v0 v1 : Option (List Visit)) (w0 w1 : Option (List ℕ)) (f0 f1 : ℕ) (e0 e1 : Option (List ℕ)) (line : List ℕ) (tally : Tally)
+    → IsSaidOf limit holds names v0 v1 w0 w1 f0 f1 e0 e1 line tally → IfErr r (λ failure. failure ≡ Memory) → IfErr r (IsCutShort limit holds names w0 w1)
+cut_unwritten (Ok x) limit holds names v0 v1 w0 w1 f0 f1 e0 e1 line tally said is = tt
+cut_unwritten (Err failure) limit holds names v0 v1 w0 w1 f0 f1 e0 e1 line tally said is =
+    cut_last limit holds names v0 v1 w0 w1 w1 f0 f1 e0 e1 line tally failure said (subst (TakesUntil w1 w1 []) (sym is) (appends_nothing w1))
+
+pub cut_unflushed : {T : Type 0} → (r : Result T Failure) (limit : ℕ) (holds : List ℕ → Option (List ℕ)) (names : List (List ℕ)) (v0 v1 : Option (List Visit)) (w0 w1 w2 : Option (List ℕ)) (f0 f1 : ℕ) (e0 e1 : Option (List ℕ)) (line : List ℕ) (tally : Tally)
+    → IsSaidOf limit holds names v0 v1 w0 w1 f0 f1 e0 e1 line tally → Keeps w1 w2 → IfErr r (λ failure. failure ≡ Write) → IfErr r (IsCutShort limit holds names w0 w2)
+cut_unflushed (Ok x) limit holds names v0 v1 w0 w1 w2 f0 f1 e0 e1 line tally said keeps is = tt
+cut_unflushed (Err failure) limit holds names v0 v1 w0 w1 w2 f0 f1 e0 e1 line tally said keeps is =
+    cut_last limit holds names v0 v1 w0 w1 w2 f0 f1 e0 e1 line tally failure said (subst (TakesUntil w1 w2 []) (sym is) (0, (omega arith), keeps_nothing w1 w2 keeps))
+
+pub cut_later_of : {T : Type 0} → (r : Result T Failure) (limit : ℕ) (holds held : List ℕ → Option (List ℕ)) (all names : List (List ℕ)) (name shown : List ℕ) (behind : List (List ℕ)) (v0 v1 : Option (List Visit)) (w0 w1 w2 : Option (List ℕ)) (f0 f1 : ℕ) (e0 e1 : Option (List ℕ)) (line : List ℕ) (tally : Tally)
+    → IsSaidOf limit holds names v0 v1 w0 w1 f0 f1 e0 e1 line tally → IfErr r (IsCutShort limit held (shown ∷ []) w1 w2) → held ≡ holds → shown ≡ name → all ≡ names ++ name ∷ behind
+    → IfErr r (IsCutShort limit holds all w0 w2)
+cut_later_of (Ok x) limit holds held all names name shown behind v0 v1 w0 w1 w2 f0 f1 e0 e1 line tally said cut same shows all_is = tt
+cut_later_of (Err failure) limit holds held all names name shown behind v0 v1 w0 w1 w2 f0 f1 e0 e1 line tally said cut same shows all_is =
+    cut_later limit holds held all names name shown behind v0 v1 w0 w1 w2 f0 f1 e0 e1 line tally failure said cut same shows all_is

@@ -1,4 +1,5 @@
 mod CheckLemmas
+mod FolderLemmas
 mod Commands
 mod Fronts
 mod Inputs

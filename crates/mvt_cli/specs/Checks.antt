@@ -5,6 +5,7 @@ use Rattle.std.specs.List.{flat_map}
 use Rattle.std.specs.Io.KnownBytes.{Appends}
 use Rattle.mvt_base.specs.Related.{AreRelated}
 use Rattle.mvt_io.specs.Counts.{NoneFailed, counted, last_count}
+use Rattle.mvt_io.specs.Transfers.{TakesPrefix}
 use Rattle.mvt_cli.specs.declared.failure.Failure.{Failure}
 use Rattle.mvt_cli.specs.declared.failure.Failure.TheVariants.{Read, Write, Memory}
 use Rattle.mvt_cli.specs.declared.folder.Visit.{Visit}
@@ -139,16 +140,31 @@ IsOver WriteFailed Read = ⊥
 IsOver WriteFailed Write = WriteFailed
 IsOver WriteFailed Memory = ⊤
 
+-- what was taken of a text when a run was over: a front after a failed write, and all of it where memory was wanting
+abbrev pub TakesUntil : Option (List ℕ) → Option (List ℕ) → List ℕ → Failure → Type 0
+TakesUntil old new text Read = ⊥
+TakesUntil old new text Write = TakesPrefix old new text
+TakesUntil old new text Memory = Appends old new text
+
+-- a run that was over early: the files of a front of the names were checked, in order, and what there is to say of them was taken
+pub record IsCutShort (limit : ℕ) (holds : List ℕ → Option (List ℕ)) (names : List (List ℕ)) (output_old output_new : Option (List ℕ)) (failure : Failure) : Type 0 where
+  pub front : List (List ℕ)
+  pub rest : List (List ℕ)
+  pub files : List Checked
+  pub of_names : names ≡ front ++ rest
+  pub checked : AreChecked limit holds front files
+  pub taken : TakesUntil output_old output_new (flat_map written_of files) failure
+
 -- the error stream grew by some lines
 abbrev pub TellsSome : ℕ → ℕ → Option (List ℕ) → Option (List ℕ) → Type 0
 TellsSome failed_old failed_new old new = (lines : List ℕ) × Tells failed_old failed_new old new lines
 
 -- all is said of the files of these names, the output was flushed once, and the status tells how they were judged; or the
--- run was over before, which the last line tells
+-- run was over before, with a front of this on the output, which the last line tells
 abbrev pub IsToldOfAll : ℕ → (List ℕ → Option (List ℕ)) → List (List ℕ) → Option (List Visit) → Option (List Visit) → Option (List ℕ) → Option (List ℕ) → ℕ → ℕ → Type 0
     → ℕ → ℕ → Option (List ℕ) → Option (List ℕ) → ℕ → Type 0
 IsToldOfAll limit holds names visits_old visits_new output_old output_new flushes_old flushes_new WriteFailed failed_old failed_new errors_old errors_new status =
     ((tally : Tally) × IsSaidOf limit holds names visits_old visits_new output_old output_new failed_old failed_new errors_old errors_new (summary (length names) tally) tally
     × (flushes_new ≡ counted flushes_old) × (status ≡ status_after tally))
-    ⊎ ((failure : Failure) × IsOver WriteFailed failure × (status ≡ status_of failure)
+    ⊎ ((failure : Failure) × IsOver WriteFailed failure × (status ≡ status_of failure) × IsCutShort limit holds names output_old output_new failure
     × ((lines : List ℕ) × (NoneFailed failed_old failed_new → Appends errors_old errors_new (lines ++ line_of failure))))

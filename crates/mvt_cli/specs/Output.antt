@@ -15,6 +15,8 @@ use Rattle.mvt_view.specs.JsonForms.{json}
 use Rattle.mvt_view.specs.Reports.{report_lines}
 use Rattle.mvt_view.specs.Svg.{svg}
 use Rattle.mvt_cli.specs.declared.reply.Reply.{Reply}
+use Rattle.mvt_cli.specs.declared.viewing.View.{View}
+use Rattle.mvt_cli.specs.declared.viewing.View.TheVariants.{Json, Svg}
 use Rattle.mvt_cli.specs.declared.words.Task.{Task}
 use Rattle.mvt_cli.specs.declared.words.Task.TheVariants.{Fields, Show, Draw, Check, Rewrite, Extract}
 
@@ -40,6 +42,11 @@ json_lines tile = compact_text (json tile) ++ codes "\n"
 -- the picture, and a line feed
 abbrev pub svg_lines : Tile → List ℕ
 svg_lines tile = svg tile ++ codes "\n"
+
+-- the text of a view
+abbrev pub view_lines : View → Tile → List ℕ
+view_lines Json tile = json_lines tile
+view_lines Svg tile = svg_lines tile
 
 -- the report, which says yes exactly where the input is the tile's canonical bytes
 abbrev pub check_lines : List ℕ → Tile → List ℕ

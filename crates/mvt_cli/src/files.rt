@@ -3,7 +3,7 @@ ghost use Rattle.std.specs.Prelude.{◌≡◌, ◌≢◌, ◌<◌, ◌⊎◌, []
 ghost use Rattle.std.specs.List.{flat_map};
 ghost use Rattle.std.specs.Io.KnownBytes.{Appends};
 ghost use Rattle.mvt_io.specs.Counts.{counted, HasFailed};
-ghost use Rattle.mvt_cli.specs.Checks.{Checked, IsOver, IsSaid, IsSaidOf, IsSaidOfOne, IsToldOfAll, Tells, TellsSome, line_told, marked_text, status_after, summary, text_of, told_of, verdict_of, visit_of, written_of};
+ghost use Rattle.mvt_cli.specs.Checks.{Checked, IsCutShort, IsOver, IsSaid, IsSaidOf, IsSaidOfOne, IsToldOfAll, TakesUntil, Tells, TellsSome, line_told, marked_text, status_after, summary, text_of, told_of, verdict_of, visit_of, written_of};
 ghost use Rattle.mvt_cli.specs.Visits.{Adds};
 
 use crate::checking::check;
@@ -53,6 +53,7 @@ fn check_all<F: Folder, W: Sink, E: Sink>(
     ensures sound { OnOk result (W.failed writer.new ≡ W.failed writer.old) }
     ensures failed { IfErr result (IsOver (HasFailed (W.failed writer.old) (W.failed writer.new))) }
     ensures partly { OnErr result (TellsSome (E.failed errors.old) (E.failed errors.new) (E.taken errors.old) (E.taken errors.new)) }
+    ensures cut { IfErr result (IsCutShort LIMIT (F.holds folder.old) (map string_bytes names.now) (W.taken writer.old) (W.taken writer.new)) }
 {
     let tally = check_each(alloc, names, folder, writer, errors)?;
     let line = tally.line(alloc, names.len())?;
@@ -74,6 +75,7 @@ fn check_each<F: Folder, W: Sink, E: Sink>(
     ensures sound { OnOk result (W.failed writer.new ≡ W.failed writer.old) }
     ensures failed { IfErr result (IsOver (HasFailed (W.failed writer.old) (W.failed writer.new))) }
     ensures partly { OnErr result (TellsSome (E.failed errors.old) (E.failed errors.new) (E.taken errors.old) (E.taken errors.new)) }
+    ensures cut { IfErr result (IsCutShort LIMIT (F.holds folder.old) (map string_bytes names.now) (W.taken writer.old) (W.taken writer.new)) }
 {
     let mut tally = Tally::none();
     for name in names {
@@ -97,6 +99,7 @@ fn check_one<F: Folder, W: Sink, E: Sink>(
     ensures sound { OnOk result (W.failed writer.new ≡ W.failed writer.old) }
     ensures failed { IfErr result (IsOver (HasFailed (W.failed writer.old) (W.failed writer.new))) }
     ensures partly { OnErr result (TellsSome (E.failed errors.old) (E.failed errors.new) (E.taken errors.old) (E.taken errors.new)) }
+    ensures cut { IfErr result (IsCutShort LIMIT (F.holds folder.old) (name.now ∷ []) (W.taken writer.old) (W.taken writer.new)) }
     ensures same { F.holds folder.new ≡ F.holds folder.old }
 {
     let reply = check_file(alloc, name, folder)?;
@@ -176,6 +179,7 @@ fn note<E: Sink>(errors: &mut E, text: &[u8])
 /// Puts a text on the output. It doesn't flush.
 fn put<W: Sink>(writer: &mut W, text: &[u8]) -> Result<(), Failure>
     ensures taken { OnOk result (Appends (W.taken writer.old) (W.taken writer.new) text.now) }
+    ensures prefix { IfErr result (TakesUntil (W.taken writer.old) (W.taken writer.new) text.now) }
     ensures sound { OnOk result (W.failed writer.new ≡ W.failed writer.old) }
     ensures unflushed { W.flushes writer.new ≡ W.flushes writer.old }
     ensures failed { IfErr result (IsOver (HasFailed (W.failed writer.old) (W.failed writer.new))) }

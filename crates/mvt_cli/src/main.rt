@@ -2,7 +2,6 @@
 #![tactic(auto)]
 
 mod checking;
-mod drawing;
 mod extraction;
 mod failure;
 mod files;
@@ -10,15 +9,16 @@ mod folder;
 mod laws;
 mod listing;
 mod marks;
+mod memory;
 mod names;
 mod refusal;
 mod reply;
 mod rewriting;
 mod run;
-mod showing;
 mod tally;
 #[cfg(test)]
 mod tests;
+mod viewing;
 mod words;
 
 use folder::Disk;

@@ -10,7 +10,6 @@ ghost use Rattle.mvt_cli.specs.Refused.{IsUsage, usage_text};
 ghost use Rattle.mvt_cli.specs.Output.{Answers, Gives, IfReadWhole, IsFlushed, IsWhole, is_made_whole};
 
 use crate::checking::check;
-use crate::drawing::draw;
 use crate::extraction::extract_layers;
 use crate::failure::Failure;
 use crate::files::check_files;
@@ -18,7 +17,7 @@ use crate::folder::Folder;
 use crate::listing::list_fields;
 use crate::reply::{deliver, tell};
 use crate::rewriting::rewrite;
-use crate::showing::show;
+use crate::viewing::{View, view_tile};
 use crate::words::{Asked, Refusal, Task, read_words};
 use mvt_base::{LIMIT, Text};
 use mvt_io::{Sink, Source};
@@ -148,8 +147,8 @@ fn answer<R: Source, W: Sink>(
 {
     match task {
         Task::Fields => deliver(list_fields(alloc, reader)?, writer),
-        Task::Show => deliver(show(alloc, reader)?, writer),
-        Task::Draw => deliver(draw(alloc, reader)?, writer),
+        Task::Show => deliver(view_tile(alloc, View::Json, reader)?, writer),
+        Task::Draw => deliver(view_tile(alloc, View::Svg, reader)?, writer),
         Task::Check => deliver(check(alloc, reader)?, writer),
         Task::Rewrite => rewrite(alloc, reader, writer),
         Task::Extract(names) => extract_layers(alloc, &names, reader, writer),

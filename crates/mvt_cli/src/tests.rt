@@ -7,8 +7,8 @@ mod lines;
 mod refusals;
 mod tiles;
 
+use super::memory::MemoryFolder;
 use super::run::run;
-use folders::MemoryFolder;
 use mvt_io::{MemorySink, MemorySource};
 use std::alloc::{AllocError, Global};
 use std::process::Abort;
@@ -30,6 +30,13 @@ const ONE_POINT_DRAWN: &str = concat!(
     "\n",
     r#"<path class="points" d="M25 17h0"><title>{"attributes":[],"id":null}</title></path>"#,
     "\n</svg>\n</svg>\n"
+);
+
+// A tile in which nothing is drawn.
+const NOTHING_DRAWN: &str = concat!(
+    r#"<svg xmlns="http://www.w3.org/2000/svg" viewBox="0 0 1 1">"#,
+    "\n<style>path{fill:none;stroke:currentColor;stroke-width:.2%;stroke-linecap:round;stroke-linejoin:round}",
+    ".points{stroke-width:1%}.polygons{fill:currentColor;fill-opacity:.2;fill-rule:evenodd}</style>\n</svg>\n"
 );
 
 // How a run's devices behave: the most bytes in a call, the first read and the first write that fail,
@@ -106,7 +113,7 @@ fn run_on(
     let mut reader = MemorySource::new(input, step, devices.read_from);
     let mut writer = MemorySink::new(alloc, devices.room, step, devices.write_from, devices.flush)?;
     let mut errors = MemorySink::new(alloc, 2000, 65_536, u64::MAX, false)?;
-    let mut folder = MemoryFolder::new(alloc, &[]);
+    let mut folder = MemoryFolder::new(alloc, Vec::new(alloc));
     let status = run(
         alloc,
         &words,

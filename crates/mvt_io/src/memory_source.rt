@@ -83,6 +83,13 @@ impl MemorySource {
     {
         self.calls
     }
+
+    /// How many reads failed, up to 2^64 - 1.
+    pub fn failed(&self) -> u64
+        ensures { result ≡ self.now.failed }
+    {
+        self.failures.count
+    }
 }
 
 impl Source for MemorySource {

@@ -112,7 +112,7 @@ fn ignores_the_error_stream(rt: HostRuntime) -> Result<(), Fail> {
     let mut reader = MemorySource::new(hex(alloc, ONE_POINT)?, 7, u64::MAX);
     let mut writer = MemorySink::new(alloc, 100, 7, u64::MAX, false)?;
     let mut errors = MemorySink::new(alloc, 100, 7, 0, true)?;
-    let mut folder = MemoryFolder::new(alloc, &[]);
+    let mut folder = MemoryFolder::new(alloc, Vec::new(alloc));
     let status = run(
         alloc,
         &words,

@@ -1,104 +1,61 @@
-//! A folder in memory, and the command `check` over files.
+//! The command `check` over files in memory.
+ghost use Rattle.std.specs.Prelude.{◌≡◌, ◌≢◌, [], Some, map, string_bytes};
+ghost use Rattle.mvt_io.specs.Counts.{HasFailed};
+ghost use Rattle.mvt_cli.specs.Checks.{IsToldOfAll};
+ghost use Rattle.mvt_cli.specs.Folders.{held_in};
+ghost use Rattle.mvt_cli.specs.Words.{faults_in, files_in};
+
 use super::*;
-use crate::folder::Folder;
-use std::io::ErrorKind;
+use crate::memory::MemoryFile;
+use mvt_base::{LIMIT, Text};
 use std::test::Fail;
 
-// A file: its name, its bytes, and the first read that fails. Without bytes it can't be opened.
-#[derive(Clone, Copy)]
-pub(super) struct MemoryFile<'a> {
-    pub name: &'a str,
-    pub bytes: Option<&'a str>,
-    pub read_from: u64,
-}
-
-// Files in memory, with their bytes in hexadecimal digits, and the names that were asked for.
-#[derive(Drop)]
-pub(super) struct MemoryFolder<'a> {
-    alloc: Global,
-    files: &'a [MemoryFile<'a>],
-    asked: Vec<String>,
-    open: u64,
-}
-
-impl<'a> MemoryFolder<'a> {
-    pub(super) fn new(alloc: Global, files: &'a [MemoryFile<'a>]) -> Self {
-        MemoryFolder {
-            alloc,
-            files,
-            asked: Vec::new(alloc),
-            open: 0,
-        }
-    }
-}
-
-fn lost(_: AllocError) -> ErrorKind {
-    ErrorKind::OutOfMemory
-}
-
-impl Folder for MemoryFolder<'_> {
-    ghost use Rattle.std.specs.Prelude.{None};
-
-    type Reader = MemorySource;
-
-    ghost holds = { λ _ _. None };
-
-    ghost visits = { λ _. None };
-
-    fn open(&mut self, name: &str) -> Result<Self::Reader, ErrorKind> {
-        let copy = String::from_str(self.alloc, name).map_err(lost)?;
-        self.asked.push(copy).map_err(|_| ErrorKind::OutOfMemory)?;
-        for file in self.files {
-            if file.name == name {
-                let digits = file.bytes.ok_or(ErrorKind::PermissionDenied)?;
-                let bytes = hex(self.alloc, digits).map_err(lost)?;
-                self.open = self.open.saturating_add(1);
-                return Ok(MemorySource::new(bytes, 3, file.read_from));
-            }
-        }
-        Err(ErrorKind::NotFound)
-    }
-
-    fn close(&mut self, _name: &str, reader: Self::Reader) {
-        self.open = self.open.saturating_sub(1);
-        drop(reader);
-    }
-}
-
 // A tile, one that is refused, one that can't be opened, one whose second read fails, one with a
-// note, and one with a name that begins with a hyphen.
-const FILES: [MemoryFile<'static>; 6] = [
-    MemoryFile {
-        name: "good",
-        bytes: Some(ONE_POINT),
-        read_from: u64::MAX,
-    },
-    MemoryFile {
-        name: "bad",
-        bytes: Some("1B"),
-        read_from: u64::MAX,
-    },
-    MemoryFile {
-        name: "locked",
-        bytes: None,
-        read_from: u64::MAX,
-    },
-    MemoryFile {
-        name: "torn",
-        bytes: Some(ONE_POINT),
-        read_from: 1,
-    },
-    MemoryFile {
-        name: "noted",
-        bytes: Some(""),
-        read_from: u64::MAX,
-    },
-    MemoryFile {
-        name: "-x",
-        bytes: Some(ONE_POINT),
-        read_from: u64::MAX,
-    },
+// note, and one with a name that begins with a hyphen: the name, the bytes in hexadecimal digits, and
+// the first read that fails.
+const FILES: [(&str, Option<&str>, u64); 6] = [
+    ("good", Some(ONE_POINT), u64::MAX),
+    ("bad", Some("1B"), u64::MAX),
+    ("locked", None, u64::MAX),
+    ("torn", Some(ONE_POINT), 1),
+    ("noted", Some(""), u64::MAX),
+    ("-x", Some(ONE_POINT), u64::MAX),
 ];
+
+fn folder_of(alloc: Global) -> Result<MemoryFolder, AllocError> {
+    let mut files = Vec::new(alloc);
+    for (name, digits, fails_from) in FILES {
+        let bytes = match digits {
+            None => None,
+            Some(digits) => Some(hex(alloc, digits)?),
+        };
+        let name = Text::from_str(alloc, name)?;
+        files.push(MemoryFile {
+            name,
+            bytes,
+            fails_from,
+        })?;
+    }
+    Ok(MemoryFolder::new(alloc, files))
+}
+
+// A run over files whose bytes are known, into writers that keep theirs: what it says of each file is
+// what `check` answers for its bytes.
+fn run_files(
+    alloc: Global,
+    words: &[String],
+    folder: &mut MemoryFolder,
+    reader: &mut MemorySource,
+    writer: &mut MemorySink,
+    errors: &mut MemorySink,
+) -> u8
+    ensures { files_in (map string_bytes words.now) ≢ [] → faults_in (map string_bytes words.now) ≡ []
+        → IsToldOfAll LIMIT (held_in folder.old.files) (files_in (map string_bytes words.now)) folder.old.visits folder.new.visits
+        (Some writer.old.taken) (Some writer.new.taken) writer.old.flushes writer.new.flushes (HasFailed writer.old.failed writer.new.failed)
+        errors.old.failed errors.new.failed (Some errors.old.taken) (Some errors.new.taken) result }
+{
+    run(alloc, words, folder, reader, writer, errors)
+}
 
 // What a run over these files answers: its status, its output, and its error stream.
 fn checks(
@@ -109,12 +66,12 @@ fn checks(
 ) -> Result<(), AllocError> {
     let alloc = rt.alloc();
     let words = words_of(alloc, words)?;
-    let mut folder = MemoryFolder::new(alloc, &FILES);
+    let mut folder = folder_of(alloc)?;
     let mut reader = MemorySource::new(hex(alloc, ONE_POINT)?, 1, 0);
     let step = devices.step.max(1);
     let mut writer = MemorySink::new(alloc, devices.room, step, devices.write_from, devices.flush)?;
     let mut errors = MemorySink::new(alloc, 2000, 65_536, u64::MAX, false)?;
-    let status = run(
+    let status = run_files(
         alloc,
         &words,
         &mut folder,
@@ -126,7 +83,7 @@ fn checks(
     assert_eq!(rt; writer.taken(), answer.1.as_bytes());
     assert_eq!(rt; errors.taken(), answer.2.as_bytes());
     assert_eq!(rt; reader.calls(), 0);
-    assert_eq!(rt; folder.open, 0);
+    assert_eq!(rt; folder.open_files(), 0);
     Ok(())
 }
 
@@ -203,9 +160,11 @@ fn wants_files(rt: &(impl Abort + AllocGlobal)) -> u32 {
     let Ok(mut errors) = MemorySink::new(alloc, 2000, 65_536, u64::MAX, false) else {
         return 1;
     };
-    let mut folder = MemoryFolder::new(alloc, &FILES);
+    let Ok(mut folder) = folder_of(alloc) else {
+        return 1;
+    };
     let mut reader = MemorySource::new(Vec::new(alloc), 1, 0);
-    let status = run(
+    let status = run_files(
         alloc,
         &words,
         &mut folder,
@@ -213,7 +172,7 @@ fn wants_files(rt: &(impl Abort + AllocGlobal)) -> u32 {
         &mut writer,
         &mut errors,
     );
-    assert_eq!(rt; folder.open, 0);
+    assert_eq!(rt; folder.open_files(), 0);
     if status == 4 {
         assert!(rt; GOOD.as_bytes().starts_with(writer.taken()));
         assert!(rt; errors.taken().ends_with(b"mvt: out of memory\n"));

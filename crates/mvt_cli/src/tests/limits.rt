@@ -50,6 +50,7 @@ fn reads_up_to_the_limit(rt: HostRuntime) -> Result<(), Fail> {
     for (command, written) in [
         ("check", unknown),
         ("show", "{\"layers\":[]}\n"),
+        ("draw", NOTHING_DRAWN),
         ("rewrite", ""),
     ] {
         let whole = padded(rt.alloc(), "0AFBFFFF1F", 0, 0)?;
@@ -77,22 +78,33 @@ fn refuses_a_larger_result(rt: HostRuntime) -> Result<(), Fail> {
     Ok(())
 }
 
-// The same layer as JSON: its name is all but a few bytes of the text.
+// The same layer as JSON and as a picture: its name is all but a few bytes of the text.
 #[test]
 fn shows_a_large_layer(rt: HostRuntime) -> Result<(), Fail> {
-    let input = padded(rt.alloc(), "1AFBFFFF1F 7802 0AF4FFFF1F", b'a', 0)?;
-    let room = (LIMIT as usize).saturating_add(100);
-    let devices = Streams { room, ..SOUND };
-    let found = run_on(rt.alloc(), &["mvt", "show"], input, devices)?;
-    assert_eq!(rt; found.status, 0);
-    assert!(rt; found.errors.taken().is_empty());
-    let front = b"{\"layers\":[{\"extent\":4096,\"features\":[],\"name\":\"";
-    let name = found
-        .writer
-        .taken()
-        .strip_prefix(front)
-        .and_then(|text| text.strip_suffix(b"\"}]}\n"));
-    assert_eq!(rt; name.map(|name| name.len()), Some(67_108_852));
-    assert!(rt; name.is_some_and(|name| name.iter().all(|byte| *byte == b'a')));
+    let head = NOTHING_DRAWN.strip_suffix("</svg>\n").unwrap_or_default();
+    let opened = r##"<svg color="#0072b2" viewBox="0 0 4096 4096"><title>"##;
+    let drawn = format!(in rt.alloc(); "{head}{opened}")?;
+    for (command, front, back) in [
+        (
+            "show",
+            "{\"layers\":[{\"extent\":4096,\"features\":[],\"name\":\"",
+            "\"}]}\n",
+        ),
+        ("draw", drawn.as_str(), "</title>\n</svg>\n</svg>\n"),
+    ] {
+        let input = padded(rt.alloc(), "1AFBFFFF1F 7802 0AF4FFFF1F", b'a', 0)?;
+        let room = (LIMIT as usize).saturating_add(1000);
+        let devices = Streams { room, ..SOUND };
+        let found = run_on(rt.alloc(), &["mvt", command], input, devices)?;
+        assert_eq!(rt; found.status, 0);
+        assert!(rt; found.errors.taken().is_empty());
+        let name = found
+            .writer
+            .taken()
+            .strip_prefix(front.as_bytes())
+            .and_then(|text| text.strip_suffix(back.as_bytes()));
+        assert_eq!(rt; name.map(|name| name.len()), Some(67_108_852));
+        assert!(rt; name.is_some_and(|name| name.iter().all(|byte| *byte == b'a')));
+    }
     Ok(())
 }
