@@ -24,7 +24,8 @@ enum {
     MVT_NO_MEMORY = 2,   /* out of memory */
     MVT_TOO_LARGE = 3,   /* the result would be larger than 67,108,864 bytes */
     MVT_NO_LAYER = 4,    /* no layer has one of the names */
-    MVT_BAD_NAME = 5     /* a name isn't UTF-8 */
+    MVT_BAD_NAME = 5,    /* a name isn't UTF-8 */
+    MVT_NO_TILE = 6      /* rows that are no valid tile */
 };
 
 /* Bytes, or a text in UTF-8, which doesn't end with a zero. */
@@ -123,9 +124,27 @@ uint32_t mvt_json(const uint8_t *bytes, size_t len, mvt_bytes *out, mvt_fault *f
 /* A picture of a tile in SVG: MVT_OK, MVT_REFUSED, MVT_NO_MEMORY. */
 uint32_t mvt_svg(const uint8_t *bytes, size_t len, mvt_bytes *out, mvt_fault *fault);
 
+/* Whether the bytes are a tile: MVT_OK, MVT_REFUSED, MVT_NO_MEMORY. */
+uint32_t mvt_judge(const uint8_t *bytes, size_t len, mvt_fault *fault);
+
+/* What `mvt check` says of a tile: the counts of its layers and features, whether the bytes are canonical, and a line for
+ * each note. Each line ends in a line feed. MVT_OK, MVT_REFUSED, MVT_NO_MEMORY. */
+uint32_t mvt_report(const uint8_t *bytes, size_t len, mvt_bytes *out, mvt_fault *fault);
+
 /* A tile as rows. MVT_OK, MVT_REFUSED, MVT_NO_MEMORY; MVT_TOO_LARGE for a layer of more than 67,108,864 keys or
  * values. */
 uint32_t mvt_read(const uint8_t *bytes, size_t len, mvt_tile *out, mvt_fault *fault);
+
+/* The canonical bytes of the tile that rows are. The rows may come from anywhere: from mvt_read, or made by hand, in any
+ * order, with spans that overlap and entries that nothing names. What a row hasn't, as the bytes of a layer of version 2
+ * or the text of a number, isn't looked at, and neither is what no row names.
+ * MVT_NO_TILE where a span reaches beyond its list, a tag's index beyond the keys or values of its layer, or the rows are
+ * no valid tile: a name, a key or a text that isn't UTF-8; a kind that isn't there; a `has_id`, an `exterior` or a bool
+ * beyond 1; a float beyond 32 bits; tags that are odd in number or name a key twice; points in more than one part, or in
+ * none; lines and rings that are too short, repeat a point or are drawn with steps out of range; rings that wind the
+ * wrong way round; an interior ring before all exterior ones; two layers of one name; bytes of a layer that aren't one of
+ * its version. Also MVT_OK, MVT_NO_MEMORY, MVT_TOO_LARGE. */
+uint32_t mvt_write(const mvt_tile *tile, mvt_bytes *out);
 
 /* Gives back what a call handed out; afterwards there is nothing left to be given back. */
 void mvt_bytes_free(mvt_bytes *bytes);

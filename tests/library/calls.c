@@ -1,5 +1,6 @@
 /* Calls the library on each file that is named, and looks at all that it hands out. Prints a line for each file:
- * the statuses of mvt_rewrite, mvt_json, mvt_read and mvt_extract, and a sum over the rows. */
+ * the statuses of mvt_rewrite, mvt_json, mvt_read and mvt_extract, and a sum over the rows. The rows are written again,
+ * and so are copies of them in which a few numbers are changed at random. */
 #include "mvt.h"
 
 #include <stdio.h>
@@ -63,6 +64,145 @@ static uint64_t walk(const mvt_tile *t) {
     return sum;
 }
 
+static int same_bytes(const mvt_tile *a, mvt_span in_a, const mvt_tile *b, mvt_span in_b) {
+    return in_a.len == in_b.len && (in_a.len == 0 || memcmp(a->texts + in_a.start, b->texts + in_b.start, in_a.len) == 0);
+}
+
+static int same_values(const mvt_tile *a, const mvt_value *x, const mvt_tile *b, const mvt_value *y) {
+    if (x->kind != y->kind) return 0;
+    return x->kind == MVT_TEXT ? same_bytes(a, x->text, b, y->text) : x->bits == y->bits;
+}
+
+static int same_tags(const mvt_tile *a, const mvt_layer *k, const mvt_feature *f, const mvt_tile *b, const mvt_layer *l,
+                     const mvt_feature *g) {
+    if (f->tags.len != g->tags.len) return 0;
+    for (size_t i = 0; i < f->tags.len; i += 2) {
+        const uint32_t *s = a->tags + f->tags.start + i, *t = b->tags + g->tags.start + i;
+        if (!same_bytes(a, a->keys[k->keys.start + s[0]], b, b->keys[l->keys.start + t[0]])) return 0;
+        if (!same_values(a, a->values + k->values.start + s[1], b, b->values + l->values.start + t[1])) return 0;
+    }
+    return 1;
+}
+
+static int same_parts(const mvt_tile *a, const mvt_feature *f, const mvt_tile *b, const mvt_feature *g) {
+    if (f->parts.len != g->parts.len) return 0;
+    for (size_t i = 0; i < f->parts.len; ++i) {
+        const mvt_part *p = a->parts + f->parts.start + i, *q = b->parts + g->parts.start + i;
+        if (f->kind == MVT_POLYGONS && p->exterior != q->exterior) return 0;
+        if (p->points.len != q->points.len) return 0;
+        if (memcmp(a->points + p->points.start, b->points + q->points.start, p->points.len * sizeof *a->points) != 0) return 0;
+    }
+    return 1;
+}
+
+static int same_features(const mvt_tile *a, const mvt_layer *k, const mvt_feature *f, const mvt_tile *b, const mvt_layer *l,
+                         const mvt_feature *g) {
+    if (f->has_id != g->has_id || (f->has_id && f->id != g->id) || f->kind != g->kind) return 0;
+    if (!same_tags(a, k, f, b, l, g)) return 0;
+    if (f->kind != MVT_UNKNOWN) return same_parts(a, f, b, g);
+    return f->integers.len == g->integers.len &&
+           (f->integers.len == 0 ||
+            memcmp(a->integers + f->integers.start, b->integers + g->integers.start, f->integers.len * sizeof *a->integers) == 0);
+}
+
+/* Both rows, which were accepted, are one tile. */
+static int same_tiles(const mvt_tile *a, const mvt_tile *b) {
+    if (a->layer_count != b->layer_count) return 0;
+    for (size_t i = 0; i < a->layer_count; ++i) {
+        const mvt_layer *k = a->layers + i, *l = b->layers + i;
+        if (k->version != l->version) return 0;
+        if (k->version != 2) {
+            if (!same_bytes(a, k->bytes, b, l->bytes)) return 0;
+            continue;
+        }
+        if (k->extent != l->extent || !same_bytes(a, k->name, b, l->name) || k->features.len != l->features.len) return 0;
+        for (size_t j = 0; j < k->features.len; ++j) {
+            if (!same_features(a, k, a->features + k->features.start + j, b, l, b->features + l->features.start + j)) return 0;
+        }
+    }
+    return 1;
+}
+
+static uint32_t state = 1;
+
+static uint32_t any(size_t below) {
+    state = state * 1664525u + 1013904223u;
+    return (uint32_t)((state >> 8) % below);
+}
+
+/* Changes four bytes of a list of rows: to a small number, the largest or a random one. */
+static void change(void *list, size_t count, size_t size) {
+    if (count == 0) return;
+    const uint32_t numbers[] = {0, 1, 2, 3, UINT32_MAX, any(1000), any(1 << 24)};
+    const size_t at = any(count * size / 4) * 4;
+    memcpy((uint8_t *)list + at, &numbers[any(7)], 4);
+}
+
+static void *copy_of(const void *list, size_t count, size_t size) {
+    void *copy = malloc(count * size + 1);
+    require(copy != NULL, "memory");
+    if (count != 0) memcpy(copy, list, count * size);
+    return copy;
+}
+
+/* What is written of rows reads back as these rows, and stays as it is when it is rewritten. Answers the status. */
+static uint32_t write_rows(const mvt_tile *rows) {
+    mvt_bytes out = {0}, again = {0};
+    mvt_fault fault;
+    mvt_tile read = {0};
+    const uint32_t status = mvt_write(rows, &out);
+    require(status == MVT_OK || status == MVT_NO_TILE, "the status of mvt_write");
+    require(status == MVT_OK || (out.data == NULL && out.len == 0), "an output that isn't due is touched");
+    if (status != MVT_OK) return status;
+    require(mvt_read(out.data, out.len, &read, &fault) == MVT_OK && same_tiles(rows, &read), "rows that read back");
+    require(mvt_rewrite(out.data, out.len, &again, &fault) == MVT_OK, "what was written is a tile");
+    require(again.len == out.len && (out.len == 0 || memcmp(again.data, out.data, out.len) == 0), "canonical bytes");
+    mvt_bytes_free(&out);
+    mvt_bytes_free(&again);
+    mvt_tile_free(&read);
+    return status;
+}
+
+/* Writes copies of rows in which some numbers are changed. Answers how many were accepted. */
+static unsigned write_changed(const mvt_tile *rows, unsigned times) {
+    unsigned accepted = 0;
+    for (unsigned i = 0; i < times; ++i) {
+        mvt_tile t = *rows;
+        t.layers = copy_of(rows->layers, rows->layer_count, sizeof *rows->layers);
+        t.features = copy_of(rows->features, rows->feature_count, sizeof *rows->features);
+        t.keys = copy_of(rows->keys, rows->key_count, sizeof *rows->keys);
+        t.values = copy_of(rows->values, rows->value_count, sizeof *rows->values);
+        t.tags = copy_of(rows->tags, rows->tag_count, sizeof *rows->tags);
+        t.parts = copy_of(rows->parts, rows->part_count, sizeof *rows->parts);
+        t.points = copy_of(rows->points, rows->point_count, sizeof *rows->points);
+        t.integers = copy_of(rows->integers, rows->integer_count, sizeof *rows->integers);
+        t.texts = copy_of(rows->texts, rows->text_len, 1);
+        for (unsigned changes = 1 + any(2); changes != 0; --changes) {
+            switch (any(8)) {
+            case 0: change((void *)t.layers, t.layer_count, sizeof *t.layers); break;
+            case 1: change((void *)t.features, t.feature_count, sizeof *t.features); break;
+            case 2: change((void *)t.keys, t.key_count, sizeof *t.keys); break;
+            case 3: change((void *)t.values, t.value_count, sizeof *t.values); break;
+            case 4: change((void *)t.tags, t.tag_count, sizeof *t.tags); break;
+            case 5: change((void *)t.parts, t.part_count, sizeof *t.parts); break;
+            case 6: change((void *)t.points, t.point_count, sizeof *t.points); break;
+            default: change((void *)t.texts, t.text_len / 4, 4); break;
+            }
+        }
+        accepted += write_rows(&t) == MVT_OK;
+        free((void *)t.layers);
+        free((void *)t.features);
+        free((void *)t.keys);
+        free((void *)t.values);
+        free((void *)t.tags);
+        free((void *)t.parts);
+        free((void *)t.points);
+        free((void *)t.integers);
+        free((void *)t.texts);
+    }
+    return accepted;
+}
+
 static uint64_t sum_of(mvt_bytes *bytes) {
     uint64_t sum = bytes->len;
     for (size_t i = 0; i < bytes->len; ++i) sum += bytes->data[i];
@@ -85,6 +225,9 @@ static void call(const char *path) {
     if (rewritten == MVT_OK) sum += sum_of(&out);
     const uint32_t shown = mvt_json(bytes, len, &out, &fault);
     if (shown == MVT_OK) sum += sum_of(&out);
+    require(mvt_judge(bytes, len, &fault) == shown, "a tile is accepted where it is shown");
+    require(mvt_report(bytes, len, &out, &fault) == shown, "a tile is reported on where it is shown");
+    if (shown == MVT_OK) sum += sum_of(&out);
     const uint32_t read = mvt_read(bytes, len, &rows, &fault);
     const mvt_bytes names[] = {{(const uint8_t *)"water", 5}, {(const uint8_t *)"\xff", 1}};
     const uint32_t extracted = mvt_extract(bytes, len, names, 1, &out, &fault);
@@ -93,6 +236,8 @@ static void call(const char *path) {
     require(out.data == NULL && out.len == 0, "an output that isn't due is touched");
     if (read == MVT_OK) {
         sum += walk(&rows);
+        require(write_rows(&rows) == MVT_OK, "rows that were read are a tile");
+        write_changed(&rows, 4);
         mvt_tile_free(&rows);
     }
     require(rows.layers == NULL && rows.text_len == 0, "rows that aren't due are touched");
@@ -104,7 +249,31 @@ static void call(const char *path) {
     free(tile);
 }
 
+/* Layer `a` with the point (25, 17), made by hand, as the bytes that are known of it. */
+static void write_point(void) {
+    const uint8_t known[] = {0x1A, 0x11, 0x78, 0x02, 0x0A, 0x01, 0x61, 0x12, 0x07, 0x18,
+                             0x01, 0x22, 0x03, 0x09, 0x32, 0x22, 0x28, 0x80, 0x20};
+    const mvt_layer layer = {.version = 2, .extent = 4096, .name = {0, 1}, .features = {0, 1}};
+    const mvt_feature feature = {.kind = MVT_POINTS, .parts = {0, 1}};
+    const mvt_part part = {.points = {0, 1}};
+    mvt_point point = {25, 17};
+    mvt_tile tile = {.layers = &layer, .layer_count = 1, .features = &feature, .feature_count = 1, .parts = &part,
+                     .part_count = 1, .points = &point, .point_count = 1, .texts = (const uint8_t *)"a", .text_len = 1};
+    mvt_bytes out = {0};
+    require(mvt_write(&tile, &out) == MVT_OK && out.len == sizeof known, "a point made by hand");
+    require(memcmp(out.data, known, sizeof known) == 0, "the bytes of a point");
+    mvt_bytes_free(&out);
+    point.x = INT32_MIN;
+    require(mvt_write(&tile, &out) == MVT_NO_TILE && out.data == NULL, "a point out of range");
+    point.x = 25;
+    tile.point_count = 0;
+    require(mvt_write(&tile, &out) == MVT_NO_TILE && out.data == NULL, "a point that isn't there");
+    const mvt_tile nothing = {0};
+    require(mvt_write(&nothing, &out) == MVT_OK && out.len == 0, "no rows are the empty tile");
+}
+
 int main(int argc, char **argv) {
+    write_point();
     for (int i = 1; i < argc; ++i) call(argv[i]);
     return 0;
 }

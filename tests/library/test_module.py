@@ -1,9 +1,17 @@
-"""The Python module on the example tiles: what it gives is what other programs made of them."""
+"""The Python module on the example tiles: what it gives is what other programs made of them, and what `mvt` says.
 
+The program is $MVT. Numbers at their ends are spelled here, as the specification spells them.
+"""
+
+import gc
 import gzip
 import json
+import os
+import pickle
 import struct
+import subprocess
 import unittest
+from concurrent.futures import ThreadPoolExecutor
 from pathlib import Path
 from xml.etree import ElementTree
 
@@ -11,6 +19,8 @@ import mvt
 
 TILES = Path(__file__).resolve().parents[2] / "examples" / "tiles"
 WHOLE = ("gdal", "postgis")
+SVG = "{http://www.w3.org/2000/svg}"
+CALLS = (mvt.read, mvt.rows, mvt.rewrite, mvt.to_json, mvt.to_svg)
 
 
 def tile(name):
@@ -22,42 +32,96 @@ def broken(name):
     return gzip.decompress(packed.read_bytes()) if packed.exists() else tile("broken/%s.mvt" % name)
 
 
-def value_of(shown):
-    """A value of the JSON form. A single-precision number is exact as a double."""
-    [(kind, value)] = shown.items()
-    if kind == "float_bits":
-        return struct.unpack("<f", struct.pack("<I", value))[0]
-    if kind == "double_bits":
-        return struct.unpack("<d", struct.pack("<Q", value))[0]
-    return value
+def shown_value(value):
+    """A value in the form of `mvt show`."""
+    if isinstance(value, bool):
+        return {"bool": value}
+    if isinstance(value, str):
+        return {"string": value}
+    if isinstance(value, mvt.Float):
+        return {"float_bits": value.bits}
+    if isinstance(value, float):
+        return {"double_bits": struct.unpack("<Q", struct.pack("<d", value))[0]}
+    return {"uint" if isinstance(value, mvt.Uint) else "sint" if isinstance(value, mvt.Sint) else "int": value}
 
 
-def geometry_of(shown):
-    [(kind, drawn)] = shown.items()
-    if kind == "unknown":
-        return kind, drawn
-    if kind == "points":
-        return kind, [tuple(point) for point in drawn]
-    if kind == "lines":
-        return kind, [[tuple(point) for point in line] for line in drawn]
-    rings = [[polygon["outer"], *polygon["rest"]] for polygon in drawn]
-    return kind, [[[tuple(point) for point in ring] for ring in polygon] for polygon in rings]
+def shown_geometry(kind, drawn):
+    if kind == "polygons":
+        return {kind: [{"outer": rings[0], "rest": rings[1:]} for rings in drawn]}
+    return {kind: drawn}
+
+
+def shown_layer(layer):
+    if isinstance(layer, mvt.Foreign):
+        return {"foreign": {"length": len(layer.bytes), "version": layer.version}}
+    features = [
+        {
+            "attributes": [[key, shown_value(value)] for key, value in feature.attributes.items()],
+            "geometry": shown_geometry(feature.kind, feature.geometry),
+            "id": feature.id,
+        }
+        for feature in layer.features
+    ]
+    return {"extent": layer.extent, "features": features, "name": layer.name}
+
+
+def shown(of):
+    """A tile in the form of `mvt show`, with lists in the place of tuples."""
+    return json.loads(json.dumps({"layers": [shown_layer(layer) for layer in of.layers]}))
+
+
+def varint(number):
+    spelled = bytearray()
+    while number > 127:
+        spelled.append(number & 127 | 128)
+        number >>= 7
+    return bytes(spelled + bytes([number]))
+
+
+def field(number, body):
+    """A field of bytes, or of a number."""
+    if isinstance(body, int):
+        return varint(number << 3) + varint(body)
+    return varint(number << 3 | 2) + varint(len(body)) + body
+
+
+def zigzag(number):
+    return number << 1 if number >= 0 else (-number << 1) - 1
+
+
+def zigzags(*numbers):
+    return b"".join(varint(zigzag(number)) for number in numbers)
 
 
 class WholeTiles(unittest.TestCase):
     def test_reads_what_the_json_says(self):
         for name in WHOLE:
-            layers = mvt.read(tile(name + ".mvt")).layers
-            shown = json.loads((TILES / (name + ".json")).read_text())["layers"]
-            self.assertEqual(len(layers), len(shown))
-            for layer, wanted in zip(layers, shown):
-                self.assertEqual((layer.name, layer.extent), (wanted["name"], wanted["extent"]))
-                self.assertEqual(len(layer.features), len(wanted["features"]))
-                for feature, other in zip(layer.features, wanted["features"]):
-                    self.assertEqual(feature.id, other["id"])
-                    attributes = {key: value_of(value) for key, value in other["attributes"]}
-                    self.assertEqual(feature.attributes, attributes)
-                    self.assertEqual((feature.kind, feature.geometry), geometry_of(other["geometry"]))
+            self.assertEqual(shown(mvt.read(tile(name + ".mvt"))), json.loads((TILES / (name + ".json")).read_text()))
+
+    def test_reads_what_the_program_shows(self):
+        tiles = sorted(TILES.glob("*.mvt"))
+        self.assertGreaterEqual(len(tiles), 5)
+        for path in tiles:
+            told = subprocess.run([os.environ["MVT"], "show"], input=path.read_bytes(), capture_output=True, check=True)
+            self.assertEqual(shown(mvt.read(path.read_bytes())), json.loads(told.stdout), path.name)
+            self.assertEqual(mvt.to_json(path.read_bytes()) + "\n", told.stdout.decode())
+
+    def test_notes_what_the_program_notes(self):
+        triangle = varint(9) + zigzags(0, 0) + varint(26) + zigzags(4, 0, 0, 4, -4, -4) + varint(15)
+        flat = varint(9) + zigzags(0, 0) + varint(18) + zigzags(4, 4, 2, 2) + varint(15)
+        features = [
+            field(2, field(1, id) + field(3, 3) + field(4, triangle + flat)) for id in (7, 8, 7)
+        ] + [field(2, field(1, 7) + field(3, 1) + field(4, varint(9) + zigzags(1, 1)))]
+        whole = [
+            field(3, field(15, 2) + field(1, b"a") + b"".join(features)),
+            field(3, field(15, 1) + field(1, b"b")),
+            field(3, field(15, 2) + field(1, b"c")),
+        ]
+        made = [b"", b"".join(whole)]
+        for of in [path.read_bytes() for path in sorted(TILES.glob("*.mvt"))] + made:
+            told = subprocess.run([os.environ["MVT"], "check"], input=of, capture_output=True, check=True).stdout.decode()
+            self.assertEqual(["note " + note for note in mvt.notes(mvt.rows(of))], told.splitlines()[1:])
+        self.assertEqual(len(mvt.notes(mvt.rows(made[1]))), 10)
 
     def test_rewrites(self):
         for name in WHOLE:
@@ -70,22 +134,91 @@ class WholeTiles(unittest.TestCase):
     def test_draws(self):
         for name in WHOLE:
             root = ElementTree.fromstring(mvt.to_svg(tile(name + ".mvt")))
-            names = [layer.find("{http://www.w3.org/2000/svg}title").text for layer in root.findall("{http://www.w3.org/2000/svg}svg")]
+            names = [layer.find(SVG + "title").text for layer in root.findall(SVG + "svg")]
             self.assertEqual(names, ["places", "roads", "water"])
 
     def test_extracts_in_the_order_of_the_tile(self):
         picked = mvt.read(mvt.extract(tile("gdal.mvt"), ["water", "roads", "water"]))
         self.assertEqual([layer.name for layer in picked.layers], ["roads", "water"])
+        self.assertEqual(mvt.extract(tile("gdal.mvt"), []), b"")
         with self.assertRaises(mvt.NoLayer):
             mvt.extract(tile("gdal.mvt"), ["rail"])
-
-    def test_reads_no_bytes(self):
-        self.assertEqual(mvt.read(b""), mvt.Tile([]))
-        self.assertEqual(mvt.rewrite(b""), b"")
+        with self.assertRaises(TypeError):
+            mvt.extract(tile("gdal.mvt"), "water")
 
     def test_carries_other_versions(self):
         # A layer of version 1 named a.
         self.assertEqual(mvt.read(bytes.fromhex("1A0578010A0161")).layers, [mvt.Foreign(1, bytes.fromhex("78010A0161"))])
+
+    def test_takes_what_holds_bytes(self):
+        whole = tile("gdal.mvt")
+        for held in (bytearray(whole), memoryview(whole), memoryview(b"-" + whole)[1:]):
+            self.assertEqual(mvt.read(held), mvt.read(whole))
+        for other in ("tile", 3, None):
+            with self.assertRaises(TypeError):
+                mvt.read(other)
+
+
+class Ends(unittest.TestCase):
+    def test_no_bytes(self):
+        self.assertEqual(mvt.read(b""), mvt.Tile([]))
+        self.assertEqual(mvt.rewrite(b""), b"")
+        self.assertEqual(mvt.to_json(b""), '{"layers":[]}')
+        for name in ("layers", "points", "texts"):
+            self.assertEqual(len(getattr(mvt.rows(b""), name)), 0)
+
+    def test_null_without_length(self):
+        from ctypes import byref
+
+        from mvt._library import Bytes, FaultRow, TileRows, library
+
+        rows, out, fault = TileRows(), Bytes(), FaultRow()
+        self.assertEqual(library.mvt_read(None, 0, byref(rows), byref(fault)), 0)
+        self.assertEqual(library.mvt_rewrite(None, 0, byref(out), byref(fault)), 0)
+        self.assertEqual(library.mvt_extract(None, 0, None, 0, byref(out), byref(fault)), 0)
+        self.assertEqual((rows.layers_count, out.len), (0, 0))
+        library.mvt_tile_free(byref(rows))
+        library.mvt_bytes_free(byref(out))
+
+    def test_values(self):
+        """Each kind's least and greatest value, and a NaN that isn't quiet, in the order of the specification's table."""
+        spelled = [
+            (field(1, b""), {"string": ""}),
+            (b"\x15" + struct.pack("<I", 0x7F7FFFFF), {"float_bits": 0x7F7FFFFF}),
+            (b"\x15" + struct.pack("<I", 0xFFA00001), {"float_bits": 0xFFA00001}),
+            (b"\x19" + struct.pack("<Q", 0xFFEFFFFFFFFFFFFF), {"double_bits": 0xFFEFFFFFFFFFFFFF}),
+            (b"\x19" + struct.pack("<Q", 0x7FF4000000000001), {"double_bits": 0x7FF4000000000001}),
+            (field(4, 2**63 - 1), {"int": 2**63 - 1}),
+            (field(4, 2**63), {"int": -(2**63)}),
+            (field(5, 2**64 - 1), {"uint": 2**64 - 1}),
+            (field(5, 0), {"uint": 0}),
+            (field(6, zigzag(2**63 - 1)), {"sint": 2**63 - 1}),
+            (field(6, zigzag(-(2**63))), {"sint": -(2**63)}),
+            (field(7, 1), {"bool": True}),
+        ]
+        tags = b"".join(varint(i) * 2 for i in range(len(spelled)))
+        feature = field(2, field(1, 2**64 - 1) + field(2, tags) + field(3, 1) + field(4, varint(9) + varint(0) * 2))
+        keys = b"".join(field(3, b"k%d" % i) for i in range(len(spelled)))
+        values = b"".join(field(4, value) for value, _ in spelled)
+        layer = field(15, 2) + field(1, b"a") + feature + keys + values + field(5, 2**32 - 1)
+        [read] = mvt.read(field(3, layer)).layers
+        self.assertEqual((read.extent, read.features[0].id), (2**32 - 1, 2**64 - 1))
+        self.assertEqual([shown_value(it) for it in read.features[0].attributes.values()], [it for _, it in spelled])
+
+    def test_positions(self):
+        """A line from the least position to the greatest, in two steps."""
+        steps = [varint(zigzag(step)) + varint(0) for step in (1 - 2**31, 2**31 - 1, 2**31 - 1)]
+        integers = varint(9) + steps[0] + varint(18) + steps[1] + steps[2]
+        feature = field(2, field(3, 2) + field(4, integers))
+        [layer] = mvt.read(field(3, field(15, 2) + field(1, b"a") + feature)).layers
+        self.assertEqual(layer.features[0].geometry, [[(1 - 2**31, 0), (0, 0), (2**31 - 1, 0)]])
+
+    def test_kinds_of_numbers(self):
+        self.assertEqual((mvt.Float(1.5), mvt.Float(1.5).bits), (1.5, 0x3FC00000))
+        self.assertEqual(mvt.Float(0.1), struct.unpack("<f", struct.pack("<f", 0.1))[0])
+        self.assertEqual((mvt.Uint(3), mvt.Sint(-3)), (3, -3))
+        copy = pickle.loads(pickle.dumps(mvt.Float(bits=0xFFA00001)))
+        self.assertEqual((type(copy), copy.bits), (mvt.Float, 0xFFA00001))
 
 
 class BrokenTiles(unittest.TestCase):
@@ -94,25 +227,56 @@ class BrokenTiles(unittest.TestCase):
         self.assertGreater(len(lines), 20)
         for line in lines:
             name, _, told = line.split("\t")
-            for call in (mvt.read, mvt.rewrite, mvt.to_json, mvt.to_svg):
+            for call in CALLS:
                 with self.assertRaises(mvt.Refused) as caught:
                     call(broken(name))
                 self.assertEqual(str(caught.exception), told)
 
+    def test_tells_layer_feature_place_and_cause(self):
+        with self.assertRaises(mvt.Refused) as caught:
+            mvt.read(broken("20-ZeroSegment"))
+        fault = caught.exception
+        self.assertEqual((fault.layer, fault.feature, fault.at, fault.cause, fault.name), (0, 0, 4, 20, "ZeroSegment"))
+        self.assertEqual(str(pickle.loads(pickle.dumps(fault))), str(fault))
+        with self.assertRaises(mvt.Refused) as caught:
+            mvt.read(b"\x1b")
+        self.assertEqual((caught.exception.layer, caught.exception.feature), (None, None))
+
+
+class Threads(unittest.TestCase):
+    def test_four_at_a_time(self):
+        tiles = [tile(name + ".mvt") for name in WHOLE] * 50
+        alone = [(mvt.rewrite(it), mvt.to_json(it), mvt.read(it)) for it in tiles[:2]] * 50
+        with ThreadPoolExecutor(4) as threads:
+            self.assertEqual(list(threads.map(lambda it: (mvt.rewrite(it), mvt.to_json(it), mvt.read(it)), tiles)), alone)
+
 
 class Arrays(unittest.TestCase):
-    def test_numpy_sees_the_rows(self):
+    def setUp(self):
         try:
             import numpy
         except ImportError:
             self.skipTest("numpy isn't there")
+        self.numpy = numpy
+
+    def test_sees_the_rows_without_a_copy(self):
         flat = mvt.rows(tile("gdal.mvt"))
         points = flat.array("points")
         self.assertEqual(points.dtype.names, ("x", "y"))
         self.assertEqual(len(points), len(flat.points))
-        self.assertEqual(int(points["x"].astype(numpy.int64).sum()), sum(point.x for point in flat.points))
+        self.assertEqual(int(points["x"].astype(self.numpy.int64).sum()), sum(point.x for point in flat.points))
         flat.points[0].x += 1
         self.assertEqual(int(points["x"][0]), flat.points[0].x)
+
+    def test_lasts_without_the_rows(self):
+        wanted = mvt.rows(tile("gdal.mvt")).array("points").tolist()
+        held = [mvt.rows(tile("gdal.mvt")).array("points") for _ in range(100)]
+        gc.collect()
+        self.assertTrue(all(points.tolist() == wanted for points in held))
+
+    def test_empty_lists(self):
+        self.assertEqual(len(mvt.rows(b"").array("features")), 0)
+        self.assertEqual(mvt.rows(b"").array("tags").dtype, self.numpy.uint32)
 
 
 if __name__ == "__main__":

@@ -37,6 +37,7 @@ impl Inline {
         }
     }
 
+    #[inline(always)]
     pub(crate) fn as_str(&self) -> &str
         ensures text { result.now ≡ self.now }
         ensures utf8 { IsUtf8 self.now }
@@ -46,6 +47,7 @@ impl Inline {
         unsafe { std::str::from_utf8_unchecked(bytes) }
     }
 
+    #[inline(always)]
     pub(crate) fn copy(&self) -> Self
         ensures { result ≡ self.now }
     {

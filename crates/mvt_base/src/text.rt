@@ -63,6 +63,7 @@ impl Text {
         Ok(Text { repr })
     }
 
+    #[inline(always)]
     pub fn as_str(&self) -> &str
         ensures text { result.now ≡ self.now }
         ensures utf8 { IsUtf8 self.now }
@@ -78,6 +79,7 @@ impl Text {
     /// # Errors
     /// Memory is wanted only where a long text has as many copies as can be counted, which then
     /// begins a block of its own.
+    #[inline(always)]
     pub fn copy(&self, alloc: Global) -> Result<Self, AllocError>
         ensures same { IfOk result (λ copy. copy ≡ self.now) }
         ensures short { length self.now ≤ ROOM → IsOk result }
@@ -90,6 +92,7 @@ impl Text {
     }
 }
 
+#[inline(never)]
 fn share(alloc: Global, text: &ArcStr) -> Result<ArcStr, AllocError>
     ensures { IfOk result (λ copy. arc_str_bytes copy ≡ arc_str_bytes text.now) }
 {

@@ -1,8 +1,8 @@
 -- The rows of a layer's features while its pools grow: tags stay as they are.
-use Rattle.std.proofs.Common.{◌≡◌, ℕ, List, [], ◌∷◌, ◌++◌, ◌+◌, ◌<◌, ◌≤◌, length, take, get_or, refl, sym, ap, ap₂, ◌∙◌, subst, append-nil}
+use Rattle.std.proofs.Common.{◌≡◌, ℕ, List, [], ◌∷◌, ◌++◌, ◌+◌, ◌<◌, ◌≤◌, length, take, drop, get_or, inl, inr, arith, length-append, refl, sym, ap, ap₂, ◌∙◌, subst, append-nil}
 use Rattle.std.specs.List.{fold, AllByRecursion}
 use Rattle.std.proofs.lemmas.Grind.{flat_map-append, fold-append}
-use Rattle.std.proofs.lemmas.List.{take_all, take_more}
+use Rattle.std.proofs.lemmas.List.{take_all, take_more, take-append-drop}
 use Rattle.mvt_attrs.specs.declared.value.Attribute.{Attribute}
 use Rattle.mvt_attrs.specs.declared.value.Value.{Value}
 use Rattle.mvt_attrs.specs.FirstUse.{AreDistinct}
@@ -11,6 +11,8 @@ use Rattle.mvt_attrs.specs.Tags.{Names}
 use Rattle.mvt_attrs.specs.TagPlaces.{tags_in, IsIn}
 use Rattle.mvt_feature.specs.declared.feature.Feature.{Feature}
 use Rattle.mvt_message.specs.CanonicalItems.{attributes_of, keys_of, values_of}
+use Rattle.mvt_base.specs.declared.TheConstants.{LIMIT}
+use Rattle.mvt_c.specs.Calls.{AreTooMany}
 use Rattle.mvt_c.specs.Tables.{Table, with_feature, with_geometry, feature_row}
 
 -- what is known of pools
@@ -23,6 +25,8 @@ pub record Laws : Type 0 where
   pub distinct_values : (held : List Value) (attributes : List Attribute) → AreDistinct (value_pool held attributes)
   pub hold : (held_keys : List (List ℕ)) (held_values : List Value) (front attributes back : List Attribute) → AllByRecursion (IsIn (key_pool held_keys (front ++ (attributes ++ back))) (value_pool held_values (front ++ (attributes ++ back)))) attributes
   pub names : (keys : List (List ℕ)) (values : List Value) (attributes : List Attribute) → AllByRecursion (IsIn keys values) attributes → Names keys values (tags_in keys values attributes) attributes
+  pub longer_keys : (held : List (List ℕ)) (attributes more : List Attribute) → (added : List (List ℕ)) × (key_pool held (attributes ++ more) ≡ key_pool held attributes ++ added)
+  pub longer_values : (held : List Value) (attributes more : List Attribute) → (added : List Value) × (value_pool held (attributes ++ more) ≡ value_pool held attributes ++ added)
   pub stay : (keys more : List (List ℕ)) (values further : List Value) (tags : List ℕ) (attributes : List Attribute) → AreDistinct keys → AreDistinct values → Names keys values tags attributes → tags ≡ tags_in (keys ++ more) (values ++ further) attributes
 
 all_front : (P : Attribute → Type 0) (xs ys : List Attribute) → AllByRecursion P (xs ++ ys) → AllByRecursion P xs
@@ -90,6 +94,28 @@ features_step laws fs i f keys new_keys values new_values start old new so_far w
 pub features_start : (keys : List (List ℕ)) (values : List Value) (start : Table) → keys ≡ [] → values ≡ [] → SoFar keys values start start []
 unfolding keys_of values_of
 features_start keys values start no_keys no_values = record { keys_are = no_keys; values_are = no_values; rows = refl }
+
+-- what is more than a number for some features is more for all
+longer : {X : Type 0} → (n : ℕ) (xs ys more : List X) → ys ≡ xs ++ more → n < length xs → n < length ys
+longer n xs ys more is h = let size = ap length is in omega (arith, length-append xs more)
+
+attributes_parts : (fs : List Feature) (i : ℕ) (f : Feature) → i < length fs → f ≡ get_or fs i f → attributes_of fs ≡ (attributes_of (take i fs) ++ f.attributes) ++ attributes_of (drop (i + 1) fs)
+attributes_parts fs i f within here =
+    ap attributes_of (sym (take-append-drop (i + 1) fs)) ∙ flat_map-append (λ (f : Feature). f.attributes) (take (i + 1) fs) (drop (i + 1) fs)
+    ∙ ap (λ l. l ++ attributes_of (drop (i + 1) fs)) (ap attributes_of (take_more fs i f within ∙ ap (λ x. take i fs ++ x ∷ []) (sym here)) ∙ attributes_more (take i fs) f)
+
+pub too_many : Laws → (fs : List Feature) (i : ℕ) (f : Feature) (keys : List (List ℕ)) (values : List Value) (start now : Table) → SoFar keys values start now (take i fs) → i < length fs → f ≡ get_or fs i f → AreTooMany (key_pool keys f.attributes) (value_pool values f.attributes) → AreTooMany (keys_of fs) (values_of fs)
+unfolding keys_of values_of
+too_many laws fs i f keys values start now so_far within here many =
+    let front = attributes_of (take i fs) in
+    let back = attributes_of (drop (i + 1) fs) in
+    let parts = attributes_parts fs i f within here in
+    let more = laws.longer_keys [] (front ++ f.attributes) back in
+    let further = laws.longer_values [] (front ++ f.attributes) back in
+    elim many as (λ _. AreTooMany (key_pool [] (attributes_of fs)) (value_pool [] (attributes_of fs))) [
+      | inl h ↦ inl (longer LIMIT (key_pool keys f.attributes) _ more.0 (ap (key_pool []) parts ∙ more.1 ∙ ap (λ l. l ++ more.0) (sym (ap (λ k. key_pool k f.attributes) so_far.keys_are ∙ laws.keys_by_parts [] front f.attributes))) h)
+      | inr h ↦ inr (longer LIMIT (value_pool values f.attributes) _ further.0 (ap (value_pool []) parts ∙ further.1 ∙ ap (λ l. l ++ further.0) (sym (ap (λ v. value_pool v f.attributes) so_far.values_are ∙ laws.values_by_parts [] front f.attributes))) h)
+    ]
 
 -- what is known when all features were added
 pub features_end : (keys : List (List ℕ)) (values : List Value) (start now : Table) (fs : List Feature) (i : ℕ) → SoFar keys values start now (take i fs) → length fs ≤ i → SoFar keys values start now fs

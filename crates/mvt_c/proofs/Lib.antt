@@ -1,3 +1,5 @@
 mod FeatureLemmas
 mod FoldLemmas
 mod NameLemmas
+mod EachLemmas
+mod TileLemmas

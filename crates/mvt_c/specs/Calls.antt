@@ -1,8 +1,14 @@
 -- What the calls answer.
-use Rattle.std.specs.Prelude.{◌≡◌, ℕ, ◌<◌, List, length, Some, Result, Ok, Err, ⊤}
+use Rattle.std.specs.Prelude.{◌≡◌, ℕ, ◌<◌, ◌⊎◌, List, length, Any, Some, Result, Ok, Err, ⊤}
 use Rattle.mvt_base.specs.declared.TheConstants.{LIMIT}
 use Rattle.mvt_attrs.specs.declared.pool_error.PoolError.{PoolError}
 use Rattle.mvt_attrs.specs.declared.pool_error.PoolError.TheVariants as pools
+use Rattle.mvt_attrs.specs.declared.resolving.TagError.{TagError}
+use Rattle.mvt_attrs.specs.declared.resolving.TagError.TheVariants as tags
+use Rattle.mvt_attrs.specs.declared.value.Value.{Value}
+use Rattle.mvt_message.specs.declared.item.Item.{Item}
+use Rattle.mvt_message.specs.declared.item.Item.TheVariants.{Layer, Foreign}
+use Rattle.mvt_message.specs.CanonicalItems.{keys_of, values_of}
 use Rattle.mvt_message.specs.declared.put.PutError.{PutError}
 use Rattle.mvt_message.specs.declared.put.PutError.TheVariants as put
 use Rattle.mvt_tile.specs.declared.fault.DecodeError.{DecodeError}
@@ -61,6 +67,10 @@ abbrev pub of_pool : PoolError → Refusal
 of_pool pools.Memory = Memory
 of_pool pools.Full = TooLarge
 
+abbrev pub of_tags : TagError → Refusal
+of_tags tags.Memory = Memory
+of_tags (tags.Fault index cause) = NoTile
+
 -- the bytes are a tile, and these are its canonical bytes
 abbrev pub IsRewritten : List ℕ → List ℕ → Type 0
 IsRewritten input made = (tile : Tile) × IsTile LIMIT input tile × (made ≡ canonical tile)
@@ -68,6 +78,10 @@ IsRewritten input made = (tile : Tile) × IsTile LIMIT input tile × (made ≡ c
 -- the bytes are a tile whose canonical bytes are more than the limit
 abbrev pub IsTooLarge : List ℕ → Type 0
 IsTooLarge input = (tile : Tile) × IsTile LIMIT input tile × (LIMIT < length (canonical tile))
+
+-- the bytes are a tile
+abbrev pub IsAccepted : List ℕ → Type 0
+IsAccepted input = (tile : Tile) × IsTile LIMIT input tile
 
 -- the first broken rule of the bytes, as C sees it
 abbrev pub IsTold : List ℕ → Fault → Type 0
@@ -124,11 +138,23 @@ NotShown input NoTile = ⊥
 abbrev pub IsRead : List ℕ → Table → Type 0
 IsRead input table = (tile : Tile) × IsTile LIMIT input tile × (table ≡ rows_of tile)
 
--- why the bytes can't be read as rows; a layer has more keys or values than the limit
+-- the features of a layer use more keys or values than the limit
+abbrev pub AreTooMany : List (List ℕ) → List Value → Type 0
+AreTooMany keys values = (LIMIT < length keys) ⊎ (LIMIT < length values)
+
+abbrev pub HasTooMany : Item → Type 0
+HasTooMany (Layer layer) = AreTooMany (keys_of layer.features) (values_of layer.features)
+HasTooMany (Foreign version content) = ⊥
+
+-- the bytes are a tile with such a layer
+abbrev pub IsTooLargeToRead : List ℕ → Type 0
+IsTooLargeToRead input = (tile : Tile) × IsTile LIMIT input tile × Any HasTooMany tile.items
+
+-- why the bytes can't be read as rows
 abbrev pub NotRead : List ℕ → Refusal → Type 0
 NotRead input (Refused fault) = fault_within LIMIT input ≡ Some fault
 NotRead input Memory = ⊤
-NotRead input TooLarge = ⊤
+NotRead input TooLarge = IsTooLargeToRead input
 NotRead input NoLayer = ⊥
 NotRead input BadName = ⊥
 NotRead input NoTile = ⊥

@@ -1,7 +1,6 @@
-//! The calls that make bytes and texts of a tile's bytes.
+//! The calls that make bytes of a tile's bytes.
 ghost use Rattle.std.specs.Prelude.{◌≡◌, ◌≢◌, ◌≤◌, map, string_bytes, Any, IsUtf8, IfOk, IfErr};
-ghost use Rattle.mvt_view.specs.Svg.{svg};
-ghost use Rattle.mvt_c.specs.Calls.{IsExtracted, IsRewritten, IsTextOf, IsTold, IsTooLarge, IsTooLargeOf, LacksLayer, NotExtracted, NotShown, RefusedAs, json_line};
+ghost use Rattle.mvt_c.specs.Calls.{IsExtracted, IsRewritten, IsTold, IsTooLarge, IsTooLargeOf, LacksLayer, NotExtracted, RefusedAs};
 ghost use Rattle.mvt_c.specs.Names.{texts_of};
 
 use crate::fault::Fault;
@@ -9,7 +8,6 @@ use crate::lent::Bytes;
 use crate::names::read_names;
 use crate::refusal::{Refusal, hand_out, tell};
 use mvt_tile::{decode, encode, extract};
-use mvt_view::{json_text, svg_text};
 use std::alloc::Global;
 
 /// The canonical bytes of a tile (`mvt_rewrite`).
@@ -69,44 +67,4 @@ fn extracted(alloc: Global, bytes: &[u8], names: &[String]) -> Result<Vec<u8>, R
     let tile = decode(alloc, bytes)?;
     let picked = extract(alloc, &tile, names)?;
     Ok(encode(alloc, &picked)?)
-}
-
-/// A tile as JSON, in one line (`mvt_json`).
-#[unsafe(no_mangle)]
-pub extern "C" fn mvt_json(alloc: Global, bytes: &[u8], out: &mut Bytes, fault: &mut Fault) -> u32
-    ensures done { result ≡ 0 → IsTextOf json_line bytes.now out.new.bytes.now }
-    ensures refused { result ≡ 1 → IsTold bytes.now fault.new }
-    ensures few { result ≤ 2 }
-    ensures out_kept { result ≢ 0 → out.new ≡ out.old }
-    ensures fault_kept { result ≢ 1 → fault.new ≡ fault.old }
-{
-    hand_out(json_made(alloc, bytes), out, fault)
-}
-
-fn json_made(alloc: Global, bytes: &[u8]) -> Result<Vec<u8>, Refusal>
-    ensures done { IfOk result (λ made. IsTextOf json_line bytes.now made.items) }
-    ensures refused { IfErr result (NotShown bytes.now) }
-{
-    let tile = decode(alloc, bytes)?;
-    Ok(json_text(alloc, &tile)?.into_bytes())
-}
-
-/// A picture of a tile (`mvt_svg`).
-#[unsafe(no_mangle)]
-pub extern "C" fn mvt_svg(alloc: Global, bytes: &[u8], out: &mut Bytes, fault: &mut Fault) -> u32
-    ensures done { result ≡ 0 → IsTextOf svg bytes.now out.new.bytes.now }
-    ensures refused { result ≡ 1 → IsTold bytes.now fault.new }
-    ensures few { result ≤ 2 }
-    ensures out_kept { result ≢ 0 → out.new ≡ out.old }
-    ensures fault_kept { result ≢ 1 → fault.new ≡ fault.old }
-{
-    hand_out(svg_made(alloc, bytes), out, fault)
-}
-
-fn svg_made(alloc: Global, bytes: &[u8]) -> Result<Vec<u8>, Refusal>
-    ensures done { IfOk result (λ made. IsTextOf svg bytes.now made.items) }
-    ensures refused { IfErr result (NotShown bytes.now) }
-{
-    let tile = decode(alloc, bytes)?;
-    Ok(svg_text(alloc, &tile)?.into_bytes())
 }

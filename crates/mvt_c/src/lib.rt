@@ -12,3 +12,8 @@ mod reading;
 mod refusal;
 mod rows;
 mod table;
+#[cfg(test)]
+mod tests;
+mod texts;
+mod tiles;
+mod writing;

@@ -1,6 +1,6 @@
-//! A tile's bytes read as rows.
-ghost use Rattle.std.specs.Prelude.{◌≡◌, ◌≢◌, ◌≤◌, IfOk, IfErr};
-ghost use Rattle.mvt_c.specs.Calls.{IsRead, IsTold, NotRead};
+//! A tile's bytes judged, and read as rows.
+ghost use Rattle.std.specs.Prelude.{◌≡◌, ◌≢◌, ◌≤◌, IfOk, IfErr, OnOk};
+ghost use Rattle.mvt_c.specs.Calls.{IsAccepted, IsRead, IsTold, IsTooLargeToRead, NotRead, NotShown};
 ghost use Rattle.mvt_c.specs.Lent.{table_of};
 
 use crate::fault::Fault;
@@ -10,11 +10,34 @@ use crate::table::Table;
 use mvt_tile::decode;
 use std::alloc::Global;
 
+/// Whether the bytes are a tile (`mvt_judge`).
+#[unsafe(no_mangle)]
+pub extern "C" fn mvt_judge(alloc: Global, bytes: &[u8], fault: &mut Fault) -> u32
+    ensures accepted { result ≡ 0 → IsAccepted bytes.now }
+    ensures refused { result ≡ 1 → IsTold bytes.now fault.new }
+    ensures few { result ≤ 2 }
+    ensures fault_kept { result ≢ 1 → fault.new ≡ fault.old }
+{
+    match judged(alloc, bytes) {
+        Ok(()) => 0,
+        Err(refusal) => tell(refusal, fault),
+    }
+}
+
+fn judged(alloc: Global, bytes: &[u8]) -> Result<(), Refusal>
+    ensures accepted { OnOk result (IsAccepted bytes.now) }
+    ensures refused { IfErr result (NotShown bytes.now) }
+{
+    decode(alloc, bytes)?;
+    Ok(())
+}
+
 /// A tile as rows (`mvt_read`).
 #[unsafe(no_mangle)]
 pub extern "C" fn mvt_read(alloc: Global, bytes: &[u8], out: &mut Rows, fault: &mut Fault) -> u32
     ensures done { result ≡ 0 → IsRead bytes.now (table_of out.new) }
     ensures refused { result ≡ 1 → IsTold bytes.now fault.new }
+    ensures too_large { result ≡ 3 → IsTooLargeToRead bytes.now }
     ensures few { result ≤ 3 }
     ensures out_kept { result ≢ 0 → out.new ≡ out.old }
     ensures fault_kept { result ≢ 1 → fault.new ≡ fault.old }

@@ -4,7 +4,7 @@ ghost use Rattle.mvt_c.specs.Calls.{status_of, status_of_refusal, TellsFault};
 
 use crate::fault::Fault;
 use crate::lent::Bytes;
-use mvt_attrs::PoolError;
+use mvt_attrs::{PoolError, TagError};
 use mvt_tile::{DecodeError, ExtractError, Fault as TileFault, PutError};
 use mvt_view::ViewError;
 use std::alloc::{AllocError, AllocFailed};
@@ -119,6 +119,35 @@ impl From<PoolError> for Refusal {
     }
 }
 
+impl From<TagError> for Refusal {
+    ghost use Rattle.std.specs.Prelude.{◌≡◌};
+    ghost use Rattle.mvt_c.specs.Calls.{of_tags};
+
+    ghost from_gives = { λ error refusal. refusal ≡ of_tags error };
+
+    fn from(error: TagError) -> Self {
+        match error {
+            TagError::Memory => Refusal::Memory,
+            TagError::Fault { .. } => Refusal::NoTile,
+        }
+    }
+}
+
+impl Refusal {
+    pub(crate) fn status(self) -> u32
+        ensures { result ≡ status_of_refusal self }
+    {
+        match self {
+            Refusal::Refused(_) => 1,
+            Refusal::Memory => 2,
+            Refusal::TooLarge => 3,
+            Refusal::NoLayer => 4,
+            Refusal::BadName => 5,
+            Refusal::NoTile => 6,
+        }
+    }
+}
+
 /// Hands bytes out, or tells why there are none. Answers the status.
 pub(crate) fn hand_out(made: Result<Vec<u8>, Refusal>, out: &mut Bytes, fault: &mut Fault) -> u32
     ensures status { result ≡ status_of made }
@@ -143,15 +172,8 @@ pub(crate) fn tell(refusal: Refusal, fault: &mut Fault) -> u32
     ensures status { result ≡ status_of_refusal refusal }
     ensures fault { TellsFault refusal fault.old fault.new }
 {
-    match refusal {
-        Refusal::Refused(first) => {
-            *fault = Fault::new(first);
-            1
-        }
-        Refusal::Memory => 2,
-        Refusal::TooLarge => 3,
-        Refusal::NoLayer => 4,
-        Refusal::BadName => 5,
-        Refusal::NoTile => 6,
+    if let Refusal::Refused(first) = refusal {
+        *fault = Fault::new(first);
     }
+    refusal.status()
 }

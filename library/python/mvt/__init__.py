@@ -9,23 +9,36 @@ A tile that breaks a rule raises `Refused`, which tells the layer, the feature, 
 broken one. Each call takes the bytes of one uncompressed tile. Threads may call at the same time.
 """
 
-from ._calls import MvtError, NoLayer, Refused, TooLarge, extract, rewrite, to_json, to_svg
-from ._tiles import Feature, Foreign, Layer, Rows, Tile, read, rows
+from ._calls import Buffer, MvtError, NoLayer, NoTile, Refused, TooLarge, extract, rewrite, to_json, to_svg
+from ._notes import notes
+from ._tiles import Feature, Foreign, Layer, Point, Rows, Tile, read, rows
+from ._values import Float, Int, Sint, Uint, Value
+from ._writing import write
 
 __all__ = [
+    "Buffer",
     "Feature",
+    "Float",
     "Foreign",
+    "Int",
     "Layer",
     "MvtError",
     "NoLayer",
+    "NoTile",
+    "Point",
     "Refused",
     "Rows",
+    "Sint",
     "Tile",
     "TooLarge",
+    "Uint",
+    "Value",
     "extract",
+    "notes",
     "read",
     "rewrite",
     "rows",
     "to_json",
     "to_svg",
+    "write",
 ]

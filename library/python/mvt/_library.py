@@ -4,6 +4,7 @@ import ctypes
 import os
 from ctypes import POINTER, Structure, c_char_p, c_int32, c_int64, c_size_t, c_uint8, c_uint32, c_uint64, c_void_p
 from pathlib import Path
+from typing import Any, Dict
 
 
 class Bytes(Structure):
@@ -57,7 +58,7 @@ class PointRow(Structure):
 
 
 # The lists of a tile, in the order of `mvt_tile`.
-LISTS = {
+LISTS: Dict[str, Any] = {
     "layers": LayerRow,
     "features": FeatureRow,
     "keys": Span,
@@ -75,6 +76,7 @@ class TileRows(Structure):
 
 
 def _load() -> ctypes.CDLL:
+    """The library that MVT_LIBRARY names, or the one beside this file, as in a wheel, or the system's."""
     named = os.environ.get("MVT_LIBRARY")
     beside = Path(__file__).with_name("libmvt.so.1")
     return ctypes.CDLL(named or (str(beside) if beside.exists() else "libmvt.so.1"))
@@ -89,6 +91,8 @@ library.mvt_svg.argtypes = [*_TILE, POINTER(Bytes), POINTER(FaultRow)]
 library.mvt_read.argtypes = [*_TILE, POINTER(TileRows), POINTER(FaultRow)]
 for _call in (library.mvt_rewrite, library.mvt_extract, library.mvt_json, library.mvt_svg, library.mvt_read):
     _call.restype = c_uint32
+library.mvt_write.argtypes = [POINTER(TileRows), POINTER(Bytes)]
+library.mvt_write.restype = c_uint32
 library.mvt_bytes_free.argtypes = [POINTER(Bytes)]
 library.mvt_bytes_free.restype = None
 library.mvt_tile_free.argtypes = [POINTER(TileRows)]

@@ -1,15 +1,28 @@
 """Tiles as plain objects, and as the flat rows of the library."""
 
 import ctypes
-import struct
 import weakref
 from dataclasses import dataclass
-from typing import Any, Dict, List, Optional, Tuple, Union
+from typing import TYPE_CHECKING, Any, Dict, List, Optional, Tuple, Union
 
-from ._calls import raise_for
-from ._library import LISTS, FaultRow, Span, TileRows, library
+from ._calls import Buffer, held, raise_for
+from ._library import (
+    LISTS,
+    FaultRow,
+    FeatureRow,
+    LayerRow,
+    PartRow,
+    PointRow,
+    Span,
+    TileRows,
+    ValueRow,
+    library,
+)
+from ._values import TEXT, Value, number_of
 
-Value = Union[str, float, int, bool]
+if TYPE_CHECKING:
+    import numpy
+
 Point = Tuple[int, int]
 KINDS = ("unknown", "points", "lines", "polygons")
 
@@ -27,6 +40,8 @@ class Feature:
 
 @dataclass
 class Layer:
+    """A layer of version 2. Positions go from 0 to `extent` within the tile: x to the right, y down."""
+
     name: str
     extent: int
     features: List[Feature]
@@ -42,71 +57,90 @@ class Foreign:
 
 @dataclass
 class Tile:
+    """A tile: its layers, in order."""
+
     layers: List[Union[Layer, Foreign]]
+
+
+class _Owner:
+    """Gives the rows back when nothing looks at them any more."""
+
+    def __init__(self, rows: TileRows) -> None:
+        weakref.finalize(self, library.mvt_tile_free, ctypes.byref(rows))
 
 
 class Rows:
     """The flat rows of a tile, as `mvt.h` tells them.
 
     `layers`, `features`, `keys`, `values`, `tags`, `parts`, `points`, `integers` and `texts` are arrays of ctypes
-    over the library's memory, which lasts as long as this object. `array(name)` is the same as a numpy array,
-    without a copy: keep the object while it is used.
+    over the library's memory, which lasts as long as this object, one of these arrays, a row of them or a numpy
+    array over them.
     """
 
-    def __init__(self, tile: bytes) -> None:
-        rows, fault = TileRows(), FaultRow()
+    layers: "ctypes.Array[LayerRow]"
+    features: "ctypes.Array[FeatureRow]"
+    keys: "ctypes.Array[Span]"
+    values: "ctypes.Array[ValueRow]"
+    tags: "ctypes.Array[ctypes.c_uint32]"
+    parts: "ctypes.Array[PartRow]"
+    points: "ctypes.Array[PointRow]"
+    integers: "ctypes.Array[ctypes.c_uint32]"
+    texts: "ctypes.Array[ctypes.c_uint8]"
+
+    def __init__(self, tile: Buffer) -> None:
+        rows, fault, tile = TileRows(), FaultRow(), held(tile)
         raise_for(library.mvt_read(tile, len(tile), ctypes.byref(rows), ctypes.byref(fault)), fault)
-        self._free = weakref.finalize(self, library.mvt_tile_free, ctypes.byref(rows))
+        owner = _Owner(rows)
         for name, row in LISTS.items():
             count = getattr(rows, name + "_count")
-            address = getattr(rows, name)
-            setattr(self, name, (row * count).from_address(address) if count else (row * 0)())
+            rows_of_kind: Any = (row * count).from_address(getattr(rows, name)) if count else (row * 0)()
+            rows_of_kind.owner = owner
+            setattr(self, name, rows_of_kind)
+        # x and y in turn, which Python reads faster than the rows of the points
+        self._numbers = (ctypes.c_int32 * (2 * len(self.points))).from_buffer(self.points)
 
-    def array(self, name: str):
-        """One list as a numpy array, with the names of the fields of its rows."""
+    def array(self, name: str) -> "numpy.ndarray[Any, Any]":
+        """One list as a numpy array over the same memory, with the names of the fields of its rows."""
         import numpy
 
         return numpy.ctypeslib.as_array(getattr(self, name))
 
+    def line(self, part: PartRow) -> List[Point]:
+        """The points of a part."""
+        start, end = 2 * part.points.start, 2 * (part.points.start + part.points.len)
+        return list(zip(self._numbers[start:end:2], self._numbers[start + 1 : end : 2]))
+
     def text(self, span: Span) -> str:
+        """A text, such as the name of a layer or a key."""
         return self.content(span).decode()
 
     def content(self, span: Span) -> bytes:
+        """A part of the texts, such as the bytes of a layer of another version."""
         return bytes(self.texts[span.start : span.start + span.len])
 
 
-def _number(kind: int, bits: int) -> Value:
-    if kind == 2:
-        return struct.unpack("<f", struct.pack("<I", bits))[0]
-    if kind == 3:
-        return struct.unpack("<d", struct.pack("<Q", bits))[0]
-    if kind == 7:
-        return bits != 0
-    return bits - (1 << 64) if kind != 5 and bits >> 63 else bits
-
-
-def _geometry(rows: Rows, row) -> List[Any]:
+def _geometry(rows: Rows, row: FeatureRow) -> List[Any]:
     if row.kind == 0:
         return list(rows.integers[row.integers.start : row.integers.start + row.integers.len])
-    parts = []
-    for part in rows.parts[row.parts.start : row.parts.start + row.parts.len]:
-        points = rows.points[part.points.start : part.points.start + part.points.len]
-        drawn = [(point.x, point.y) for point in points]
-        if row.kind == 1:
-            return drawn
-        if row.kind == 2 or part.exterior:
-            parts.append(drawn if row.kind == 2 else [drawn])
-        else:
-            parts[-1].append(drawn)
-    return parts
+    parts = rows.parts[row.parts.start : row.parts.start + row.parts.len]
+    if row.kind == 1:
+        return [point for part in parts for point in rows.line(part)]
+    if row.kind == 2:
+        return [rows.line(part) for part in parts]
+    polygons: List[List[List[Point]]] = []
+    for part in parts:
+        if part.exterior:
+            polygons.append([])
+        polygons[-1].append(rows.line(part))
+    return polygons
 
 
-def _layer(rows: Rows, row) -> Union[Layer, Foreign]:
+def _layer(rows: Rows, row: LayerRow) -> Union[Layer, Foreign]:
     if row.version != 2:
         return Foreign(row.version, rows.content(row.bytes))
     keys = [rows.text(span) for span in rows.keys[row.keys.start : row.keys.start + row.keys.len]]
     values = [
-        rows.text(value.text) if value.kind == 1 else _number(value.kind, value.bits)
+        rows.text(value.text) if value.kind == TEXT else number_of(value.kind, value.bits)
         for value in rows.values[row.values.start : row.values.start + row.values.len]
     ]
     features = []
@@ -118,12 +152,12 @@ def _layer(rows: Rows, row) -> Union[Layer, Foreign]:
     return Layer(rows.text(row.name), row.extent, features)
 
 
-def rows(tile: bytes) -> Rows:
-    """A tile as flat rows, for numpy and for tiles with many features."""
+def rows(tile: Buffer) -> Rows:
+    """A tile as flat rows, for numpy and for tiles with many features. Raises Refused."""
     return Rows(tile)
 
 
-def read(tile: bytes) -> Tile:
-    """A tile as plain objects."""
+def read(tile: Buffer) -> Tile:
+    """A tile as plain objects. Raises Refused."""
     flat = Rows(tile)
     return Tile([_layer(flat, row) for row in flat.layers])

@@ -1,9 +1,10 @@
 //! The rows of features, layers and whole tiles.
-ghost use Rattle.std.specs.Prelude.{◌≡◌, ◌-◌, [], IfOk, OnOk};
+ghost use Rattle.std.specs.Prelude.{◌≡◌, ◌-◌, [], Any, IfOk, IsErrOf, OnOk};
 ghost use Rattle.std.specs.List.{fold};
 ghost use Rattle.mvt_feature.specs.Canonical.{type_number};
 ghost use Rattle.mvt_attrs.specs.Pools.{key_pool, value_pool};
 ghost use Rattle.mvt_message.specs.CanonicalItems.{keys_of, values_of};
+ghost use Rattle.mvt_c.specs.Calls.{AreTooMany, HasTooMany};
 ghost use Rattle.mvt_c.specs.Tables.{rows_of, with_feature, with_foreign, with_item, with_layer};
 
 use super::{Table, behind_list};
@@ -44,6 +45,8 @@ impl Table {
         ensures row { OnOk result (self.new ≡ with_feature keys.new values.new self.old feature.now) }
         ensures keys { OnOk result (keys.new ≡ key_pool keys.old feature.now.attributes) }
         ensures values { OnOk result (values.new ≡ value_pool values.old feature.now.attributes) }
+        ensures too_many { IsErrOf result PoolError.Full
+            → AreTooMany (key_pool keys.old feature.now.attributes) (value_pool values.old feature.now.attributes) }
     {
         let tags = self.tags.len();
         let parts = self.parts.len();
@@ -73,6 +76,8 @@ impl Table {
             ≡ fold (with_feature (keys_of features.now) (values_of features.now)) self.old features.now) }
         ensures keys { OnOk result (keys.new ≡ keys_of features.now) }
         ensures values { OnOk result (values.new ≡ values_of features.now) }
+        ensures too_many { IsErrOf result PoolError.Full
+            → AreTooMany (keys_of features.now) (values_of features.now) }
     {
         // What the proof needs to know of pools; it does nothing.
         mvt_attrs::laws::pools_by_parts();
@@ -88,7 +93,9 @@ impl Table {
     }
 
     fn add_layer(&mut self, alloc: Global, layer: &Layer) -> Result<(), PoolError>
-        ensures { OnOk result (self.new ≡ with_layer self.old layer.now) }
+        ensures rows { OnOk result (self.new ≡ with_layer self.old layer.now) }
+        ensures too_many { IsErrOf result PoolError.Full
+            → AreTooMany (keys_of layer.now.features) (values_of layer.now.features) }
     {
         let texts = self.texts.len();
         let features_at = self.features.len();
@@ -130,7 +137,8 @@ impl Table {
     }
 
     fn add_item(&mut self, alloc: Global, item: &Item) -> Result<(), PoolError>
-        ensures { OnOk result (self.new ≡ with_item self.old item.now) }
+        ensures rows { OnOk result (self.new ≡ with_item self.old item.now) }
+        ensures too_many { IsErrOf result PoolError.Full → HasTooMany item.now }
     {
         match item {
             Item::Layer(layer) => self.add_layer(alloc, layer),
@@ -147,7 +155,8 @@ impl Table {
     /// Want of memory; a full pool.
     #[tactic(auto, unfolding(crate::specs::Tables::rows_of))]
     pub(crate) fn of_tile(alloc: Global, tile: &Tile) -> Result<Table, PoolError>
-        ensures { IfOk result (λ table. table ≡ rows_of tile.now) }
+        ensures rows { IfOk result (λ table. table ≡ rows_of tile.now) }
+        ensures too_many { IsErrOf result PoolError.Full → Any HasTooMany tile.now.items }
     {
         let mut table = Table::new(alloc);
         for item in tile.items.as_slice() {

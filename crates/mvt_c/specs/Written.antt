@@ -1,0 +1,44 @@
+-- What is written of rows.
+use Rattle.std.specs.Prelude.{◌≡◌, ℕ, ◌<◌, List, length, ⊤}
+use Rattle.mvt_base.specs.declared.TheConstants.{LIMIT}
+use Rattle.mvt_tile.specs.declared.tile.Tile.{Tile}
+use Rattle.mvt_tile.specs.CanonicalTiles.{canonical}
+use Rattle.mvt_tile.specs.ValidTiles.{Valid}
+use Rattle.mvt_c.specs.declared.refusal.Refusal.{Refusal}
+use Rattle.mvt_c.specs.declared.refusal.Refusal.TheVariants.{Refused, Memory, TooLarge, NoLayer, BadName, NoTile}
+use Rattle.mvt_c.specs.Tables.{Table}
+use Rattle.mvt_c.specs.TileRows.{IsTileOf}
+
+-- nothing is so
+abbrev pub IsNone : {X : Type 0} → (X → Type 0) → Type 0
+IsNone {X} P = (x : X) → P x → ⊥
+
+-- why nothing is read of rows: they are none, as the fact says, or want of memory
+abbrev pub FailsAs : Type 0 → Refusal → Type 0
+FailsAs fact (Refused fault) = ⊥
+FailsAs fact Memory = ⊤
+FailsAs fact TooLarge = ⊥
+FailsAs fact NoLayer = ⊥
+FailsAs fact BadName = ⊥
+FailsAs fact NoTile = fact
+
+-- the rows are a valid tile, and these are its canonical bytes
+abbrev pub IsWritten : Table → List ℕ → Type 0
+IsWritten t made = (tile : Tile) × IsTileOf t tile × Valid tile × (made ≡ canonical tile)
+
+-- the rows are no valid tile
+abbrev pub IsNoTile : Table → Type 0
+IsNoTile t = (tile : Tile) → IsTileOf t tile → Valid tile → ⊥
+
+-- the rows are a valid tile whose canonical bytes are more than the limit
+abbrev pub IsTooLargeOfRows : Table → Type 0
+IsTooLargeOfRows t = (tile : Tile) × IsTileOf t tile × Valid tile × (LIMIT < length (canonical tile))
+
+-- why no bytes are made of rows
+abbrev pub NotWritten : Table → Refusal → Type 0
+NotWritten t (Refused fault) = ⊥
+NotWritten t Memory = ⊤
+NotWritten t TooLarge = IsTooLargeOfRows t
+NotWritten t NoLayer = ⊥
+NotWritten t BadName = ⊥
+NotWritten t NoTile = IsNoTile t

@@ -1,0 +1,58 @@
+#!/usr/bin/env python3
+"""Makes a tile of points: points.py LAYER Z X Y < points.csv > tile.mvt
+
+The table has a first line with the names of its columns. `lon` and `lat` are the position, in degrees; `id`, where it is
+there, is the feature's id; each other column that isn't empty is an attribute, a number where it reads as one. The tile
+gets the points that lie in it.
+"""
+
+import csv
+import math
+import sys
+from typing import Dict, Iterable, Optional, Tuple
+
+import mvt
+
+EXTENT = 4096
+
+
+def position(lon: float, lat: float, z: int, x: int, y: int) -> Tuple[int, int]:
+    """Where a place lies in the tile, by the projection of web maps."""
+    east = (lon + 180) / 360
+    south = (1 - math.asinh(math.tan(math.radians(lat))) / math.pi) / 2
+    return math.floor((east * 2**z - x) * EXTENT), math.floor((south * 2**z - y) * EXTENT)
+
+
+def value_of(text: str) -> mvt.Value:
+    for number in (int, float):
+        try:
+            return number(text)
+        except ValueError:
+            pass
+    return text
+
+
+def feature_of(row: Dict[str, str], z: int, x: int, y: int) -> Optional[mvt.Feature]:
+    """The feature of a line of the table, where it lies in the tile."""
+    at = position(float(row.pop("lon")), float(row.pop("lat")), z, x, y)
+    if not all(0 <= number < EXTENT for number in at):
+        return None
+    id = row.pop("id", "")
+    attributes = {key: value_of(text) for key, text in row.items() if text != ""}
+    return mvt.Feature(int(id) if id else None, attributes, "points", [at])
+
+
+def tile_of(name: str, rows: Iterable[Dict[str, str]], z: int, x: int, y: int) -> mvt.Tile:
+    features = [feature for row in rows if (feature := feature_of(row, z, x, y))]
+    return mvt.Tile([mvt.Layer(name, EXTENT, features)])
+
+
+if __name__ == "__main__":
+    if len(sys.argv) != 5:
+        sys.exit(__doc__)
+    name, *place = sys.argv[1:]
+    tile = tile_of(name, csv.DictReader(sys.stdin), *map(int, place))
+    try:
+        sys.stdout.buffer.write(mvt.write(tile))
+    except mvt.MvtError as why:
+        sys.exit(f"points.py: {why}")

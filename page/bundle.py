@@ -1,0 +1,83 @@
+#!/usr/bin/env python3
+"""Puts the page into one file: its style, its scripts, the rules of docs/REFUSALS.md and the
+notes of docs/PROGRAM.md, two example tiles and the codec.
+bundle.py CODEC.wasm PAGE.html"""
+import base64
+import gzip
+import hashlib
+import json
+import pathlib
+import re
+import sys
+
+here = pathlib.Path(__file__).resolve().parent
+top = here.parent
+source = here / "src"
+
+
+def scripts():
+    """The names of the modules, each behind those that it imports."""
+    found = []
+
+    def visit(name):
+        for below in re.findall(r"^import .* from '\./(.*)';$", (source / name).read_text(), re.M):
+            visit(below)
+        if name not in found:
+            found.append(name)
+
+    visit("main.js")
+    return found
+
+
+def script():
+    """All modules as one: they share a scope, so no two may declare one name, and the browser refuses it if they do."""
+    parts = []
+    for name in scripts():
+        text = re.sub(r"^import .*\n", "", (source / name).read_text(), flags=re.M)
+        parts.append(f"// ---- {name}\n" + re.sub(r"^export ", "", text, flags=re.M))
+    return "\n".join(parts)
+
+
+def rules():
+    """The table of refusals: number, name, the rule that is broken, the place."""
+    rows = re.findall(r"^\| (\d+) \| (\w+) \| (.*) \| (.*) \|$", (top / "docs/REFUSALS.md").read_text(), re.M)
+    if len(rows) < 25:
+        sys.exit("bundle.py: docs/REFUSALS.md has no table of the rules")
+    return {number: {"name": name, "rule": rule, "place": place} for number, name, rule, place in rows}
+
+
+def notes():
+    """What the notes of `mvt check` mean, by their first word."""
+    rows = re.findall(r"^\| `note (\w+).*` \| (.*) \|$", (top / "docs/PROGRAM.md").read_text(), re.M)
+    if len(rows) < 6:
+        sys.exit("bundle.py: docs/PROGRAM.md has no table of the notes")
+    return dict(rows)
+
+
+def examples():
+    """A tile of GDAL, and the same with a bit flipped, so that a ring of its lake runs the wrong way round."""
+    good = (top / "examples/tiles/gdal.mvt").read_bytes()
+    broken = good[:382] + bytes([good[382] ^ 1]) + good[383:]
+    return {name: base64.b64encode(tile).decode() for name, tile in (("good.mvt", good), ("broken.mvt", broken))}
+
+
+def main():
+    codec, page = pathlib.Path(sys.argv[1]), pathlib.Path(sys.argv[2])
+    packed = base64.b64encode(gzip.compress(codec.read_bytes(), 9, mtime=0)).decode()
+    data = json.dumps({"rules": rules(), "notes": notes(), "examples": examples(), "codec": packed}).replace("<", "\\u003c")
+    code = f"\n{script()}"
+    mark = base64.b64encode(hashlib.sha256(code.encode()).digest()).decode()
+    text = (source / "page.html").read_text()
+    for place, content in {
+        "/* STYLE */": (source / "style.css").read_text(),
+        "SCRIPT-HASH": f"sha256-{mark}",
+        "/* DATA */": data,
+        "/* SCRIPT */": code,
+    }.items():
+        if text.count(place) != 1:
+            sys.exit(f"bundle.py: page.html must have {place} once")
+        text = text.replace(place, content)
+    page.write_text(text)
+
+
+main()

@@ -1,0 +1,102 @@
+// The fields of a message of Protocol Buffers, as far as they can be split, so that the hex view can mark them. Nothing
+// is judged here: that is the library's.
+
+/** Names of the fields that tiles know. */
+export const NAMES = {
+  tile: { 3: 'layer' },
+  layer: { 1: 'name', 2: 'feature', 3: 'key', 4: 'value', 5: 'extent', 15: 'version' },
+  feature: { 1: 'id', 2: 'tags', 3: 'type', 4: 'geometry' },
+  value: { 1: 'string', 2: 'float', 3: 'double', 4: 'int', 5: 'uint', 6: 'sint', 7: 'bool' },
+};
+
+/** A varint at an offset: `{value, end}`; null where it doesn't end before `end`. Above 2^53 the value is rounded. */
+export function varint(bytes, at, end) {
+  let value = 0;
+  let weight = 1;
+  for (let place = at; place < end && place < at + 10; place += 1) {
+    value += (bytes[place] & 127) * weight;
+    if (bytes[place] < 128) return { value, end: place + 1 };
+    weight *= 128;
+  }
+  return null;
+}
+
+/**
+ * The field whose tag stands at an offset: its number and wire type, where its tag, its length and its payload stand,
+ * and `whole`, which is false where it can't be split. What isn't known is null.
+ */
+export function fieldAt(bytes, at, end) {
+  const broken = { at, number: null, wire: null, head: at, body: end, end, whole: false };
+  const tag = varint(bytes, at, end);
+  if (tag === null || tag.value >= 2 ** 32 || tag.value < 8) {
+    return { ...broken, head: tag ? tag.end : Math.min(end, at + 10), body: tag ? tag.end : end };
+  }
+  const field = { ...broken, number: Math.floor(tag.value / 8), wire: tag.value % 8, head: tag.end, body: tag.end };
+  const upTo = (last) => ({ ...field, end: Math.min(last, end), whole: last <= end, wanted: last });
+  switch (field.wire) {
+    case 0: {
+      const number = varint(bytes, tag.end, end);
+      return number ? { ...upTo(number.end), value: number.value } : field;
+    }
+    case 1:
+      return upTo(tag.end + 8);
+    case 5:
+      return upTo(tag.end + 4);
+    case 2: {
+      const length = varint(bytes, tag.end, end);
+      if (length === null) return field;
+      const last = length.end + length.value;
+      return { ...upTo(last), head: length.end, body: length.end };
+    }
+    default:
+      return field;
+  }
+}
+
+/** The fields of a message, in order; the last one may be broken. */
+export function* fieldsOf(bytes, start, end) {
+  for (let at = start; at < end;) {
+    const field = fieldAt(bytes, at, end);
+    yield field;
+    if (!field.whole) return;
+    at = field.end;
+  }
+}
+
+/** The field of a number and wire type 2 that has an index among its like; null where there is none. */
+export function nthField(bytes, message, number, index) {
+  let seen = 0;
+  for (const field of fieldsOf(bytes, message.body, message.end)) {
+    if (field.number !== number || field.wire !== 2) continue;
+    if (seen === index) return field;
+    seen += 1;
+  }
+  return null;
+}
+
+/** The whole input as a message. */
+export function wholeOf(bytes) {
+  return { at: 0, head: 0, body: 0, end: bytes.length };
+}
+
+/** The integers of a feature's tags (2) or geometry (4), each with its bytes; packed and unpacked ones are joined. */
+export function* integersOf(bytes, feature, number) {
+  for (const field of fieldsOf(bytes, feature.body, feature.end)) {
+    if (field.number !== number) continue;
+    if (field.wire === 0 && field.whole) yield { value: field.value, start: field.body, end: field.end };
+    if (field.wire === 2) yield* packedOf(bytes, field);
+  }
+}
+
+/** The integers of a packed field; where one doesn't end, the last has the value null. */
+export function* packedOf(bytes, field) {
+  for (let at = field.body; at < field.end;) {
+    const read = varint(bytes, at, field.end);
+    if (read === null) {
+      yield { value: null, start: at, end: Math.min(at + 10, field.end) };
+      return;
+    }
+    yield { value: read.value, start: at, end: read.end };
+    at = read.end;
+  }
+}

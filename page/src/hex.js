@@ -1,0 +1,103 @@
+// The bytes as a table: a part of them at a time, with the bytes of a place marked.
+import { grouped, hexOffset } from './text.js';
+import { element } from './dom.js';
+
+const ROWS = 128;
+
+export class HexView {
+  #bytes;
+  #marks;
+  #perRow;
+  #start = 0;
+
+  /** `marks` are `{start, end, kind}`; the later ones win. */
+  constructor(bytes, marks) {
+    this.#bytes = bytes;
+    this.#marks = marks;
+    this.#perRow = matchMedia('(max-width: 40rem)').matches ? 8 : 16;
+    this.table = element('tbody');
+    this.frame = element('div', { class: 'hex', tabindex: '0', role: 'region', 'aria-label': 'The bytes' }, [
+      element('table', {}, [this.#caption(), this.table]),
+    ]);
+    this.told = element('span', { class: 'quiet', role: 'status' });
+    this.earlier = element('button', { type: 'button', onclick: () => this.#turn(-1) }, ['Earlier bytes']);
+    this.later = element('button', { type: 'button', onclick: () => this.#turn(1) }, ['Later bytes']);
+    const goto = element('input', { type: 'text', inputmode: 'numeric', size: '10', 'aria-label': 'Go to the byte', placeholder: 'go to byte' });
+    const form = element('form', { onsubmit: (event) => this.#go(event, goto.value) }, [goto, element('button', {}, ['Go'])]);
+    this.root = element('div', {}, [this.frame, element('div', { class: 'buttons' }, [this.earlier, this.later, form, this.told])]);
+    this.show(this.#marks.at(-1)?.start ?? 0);
+  }
+
+  /** Shows the bytes round an offset, and scrolls to it. */
+  show(offset) {
+    const span = ROWS * this.#perRow;
+    const start = Math.max(0, offset - span / 2);
+    this.#start = start - (start % this.#perRow);
+    this.#fill();
+    const row = Math.floor((offset - this.#start) / this.#perRow);
+    requestAnimationFrame(() => {
+      const target = this.table.rows[row];
+      if (target) this.frame.scrollTop = Math.max(0, target.offsetTop - this.frame.clientHeight / 3);
+    });
+  }
+
+  #caption() {
+    return element('caption', { class: 'spoken' }, ['Each row: the offset of its first byte, the bytes in hexadecimal, and as text.']);
+  }
+
+  #turn(step) {
+    this.show(this.#start + ROWS * this.#perRow * (step + 0.5));
+    this.frame.scrollTop = 0;
+  }
+
+  #go(event, value) {
+    event.preventDefault();
+    const offset = Number(value.trim());
+    if (Number.isInteger(offset) && offset >= 0 && offset < this.#bytes.length) this.show(offset);
+    else this.told.textContent = `No such byte: ${value}`;
+  }
+
+  #fill() {
+    const end = Math.min(this.#bytes.length, this.#start + ROWS * this.#perRow);
+    const rows = [];
+    for (let at = this.#start; at < end; at += this.#perRow) rows.push(this.#row(at, Math.min(end, at + this.#perRow)));
+    this.table.replaceChildren(...rows);
+    this.earlier.disabled = this.#start === 0;
+    this.later.disabled = end === this.#bytes.length;
+    this.earlier.hidden = this.later.hidden = this.earlier.disabled && this.later.disabled;
+    this.told.textContent = this.#bytes.length === 0 ? 'There are no bytes.'
+      : `Bytes ${grouped(this.#start)} to ${grouped(end - 1)} of ${grouped(this.#bytes.length)}, offsets in hexadecimal.`;
+  }
+
+  #row(start, end) {
+    const digits = hexOffset(this.#bytes.length).length;
+    return element('tr', {}, [
+      element('th', { scope: 'row' }, [hexOffset(start, Math.max(4, digits))]),
+      element('td', {}, this.#runs(start, end, (byte) => `${hexOffset(byte, 2)} `)),
+      element('td', { class: 'letters' }, this.#runs(start, end, (byte) => (byte > 31 && byte < 127 ? String.fromCharCode(byte) : '·'))),
+    ]);
+  }
+
+  /** The bytes of a row as runs of one mark each. */
+  #runs(start, end, spell) {
+    const runs = [];
+    for (let at = start; at < end;) {
+      const kind = this.#kindOf(at);
+      let spelled = '';
+      let next = at;
+      while (next < end && this.#kindOf(next) === kind) {
+        spelled += spell(this.#bytes[next]);
+        next += 1;
+      }
+      const gap = spelled.endsWith(' ') ? ' ' : '';
+      runs.push(kind ? element(kind === 'fault' ? 'mark' : 'span', { class: kind }, [gap ? spelled.slice(0, -1) : spelled]) : spelled);
+      if (kind && gap) runs.push(kind === 'fault' ? ' ' : gap);
+      at = next;
+    }
+    return runs;
+  }
+
+  #kindOf(at) {
+    return this.#marks.findLast((mark) => at >= mark.start && at < mark.end)?.kind ?? null;
+  }
+}

@@ -1,0 +1,120 @@
+/* Each call on each tile that is named, once for each of its allocations, that one refused: it has to say that it is
+ * out of memory, to touch nothing, and to leave no block behind. Link it with --wrap for malloc, realloc and free. */
+#include "mvt.h"
+
+#include <stdio.h>
+#include <stdlib.h>
+#include <string.h>
+
+void *__real_malloc(size_t size);
+void *__real_realloc(void *block, size_t size);
+void __real_free(void *block);
+
+static unsigned long count, refused; /* allocations so far, and the one that is refused, from 1 */
+static long live;                    /* blocks that weren't given back */
+
+static int refuses(void) { return ++count == refused; }
+
+void *__wrap_malloc(size_t size) {
+    void *block = refuses() ? NULL : __real_malloc(size);
+    live += block != NULL;
+    return block;
+}
+
+void *__wrap_realloc(void *old, size_t size) {
+    void *block = refuses() ? NULL : __real_realloc(old, size);
+    live += old == NULL && block != NULL;
+    return block;
+}
+
+void __wrap_free(void *block) {
+    live -= block != NULL;
+    __real_free(block);
+}
+
+static void require(int holds, const char *what, const char *call) {
+    if (holds) return;
+    fprintf(stderr, "broken: %s: %s, allocation %lu refused\n", call, what, refused);
+    exit(1);
+}
+
+/* What a call hands out: bytes or rows. */
+typedef union {
+    mvt_bytes bytes;
+    mvt_tile tile;
+} output;
+
+typedef struct {
+    const char *name;
+    uint32_t (*call)(const uint8_t *, size_t, output *, mvt_fault *);
+    void (*give_back)(output *);
+} task;
+
+static uint32_t rewrite(const uint8_t *b, size_t n, output *o, mvt_fault *f) { return mvt_rewrite(b, n, &o->bytes, f); }
+static uint32_t json(const uint8_t *b, size_t n, output *o, mvt_fault *f) { return mvt_json(b, n, &o->bytes, f); }
+static uint32_t svg(const uint8_t *b, size_t n, output *o, mvt_fault *f) { return mvt_svg(b, n, &o->bytes, f); }
+static uint32_t rows(const uint8_t *b, size_t n, output *o, mvt_fault *f) { return mvt_read(b, n, &o->tile, f); }
+static uint32_t extract(const uint8_t *b, size_t n, output *o, mvt_fault *f) {
+    const mvt_bytes names[] = {{(const uint8_t *)"water", 5}, {(const uint8_t *)"places", 6}};
+    return mvt_extract(b, n, names, 2, &o->bytes, f);
+}
+/* Rows are read beside the count, and then written. */
+static uint32_t written(const uint8_t *b, size_t n, output *o, mvt_fault *f) {
+    mvt_tile tile;
+    const unsigned long number = refused;
+    refused = 0;
+    const uint32_t read = mvt_read(b, n, &tile, f);
+    refused = number, count = 0;
+    if (read != MVT_OK) return read;
+    const uint32_t status = mvt_write(&tile, &o->bytes);
+    mvt_tile_free(&tile);
+    return status;
+}
+static void free_bytes(output *o) { mvt_bytes_free(&o->bytes); }
+static void free_tile(output *o) { mvt_tile_free(&o->tile); }
+
+static const task TASKS[] = {
+    {"mvt_rewrite", rewrite, free_bytes}, {"mvt_json", json, free_bytes}, {"mvt_svg", svg, free_bytes},
+    {"mvt_extract", extract, free_bytes}, {"mvt_read", rows, free_tile},
+    {"mvt_write", written, free_bytes},
+};
+
+/* One call with the allocation `number` refused. Answers whether the call went so far. */
+static int refuse(const task *of, const uint8_t *bytes, size_t len, unsigned long number) {
+    output out, untouched;
+    mvt_fault fault, told_nothing;
+    memset(&untouched, 0x5a, sizeof untouched);
+    memset(&told_nothing, 0x5a, sizeof told_nothing);
+    out = untouched, fault = told_nothing;
+    count = 0, refused = number, live = 0;
+    const uint32_t status = of->call(bytes, len, &out, &fault);
+    const int came = count >= number;
+    require((status == MVT_NO_MEMORY) == came, "the wrong status", of->name);
+    if (status == MVT_OK) {
+        of->give_back(&out);
+    } else {
+        require(memcmp(&out, &untouched, sizeof out) == 0, "an output is touched", of->name);
+    }
+    if (status != MVT_REFUSED) require(memcmp(&fault, &told_nothing, sizeof fault) == 0, "a fault is told", of->name);
+    require(live == 0, "a block is left", of->name);
+    return came;
+}
+
+int main(int argc, char **argv) {
+    static uint8_t bytes[1 << 20];
+    unsigned long runs = 0;
+    for (int i = 1; i < argc; ++i) {
+        FILE *file = fopen(argv[i], "rb");
+        if (file == NULL) return 2;
+        const size_t len = fread(bytes, 1, sizeof bytes, file);
+        fclose(file);
+        for (size_t t = 0; t < sizeof TASKS / sizeof *TASKS; ++t) {
+            unsigned long number = 1;
+            while (refuse(&TASKS[t], bytes, len, number)) ++number;
+            runs += number;
+        }
+    }
+    refused = 0;
+    printf("%lu runs\n", runs);
+    return 0;
+}

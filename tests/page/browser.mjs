@@ -1,0 +1,142 @@
+// A headless Chromium, driven through a pipe by its DevTools protocol.
+import { spawn } from 'node:child_process';
+import { mkdtempSync, rmSync } from 'node:fs';
+import { tmpdir } from 'node:os';
+import { join } from 'node:path';
+
+const DEADLINE = 120_000;
+
+export class Browser {
+  #process;
+  #folder;
+  #waiting = new Map();
+  #listeners = [];
+  #last = 0;
+  #text = '';
+
+  constructor(program, words = []) {
+    this.#folder = mkdtempSync(join(tmpdir(), 'page-'));
+    const all = ['--headless', '--no-sandbox', '--disable-gpu', '--disable-dev-shm-usage', '--no-first-run', '--hide-scrollbars',
+      '--remote-debugging-pipe', `--user-data-dir=${this.#folder}`, ...words];
+    this.#process = spawn(program, all, { stdio: ['ignore', 'ignore', 'ignore', 'pipe', 'pipe'] });
+    this.#process.stdio[4].setEncoding('utf8').on('data', (text) => this.#read(text));
+  }
+
+  #read(text) {
+    const messages = (this.#text + text).split('\0');
+    this.#text = messages.pop();
+    for (const each of messages) {
+      const message = JSON.parse(each);
+      const waiting = this.#waiting.get(message.id);
+      this.#waiting.delete(message.id);
+      if (message.method) this.#listeners.forEach((listener) => listener(message));
+      else if (message.error) waiting?.reject(new Error(message.error.message));
+      else waiting?.resolve(message.result);
+    }
+  }
+
+  send(method, params = {}, sessionId = undefined) {
+    this.#last += 1;
+    const id = this.#last;
+    this.#process.stdio[3].write(`${JSON.stringify({ id, method, params, sessionId })}\0`);
+    return new Promise((resolve, reject) => {
+      const timer = setTimeout(() => reject(new Error(`no answer: ${method}`)), DEADLINE);
+      const ended = (then) => (value) => (clearTimeout(timer), then(value));
+      this.#waiting.set(id, { resolve: ended(resolve), reject: ended(reject) });
+    });
+  }
+
+  listen(listener) {
+    this.#listeners.push(listener);
+  }
+
+  /** Opens a page; `before` is a script that runs in it first. */
+  async page(url, { width = 1100, height = 900, dark = false, before = null } = {}) {
+    const { targetId } = await this.send('Target.createTarget', { url: 'about:blank' });
+    const { sessionId } = await this.send('Target.attachToTarget', { targetId, flatten: true });
+    const page = new Tab(this, targetId, sessionId);
+    await page.send('Page.enable');
+    await page.send('Runtime.enable');
+    await page.send('Emulation.setDeviceMetricsOverride', { width, height, deviceScaleFactor: 1, mobile: width < 600 });
+    await page.send('Emulation.setEmulatedMedia', { features: [{ name: 'prefers-color-scheme', value: dark ? 'dark' : 'light' }] });
+    if (before) await page.send('Page.addScriptToEvaluateOnNewDocument', { source: before });
+    await page.send('Page.navigate', { url });
+    await page.until("document.body?.dataset.ready === 'yes'");
+    return page;
+  }
+
+  async close() {
+    const closed = new Promise((resolve) => this.#process.once('exit', resolve));
+    await this.send('Browser.close').catch(() => this.#process.kill());
+    await closed;
+    rmSync(this.#folder, { recursive: true, force: true, maxRetries: 5 });
+  }
+}
+
+class Tab {
+  /** What the page threw or logged as an error. */
+  errors = [];
+
+  constructor(browser, targetId, sessionId) {
+    this.browser = browser;
+    this.targetId = targetId;
+    this.sessionId = sessionId;
+    browser.listen(({ method, params, sessionId: from }) => {
+      if (from !== sessionId) return;
+      if (method === 'Runtime.exceptionThrown') this.errors.push(params.exceptionDetails.exception?.description ?? params.exceptionDetails.text);
+      if (method === 'Runtime.consoleAPICalled' && params.type === 'error') this.errors.push(JSON.stringify(params.args));
+    });
+  }
+
+  send(method, params) {
+    return this.browser.send(method, params, this.sessionId);
+  }
+
+  /** The value of an expression in the page; a promise is waited for. */
+  async value(expression) {
+    const { result, exceptionDetails } = await this.send('Runtime.evaluate', { expression, awaitPromise: true, returnByValue: true });
+    if (exceptionDetails) throw new Error(exceptionDetails.exception?.description ?? exceptionDetails.text);
+    return result.value;
+  }
+
+  /** Waits until an expression is true. */
+  async until(expression, seconds = 60) {
+    for (const end = Date.now() + 1000 * seconds; Date.now() < end;) {
+      if (await this.value(`Boolean(${expression})`).catch(() => false)) return;
+      await new Promise((resolve) => setTimeout(resolve, 20));
+    }
+    throw new Error(`not so after ${seconds} seconds: ${expression}`);
+  }
+
+  /** Chooses files as a person does. */
+  async choose(paths, input = '#files') {
+    const { root } = await this.send('DOM.getDocument');
+    const { nodeId } = await this.send('DOM.querySelector', { nodeId: root.nodeId, selector: input });
+    await this.send('DOM.setFileInputFiles', { nodeId, files: paths });
+  }
+
+  /** Drops files on the page. */
+  async drop(paths) {
+    const data = { items: [], files: paths, dragOperationsMask: 1 };
+    for (const type of ['dragEnter', 'dragOver', 'drop']) await this.send('Input.dispatchDragEvent', { type, x: 200, y: 200, data });
+  }
+
+  async press(key) {
+    const codes = { Tab: 9, Enter: 13, ' ': 32 };
+    const event = { key, code: key === ' ' ? 'Space' : key, windowsVirtualKeyCode: codes[key], text: key === 'Enter' ? '\r' : key === ' ' ? ' ' : undefined };
+    await this.send('Input.dispatchKeyEvent', { type: 'keyDown', ...event });
+    await this.send('Input.dispatchKeyEvent', { type: 'keyUp', ...event, text: undefined });
+  }
+
+  /** The picture of the whole page, in a window as high as the page. */
+  async screenshot() {
+    const { cssContentSize: { width, height } } = await this.send('Page.getLayoutMetrics');
+    await this.send('Emulation.setDeviceMetricsOverride', { width, height, deviceScaleFactor: 1, mobile: width < 600 });
+    const { data } = await this.send('Page.captureScreenshot', { format: 'png' });
+    return Buffer.from(data, 'base64');
+  }
+
+  async close() {
+    await this.browser.send('Target.closeTarget', { targetId: this.targetId });
+  }
+}
