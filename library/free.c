@@ -1,4 +1,5 @@
-/* Gives back what the library handed out. A list without entries has no block. */
+/* What C does for itself: it gives back what the library handed out, where a list without entries has no block, and
+ * answers a decoder that isn't there. */
 #include "mvt.h"
 
 #include <stdlib.h>
@@ -24,4 +25,41 @@ void mvt_tile_free(mvt_tile *tile) {
     give_back(tile->integers, tile->integer_count);
     give_back(tile->texts, tile->text_len);
     memset(tile, 0, sizeof *tile);
+}
+
+/* The proved calls take a decoder that is there, and hand it back. */
+typedef struct {
+    void *decoder;
+} held;
+uint32_t mvt_held_new(held *out);
+uint32_t mvt_held_feed(held decoder, const uint8_t *piece, size_t len, held *again, mvt_fault *fault);
+uint32_t mvt_held_finish(held decoder, mvt_tile *out, mvt_fault *fault);
+void mvt_held_free(held decoder);
+
+uint32_t mvt_decoder_new(mvt_decoder *decoder) {
+    held made = {NULL};
+    const uint32_t status = mvt_held_new(&made);
+    if (status == MVT_OK) decoder->held = made.decoder;
+    return status;
+}
+
+uint32_t mvt_decoder_feed(mvt_decoder *decoder, const uint8_t *piece, size_t len, mvt_fault *fault) {
+    if (decoder->held == NULL) return MVT_NO_DECODER;
+    held now = {decoder->held};
+    const uint32_t status = mvt_held_feed(now, piece, len, &now, fault);
+    decoder->held = now.decoder;
+    return status;
+}
+
+uint32_t mvt_decoder_finish(mvt_decoder *decoder, mvt_tile *out, mvt_fault *fault) {
+    if (decoder->held == NULL) return MVT_NO_DECODER;
+    const held last = {decoder->held};
+    decoder->held = NULL;
+    return mvt_held_finish(last, out, fault);
+}
+
+void mvt_decoder_free(mvt_decoder *decoder) {
+    const held last = {decoder->held};
+    decoder->held = NULL;
+    if (last.decoder != NULL) mvt_held_free(last);
 }

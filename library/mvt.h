@@ -25,7 +25,8 @@ enum {
     MVT_TOO_LARGE = 3,   /* the result would be larger than 67,108,864 bytes */
     MVT_NO_LAYER = 4,    /* no layer has one of the names */
     MVT_BAD_NAME = 5,    /* a name isn't UTF-8 */
-    MVT_NO_TILE = 6      /* rows that are no valid tile */
+    MVT_NO_TILE = 6,     /* rows that are no valid tile */
+    MVT_NO_DECODER = 7   /* a decoder that was never made, or is finished or given back */
 };
 
 /* Bytes, or a text in UTF-8, which doesn't end with a zero. */
@@ -145,6 +146,26 @@ uint32_t mvt_read(const uint8_t *bytes, size_t len, mvt_tile *out, mvt_fault *fa
  * wrong way round; an interior ring before all exterior ones; two layers of one name; bytes of a layer that aren't one of
  * its version. Also MVT_OK, MVT_NO_MEMORY, MVT_TOO_LARGE. */
 uint32_t mvt_write(const mvt_tile *tile, mvt_bytes *out);
+
+/* A decoder of a tile that comes in pieces, cut anywhere. Begin with `mvt_decoder decoder = {0};`, which is no decoder
+ * yet. Each belongs to one thread at a time, and is moved by no copy: the decoder is the variable. */
+typedef struct {
+    void *held;
+} mvt_decoder;
+
+/* A decoder of no bytes yet. What stood in `decoder` is not given back. MVT_OK, MVT_NO_MEMORY. */
+uint32_t mvt_decoder_new(mvt_decoder *decoder);
+
+/* Takes a piece. A fault is told as soon as no further byte can change it; from then on each call answers it.
+ * MVT_OK, MVT_REFUSED, MVT_NO_MEMORY, MVT_NO_DECODER. */
+uint32_t mvt_decoder_feed(mvt_decoder *decoder, const uint8_t *piece, size_t len, mvt_fault *fault);
+
+/* The tile as rows, after the last piece. The decoder is given back, whatever the answer.
+ * MVT_OK, MVT_REFUSED, MVT_NO_MEMORY, MVT_NO_DECODER; MVT_TOO_LARGE as of mvt_read. */
+uint32_t mvt_decoder_finish(mvt_decoder *decoder, mvt_tile *out, mvt_fault *fault);
+
+/* Gives a decoder back; nothing happens where there is none. */
+void mvt_decoder_free(mvt_decoder *decoder);
 
 /* Gives back what a call handed out; afterwards there is nothing left to be given back. */
 void mvt_bytes_free(mvt_bytes *bytes);

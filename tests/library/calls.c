@@ -211,6 +211,35 @@ static uint64_t sum_of(mvt_bytes *bytes) {
     return sum;
 }
 
+/* A tile in pieces is the tile as a whole, or has its fault. */
+static void decode(const uint8_t *bytes, size_t len, uint32_t wanted, const mvt_tile *rows, const mvt_fault *first) {
+    mvt_decoder decoder = {0};
+    mvt_fault fault = {0};
+    mvt_tile read = {0};
+    require(mvt_decoder_new(&decoder) == MVT_OK, "a decoder");
+    uint32_t status = MVT_OK;
+    for (size_t at = 0; at < len && status == MVT_OK;) {
+        const size_t piece = 1 + any(len - at < 1000 ? len - at : 1000);
+        status = mvt_decoder_feed(&decoder, bytes + at, piece, &fault);
+        at += piece;
+    }
+    if (status != MVT_OK) require(mvt_decoder_feed(&decoder, NULL, 0, &fault) == status, "an error that stays");
+    status = mvt_decoder_finish(&decoder, &read, &fault);
+    require(status == wanted, "the status of a decoder");
+    if (status == MVT_OK) {
+        require(same_tiles(rows, &read), "the rows of a decoder");
+        mvt_tile_free(&read);
+    } else {
+        require(fault.layer == first->layer && fault.feature == first->feature && fault.at == first->at &&
+                    fault.cause == first->cause, "the fault of a decoder");
+    }
+    require(mvt_decoder_feed(&decoder, bytes, len, &fault) == MVT_NO_DECODER, "a decoder that is finished");
+    require(mvt_decoder_finish(&decoder, &read, &fault) == MVT_NO_DECODER, "a decoder that is finished");
+    require(mvt_decoder_new(&decoder) == MVT_OK && mvt_decoder_feed(&decoder, bytes, len / 2, &fault) <= 1, "half a tile");
+    mvt_decoder_free(&decoder);
+    mvt_decoder_free(&decoder);
+}
+
 static void call(const char *path) {
     size_t len;
     uint8_t *tile = read_file(path, &len);
@@ -229,6 +258,7 @@ static void call(const char *path) {
     require(mvt_report(bytes, len, &out, &fault) == shown, "a tile is reported on where it is shown");
     if (shown == MVT_OK) sum += sum_of(&out);
     const uint32_t read = mvt_read(bytes, len, &rows, &fault);
+    decode(bytes, len, read, &rows, &fault);
     const mvt_bytes names[] = {{(const uint8_t *)"water", 5}, {(const uint8_t *)"\xff", 1}};
     const uint32_t extracted = mvt_extract(bytes, len, names, 1, &out, &fault);
     if (extracted == MVT_OK) sum += sum_of(&out);

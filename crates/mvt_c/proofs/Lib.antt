@@ -3,3 +3,4 @@ mod FoldLemmas
 mod NameLemmas
 mod EachLemmas
 mod TileLemmas
+mod AsBox

@@ -6,3 +6,4 @@ pub mod Texts
 pub mod Lent
 pub mod TileRows
 pub mod Written
+pub mod Held

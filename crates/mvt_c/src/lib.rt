@@ -5,6 +5,7 @@
 #![tactic(auto)]
 
 mod calls;
+mod decoder;
 mod fault;
 mod lent;
 mod names;

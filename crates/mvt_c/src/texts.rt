@@ -47,12 +47,7 @@ pub extern "C" fn mvt_svg(alloc: Global, bytes: &[u8], out: &mut Bytes, fault: &
 
 /// What `mvt check` says of a tile that is accepted (`mvt_report`).
 #[unsafe(no_mangle)]
-pub extern "C" fn mvt_report(
-    alloc: Global,
-    bytes: &[u8],
-    out: &mut Bytes,
-    fault: &mut Fault,
-) -> u32
+pub extern "C" fn mvt_report(alloc: Global, bytes: &[u8], out: &mut Bytes, fault: &mut Fault) -> u32
     ensures done { result ≡ 0 → IsTextOf (report_of bytes.now) bytes.now out.new.bytes.now }
     ensures refused { result ≡ 1 → IsTold bytes.now fault.new }
     ensures few { result ≤ 2 }

@@ -1,0 +1,117 @@
+//! A decoder that lives across calls: C keeps a handle, hands it to each call and takes it back. `library/handles.c`
+//! answers an empty handle before it comes here.
+ghost use Rattle.std.specs.Prelude.{◌≡◌, ◌≢◌, ◌≤◌, [], ◌++◌, ℕ, List, IfOk, IfErr};
+ghost use Rattle.mvt_tile.specs.Streams.{StandsFor};
+ghost use Rattle.mvt_c.specs.Calls.{IsRead, IsTold, NotRead, NotShown, status_of_refusal};
+ghost use Rattle.mvt_c.specs.Lent.{table_of};
+
+mod held;
+mod parts;
+
+use crate::fault::Fault;
+use crate::refusal::{Refusal, tell};
+use crate::rows::Rows;
+use crate::table::Table;
+use held::{Decoder, Held};
+use mvt_base::LIMIT;
+use mvt_tile::TileDecoder;
+use std::alloc::Global;
+use std::mem;
+
+/// Puts a handle where C keeps it, without a look at what stood there.
+fn keep(held: Held, out: &mut Held)
+    ensures { out.new.decoder ≡ held.decoder }
+{
+    mem::forget(mem::replace(out, held));
+}
+
+/// A decoder of no bytes yet (`mvt_decoder_new`).
+#[unsafe(no_mangle)]
+pub extern "C" fn mvt_held_new(alloc: Global, out: &mut Held) -> u32
+    ensures made { result ≡ 0 → StandsFor LIMIT out.new.decoder.inner [] }
+    ensures known { result ≢ 0 → result ≡ 2 }
+{
+    let decoder = Decoder {
+        inner: TileDecoder::new(alloc),
+    };
+    match Held::new(alloc, decoder) {
+        Ok(held) => {
+            keep(held, out);
+            0
+        }
+        Err(_) => 2,
+    }
+}
+
+/// Takes a piece of a tile (`mvt_decoder_feed`).
+#[unsafe(no_mangle)]
+pub extern "C" fn mvt_held_feed(
+    held: Held,
+    piece: &[u8],
+    again: &mut Held,
+    fault: &mut Fault,
+) -> u32
+    ensures stands { (s : List ℕ) → StandsFor LIMIT held.decoder.inner s
+        → StandsFor LIMIT again.new.decoder.inner (s ++ piece.now) }
+    ensures refused { result ≡ 1 → (s : List ℕ) → StandsFor LIMIT held.decoder.inner s
+        → IsTold (s ++ piece.now) fault.new }
+    ensures few { result ≤ 2 }
+    ensures fault_kept { result ≢ 1 → fault.new ≡ fault.old }
+{
+    let mut decoder = held.into_box();
+    let answer = fed(&mut decoder.inner, piece);
+    keep(Held::of_box(decoder), again);
+    match answer {
+        Ok(()) => 0,
+        Err(refusal) => tell(refusal, fault),
+    }
+}
+
+fn fed(decoder: &mut TileDecoder, piece: &[u8]) -> Result<(), Refusal>
+    ensures stands { (s : List ℕ) → StandsFor LIMIT decoder.old s → StandsFor LIMIT decoder.new (s ++ piece.now) }
+    ensures refused { IfErr result (λ refusal. (s : List ℕ) → StandsFor LIMIT decoder.old s
+        → NotShown (s ++ piece.now) refusal) }
+    ensures few { IfErr result (λ refusal. status_of_refusal refusal ≤ 2) }
+{
+    decoder.feed(piece)?;
+    Ok(())
+}
+
+/// The tile as rows, after the last piece (`mvt_decoder_finish`).
+#[unsafe(no_mangle)]
+pub extern "C" fn mvt_held_finish(
+    alloc: Global,
+    held: Held,
+    out: &mut Rows,
+    fault: &mut Fault,
+) -> u32
+    ensures done { result ≡ 0 → (s : List ℕ) → StandsFor LIMIT held.decoder.inner s → IsRead s (table_of out.new) }
+    ensures refused { result ≡ 1 → (s : List ℕ) → StandsFor LIMIT held.decoder.inner s → IsTold s fault.new }
+    ensures few { result ≤ 3 }
+    ensures out_kept { result ≢ 0 → out.new ≡ out.old }
+    ensures fault_kept { result ≢ 1 → fault.new ≡ fault.old }
+{
+    match finished(alloc, Box::into_inner(held.into_box())) {
+        Ok(table) => {
+            *out = table.leak();
+            0
+        }
+        Err(refusal) => tell(refusal, fault),
+    }
+}
+
+fn finished(alloc: Global, decoder: Decoder) -> Result<Table, Refusal>
+    ensures done { IfOk result (λ table. (s : List ℕ) → StandsFor LIMIT decoder.inner s → IsRead s table) }
+    ensures refused { IfErr result (λ refusal. (s : List ℕ) → StandsFor LIMIT decoder.inner s → NotRead s refusal) }
+    ensures few { IfErr result (λ refusal. status_of_refusal refusal ≤ 3) }
+{
+    let Decoder { inner } = decoder;
+    let tile = inner.finish()?;
+    Ok(Table::of_tile(alloc, &tile)?)
+}
+
+/// Gives a decoder back (`mvt_decoder_free`).
+#[unsafe(no_mangle)]
+pub extern "C" fn mvt_held_free(held: Held) {
+    drop(held);
+}
