@@ -7,7 +7,7 @@ use crate::fault::Fault;
 use crate::refusal::{Refusal, tell};
 use crate::rows::Rows;
 use crate::table::Table;
-use mvt_tile::decode;
+use mvt_tile::{decode, judge};
 use std::alloc::Global;
 
 /// Whether the bytes are a tile (`mvt_judge`).
@@ -28,7 +28,7 @@ fn judged(alloc: Global, bytes: &[u8]) -> Result<(), Refusal>
     ensures accepted { OnOk result (IsAccepted bytes.now) }
     ensures refused { IfErr result (NotShown bytes.now) }
 {
-    decode(alloc, bytes)?;
+    judge(alloc, bytes)?;
     Ok(())
 }
 

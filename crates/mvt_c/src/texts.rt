@@ -9,7 +9,7 @@ use crate::fault::Fault;
 use crate::lent::Bytes;
 use crate::refusal::{Refusal, hand_out};
 use mvt_base::LIMIT;
-use mvt_tile::{PutError, Tile, decode, encode};
+use mvt_tile::{Tile, decode, is_canonical};
 use mvt_view::{ViewError, json_text, report_text, svg_text};
 use std::alloc::Global;
 
@@ -75,10 +75,6 @@ fn report(alloc: Global, tile: &Tile, bytes: &[u8]) -> Result<String, ViewError>
     requires small { length bytes.now ≤ LIMIT }
     ensures { IfOk result (λ text. string_bytes text ≡ report_of bytes.now tile.now) }
 {
-    let canonical = match encode(alloc, tile) {
-        Ok(made) => made.as_slice() == bytes,
-        Err(PutError::TooLarge) => false,
-        Err(PutError::Memory) => return Err(ViewError::Memory),
-    };
+    let canonical = is_canonical(alloc, tile, bytes)?;
     report_text(alloc, tile, canonical)
 }
