@@ -101,6 +101,7 @@ inline void require_ok(std::uint32_t status, const mvt_fault &fault) {
     case MVT_NO_LAYER: throw no_layer("a layer isn't there");
     case MVT_BAD_NAME: throw bad_name("a layer's name isn't UTF-8");
     case MVT_NO_TILE: throw no_tile("these rows are no valid tile");
+    case MVT_NO_DECODER: throw error("the decoder is finished");
     default: throw error("status " + std::to_string(status));
     }
 }
@@ -204,6 +205,36 @@ inline tile read(byte_span of) {
     require_ok(mvt_read(of.data(), of.size(), &rows, &fault), fault);
     return tile(rows);
 }
+
+/// A tile that comes in pieces, cut anywhere. One thread at a time.
+class decoder {
+public:
+    decoder() { require_ok(mvt_decoder_new(&held_), {}); }
+    decoder(decoder &&other) noexcept : held_(std::exchange(other.held_, {})) {}
+    decoder &operator=(decoder other) noexcept {
+        std::swap(held_, other.held_);
+        return *this;
+    }
+    decoder(const decoder &) = delete;
+    ~decoder() { mvt_decoder_free(&held_); }
+
+    /// Takes a piece. Throws refused as soon as no further byte can change the fault, and then at each call.
+    void feed(byte_span piece) {
+        mvt_fault fault{};
+        require_ok(mvt_decoder_feed(&held_, piece.data(), piece.size(), &fault), fault);
+    }
+
+    /// The tile, after the last piece, which ends the decoder. Throws refused.
+    tile finish() {
+        mvt_tile rows{};
+        mvt_fault fault{};
+        require_ok(mvt_decoder_finish(&held_, &rows, &fault), fault);
+        return tile(rows);
+    }
+
+private:
+    mvt_decoder held_{};
+};
 
 /// Throws refused where the bytes are no tile. Makes nothing of them, so it is the fastest way to know.
 inline void judge(byte_span of) {

@@ -151,6 +151,29 @@ class WholeTiles(unittest.TestCase):
         # A layer of version 1 named a.
         self.assertEqual(mvt.read(bytes.fromhex("1A0578010A0161")).layers, [mvt.Foreign(1, bytes.fromhex("78010A0161"))])
 
+    def test_takes_pieces(self):
+        for name in WHOLE:
+            whole = tile(name + ".mvt")
+            for size in (1, 7, 4096):
+                decoder = mvt.Decoder()
+                for at in range(0, len(whole), size):
+                    decoder.feed(memoryview(whole)[at : at + size])
+                self.assertEqual(decoder.finish(), mvt.read(whole))
+                with self.assertRaisesRegex(mvt.MvtError, "finished"):
+                    decoder.feed(b"")
+        mvt.Decoder()
+
+    def test_refuses_pieces_as_the_whole(self):
+        for path in sorted((TILES / "broken").glob("*.mvt")):
+            with self.assertRaises(mvt.Refused) as whole:
+                mvt.judge(path.read_bytes())
+            decoder = mvt.Decoder()
+            with self.assertRaises(mvt.Refused) as told:
+                for byte in path.read_bytes():
+                    decoder.feed(bytes([byte]))
+                decoder.finish()
+            self.assertEqual(str(told.exception), str(whole.exception))
+
     def test_takes_what_holds_bytes(self):
         whole = tile("gdal.mvt")
         for held in (bytearray(whole), memoryview(whole), memoryview(b"-" + whole)[1:]):

@@ -72,6 +72,24 @@ void write(mvt::byte_span input) {
     require(false, "rows without their texts are written");
 }
 
+/// A tile that comes in pieces is the one that comes whole; a finished decoder takes no more.
+void pieces(mvt::byte_span input) {
+    for (const std::size_t size : {1, 7, 4096}) {
+        mvt::decoder first;
+        mvt::decoder decoder = std::move(first);
+        for (std::size_t at = 0; at < input.size(); at += size)
+            decoder.feed(input.subspan(at, std::min(size, input.size() - at)));
+        decoder.feed({});
+        const mvt::tile tile = decoder.finish();
+        require(std::ranges::equal(mvt::write(tile.rows()), mvt::rewrite(input)), "pieces are another tile");
+        try {
+            decoder.feed(input);
+            require(false, "a finished decoder took a piece");
+        } catch (const mvt::error &) {
+        }
+    }
+}
+
 /// Four threads get what one gets.
 void share(mvt::byte_span input) {
     const mvt::bytes rewritten = mvt::rewrite(input), shown = mvt::json(input);
@@ -98,6 +116,7 @@ void call(const std::string &command, const std::vector<std::string_view> &names
     if (command == "hold") return hold(input);
     if (command == "look") return look(input);
     if (command == "share") return share(input);
+    if (command == "pieces") return pieces(input);
     if (command == "write") return write(input);
     if (command == "check") return put(mvt::report(input));
     put(command == "show" ? mvt::json(input) : mvt::svg(input));

@@ -10,12 +10,13 @@ broken one. Each call takes the bytes of one uncompressed tile. Threads may call
 """
 
 from ._calls import Buffer, MvtError, NoLayer, NoTile, Refused, TooLarge, extract, judge, report, rewrite, to_json, to_svg
-from ._tiles import Feature, Foreign, Layer, Point, Rows, Tile, read, rows
+from ._tiles import Decoder, Feature, Foreign, Layer, Point, Rows, Tile, read, rows
 from ._values import Float, Int, Sint, Uint, Value
 from ._writing import write
 
 __all__ = [
     "Buffer",
+    "Decoder",
     "Feature",
     "Float",
     "Foreign",

@@ -5,7 +5,7 @@ from typing import Any, Callable, Iterable, Optional, Union
 
 from ._library import Bytes, FaultRow, library
 
-REFUSED, NO_MEMORY, TOO_LARGE, NO_LAYER, BAD_NAME, NO_TILE = 1, 2, 3, 4, 5, 6
+REFUSED, NO_MEMORY, TOO_LARGE, NO_LAYER, BAD_NAME, NO_TILE, NO_DECODER = 1, 2, 3, 4, 5, 6, 7
 
 # What holds the bytes of a tile.
 Buffer = Union[bytes, bytearray, memoryview]
@@ -66,6 +66,8 @@ def raise_for(status: int, fault: FaultRow) -> None:
         raise NoLayer("a layer isn't there")
     if status == NO_TILE:
         raise NoTile("these rows are no valid tile")
+    if status == NO_DECODER:
+        raise MvtError("the decoder is finished")
     if status != 0:
         raise MvtError(f"status {status}")
 

@@ -75,6 +75,10 @@ class TileRows(Structure):
     _fields_ = [pair for name in LISTS for pair in ((name, c_void_p), (name + "_count", c_size_t))]
 
 
+class DecoderRow(Structure):
+    _fields_ = [("held", c_void_p)]
+
+
 def _load() -> ctypes.CDLL:
     """The library that MVT_LIBRARY names, or the one beside this file, as in a wheel, or the system's."""
     named = os.environ.get("MVT_LIBRARY")
@@ -94,6 +98,13 @@ library.mvt_read.argtypes = [*_TILE, POINTER(TileRows), POINTER(FaultRow)]
 library.mvt_write.argtypes = [POINTER(TileRows), POINTER(Bytes)]
 for _name in ("judge", "read", "write", "rewrite", "extract", "json", "svg", "report"):
     getattr(library, "mvt_" + _name).restype = c_uint32
+library.mvt_decoder_new.argtypes = [POINTER(DecoderRow)]
+library.mvt_decoder_feed.argtypes = [POINTER(DecoderRow), *_TILE, POINTER(FaultRow)]
+library.mvt_decoder_finish.argtypes = [POINTER(DecoderRow), POINTER(TileRows), POINTER(FaultRow)]
+for _name in ("decoder_new", "decoder_feed", "decoder_finish"):
+    getattr(library, "mvt_" + _name).restype = c_uint32
+library.mvt_decoder_free.argtypes = [POINTER(DecoderRow)]
+library.mvt_decoder_free.restype = None
 library.mvt_bytes_free.argtypes = [POINTER(Bytes)]
 library.mvt_bytes_free.restype = None
 library.mvt_tile_free.argtypes = [POINTER(TileRows)]

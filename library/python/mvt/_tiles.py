@@ -8,6 +8,7 @@ from typing import TYPE_CHECKING, Any, Dict, List, Optional, Tuple, Union
 from ._calls import Buffer, held, raise_for
 from ._library import (
     LISTS,
+    DecoderRow,
     FaultRow,
     FeatureRow,
     LayerRow,
@@ -90,6 +91,10 @@ class Rows:
     def __init__(self, tile: Buffer) -> None:
         rows, fault, tile = TileRows(), FaultRow(), held(tile)
         raise_for(library.mvt_read(tile, len(tile), ctypes.byref(rows), ctypes.byref(fault)), fault)
+        self._take(rows)
+
+    def _take(self, rows: TileRows) -> None:
+        """Holds rows that the library handed out."""
         owner = _Owner(rows)
         for name, row in LISTS.items():
             count = getattr(rows, name + "_count")
@@ -157,7 +162,37 @@ def rows(tile: Buffer) -> Rows:
     return Rows(tile)
 
 
+def tile_of(flat: Rows) -> Tile:
+    """The tile that rows are, as plain objects."""
+    return Tile([_layer(flat, row) for row in flat.layers])
+
+
 def read(tile: Buffer) -> Tile:
     """A tile as plain objects. Raises Refused."""
-    flat = Rows(tile)
-    return Tile([_layer(flat, row) for row in flat.layers])
+    return tile_of(Rows(tile))
+
+
+class Decoder:
+    """A tile that comes in pieces, cut anywhere. One thread at a time."""
+
+    def __init__(self) -> None:
+        self._held = DecoderRow()
+        raise_for(library.mvt_decoder_new(ctypes.byref(self._held)), FaultRow())
+        weakref.finalize(self, library.mvt_decoder_free, ctypes.byref(self._held))
+
+    def feed(self, piece: Buffer) -> None:
+        """Takes a piece. Raises Refused as soon as no further byte can change the fault, and then at each call."""
+        piece, fault = held(piece), FaultRow()
+        raise_for(library.mvt_decoder_feed(ctypes.byref(self._held), piece, len(piece), ctypes.byref(fault)), fault)
+
+    def rows(self) -> Rows:
+        """The tile as flat rows, after the last piece, which ends the decoder. Raises Refused."""
+        rows, fault = TileRows(), FaultRow()
+        raise_for(library.mvt_decoder_finish(ctypes.byref(self._held), ctypes.byref(rows), ctypes.byref(fault)), fault)
+        flat = Rows.__new__(Rows)
+        flat._take(rows)
+        return flat
+
+    def finish(self) -> Tile:
+        """The tile as plain objects, after the last piece, which ends the decoder. Raises Refused."""
+        return tile_of(self.rows())
