@@ -1,6 +1,8 @@
 //! Inputs and tiles of 64 MiB.
 use super::support::outer;
-use crate::{Note, PutError, Tile, TileDecoder, WriteError, decode, encode, judge, notes, write_tile};
+use crate::{
+    Note, PutError, Tile, TileDecoder, WriteError, decode, encode, judge, notes, write_tile,
+};
 use mvt_base::LIMIT;
 use mvt_io::MemorySink;
 use mvt_message::{Cause, is_valid_item, item_len, put_item};
