@@ -5,14 +5,15 @@
 
 SHIM is the library built of refuse.c, MVT the executable that `rt ci` leaves. The tile and all that the
 commands answer for it are made here, from the format alone. A run answers as ever, or wants memory: then
-its status is 4, its line stands on the error stream, and on the output is nothing, or for `rewrite` and
-`extract` a front of the canonical bytes. The last line is 'N passed, M failed'.
+its status is 4, its line stands on the error stream, and on the output is nothing, or a front of the answer for
+`rewrite`, `extract` and `check` of files. The last line is 'N passed, M failed'.
 """
 
 import json
 import os
 import subprocess
 import sys
+import tempfile
 
 FEATURES = 305
 TIMEOUT_SECONDS = 60
@@ -60,17 +61,34 @@ def tile():
     return field(3, layer + number_field(5, 4096)), len(layer) + 3
 
 
+def compact(value):
+    return json.dumps(value, separators=(",", ":")).encode()
+
+
+def attributes(index):
+    return [["kind", {"uint": 7}], ["name", {"string": name_of(index)}]]
+
+
 def shown():
     features = [
-        {
-            "attributes": [["kind", {"uint": 7}], ["name", {"string": name_of(index)}]],
-            "geometry": {"points": [[index, -index]]},
-            "id": index,
-        }
+        {"attributes": attributes(index), "geometry": {"points": [[index, -index]]}, "id": index}
         for index in range(FEATURES)
     ]
-    layer = {"extent": 4096, "features": features, "name": "places"}
-    return json.dumps({"layers": [layer]}, separators=(",", ":")).encode() + b"\n"
+    return compact({"layers": [{"extent": 4096, "features": features, "name": "places"}]}) + b"\n"
+
+
+def drawn():
+    """The picture: a square for the layer, in the first colour, and in it a dot for each feature."""
+    style = (
+        b"path{fill:none;stroke:currentColor;stroke-width:.2%;stroke-linecap:round;stroke-linejoin:round}"
+        b".points{stroke-width:1%}.polygons{fill:currentColor;fill-opacity:.2;fill-rule:evenodd}"
+    )
+    text = b'<svg xmlns="http://www.w3.org/2000/svg" viewBox="0 0 1 1">\n<style>%s</style>\n' % style
+    text += b'<svg color="#0072b2" viewBox="0 0 4096 4096"><title>places</title>\n'
+    for index in range(FEATURES):
+        title = compact({"attributes": attributes(index), "id": index})
+        text += b'<path class="points" d="M%d %dh0"><title>%s</title></path>\n' % (index, -index, title)
+    return text + b"</svg>\n</svg>\n"
 
 
 def run(mvt, words, canonical, shim, refused):
@@ -114,17 +132,23 @@ def main():
     shim, mvt = os.path.abspath(sys.argv[1]), os.path.abspath(sys.argv[2])
     canonical, length = tile()
     report = b"ok layers 1 features %d canonical yes\n" % FEATURES
+    folder = tempfile.TemporaryDirectory()
+    file = os.path.join(folder.name, "tile")
+    with open(file, "wb") as out:
+        out.write(canonical)
     commands = [
         (["fields"], b"0 3 len %d\n" % length, True),
         (["show"], shown(), True),
+        (["draw"], drawn(), True),
         (["check"], report, True),
+        (["check", file], os.fsencode(file) + b": " + report, False),
         ([], report, True),
         (["rewrite"], canonical, False),
         (["extract", "places"], canonical, False),
     ]
     passed = failed = 0
     for words, written, is_made_whole in commands:
-        line = " ".join(["mvt", *words])
+        line = " ".join(["mvt", *("FILE" if word == file else word for word in words)])
         why, runs = sweep(mvt, words, canonical, shim, written, is_made_whole)
         if why is None:
             passed += 1
