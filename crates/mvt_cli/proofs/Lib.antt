@@ -1,10 +1,3 @@
-mod CheckLemmas
-mod FolderLemmas
 mod Commands
-mod Fronts
-mod Inputs
+mod Idle
 mod Lines
-mod MarkLemmas
-mod OneReply
-mod Picks
-mod Replies

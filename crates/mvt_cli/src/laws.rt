@@ -1,21 +1,8 @@
 //! Laws about the definitions alone: functions without effect, whose contract is the law.
 ghost use Rattle.std.specs.Prelude.{◌≡◌, ℕ, List, [], ◌∷◌, codes};
-ghost use Rattle.mvt_cli.specs.declared.reply.Reply.{Reply as AReply};
-ghost use Rattle.mvt_cli.specs.declared.words.Task.{Task as ATask};
-ghost use Rattle.mvt_cli.specs.Output.{IsReply};
 ghost use Rattle.mvt_cli.specs.Words.{files_in, task_in};
 
-use crate::words::Task;
-use mvt_base::LIMIT;
-
-/// A task has one reply for each input.
-pub fn one_reply()
-    ensures there { (task : ATask) (input : List ℕ) → (reply : AReply) × IsReply LIMIT task input reply }
-    ensures once { (task : ATask) (input : List ℕ) (a b : AReply)
-        → IsReply LIMIT task input a → IsReply LIMIT task input b → a ≡ b }
-{
-    mvt_tile::laws::tile_or_fault();
-}
+use mvt_tasks::Task;
 
 /// The lines ask for what they name, whatever the program's own name is.
 pub fn lines_ask()

@@ -1,28 +1,14 @@
 //! The program `mvt`: lists, shows, draws, checks, rewrites and extracts Mapbox Vector Tiles.
 #![tactic(auto)]
 
-mod checking;
-mod extraction;
-mod failure;
-mod files;
-mod folder;
 mod laws;
-mod listing;
-mod marks;
-mod memory;
-mod names;
-mod refusal;
-mod reply;
-mod rewriting;
 mod run;
-mod tally;
 #[cfg(test)]
 mod tests;
-mod viewing;
 mod words;
 
-use folder::Disk;
 use mvt_io::Host;
+use mvt_tasks::Disk;
 use run::{refuse, run};
 use std::process::ExitCode;
 use words::arguments;

@@ -7,9 +7,9 @@ mod lines;
 mod refusals;
 mod tiles;
 
-use super::memory::MemoryFolder;
 use super::run::run;
 use mvt_io::{MemorySink, MemorySource};
+use mvt_tasks::MemoryFolder;
 use std::alloc::{AllocError, Global};
 use std::process::Abort;
 

@@ -5,29 +5,12 @@ ghost use Rattle.clap.specs.Words.{app_of, found_of, new_app, rows_of, subcomman
 ghost use Rattle.mvt_cli.specs.Words.{mvt, extract_app, check_app, task_in, task_named as named, task_of_subcommand, texts_given, faults_in, files_in, files_named as named_files, files_of_subcommand};
 ghost use Rattle.mvt_cli.specs.Refused.{IsUsage};
 
-use crate::names::Names;
 use clap::error::ErrorKind;
 use clap::{Arg, ArgAction, ArgMatches, Command};
+use mvt_tasks::{Names, Task};
 use std::alloc::{AllocError, Global};
 use std::rt::Env;
 use std::{env, io};
-
-/// What a line asks for.
-#[derive(Debug, Drop)]
-pub enum Task {
-    /// The top-level fields of the input, a line each.
-    Fields,
-    /// The tile as JSON.
-    Show,
-    /// The tile as a picture.
-    Draw,
-    /// Whether the tile is accepted, and what is noted of it.
-    Check,
-    /// The tile in canonical form.
-    Rewrite,
-    /// The named layers in canonical form.
-    Extract(Names),
-}
 
 /// What a line asks for, and the files that it names, which are then checked in place of the input.
 #[derive(Debug, Drop)]

@@ -1,13 +1,13 @@
 //! The command `check` over files in memory.
 ghost use Rattle.std.specs.Prelude.{◌≡◌, ◌≢◌, [], Some, map, string_bytes};
 ghost use Rattle.mvt_io.specs.Counts.{HasFailed};
-ghost use Rattle.mvt_cli.specs.Checks.{IsToldOfAll};
-ghost use Rattle.mvt_cli.specs.Folders.{held_in};
+ghost use Rattle.mvt_tasks.specs.Checks.{IsToldOfAll};
+ghost use Rattle.mvt_tasks.specs.Folders.{held_in};
 ghost use Rattle.mvt_cli.specs.Words.{faults_in, files_in};
 
 use super::*;
-use crate::memory::MemoryFile;
 use mvt_base::{LIMIT, Text};
+use mvt_tasks::MemoryFile;
 use std::test::Fail;
 
 // A tile, one that is refused, one that can't be opened, one whose second read fails, one with a

@@ -1,0 +1,65 @@
+-- The first bytes of an input, one more than the limit, tell the same as the whole of it.
+use Rattle.std.proofs.Common.{◌≡◌, ℕ, ◌+◌, ◌≤◌, inl, inr, List, length, take, min, nat_lt, sym, ap, ap₂, subst, ◌∙◌, arith, Option, Some, None, Bool, true}
+use Rattle.std.proofs.lemmas.List.{length-take, take-take, take_all}
+use Rattle.std.proofs.lemmas.Bool.{cases_lt}
+use Rattle.std.proofs.lemmas.Bool.Decides.{nat_tests}
+use Rattle.std.specs.Prelude.{IfSome, ◌++◌, codes, if◌then◌else◌}
+use Rattle.std.specs.Option.{option_map}
+use Rattle.mvt_base.specs.Rules.{first}
+use Rattle.mvt_tile.specs.declared.fault.Fault.{Fault}
+use Rattle.mvt_tile.specs.TileRules.{fault_within, beyond, tile_rules}
+use Rattle.mvt_view.specs.FaultLines.{fault_line}
+use Rattle.mvt_view.specs.FieldLines.{fields_lines, fields_fault}
+use Rattle.mvt_tasks.specs.declared.reply.Reply.{Reply}
+use Rattle.mvt_tasks.specs.declared.task.Task.TheVariants.{Check}
+use Rattle.mvt_tasks.specs.Output.{IsReply, fields_reply}
+
+take_front : (n : ℕ) (xs : List ℕ) → take n (take (n + 1) xs) ≡ take n xs
+take_front n xs = take-take n (n + 1) xs (omega arith)
+
+too_long : (n : ℕ) (xs : List ℕ) → nat_lt n (length (take (n + 1) xs)) ≡ nat_lt n (length xs)
+too_long n xs = simp length-take (grind (arith, nat_tests))
+
+abbrev judged : ℕ → List ℕ → Option Fault
+judged limit input = if nat_lt limit (length input) then beyond limit (first (tile_rules (take limit input))) else first (tile_rules input)
+
+judged-front : (limit : ℕ) (input : List ℕ) → judged limit (take (limit + 1) input) ≡ judged limit input
+judged-front limit input = elim (cases_lt limit (length input)) [
+  | inl longer ↦
+      let whole : nat_lt limit (length input) ≡ nat_lt limit (length (take (limit + 1) input)) = sym (too_long limit input) in
+      let over : nat_lt limit (length input) ≡ true = grind (arith, nat_tests) in
+      ap₂ (λ (b : Bool) (front : List ℕ). if b then beyond limit (first (tile_rules front)) else first (tile_rules (take (limit + 1) input)))
+      (sym whole ∙ over) (take_front limit input)
+      ∙ sym (ap (λ (b : Bool). if b then beyond limit (first (tile_rules (take limit input))) else first (tile_rules input)) over)
+  | inr short ↦ ap (judged limit) (take_all (limit + 1) input (omega arith))
+]
+
+fault-front : (limit : ℕ) (input : List ℕ) → fault_within limit (take (limit + 1) input) ≡ fault_within limit input
+unfolding fault_within
+fault-front limit input = judged-front limit input
+
+-- an input within the limit is the whole of it
+whole-front : (limit : ℕ) (input : List ℕ) → length (take (limit + 1) input) ≤ limit → take (limit + 1) input ≡ input
+whole-front limit input small =
+    take_all (limit + 1) input (let long : min (limit + 1) (length input) ≤ limit = subst (λ n. n ≤ limit) (length-take (limit + 1) input) small in omega arith)
+
+pub listed : (limit : ℕ) (left : Option (List ℕ)) (bytes slice : List ℕ) (reply : Reply)
+    → ((n : ℕ) (input : List ℕ) → fields_lines n (take (n + 1) input) ≡ fields_lines n input)
+    → ((n : ℕ) (input : List ℕ) → fields_fault n (take (n + 1) input) ≡ fields_fault n input)
+    → IfSome left (λ input. bytes ≡ take (limit + 1) input) → slice ≡ bytes → reply ≡ fields_reply limit slice → IfSome left (λ input. reply ≡ fields_reply limit input)
+listed limit None bytes slice reply lines fault read same is = tt
+listed limit (Some input) bytes slice reply lines fault read same is =
+    is ∙ ap (fields_reply limit) (same ∙ read)
+    ∙ ap₂ (λ text told. record { written = Some text; told = option_map (λ f. fault_line f ++ codes "\n") told }) (lines limit input) (fault limit input)
+
+told-front : (limit : ℕ) (input : List ℕ) (reply : Reply) → IsReply limit Check (take (limit + 1) input) reply → IsReply limit Check input reply
+told-front limit input reply (inl (tile, is_tile, is)) =
+    let whole = whole-front limit input is_tile.small in
+    subst (λ bytes. IsReply limit Check bytes reply) whole (inl (tile, is_tile, is))
+told-front limit input reply (inr (fault, first_is, is)) = inr (fault, sym (fault-front limit input) ∙ first_is, is)
+
+pub checked : (limit : ℕ) (left : Option (List ℕ)) (bytes slice : List ℕ) (reply : Reply)
+    → IfSome left (λ input. bytes ≡ take (limit + 1) input) → slice ≡ bytes → IsReply limit Check slice reply → IfSome left (λ input. IsReply limit Check input reply)
+checked limit None bytes slice reply read same is = tt
+checked limit (Some input) bytes slice reply read same is =
+    told-front limit input reply (subst (λ b. IsReply limit Check b reply) (same ∙ read) is)

@@ -1,0 +1,7 @@
+mod CheckLemmas
+mod FolderLemmas
+mod Fronts
+mod MarkLemmas
+mod OneReply
+mod Picks
+mod Replies

@@ -1,0 +1,7 @@
+use Rattle.std.proofs.lemmas.Result.{IfOk-weaker}
+use Rattle.mvt_tasks.proofs.Fronts.{checked}
+use Rattle.mvt_tasks.proofs.checking.check.Goals as goal
+
+pub returns-clause-reply : goal.returns-clause-reply
+returns-clause-reply g c =
+    IfOk-weaker c.checked.result _ _ (λ reply is. checked _ (g.R.Source.left c.args.reader.now) _ _ reply c.in_ok-input.ensures.bytes c.deref.ensures.value is) c.checked.ensures.reply

@@ -1,0 +1,23 @@
+use Rattle.std.proofs.Common.{rules, ◌≡◌, ◌++◌, ◌∷◌, [], None, true, false, bytes_eq, take, drop, suc, sym, ap, subst, ◌∙◌}
+use Rattle.std.proofs.lemmas.List.{take_more}
+use Rattle.std.proofs.Math.Seq.{split_at}
+use Rattle.mvt_tasks.specs.Folders.{file_named}
+use Rattle.mvt_tasks.proofs.FolderLemmas.{held_here, held_read, unnamed_next}
+use Rattle.mvt_tasks.proofs.memory.opened.Goals as goal
+
+pub returns-then-eq-clause-bytes : goal.returns-then-eq-clause-bytes
+returns-then-eq-clause-bytes c =
+    held_read c.reader_of.result _ _
+    (held_here c.args.files.now (take c.loop-file.file-index c.args.files.now) c.file-item.result (drop (suc c.loop-file.file-index) c.args.files.now) c.args.name.now
+    (split_at c.args.files.now c.loop-file.file-index c.file-item.result c.loop-file-test.true
+    ∙ ap (λ y. take c.loop-file.file-index c.args.files.now ++ y ∷ drop (suc c.loop-file.file-index) c.args.files.now) (sym c.file-item.is))
+    c.loop-file.invariant
+    (let e : bytes_eq c.file-item.result.name c.args.name.now ≡ true = search rules in e))
+    c.reader_of.ensures.bytes
+
+pub loop-file-preserved : goal.loop-file-preserved
+loop-file-preserved c =
+    subst (λ files. file_named files c.args.name.now ≡ None)
+    (sym (take_more c.args.files.now c.loop-file.file-index c.file-item.result c.loop-file-test.true ∙ ap (λ y. take c.loop-file.file-index c.args.files.now ++ y ∷ []) (sym c.file-item.is)))
+    (unnamed_next (take c.loop-file.file-index c.args.files.now) c.file-item.result c.args.name.now c.loop-file.invariant
+    (let e : bytes_eq c.file-item.result.name c.args.name.now ≡ false = search rules in e))

@@ -1,0 +1,170 @@
+-- What is said of files that are checked one after another.
+use Rattle.std.specs.Prelude.{◌≡◌, ℕ, ◌⊎◌, ◌≤◌, ◌==◌, List, [], ◌∷◌, ◌++◌, length, map, nat_lt, count_by, Bool, true, false, Option, Some, None, is_some, IfSome, codes, if◌then◌else◌, ⊤}
+use Rattle.std.specs.Fmt.{decimal}
+use Rattle.std.specs.List.{flat_map}
+use Rattle.std.specs.Io.KnownBytes.{Appends}
+use Rattle.mvt_base.specs.Related.{AreRelated}
+use Rattle.mvt_io.specs.Counts.{NoneFailed, counted, last_count}
+use Rattle.mvt_io.specs.Transfers.{TakesPrefix}
+use Rattle.mvt_tasks.specs.declared.failure.Failure.{Failure}
+use Rattle.mvt_tasks.specs.declared.failure.Failure.TheVariants.{Read, Write, Memory}
+use Rattle.mvt_tasks.specs.declared.folder.Visit.{Visit}
+use Rattle.mvt_tasks.specs.declared.reply.Reply.{Reply}
+use Rattle.mvt_tasks.specs.declared.tally.Tally.{Tally}
+use Rattle.mvt_tasks.specs.declared.tally.Verdict.{Verdict}
+use Rattle.mvt_tasks.specs.declared.tally.Verdict.TheVariants.{Accepted, Refused, Unread}
+use Rattle.mvt_tasks.specs.declared.task.Task.TheVariants.{Check}
+use Rattle.mvt_tasks.specs.Failures.{line_of, status_of}
+use Rattle.mvt_tasks.specs.Output.{IsReply}
+use Rattle.mvt_tasks.specs.Visits.{visit, Adds, AddsAll}
+
+-- a file, and what `check` answers for its bytes; no answer where they couldn't be read
+pub record Checked : Type 0 where
+  pub name : List ℕ
+  pub reply : Option Reply
+
+-- the reply is that for what the file holds
+abbrev pub IsSaid : ℕ → Option (List ℕ) → Option Reply → Type 0
+IsSaid limit held None = ⊤
+IsSaid limit held (Some reply) = IfSome held (λ input. IsReply limit Check input reply)
+
+-- each name's file, in order, with its reply
+abbrev pub AreChecked : ℕ → (List ℕ → Option (List ℕ)) → List (List ℕ) → List Checked → Type 0
+AreChecked limit holds names files = AreRelated (λ name (file : Checked). (file.name ≡ name) × IsSaid limit (holds name) file.reply) names files
+
+-- a file without a reply is one that couldn't be read
+abbrev pub visit_of : List ℕ → Option Reply → Visit
+visit_of name reply = visit name (is_some reply)
+
+-- a text with a mark before each of its lines; it begins with a line, or in the midst of one
+abbrev pub marked : List ℕ → Bool → List ℕ → List ℕ
+marked mark is_start [] = []
+marked mark is_start (b ∷ bs) = (if is_start then mark else []) ++ (b ∷ marked mark (b == 10) bs)
+
+abbrev pub marked_text : List ℕ → Option (List ℕ) → List ℕ
+marked_text name None = []
+marked_text name (Some text) = marked (name ++ codes ": ") true text
+
+abbrev pub text_of : Option Reply → Option (List ℕ)
+text_of None = None
+text_of (Some reply) = reply.written
+
+abbrev pub line_told : Option Reply → Option (List ℕ)
+line_told None = Some (codes "read failed\n")
+line_told (Some reply) = reply.told
+
+-- what goes to the output, and what goes to the error stream, each line behind the file's name
+unfoldable pub written_of : Checked → List ℕ
+written_of file = marked_text file.name (text_of file.reply)
+
+unfoldable pub told_of : Checked → List ℕ
+told_of file = marked_text file.name (line_told file.reply)
+
+abbrev pub verdict_told : Option (List ℕ) → Verdict
+verdict_told None = Accepted
+verdict_told (Some line) = Refused
+
+-- a tile for which a line is told is refused
+abbrev pub verdict_of : Option Reply → Verdict
+verdict_of None = Unread
+verdict_of (Some reply) = verdict_told reply.told
+
+abbrev pub is_accepted : Verdict → Bool
+is_accepted Accepted = true
+is_accepted Refused = false
+is_accepted Unread = false
+
+abbrev pub is_refused : Verdict → Bool
+is_refused Accepted = false
+is_refused Refused = true
+is_refused Unread = false
+
+abbrev pub is_unread : Verdict → Bool
+is_unread Accepted = false
+is_unread Refused = false
+is_unread Unread = true
+
+abbrev pub count_of : (Verdict → Bool) → List Checked → ℕ
+count_of test files = count_by (λ (file : Checked). test (verdict_of file.reply)) files
+
+abbrev pub tally_of : List Checked → Tally
+tally_of files = record { accepted = count_of is_accepted files; refused = count_of is_refused files; unread = count_of is_unread files }
+
+-- 3 where a file was unread, else 1 where a tile was refused
+abbrev pub status_after : Tally → ℕ
+status_after tally = if nat_lt 0 tally.unread then 3 else (if nat_lt 0 tally.refused then 1 else 0)
+
+-- of more than one file, how many there were of each kind
+unfoldable pub summary : ℕ → Tally → List ℕ
+summary all tally =
+    if nat_lt 1 all
+    then codes "mvt: " ++ (decimal all
+    ++ (codes " tiles: " ++ (decimal tally.accepted
+    ++ (codes " accepted, " ++ (decimal tally.refused
+    ++ (codes " refused, " ++ (decimal tally.unread ++ codes " unread\n")))))))
+    else []
+
+-- a count of failed calls, and a later one; a count may stand where it stops
+abbrev pub IsLater : ℕ → ℕ → Type 0
+IsLater old new = (old ≤ new) ⊎ (last_count ≤ new)
+
+-- the error stream grew by a text, unless one of its writes failed
+pub record Tells (failed_old failed_new : ℕ) (old new : Option (List ℕ)) (text : List ℕ) : Type 0 where
+  pub counts : IsLater failed_old failed_new
+  pub tells : NoneFailed failed_old failed_new → Appends old new text
+
+-- the files of these names were checked, each once and in order, and all was put out that there is to say of them, and on
+-- the error stream one line more
+pub record IsSaidOf (limit : ℕ) (holds : List ℕ → Option (List ℕ)) (names : List (List ℕ)) (visits_old visits_new : Option (List Visit))
+    (output_old output_new : Option (List ℕ)) (failed_old failed_new : ℕ) (errors_old errors_new : Option (List ℕ)) (line : List ℕ) (tally : Tally) : Type 0 where
+  pub files : List Checked
+  pub checked : AreChecked limit holds names files
+  pub visited : AddsAll visits_old visits_new (map (λ file. visit_of file.name file.reply) files)
+  pub written : Appends output_old output_new (flat_map written_of files)
+  pub told : Tells failed_old failed_new errors_old errors_new (flat_map told_of files ++ line)
+  pub counted : tally ≡ tally_of files
+
+-- the same of one file
+pub record IsSaidOfOne (limit : ℕ) (holds : List ℕ → Option (List ℕ)) (name : List ℕ) (visits_old visits_new : Option (List Visit))
+    (output_old output_new : Option (List ℕ)) (failed_old failed_new : ℕ) (errors_old errors_new : Option (List ℕ)) (verdict : Verdict) : Type 0 where
+  pub reply : Option Reply
+  pub checked : IsSaid limit (holds name) reply
+  pub visited : Adds visits_old visits_new (visit_of name reply)
+  pub written : Appends output_old output_new (written_of (record { name = name; reply = reply }))
+  pub told : Tells failed_old failed_new errors_old errors_new (told_of (record { name = name; reply = reply }))
+  pub judged : verdict ≡ verdict_of reply
+
+-- a run ends before its last file only where a write failed, or for want of memory
+abbrev pub IsOver : Type 0 → Failure → Type 0
+IsOver WriteFailed Read = ⊥
+IsOver WriteFailed Write = WriteFailed
+IsOver WriteFailed Memory = ⊤
+
+-- what was taken of a text when a run was over: a front after a failed write, and all of it where memory was wanting
+abbrev pub TakesUntil : Option (List ℕ) → Option (List ℕ) → List ℕ → Failure → Type 0
+TakesUntil old new text Read = ⊥
+TakesUntil old new text Write = TakesPrefix old new text
+TakesUntil old new text Memory = Appends old new text
+
+-- a run that was over early: the files of a front of the names were checked, in order, and what there is to say of them was taken
+pub record IsCutShort (limit : ℕ) (holds : List ℕ → Option (List ℕ)) (names : List (List ℕ)) (output_old output_new : Option (List ℕ)) (failure : Failure) : Type 0 where
+  pub front : List (List ℕ)
+  pub rest : List (List ℕ)
+  pub files : List Checked
+  pub of_names : names ≡ front ++ rest
+  pub checked : AreChecked limit holds front files
+  pub taken : TakesUntil output_old output_new (flat_map written_of files) failure
+
+-- the error stream grew by some lines
+abbrev pub TellsSome : ℕ → ℕ → Option (List ℕ) → Option (List ℕ) → Type 0
+TellsSome failed_old failed_new old new = (lines : List ℕ) × Tells failed_old failed_new old new lines
+
+-- all is said of the files of these names, the output was flushed once, and the status tells how they were judged; or the
+-- run was over before, with a front of this on the output, which the last line tells
+abbrev pub IsToldOfAll : ℕ → (List ℕ → Option (List ℕ)) → List (List ℕ) → Option (List Visit) → Option (List Visit) → Option (List ℕ) → Option (List ℕ) → ℕ → ℕ → Type 0
+    → ℕ → ℕ → Option (List ℕ) → Option (List ℕ) → ℕ → Type 0
+IsToldOfAll limit holds names visits_old visits_new output_old output_new flushes_old flushes_new WriteFailed failed_old failed_new errors_old errors_new status =
+    ((tally : Tally) × IsSaidOf limit holds names visits_old visits_new output_old output_new failed_old failed_new errors_old errors_new (summary (length names) tally) tally
+    × (flushes_new ≡ counted flushes_old) × (status ≡ status_after tally))
+    ⊎ ((failure : Failure) × IsOver WriteFailed failure × (status ≡ status_of failure) × IsCutShort limit holds names output_old output_new failure
+    × ((lines : List ℕ) × (NoneFailed failed_old failed_new → Appends errors_old errors_new (lines ++ line_of failure))))

@@ -1,0 +1,22 @@
+-- Files in memory, and what was asked of them.
+use Rattle.std.specs.Prelude.{ℕ, List, find, bytes_eq, Option, Some, None}
+use Rattle.std.specs.Option.{option_map}
+use Rattle.mvt_tasks.specs.declared.folder.Visit.{Visit}
+use Rattle.mvt_tasks.specs.declared.memory.MemoryFile.{MemoryFile}
+
+-- a folder's files, and the visits to it, where they are known
+pub record FolderState : Type 0 where
+  pub files : List MemoryFile
+  pub visits : Option (List Visit)
+
+-- the first file of a name
+abbrev pub file_named : List MemoryFile → List ℕ → Option MemoryFile
+file_named files name = find (λ (file : MemoryFile). bytes_eq file.name name) files
+
+abbrev pub bytes_of : Option MemoryFile → Option (List ℕ)
+bytes_of None = None
+bytes_of (Some file) = option_map (λ bytes. bytes.items) file.bytes
+
+-- what the file of a name holds; nothing where there is none, or where it can't be opened
+abbrev pub held_in : List MemoryFile → List ℕ → Option (List ℕ)
+held_in files name = bytes_of (file_named files name)

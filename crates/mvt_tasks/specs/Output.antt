@@ -1,0 +1,148 @@
+-- What a run puts on its output and its error stream, and its status.
+use Rattle.std.specs.Prelude.{◌≡◌, ℕ, ◌⊎◌, List, ◌++◌, length, nat_lt, find, not, Bool, Option, Some, None, bytes_eq, if◌then◌else◌, codes, true, false, MatchOption, IsSome, ⊤}
+use Rattle.std.specs.Option.{option_map}
+use Rattle.std.specs.List.{list_any}
+use Rattle.serde_json.specs.Written.{compact_text}
+use Rattle.mvt_tile.specs.declared.fault.Fault.{Fault}
+use Rattle.mvt_tile.specs.declared.tile.Tile.{Tile}
+use Rattle.mvt_tile.specs.CanonicalTiles.{canonical}
+use Rattle.mvt_tile.specs.Extraction.{is_named, pick}
+use Rattle.mvt_tile.specs.TileRules.{fault_within}
+use Rattle.mvt_tile.specs.Tiles.{IsTile}
+use Rattle.mvt_view.specs.FaultLines.{fault_line}
+use Rattle.mvt_view.specs.FieldLines.{fields_lines, fields_fault}
+use Rattle.mvt_view.specs.JsonForms.{json}
+use Rattle.mvt_view.specs.Reports.{report_lines}
+use Rattle.mvt_view.specs.Svg.{svg}
+use Rattle.mvt_tasks.specs.declared.reply.Reply.{Reply}
+use Rattle.mvt_tasks.specs.declared.viewing.View.{View}
+use Rattle.mvt_tasks.specs.declared.viewing.View.TheVariants.{Json, Svg}
+use Rattle.mvt_tasks.specs.declared.task.Task.{Task}
+use Rattle.mvt_tasks.specs.declared.task.Task.TheVariants.{Fields, Show, Draw, Check, Rewrite, Extract}
+
+-- a text is written, and no line is told
+abbrev pub done : List ℕ → Reply
+done text = record { written = Some text; told = None }
+
+-- nothing is written, and a line is told, which ends in a line feed
+abbrev pub refused : List ℕ → Reply
+refused line = record { written = None; told = Some line }
+
+-- the lines of the fields, and the line of the fault behind them
+abbrev pub fields_reply : ℕ → List ℕ → Reply
+fields_reply limit input = record {
+  written = Some (fields_lines limit input);
+  told = option_map (λ fault. fault_line fault ++ codes "\n") (fields_fault limit input);
+}
+
+-- the JSON, and a line feed
+abbrev pub json_lines : Tile → List ℕ
+json_lines tile = compact_text (json tile) ++ codes "\n"
+
+-- the picture, and a line feed
+abbrev pub svg_lines : Tile → List ℕ
+svg_lines tile = svg tile ++ codes "\n"
+
+-- the text of a view
+abbrev pub view_lines : View → Tile → List ℕ
+view_lines Json tile = json_lines tile
+view_lines Svg tile = svg_lines tile
+
+-- the report, which says yes exactly where the input is the tile's canonical bytes
+abbrev pub check_lines : List ℕ → Tile → List ℕ
+check_lines input tile = report_lines tile (bytes_eq input (canonical tile))
+
+-- the canonical bytes, or the line of a result that is too large
+unfoldable pub bytes_reply : ℕ → Tile → Reply
+bytes_reply limit tile =
+    if nat_lt limit (length (canonical tile)) then refused (codes "mvt: result larger than 67108864 bytes\n") else done (canonical tile)
+
+-- no layer of version 2 has the name
+abbrev pub is_missing : Tile → List ℕ → Bool
+is_missing tile name = not (list_any (is_named name) tile.items)
+
+-- the line of a layer that isn't there
+abbrev pub missing_line : List ℕ → List ℕ
+missing_line name = codes "mvt: layer not found: " ++ (name ++ codes "\n")
+
+abbrev pub layers_reply_or : Option (List ℕ) → Reply → Reply
+layers_reply_or None reply = reply
+layers_reply_or (Some name) reply = refused (missing_line name)
+
+-- the canonical bytes of the named layers, or the line of the first name that isn't there
+abbrev pub layers_reply : ℕ → List (List ℕ) → Tile → Reply
+layers_reply limit names tile = layers_reply_or (find (is_missing tile) names) (bytes_reply limit (pick tile names))
+
+-- the reply for an input that is a tile, or the line of its fault
+abbrev pub IsTold : ℕ → (Tile → Reply) → List ℕ → Reply → Type 0
+IsTold limit of_tile input reply =
+    ((tile : Tile) × IsTile limit input tile × (reply ≡ of_tile tile))
+    ⊎ ((fault : Fault) × (fault_within limit input ≡ Some fault) × (reply ≡ refused (fault_line fault ++ codes "\n")))
+
+-- what a task answers for an input
+abbrev pub IsReply : ℕ → Task → List ℕ → Reply → Type 0
+IsReply limit Fields input reply = reply ≡ fields_reply limit input
+IsReply limit Show input reply = IsTold limit (λ tile. done (json_lines tile)) input reply
+IsReply limit Draw input reply = IsTold limit (λ tile. done (svg_lines tile)) input reply
+IsReply limit Check input reply = IsTold limit (λ tile. done (check_lines input tile)) input reply
+IsReply limit Rewrite input reply = IsTold limit (bytes_reply limit) input reply
+IsReply limit (Extract names) input reply = IsTold limit (layers_reply limit names) input reply
+
+-- the text that is made of the tile that an input is
+abbrev pub IsOf : ℕ → (Tile → List ℕ) → List ℕ → List ℕ → Type 0
+IsOf limit of_tile input text = (tile : Tile) × IsTile limit input tile × (text ≡ of_tile tile)
+
+-- all that a task writes for an input, where nothing keeps it from that
+abbrev pub IsWhole : ℕ → Task → List ℕ → List ℕ → Type 0
+IsWhole limit Fields input text = text ≡ fields_lines limit input
+IsWhole limit Show input text = IsOf limit json_lines input text
+IsWhole limit Draw input text = IsOf limit svg_lines input text
+IsWhole limit Check input text = IsOf limit (check_lines input) input text
+IsWhole limit Rewrite input text = IsOf limit canonical input text
+IsWhole limit (Extract names) input text = IsOf limit (λ tile. canonical (pick tile names)) input text
+
+-- the text is made whole before its first byte is written
+abbrev pub is_made_whole : Task → Bool
+is_made_whole Fields = true
+is_made_whole Show = true
+is_made_whole Draw = true
+is_made_whole Check = true
+is_made_whole Rewrite = false
+is_made_whole (Extract names) = false
+
+-- of a task that reads its input whole before it works
+abbrev pub IfReadWhole : Task → Type 0 → Type 0
+IfReadWhole Fields P = P
+IfReadWhole Show P = ⊤
+IfReadWhole Draw P = ⊤
+IfReadWhole Check P = P
+IfReadWhole Rewrite P = ⊤
+IfReadWhole (Extract names) P = ⊤
+
+-- a line is told exactly with status 1
+abbrev pub status_with : Option (List ℕ) → ℕ
+status_with None = 0
+status_with (Some line) = 1
+
+-- the text of a reply was put out; of a reply without a text the output stayed as it was
+abbrev pub PutsOut : Type 0 → (List ℕ → Type 0) → Reply → Type 0
+PutsOut Untouched Writes reply = MatchOption reply.written Untouched Writes
+
+-- what was told, and what was put out, is a reply of the task
+abbrev pub Answers : ℕ → Task → Option (List ℕ) → Type 0 → (List ℕ → Type 0) → List ℕ → Type 0
+Answers limit task told Untouched Writes input =
+    (reply : Reply) × IsReply limit task input reply × (told ≡ reply.told) × PutsOut Untouched Writes reply
+
+-- the status, what was told and what was put out are a reply of the task
+abbrev pub Gives : ℕ → Task → ℕ → Type 0 → (List ℕ → Type 0) → Type 0 → (List ℕ → Type 0) → List ℕ → Type 0
+Gives limit task status Untouched Writes Silent Tells input =
+    (reply : Reply) × IsReply limit task input reply × (status ≡ status_with reply.told)
+    × PutsOut Untouched Writes reply × MatchOption reply.told Silent Tells
+
+-- a complete output was flushed; where a line is told the output may also have stayed as it was
+abbrev pub IsFlushed : Type 0 → Type 0 → Option (List ℕ) → Type 0
+IsFlushed Untouched Flushed told = MatchOption told Flushed (λ line. Untouched ⊎ Flushed)
+
+-- a reply without a line has a text
+abbrev pub HasOutput : Reply → Type 0
+HasOutput reply = MatchOption reply.told (IsSome reply.written) (λ line. ⊤)

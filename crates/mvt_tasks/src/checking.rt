@@ -1,0 +1,59 @@
+//! The command `check`.
+ghost use Rattle.std.specs.Prelude.{◌≡◌, ◌+◌, ◌≤◌, max, length, IfOk, IfErr, IfSome, OnOk};
+ghost use Rattle.mvt_io.specs.Transfers.{TakesAtMost};
+ghost use Rattle.mvt_tile.specs.ValidTiles.{Valid};
+ghost use Rattle.mvt_tasks.specs.Failures.{EndsFailed, IsCaused};
+ghost use Rattle.mvt_tasks.specs.Output.{IsReply, HasOutput, done, check_lines};
+
+use crate::failure::Failure;
+use crate::refusal::refusal;
+use crate::reply::Reply;
+use crate::task::Task;
+use mvt_base::{LIMIT, Text};
+use mvt_io::{Source, read_all};
+use mvt_tile::{Tile, decode, is_canonical};
+use mvt_view::report_text;
+use std::alloc::Global;
+
+/// Checks a tile, and reports on it.
+pub fn check<R: Source>(alloc: Global, reader: &mut R) -> Result<Reply, Failure>
+    ensures reply { IfOk result (λ reply. IfSome (R.left reader.old) (λ input. IsReply LIMIT Task.Check input reply)) }
+    ensures output { IfOk result HasOutput }
+    ensures failed { IfErr result (IsCaused (EndsFailed (R.failed reader.old) (R.failed reader.new) (R.ended reader.new))
+        ⊥ (R.failed reader.new ≡ R.failed reader.old)) }
+    ensures sound { OnOk result (R.failed reader.new ≡ R.failed reader.old) }
+    ensures reads { R.reads reader.new ≤ R.reads reader.old + 67108866 }
+    ensures asked { R.asked reader.new ≤ max (R.asked reader.old) 65536 }
+    ensures leaves { TakesAtMost (LIMIT + 1) (R.left reader.old) (R.left reader.new) }
+{
+    let input = read_all(alloc, reader)?;
+    checked(alloc, &input)
+}
+
+fn checked(alloc: Global, input: &[u8]) -> Result<Reply, Failure>
+    ensures reply { IfOk result (IsReply LIMIT Task.Check input.now) }
+    ensures output { IfOk result HasOutput }
+    ensures failed { IfErr result (λ failure. failure ≡ Failure.Memory) }
+{
+    match decode(alloc, input) {
+        Ok(tile) => reported(alloc, &tile, input),
+        Err(error) => Ok(Reply {
+            written: None,
+            told: Some(refusal(alloc, error)?),
+        }),
+    }
+}
+
+fn reported(alloc: Global, tile: &Tile, input: &[u8]) -> Result<Reply, Failure>
+    requires valid { Valid tile.now }
+    requires small { length input.now ≤ LIMIT }
+    ensures reply { IfOk result (λ reply. reply ≡ done (check_lines input.now tile.now)) }
+    ensures failed { IfErr result (λ failure. failure ≡ Failure.Memory) }
+{
+    let canonical = is_canonical(alloc, tile, input)?;
+    let text = report_text(alloc, tile, canonical)?;
+    Ok(Reply {
+        written: Some(Text::from_string(text)?),
+        told: None,
+    })
+}

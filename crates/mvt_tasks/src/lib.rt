@@ -1,0 +1,36 @@
+//! What the program `mvt` does with tiles: it lists, shows, draws, checks, rewrites and extracts, over any reader and
+//! writer, and checks the files of any folder.
+#![tactic(auto)]
+
+mod answering;
+mod checking;
+mod extraction;
+mod failure;
+mod files;
+mod folder;
+pub mod laws;
+mod listing;
+mod marks;
+mod memory;
+mod names;
+mod refusal;
+mod reply;
+mod rewriting;
+mod tally;
+mod task;
+mod viewing;
+
+pub use answering::answer;
+pub use checking::check;
+pub use extraction::extract_layers;
+pub use failure::Failure;
+pub use files::check_files;
+pub use folder::{Disk, Folder, Visit};
+pub use listing::list_fields;
+pub use memory::{MemoryFile, MemoryFolder};
+pub use names::Names;
+pub use reply::{Reply, tell};
+pub use rewriting::rewrite;
+pub use tally::{Tally, Verdict};
+pub use task::Task;
+pub use viewing::{View, view_tile};

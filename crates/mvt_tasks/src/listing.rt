@@ -1,0 +1,46 @@
+//! The command `fields`.
+ghost use Rattle.std.specs.Prelude.{◌≡◌, ◌+◌, ◌≤◌, max, IfOk, IfErr, IfSome, OnOk};
+ghost use Rattle.mvt_io.specs.Transfers.{TakesAtMost};
+ghost use Rattle.mvt_tasks.specs.Failures.{EndsFailed, IsCaused};
+ghost use Rattle.mvt_tasks.specs.Output.{IsReply, fields_reply, HasOutput};
+
+use crate::failure::Failure;
+use crate::refusal::fault_told;
+use crate::reply::Reply;
+use crate::task::Task;
+use mvt_base::{LIMIT, Text};
+use mvt_io::{Source, read_all};
+use mvt_view::{FieldsText, fields_text};
+use std::alloc::Global;
+
+/// Lists the top-level fields of an input.
+pub fn list_fields<R: Source>(alloc: Global, reader: &mut R) -> Result<Reply, Failure>
+    ensures reply { IfOk result (λ reply. IfSome (R.left reader.old) (λ input. IsReply LIMIT Task.Fields input reply)) }
+    ensures output { IfOk result HasOutput }
+    ensures failed { IfErr result (IsCaused (EndsFailed (R.failed reader.old) (R.failed reader.new) (R.ended reader.new))
+        ⊥ (R.failed reader.new ≡ R.failed reader.old)) }
+    ensures sound { OnOk result (R.failed reader.new ≡ R.failed reader.old) }
+    ensures reads { R.reads reader.new ≤ R.reads reader.old + 67108866 }
+    ensures asked { R.asked reader.new ≤ max (R.asked reader.old) 65536 }
+    ensures leaves { TakesAtMost (LIMIT + 1) (R.left reader.old) (R.left reader.new) }
+{
+    mvt_view::laws::front_tells();
+    let input = read_all(alloc, reader)?;
+    listed(alloc, &input)
+}
+
+/// The line of the fault is made before anything is put out.
+fn listed(alloc: Global, input: &[u8]) -> Result<Reply, Failure>
+    ensures reply { IfOk result (λ reply. reply ≡ fields_reply LIMIT input.now) }
+    ensures failed { IfErr result (λ failure. failure ≡ Failure.Memory) }
+{
+    let FieldsText { lines, fault } = fields_text(alloc, input)?;
+    let told = match fault {
+        None => None,
+        Some(fault) => Some(fault_told(alloc, &fault)?),
+    };
+    Ok(Reply {
+        written: Some(Text::from_string(lines)?),
+        told,
+    })
+}

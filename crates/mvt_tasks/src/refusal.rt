@@ -1,0 +1,32 @@
+//! The lines that are told where a tile is refused.
+ghost use Rattle.std.specs.Prelude.{◌≡◌, ◌++◌, IfOk, IfErr, codes};
+ghost use Rattle.mvt_view.specs.FaultLines.{fault_line};
+ghost use Rattle.mvt_tasks.specs.Failures.{IsRefusal, refusal_failure};
+
+use crate::failure::Failure;
+use mvt_base::Text;
+use mvt_tile::{DecodeError, Fault};
+use mvt_view::fault_text;
+use std::alloc::Global;
+
+/// The line of a fault, with its line feed.
+pub(crate) fn fault_told(alloc: Global, fault: &Fault) -> Result<Text, Failure>
+    ensures line { IfOk result (λ line. line ≡ fault_line fault.now ++ codes "\n") }
+    ensures failed { IfErr result (λ failure. failure ≡ Failure.Memory) }
+{
+    let mut line = fault_text(alloc, fault)?;
+    line.push_str("\n")?;
+    Ok(Text::from_string(line)?)
+}
+
+/// The line of a tile that is refused, where it isn't memory or a read that failed.
+pub(crate) fn refusal(alloc: Global, error: DecodeError) -> Result<Text, Failure>
+    ensures line { IfOk result (IsRefusal error) }
+    ensures failed { IfErr result (λ failure. failure ≡ refusal_failure error) }
+{
+    match error {
+        DecodeError::Fault(fault) => fault_told(alloc, &fault),
+        DecodeError::Memory => Err(Failure::Memory),
+        DecodeError::Read(_) => Err(Failure::Read),
+    }
+}

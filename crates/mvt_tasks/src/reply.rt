@@ -1,0 +1,62 @@
+//! What a command answers, and how it is put out.
+ghost use Rattle.std.specs.Prelude.{◌≡◌, OnOk, OnErr, IfOk, IfErr};
+ghost use Rattle.std.specs.Io.KnownBytes.{Appends};
+ghost use Rattle.mvt_io.specs.Counts.{counted, NoneFailed};
+ghost use Rattle.mvt_io.specs.Transfers.{TakesPrefix};
+ghost use Rattle.mvt_tasks.specs.Failures.{EndsFailed};
+ghost use Rattle.mvt_tasks.specs.Output.{PutsOut};
+
+use crate::failure::Failure;
+use mvt_base::Text;
+use mvt_io::{Sink, write_all};
+
+/// What a command answers: the text for the output, if there is one, and the line for the error
+/// stream, if there is one. The status is 1 exactly where there is a line.
+#[derive(Debug, Drop)]
+pub struct Reply {
+    pub written: Option<Text>,
+    pub told: Option<Text>,
+}
+
+/// Puts the text of a reply out, if there is one, and answers its line.
+///
+/// # Errors
+///
+/// Write, where a write or the flush fails; the writer has then taken a front of the text.
+pub(crate) fn deliver<W: Sink>(reply: Reply, writer: &mut W) -> Result<Option<Text>, Failure>
+    ensures told { IfOk result (λ told. told ≡ reply.told) }
+    ensures put { OnOk result (PutsOut (writer.new ≡ writer.old)
+        (λ text. Appends (W.taken writer.old) (W.taken writer.new) text
+        × (W.flushes writer.new ≡ counted (W.flushes writer.old))) reply) }
+    ensures prefix { OnErr result (PutsOut ⊥ (TakesPrefix (W.taken writer.old) (W.taken writer.new)) reply) }
+    ensures failed { IfErr result (λ failure. (failure ≡ Failure.Write)
+        × EndsFailed (W.failed writer.old) (W.failed writer.new) (W.ended writer.new)) }
+    ensures honest { OnOk result (W.failed writer.new ≡ W.failed writer.old) }
+{
+    let Reply { written, told } = reply;
+    if let Some(text) = written {
+        put_out(text.as_str(), writer)?;
+    }
+    Ok(told)
+}
+
+/// Puts a text out whole and flushes once.
+fn put_out<W: Sink>(text: &str, writer: &mut W) -> Result<(), Failure>
+    ensures taken { OnOk result (Appends (W.taken writer.old) (W.taken writer.new) text.now) }
+    ensures flushed { OnOk result (W.flushes writer.new ≡ counted (W.flushes writer.old)) }
+    ensures prefix { OnErr result (TakesPrefix (W.taken writer.old) (W.taken writer.new) text.now) }
+    ensures failed { IfErr result (λ failure. (failure ≡ Failure.Write)
+        × EndsFailed (W.failed writer.old) (W.failed writer.new) (W.ended writer.new)) }
+    ensures honest { OnOk result (W.failed writer.new ≡ W.failed writer.old) }
+{
+    write_all(writer, text.as_bytes()).map_err(|_| Failure::Write)?;
+    writer.flush().map_err(|_| Failure::Write)
+}
+
+/// Puts a line on the error stream, whose faults are ignored.
+pub fn tell<E: Sink>(errors: &mut E, line: &str)
+    ensures { NoneFailed (E.failed errors.old) (E.failed errors.new)
+        → Appends (E.taken errors.old) (E.taken errors.new) line.now }
+{
+    let _ = write_all(errors, line.as_bytes());
+}

@@ -1,0 +1,95 @@
+//! How the files of a run were judged.
+ghost use Rattle.std.specs.Prelude.{◌≡◌, ◌+◌, ◌^◌, ◌<◌, if◌then◌else◌, string_bytes, IfOk};
+ghost use Rattle.mvt_tasks.specs.Checks.{is_accepted, is_refused, is_unread, status_after, summary, verdict_of};
+
+use crate::reply::Reply;
+use std::alloc::{AllocError, Global};
+
+/// How a file was judged.
+#[derive(Clone, Copy, Debug, PartialEq, Eq)]
+pub enum Verdict {
+    Accepted,
+    Refused,
+    /// It couldn't be opened or read.
+    Unread,
+}
+
+impl Verdict {
+    /// The verdict on a file for which `check` answers this; nothing where it couldn't be read.
+    pub fn of(reply: &Option<Reply>) -> Self
+        ensures { result ≡ verdict_of reply.now }
+    {
+        match reply {
+            None => Verdict::Unread,
+            Some(reply) => match &reply.told {
+                None => Verdict::Accepted,
+                Some(_) => Verdict::Refused,
+            },
+        }
+    }
+}
+
+/// How many files there were of each verdict.
+#[derive(Clone, Copy, Debug)]
+pub struct Tally {
+    pub accepted: usize,
+    pub refused: usize,
+    pub unread: usize,
+}
+
+impl Tally {
+    pub fn none() -> Self
+        ensures { result ≡ record { accepted = 0; refused = 0; unread = 0 } }
+    {
+        Tally {
+            accepted: 0,
+            refused: 0,
+            unread: 0,
+        }
+    }
+
+    /// Counts one file more.
+    pub fn add(&mut self, verdict: Verdict)
+        requires { self.old.accepted + self.old.refused + self.old.unread + 1 < 2 ^ 64 }
+        ensures accepted { self.new.accepted ≡ self.old.accepted + (if is_accepted verdict then 1 else 0) }
+        ensures refused { self.new.refused ≡ self.old.refused + (if is_refused verdict then 1 else 0) }
+        ensures unread { self.new.unread ≡ self.old.unread + (if is_unread verdict then 1 else 0) }
+    {
+        match verdict {
+            Verdict::Accepted => self.accepted += 1,
+            Verdict::Refused => self.refused += 1,
+            Verdict::Unread => self.unread += 1,
+        }
+    }
+
+    /// The status of a run over such files.
+    pub fn status(self) -> u8
+        ensures { result ≡ status_after self }
+    {
+        if self.unread > 0 {
+            3
+        } else if self.refused > 0 {
+            1
+        } else {
+            0
+        }
+    }
+
+    /// The line that sums up so many files, with its line feed; nothing for less than two.
+    #[tactic(auto, unfolding(crate::specs::Checks::summary))]
+    pub fn line(self, alloc: Global, all: usize) -> Result<String, AllocError>
+        ensures { IfOk result (λ line. string_bytes line ≡ summary all self) }
+    {
+        let Tally {
+            accepted,
+            refused,
+            unread,
+        } = self;
+        if all < 2 {
+            return Ok(String::new(alloc));
+        }
+        format!(in alloc;
+            "mvt: {all} tiles: {accepted} accepted, {refused} refused, {unread} unread\n"
+        )
+    }
+}

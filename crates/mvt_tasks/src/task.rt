@@ -1,0 +1,20 @@
+//! What the program does with a tile.
+
+use crate::names::Names;
+
+/// What is done with an input.
+#[derive(Debug, Drop)]
+pub enum Task {
+    /// The top-level fields of the input, a line each.
+    Fields,
+    /// The tile as JSON.
+    Show,
+    /// The tile as a picture.
+    Draw,
+    /// Whether the tile is accepted, and what is noted of it.
+    Check,
+    /// The tile in canonical form.
+    Rewrite,
+    /// The named layers in canonical form.
+    Extract(Names),
+}

@@ -1,0 +1,54 @@
+//! The commands `show` and `draw`.
+ghost use Rattle.std.specs.Prelude.{◌≡◌, ◌+◌, ◌≤◌, max, IfOk, IfErr, IfSome, OnOk};
+ghost use Rattle.mvt_tasks.specs.Failures.{EndsFailed, IsCaused};
+ghost use Rattle.mvt_tasks.specs.Output.{IsTold, HasOutput, done, view_lines};
+
+use crate::failure::Failure;
+use crate::refusal::refusal;
+use crate::reply::Reply;
+use mvt_base::{LIMIT, Text};
+use mvt_io::Source;
+use mvt_tile::{Tile, read_tile};
+use mvt_view::{json_text, svg_text};
+use std::alloc::Global;
+
+/// The text that a tile is shown as.
+#[derive(Clone, Copy, Debug, PartialEq, Eq)]
+pub enum View {
+    Json,
+    Svg,
+}
+
+/// Reads a tile, and makes its text.
+pub fn view_tile<R: Source>(alloc: Global, view: View, reader: &mut R) -> Result<Reply, Failure>
+    ensures reply { IfOk result (λ reply. IfSome (R.left reader.old) (λ input. IsTold LIMIT (λ tile. done (view_lines view tile)) input reply)) }
+    ensures output { IfOk result HasOutput }
+    ensures failed { IfErr result (IsCaused (EndsFailed (R.failed reader.old) (R.failed reader.new) (R.ended reader.new))
+        ⊥ (R.failed reader.new ≡ R.failed reader.old)) }
+    ensures sound { OnOk result (R.failed reader.new ≡ R.failed reader.old) }
+    ensures reads { R.reads reader.new ≤ R.reads reader.old + 67108866 }
+    ensures asked { R.asked reader.new ≤ max (R.asked reader.old) 65536 }
+{
+    match read_tile(alloc, reader) {
+        Ok(tile) => viewed(alloc, view, &tile),
+        Err(error) => Ok(Reply {
+            written: None,
+            told: Some(refusal(alloc, error)?),
+        }),
+    }
+}
+
+fn viewed(alloc: Global, view: View, tile: &Tile) -> Result<Reply, Failure>
+    ensures reply { IfOk result (λ reply. reply ≡ done (view_lines view tile.now)) }
+    ensures failed { IfErr result (λ failure. failure ≡ Failure.Memory) }
+{
+    let mut text = match view {
+        View::Json => json_text(alloc, tile)?,
+        View::Svg => svg_text(alloc, tile)?,
+    };
+    text.push_str("\n")?;
+    Ok(Reply {
+        written: Some(Text::from_string(text)?),
+        told: None,
+    })
+}
