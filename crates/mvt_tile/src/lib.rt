@@ -1,4 +1,6 @@
 //! Mapbox vector tiles: reading, writing, streaming, extraction, notes.
+//!
+//! What a tile is made of is handed up here, so a caller names this crate alone.
 #![tactic(auto)]
 
 mod below;
@@ -28,7 +30,11 @@ pub use extract_error::ExtractError;
 pub use extraction::extract;
 pub use fault::{DecodeError, Fault};
 pub use judging::judge;
-pub use mvt_message::PutError;
+pub use mvt_attrs::{Attribute, Value};
+pub use mvt_base::{Items, LIMIT, Text};
+pub use mvt_feature::{Cause, Feature};
+pub use mvt_geometry::{Geometry, Kind, Point, Polygon};
+pub use mvt_message::{Item, Layer, PutError};
 pub use note::Note;
 pub use noting::notes;
 pub use reading::read_tile;
