@@ -1,12 +1,13 @@
 /* mvt: reads, judges and writes Mapbox Vector Tiles (Mapbox Vector Tile Specification 2.1).
  *
- * Each call answers a status. Where it is MVT_OK the result was put where the last parameters say; else these
- * stay as they were, but for the fault of a tile that is refused. What a call hands out is memory of malloc,
- * which belongs to the caller: give it back by mvt_bytes_free or mvt_tile_free. Nothing is shared between
- * calls, so any number of threads may call at a time.
+ * Each call answers a status. It writes `out` where that is MVT_OK, and `fault` where it is MVT_REFUSED; else these
+ * stay as they were, and what stood there is never looked at. What a call puts into `out` is memory of malloc, which
+ * belongs to the caller: give it back by mvt_bytes_free or mvt_tile_free. Nothing is shared between calls, so any
+ * number of threads may call at a time.
  *
- * The parameters `bytes` and `len` are the bytes of one tile, uncompressed. With `len` 0 `bytes` may be NULL.
- * No other pointer may be NULL. The library wants a processor of x86-64-v2.
+ * The parameters `bytes` and `len` are the bytes of one tile, uncompressed. A pointer beside a length or a count of 0
+ * may be NULL, and where the library hands one out it isn't to be followed. No other pointer may be NULL. The library
+ * wants a processor of x86-64-v2.
  */
 #ifndef MVT_H
 #define MVT_H
@@ -23,7 +24,7 @@ enum {
     MVT_REFUSED = 1,     /* the bytes are no tile, and the fault tells why */
     MVT_NO_MEMORY = 2,   /* out of memory */
     MVT_TOO_LARGE = 3,   /* the result would be larger than 67,108,864 bytes */
-    MVT_NO_LAYER = 4,    /* no layer has one of the names */
+    MVT_NO_LAYER = 4,    /* a name that no layer of version 2 has */
     MVT_BAD_NAME = 5,    /* a name isn't UTF-8 */
     MVT_NO_TILE = 6,     /* rows that are no valid tile */
     MVT_NO_DECODER = 7   /* a decoder that was never made, or is finished or given back */
@@ -37,7 +38,7 @@ typedef struct {
 
 /* The first broken rule. An index is -1 where there is none: for a fault of a top-level field's own spelling, and
  * for a fault of a layer outside its features. `at` is an offset in the tile, or an index in the tags or the
- * integers of the feature's geometry. `name` is the cause's name, and isn't freed. */
+ * integers of the feature's geometry. `name` is the cause's name: it lasts for good, and is never given back. */
 typedef struct {
     int64_t layer, feature;
     uint64_t at;
@@ -114,7 +115,8 @@ typedef struct {
 uint32_t mvt_rewrite(const uint8_t *bytes, size_t len, mvt_bytes *out, mvt_fault *fault);
 
 /* The canonical bytes of the named layers of version 2, in the order of the tile. A name that stands twice counts
- * once, and no name at all gives a tile without layers. The names are read before the tile.
+ * once, and no name at all gives a tile without layers. The names are looked at first: MVT_BAD_NAME is answered whatever
+ * the bytes are.
  * MVT_OK, MVT_REFUSED, MVT_NO_MEMORY, MVT_TOO_LARGE, MVT_NO_LAYER, MVT_BAD_NAME. */
 uint32_t mvt_extract(const uint8_t *bytes, size_t len, const mvt_bytes *names, size_t count, mvt_bytes *out,
                      mvt_fault *fault);
@@ -122,14 +124,14 @@ uint32_t mvt_extract(const uint8_t *bytes, size_t len, const mvt_bytes *names, s
 /* A tile as JSON, in one line without a line end. MVT_OK, MVT_REFUSED, MVT_NO_MEMORY. */
 uint32_t mvt_json(const uint8_t *bytes, size_t len, mvt_bytes *out, mvt_fault *fault);
 
-/* A picture of a tile in SVG: MVT_OK, MVT_REFUSED, MVT_NO_MEMORY. */
+/* A picture of a tile in SVG. MVT_OK, MVT_REFUSED, MVT_NO_MEMORY. */
 uint32_t mvt_svg(const uint8_t *bytes, size_t len, mvt_bytes *out, mvt_fault *fault);
 
-/* Whether the bytes are a tile: MVT_OK, MVT_REFUSED, MVT_NO_MEMORY. */
+/* Whether the bytes are a tile. Nothing is made of them. MVT_OK, MVT_REFUSED, MVT_NO_MEMORY. */
 uint32_t mvt_judge(const uint8_t *bytes, size_t len, mvt_fault *fault);
 
-/* What `mvt check` says of a tile: the counts of its layers and features, whether the bytes are canonical, and a line for
- * each note. Each line ends in a line feed. MVT_OK, MVT_REFUSED, MVT_NO_MEMORY. */
+/* What `mvt check` says of a tile: a line with the counts of its layers and features and whether the bytes are
+ * canonical, and a line for each note. Each ends in a line feed. MVT_OK, MVT_REFUSED, MVT_NO_MEMORY. */
 uint32_t mvt_report(const uint8_t *bytes, size_t len, mvt_bytes *out, mvt_fault *fault);
 
 /* A tile as rows. MVT_OK, MVT_REFUSED, MVT_NO_MEMORY; MVT_TOO_LARGE for a layer of more than 67,108,864 keys or
@@ -137,18 +139,19 @@ uint32_t mvt_report(const uint8_t *bytes, size_t len, mvt_bytes *out, mvt_fault 
 uint32_t mvt_read(const uint8_t *bytes, size_t len, mvt_tile *out, mvt_fault *fault);
 
 /* The canonical bytes of the tile that rows are. The rows may come from anywhere: from mvt_read, or made by hand, in any
- * order, with spans that overlap and entries that nothing names. What a row hasn't, as the bytes of a layer of version 2
- * or the text of a number, isn't looked at, and neither is what no row names.
+ * order, with spans that overlap and entries that nothing names. What a row hasn't, as the bytes of a layer of version 2,
+ * the text of a number or the `exterior` of a line, isn't looked at, and neither is what no row names.
  * MVT_NO_TILE where a span reaches beyond its list, a tag's index beyond the keys or values of its layer, or the rows are
- * no valid tile: a name, a key or a text that isn't UTF-8; a kind that isn't there; a `has_id`, an `exterior` or a bool
- * beyond 1; a float beyond 32 bits; tags that are odd in number or name a key twice; points in more than one part, or in
- * none; lines and rings that are too short, repeat a point or are drawn with steps out of range; rings that wind the
+ * no valid tile: a name, a key or a text that isn't UTF-8; a kind that isn't there; a `has_id`, the `exterior` of a ring
+ * or a bool beyond 1; a float beyond 32 bits; tags that are odd in number or name a key twice; no points, lines or rings
+ * at all; points in more than one part; lines of less than two points and rings of less than three, or with a point
+ * twice in a row; positions, and steps from one to the next, beyond 2,147,483,647 to either side; rings that wind the
  * wrong way round; an interior ring before all exterior ones; two layers of one name; bytes of a layer that aren't one of
  * its version. Also MVT_OK, MVT_NO_MEMORY, MVT_TOO_LARGE. */
 uint32_t mvt_write(const mvt_tile *tile, mvt_bytes *out);
 
 /* A decoder of a tile that comes in pieces, cut anywhere. Begin with `mvt_decoder decoder = {0};`, which is no decoder
- * yet. Each belongs to one thread at a time, and is moved by no copy: the decoder is the variable. */
+ * yet. One thread at a time may use it, and of two copies of the variable only one may be used further. */
 typedef struct {
     void *held;
 } mvt_decoder;
@@ -156,18 +159,18 @@ typedef struct {
 /* A decoder of no bytes yet. What stood in `decoder` is not given back. MVT_OK, MVT_NO_MEMORY. */
 uint32_t mvt_decoder_new(mvt_decoder *decoder);
 
-/* Takes a piece. A fault is told as soon as no further byte can change it; from then on each call answers it.
- * MVT_OK, MVT_REFUSED, MVT_NO_MEMORY, MVT_NO_DECODER. */
+/* Takes a piece. A fault is told as soon as no further byte can change it. After a fault, and after want of memory, each
+ * further call answers the same. MVT_OK, MVT_REFUSED, MVT_NO_MEMORY, MVT_NO_DECODER. */
 uint32_t mvt_decoder_feed(mvt_decoder *decoder, const uint8_t *piece, size_t len, mvt_fault *fault);
 
-/* The tile as rows, after the last piece. The decoder is given back, whatever the answer.
+/* The tile as rows, after the last piece. The decoder is given back, whatever the answer, and is none afterwards.
  * MVT_OK, MVT_REFUSED, MVT_NO_MEMORY, MVT_NO_DECODER; MVT_TOO_LARGE as of mvt_read. */
 uint32_t mvt_decoder_finish(mvt_decoder *decoder, mvt_tile *out, mvt_fault *fault);
 
 /* Gives a decoder back; nothing happens where there is none. */
 void mvt_decoder_free(mvt_decoder *decoder);
 
-/* Gives back what a call handed out; afterwards there is nothing left to be given back. */
+/* Give back what a call put into `out`, and leave zeros there, for which a further call does nothing. */
 void mvt_bytes_free(mvt_bytes *bytes);
 void mvt_tile_free(mvt_tile *tile);
 

@@ -42,7 +42,7 @@ class too_large : public error {
     using error::error;
 };
 
-/// No layer has one of the names.
+/// A name that no layer of version 2 has.
 class no_layer : public error {
     using error::error;
 };

@@ -262,6 +262,8 @@ static void call(const char *path) {
     const mvt_bytes names[] = {{(const uint8_t *)"water", 5}, {(const uint8_t *)"\xff", 1}};
     const uint32_t extracted = mvt_extract(bytes, len, names, 1, &out, &fault);
     if (extracted == MVT_OK) sum += sum_of(&out);
+    require(mvt_extract(bytes, len, NULL, 0, &out, &fault) == shown && out.len == 0, "no layers are named");
+    mvt_bytes_free(&out);
     require(mvt_extract(bytes, len, names, 2, &out, &fault) == MVT_BAD_NAME, "a name that isn't UTF-8");
     require(out.data == NULL && out.len == 0, "an output that isn't due is touched");
     if (read == MVT_OK) {

@@ -4,3 +4,7 @@ mod NameLemmas
 mod EachLemmas
 mod TileLemmas
 mod AsBox
+mod RowLemmas
+mod GrowthLemmas
+mod TableLemmas
+mod RowsOfLemmas

@@ -21,6 +21,7 @@ use Rattle.mvt_tile.specs.CanonicalTiles.{canonical}
 use Rattle.mvt_tile.specs.Extraction.{pick, first_missing}
 use Rattle.mvt_tile.specs.TileRules.{fault_within}
 use Rattle.mvt_tile.specs.Tiles.{IsTile}
+use Rattle.mvt_tile.specs.ValidTiles.{Valid}
 use Rattle.serde_json.specs.Written.{compact_text}
 use Rattle.mvt_view.specs.JsonForms.{json}
 use Rattle.mvt_c.specs.declared.fault.Fault.{Fault}
@@ -134,9 +135,9 @@ NotShown input NoLayer = ⊥
 NotShown input BadName = ⊥
 NotShown input NoTile = ⊥
 
--- the bytes are a tile, and these are its rows
+-- the bytes are a tile, which can be written, and these are its rows
 abbrev pub IsRead : List ℕ → Table → Type 0
-IsRead input table = (tile : Tile) × IsTile LIMIT input tile × (table ≡ rows_of tile)
+IsRead input table = (tile : Tile) × IsTile LIMIT input tile × Valid tile × (table ≡ rows_of tile)
 
 -- the features of a layer use more keys or values than the limit
 abbrev pub AreTooMany : List (List ℕ) → List Value → Type 0

@@ -1,4 +1,4 @@
-//! A decoder that lives across calls: C keeps a handle, hands it to each call and takes it back. `library/handles.c`
+//! A decoder that lives across calls: C keeps a handle, hands it to each call and takes it back. `library/free.c`
 //! answers an empty handle before it comes here.
 ghost use Rattle.std.specs.Prelude.{◌≡◌, ◌≢◌, ◌≤◌, [], ◌++◌, ℕ, List, IfOk, IfErr};
 ghost use Rattle.mvt_tile.specs.Streams.{StandsFor};
@@ -18,7 +18,8 @@ use mvt_tile::TileDecoder;
 use std::alloc::Global;
 use std::mem;
 
-/// Puts a handle where C keeps it, without a look at what stood there.
+/// Puts a handle where C keeps it. The type says that a handle stood there; C hands over fresh memory, or a handle that it
+/// has just given away, so that what stood there is neither looked at nor dropped.
 fn keep(held: Held, out: &mut Held)
     ensures { out.new.decoder ≡ held.decoder }
 {

@@ -7,6 +7,7 @@
 mod calls;
 mod decoder;
 mod fault;
+mod laws;
 mod lent;
 mod names;
 mod reading;

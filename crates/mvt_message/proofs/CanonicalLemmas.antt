@@ -263,14 +263,14 @@ attributes_valid : (features : List Feature) → AllByRecursion ValidFeature fea
 attributes_valid [] h = tt
 attributes_valid (f ∷ fs) h = all_joined ValidAttribute f.attributes (attributes_of fs) h.0.attributes (attributes_valid fs h.1)
 
-keys_valid : FromKeys → (features : List Feature) → AllByRecursion ValidFeature features → AllByRecursion IsUtf8 (keys_of features)
+pub keys_valid : FromKeys → (features : List Feature) → AllByRecursion ValidFeature features → AllByRecursion IsUtf8 (keys_of features)
 unfolding keys_of
 keys_valid from features valid =
     let attributes = attributes_of features in
     let texts : AllByRecursion IsUtf8 (map (λ (a : Attribute). a.key) attributes) = all_mapped (λ (a : Attribute). a.key) IsUtf8 attributes (all_weaker ValidAttribute (λ (a : Attribute). IsUtf8 a.key) (λ a h. h.0) attributes (attributes_valid features valid)) in
     all_from IsUtf8 (key_pool [] attributes) (λ key is. contained IsUtf8 (map (λ (a : Attribute). a.key) attributes) key texts (from [] attributes key is))
 
-values_valid : FromValues → (features : List Feature) → AllByRecursion ValidFeature features → AllByRecursion ValidValue (values_of features)
+pub values_valid : FromValues → (features : List Feature) → AllByRecursion ValidFeature features → AllByRecursion ValidValue (values_of features)
 unfolding values_of
 values_valid from features valid =
     let attributes = attributes_of features in
@@ -282,7 +282,7 @@ held_from hold front [] = tt
 held_from hold front (f ∷ fs) =
     (hold [] [] front f.attributes (attributes_of fs), subst (λ all. AllByRecursion (λ (g : Feature). AllByRecursion (IsIn (key_pool [] all) (value_pool [] all)) g.attributes) fs) (append_assoc front f.attributes (attributes_of fs)) (held_from hold (front ++ f.attributes) fs))
 
-features_held : PoolsHold → (features : List Feature) → AllByRecursion (λ (f : Feature). AllByRecursion (IsIn (keys_of features) (values_of features)) f.attributes) features
+pub features_held : PoolsHold → (features : List Feature) → AllByRecursion (λ (f : Feature). AllByRecursion (IsIn (keys_of features) (values_of features)) f.attributes) features
 unfolding keys_of values_of
 features_held hold features = held_from hold [] features
 

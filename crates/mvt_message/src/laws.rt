@@ -1,10 +1,14 @@
 //! Laws about the definitions alone: functions without effect, whose contract is the law.
-ghost use Rattle.std.specs.Prelude.{◌≡◌, ℕ, ◌≤◌, List, length, None};
+ghost use Rattle.std.specs.Prelude.{◌≡◌, ℕ, ◌≤◌, List, length, None, IsUtf8};
+ghost use Rattle.std.specs.List.{AllByRecursion};
 ghost use Rattle.mvt_base.specs.Rules.{AreOrdered, first};
+ghost use Rattle.mvt_attrs.specs.TagPlaces.{IsIn};
+ghost use Rattle.mvt_feature.specs.declared.feature.Feature.{Feature};
+ghost use Rattle.mvt_feature.specs.Valid.{ValidFeature, ValidValue};
 ghost use Rattle.mvt_message.specs.declared.item.Item.{Item};
 ghost use Rattle.mvt_message.specs.ItemRules.{item_rules, item_fault, payload_names};
 ghost use Rattle.mvt_message.specs.Items.{IsItem, names_in};
-ghost use Rattle.mvt_message.specs.CanonicalItems.{canonical_item};
+ghost use Rattle.mvt_message.specs.CanonicalItems.{canonical_item, keys_of, values_of};
 ghost use Rattle.mvt_message.specs.ValidItems.{ValidItem, WasValidItem};
 
 use mvt_base::LIMIT;
@@ -57,6 +61,20 @@ pub fn canonical_reads()
     mvt_attrs::laws::pools_hold();
     mvt_attrs::laws::places_name();
     mvt_feature::laws::canonical_reads();
+}
+
+/// The keys and the values that features use: where the features are valid they can be written, and each feature has its
+/// own among them.
+pub fn pools_of_features()
+    ensures keys { (features : List Feature) → AllByRecursion ValidFeature features
+        → AllByRecursion IsUtf8 (keys_of features) }
+    ensures values { (features : List Feature) → AllByRecursion ValidFeature features
+        → AllByRecursion ValidValue (values_of features) }
+    ensures held { (features : List Feature)
+        → AllByRecursion (λ (f : Feature). AllByRecursion (IsIn (keys_of features) (values_of features)) f.attributes) features }
+{
+    mvt_attrs::laws::pool_entries();
+    mvt_attrs::laws::pools_hold();
 }
 
 /// An item that was valid under the first range of positions is valid.

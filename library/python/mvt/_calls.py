@@ -36,7 +36,7 @@ class TooLarge(MvtError):
 
 
 class NoLayer(MvtError):
-    """No layer has one of the names."""
+    """A name that no layer of version 2 has."""
 
 
 class NoTile(MvtError):
