@@ -3,7 +3,6 @@ use Rattle.std.proofs.Common.{◌≡◌, ℕ, ◌*◌, ◌^◌, ◌<◌, ◌≤�
 use Rattle.std.specs.List.{AllByRecursion, sum_by}
 use Rattle.std.proofs.lemmas.List.Sums.{sum_by-cons, sum_by-append}
 use Rattle.mvt_wire.specs.Spelling.{short_numbers}
-use Rattle.mvt_wire.specs.Varint.{short}
 use Rattle.mvt_geometry.specs.declared.shape.Point.{Point}
 use Rattle.mvt_geometry.specs.declared.shape.Polygon.{Polygon}
 use Rattle.mvt_geometry.specs.declared.shape.Geometry.{Geometry}
@@ -19,17 +18,9 @@ use Rattle.mvt_geometry.proofs.PathLemmas.{length-path}
 use Rattle.mvt_geometry.proofs.StrokeLemmas.{strokes_are}
 use Rattle.mvt_geometry.proofs.WholeLemmas.{some_of_strokes}
 
-abbrev pub ShortFive : Type 0
-ShortFive = (n : ℕ) → n < 2 ^ 32 → length (short n) ≤ 5
-
--- integers of 32 bits take five bytes each at most
-five_each : ShortFive → (ns : List ℕ) → AllByRecursion (λ n. n < 2 ^ 32) ns → length (short_numbers ns) ≤ 5 * length ns
-five_each five [] small = omega arith
-five_each five (n ∷ ns) small =
-    let one = five n small.0 in
-    let others = five_each five ns small.1 in
-    let parts = length-append (short n) (short_numbers ns) in
-    omega (arith, parts)
+-- what the level below gives
+abbrev pub FiveEach : Type 0
+FiveEach = (ns : List ℕ) → AllByRecursion (λ n. n < 2 ^ 32) ns → length (short_numbers ns) ≤ 5 * length ns
 
 stroke_length : (end : List ℕ) (c : Point) (l : List Point) → length end ≤ 1 → 5 * length (stroke end c l) ≤ line_bound l
 stroke_length end c [] h = omega arith
@@ -69,8 +60,8 @@ few_integers (Polygons ps) valid =
     let sums = rings_bound ps in
     omega (arith, same, few, sums)
 
-pub bound_holds_lem : ShortFive → (g : Geometry) → IsValid g → length (short_numbers (drawn g)) ≤ geometry_bound g
+pub bound_holds_lem : FiveEach → (g : Geometry) → IsValid g → length (short_numbers (drawn g)) ≤ geometry_bound g
 bound_holds_lem five g valid =
-    let bytes = five_each five (drawn g) (drawn_small_lem g valid) in
+    let bytes = five (drawn g) (drawn_small_lem g valid) in
     let integers = few_integers g valid in
     omega (arith, bytes, integers)

@@ -47,7 +47,7 @@ pub fn drawn_small()
 pub fn bound_holds()
     ensures { (g : Geometry) → IsValid g → length (short_numbers (drawn g)) ≤ geometry_bound g }
 {
-    mvt_wire::laws::short_lengths();
+    mvt_wire::laws::packed_lengths();
 }
 
 /// What the first profile called valid is valid.
