@@ -282,7 +282,7 @@ held_from hold front [] = tt
 held_from hold front (f ∷ fs) =
     (hold [] [] front f.attributes (attributes_of fs), subst (λ all. AllByRecursion (λ (g : Feature). AllByRecursion (IsIn (key_pool [] all) (value_pool [] all)) g.attributes) fs) (append_assoc front f.attributes (attributes_of fs)) (held_from hold (front ++ f.attributes) fs))
 
-features_held : PoolsHold → (features : List Feature) → AllByRecursion (λ (f : Feature). AllByRecursion (IsIn (keys_of features) (values_of features)) f.attributes) features
+pub features_held : PoolsHold → (features : List Feature) → AllByRecursion (λ (f : Feature). AllByRecursion (IsIn (keys_of features) (values_of features)) f.attributes) features
 unfolding keys_of values_of
 features_held hold features = held_from hold [] features
 
