@@ -11,3 +11,4 @@ pub mod WritingLemmas
 pub mod CanonicalLemmas
 pub mod ValidLemmas
 pub mod RangeLemmas
+pub mod BoundLemmas

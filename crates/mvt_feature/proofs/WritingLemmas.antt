@@ -15,7 +15,7 @@ use Rattle.mvt_feature.proofs.Below.{ShortOne, FieldLength}
 use Rattle.mvt_feature.specs.Canonical.{plain}
 
 -- one field, whose tag takes a byte
-one_len : ShortOne → FieldLength → (number : ℕ) (c : Content) → 8 * number + wire_type c < 128 → length (spelled (plain number c ∷ [])) ≡ 1 + length (short_payload c)
+pub one_len : ShortOne → FieldLength → (number : ℕ) (c : Content) → 8 * number + wire_type c < 128 → length (spelled (plain number c ∷ [])) ≡ 1 + length (short_payload c)
 one_len short_one field_length number c small =
     ap length (append-nil (short_field number c)) ∙ field_length number c ∙ ap (λ n. n + length (short_payload c)) (short_one (8 * number + wire_type c) small)
 

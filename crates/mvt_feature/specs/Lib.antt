@@ -8,6 +8,7 @@ pub mod ValueIn
 pub mod Features
 pub mod FeatureRules
 pub mod Canonical
+pub mod Bounds
 pub mod Valid
 pub mod Ranges
 pub mod Walks

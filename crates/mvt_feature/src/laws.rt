@@ -1,11 +1,13 @@
 //! Laws about the definitions alone: functions without effect, whose contract is the law.
-ghost use Rattle.std.specs.Prelude.{◌≡◌, ◌↔◌, ℕ, ◌+◌, ◌^◌, ◌<◌, List, [], ◌∷◌, ◌++◌, length, None, Some, Result, Ok, Err, IsUtf8, OnOk, IfOk, IfErr};
+ghost use Rattle.std.specs.Prelude.{◌≡◌, ◌↔◌, ℕ, ◌+◌, ◌^◌, ◌<◌, ◌≤◌, List, [], ◌∷◌, ◌++◌, length, None, Some, Result, Ok, Err, IsUtf8, OnOk, IfOk, IfErr};
 ghost use Rattle.std.specs.List.{AllByRecursion};
 ghost use Rattle.std.specs.Option.{option_or};
 ghost use Rattle.mvt_base.specs.Rules.{Rules, AreOrdered, IsLeast, each, first};
 ghost use Rattle.mvt_attrs.specs.declared.value.Value.{Value};
 ghost use Rattle.mvt_feature.specs.declared.feature.Feature.{Feature};
 ghost use Rattle.mvt_attrs.specs.Tags.{Names};
+ghost use Rattle.mvt_attrs.specs.TagPlaces.{tags_in};
+ghost use Rattle.mvt_geometry.specs.Valid.{IsValid};
 ghost use Rattle.mvt_wire.specs.declared.fault.WireFault.{WireFault};
 ghost use Rattle.mvt_wire.specs.declared.field.Field.{Field};
 ghost use Rattle.mvt_wire.specs.Field.{Entry, entry_of};
@@ -15,6 +17,7 @@ ghost use Rattle.mvt_wire.specs.Split.{Parts, Whole, split};
 ghost use Rattle.mvt_feature.specs.declared.message_error.MessageError.{MessageError};
 ghost use Rattle.mvt_feature.specs.Causes.{of_wire};
 ghost use Rattle.mvt_feature.specs.Canonical.{value_fields, feature_fields};
+ghost use Rattle.mvt_feature.specs.Bounds.{feature_bound};
 ghost use Rattle.mvt_feature.specs.Faults.{MessageFault, TellsMessage, fault_at, rest_rules};
 ghost use Rattle.mvt_feature.specs.Ranges.{AreBytes, IsInRange};
 ghost use Rattle.mvt_feature.specs.Valid.{ValidValue, ValidFeature};
@@ -94,6 +97,17 @@ pub fn canonical_reads()
     mvt_wire::laws::short_packed();
     mvt_wire::laws::short_lengths();
     mvt_geometry::laws::drawn_small();
+}
+
+/// The payload of a feature, with tags of 32 bits, takes no more bytes than its bound says.
+pub fn bound_holds()
+    ensures { (keys : List (List ℕ)) (values : List Value) (feature : Feature) → IsValid feature.geometry
+        → AllByRecursion (λ tag. tag < 2 ^ 32) (tags_in keys values feature.attributes)
+        → length (spelled (feature_fields (tags_in keys values feature.attributes) feature)) ≤ feature_bound feature }
+{
+    mvt_wire::laws::short_lengths();
+    mvt_wire::laws::packed_lengths();
+    mvt_geometry::laws::bound_holds();
 }
 
 /// What bytes are read as is valid; a feature, where the keys and the values of its layer are.

@@ -2,6 +2,7 @@
 //! why bytes aren't one.
 #![tactic(auto)]
 
+mod bound;
 mod cause;
 mod feature;
 mod known;
@@ -16,6 +17,7 @@ mod value;
 mod whole;
 mod writing;
 
+pub use bound::room_behind_feature;
 pub use cause::Cause;
 pub use feature::Feature;
 pub use message_error::MessageError;

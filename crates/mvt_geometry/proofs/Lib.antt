@@ -17,3 +17,4 @@ pub mod ValidLemmas
 pub mod OrderedLemmas
 pub mod LawLemmas
 pub mod CountLemmas
+pub mod BoundLemmas

@@ -1,12 +1,14 @@
 //! Laws about the definitions alone: functions without effect, whose contract is the law.
-ghost use Rattle.std.specs.Prelude.{◌≡◌, ◌↔◌, ◌<◌, ◌^◌, ℕ, List, Some, None};
+ghost use Rattle.std.specs.Prelude.{◌≡◌, ◌↔◌, ◌<◌, ◌≤◌, ◌^◌, ℕ, List, length, Some, None};
 ghost use Rattle.std.specs.List.{AllByRecursion};
 ghost use Rattle.mvt_base.specs.Rules.{AreOrdered, IsLeast};
+ghost use Rattle.mvt_wire.specs.Spelling.{short_numbers};
 ghost use Rattle.mvt_geometry.specs.declared.shape.Kind.{Kind};
 ghost use Rattle.mvt_geometry.specs.declared.shape.Geometry.{Geometry};
 ghost use Rattle.mvt_geometry.specs.Shape.{wide, narrow};
 ghost use Rattle.mvt_geometry.specs.Valid.{IsValid, IsOfFirstProfile};
 ghost use Rattle.mvt_geometry.specs.Drawing.{drawn, Draws, DrawsOf};
+ghost use Rattle.mvt_geometry.specs.Bounds.{geometry_bound};
 ghost use Rattle.mvt_geometry.specs.Table.{IndexedCause, geometry_rules, geometry_fault};
 
 /// Integers draw at most one geometry.
@@ -40,6 +42,13 @@ pub fn geometry_ordered()
 pub fn drawn_small()
     ensures { (g : Geometry) → IsValid g → AllByRecursion (λ n. n < 2 ^ 32) (drawn g) }
 {}
+
+/// The packed integers of a valid geometry take no more bytes than its bound says.
+pub fn bound_holds()
+    ensures { (g : Geometry) → IsValid g → length (short_numbers (drawn g)) ≤ geometry_bound g }
+{
+    mvt_wire::laws::packed_lengths();
+}
 
 /// What the first profile called valid is valid.
 pub fn old_geometries_stay()

@@ -6,6 +6,7 @@
 #![tactic(auto)]
 
 mod area;
+mod bound;
 mod command;
 mod fault;
 mod judge;
@@ -16,6 +17,7 @@ mod shape;
 mod valid;
 
 pub use area::twice_area;
+pub use bound::room_behind_geometry;
 pub use fault::{GeometryCause, GeometryError};
 pub use judge::judge_geometry;
 pub use put::{append_geometry, put_geometry};

@@ -73,7 +73,7 @@ features_len_long features i keys values start out bound so_far long =
     front_long (feature_field (keys_of features) (values_of features)) features i start bound (omega (arith, same))
 
 -- the whole layer
-head_len : ShortOne → FieldLength → (name : List ℕ) → 2 + length (short_field 1 (bytes name)) ≡ length (spelled (head_fields name))
+pub head_len : ShortOne → FieldLength → (name : List ℕ) → 2 + length (short_field 1 (bytes name)) ≡ length (spelled (head_fields name))
 head_len short_one field_length name =
     let version = field_length 15 (varint 2) in
     let tag = short_one 120 (omega arith) in
@@ -86,7 +86,7 @@ pub head_is : ShortOne → FieldLength → (name text : List ℕ) (len : ℕ) �
 head_is short_one field_length name text len same is =
     is ∙ ap (λ d. 2 + length (short_field 1 (bytes d))) same ∙ head_len short_one field_length name
 
-extent_len : ShortOne → FieldLength → (extent : ℕ) → length (spelled (extent_fields extent)) ≡ 1 + length (short extent)
+pub extent_len : ShortOne → FieldLength → (extent : ℕ) → length (spelled (extent_fields extent)) ≡ 1 + length (short extent)
 extent_len short_one field_length extent =
     let field = field_length 5 (varint extent) in
     let tag = short_one 40 (omega arith) in

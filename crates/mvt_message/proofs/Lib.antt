@@ -8,3 +8,4 @@ pub mod CanonicalLemmas
 pub mod PutLemmas
 pub mod LenLemmas
 pub mod HeldLemmas
+pub mod BoundLemmas

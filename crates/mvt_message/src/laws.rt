@@ -8,6 +8,7 @@ ghost use Rattle.mvt_feature.specs.Valid.{ValidFeature, ValidValue};
 ghost use Rattle.mvt_message.specs.declared.item.Item.{Item};
 ghost use Rattle.mvt_message.specs.ItemRules.{item_rules, item_fault, payload_names};
 ghost use Rattle.mvt_message.specs.Items.{IsItem, names_in};
+ghost use Rattle.mvt_message.specs.Bounds.{item_bound};
 ghost use Rattle.mvt_message.specs.CanonicalItems.{canonical_item, keys_of, values_of};
 ghost use Rattle.mvt_message.specs.ValidItems.{ValidItem, WasValidItem};
 
@@ -75,6 +76,17 @@ pub fn pools_of_features()
 {
     mvt_attrs::laws::pool_entries();
     mvt_attrs::laws::pools_hold();
+}
+
+/// The canonical payload of an item takes no more bytes than its bound says, where that is within the limit.
+pub fn bound_holds()
+    ensures { (item : Item) → ValidItem item → item_bound item ≤ LIMIT
+        → length (canonical_item item) ≤ item_bound item }
+{
+    mvt_wire::laws::short_lengths();
+    mvt_attrs::laws::pools_hold();
+    mvt_attrs::laws::places_name();
+    mvt_feature::laws::bound_holds();
 }
 
 /// An item that was valid under the first range of positions is valid.

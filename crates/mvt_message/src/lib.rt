@@ -3,6 +3,7 @@
 #![tactic(auto)]
 
 mod below;
+mod bound;
 mod features;
 mod head;
 mod item;
@@ -18,6 +19,7 @@ mod tests;
 mod valid;
 mod version;
 
+pub use bound::room_behind_item;
 pub use item::{Item, Layer};
 pub use mvt_base::LIMIT;
 pub use mvt_feature::{Cause, Feature, MessageError, read_feature, read_value};

@@ -253,6 +253,10 @@ pub short_most_small : (n : ℕ) → IsSmall n → length (short n) ≤ 5
 unfolding short
 short_most_small n small = short_length 9 4 n (omega arith)
 
+pub five_each : (ns : List ℕ) → AllByRecursion IsSmall ns → length (short_numbers ns) ≤ 5 * length ns
+five_each [] small = omega arith
+five_each (n ∷ ns) small = omega (arith, length-append (short n) (short_numbers ns), short_most_small n small.0, five_each ns small.1)
+
 pub short_numbers_more : (ns : List ℕ) (i : ℕ) → i < length ns → short_numbers (take (i + 1) ns) ≡ short_numbers (take i ns) ++ short (get_or ns i 0)
 short_numbers_more ns i within =
     ap (flat_map short) (take_more ns i 0 within) ∙ flat_map-append short (take i ns) (get_or ns i 0 ∷ []) ∙ ap (λ s. short_numbers (take i ns) ++ s) (append-nil (short (get_or ns i 0)))

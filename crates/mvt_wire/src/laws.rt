@@ -163,3 +163,8 @@ pub fn short_lengths()
     ensures bytes { (number : ℕ) (d : List ℕ) → length d + 2 ≤ length (short_field number (bytes d)) }
     ensures numbers { (ns : List ℕ) → length ns ≤ length (short_numbers ns) }
 {}
+
+/// Packed numbers of 32 bits take five bytes each at most.
+pub fn packed_lengths()
+    ensures { (ns : List ℕ) → AllByRecursion (λ n. n < 2 ^ 32) ns → length (short_numbers ns) ≤ 5 * length ns }
+{}

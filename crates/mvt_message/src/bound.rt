@@ -1,0 +1,99 @@
+//! A quick bound of the bytes that an item takes.
+ghost use Rattle.std.specs.Prelude.{◌≡◌, ℕ, ◌+◌, ◌^◌, ◌<◌, ◌≤◌, List, length, IfSome, IfNone};
+ghost use Rattle.std.specs.List.{sum_by};
+ghost use Rattle.mvt_wire.specs.Field.{bytes};
+ghost use Rattle.mvt_wire.specs.Spelling.{short_field};
+ghost use Rattle.mvt_message.specs.Bounds.{attribute_bound, entries_bound, layer_bound, item_bound};
+
+use crate::item::{Item, Layer};
+use mvt_attrs::Attribute;
+use mvt_base::LIMIT;
+use mvt_feature::{Feature, room_behind_feature, value_len};
+use mvt_wire::field_len;
+
+/// What is left of so many bytes behind the canonical payload of an item, by a bound that shares no
+/// key and no value among its attributes. None where the bound is more.
+pub fn room_behind_item(item: &Item, room: u64) -> Option<u64>
+    requires { room ≤ LIMIT }
+    ensures some { IfSome result (λ left. left + item_bound item.now ≡ room) }
+    ensures none { IfNone result (room < item_bound item.now) }
+{
+    match item {
+        Item::Layer(layer) => behind_layer(layer, room),
+        Item::Foreign { bytes, .. } => room.checked_sub(bytes.as_slice().len() as u64),
+    }
+}
+
+fn behind_layer(layer: &Layer, room: u64) -> Option<u64>
+    requires { room ≤ LIMIT }
+    ensures some { IfSome result (λ left. left + layer_bound layer.now ≡ room) }
+    ensures none { IfNone result (room < layer_bound layer.now) }
+{
+    let name = layer.name.as_str().len() as u64;
+    if name > room {
+        return None;
+    }
+    let left = room.checked_sub(24 + name)?;
+    behind_features(layer.features.as_slice(), left)
+}
+
+fn behind_features(features: &[Feature], room: u64) -> Option<u64>
+    requires { room ≤ LIMIT }
+    ensures some { IfSome result (λ left. left + sum_by entries_bound features.now ≡ room) }
+    ensures none { IfNone result (room < sum_by entries_bound features.now) }
+{
+    let mut left = room;
+    for feature in features {
+        left = behind_entries(feature, left)?;
+    }
+    Some(left)
+}
+
+/// Behind the field of a feature and the entries of its attributes.
+fn behind_entries(feature: &Feature, room: u64) -> Option<u64>
+    requires { room ≤ LIMIT }
+    ensures some { IfSome result (λ left. left + entries_bound feature.now ≡ room) }
+    ensures none { IfNone result (room < entries_bound feature.now) }
+{
+    let left = room.checked_sub(11)?;
+    let left = room_behind_feature(feature, left)?;
+    behind_attributes(feature.attributes.as_slice(), left)
+}
+
+fn behind_attributes(attributes: &[Attribute], room: u64) -> Option<u64>
+    requires { room ≤ LIMIT }
+    ensures some { IfSome result (λ left. left + sum_by attribute_bound attributes.now ≡ room) }
+    ensures none { IfNone result (room < sum_by attribute_bound attributes.now) }
+{
+    let mut left = room;
+    for attribute in attributes {
+        left = behind_attribute(attribute, left)?;
+    }
+    Some(left)
+}
+
+fn behind_attribute(attribute: &Attribute, room: u64) -> Option<u64>
+    requires { room ≤ LIMIT }
+    ensures some { IfSome result (λ left. left + attribute_bound attribute.now ≡ room) }
+    ensures none { IfNone result (room < attribute_bound attribute.now) }
+{
+    let left = behind_field(3, attribute.key.as_str().len() as u64, room)?;
+    behind_field(4, value_len(&attribute.value), left)
+}
+
+/// Behind a field of so many bytes.
+fn behind_field(number: u32, size: u64, room: u64) -> Option<u64>
+    requires number { number < 2 ^ 29 }
+    requires small { room ≤ LIMIT }
+    ensures some { (d : List ℕ) → length d ≡ size
+        → IfSome result (λ left. left + length (short_field number (bytes d)) ≡ room) }
+    ensures none { (d : List ℕ) → length d ≡ size
+        → IfNone result (room < length (short_field number (bytes d))) }
+{
+    // What the proof needs to know of lengths; it does nothing.
+    mvt_wire::laws::short_lengths();
+    if size > room {
+        return None;
+    }
+    room.checked_sub(field_len(number, size))
+}
