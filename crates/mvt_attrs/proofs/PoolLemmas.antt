@@ -52,11 +52,11 @@ pub distinct_more : {A : Type 0} → (xs : List A) (x : A) → AreDistinct xs �
 distinct_more xs x distinct absent =
     all_pairs_push (λ a b. a ≢ b) xs x distinct (λ k d within e. absent (k, within, get_or_default xs k x d within ∙ e))
 
-last_there : {A : Type 0} → (xs : List A) (x : A) → slice_get (xs ++ x ∷ []) (length xs) ≡ Some x
+pub last_there : {A : Type 0} → (xs : List A) (x : A) → slice_get (xs ++ x ∷ []) (length xs) ≡ Some x
 last_there [] x = refl
 last_there (y ∷ xs) x = last_there xs x
 
-front_there : {A : Type 0} → (xs : List A) (y : A) (i : ℕ) (x : A) → slice_get xs i ≡ Some x → slice_get (xs ++ y ∷ []) i ≡ Some x
+pub front_there : {A : Type 0} → (xs : List A) (y : A) (i : ℕ) (x : A) → slice_get xs i ≡ Some x → slice_get (xs ++ y ∷ []) i ≡ Some x
 front_there [] y i x e = cc
 front_there (w ∷ xs) y zero x e = e
 front_there (w ∷ xs) y (suc i) x e = front_there xs y i x e

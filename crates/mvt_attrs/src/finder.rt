@@ -1,13 +1,13 @@
 //! How the place of an entry is found in a pool.
-ghost use Rattle.std.specs.Prelude.{◌≡◌, ◌<◌, ◌^◌, ◌++◌, ◌∷◌, [], ℕ, length, take, Contains, IfOk, OnOk, OnErr};
+ghost use Rattle.std.specs.Prelude.{◌≡◌, ◌<◌, ◌+◌, ◌^◌, ◌++◌, ◌∷◌, [], ℕ, length, take, Contains, IfOk, OnOk, OnErr};
 ghost use Rattle.mvt_attrs.specs.FirstUse.{AreDistinct};
 ghost use Rattle.mvt_attrs.specs.Inner.Found.{IsPlaceOf};
-ghost use Rattle.mvt_attrs.specs.Inner.Finding.{HasPlaces, Knows};
+ghost use Rattle.mvt_attrs.specs.Inner.Finding.{Knows};
 
 use crate::entry::Entry;
+use crate::spread::{Spread, add_spread, find_spread, spread_all};
 use indexmap::IndexSet;
 use std::alloc::{AllocError, Global};
-use std::collections::BTreeMap;
 
 /// So many entries are searched one by one.
 const FEW: usize = 8;
@@ -21,21 +21,18 @@ pub enum Finder<T: Entry> {
     /// Few entries are searched one by one.
     Plain,
     Hashed(IndexSet<T>),
-    Ordered(BTreeMap<T, u32>),
+    Spread(Spread<T>),
 }
 
 /// The place of an entry.
 pub(crate) fn find<T: Entry>(finder: &Finder<T>, entries: &[T], entry: &T) -> Option<usize>
-    requires { Knows T.cmp finder.now entries.now }
+    requires { Knows T.cmp T.hash_input finder.now entries.now }
     ensures { IsPlaceOf entries.now entry.now result }
 {
     match finder {
         Finder::Plain => search(entries, entry),
         Finder::Hashed(places) => look_up(places, entry),
-        Finder::Ordered(places) => match places.get(entry) {
-            Some(place) => Some(*place as usize),
-            None => None,
-        },
+        Finder::Spread(spread) => find_spread(spread, entries, entry),
     }
 }
 
@@ -63,18 +60,18 @@ pub(crate) fn note<T: Entry>(
     entries: &[T],
     entry: &T,
 ) -> Result<(), AllocError>
-    requires known { Knows T.cmp finder.old entries.now }
+    requires known { Knows T.cmp T.hash_input finder.old entries.now }
     requires distinct { AreDistinct entries.now }
     requires new { ¬ (Contains entries.now entry.now) }
-    requires few { length entries.now < 2 ^ 32 }
-    ensures added { OnOk result (Knows T.cmp finder.new (entries.now ++ entry.now ∷ [])) }
-    ensures unchanged { OnErr result (Knows T.cmp finder.new entries.now) }
+    requires few { length entries.now + 1 < 2 ^ 32 }
+    ensures added { OnOk result (Knows T.cmp T.hash_input finder.new (entries.now ++ entry.now ∷ [])) }
+    ensures unchanged { OnErr result (Knows T.cmp T.hash_input finder.new entries.now) }
 {
     take_over(alloc, finder, entries)?;
     match finder {
         Finder::Plain => Ok(()),
         Finder::Hashed(places) => add_hashed(places, entry.copied(alloc)?),
-        Finder::Ordered(places) => add_ordered(places, entries, entry.copied(alloc)?),
+        Finder::Spread(spread) => add_spread(alloc, spread, entries, entry),
     }
 }
 
@@ -84,15 +81,15 @@ fn take_over<T: Entry>(
     finder: &mut Finder<T>,
     entries: &[T],
 ) -> Result<(), AllocError>
-    requires known { Knows T.cmp finder.old entries.now }
+    requires known { Knows T.cmp T.hash_input finder.old entries.now }
     requires distinct { AreDistinct entries.now }
-    requires few { length entries.now < 2 ^ 32 }
-    ensures { Knows T.cmp finder.new entries.now }
+    requires few { length entries.now + 1 < 2 ^ 32 }
+    ensures { Knows T.cmp T.hash_input finder.new entries.now }
 {
     if entries.len() == FEW {
         *finder = Finder::Hashed(hashed(alloc, entries)?);
-    } else if entries.len() == MANY {
-        *finder = Finder::Ordered(ordered(alloc, entries)?);
+    } else if entries.len() >= MANY && entries.len().is_power_of_two() {
+        *finder = Finder::Spread(spread_all(alloc, entries)?);
     }
     Ok(())
 }
@@ -108,39 +105,11 @@ fn hashed<T: Entry>(alloc: Global, entries: &[T]) -> Result<IndexSet<T>, AllocEr
     Ok(places)
 }
 
-fn ordered<T: Entry>(alloc: Global, entries: &[T]) -> Result<BTreeMap<T, u32>, AllocError>
-    requires distinct { AreDistinct entries.now }
-    requires few { length entries.now < 2 ^ 32 }
-    ensures { IfOk result (λ places. HasPlaces T.cmp places entries.now) }
-{
-    let mut places = BTreeMap::new(alloc);
-    for index in 0..entries.len() {
-        add_ordered(&mut places, &entries[..index], entries[index].copied(alloc)?)?;
-    }
-    Ok(places)
-}
-
 fn add_hashed<T: Entry>(places: &mut IndexSet<T>, entry: T) -> Result<(), AllocError>
     requires { ¬ (Contains places.old.keys entry) }
     ensures added { OnOk result (places.new.keys ≡ places.old.keys ++ entry ∷ []) }
     ensures unchanged { OnErr result (places.new.keys ≡ places.old.keys) }
 {
     places.insert(entry)?;
-    Ok(())
-}
-
-/// Notes an entry that stands behind these.
-fn add_ordered<T: Entry>(
-    places: &mut BTreeMap<T, u32>,
-    entries: &[T],
-    entry: T,
-) -> Result<(), AllocError>
-    requires known { HasPlaces T.cmp places.old entries.now }
-    requires new { ¬ (Contains entries.now entry) }
-    requires few { length entries.now < 2 ^ 32 }
-    ensures added { OnOk result (HasPlaces T.cmp places.new (entries.now ++ entry ∷ [])) }
-    ensures unchanged { OnErr result (HasPlaces T.cmp places.new entries.now) }
-{
-    places.insert(entry, entries.len() as u32)?;
     Ok(())
 }

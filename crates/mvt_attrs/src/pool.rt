@@ -30,7 +30,7 @@ impl<T: Entry> Model for Pool<T> {
 
     ghost view = { λ p. p.entries.items };
 
-    ghost invariant = { λ p. (length p.entries.items ≤ LIMIT) × AreDistinct p.entries.items × Knows T.cmp p.finder p.entries.items };
+    ghost invariant = { λ p. (length p.entries.items ≤ LIMIT) × AreDistinct p.entries.items × Knows T.cmp T.hash_input p.finder p.entries.items };
 }
 
 impl<T: Entry> Pool<T> {
@@ -95,14 +95,14 @@ fn append<T: Entry>(
     finder: &mut Finder<T>,
     entry: &T,
 ) -> Result<(), AllocError>
-    requires known { Knows T.cmp finder.old entries.old.items }
+    requires known { Knows T.cmp T.hash_input finder.old entries.old.items }
     requires distinct { AreDistinct entries.old.items }
     requires new { ¬ (Contains entries.old.items entry.now) }
     requires few { length entries.old.items < LIMIT }
     ensures added { OnOk result (entries.new.items ≡ entries.old.items ++ entry.now ∷ []) }
     ensures distinct { AreDistinct entries.new.items }
     ensures unchanged { OnErr result (entries.new.items ≡ entries.old.items) }
-    ensures known { Knows T.cmp finder.new entries.new.items }
+    ensures known { Knows T.cmp T.hash_input finder.new entries.new.items }
 {
     let alloc = *entries.allocator();
     let copy = entry.copied(alloc)?;
