@@ -6,5 +6,6 @@ pub mod TagLemmas
 pub mod ResolvedLemmas
 pub mod PlaceLemmas
 pub mod PlacingLemmas
+pub mod SpreadLemmas
 pub mod OrderedLemmas
 pub mod JudgingLemmas

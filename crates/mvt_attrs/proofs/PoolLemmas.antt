@@ -1,10 +1,10 @@
 -- What a set's look-ups and insertions say of the list of its keys.
-use Rattle.std.proofs.Common.{◌≡◌, ℕ, zero, suc, ◌<◌, Bool, true, false, List, [], ◌∷◌, ◌++◌, length, get_or, Option, Some, None, Contains, Decides, inl, inr, sym, ap, ◌∙◌, is_some, position, arith}
-use Rattle.std.specs.List.{list_any, IsDistinct}
-use Rattle.std.proofs.lemmas.Bool.{false≢true, or_left, or_right, or_cases, false_from_ne_true, cond-false, both_ways}
+use Rattle.std.proofs.Common.{◌≡◌, ◌≢◌, refl, subst, slice_get, cond, ℕ, zero, suc, ◌<◌, Bool, true, false, List, [], ◌∷◌, ◌++◌, length, get_or, Option, Some, None, Contains, Decides, inl, inr, sym, ap, ◌∙◌, is_some, position, arith}
+use Rattle.std.specs.List.{list_any}
+use Rattle.std.proofs.lemmas.Bool.{cond_both, false≢true, or_left, or_right, or_cases, false_from_ne_true, cond-false, both_ways}
 use Rattle.std.proofs.lemmas.List.{get_or_default}
-use Rattle.std.proofs.lemmas.List.Quantifiers.{position-Some}
-use Rattle.std.proofs.lemmas.Map.Keys.{apart_from_distinct}
+use Rattle.std.proofs.lemmas.List.Elements.{Contains-push_cases}
+use Rattle.std.proofs.lemmas.List.Quantifiers.{all_pairs_push, position-Some}
 use Rattle.std.proofs.lemmas.Option.{slice_get-get_or}
 use Rattle.indexmap.specs.IndexSet.{insert_key}
 use Rattle.mvt_attrs.specs.FirstUse.{AreDistinct}
@@ -47,10 +47,36 @@ module _ {A : Type 0} (same : A → A → Bool) (decides : (j k : A) → Decides
   inserted ks new k absent e =
       e ∙ cond-false (list_any (same k) ks) ks (ks ++ k ∷ []) (none_from_absent k (same k) (decides k) ks absent)
 
-  -- the keys of a set differ
-  pub all_distinct : (ks : List A) → IsDistinct same ks → AreDistinct ks
-  all_distinct [] unique i j d before within e = omega arith
-  all_distinct (k ∷ ks) unique i j d before within e =
-      let all = k ∷ ks in
-      let first : i < length all = omega arith in
-      both_ways (same (get_or all i k) (get_or all j k)) (apart_from_distinct same all i j k unique before within) ((decides (get_or all i k) (get_or all j k)).1 (get_or_default all i k d first ∙ e ∙ get_or_default all j d k within))
+-- a new entry differs from those before it
+pub distinct_more : {A : Type 0} → (xs : List A) (x : A) → AreDistinct xs → (Contains xs x → ⊥) → AreDistinct (xs ++ x ∷ [])
+distinct_more xs x distinct absent =
+    all_pairs_push (λ a b. a ≢ b) xs x distinct (λ k d within e. absent (k, within, get_or_default xs k x d within ∙ e))
+
+pub last_there : {A : Type 0} → (xs : List A) (x : A) → slice_get (xs ++ x ∷ []) (length xs) ≡ Some x
+last_there [] x = refl
+last_there (y ∷ xs) x = last_there xs x
+
+pub front_there : {A : Type 0} → (xs : List A) (y : A) (i : ℕ) (x : A) → slice_get xs i ≡ Some x → slice_get (xs ++ y ∷ []) i ≡ Some x
+front_there [] y i x e = cc
+front_there (w ∷ xs) y zero x e = e
+front_there (w ∷ xs) y (suc i) x e = front_there xs y i x e
+
+-- places that were found stay when another entry is added
+module _ {A : Type 0} (entries : List A) (new : A) where
+  found_still : (x : A) (r : Option ℕ) → (new ≡ x → ⊥) → IsPlaceOf entries x r → IsPlaceOf (entries ++ new ∷ []) x r
+  found_still x None apart absent = λ there.
+      elim (Contains-push_cases entries new x there) [
+        | inl before ↦ absent before
+        | inr same ↦ apart same
+      ]
+  found_still x (Some i) apart at = front_there entries new i x at
+
+  -- places are those in a longer list once they have the new entry's
+  pub placed_more : (here : A → Bool) → ((x : A) → Decides (here x) (new ≡ x)) → (old after : A → Option ℕ)
+      → ((x : A) → IsPlaceOf entries x (old x)) → ((x : A) → after x ≡ cond (here x) (Some (length entries)) (old x))
+      → (x : A) → IsPlaceOf (entries ++ new ∷ []) x (after x)
+  placed_more here decides old after known updated x =
+      subst (IsPlaceOf (entries ++ new ∷ []) x) (sym (updated x))
+      (cond_both (here x) (Some (length entries)) (old x) (IsPlaceOf (entries ++ new ∷ []) x)
+      (λ e. last_there entries new ∙ ap Some ((decides x).0 e))
+      (λ e. found_still x (old x) (λ same. both_ways (here x) e ((decides x).1 same)) (known x)))

@@ -2,20 +2,26 @@
 //! and values that a layer holds, and the tags that name entries of these pools.
 #![tactic(auto)]
 
+mod entry;
+mod finder;
 mod judging;
 mod key_pool;
 pub mod laws;
 mod layer_keys;
 mod placing;
+mod pool;
 mod pool_error;
 mod resolving;
+mod spread;
 mod value;
 mod value_pool;
 
+pub use entry::Entry;
 pub use judging::judge_tags;
 pub use key_pool::KeyPool;
 pub use layer_keys::LayerKeys;
 pub use placing::{append_tags, tags_of};
+pub use pool::Pool;
 pub use pool_error::PoolError;
 pub use resolving::{TagCause, TagError, resolve, resolve_in};
 pub use value::{Attribute, Value};

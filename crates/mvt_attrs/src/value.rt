@@ -8,7 +8,7 @@ use std::alloc::{AllocError, Global};
 ///
 /// Numbers of different kinds are different values: `Int(5)`, `Uint(5)` and `Sint(5)` are three.
 /// A float or a double is its bit pattern, which says nothing about the number.
-#[derive(Debug, Drop, PartialEq, Eq, Hash)]
+#[derive(Debug, Drop, PartialEq, Eq, PartialOrd, Ord, Hash)]
 pub enum Value {
     Text(Text),
     Float(u32),

@@ -1,0 +1,113 @@
+//! The entries of a pool, each once, in order of first use.
+ghost use Rattle.std.specs.Prelude.{◌≡◌, ◌<◌, ◌≤◌, ◌↔◌, List, [], ◌∷◌, ◌++◌, length, Contains, slice_get, option_copied, IsOk, IsErrOf, IfOk, OnOk, OnErr, IsTrue};
+ghost use Rattle.mvt_attrs.specs.FirstUse.{AreDistinct};
+ghost use Rattle.mvt_attrs.specs.Inner.Finding.{Knows};
+
+use crate::entry::Entry;
+use crate::finder::{Finder, find, note};
+use crate::pool_error::PoolError;
+use mvt_base::LIMIT;
+use std::alloc::{AllocError, Global};
+use std::marker::Model;
+
+/// Entries, each once, in order of first use.
+///
+/// Few are searched one by one, more are hashed, and many are kept in order too: so n entries are
+/// placed in n log n steps at most, whatever their texts are. After an error a pool is as it was.
+#[derive(Drop)]
+pub struct Pool<T: Entry> {
+    entries: Vec<T>,
+    finder: Finder<T>,
+}
+
+impl<T: Entry> Model for Pool<T> {
+    ghost use Rattle.std.specs.Prelude.{List, ◌≤◌, length};
+    ghost use Rattle.mvt_base.specs.declared.TheConstants.{LIMIT};
+    ghost use Rattle.mvt_attrs.specs.FirstUse.{AreDistinct};
+    ghost use Rattle.mvt_attrs.specs.Inner.Finding.{Knows};
+
+    ghost Value = { List T };
+
+    ghost view = { λ p. p.entries.items };
+
+    ghost invariant = { λ p. (length p.entries.items ≤ LIMIT) × AreDistinct p.entries.items × Knows T.cmp T.hash_input p.finder p.entries.items };
+}
+
+impl<T: Entry> Pool<T> {
+    /// An empty pool, which takes no memory.
+    pub fn new(alloc: Global) -> Self
+        ensures { result ≡ [] }
+    {
+        Pool {
+            entries: Vec::new(alloc),
+            finder: Finder::Plain,
+        }
+    }
+
+    pub fn len(&self) -> usize
+        ensures len { result ≡ length self.now }
+        ensures limit { result ≤ LIMIT }
+        ensures distinct { AreDistinct self.now }
+    {
+        self.entries.len()
+    }
+
+    pub fn is_empty(&self) -> bool
+        ensures { IsTrue result ↔ (self.now ≡ []) }
+    {
+        self.entries.is_empty()
+    }
+
+    pub(crate) fn entry(&self, index: u32) -> Option<&T>
+        ensures { option_copied result ≡ slice_get self.now index }
+    {
+        self.entries.get(index as usize)
+    }
+
+    /// The place of an entry, which is copied and added last where it is new. An entry that is there
+    /// needs no memory.
+    pub fn place(&mut self, entry: &T) -> Result<u32, PoolError>
+        ensures index { IfOk result (λ i. slice_get self.new i ≡ Some entry.now) }
+
+        // An entry that is there is found.
+        ensures present { Contains self.old entry.now → IsOk result }
+        ensures kept { Contains self.old entry.now → self.new ≡ self.old }
+
+        // Another is added, or the pool stays.
+        ensures added { ¬ (Contains self.old entry.now) → OnOk result (self.new ≡ self.old ++ entry.now ∷ []) }
+        ensures unchanged { OnErr result (self.new ≡ self.old) }
+        ensures full { IsErrOf result PoolError.Full ↔ ((length self.old ≡ LIMIT) × (¬ (Contains self.old entry.now))) }
+    {
+        if let Some(index) = find(&self.finder, &self.entries, entry) {
+            return Ok(index as u32);
+        }
+        let index = self.entries.len();
+        if index as u64 == LIMIT {
+            return Err(PoolError::Full);
+        }
+        append(&mut self.entries, &mut self.finder, entry)?;
+        Ok(index as u32)
+    }
+}
+
+fn append<T: Entry>(
+    entries: &mut Vec<T>,
+    finder: &mut Finder<T>,
+    entry: &T,
+) -> Result<(), AllocError>
+    requires known { Knows T.cmp T.hash_input finder.old entries.old.items }
+    requires distinct { AreDistinct entries.old.items }
+    requires new { ¬ (Contains entries.old.items entry.now) }
+    requires few { length entries.old.items < LIMIT }
+    ensures added { OnOk result (entries.new.items ≡ entries.old.items ++ entry.now ∷ []) }
+    ensures distinct { AreDistinct entries.new.items }
+    ensures unchanged { OnErr result (entries.new.items ≡ entries.old.items) }
+    ensures known { Knows T.cmp T.hash_input finder.new entries.new.items }
+{
+    let alloc = *entries.allocator();
+    let copy = entry.copied(alloc)?;
+    entries.reserve(1)?;
+    note(alloc, finder, entries, entry)?;
+    entries.push_reserved(copy);
+    Ok(())
+}
