@@ -4,6 +4,7 @@
 
 mod below;
 mod features;
+mod front;
 mod head;
 mod item;
 pub mod laws;
