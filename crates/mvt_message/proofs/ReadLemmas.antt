@@ -1,7 +1,8 @@
 -- The steps of the walks over a layer's fields.
-use Rattle.std.proofs.Common.{◌≡◌, ◌≢◌, ℕ, ◌+◌, ◌^◌, ◌<◌, ◌≤◌, ◌==◌, Bool, true, false, List, [], ◌∷◌, ◌++◌, length, map, Option, Some, None, Ok, Err, refl, sym, ap, ap₂, ◌∙◌, subst, append_assoc, append-nil, arith, if◌then◌else◌, length-append}
+use Rattle.std.proofs.Common.{◌≡◌, ◌≢◌, ℕ, ◌+◌, ◌^◌, ◌<◌, ◌≤◌, ◌==◌, Bool, true, false, List, [], ◌∷◌, ◌++◌, length, map, Option, Some, None, Result, Ok, Err, refl, sym, ap, ap₂, ◌∙◌, subst, append_assoc, append-nil, arith, if◌then◌else◌, length-append}
 use Rattle.std.specs.Prelude.{is_none, unwrap_or}
-use Rattle.std.specs.Option.{option_map, option_to_list}
+use Rattle.std.specs.Option.{option_map, option_to_list, is_some}
+use Rattle.std.specs.Result.{is_err}
 use Rattle.std.proofs.lemmas.Bool.{eq-eqb, ne_eqb}
 use Rattle.std.proofs.lemmas.List.{map-append}
 use Rattle.std.proofs.lemmas.List.Elements.{filter-append}
@@ -32,7 +33,7 @@ use Rattle.mvt_message.specs.declared.item.Item.TheVariants.{Layer, Foreign}
 use Rattle.mvt_message.specs.LayerFields.{bytes_of, version_in, is_two, name_in, extent_in, keys_in, values_in}
 use Rattle.mvt_message.specs.ItemRules.{uint32_rules, version_rules, version_form_rules, layer_form_rules, layer_field_rules, value_rules_of, feature_rules_of, item_fault, payload_names}
 use Rattle.mvt_message.specs.Items.{HoldsValue, HoldsFeature, IsLayer, IsItem}
-use Rattle.mvt_message.specs.Inner.{versions_fault, forms_fault, no_name_fault, values_fault, features_fault, head_fault, layer_fault, IsVersionSoFar, name_after, extent_after, keys_at, AreValuesSoFar, AreFeaturesSoFar}
+use Rattle.mvt_message.specs.Inner.{rest_fault, versions_fault, forms_fault, no_name_fault, values_fault, features_fault, head_fault, layer_fault, IsVersionSoFar, OrFault, IsHead, name_after, extent_after, keys_at, AreValuesSoFar, AreFeaturesSoFar}
 use Rattle.mvt_message.proofs.ChainLemmas.{item_chain, layer_chain, tells_or, or_tells}
 use Rattle.mvt_message.proofs.FormLemmas.{placed_first, versions_form}
 use Rattle.mvt_message.proofs.SaidLemmas.{ValueIs, values_said}
@@ -87,16 +88,37 @@ version_stops base done v x e so_far is told_here more =
     let test = eq-eqb x.number 15 is in
     tells_as e (option_map (fault_at (base + x.at)) (first (uint32_rules x.content))) _ (λ f broken. rw append_assoc (each_stops (λ _. version_rules base) done x more f so_far.0 (version_first base x ∙ ap (λ (b : Bool). option_map (fault_at (base + x.at)) (first (if b then uint32_rules x.content else []))) test ∙ broken))) told_here
 
+-- a fault stays
+pub fault_stays : (fault : List Entry → Option MessageFault) (done : List Entry) (x : Entry) (e : MessageError) → ((more : List Entry) → TellsMessage e (fault (done ++ more))) → (more : List Entry) → TellsMessage e (fault ((done ++ x ∷ []) ++ more))
+fault_stays fault done x e stays more = subst (λ xs. TellsMessage e (fault xs)) (sym (append_assoc done (x ∷ []) more)) (stays (x ∷ more))
+
+-- where there is no fault, what the fields say holds
+pub or_clean : (fault : List Entry → Option MessageFault) (Say : List Entry → Type 0) (done : List Entry) (kept : Option MessageError) → false ≡ is_some kept → OrFault fault Say done kept → Say done
+or_clean fault Say done None none h = h
+or_clean fault Say done (Some e) none h = absurd (let clash : false ≡ true = none in cc)
+
+pub or_said : (fault : List Entry → Option MessageFault) (Say : List Entry → Type 0) (done : List Entry) (kept : Option MessageError) → false ≡ is_some kept → Say done → OrFault fault Say done kept
+or_said fault Say done None none h = h
+or_said fault Say done (Some e) none h = absurd (let clash : false ≡ true = none in cc)
+
+-- at the end of a walk a fault is that of all fields
+pub or_told : (fault : List Entry → Option MessageFault) (done : List Entry) (e : MessageError) → ((more : List Entry) → TellsMessage e (fault (done ++ more))) → TellsMessage e (fault done)
+or_told fault done e stays = subst (λ xs. TellsMessage e (fault xs)) (append-nil done) (stays [])
+
+-- the version so far with a field of another number, or behind a fault
+pub version_passes : (base : ℕ) (done : List Entry) (v : Result (Option ℕ) MessageError) (x : Entry) → IsVersionSoFar base done v → x.number ≢ 15 → IsVersionSoFar base (done ++ x ∷ []) v
+version_passes base done (Ok v) x so_far other = version_skip base done v x so_far other
+version_passes base done (Err e) x stays other = fault_stays (versions_fault base) done x e stays
+
+pub version_stays : (base : ℕ) (done : List Entry) (v : Result (Option ℕ) MessageError) (x : Entry) → true ≡ is_err v → IsVersionSoFar base done v → IsVersionSoFar base (done ++ x ∷ []) v
+version_stays base done (Ok v) x broken so_far = absurd (let clash : true ≡ false = broken in cc)
+version_stays base done (Err e) x broken stays = fault_stays (versions_fault base) done x e stays
+
+pub version_clean : (base : ℕ) (done : List Entry) (v : Result (Option ℕ) MessageError) → false ≡ is_err v → IsVersionSoFar base done v → (o : Option ℕ) × IsVersionSoFar base done (Ok o)
+version_clean base done (Ok v) whole so_far = (v, so_far)
+version_clean base done (Err e) whole stays = absurd (let clash : false ≡ true = whole in cc)
+
 -- the head
-pub record HeadSoFar (base : ℕ) (done : List Entry) (name : Option (List ℕ)) (extent : ℕ) (held keys : List (List ℕ)) : Type 0 where
-  pub clean : forms_fault base done ≡ None
-  pub name_is : name ≡ name_in done
-  pub extent_is : extent ≡ extent_in done
-  pub keys_are : keys ≡ held ++ keys_in done
-
-pub head_start : (base : ℕ) (held : List (List ℕ)) → HeadSoFar base [] None 4096 held held
-head_start base held = record { clean = refl; name_is = refl; extent_is = refl; keys_are = sym (append-nil held) }
-
 form_first : (base : ℕ) (x : Entry) → first (layer_field_rules base x) ≡ option_map (fault_at (base + x.at)) (first (layer_form_rules x.number x.content))
 unfolding layer_field_rules
 form_first base x = placed_first layer_form_rules base x
@@ -123,17 +145,17 @@ keys_more done x =
     by_test true = refl
     by_test false = refl
 
-pub head_step : (base : ℕ) (done : List Entry) (x : Entry) (name new_name : Option (List ℕ)) (extent new_extent : ℕ) (held keys new_keys : List (List ℕ)) → HeadSoFar base done name extent held keys → first (layer_form_rules x.number x.content) ≡ None → new_name ≡ name_after name x.number x.content → new_extent ≡ extent_after extent x.number x.content → new_keys ≡ keys ++ keys_at x.number x.content → HeadSoFar base (done ++ x ∷ []) new_name new_extent held new_keys
-head_step base done x name new_name extent new_extent held keys new_keys so_far clean name_is extent_is keys_are = record {
+pub head_step : (base : ℕ) (done : List Entry) (x : Entry) (name new_name : Option (List ℕ)) (extent new_extent : ℕ) (keys new_keys : List (List ℕ)) → IsHead base name extent keys done → first (layer_form_rules x.number x.content) ≡ None → new_name ≡ name_after name x.number x.content → new_extent ≡ extent_after extent x.number x.content → new_keys ≡ keys ++ keys_at x.number x.content → IsHead base new_name new_extent new_keys (done ++ x ∷ [])
+head_step base done x name new_name extent new_extent keys new_keys so_far clean name_is extent_is keys_are = record {
   clean = each_more (λ _. layer_field_rules base) done x so_far.clean ∙ form_first base x ∙ ap (option_map (fault_at (base + x.at))) clean;
   name_is = name_is ∙ ap (λ o. name_after o x.number x.content) so_far.name_is ∙ sym (name_more done x);
   extent_is = extent_is ∙ ap (λ n. extent_after n x.number x.content) so_far.extent_is ∙ sym (extent_more done x);
-  keys_are = keys_are ∙ ap (λ l. l ++ keys_at x.number x.content) so_far.keys_are ∙ append_assoc held (keys_in done) (keys_at x.number x.content) ∙ ap (λ l. held ++ l) (sym (keys_more done x));
+  keys_are = keys_are ∙ ap (λ l. l ++ keys_at x.number x.content) so_far.keys_are ∙ sym (keys_more done x);
 }
 
-pub head_stops : (base : ℕ) (done : List Entry) (x : Entry) (name : Option (List ℕ)) (extent : ℕ) (held keys : List (List ℕ)) (e : MessageError) → HeadSoFar base done name extent held keys → TellsMessage e (option_map (fault_at (base + x.at)) (first (layer_form_rules x.number x.content))) → (more : List Entry) → TellsMessage e (forms_fault base ((done ++ x ∷ []) ++ more))
-head_stops base done x name extent held keys e so_far told_here more =
-    tells_as e (option_map (fault_at (base + x.at)) (first (layer_form_rules x.number x.content))) _ (λ f broken. rw append_assoc (each_stops (λ _. layer_field_rules base) done x more f so_far.clean (form_first base x ∙ broken))) told_here
+pub head_stops : (base : ℕ) (done : List Entry) (x : Entry) (e : MessageError) → forms_fault base done ≡ None → TellsMessage e (option_map (fault_at (base + x.at)) (first (layer_form_rules x.number x.content))) → (more : List Entry) → TellsMessage e (forms_fault base ((done ++ x ∷ []) ++ more))
+head_stops base done x e clean told_here more =
+    tells_as e (option_map (fault_at (base + x.at)) (first (layer_form_rules x.number x.content))) _ (λ f broken. rw append_assoc (each_stops (λ _. layer_field_rules base) done x more f clean (form_first base x ∙ broken))) told_here
 
 -- values
 pub values_skip : (base : ℕ) (done : List Entry) (values : List Value) (x : Entry) → AreValuesSoFar base done values → x.number ≢ 4 → AreValuesSoFar base (done ++ x ∷ []) values
@@ -215,6 +237,10 @@ head_none rest_none payload base own rest clean version =
         let there = version_there (split payload).fields (versions_form base (split payload).fields clean) e in
         let clash : None ≡ Some there.0 = version ∙ there.1 in
         cc
+
+pub head_versions : RestNone → (payload : List ℕ) (base own : ℕ) (e : MessageError) → (split payload).rest ≡ [] → ((more : List Entry) → TellsMessage e (versions_fault base ((split payload).fields ++ more))) → TellsMessage e (head_fault payload base own)
+head_versions rest_none payload base own e rest stays =
+    or_tells e (rest_fault payload base) _ (rest_none base (split payload) rest) (tells_or e (versions_fault base (split payload).fields) _ (or_told (versions_fault base) (split payload).fields e stays))
 
 -- the exits of `read_layer`
 pub forms_told : (base own : ℕ) (xs : List Entry) (e : MessageError) → TellsMessage e (forms_fault base xs) → TellsMessage e (layer_fault base own xs)

@@ -1,7 +1,7 @@
 -- Definitions between private functions, which no public contract cites.
 use Rattle.std.specs.Prelude.{◌≡◌, ℕ, ◌==◌, Bool, List, [], ◌∷◌, ◌++◌, length, Option, Some, None, Result, is_none, unwrap_or, ⊤, if◌then◌else◌}
 use Rattle.std.specs.Bool.{OnTrue}
-use Rattle.std.specs.Option.{option_or}
+use Rattle.std.specs.Option.{option_or, option_copied}
 use Rattle.mvt_base.specs.Related.{AreRelated}
 use Rattle.mvt_base.specs.Rules.{when, rows, each, first}
 use Rattle.mvt_attrs.specs.declared.value.Attribute.{Attribute}
@@ -16,14 +16,15 @@ use Rattle.mvt_feature.specs.declared.cause.Cause.TheVariants.{NoVersion, NoName
 use Rattle.mvt_feature.specs.declared.feature.Feature.{Feature}
 use Rattle.mvt_feature.specs.declared.message_error.MessageError.{MessageError}
 use Rattle.mvt_feature.specs.declared.message_error.MessageError.TheVariants.{Memory, Fault}
-use Rattle.mvt_feature.specs.Faults.{MessageFault, fault_at, rest_rules}
+use Rattle.mvt_feature.specs.Faults.{MessageFault, TellsMessage, fault_at, rest_rules}
 use Rattle.mvt_feature.specs.Features.{number_of}
 use Rattle.mvt_feature.specs.Walks.{IsSoFar}
 use Rattle.mvt_feature.specs.Selection.{only, last_only}
+use Rattle.mvt_message.specs.declared.front.Front.{Front}
 use Rattle.mvt_message.specs.declared.item.Layer.{Layer as ALayer}
 use Rattle.mvt_message.specs.ItemRules.{version_rules, layer_field_rules, value_rules_of, feature_rules_of, layer_table}
 use Rattle.mvt_message.specs.Items.{HoldsValue, HoldsFeature}
-use Rattle.mvt_message.specs.LayerFields.{bytes_of, version_in}
+use Rattle.mvt_message.specs.LayerFields.{bytes_of, version_in, name_in, extent_in, keys_in}
 
 -- the parts of an item's fault, row by row
 abbrev pub rest_fault : List ℕ → ℕ → Option MessageFault
@@ -69,6 +70,21 @@ extent_after old number content = if number == 5 then unwrap_or (number_of conte
 abbrev pub keys_at : ℕ → Content → List (List ℕ)
 keys_at number content = if number == 3 then bytes_of content ∷ [] else []
 
+-- what the fields so far say, or the first fault that they have, which stays whatever fields follow
+abbrev pub OrFault : (List Entry → Option MessageFault) → (List Entry → Type 0) → List Entry → Option MessageError → Type 0
+OrFault fault Say done None = Say done
+OrFault fault Say done (Some error) = (more : List Entry) → TellsMessage error (fault (done ++ more))
+
+-- the name, the extent and the keys by fields that break no rule
+pub record IsHead (base : ℕ) (name : Option (List ℕ)) (extent : ℕ) (keys : List (List ℕ)) (fields : List Entry) : Type 0 where
+  pub clean : forms_fault base fields ≡ None
+  pub name_is : name ≡ name_in fields
+  pub extent_is : extent ≡ extent_in fields
+  pub keys_are : keys ≡ keys_in fields
+
+abbrev pub IsHeadSoFar : ℕ → List Entry → Option MessageError → Option (List ℕ) → ℕ → List (List ℕ) → Type 0
+IsHeadSoFar base done fault name extent keys = OrFault (forms_fault base) (IsHead base name extent keys) done fault
+
 -- the values, and the features, by the fields so far
 abbrev pub AreValuesSoFar : ℕ → List Entry → List Value → Type 0
 AreValuesSoFar base done values = (values_fault base done ≡ None) × AreRelated HoldsValue (only 4 done) values
@@ -84,6 +100,16 @@ AreHeld keep things count kept = (count ≡ length things) × OnTrue keep (kept 
 abbrev pub AreValuesHeld : Bool → ℕ → List Entry → ℕ → List Value → Type 0
 AreValuesHeld keep base done count kept =
     (values : List Value) × AreValuesSoFar base done values × AreHeld keep values count kept
+
+abbrev pub AreValuesSaid : Bool → ℕ → List Entry → Option MessageError → ℕ → List Value → Type 0
+AreValuesSaid keep base done fault count kept =
+    OrFault (values_fault base) (λ fields. AreValuesHeld keep base fields count kept) done fault
+
+-- the head and the values of a layer with these fields
+abbrev pub IsFront : Bool → ℕ → List Entry → Front → Type 0
+IsFront keep base fields front =
+    IsHeadSoFar base fields front.head_fault (option_copied front.head.name) front.head.extent front.head.keys.items
+    × AreValuesSaid keep base fields front.values_fault front.values.count front.values.kept.items
 
 abbrev pub AreFeaturesHeld : Bool → ℕ → List (List ℕ) → List Value → List Entry → ℕ → List Feature → Type 0
 AreFeaturesHeld keep base keys values done count kept =

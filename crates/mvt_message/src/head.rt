@@ -1,88 +1,85 @@
-//! The fields of a layer besides the contents of its values and features (Mapbox Vector Tile
-//! Specification 2.1, 4.1).
-ghost use Rattle.std.specs.Prelude.{◌≡◌, ◌+◌, ◌^◌, ◌<◌, [], ◌++◌, length, None, IfOk, IfErr, OnOk};
+//! The fields of a layer besides its version and the contents of its values and features (Mapbox Vector
+//! Tile Specification 2.1, 4.1).
+ghost use Rattle.std.specs.Prelude.{◌≡◌, ◌+◌, ◌^◌, ◌<◌, List, [], ◌∷◌, ◌++◌, None, IfErr, OnOk};
 ghost use Rattle.std.specs.Option.{option_map, option_copied};
 ghost use Rattle.mvt_base.specs.Rules.{first};
-ghost use Rattle.mvt_wire.specs.Field.{content_of};
-ghost use Rattle.mvt_wire.specs.Split.{split};
+ghost use Rattle.mvt_wire.specs.Field.{Entry, content_of, entry_of};
 ghost use Rattle.mvt_feature.specs.Faults.{TellsMessage, fault_at as the_fault_at};
-ghost use Rattle.mvt_message.specs.LayerFields.{name_in, extent_in, keys_in};
 ghost use Rattle.mvt_message.specs.ItemRules.{layer_form_rules};
-ghost use Rattle.mvt_message.specs.Inner.{forms_fault, name_after, extent_after, keys_at};
+ghost use Rattle.mvt_message.specs.Inner.{name_after, extent_after, keys_at, IsHeadSoFar};
 
 use crate::payload::{check_bytes, text_of, uint32_of};
 use mvt_base::Text;
 use mvt_feature::MessageError;
-use mvt_feature::laws::walks;
-use mvt_wire::{Field, Fields};
+use mvt_wire::Field;
 use std::alloc::Global;
 
-/// The name and the extent that count so far.
-#[derive(Clone, Copy, Debug)]
+/// The name, the extent and the keys by the fields so far.
+#[derive(Drop)]
 pub(crate) struct Head<'a> {
     pub(crate) name: Option<&'a str>,
     pub(crate) extent: u32,
-}
-
-/// The name and the extent of a layer; its keys are appended.
-pub(crate) fn read_head<'a>(
-    alloc: Global,
-    payload: &'a [u8],
-    base: u64,
-    keys: &mut Vec<Text>,
-) -> Result<Head<'a>, MessageError>
-    requires fits { base + length payload.now < 2 ^ 64 }
-    requires whole { (split payload.now).rest ≡ [] }
-    ensures ok { OnOk result (forms_fault base (split payload.now).fields ≡ None) }
-    ensures name { IfOk result (λ head. option_copied head.name ≡ name_in (split payload.now).fields) }
-    ensures extent { IfOk result (λ head. head.extent ≡ extent_in (split payload.now).fields) }
-    ensures keys { OnOk result (keys.new.items ≡ keys.old.items ++ keys_in (split payload.now).fields) }
-    ensures err { IfErr result (λ error. TellsMessage error (forms_fault base (split payload.now).fields)) }
-{
-    // What the proof needs to know of walks; it does nothing.
-    walks();
-    let mut head = Head {
-        name: None,
-        extent: 4096,
-    };
-    for field in Fields::new(payload) {
-        match field {
-            Ok(field) => head = head.with(alloc, &field, base + field.at as u64, keys)?,
-            Err(_) => unreachable!(),
-        }
-    }
-    Ok(head)
+    pub(crate) keys: Vec<Text>,
 }
 
 impl<'a> Head<'a> {
-    /// With one more field, which is told to stand at this place.
-    fn with(
-        self,
-        alloc: Global,
-        field: &Field<'a>,
-        at: u64,
-        keys: &mut Vec<Text>,
-    ) -> Result<Head<'a>, MessageError>
+    pub(crate) fn new(alloc: Global) -> Self
+        ensures name { option_copied result.name ≡ None }
+        ensures extent { result.extent ≡ 4096 }
+        ensures keys { result.keys.items ≡ [] }
+    {
+        Head {
+            name: None,
+            extent: 4096,
+            keys: Vec::new(alloc),
+        }
+    }
+
+    /// Takes one more field, which is told to stand at this place.
+    fn take(&mut self, alloc: Global, field: &Field<'a>, at: u64) -> Result<(), MessageError>
         ensures ok { OnOk result (first (layer_form_rules field.now.number (content_of field.now.payload)) ≡ None) }
-        ensures name { IfOk result (λ head. option_copied head.name
-            ≡ name_after (option_copied self.entry.name) field.now.number (content_of field.now.payload)) }
-        ensures extent { IfOk result (λ head. head.extent
-            ≡ extent_after self.entry.extent field.now.number (content_of field.now.payload)) }
-        ensures keys { OnOk result
-            (keys.new.items ≡ keys.old.items ++ keys_at field.now.number (content_of field.now.payload)) }
+        ensures name { OnOk result (option_copied self.new.name
+            ≡ name_after (option_copied self.old.name) field.now.number (content_of field.now.payload)) }
+        ensures extent { OnOk result (self.new.extent
+            ≡ extent_after self.old.extent field.now.number (content_of field.now.payload)) }
+        ensures keys { OnOk result (self.new.keys.items
+            ≡ self.old.keys.items ++ keys_at field.now.number (content_of field.now.payload)) }
         ensures err { IfErr result (λ error. TellsMessage error
             (option_map (the_fault_at at) (first (layer_form_rules field.now.number (content_of field.now.payload))))) }
     {
         let payload = &field.payload;
-        let mut head = self;
         match field.number {
-            1 => head.name = Some(text_of(payload, at)?),
+            1 => self.name = Some(text_of(payload, at)?),
             2 => check_bytes(payload, at)?,
-            3 => keys.push(Text::from_str(alloc, text_of(payload, at)?)?)?,
+            3 => self
+                .keys
+                .push(Text::from_str(alloc, text_of(payload, at)?)?)?,
             4 => check_bytes(payload, at)?,
-            5 => head.extent = uint32_of(payload, at)?,
+            5 => self.extent = uint32_of(payload, at)?,
             _ => {}
         }
-        Ok(head)
+        Ok(())
+    }
+}
+
+/// The head with one more field, unless a fault was met before it.
+pub(crate) fn take_head<'a>(
+    alloc: Global,
+    head: &mut Head<'a>,
+    fault: &mut Option<MessageError>,
+    field: &Field<'a>,
+    base: u64,
+)
+    requires { base + field.now.at < 2 ^ 64 }
+    ensures { (done : List Entry)
+        → IsHeadSoFar base done fault.old (option_copied head.old.name) head.old.extent head.old.keys.items
+        → IsHeadSoFar base (done ++ entry_of field.now ∷ []) fault.new (option_copied head.new.name) head.new.extent head.new.keys.items }
+{
+    if fault.is_some() {
+        return;
+    }
+    match head.take(alloc, field, base + field.at as u64) {
+        Ok(()) => {}
+        Err(error) => *fault = Some(error),
     }
 }

@@ -5,6 +5,7 @@
 mod below;
 mod bound;
 mod features;
+mod front;
 mod head;
 mod item;
 pub mod laws;

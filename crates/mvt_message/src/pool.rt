@@ -7,7 +7,7 @@ ghost use Rattle.mvt_wire.specs.Split.{split};
 ghost use Rattle.mvt_feature.specs.Faults.{TellsMessage};
 ghost use Rattle.mvt_feature.specs.Selection.{only};
 ghost use Rattle.mvt_message.specs.Items.{HoldsValue};
-ghost use Rattle.mvt_message.specs.Inner.{values_fault, AreHeld, AreValuesHeld};
+ghost use Rattle.mvt_message.specs.Inner.{values_fault, AreValuesHeld, AreValuesSaid};
 
 use crate::payload::bytes_of;
 use mvt_attrs::Value;
@@ -24,36 +24,41 @@ pub(crate) struct LayerValues {
     pub(crate) kept: Vec<Value>,
 }
 
-/// The values of a layer, which are built where they are to be kept, and only judged otherwise.
-pub(crate) fn read_values(
-    alloc: Global,
-    payload: &[u8],
-    base: u64,
-    keeps: bool,
-) -> Result<LayerValues, MessageError>
-    requires small { length payload.now < 2 ^ 32 }
-    requires fits { base + length payload.now < 2 ^ 64 }
-    requires whole { (split payload.now).rest ≡ [] }
-    ensures ok { OnOk result (values_fault base (split payload.now).fields ≡ None) }
-    ensures values { IfOk result (λ found. (values : List Value)
-        × AreRelated HoldsValue (only 4 (split payload.now).fields) values
-        × AreHeld keeps values found.count found.kept.items) }
-    ensures err { IfErr result (λ error. TellsMessage error (values_fault base (split payload.now).fields)) }
-{
-    // What the proof needs to know of splits and of walks; they do nothing.
-    split_function();
-    walks();
-    let mut values = LayerValues {
-        count: 0,
-        kept: Vec::new(alloc),
-    };
-    for field in Fields::new(payload) {
-        match field {
-            Ok(field) => append_value(alloc, &field, base, keeps, &mut values)?,
-            Err(_) => unreachable!(),
+impl LayerValues {
+    pub(crate) fn new(alloc: Global) -> Self
+        ensures count { result.count ≡ 0 }
+        ensures kept { result.kept.items ≡ [] }
+    {
+        LayerValues {
+            count: 0,
+            kept: Vec::new(alloc),
         }
     }
-    Ok(values)
+}
+
+/// The values with one more field, unless a fault was met before it. They are built where they are to be
+/// kept, and only judged otherwise.
+pub(crate) fn take_value(
+    alloc: Global,
+    values: &mut LayerValues,
+    fault: &mut Option<MessageError>,
+    field: &Field<'_>,
+    base: u64,
+    keeps: bool,
+)
+    requires few { fault.old ≡ None → values.old.count < 2 ^ 32 }
+    requires at { base + field.now.at < 2 ^ 64 }
+    requires body { base + (field.now.body + bytes_size (content_of field.now.payload)) < 2 ^ 64 }
+    ensures { (done : List Entry) → AreValuesSaid keeps base done fault.old values.old.count values.old.kept.items
+        → AreValuesSaid keeps base (done ++ entry_of field.now ∷ []) fault.new values.new.count values.new.kept.items }
+{
+    if fault.is_some() {
+        return;
+    }
+    match append_value(alloc, field, base, keeps, values) {
+        Ok(()) => {}
+        Err(error) => *fault = Some(error),
+    }
 }
 
 /// Appends the value of a field that holds one.

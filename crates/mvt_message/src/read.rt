@@ -1,5 +1,5 @@
 //! Reading an item (Mapbox Vector Tile Specification 2.1, 4.1).
-ghost use Rattle.std.specs.Prelude.{◌≡◌, ◌+◌, ◌^◌, ◌<◌, ◌≤◌, [], length, Some, None, IfOk, IfErr, OnOk};
+ghost use Rattle.std.specs.Prelude.{◌≡◌, ◌+◌, ◌^◌, ◌<◌, ◌≤◌, [], length, true, Some, None, IfOk, IfErr, OnOk};
 ghost use Rattle.std.specs.Option.{option_copied, option_to_list};
 ghost use Rattle.mvt_wire.specs.Split.{split};
 ghost use Rattle.mvt_feature.specs.Faults.{TellsMessage};
@@ -8,13 +8,11 @@ ghost use Rattle.mvt_message.specs.ItemRules.{item_fault, payload_names};
 ghost use Rattle.mvt_message.specs.LayerFields.{name_in};
 ghost use Rattle.mvt_message.specs.Items.{IsItem, IsLayer};
 ghost use Rattle.mvt_message.specs.ValidItems.{ValidItem};
-ghost use Rattle.mvt_message.specs.Inner.{layer_fault, AreParts};
+ghost use Rattle.mvt_message.specs.Inner.{layer_fault, AreParts, IsFront};
 
 use crate::features::read_features;
-use crate::head::read_head;
+use crate::front::{Front, read_front};
 use crate::item::{Item, Layer};
-use crate::pool::read_values;
-use crate::version::read_version;
 use mvt_base::{Items, LIMIT, Text};
 use mvt_feature::laws::{read_is_valid, rests, value_function};
 use mvt_feature::{Cause, Feature, MessageError, fault_at};
@@ -40,9 +38,9 @@ pub fn read_item(alloc: Global, payload: &[u8], base: u64, own: u64) -> Result<I
     split_function();
     rests();
     read_is_valid();
-    let version = read_version(payload, base, own)?;
+    let (version, front) = read_front(alloc, payload, base, own, true)?;
     if version == 2 {
-        return Ok(Item::Layer(read_layer(alloc, payload, base, own)?));
+        return Ok(Item::Layer(read_layer(alloc, payload, base, own, front)?));
     }
     let bytes = Items::new(Vec::from_slice(alloc, payload)?);
     Ok(Item::Foreign { version, bytes })
@@ -68,24 +66,31 @@ pub fn judge_item<'a>(
 {
     // What the proof needs to know of rests; it does nothing.
     rests();
-    let version = read_version(payload, base, own)?;
+    let (version, front) = read_front(alloc, payload, base, own, false)?;
     if version != 2 {
         return Ok(None);
     }
-    let parts = read_parts(alloc, payload, base, own, false)?;
+    let parts = read_parts(alloc, payload, base, own, front, false)?;
     Ok(Some(parts.name))
 }
 
-/// The layer of a payload that splits into fields and has version 2.
-fn read_layer(alloc: Global, payload: &[u8], base: u64, own: u64) -> Result<Layer, MessageError>
+/// The layer of a payload that splits into fields and has version 2, whose front was read.
+fn read_layer<'a>(
+    alloc: Global,
+    payload: &'a [u8],
+    base: u64,
+    own: u64,
+    front: Front<'a>,
+) -> Result<Layer, MessageError>
     requires small { length payload.now ≤ LIMIT }
     requires fits { base + length payload.now < 2 ^ 64 }
     requires whole { (split payload.now).rest ≡ [] }
+    requires front { IsFront true base (split payload.now).fields front }
     ensures ok { OnOk result (layer_fault base own (split payload.now).fields ≡ None) }
     ensures layer { IfOk result (IsLayer (split payload.now).fields) }
     ensures fault { IfErr result (λ error. TellsMessage error (layer_fault base own (split payload.now).fields)) }
 {
-    let parts = read_parts(alloc, payload, base, own, true)?;
+    let parts = read_parts(alloc, payload, base, own, front, true)?;
     Ok(Layer {
         name: Text::from_str(alloc, parts.name)?,
         extent: parts.extent,
@@ -107,11 +112,13 @@ fn read_parts<'a>(
     payload: &'a [u8],
     base: u64,
     own: u64,
+    front: Front<'a>,
     keeps: bool,
 ) -> Result<LayerParts<'a>, MessageError>
     requires small { length payload.now ≤ LIMIT }
     requires fits { base + length payload.now < 2 ^ 64 }
     requires whole { (split payload.now).rest ≡ [] }
+    requires front { IsFront keeps base (split payload.now).fields front }
     ensures ok { OnOk result (layer_fault base own (split payload.now).fields ≡ None) }
     ensures name { IfOk result (λ parts. Some parts.name.now ≡ name_in (split payload.now).fields) }
     ensures layer { IfOk result (λ parts. (layer : ALayer) × IsLayer (split payload.now).fields layer
@@ -120,14 +127,23 @@ fn read_parts<'a>(
 {
     // What the proof needs to know of values; it does nothing.
     value_function();
-    let mut keys = Vec::new(alloc);
-    let head = read_head(alloc, payload, base, &mut keys)?;
+    let Front {
+        head,
+        head_fault,
+        values,
+        values_fault,
+    } = front;
+    if let Some(error) = head_fault {
+        return Err(error);
+    }
     let name = match head.name {
         Some(name) => name,
         None => return Err(fault_at(own, Cause::NoName)),
     };
-    let values = read_values(alloc, payload, base, keeps)?;
-    let features = read_features(alloc, payload, base, &keys, &values, keeps)?;
+    if let Some(error) = values_fault {
+        return Err(error);
+    }
+    let features = read_features(alloc, payload, base, &head.keys, &values, keeps)?;
     Ok(LayerParts {
         name,
         extent: head.extent,

@@ -1,0 +1,12 @@
+use Rattle.std.proofs.Common.{List}
+use Rattle.std.specs.Option.{option_copied}
+use Rattle.mvt_wire.specs.Field.{Entry}
+use Rattle.mvt_feature.specs.Walks.{Walk}
+use Rattle.mvt_message.specs.Inner.{IsVersionSoFar, IsHeadSoFar, AreValuesSaid}
+use Rattle.mvt_message.proofs.front.read_front.Given as goal
+
+abbrev pub invariant-loop-field : goal.invariant-loop-field
+invariant-loop-field l =
+    (done : List Entry) × Walk l.payload l.field-iterator.to_come done × IsVersionSoFar l.base done l.version
+    × IsHeadSoFar l.base done l.head_fault (option_copied l.head.name) l.head.extent l.head.keys.items
+    × AreValuesSaid l.keeps l.base done l.values_fault l.values.count l.values.kept.items
