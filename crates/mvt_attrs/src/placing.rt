@@ -40,11 +40,14 @@ pub fn tags_of(
         × ¬ (IsFullAt n attributes.now keys.new values.new) }
 {
     let mut tags = Vec::new(alloc);
-    append_tags(attributes, keys, values, &mut tags)?;
+    append_tags(attributes, keys, values, &[], &mut tags)?;
     Ok(tags)
 }
 
 /// Appends the tags that `tags_of` gives to a list, which can be kept from feature to feature.
+///
+/// An entry is looked for first where `last` has it, such as the tags of the feature before. Any
+/// numbers will do: the entry there is compared.
 ///
 /// # Errors
 /// The pools are as after a refused `tags_of`, and the list is as it was or a longer one.
@@ -52,6 +55,7 @@ pub fn append_tags(
     attributes: &[Attribute],
     keys: &mut KeyPool,
     values: &mut ValuePool,
+    last: &[u32],
     tags: &mut Vec<u32>,
 ) -> Result<(), PoolError>
     ensures tags { OnOk result (tags.new.items ≡ tags.old.items ++ tags_in keys.new values.new attributes.now) }
@@ -73,10 +77,12 @@ pub fn append_tags(
         × ¬ (IsFullAt n attributes.now keys.new values.new) }
 {
     let _ = (keys.len(), values.len());
+    let mut last = last;
     for attribute in attributes {
-        let key = keys.place(&attribute.key)?;
-        let value = values.place(&attribute.value)?;
+        let key = keys.place_near(&attribute.key, last.first())?;
+        let value = values.place_near(&attribute.value, last.get(1))?;
         tags.extend_from_slice(&[key, value])?;
+        last = last.get(2..).unwrap_or(&[]);
     }
     Ok(())
 }

@@ -6,6 +6,7 @@ ghost use Rattle.mvt_attrs.specs.Inner.Finding.{Knows};
 use crate::entry::Entry;
 use crate::finder::{Finder, find, note};
 use crate::pool_error::PoolError;
+use crate::spread::is_at;
 use mvt_base::LIMIT;
 use std::alloc::{AllocError, Global};
 use std::marker::Model;
@@ -87,6 +88,26 @@ impl<T: Entry> Pool<T> {
         }
         append(&mut self.entries, &mut self.finder, entry)?;
         Ok(index as u32)
+    }
+    /// `place`, where the entry may stand at this place: that is tried first.
+    pub(crate) fn place_near(&mut self, entry: &T, guess: Option<&u32>) -> Result<u32, PoolError>
+        ensures index { IfOk result (λ i. slice_get self.new i ≡ Some entry.now) }
+
+        // An entry that is there is found.
+        ensures present { Contains self.old entry.now → IsOk result }
+        ensures kept { Contains self.old entry.now → self.new ≡ self.old }
+
+        // Another is added, or the pool stays.
+        ensures added { ¬ (Contains self.old entry.now) → OnOk result (self.new ≡ self.old ++ entry.now ∷ []) }
+        ensures unchanged { OnErr result (self.new ≡ self.old) }
+        ensures full { IsErrOf result PoolError.Full ↔ ((length self.old ≡ LIMIT) × (¬ (Contains self.old entry.now))) }
+    {
+        if let Some(index) = guess {
+            if is_at(&self.entries, *index as usize, entry) {
+                return Ok(*index);
+            }
+        }
+        self.place(entry)
     }
 }
 
