@@ -1,4 +1,4 @@
-// Reads and writes tiles that are made to be dear: many small parts, a long text that many features
+// Judges, reads and writes tiles that are made to be dear: many small parts, a long text that many features
 // name, and keys and names that all have one hash. The first is too large to be written.
 //
 //   bench/beside.sh hostile
@@ -13,20 +13,24 @@
 #include <cstring>
 #include <string>
 
+extern "C" bool mvt_judge(const unsigned char* bytes, std::size_t len);
 extern "C" std::uint64_t mvt_decode(const unsigned char* bytes, std::size_t len, bool keeps);
 extern "C" std::uint64_t mvt_write(const unsigned char* bytes, std::size_t len, std::uint32_t times);
 
 static void row(const char* name, const std::string& tile) {
     const auto* bytes = reinterpret_cast<const unsigned char*>(tile.data());
+    const double size = tile.size() / 1e6;
+    const auto judged = run_apart([&] { return std::uint64_t{mvt_judge(bytes, tile.size())}; });
     const auto read = run_apart([&] { return mvt_decode(bytes, tile.size(), true); });
     const auto written = run_apart([&] { return mvt_write(bytes, tile.size(), 1); });
-    if (read.answer == 0) {
+    if (judged.answer == 0 || read.answer == 0) {
         std::printf("%s: refused\n", name);
         std::exit(1);
     }
-    std::printf("| %s | %.1f | %.3f | %.0f |", name, tile.size() / 1e6, read.seconds, read.megabytes);
+    std::printf("| %s | %.1f | %.3f | %.0f, %.1f | %.3f | %.0f, %.1f |", name, size, judged.seconds, judged.megabytes,
+                judged.megabytes / size, read.seconds, read.megabytes, read.megabytes / size);
     if (written.answer == read.answer) {
-        std::printf(" %.3f | %.0f |\n", std::max(written.seconds - read.seconds, 0.0), written.megabytes);
+        std::printf(" %.3f | %.0f, %.1f |\n", std::max(written.seconds - read.seconds, 0.0), written.megabytes, written.megabytes / size);
     } else {
         std::printf(" | |\n");
     }
@@ -59,6 +63,31 @@ static std::string many_attributes(std::size_t count, const std::string& front) 
     Layer layer{"a"};
     layer.add(nullptr, attributes, 1, {9, 50, 34});
     return tile_of(layer.finish());
+}
+
+// A text of four characters for each number below 64^4.
+static std::string short_text(std::uint32_t number) {
+    std::string text;
+    for (int i = 0; i < 4; ++i) text.push_back(static_cast<char>('0' + (number >> (6 * i) & 63)));
+    return text;
+}
+
+static std::string unnamed_keys(std::uint32_t count) {
+    std::string payload{"\x78\x02\x0A\x01\x61", 5};
+    for (std::uint32_t i = 0; i < count; ++i) put_bytes(payload, 3, short_text(i));
+    return tile_of(payload);
+}
+
+// A feature of this many attributes, each of another key.
+static std::string many_tags(std::uint32_t count) {
+    std::vector<std::uint32_t> tags;
+    for (std::uint32_t i = 0; i < count; ++i) tags.insert(tags.end(), {i, 0});
+    std::string feature, payload{"\x78\x02\x0A\x01\x61", 5};
+    put_bytes(feature, 2, packed(tags));
+    put_bytes(payload, 2, feature);
+    for (std::uint32_t i = 0; i < count; ++i) put_bytes(payload, 3, short_text(i));
+    put_bytes(payload, 4, uint_value(5));
+    return tile_of(payload);
 }
 
 static std::string many_names(std::size_t count, const std::string& front) {
@@ -100,11 +129,14 @@ static std::string forgetful_front() {
 int main() {
     const auto front = forgetful_front();
     const std::string plain(24, 'a');
-    std::printf("| Tile | Size, MB | `decode`, s | Peak, MB | `write_tile`, s | Peak, MB |\n|---|---|---|---|---|---|\n");
+    std::printf("| Tile | Size, MB | `judge`, s | Peak, MB, times the size | `decode`, s | Peak, MB, times the size "
+                "| `write_tile`, s | Peak, MB, times the size |\n|---|---|---|---|---|---|---|---|\n");
     row("33,554,000 features without fields", bare_features());
     row("4,200,000 layers without features", small_layers());
     row("11,180,000 lines of 2 points in one feature", many_strokes(2, 11'180'000, {9, 0, 0, 10, 4, 2}));
     row("7,450,000 rings of 3 points in one feature", many_strokes(3, 7'450'000, {9, 0, 0, 18, 4, 0, 3, 4, 15}));
+    row("1,000,000 keys that no feature names", unnamed_keys(1'000'000));
+    row("one feature of 10,000,000 tags", many_tags(5'000'000));
     row("one text of 65,536 bytes in 10,000 features", long_text(65'536, 10'000));
     row("20,000 keys in one feature", many_attributes(20'000, plain));
     row("20,000 keys of one hash in one feature", many_attributes(20'000, front));

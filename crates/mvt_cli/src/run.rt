@@ -12,7 +12,7 @@ ghost use Rattle.mvt_tasks.specs.Output.{Answers, Gives, IfReadWhole, IsFlushed,
 use crate::words::{Asked, Refusal, read_words};
 use mvt_base::LIMIT;
 use mvt_io::{Sink, Source};
-use mvt_tasks::{Failure, Folder, answer, check_files, tell};
+use mvt_tasks::{Failure, Folder, MOST_READS, answer, check_files, tell};
 use std::alloc::Global;
 
 /// Runs the program on the words of its command line, the first of which is its name, and answers
@@ -67,7 +67,7 @@ pub fn run<F: Folder, R: Source, W: Sink, E: Sink>(
     ensures told { result ≡ 2 → (text : List ℕ) × (NoneFailed (E.failed errors.old) (E.failed errors.new)
         → Appends (E.taken errors.old) (E.taken errors.new) text) }
     ensures plain { IsPlainLine (map string_bytes words.now) → result ≢ 2 }
-    ensures reads { R.reads reader.new ≤ R.reads reader.old + 67108866 }
+    ensures reads { R.reads reader.new ≤ R.reads reader.old + MOST_READS }
     ensures asked { R.asked reader.new ≤ max (R.asked reader.old) 65536 }
     ensures leaves { IfReadWhole (task_in (map string_bytes words.now))
         (TakesAtMost (LIMIT + 1) (R.left reader.old) (R.left reader.new)) }

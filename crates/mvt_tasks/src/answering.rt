@@ -16,6 +16,7 @@ use crate::task::Task;
 use crate::viewing::{View, view_tile};
 use mvt_base::{LIMIT, Text};
 use mvt_io::{Sink, Source};
+use mvt_tile::MOST_READS;
 use std::alloc::Global;
 
 /// Does a task, but for the line on the error stream, which it answers.
@@ -41,7 +42,7 @@ pub fn answer<R: Source, W: Sink>(
     ensures partly { IfErr result (LeavesOutput (is_made_whole task) (writer.new ≡ writer.old)
         (IfSome (R.left reader.old) (λ input. (text : List ℕ) × IsWhole LIMIT task input text
         × TakesPrefix (W.taken writer.old) (W.taken writer.new) text))) }
-    ensures reads { R.reads reader.new ≤ R.reads reader.old + 67108866 }
+    ensures reads { R.reads reader.new ≤ R.reads reader.old + MOST_READS }
     ensures asked { R.asked reader.new ≤ max (R.asked reader.old) 65536 }
     ensures leaves { IfReadWhole task (TakesAtMost (LIMIT + 1) (R.left reader.old) (R.left reader.new)) }
 {

@@ -16,7 +16,7 @@ use crate::rewriting::put_tile;
 use crate::task::Task;
 use mvt_base::{LIMIT, Text};
 use mvt_io::{Sink, Source};
-use mvt_tile::{ExtractError, Tile, extract, read_tile};
+use mvt_tile::{ExtractError, MOST_READS, Tile, extract, read_tile};
 use std::alloc::{AllocError, Global};
 
 /// Writes the named layers of a tile.
@@ -38,7 +38,7 @@ pub fn extract_layers<R: Source, W: Sink>(
     ensures partly { IfErr result (LeavesOutput false (writer.new ≡ writer.old)
         (IfSome (R.left reader.old) (λ input. (text : List ℕ) × IsWhole LIMIT (Task.Extract names.now) input text
         × TakesPrefix (W.taken writer.old) (W.taken writer.new) text))) }
-    ensures reads { R.reads reader.new ≤ R.reads reader.old + 67108866 }
+    ensures reads { R.reads reader.new ≤ R.reads reader.old + MOST_READS }
     ensures asked { R.asked reader.new ≤ max (R.asked reader.old) 65536 }
 {
     match read_tile(alloc, reader) {

@@ -27,6 +27,7 @@ pub use failure::Failure;
 pub use files::check_files;
 pub use folder::{Disk, Folder, Visit};
 pub use listing::list_fields;
+pub use mvt_tile::MOST_READS;
 pub use memory::{MemoryFile, MemoryFolder};
 pub use names::Names;
 pub use reply::{Reply, tell};

@@ -10,6 +10,7 @@ use crate::reply::Reply;
 use crate::task::Task;
 use mvt_base::{LIMIT, Text};
 use mvt_io::{Source, read_all};
+use mvt_tile::MOST_READS;
 use mvt_view::{FieldsText, fields_text};
 use std::alloc::Global;
 
@@ -20,7 +21,7 @@ pub fn list_fields<R: Source>(alloc: Global, reader: &mut R) -> Result<Reply, Fa
     ensures failed { IfErr result (IsCaused (EndsFailed (R.failed reader.old) (R.failed reader.new) (R.ended reader.new))
         ⊥ (R.failed reader.new ≡ R.failed reader.old)) }
     ensures sound { OnOk result (R.failed reader.new ≡ R.failed reader.old) }
-    ensures reads { R.reads reader.new ≤ R.reads reader.old + 67108866 }
+    ensures reads { R.reads reader.new ≤ R.reads reader.old + MOST_READS }
     ensures asked { R.asked reader.new ≤ max (R.asked reader.old) 65536 }
     ensures leaves { TakesAtMost (LIMIT + 1) (R.left reader.old) (R.left reader.new) }
 {

@@ -13,7 +13,7 @@ use crate::refusal::refusal;
 use crate::task::Task;
 use mvt_base::{LIMIT, Text};
 use mvt_io::{Sink, Source};
-use mvt_tile::{Tile, WriteError, read_tile, write_tile};
+use mvt_tile::{MOST_READS, Tile, WriteError, read_tile, write_tile};
 use std::alloc::Global;
 
 /// Writes a tile in its canonical form. Answers the line that is to be told, if there is one.
@@ -34,7 +34,7 @@ pub fn rewrite<R: Source, W: Sink>(
     ensures partly { IfErr result (LeavesOutput false (writer.new ≡ writer.old)
         (IfSome (R.left reader.old) (λ input. (text : List ℕ) × IsWhole LIMIT Task.Rewrite input text
         × TakesPrefix (W.taken writer.old) (W.taken writer.new) text))) }
-    ensures reads { R.reads reader.new ≤ R.reads reader.old + 67108866 }
+    ensures reads { R.reads reader.new ≤ R.reads reader.old + MOST_READS }
     ensures asked { R.asked reader.new ≤ max (R.asked reader.old) 65536 }
 {
     match read_tile(alloc, reader) {

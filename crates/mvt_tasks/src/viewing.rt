@@ -8,7 +8,7 @@ use crate::refusal::refusal;
 use crate::reply::Reply;
 use mvt_base::{LIMIT, Text};
 use mvt_io::Source;
-use mvt_tile::{Tile, read_tile};
+use mvt_tile::{MOST_READS, Tile, read_tile};
 use mvt_view::{json_text, svg_text};
 use std::alloc::Global;
 
@@ -26,7 +26,7 @@ pub fn view_tile<R: Source>(alloc: Global, view: View, reader: &mut R) -> Result
     ensures failed { IfErr result (IsCaused (EndsFailed (R.failed reader.old) (R.failed reader.new) (R.ended reader.new))
         ⊥ (R.failed reader.new ≡ R.failed reader.old)) }
     ensures sound { OnOk result (R.failed reader.new ≡ R.failed reader.old) }
-    ensures reads { R.reads reader.new ≤ R.reads reader.old + 67108866 }
+    ensures reads { R.reads reader.new ≤ R.reads reader.old + MOST_READS }
     ensures asked { R.asked reader.new ≤ max (R.asked reader.old) 65536 }
 {
     match read_tile(alloc, reader) {

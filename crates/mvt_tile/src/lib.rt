@@ -37,7 +37,7 @@ pub use mvt_geometry::{Geometry, Kind, Point, Polygon};
 pub use mvt_message::{Item, Layer, PutError};
 pub use note::Note;
 pub use noting::notes;
-pub use reading::read_tile;
+pub use reading::{MOST_READS, read_tile};
 pub use round_trip::write_and_read;
 pub use tile::Tile;
 pub use validity::{is_valid, validate};

@@ -20,8 +20,8 @@ use std::alloc::Global;
 /// The most bytes that one read asks for.
 const PIECE: usize = 65_536;
 
-/// The most reads: each but the last gives a byte, and a byte beyond the limit ends the call.
-const MOST_READS: u64 = LIMIT + 2;
+/// The most reads of one tile: each but the last gives a byte, and a byte beyond the limit ends the call.
+pub const MOST_READS: u64 = LIMIT + 2;
 
 /// Reads a tile: all that the reader has left. It reads no further after a fault.
 ///
@@ -36,7 +36,7 @@ pub fn read_tile<R: Source>(alloc: Global, reader: &mut R) -> Result<Tile, Decod
         (λ input. TellsInput error (fault_within LIMIT input))) }
     ensures early { StopsEarly LIMIT 65536 (R.left reader.old) (R.left reader.new) }
     ensures stops { StopsEarly LIMIT (R.given reader.new) (R.left reader.old) (R.left reader.new) }
-    ensures reads { R.reads reader.new ≤ R.reads reader.old + 67108866 }
+    ensures reads { R.reads reader.new ≤ R.reads reader.old + MOST_READS }
     ensures asked { R.asked reader.new ≤ max (R.asked reader.old) 65536 }
     ensures failed { IfErr result (λ error. IsReadError error
         → HasFailed (R.failed reader.old) (R.failed reader.new)) }

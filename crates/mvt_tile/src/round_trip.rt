@@ -12,7 +12,7 @@ ghost use Rattle.mvt_tile.specs.Writing.{IsWriteFault, IsWriteKind};
 
 use crate::fault::DecodeError;
 use crate::laws;
-use crate::reading::read_tile;
+use crate::reading::{MOST_READS, read_tile};
 use crate::tile::Tile;
 use crate::write_error::WriteError;
 use crate::writing::write_tile;
@@ -61,7 +61,7 @@ pub fn write_and_read<W: Sink, R: Source>(
     ensures end { IfOk result (λ read. OnOk read (IsAtEnd (R.left reader.new))) }
     ensures early { OnOk result (StopsEarly LIMIT 65536 (R.left reader.old) (R.left reader.new)) }
     ensures stops { OnOk result (StopsEarly LIMIT (R.given reader.new) (R.left reader.old) (R.left reader.new)) }
-    ensures reads { R.reads reader.new ≤ R.reads reader.old + 67108866 }
+    ensures reads { R.reads reader.new ≤ R.reads reader.old + MOST_READS }
     ensures asked { R.asked reader.new ≤ max (R.asked reader.old) 65536 }
     ensures read_failed { IfOk result (λ read. IfErr read (λ error. IsReadError error
         → HasFailed (R.failed reader.old) (R.failed reader.new))) }
