@@ -11,7 +11,7 @@ use std::marker::Model;
 ///
 /// ```
 /// let mut reader = Host::new(rt.stdin());
-/// let input = read_all(rt.alloc(), &mut reader);
+/// let input = read_up_to(rt.alloc(), &mut reader, 1000);
 /// ```
 #[derive(Drop)]
 pub struct Host<T> {

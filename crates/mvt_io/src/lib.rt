@@ -19,4 +19,4 @@ pub use memory_source::MemorySource;
 pub use read_error::ReadError;
 pub use sink::Sink;
 pub use source::Source;
-pub use transfers::{read_all, write_all};
+pub use transfers::{read_up_to, write_all};

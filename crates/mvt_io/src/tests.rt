@@ -81,14 +81,18 @@ impl Write for Counting {
 fn reads_whole(rt: HostRuntime) -> Result<(), Fail> {
     for (step, calls) in [(1, 20), (7, 4), (65_536, 2)] {
         let mut reader = tile_source(rt.alloc(), step, u64::MAX)?;
-        let bytes = read_all(rt.alloc(), &mut reader)?;
+        let bytes = read_up_to(rt.alloc(), &mut reader, 100)?;
         assert_eq!(rt; bytes.as_slice(), TILE.as_slice());
         assert_eq!(rt; reader.calls(), calls);
     }
     let mut reader = tile_source(rt.alloc(), 1, 5)?;
-    let error = read_all(rt.alloc(), &mut reader).err();
+    let error = read_up_to(rt.alloc(), &mut reader, 100).err();
     assert_eq!(rt; error, Some(ReadError::Read(ErrorKind::Other)));
     assert_eq!(rt; reader.calls(), 6);
+    let mut reader = tile_source(rt.alloc(), 7, u64::MAX)?;
+    let front = read_up_to(rt.alloc(), &mut reader, 10)?;
+    assert_eq!(rt; Some(front.as_slice()), TILE.get(..10));
+    assert_eq!(rt; reader.calls(), 2);
     Ok(())
 }
 
@@ -123,7 +127,7 @@ fn writes_whole(rt: HostRuntime) -> Result<(), Fail> {
 #[test]
 fn hosts_pass_on(rt: HostRuntime) -> Result<(), Fail> {
     let mut reader = Host::new(TILE.as_slice());
-    let bytes = read_all(rt.alloc(), &mut reader)?;
+    let bytes = read_up_to(rt.alloc(), &mut reader, 100)?;
     assert_eq!(rt; bytes.as_slice(), TILE.as_slice());
     let mut copy = Vec::new(rt.alloc());
     let mut writer = Host::new(&mut copy);
@@ -133,7 +137,7 @@ fn hosts_pass_on(rt: HostRuntime) -> Result<(), Fail> {
 
     let mut gone = Host::new(Broken);
     let error = ReadError::Read(ErrorKind::ConnectionReset);
-    assert_eq!(rt; read_all(rt.alloc(), &mut gone).err(), Some(error));
+    assert_eq!(rt; read_up_to(rt.alloc(), &mut gone, 100).err(), Some(error));
     assert_eq!(rt; write_all(&mut gone, &TILE), Err(ErrorKind::BrokenPipe));
     assert_eq!(rt; gone.flush(), Err(ErrorKind::StorageFull));
     let text = format!(in rt.alloc(); "{error}, {}", ReadError::Memory)?;
@@ -180,7 +184,7 @@ fn refused_growths(rt: HostRuntime) {
             refused = refused.saturating_add(1);
             continue;
         };
-        match read_all(rt.alloc(), &mut reader) {
+        match read_up_to(rt.alloc(), &mut reader, 100) {
             Ok(bytes) => assert_eq!(rt; bytes.as_slice(), TILE.as_slice()),
             Err(error) => {
                 assert_eq!(rt; error, ReadError::Memory);

@@ -5,40 +5,18 @@ ghost use Rattle.mvt_io.specs.Counts.{HasFailed};
 ghost use Rattle.mvt_io.specs.Transfers.{IsReadFault, IsFaultOf, TakesAtMost, TakesPrefix};
 
 use super::{ReadError, Sink, Source};
-use mvt_base::LIMIT;
 use std::alloc::Global;
 use std::io::ErrorKind;
 
 /// The most bytes that one read asks for.
 const PIECE: usize = 65_536;
 
-/// All bytes that the reader has left, but no more than one past the limit: so many bytes show that
-/// the input is too long.
+/// All bytes that the reader has left, but at most so many.
 ///
 /// # Errors
 ///
 /// A read that failed ends the call. After an error the bytes read so far are lost.
-pub fn read_all<R: Source>(alloc: Global, reader: &mut R) -> Result<Vec<u8>, ReadError>
-    ensures front { IfOk result (λ bytes. Consumes (R.left reader.old) (R.left reader.new) bytes.items) }
-    ensures bytes { IfOk result (λ bytes. IfSome (R.left reader.old)
-        (λ left. bytes.items ≡ take (LIMIT + 1) left)) }
-    ensures short { IfOk result (λ bytes. length bytes.items ≤ LIMIT → IsAtEnd (R.left reader.new)) }
-    ensures most { IfOk result (λ bytes. length bytes.items ≤ LIMIT + 1) }
-    ensures leaves { TakesAtMost (LIMIT + 1) (R.left reader.old) (R.left reader.new) }
-    ensures reads { R.reads reader.new ≤ R.reads reader.old + (LIMIT + 2) }
-    ensures asked { R.asked reader.new ≤ max (R.asked reader.old) 65536 }
-    ensures honest { OnOk result (R.failed reader.new ≡ R.failed reader.old) }
-    ensures failed { IfErr result (λ error. IsReadFault error
-        → HasFailed (R.failed reader.old) (R.failed reader.new)) }
-    ensures ended { IfErr result (λ error. IsReadFault error → R.ended reader.new ≡ true) }
-    ensures kind { IfErr result (λ error. IsFaultOf error (R.fault reader.new)) }
-    ensures memory { result ≡ Err ReadError.Memory → R.failed reader.new ≡ R.failed reader.old }
-{
-    read_up_to(alloc, reader, LIMIT as usize + 1)
-}
-
-// All bytes that the reader has left, but at most so many.
-fn read_up_to<R: Source>(alloc: Global, reader: &mut R, most: usize) -> Result<Vec<u8>, ReadError>
+pub fn read_up_to<R: Source>(alloc: Global, reader: &mut R, most: usize) -> Result<Vec<u8>, ReadError>
     ensures front { IfOk result (λ bytes. Consumes (R.left reader.old) (R.left reader.new) bytes.items) }
     ensures bytes { IfOk result (λ bytes. IfSome (R.left reader.old)
         (λ left. bytes.items ≡ take most left)) }
