@@ -1,7 +1,7 @@
 //! Lists that are used again from feature to feature.
 use std::alloc::Global;
 
-/// Room for the tags and the integers of a feature while it is read.
+/// Room for the tags and the integers of a feature while it is read or written.
 ///
 /// ```text
 /// let mut room = Room::new(alloc);
@@ -14,6 +14,8 @@ use std::alloc::Global;
 #[derive(Debug, Drop)]
 pub struct Room {
     pub(crate) tags: Vec<u32>,
+    /// The tags of the feature that was written last.
+    pub(crate) last: Vec<u32>,
     pub(crate) integers: Vec<u32>,
 }
 
@@ -22,6 +24,7 @@ impl Room {
     pub fn new(alloc: Global) -> Self {
         Room {
             tags: Vec::new(alloc),
+            last: Vec::new(alloc),
             integers: Vec::new(alloc),
         }
     }

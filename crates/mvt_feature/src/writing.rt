@@ -17,6 +17,7 @@ use mvt_geometry::{Kind, append_geometry, kind_of};
 use mvt_wire::laws::short_lengths;
 use mvt_wire::{Payload, field_len, put_field, put_packed, varint_len, zigzag64};
 use std::alloc::AllocError;
+use std::mem::swap;
 
 /// Appends the payload of a value.
 pub fn append_value(out: &mut Vec<u8>, value: &Value) -> Result<(), AllocError>
@@ -86,9 +87,16 @@ pub fn append_feature(
         × AreTold n feature.now.attributes keys.old keys.new values.old values.new
         × ¬ (IsFullAt n feature.now.attributes keys.new values.new) }
 {
+    swap(&mut room.tags, &mut room.last);
     room.tags.clear();
     room.integers.clear();
-    append_tags(feature.attributes.as_slice(), keys, values, &mut room.tags)?;
+    append_tags(
+        feature.attributes.as_slice(),
+        keys,
+        values,
+        &room.last,
+        &mut room.tags,
+    )?;
     append_geometry(&feature.geometry, &mut room.integers)?;
     append_fields(
         out,

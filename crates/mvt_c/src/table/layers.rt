@@ -51,7 +51,13 @@ impl Table {
         let tags = self.tags.len();
         let parts = self.parts.len();
         let integers = self.integers.len();
-        append_tags(feature.attributes.as_slice(), keys, values, &mut self.tags)?;
+        append_tags(
+            feature.attributes.as_slice(),
+            keys,
+            values,
+            &[],
+            &mut self.tags,
+        )?;
         self.add_geometry(&feature.geometry)?;
         self.features.push(FeatureRow {
             id: feature.id.unwrap_or(0),
