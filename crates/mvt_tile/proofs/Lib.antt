@@ -12,6 +12,7 @@ pub mod DecoderLemmas
 pub mod WholeLemmas
 pub mod TakingLemmas
 pub mod WritingLemmas
+pub mod BoundLemmas
 pub mod ComparingLemmas
 pub mod RoundTripLemmas
 pub mod ExtractionLemmas

@@ -2,6 +2,7 @@ pub mod Faults
 pub mod TileRules
 pub mod Tiles
 pub mod CanonicalTiles
+pub mod Bounds
 pub mod ValidTiles
 pub mod Inner
 pub mod Streams

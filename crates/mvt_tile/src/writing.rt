@@ -1,5 +1,5 @@
 //! Writing a tile as its canonical bytes.
-ghost use Rattle.std.specs.Prelude.{◌≡◌, ◌+◌, ◌<◌, ◌≤◌, ◌++◌, true, length, map, IfOk, IfErr, IsErrOf, OnOk, OnErr};
+ghost use Rattle.std.specs.Prelude.{◌≡◌, ◌↔◌, ◌+◌, ◌<◌, ◌≤◌, ◌++◌, true, length, map, IfOk, IfErr, IfSome, IfNone, IsErrOf, IsTrue, OnOk, OnErr};
 ghost use Rattle.std.specs.Io.KnownBytes.{Appends};
 ghost use Rattle.std.specs.List.{AllByRecursion};
 ghost use Rattle.mvt_io.specs.Counts.{HasFailed};
@@ -8,6 +8,7 @@ ghost use Rattle.mvt_wire.specs.Field.{bytes};
 ghost use Rattle.mvt_wire.specs.Spelling.{short_field, spelled};
 ghost use Rattle.mvt_message.specs.CanonicalItems.{canonical_item};
 ghost use Rattle.mvt_message.specs.ValidItems.{ValidItem};
+ghost use Rattle.mvt_tile.specs.Bounds.{items_bound};
 ghost use Rattle.mvt_tile.specs.CanonicalTiles.{canonical, item_field};
 ghost use Rattle.mvt_tile.specs.Tiles.{IsTile};
 ghost use Rattle.mvt_tile.specs.ValidTiles.{Valid};
@@ -18,7 +19,7 @@ use crate::tile::Tile;
 use crate::write_error::WriteError;
 use mvt_base::LIMIT;
 use mvt_io::{Sink, write_all};
-use mvt_message::{Item, PutError, item_len, put_item};
+use mvt_message::{Item, PutError, item_len, put_item, room_behind_item};
 use mvt_wire::{Payload, field_len, put_field};
 use std::alloc::Global;
 
@@ -38,8 +39,9 @@ pub fn encode(alloc: Global, tile: &Tile) -> Result<Vec<u8>, PutError>
     encode_items(alloc, tile.items.as_slice())
 }
 
-/// Has a writer take the canonical bytes of a tile. The lengths of all items are added up first, and
-/// then one item after the other is made and written. The writer isn't flushed.
+/// Has a writer take the canonical bytes of a tile: one item after the other is made and written. Where
+/// a quick bound of their length is beyond the limit, the lengths of all items are added up first. The
+/// writer isn't flushed.
 ///
 /// # Errors
 ///
@@ -62,7 +64,9 @@ pub fn write_tile<W: Sink>(alloc: Global, tile: &Tile, writer: &mut W) -> Result
 {
     below::writing_laws();
     let items = tile.items.as_slice();
-    items_len(alloc, items)?;
+    if !are_surely_small(items) {
+        items_len(alloc, items)?;
+    }
     write_items(alloc, items, writer)
 }
 
@@ -82,6 +86,29 @@ fn encode_items(alloc: Global, items: &[Item]) -> Result<Vec<u8>, PutError>
         }
     }
     Ok(out)
+}
+
+/// Whether items have no more canonical bytes than the limit by a quick bound of their number.
+fn are_surely_small(items: &[Item]) -> bool
+    requires { AllByRecursion ValidItem items.now }
+    ensures bound { IsTrue result ↔ (items_bound items.now ≤ LIMIT) }
+    ensures small { IsTrue result → length (spelled (map item_field items.now)) ≤ LIMIT }
+{
+    below::writing_laws();
+    mvt_message::laws::bound_holds();
+    room_behind_items(items).is_some()
+}
+
+/// What is left of the limit behind items, by that bound.
+fn room_behind_items(items: &[Item]) -> Option<u64>
+    ensures some { IfSome result (λ left. left + items_bound items.now ≡ LIMIT) }
+    ensures none { IfNone result (LIMIT < items_bound items.now) }
+{
+    let mut left = LIMIT;
+    for item in items {
+        left = room_behind_item(item, left.checked_sub(20)?)?;
+    }
+    Some(left)
 }
 
 /// How many canonical bytes items have.

@@ -1,7 +1,9 @@
-use Rattle.std.proofs.Common.{refl, arith}
+use Rattle.std.proofs.Common.{◌≤◌, length, refl, arith}
+use Rattle.mvt_base.specs.declared.TheConstants.{LIMIT}
 use Rattle.std.proofs.lemmas.Result.{err_from_is_err_and}
-use Rattle.mvt_tile.proofs.WritingLemmas.{canonical_is, on_ok, put_large}
+use Rattle.mvt_tile.proofs.WritingLemmas.{written, canonical_is, on_ok, put_large}
 use Rattle.mvt_tile.proofs.writing.write_tile.Goals as goal
+use Rattle.mvt_tile.proofs.writing.write_tile.Goals.{then-not-are_surely_small+in_ok-items_len, else-not-are_surely_small}
 
 pub returns-in_err-items_len-clause-too_large : goal.returns-in_err-items_len-clause-too_large
 returns-in_err-items_len-clause-too_large g c =
@@ -17,7 +19,14 @@ returns-clause-taken g c = rw (canonical_is c.args.tile.now c.as_slice-items.res
 
 pub returns-clause-small : goal.returns-clause-small
 returns-clause-small g c =
-    rw (canonical_is c.args.tile.now c.as_slice-items.result.now c.as_slice-items.ensures) (on_ok c.write_items.result (omega (arith, c.in_ok-items_len.ensures.len, c.in_ok-items_len.ensures.small)))
+    rw (canonical_is c.args.tile.now c.as_slice-items.result.now c.as_slice-items.ensures) (on_ok c.write_items.result small)
+  where
+    small : length (written c.as_slice-items.result.now) ≤ LIMIT
+    small =
+        elim c.if-not-are_surely_small.branch [
+          | then-not-are_surely_small+in_ok-items_len w ↦ omega (arith, w.in_ok-items_len.ensures.len, w.in_ok-items_len.ensures.small)
+          | else-not-are_surely_small w ↦ c.are_surely_small.ensures.small w.if-not-are_surely_small.false
+        ]
 
 pub returns-clause-prefix : goal.returns-clause-prefix
 returns-clause-prefix g c = rw (canonical_is c.args.tile.now c.as_slice-items.result.now c.as_slice-items.ensures) c.write_items.ensures.prefix
