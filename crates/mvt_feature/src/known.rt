@@ -10,13 +10,13 @@ ghost use Rattle.mvt_feature.specs.Faults.{TellsMessage, fault_at as the_fault_a
 ghost use Rattle.mvt_feature.specs.Features.{number_of, kind_of_type};
 ghost use Rattle.mvt_feature.specs.FeatureRules.{numbers_of, type_rules, list_rules, form_rules, feature_field_rules};
 ghost use Rattle.mvt_feature.specs.ValueRules.{varint_rules};
-ghost use Rattle.mvt_feature.specs.Inner.{id_after, kind_after, numbers_at, IsKnown, IsKnownSoFar};
+ghost use Rattle.mvt_feature.specs.Inner.{id_after, kind_after, numbers_at, IsKnown};
 
 use crate::cause::Cause;
 use crate::message_error::MessageError;
 use crate::room::Room;
 use crate::value::varint_of;
-use crate::whole::{fault_at, rest_fault};
+use crate::whole::{fault_at, rest_fault, rest_fault_or};
 use mvt_geometry::Kind;
 use mvt_wire::{Field, Fields, PackedError, Payload, append_packed};
 
@@ -27,8 +27,7 @@ pub(crate) struct Known {
     pub(crate) kind: Kind,
 }
 
-/// What the fields of a payload say; the tags and the integers are left in the room. A field's fault
-/// is kept back until the payload is known to split into fields.
+/// What the fields of a payload say; the tags and the integers are left in the room.
 pub(crate) fn read_known(payload: &[u8], base: u64, room: &mut Room) -> Result<Known, MessageError>
     requires { base + length payload.now < 2 ^ 64 }
     ensures whole { OnOk result ((split payload.now).rest ≡ []) }
@@ -40,31 +39,20 @@ pub(crate) fn read_known(payload: &[u8], base: u64, room: &mut Room) -> Result<K
 {
     room.tags.clear();
     room.integers.clear();
-    let mut known = Ok(Known {
+    let mut known = Known {
         id: None,
         kind: Kind::Unknown,
-    });
+    };
     for field in Fields::new(payload) {
         match field {
-            Ok(field) => known = also(known, &field, base, room),
+            Ok(field) => match known.with(&field, base + field.at as u64, room) {
+                Ok(more) => known = more,
+                Err(error) => return Err(rest_fault_or(payload, base, error)),
+            },
             Err(fault) => return Err(rest_fault(base, fault)),
         }
     }
-    known
-}
-
-/// What is known with one more field, unless a fault was met before it.
-fn also(
-    known: Result<Known, MessageError>,
-    field: &Field<'_>,
-    base: u64,
-    room: &mut Room,
-) -> Result<Known, MessageError>
-    requires { base + field.now.at < 2 ^ 64 }
-    ensures { (done : List Entry) → IsKnownSoFar base done known room.old.tags.items room.old.integers.items
-        → IsKnownSoFar base (done ++ entry_of field.now ∷ []) result room.new.tags.items room.new.integers.items }
-{
-    known?.with(field, base + field.at as u64, room)
+    Ok(known)
 }
 
 impl Known {

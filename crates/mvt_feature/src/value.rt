@@ -7,11 +7,11 @@ ghost use Rattle.mvt_wire.specs.Split.{split};
 ghost use Rattle.mvt_feature.specs.Faults.{TellsMessage, rest_rules};
 ghost use Rattle.mvt_feature.specs.Values.{Means, IsValueOf};
 ghost use Rattle.mvt_feature.specs.ValueRules.{text_rules, varint_rules, fixed32_rules, fixed64_rules, kind_rules, is_kind, value_field_rules, value_fault};
-ghost use Rattle.mvt_feature.specs.Inner.{value_of, kinds_with, AreKinds, AreSoFar};
+ghost use Rattle.mvt_feature.specs.Inner.{value_of, kinds_with, AreKinds};
 
 use crate::cause::Cause;
 use crate::message_error::MessageError;
-use crate::whole::{fault_at, rest_fault};
+use crate::whole::{fault_at, rest_fault, rest_fault_or};
 use mvt_attrs::Value;
 use mvt_base::Text;
 use mvt_wire::laws::split_function;
@@ -88,8 +88,7 @@ enum Meaning<'a> {
     Bool(bool),
 }
 
-/// The kinds that occur in a payload. A field's fault is kept back until the payload is known to
-/// split into fields.
+/// The kinds that occur in a payload.
 fn read_kinds(payload: &[u8], base: u64) -> Result<Kinds<'_>, MessageError>
     requires { base + length payload.now < 2 ^ 64 }
     ensures whole { OnOk result ((split payload.now).rest ≡ []) }
@@ -99,31 +98,21 @@ fn read_kinds(payload: &[u8], base: u64) -> Result<Kinds<'_>, MessageError>
         (first (rest_rules base (split payload.now)))
         (first (each (λ _. value_field_rules base) [] (split payload.now).fields)))) }
 {
-    let mut kinds = Ok(Kinds::Nothing);
+    let mut kinds = Kinds::Nothing;
     for field in Fields::new(payload) {
         match field {
-            Ok(field) => kinds = also(kinds, &field, base),
+            Ok(field) => match meaning_of(&field) {
+                Ok(None) => {}
+                Ok(Some(meaning)) => kinds = kinds.with(field.number, meaning),
+                Err(cause) => {
+                    let error = fault_at(base + field.at as u64, cause);
+                    return Err(rest_fault_or(payload, base, error));
+                }
+            },
             Err(fault) => return Err(rest_fault(base, fault)),
         }
     }
-    kinds
-}
-
-/// The kinds with one more field, unless a fault was met before it.
-fn also<'a>(
-    kinds: Result<Kinds<'a>, MessageError>,
-    field: &Field<'a>,
-    base: u64,
-) -> Result<Kinds<'a>, MessageError>
-    requires { base + field.now.at < 2 ^ 64 }
-    ensures { (done : List Entry) → AreSoFar base done kinds.entry → AreSoFar base (done ++ entry_of field.now ∷ []) result }
-{
-    let kinds = kinds?;
-    match meaning_of(field) {
-        Ok(None) => Ok(kinds),
-        Ok(Some(meaning)) => Ok(kinds.with(field.number, meaning)),
-        Err(cause) => Err(fault_at(base + field.at as u64, cause)),
-    }
+    Ok(kinds)
 }
 
 impl<'a> Kinds<'a> {

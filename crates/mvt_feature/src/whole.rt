@@ -1,10 +1,14 @@
 //! Payloads that don't split wholly into fields.
-ghost use Rattle.std.specs.Prelude.{◌≡◌, ◌+◌, ◌^◌, ◌<◌, None};
+ghost use Rattle.std.specs.Prelude.{◌≡◌, ◌+◌, ◌^◌, ◌<◌, length, None, Option};
+ghost use Rattle.std.specs.Option.{option_or};
+ghost use Rattle.mvt_base.specs.Rules.{first};
+ghost use Rattle.mvt_wire.specs.Split.{split};
 ghost use Rattle.mvt_feature.specs.Causes.{of_wire};
+ghost use Rattle.mvt_feature.specs.Faults.{MessageFault, TellsMessage, rest_rules};
 
 use crate::cause::Cause;
 use crate::message_error::MessageError;
-use mvt_wire::WireFault;
+use mvt_wire::{Fields, WireFault};
 
 /// The fault of a payload's rest, told at its absolute place.
 pub fn rest_fault(base: u64, fault: WireFault) -> MessageError
@@ -12,6 +16,23 @@ pub fn rest_fault(base: u64, fault: WireFault) -> MessageError
     ensures { result ≡ MessageError.Fault None (base + fault.at) (of_wire fault.cause) }
 {
     fault_at(base + fault.at as u64, Cause::from(fault.cause))
+}
+
+/// The error of a payload, one of whose fields has this one: that the payload doesn't split wholly into
+/// fields is told first.
+#[inline(never)]
+pub(crate) fn rest_fault_or(payload: &[u8], base: u64, error: MessageError) -> MessageError
+    requires { base + length payload.now < 2 ^ 64 }
+    ensures { (fault : Option MessageFault) → TellsMessage error fault
+        → TellsMessage result (option_or (first (rest_rules base (split payload.now))) fault) }
+{
+    for field in Fields::new(payload) {
+        match field {
+            Ok(_) => {}
+            Err(fault) => return rest_fault(base, fault),
+        }
+    }
+    error
 }
 
 /// A fault that isn't told of a feature.

@@ -1,4 +1,4 @@
-use Rattle.std.proofs.Common.{List}
+use Rattle.std.proofs.Common.{List, Ok}
 use Rattle.mvt_wire.specs.Field.{Entry}
 use Rattle.mvt_feature.specs.Inner.{IsKnownSoFar}
 use Rattle.mvt_feature.specs.Walks.{Walk}
@@ -6,4 +6,4 @@ use Rattle.mvt_feature.proofs.known.read_known.Given as goal
 
 abbrev pub invariant-loop-field : goal.invariant-loop-field
 invariant-loop-field l =
-    (done : List Entry) × Walk l.payload l.field-iterator.to_come done × IsKnownSoFar l.base done l.known l.room.tags.items l.room.integers.items
+    (done : List Entry) × Walk l.payload l.field-iterator.to_come done × IsKnownSoFar l.base done (Ok l.known) l.room.tags.items l.room.integers.items

@@ -2,40 +2,31 @@ use Rattle.std.proofs.Common.{[], ◌∷◌, ◌++◌, ◌∙◌, refl, ap}
 use Rattle.mvt_wire.specs.Fields.{Ahead}
 use Rattle.mvt_base.proofs.RuleLemmas.{option_or-some}
 use Rattle.mvt_wire.specs.Field.{entry_of}
-use Rattle.mvt_feature.proofs.WalkLemmas.{walk_start, walk_step, walk_fits, walk_fault_fits, walk_fault, end_whole, end_clean, end_holds, end_told}
-use Rattle.mvt_feature.specs.ValueRules.{value_field_rules}
-use Rattle.mvt_feature.specs.Inner.{AreKinds}
+use Rattle.mvt_feature.proofs.KindLemmas.{so_far_skip, so_far_with, so_far_stops}
+use Rattle.mvt_feature.proofs.WalkLemmas.{walk_start, walk_step, walk_fault}
 use Rattle.mvt_feature.proofs.value.read_kinds.Goals as goal
 
 pub loop-field-init : goal.loop-field-init
 loop-field-init c =
     ([], walk_start _ _ (ap (λ (a : Ahead). a.to_come) c.into_iter-field-iterator.ensures.into_iter_gives ∙ c.new-field-items.ensures.fields) (rw c.into_iter-field-iterator.ensures.into_iter_gives c.new-field-items.ensures.place), (refl, refl))
 
-pub also-kinds-requires : goal.also-kinds-requires
-also-kinds-requires c =
-    walk_fits _ _ _ _ _ _ c.loop-field.invariant.1 (rw c.in-Ok.is at c.in-Some.ensures.steps).0 c.requires
+pub loop-field-preserved-in-Ok-None : goal.loop-field-preserved-in-Ok-None
+loop-field-preserved-in-Ok-None c =
+    let done = c.loop-field.invariant.0 in
+    (done ++ entry_of c.in-Ok.field ∷ [], walk_step _ _ _ _ _ c.loop-field.invariant.1 (rw c.in-Ok.is at c.in-Some.ensures.steps).0, so_far_skip c.args.base done c.loop-field.kinds (entry_of c.in-Ok.field) c.loop-field.invariant.2 c.in-Ok-None.ensures.ok (rw c.in-Ok-None.field-0-is at c.in-Ok-None.ensures.means))
 
 pub loop-field-preserved : goal.loop-field-preserved
 loop-field-preserved c =
     let done = c.loop-field.invariant.0 in
-    (done ++ entry_of c.in-Ok.field ∷ [], walk_step _ _ _ _ _ c.loop-field.invariant.1 (rw c.in-Ok.is at c.in-Some.ensures.steps).0, c.also-kinds.ensures done c.loop-field.invariant.2)
+    let means = rw c.in-Ok-Some.field-0-is at c.in-Ok-Some.ensures.means in
+    (done ++ entry_of c.in-Ok.field ∷ [], walk_step _ _ _ _ _ c.loop-field.invariant.1 (rw c.in-Ok.is at c.in-Some.ensures.steps).0, rw c.with-kinds.ensures (so_far_with c.args.base done c.loop-field.kinds (entry_of c.in-Ok.field) c.in-Ok-Some.meaning c.loop-field.invariant.2 c.in-Ok-Some.ensures.ok means.0 means.1))
 
-pub rest_fault-requires : goal.rest_fault-requires
-rest_fault-requires c =
-    walk_fault_fits _ _ c.next.new.self.to_come _ _ _ c.loop-field.invariant.1 (rw c.in-Err.is at c.in-Some.ensures.steps).0 c.requires
+pub returns-in-Err-meaning_of-clause-err : goal.returns-in-Err-meaning_of-clause-err
+returns-in-Err-meaning_of-clause-err c =
+    let done = c.loop-field.invariant.0 in
+    let all = (walk_step c.args.payload.now _ c.next.new.self.to_come done c.in-Ok.field c.loop-field.invariant.1 (rw c.in-Ok.is at c.in-Some.ensures.steps).0).fields in
+    c.rest_fault_or.ensures _ (rw (c.fault_at-error.ensures, all) (so_far_stops c.args.base done c.loop-field.kinds (entry_of c.in-Ok.field) c.in-Err-meaning_of.cause c.loop-field.invariant.2 c.in-Err-meaning_of.ensures.err c.next.new.self.to_come.fields))
 
 pub returns-in-Err-clause-err : goal.returns-in-Err-clause-err
 returns-in-Err-clause-err c =
     rw c.rest_fault.ensures (option_or-some _ _ _ (walk_fault _ _ c.next.new.self.to_come _ _ _ c.loop-field.invariant.1 (rw c.in-Err.is at c.in-Some.ensures.steps).0))
-
-pub returns-clause-whole : goal.returns-clause-whole
-returns-clause-whole c = end_whole _ _ _ _ _ c.loop-field.invariant.1 c.in-None.ensures.steps.0
-
-pub returns-clause-ok : goal.returns-clause-ok
-returns-clause-ok c = end_clean _ _ _ _ (value_field_rules c.args.base) AreKinds c.loop-field.kinds c.loop-field.invariant.1 c.in-None.ensures.steps.0 c.loop-field.invariant.2
-
-pub returns-clause-kinds : goal.returns-clause-kinds
-returns-clause-kinds c = end_holds _ _ _ _ (value_field_rules c.args.base) AreKinds c.loop-field.kinds c.loop-field.invariant.1 c.in-None.ensures.steps.0 c.loop-field.invariant.2
-
-pub returns-clause-err : goal.returns-clause-err
-returns-clause-err c = end_told _ _ _ _ c.args.base (value_field_rules c.args.base) AreKinds c.loop-field.kinds c.loop-field.invariant.1 c.in-None.ensures.steps.0 c.loop-field.invariant.2

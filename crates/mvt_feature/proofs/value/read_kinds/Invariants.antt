@@ -1,8 +1,8 @@
-use Rattle.std.proofs.Common.{List}
+use Rattle.std.proofs.Common.{List, Ok}
 use Rattle.mvt_wire.specs.Field.{Entry}
 use Rattle.mvt_feature.specs.Inner.{AreSoFar}
 use Rattle.mvt_feature.specs.Walks.{Walk}
 use Rattle.mvt_feature.proofs.value.read_kinds.Given as goal
 
 abbrev pub invariant-loop-field : goal.invariant-loop-field
-invariant-loop-field l = (done : List Entry) × Walk l.payload l.field-iterator.to_come done × AreSoFar l.base done l.kinds
+invariant-loop-field l = (done : List Entry) × Walk l.payload l.field-iterator.to_come done × AreSoFar l.base done (Ok l.kinds)
