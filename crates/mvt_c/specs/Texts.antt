@@ -1,12 +1,14 @@
 -- The texts of a tile.
-use Rattle.std.specs.Prelude.{ℕ, List, bytes_eq}
+use Rattle.std.specs.Prelude.{◌≡◌, ◌≢◌, ℕ, ◌≤◌, List, bytes_eq}
 use Rattle.mvt_tile.specs.declared.tile.Tile.{Tile}
 use Rattle.mvt_tile.specs.CanonicalTiles.{canonical}
 use Rattle.mvt_view.specs.Reports.{report_lines}
 use Rattle.mvt_view.specs.Svg.{svg}
 use Rattle.mvt_c.specs.declared.texts.Form.{Form}
 use Rattle.mvt_c.specs.declared.texts.Form.TheVariants.{Json, Picture, Report}
-use Rattle.mvt_c.specs.Calls.{json_line}
+use Rattle.mvt_c.specs.declared.fault.Fault.{Fault}
+use Rattle.mvt_c.specs.declared.lent.Bytes.{Bytes}
+use Rattle.mvt_c.specs.Calls.{IsTextOf, IsTold, json_line}
 
 -- what is said of a tile that is made of the bytes
 abbrev pub report_of : List ℕ → Tile → List ℕ
@@ -16,3 +18,11 @@ abbrev pub text_in : Form → List ℕ → Tile → List ℕ
 text_in Json input tile = json_line tile
 text_in Picture input tile = svg tile
 text_in Report input tile = report_of input tile
+
+-- what a call that makes a text answers, and what it writes: the text where it is made, and the fault of a tile that is refused
+pub record IsShown (text_of : Tile → List ℕ) (input : List ℕ) (status : ℕ) (out new_out : Bytes) (fault new_fault : Fault) : Type 0 where
+  pub done : status ≡ 0 → IsTextOf text_of input new_out.bytes.now
+  pub refused : status ≡ 1 → IsTold input new_fault
+  pub few : status ≤ 2
+  pub out_kept : status ≢ 0 → new_out ≡ out
+  pub fault_kept : status ≢ 1 → new_fault ≡ fault

@@ -1,9 +1,9 @@
 //! The calls that make texts of a tile's bytes.
-ghost use Rattle.std.specs.Prelude.{◌≡◌, ◌≢◌, ◌≤◌, length, string_bytes, IfOk, IfErr};
+ghost use Rattle.std.specs.Prelude.{◌≡◌, ◌≤◌, length, string_bytes, IfOk, IfErr};
 ghost use Rattle.mvt_tile.specs.ValidTiles.{Valid};
 ghost use Rattle.mvt_view.specs.Svg.{svg};
-ghost use Rattle.mvt_c.specs.Calls.{IsTextOf, IsTold, NotShown, json_line};
-ghost use Rattle.mvt_c.specs.Texts.{report_of, text_in};
+ghost use Rattle.mvt_c.specs.Calls.{IsTextOf, NotShown, json_line};
+ghost use Rattle.mvt_c.specs.Texts.{IsShown, report_of, text_in};
 
 use crate::fault::Fault;
 use crate::lent::Bytes;
@@ -24,37 +24,31 @@ enum Form {
 /// A tile as JSON, in one line (`mvt_json`).
 #[unsafe(no_mangle)]
 pub extern "C" fn mvt_json(alloc: Global, bytes: &[u8], out: &mut Bytes, fault: &mut Fault) -> u32
-    ensures done { result ≡ 0 → IsTextOf json_line bytes.now out.new.bytes.now }
-    ensures refused { result ≡ 1 → IsTold bytes.now fault.new }
-    ensures few { result ≤ 2 }
-    ensures out_kept { result ≢ 0 → out.new ≡ out.old }
-    ensures fault_kept { result ≢ 1 → fault.new ≡ fault.old }
+    ensures { IsShown json_line bytes.now result out.old out.new fault.old fault.new }
 {
-    hand_out(shown(alloc, bytes, Form::Json), out, fault)
+    show(alloc, bytes, Form::Json, out, fault)
 }
 
 /// A picture of a tile (`mvt_svg`).
 #[unsafe(no_mangle)]
 pub extern "C" fn mvt_svg(alloc: Global, bytes: &[u8], out: &mut Bytes, fault: &mut Fault) -> u32
-    ensures done { result ≡ 0 → IsTextOf svg bytes.now out.new.bytes.now }
-    ensures refused { result ≡ 1 → IsTold bytes.now fault.new }
-    ensures few { result ≤ 2 }
-    ensures out_kept { result ≢ 0 → out.new ≡ out.old }
-    ensures fault_kept { result ≢ 1 → fault.new ≡ fault.old }
+    ensures { IsShown svg bytes.now result out.old out.new fault.old fault.new }
 {
-    hand_out(shown(alloc, bytes, Form::Picture), out, fault)
+    show(alloc, bytes, Form::Picture, out, fault)
 }
 
 /// What `mvt check` says of a tile that is accepted (`mvt_report`).
 #[unsafe(no_mangle)]
 pub extern "C" fn mvt_report(alloc: Global, bytes: &[u8], out: &mut Bytes, fault: &mut Fault) -> u32
-    ensures done { result ≡ 0 → IsTextOf (report_of bytes.now) bytes.now out.new.bytes.now }
-    ensures refused { result ≡ 1 → IsTold bytes.now fault.new }
-    ensures few { result ≤ 2 }
-    ensures out_kept { result ≢ 0 → out.new ≡ out.old }
-    ensures fault_kept { result ≢ 1 → fault.new ≡ fault.old }
+    ensures { IsShown (report_of bytes.now) bytes.now result out.old out.new fault.old fault.new }
 {
-    hand_out(shown(alloc, bytes, Form::Report), out, fault)
+    show(alloc, bytes, Form::Report, out, fault)
+}
+
+fn show(alloc: Global, bytes: &[u8], form: Form, out: &mut Bytes, fault: &mut Fault) -> u32
+    ensures { IsShown (text_in form bytes.now) bytes.now result out.old out.new fault.old fault.new }
+{
+    hand_out(shown(alloc, bytes, form), out, fault)
 }
 
 fn shown(alloc: Global, bytes: &[u8], form: Form) -> Result<Vec<u8>, Refusal>
