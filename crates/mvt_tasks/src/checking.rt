@@ -10,7 +10,7 @@ use crate::refusal::refusal;
 use crate::reply::Reply;
 use crate::task::Task;
 use mvt_base::{LIMIT, Text};
-use mvt_io::{Source, read_all};
+use mvt_io::{Source, read_up_to};
 use mvt_tile::{MOST_READS, Tile, decode, is_canonical};
 use mvt_view::report_text;
 use std::alloc::Global;
@@ -26,7 +26,7 @@ pub fn check<R: Source>(alloc: Global, reader: &mut R) -> Result<Reply, Failure>
     ensures asked { R.asked reader.new ≤ max (R.asked reader.old) 65536 }
     ensures leaves { TakesAtMost (LIMIT + 1) (R.left reader.old) (R.left reader.new) }
 {
-    let input = read_all(alloc, reader)?;
+    let input = read_up_to(alloc, reader, LIMIT as usize + 1)?;
     checked(alloc, &input)
 }
 

@@ -9,7 +9,7 @@ use crate::refusal::fault_told;
 use crate::reply::Reply;
 use crate::task::Task;
 use mvt_base::{LIMIT, Text};
-use mvt_io::{Source, read_all};
+use mvt_io::{Source, read_up_to};
 use mvt_tile::MOST_READS;
 use mvt_view::{FieldsText, fields_text};
 use std::alloc::Global;
@@ -26,7 +26,7 @@ pub fn list_fields<R: Source>(alloc: Global, reader: &mut R) -> Result<Reply, Fa
     ensures leaves { TakesAtMost (LIMIT + 1) (R.left reader.old) (R.left reader.new) }
 {
     mvt_view::laws::front_tells();
-    let input = read_all(alloc, reader)?;
+    let input = read_up_to(alloc, reader, LIMIT as usize + 1)?;
     listed(alloc, &input)
 }
 
