@@ -21,7 +21,7 @@ WORDS = {
     "mvt_tasks": "what the program does",
     "mvt_cli": "the program mvt",
     "mvt_c": "the library for C",
-    "mvt_speed": "for bench/",
+    "mvt_bench": "what bench/ measures",
 }
 # Each crate's place from the left, in boxes; how high it stands follows from crates.txt.
 COLUMN = {
@@ -38,7 +38,7 @@ COLUMN = {
     "mvt_tasks": 0,
     "mvt_cli": 0,
     "mvt_c": 1,
-    "mvt_speed": 2,
+    "mvt_bench": 2,
 }
 WIDE, HIGH, GAP, RISE = 176, 50, 24, 92
 
@@ -93,7 +93,7 @@ def drawn():
                 'fill="none" stroke="#888" stroke-width="1.5"/>'
             )
     for name, (x, y) in at.items():
-        fill = "#e8f1e4" if name in ("mvt_cli", "mvt_c", "mvt_speed") else "#e6eef8"
+        fill = "#e8f1e4" if name in ("mvt_cli", "mvt_c", "mvt_bench") else "#e6eef8"
         lines += [
             f'<rect x="{x - WIDE / 2:g}" y="{y - HIGH / 2:g}" width="{WIDE}" height="{HIGH}" rx="6" fill="{fill}" stroke="#678"/>',
             f'<text x="{x:g}" y="{y - 4:g}" font-size="15" font-weight="bold" fill="#123">{name}</text>',
