@@ -131,12 +131,7 @@ impl TileDecoder {
             return Err(error);
         }
         if !raw.is_empty() {
-            return Err(DecodeError::Fault(Fault {
-                layer: None,
-                feature: None,
-                at: offset,
-                cause: Cause::Truncated,
-            }));
+            return Err(DecodeError::Fault(Fault::outer(offset, Cause::Truncated)));
         }
         Ok(Tile {
             items: Items::new(layers.into_items()),
@@ -183,12 +178,7 @@ fn take_in(
     let used = swallow(alloc, layers, raw, offset, fitting)?;
     let place = offset + used as u64;
     if !beyond.is_empty() {
-        return Err(DecodeError::Fault(Fault {
-            layer: None,
-            feature: None,
-            at: place,
-            cause: Cause::TooLarge,
-        }));
+        return Err(DecodeError::Fault(Fault::outer(place, Cause::TooLarge)));
     }
     Ok(place)
 }

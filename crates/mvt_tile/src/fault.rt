@@ -1,4 +1,7 @@
 //! Why bytes aren't a tile.
+ghost use Rattle.std.specs.Prelude.{◌≡◌};
+ghost use Rattle.mvt_tile.specs.Faults.{outer_fault};
+
 use mvt_message::Cause;
 use std::alloc::AllocError;
 use std::io::ErrorKind;
@@ -15,6 +18,20 @@ pub struct Fault {
     /// The offset of a tag in the input, or an index into a feature's tags or integers.
     pub at: u64,
     pub cause: Cause,
+}
+
+impl Fault {
+    /// A fault that stands in no layer.
+    pub fn outer(at: u64, cause: Cause) -> Self
+        ensures { result ≡ outer_fault at cause }
+    {
+        Fault {
+            layer: None,
+            feature: None,
+            at,
+            cause,
+        }
+    }
 }
 
 /// Why a tile can't be read.

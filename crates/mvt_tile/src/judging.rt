@@ -13,9 +13,9 @@ ghost use Rattle.mvt_tile.specs.TileRules.{field_rules, fault_within};
 ghost use Rattle.mvt_tile.specs.Tiles.{AreItems, IsTile};
 
 use crate::below;
-use crate::fault::DecodeError;
+use crate::fault::{DecodeError, Fault};
 use crate::layers::add_name;
-use crate::taking::{in_layer, judge_rest, layer_in, outer, repeated_name};
+use crate::taking::{in_layer, judge_rest, layer_in, repeated_name};
 use mvt_base::{LIMIT, Text};
 use mvt_message::{Cause, judge_item};
 use mvt_wire::{Field, Fields};
@@ -39,10 +39,10 @@ pub fn judge(alloc: Global, bytes: &[u8]) -> Result<(), DecodeError>
     let (fitting, beyond) = bytes.split_at(bytes.len().min(LIMIT as usize));
     let used = judge_fields(alloc, fitting)?;
     if !beyond.is_empty() {
-        return Err(outer(used as u64, Cause::TooLarge));
+        return Err(DecodeError::Fault(Fault::outer(used as u64, Cause::TooLarge)));
     }
     if used < fitting.len() {
-        return Err(outer(used as u64, Cause::Truncated));
+        return Err(DecodeError::Fault(Fault::outer(used as u64, Cause::Truncated)));
     }
     Ok(())
 }

@@ -53,7 +53,10 @@ pub(crate) fn judge_rest(fault: WireFault, offset: u64) -> Result<usize, DecodeE
 {
     match fault.cause {
         WireCause::Truncated => Ok(fault.at),
-        cause => Err(outer(offset + fault.at as u64, Cause::from(cause))),
+        cause => Err(DecodeError::Fault(Fault::outer(
+            offset + fault.at as u64,
+            Cause::from(cause),
+        ))),
     }
 }
 
@@ -84,7 +87,9 @@ pub(crate) fn layer_in<'a>(field: &Field<'a>, offset: u64) -> Result<Option<Plac
             base: offset + field.body as u64,
             own,
         })),
-        Payload::Varint(_) | Payload::I64(_) | Payload::I32(_) => Err(outer(own, Cause::WrongType)),
+        Payload::Varint(_) | Payload::I64(_) | Payload::I32(_) => Err(DecodeError::Fault(
+            Fault::outer(own, Cause::WrongType),
+        )),
     }
 }
 
@@ -161,17 +166,5 @@ pub(crate) fn repeated_name(index: u32, own: u64) -> DecodeError
         feature: None,
         at: own,
         cause: Cause::RepeatedName,
-    })
-}
-
-/// A fault that stands in no layer.
-pub(crate) fn outer(at: u64, cause: Cause) -> DecodeError
-    ensures { result ≡ DecodeError.Fault (outer_fault at cause) }
-{
-    DecodeError::Fault(Fault {
-        layer: None,
-        feature: None,
-        at,
-        cause,
     })
 }

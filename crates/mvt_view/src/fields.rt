@@ -44,7 +44,7 @@ fn fields_within(alloc: Global, input: &[u8], limit: usize) -> Result<FieldsText
             }
         }
     }
-    let fault = is_longer.then_some(outer_fault(limit as u64, Cause::TooLarge));
+    let fault = is_longer.then_some(Fault::outer(limit as u64, Cause::TooLarge));
     Ok(FieldsText { lines, fault })
 }
 
@@ -74,17 +74,5 @@ fn fault_of(fault: WireFault, is_longer: bool) -> Fault
         WireCause::Truncated if is_longer => Cause::TooLarge,
         cause => Cause::from(cause),
     };
-    outer_fault(fault.at as u64, cause)
-}
-
-/// A fault that stands in no layer.
-fn outer_fault(at: u64, cause: Cause) -> Fault
-    ensures { result ≡ outer at cause }
-{
-    Fault {
-        layer: None,
-        feature: None,
-        at,
-        cause,
-    }
+    Fault::outer(fault.at as u64, cause)
 }

@@ -19,4 +19,4 @@ returns-in-Err c =
 
 pub returns : goal.returns
 returns c =
-    listed_end _ _ _ c.next.new.self.to_come _ (nat_lt c.args.limit (length c.args.input.now)) _ c.loop-field.invariant c.in-None.ensures.steps.0 refl (c.then_some-fault.ensures ∙ ap (then_some (nat_lt c.args.limit (length c.args.input.now))) c.outer_fault.ensures)
+    listed_end _ _ _ c.next.new.self.to_come _ (nat_lt c.args.limit (length c.args.input.now)) _ c.loop-field.invariant c.in-None.ensures.steps.0 refl (c.then_some-fault.ensures ∙ ap (then_some (nat_lt c.args.limit (length c.args.input.now))) c.outer.ensures)
