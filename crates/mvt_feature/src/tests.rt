@@ -172,6 +172,9 @@ fn writes(rt: HostRuntime) -> Result<(), Fail> {
     ];
     assert_eq!(rt; out.as_slice(), expected.as_slice());
     assert!(rt; !is_valid_feature(&feature_with(alloc, &["k", "k"])?));
+    // 35, two tags of five bytes, and three integers of five.
+    assert_eq!(rt; room_behind_feature(&feature, 60), Some(0));
+    assert_eq!(rt; room_behind_feature(&feature, 59), None);
     Ok(())
 }
 

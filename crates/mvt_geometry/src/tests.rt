@@ -308,3 +308,24 @@ fn refused_puts_and_copies(rt: HostRuntime) {
     }
     assert!(rt; refused < 2);
 }
+
+// Five bytes an integer: a MoveTo, a LineTo and a ClosePath for each line, and two integers a point.
+#[test]
+fn bounds(rt: HostRuntime) -> Result<(), Fail> {
+    let alloc = rt.alloc();
+    let unknown = Geometry::Unknown(Items::new(Vec::from_slice(alloc, &[9, 0, 0])?));
+    let points = Geometry::Points(line(alloc, &[(1, 1), (2, 2)])?);
+    let two = Geometry::Lines(lines(alloc, &[&[(1, 1), (2, 2)], &[(3, 3), (4, 4), (5, 5)]])?);
+    let mut polygons = Vec::new(alloc);
+    polygons.push(polygon(
+        alloc,
+        &[(0, 0), (9, 0), (9, 9)],
+        &[&[(1, 1), (1, 2), (2, 2), (2, 1)]],
+    )?)?;
+    let polygons = Geometry::Polygons(Items::new(polygons));
+    for (geometry, bound) in [(&unknown, 15), (&points, 25), (&two, 80), (&polygons, 100)] {
+        assert_eq!(rt; room_behind_geometry(geometry, bound + 1), Some(1));
+        assert_eq!(rt; room_behind_geometry(geometry, bound - 1), None);
+    }
+    Ok(())
+}

@@ -188,6 +188,20 @@ fn carries_foreign_items(rt: HostRuntime) -> Result<(), Fail> {
     Ok(())
 }
 
+// A layer: 24 and its name, the field of its feature with 11 in front, and a key and a value in 7. An item
+// of another version is its bytes.
+#[test]
+fn bounds(rt: HostRuntime) -> Result<(), Fail> {
+    let alloc = rt.alloc();
+    let layer = Item::Layer(layer_with(alloc, &["k"])?);
+    assert_eq!(rt; room_behind_item(&layer, 103), Some(0));
+    assert_eq!(rt; room_behind_item(&layer, 102), None);
+    let other = foreign(alloc, 1, &FOREIGN)?;
+    assert_eq!(rt; room_behind_item(&other, 5), Some(0));
+    assert_eq!(rt; room_behind_item(&other, 4), None);
+    Ok(())
+}
+
 // Payloads, and what they are written as.
 #[test]
 fn writes_what_it_read(rt: HostRuntime) -> Result<(), Fail> {

@@ -1,13 +1,17 @@
 //! Inputs and tiles of 64 MiB.
-use super::support::outer;
+use super::support::{layer_a, outer, points};
 use crate::{
-    Note, PutError, Tile, TileDecoder, WriteError, decode, encode, judge, notes, write_tile,
+    Note, PutError, Tile, TileDecoder, WriteError, decode, encode, is_valid, judge, notes,
+    write_tile,
 };
-use mvt_base::LIMIT;
+use mvt_attrs::{Attribute, Value};
+use mvt_base::{Items, LIMIT, Text};
+use mvt_geometry::Geometry;
 use mvt_io::MemorySink;
-use mvt_message::{Cause, is_valid_item, item_len, put_item};
+use mvt_message::{Cause, Feature, is_valid_item, item_len, put_item, room_behind_item};
 use std::alloc::{AllocError, Global};
 use std::process::Abort;
+use std::str;
 use std::test::Fail;
 
 // The limit, of which the check is to know nothing here: it would count so far.
@@ -108,5 +112,58 @@ fn is_too_large_to_write(rt: HostRuntime) -> Result<(), Fail> {
     assert_eq!(rt; writer.calls(), 0);
     let found = notes(alloc, &tile)?;
     assert_eq!(rt; found.as_slice(), [Note::NoFeatures(0)].as_slice());
+    Ok(())
+}
+
+// A feature of one point, whose only value is this text.
+fn with_text(alloc: Global, text: &Text) -> Result<Feature, AllocError> {
+    let mut attributes = Vec::new(alloc);
+    attributes.push(Attribute {
+        key: Text::from_str(alloc, "k")?,
+        value: Value::Text(text.copy(alloc)?),
+    })?;
+    Ok(Feature {
+        id: None,
+        attributes: Items::new(attributes),
+        geometry: Geometry::Points(points(alloc, &[(1, 1)])?),
+    })
+}
+
+// Seventy features that share a text of 1 MiB.
+fn sharing(alloc: Global) -> Result<Tile, AllocError> {
+    let mut bytes = Vec::new(alloc);
+    bytes.resize(limit() / 64, b'a')?;
+    let Ok(text) = str::from_utf8(bytes.as_slice()) else {
+        return Err(AllocError);
+    };
+    let text = Text::from_str(alloc, text)?;
+    let mut features = Vec::new(alloc);
+    for _ in 0..70 {
+        features.push(with_text(alloc, &text)?)?;
+    }
+    layer_a(alloc, features)
+}
+
+// A bound that shares no text exceeds the limit, and the bytes are within it: 13 a feature, 1,048,584 of
+// the text, 11 of the rest and 4 in front.
+#[test]
+fn is_written_beyond_the_bound(rt: HostRuntime) -> Result<(), Fail> {
+    let alloc = rt.alloc();
+    let tile = sharing(alloc)?;
+    assert!(rt; is_valid(&tile));
+    if !is_valid(&tile) {
+        return Ok(());
+    }
+    for item in tile.items.as_slice() {
+        assert_eq!(rt; room_behind_item(item, LIMIT), None);
+        assert_eq!(rt; item_len(alloc, item), Ok(1_049_505));
+    }
+    let mut writer = MemorySink::new(alloc, 1_049_509, limit(), u64::MAX, false)?;
+    assert_eq!(rt; write_tile(alloc, &tile, &mut writer), Ok(()));
+    assert_eq!(rt; writer.taken().len(), 1_049_509);
+    match decode(alloc, writer.taken()) {
+        Ok(read) => assert!(rt; read == tile),
+        Err(error) => assert_eq!(rt; Some(error), None),
+    }
     Ok(())
 }
