@@ -57,6 +57,7 @@ pub(crate) fn read_known(payload: &[u8], base: u64, room: &mut Room) -> Result<K
 
 impl Known {
     /// What is known with one more field, which is told to stand at this place.
+    #[inline(always)]
     fn with(self, field: &Field<'_>, at: u64, room: &mut Room) -> Result<Known, MessageError>
         ensures ok { OnOk result (first (form_rules field.now.number (content_of field.now.payload)) ≡ None) }
         ensures id { IfOk result (λ known. known.id ≡ id_after self.id field.now.number (content_of field.now.payload)) }
@@ -81,6 +82,7 @@ impl Known {
     }
 }
 
+#[inline(always)]
 fn id_of(payload: &Payload<'_>, at: u64) -> Result<u64, MessageError>
     ensures number { IfOk result (λ n. number_of (content_of payload.now) ≡ Some n) }
     ensures ok { OnOk result (first (varint_rules (content_of payload.now)) ≡ None) }
@@ -92,6 +94,7 @@ fn id_of(payload: &Payload<'_>, at: u64) -> Result<u64, MessageError>
     }
 }
 
+#[inline(always)]
 fn kind_of_payload(payload: &Payload<'_>, at: u64) -> Result<Kind, MessageError>
     ensures kind { IfOk result (λ kind. kind ≡ kind_of_type (number_of (content_of payload.now))) }
     ensures ok { OnOk result (first (type_rules (content_of payload.now)) ≡ None) }
@@ -110,6 +113,7 @@ fn kind_of_payload(payload: &Payload<'_>, at: u64) -> Result<Kind, MessageError>
 }
 
 /// Appends the number of a field, or its packed numbers.
+#[inline(always)]
 fn append_numbers(
     payload: &Payload<'_>,
     at: u64,

@@ -52,6 +52,7 @@ pub fn judge_value(payload: &[u8], base: u64, own: u64) -> Result<(), MessageErr
 }
 
 /// What the last field of the only kind says.
+#[inline(always)]
 fn read_meaning(payload: &[u8], base: u64, own: u64) -> Result<Meaning<'_>, MessageError>
     requires { base + length payload.now < 2 ^ 64 }
     ensures value { IfOk result (λ meaning. IsValueOf payload.now (value_of meaning)) }
@@ -89,6 +90,7 @@ enum Meaning<'a> {
 }
 
 /// The kinds that occur in a payload.
+#[inline(always)]
 fn read_kinds(payload: &[u8], base: u64) -> Result<Kinds<'_>, MessageError>
     requires { base + length payload.now < 2 ^ 64 }
     ensures whole { OnOk result ((split payload.now).rest ≡ []) }
@@ -144,6 +146,7 @@ impl Meaning<'_> {
 }
 
 /// What a field says, if it is of one of the seven kinds.
+#[inline(always)]
 fn meaning_of<'a>(field: &Field<'a>) -> Result<Option<Meaning<'a>>, Cause>
     ensures ok { OnOk result (first (kind_rules field.now.number (content_of field.now.payload)) ≡ None) }
     ensures means { IfOk result (λ meaning. MatchOption meaning
@@ -170,6 +173,7 @@ fn meaning_of<'a>(field: &Field<'a>) -> Result<Option<Meaning<'a>>, Cause>
 /// # Errors
 ///
 /// Another wire type, or bytes that aren't UTF-8.
+#[inline(always)]
 pub fn text_of<'a>(payload: &Payload<'a>) -> Result<&'a str, Cause>
     ensures text { IfOk result (λ text. content_of payload.now ≡ bytes text.now) }
     ensures ok { OnOk result (first (text_rules (content_of payload.now)) ≡ None) }

@@ -36,6 +36,7 @@ impl<'a> Head<'a> {
     }
 
     /// Takes one more field, which is told to stand at this place.
+    #[inline(always)]
     fn take(&mut self, alloc: Global, field: &Field<'a>, at: u64) -> Result<(), MessageError>
         ensures ok { OnOk result (first (layer_form_rules field.now.number (content_of field.now.payload)) ≡ None) }
         ensures name { OnOk result (option_copied self.new.name
@@ -63,6 +64,7 @@ impl<'a> Head<'a> {
 }
 
 /// The head with one more field, unless a fault was met before it.
+#[inline(always)]
 pub(crate) fn take_head<'a>(
     alloc: Global,
     head: &mut Head<'a>,

@@ -14,6 +14,7 @@ use mvt_feature::{Cause, MessageError, fault_at};
 use mvt_wire::Payload;
 
 /// The bytes of a message; a field of another form has none.
+#[inline(always)]
 pub(crate) fn bytes_of<'a>(payload: &Payload<'a>) -> &'a [u8]
     ensures { result.now ≡ the_bytes_of (content_of payload.now) }
 {
@@ -26,6 +27,7 @@ pub(crate) fn bytes_of<'a>(payload: &Payload<'a>) -> &'a [u8]
 }
 
 /// Whether a field has the form of a message.
+#[inline(always)]
 pub(crate) fn check_bytes(payload: &Payload<'_>, at: u64) -> Result<(), MessageError>
     ensures ok { OnOk result (first (bytes_rules (content_of payload.now)) ≡ None) }
     ensures err { IfErr result (λ error. TellsMessage error (option_map (the_fault_at at) (first (bytes_rules (content_of payload.now))))) }
@@ -37,6 +39,7 @@ pub(crate) fn check_bytes(payload: &Payload<'_>, at: u64) -> Result<(), MessageE
 }
 
 /// A text, or its fault told at this place.
+#[inline(always)]
 pub(crate) fn text_of<'a>(payload: &Payload<'a>, at: u64) -> Result<&'a str, MessageError>
     ensures text { IfOk result (λ text. text.now ≡ the_bytes_of (content_of payload.now)) }
     ensures ok { OnOk result (first (text_rules (content_of payload.now)) ≡ None) }
@@ -48,6 +51,7 @@ pub(crate) fn text_of<'a>(payload: &Payload<'a>, at: u64) -> Result<&'a str, Mes
     }
 }
 
+#[inline(always)]
 pub(crate) fn uint32_of(payload: &Payload<'_>, at: u64) -> Result<u32, MessageError>
     ensures number { IfOk result (λ n. number_of (content_of payload.now) ≡ Some n) }
     ensures ok { OnOk result (first (uint32_rules (content_of payload.now)) ≡ None) }

@@ -38,6 +38,7 @@ impl LayerValues {
 
 /// The values with one more field, unless a fault was met before it. They are built where they are to be
 /// kept, and only judged otherwise.
+#[inline(always)]
 pub(crate) fn take_value(
     alloc: Global,
     values: &mut LayerValues,
@@ -62,6 +63,7 @@ pub(crate) fn take_value(
 }
 
 /// Appends the value of a field that holds one.
+#[inline(always)]
 fn append_value(
     alloc: Global,
     field: &Field<'_>,

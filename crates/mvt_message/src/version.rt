@@ -32,6 +32,7 @@ pub(crate) fn read_version(payload: &[u8], base: u64, own: u64) -> Result<u32, M
 }
 
 /// The last version with one more field, unless a fault was met before it.
+#[inline(always)]
 pub(crate) fn take_version(
     version: &mut Result<Option<u32>, MessageError>,
     field: &Field<'_>,
