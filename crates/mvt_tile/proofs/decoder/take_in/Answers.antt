@@ -14,7 +14,8 @@ pub returns-then-not-is_empty-clause-fault : goal.returns-then-not-is_empty-clau
 returns-then-not-is_empty-clause-fault c =
     let some : length c.split_at.result.1.now ≡ 0 → ⊥ = search rules in
     let full : c.args.offset + (length c.args.raw.now.items + length c.split_at.result.0.now) ≡ 67108864 = omega (arith, c.args.raw.now.ok.0, some) in
-    λ s live. piece_too_large c.item_laws.ensures c.split_laws.ensures 67108864 c.args.offset c.args.layers.now c.swallow.new.layers c.args.raw.now.items c.swallow.new.raw.items s c.args.piece.now c.split_at.result.0.now c.split_at.result.1.now c.in_ok-used.used c.in_ok-used.ensures.judged c.in_ok-used.ensures.raw full (cut _ _ _ _ c.split_at.ensures.front c.split_at.ensures.back) some live
+    rw c.outer.ensures
+    (λ s live. piece_too_large c.item_laws.ensures c.split_laws.ensures 67108864 c.args.offset c.args.layers.now c.swallow.new.layers c.args.raw.now.items c.swallow.new.raw.items s c.args.piece.now c.split_at.result.0.now c.split_at.result.1.now c.in_ok-used.used c.in_ok-used.ensures.judged c.in_ok-used.ensures.raw full (cut _ _ _ _ c.split_at.ensures.front c.split_at.ensures.back) some live)
 
 pub returns-clause-live : goal.returns-clause-live
 returns-clause-live c =

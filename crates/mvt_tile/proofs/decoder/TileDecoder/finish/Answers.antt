@@ -5,8 +5,9 @@ use Rattle.mvt_tile.proofs.decoder.TileDecoder.finish.Goals as goal
 
 pub returns-then-not-is_empty-clause-fault : goal.returns-then-not-is_empty-clause-fault
 returns-then-not-is_empty-clause-fault c =
-    λ s stands. live_truncated c.item_laws.ensures 67108864 c.self.inside.offset c.self.inside.layers c.self.inside.raw.items s (search rules)
-    (live_of 67108864 c.self.inside.failure c.self.inside.offset c.self.inside.layers c.self.inside.raw.items c.args.self s c.self.view_is c.in_default.is stands)
+    rw c.outer.ensures
+    (λ s stands. live_truncated c.item_laws.ensures 67108864 c.self.inside.offset c.self.inside.layers c.self.inside.raw.items s (search rules)
+    (live_of 67108864 c.self.inside.failure c.self.inside.offset c.self.inside.layers c.self.inside.raw.items c.args.self s c.self.view_is c.in_default.is stands))
 
 pub returns-clause-tile : goal.returns-clause-tile
 returns-clause-tile c =
