@@ -4,7 +4,7 @@ ghost use Rattle.std.specs.Bool.{OnTrue};
 ghost use Rattle.std.specs.Prelude.{bytes_eq};
 ghost use Rattle.std.specs.Map.{update};
 ghost use Rattle.std.specs.Option.{unwrap_or};
-ghost use Rattle.mvt_attrs.specs.Inner.Marking.{IsGrouped, IsReady, AreBelow, place_in_map};
+ghost use Rattle.mvt_attrs.specs.Inner.Marking.{IsGrouped, IsPlaceBehind, IsReady, AreBelow, place_in_map};
 
 use mvt_base::Text;
 use std::alloc::{AllocError, Global};
@@ -82,8 +82,48 @@ pub(crate) fn make_ready(
     Ok(())
 }
 
+/// So few keys are grouped by comparing each with those before it.
+const FEW: usize = 8;
+
 /// For each text the first index at which it stands.
 fn group(alloc: Global, texts: &[Text]) -> Result<Vec<usize>, AllocError>
+    ensures { IfOk result (λ places. IsGrouped texts.now places.items) }
+{
+    if texts.len() <= FEW {
+        group_few(alloc, texts)
+    } else {
+        group_many(alloc, texts)
+    }
+}
+
+/// The same by plain comparisons, whose number is the square of that of the texts.
+fn group_few(alloc: Global, texts: &[Text]) -> Result<Vec<usize>, AllocError>
+    ensures { IfOk result (λ places. IsGrouped texts.now places.items) }
+{
+    let mut places = Vec::with_capacity(alloc, texts.len())?;
+    for _ in texts {
+        let place = place_behind(texts, &places);
+        places.push(place)?;
+    }
+    Ok(places)
+}
+
+/// The place of the first text that has none yet: that of an earlier equal one, or its index.
+fn place_behind(texts: &[Text], places: &[usize]) -> usize
+    requires { length places.now < length texts.now }
+    ensures { IsPlaceBehind texts.now places.now result }
+{
+    let index = places.len();
+    for (before, place) in places.iter().enumerate() {
+        if texts[before] == texts[index] {
+            return *place;
+        }
+    }
+    index
+}
+
+/// The same by a map of the texts so far.
+fn group_many(alloc: Global, texts: &[Text]) -> Result<Vec<usize>, AllocError>
     ensures { IfOk result (λ places. IsGrouped texts.now places.items) }
 {
     let mut known = BTreeMap::new(alloc);

@@ -2,7 +2,7 @@ use Rattle.std.proofs.Common.{◌≡◌, length, Some, slice_get, refl, sym, ap,
 use Rattle.std.proofs.lemmas.Option.{slice_get_read}
 use Rattle.mvt_attrs.specs.Inner.Marking.{place_in_map}
 use Rattle.mvt_attrs.proofs.MarkingLemmas.{found_more, grouped}
-use Rattle.mvt_attrs.proofs.layer_keys.group.Goals as goal
+use Rattle.mvt_attrs.proofs.layer_keys.group_many.Goals as goal
 
 pub loop-index-preserved : goal.loop-index-preserved
 loop-index-preserved c =
