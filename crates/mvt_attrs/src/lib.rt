@@ -28,4 +28,6 @@ pub use value::{Attribute, Value};
 pub use value_pool::ValuePool;
 
 #[cfg(test)]
+mod pool_tests;
+#[cfg(test)]
 mod tests;
