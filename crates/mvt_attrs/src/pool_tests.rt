@@ -7,8 +7,9 @@ use std::test::Fail;
 
 // More entries than are hashed.
 const LETTERS: [&str; 40] = [
-    "a", "b", "c", "d", "e", "f", "g", "h", "i", "j", "k", "l", "m", "n", "o", "p", "q", "r", "s", "t",
-    "u", "v", "w", "x", "y", "z", "A", "B", "C", "D", "E", "F", "G", "H", "I", "J", "K", "L", "M", "N",
+    "a", "b", "c", "d", "e", "f", "g", "h", "i", "j", "k", "l", "m", "n", "o", "p", "q", "r", "s",
+    "t", "u", "v", "w", "x", "y", "z", "A", "B", "C", "D", "E", "F", "G", "H", "I", "J", "K", "L",
+    "M", "N",
 ];
 
 // A front after which the kit's FoldHasher forgets 8 bytes, in a text of 48 bytes: see bench/hostile.cc.

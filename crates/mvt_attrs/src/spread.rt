@@ -22,11 +22,7 @@ pub struct Spread<T: Entry> {
 }
 
 /// The place of an entry.
-pub(crate) fn find_spread<T: Entry>(
-    spread: &Spread<T>,
-    entries: &[T],
-    entry: &T,
-) -> Option<usize>
+pub(crate) fn find_spread<T: Entry>(spread: &Spread<T>, entries: &[T], entry: &T) -> Option<usize>
     requires { IsSpread T.cmp T.hash_input spread.now entries.now }
     ensures { IsPlaceOf entries.now entry.now result }
 {

@@ -34,10 +34,10 @@ returns-clause-added g c =
     let at : c.home-home.result ≡ hash entry % length slots = c.home-home.ensures.value ∙ ap (λ n. hash entry % n) lens in
     let within : c.home-home.result < length slots = omega (arith, c.home-home.ensures.within, lens) in
     let taken : slice_index slots (hash entry % length slots) ≢ 0 = λ e.
-        c.if-index-eq0.false (c.index.ensures ∙ get_or_default slots c.home-home.result c.index.result.now 0 within ∙ ap (slice_index slots) at ∙ e) in
+    c.if-index-eq0.false (c.index.ensures ∙ get_or_default slots c.home-home.result c.index.result.now 0 within ∙ ap (slice_index slots) at ∙ e) in
     let decides : (x : g.row.T.Denot) → Decides (is_eq (cmp entry x)) (entry ≡ x) = λ x. subst (λ b. Decides b (entry ≡ x)) (g.met.T.Ord.matches_eq entry x) (g.met.T.Entry.identical entry x) in
     let updated : (x : g.row.T.Denot) → get cmp c.insert.new.self x ≡ cond (is_eq (cmp entry x)) (Some (length c.args.entries.now)) (get cmp c.args.spread.now.crowded x) =
-        subst (λ e. (x : g.row.T.Denot) → get cmp c.insert.new.self x ≡ cond (is_eq (cmp e x)) (Some (length c.args.entries.now)) (get cmp c.args.spread.now.crowded x)) c.in_ok-copied.ensures c.in_ok-insert.ensures.updates.0 in
+    subst (λ e. (x : g.row.T.Denot) → get cmp c.insert.new.self x ≡ cond (is_eq (cmp e x)) (Some (length c.args.entries.now)) (get cmp c.args.spread.now.crowded x)) c.in_ok-copied.ensures c.in_ok-insert.ensures.updates.0 in
     record {
       room = c.requires.known.room;
       known = known_by_order c.args.entries.now entry (λ x. slice_index slots (hash x % length slots)) (get cmp c.args.spread.now.crowded) c.requires.known.known c.requires.new
