@@ -16,7 +16,11 @@ const PIECE: usize = 65_536;
 /// # Errors
 ///
 /// A read that failed ends the call. After an error the bytes read so far are lost.
-pub fn read_up_to<R: Source>(alloc: Global, reader: &mut R, most: usize) -> Result<Vec<u8>, ReadError>
+pub fn read_up_to<R: Source>(
+    alloc: Global,
+    reader: &mut R,
+    most: usize,
+) -> Result<Vec<u8>, ReadError>
     ensures front { IfOk result (λ bytes. Consumes (R.left reader.old) (R.left reader.new) bytes.items) }
     ensures bytes { IfOk result (λ bytes. IfSome (R.left reader.old)
         (λ left. bytes.items ≡ take most left)) }
