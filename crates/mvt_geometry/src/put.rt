@@ -11,7 +11,7 @@ ghost use Rattle.mvt_geometry.specs.Inner.Putting.{ending, AreShort, IsShort, Be
 use crate::judge::ORIGIN;
 use crate::shape::{Geometry, Point, Polygon};
 use mvt_base::Items;
-use mvt_wire::zigzag32;
+use mvt_wire::{NumberList, zigzag32};
 use std::alloc::{AllocError, Global};
 
 /// The integers that draw the geometry, and no others draw it.
@@ -33,19 +33,21 @@ pub fn put_geometry(alloc: Global, geometry: &Geometry) -> Result<Vec<u32>, Allo
 /// # Errors
 ///
 /// Want of memory; the list is then as it was or a longer one.
-pub fn append_geometry(geometry: &Geometry, integers: &mut Vec<u32>) -> Result<(), AllocError>
+pub fn append_geometry<N: NumberList>(
+    geometry: &Geometry,
+    integers: &mut N,
+) -> Result<(), AllocError>
     requires { IsValid geometry.now }
-    ensures integers { OnOk result (integers.new.items ≡ integers.old.items ++ drawn geometry.now) }
-    ensures integers_left { OnErr result ((more : List ℕ) × (integers.new.items ≡ integers.old.items ++ more)) }
+    ensures integers { OnOk result (N.numbers integers.new ≡ N.numbers integers.old ++ drawn geometry.now) }
+    ensures integers_left { OnErr result
+        ((more : List ℕ) × (N.numbers integers.new ≡ N.numbers integers.old ++ more)) }
 {
     match geometry {
-        Geometry::Unknown(kept) => {
-            integers.extend_from_slice(kept.as_slice())?;
-        }
+        Geometry::Unknown(kept) => put_kept(integers, kept.as_slice())?,
         Geometry::Points(points) => {
             let points = points.as_slice();
-            integers.reserve(1 + 2 * points.len())?;
-            integers.push(8 * points.len() as u32 + 1)?;
+            integers.reserve_numbers(1 + 2 * points.len())?;
+            integers.push_number(8 * points.len() as u32 + 1)?;
             put_path(integers, ORIGIN, points)?;
         }
         Geometry::Lines(lines) => {
@@ -56,12 +58,24 @@ pub fn append_geometry(geometry: &Geometry, integers: &mut Vec<u32>) -> Result<(
     Ok(())
 }
 
-fn put_polygons(integers: &mut Vec<u32>, polygons: &[Polygon]) -> Result<(), AllocError>
+/// Appends integers as they are.
+fn put_kept<N: NumberList>(integers: &mut N, kept: &[u32]) -> Result<(), AllocError>
+    ensures integers { OnOk result (N.numbers integers.new ≡ N.numbers integers.old ++ kept.now) }
+    ensures left { OnErr result (BeginsWith (N.numbers integers.old) (N.numbers integers.new)) }
+{
+    integers.reserve_numbers(kept.len())?;
+    for integer in kept {
+        integers.push_number(*integer)?;
+    }
+    Ok(())
+}
+
+fn put_polygons<N: NumberList>(integers: &mut N, polygons: &[Polygon]) -> Result<(), AllocError>
     requires steps { AreSteps origin (joined (rings_of polygons.now)) }
     requires short { AreShort (rings_of polygons.now) }
-    ensures integers { OnOk result (integers.new.items
-        ≡ integers.old.items ++ strokes_from (15 ∷ []) origin (rings_of polygons.now)) }
-    ensures left { OnErr result (BeginsWith integers.old.items integers.new.items) }
+    ensures integers { OnOk result (N.numbers integers.new
+        ≡ N.numbers integers.old ++ strokes_from (15 ∷ []) origin (rings_of polygons.now)) }
+    ensures left { OnErr result (BeginsWith (N.numbers integers.old) (N.numbers integers.new)) }
 {
     let mut cursor = ORIGIN;
     for polygon in polygons {
@@ -72,17 +86,17 @@ fn put_polygons(integers: &mut Vec<u32>, polygons: &[Polygon]) -> Result<(), All
 }
 
 /// Appends lines or rings, and answers the last point.
-fn put_lines(
-    integers: &mut Vec<u32>,
+fn put_lines<N: NumberList>(
+    integers: &mut N,
     from: Point,
     lines: &[Items<Point>],
     are_rings: bool,
 ) -> Result<Point, AllocError>
     requires steps { AreSteps from (joined lines.now) }
     requires short { AreShort lines.now }
-    ensures integers { OnOk result (integers.new.items
-        ≡ integers.old.items ++ strokes_from (ending are_rings) from lines.now) }
-    ensures left { OnErr result (BeginsWith integers.old.items integers.new.items) }
+    ensures integers { OnOk result (N.numbers integers.new
+        ≡ N.numbers integers.old ++ strokes_from (ending are_rings) from lines.now) }
+    ensures left { OnErr result (BeginsWith (N.numbers integers.old) (N.numbers integers.new)) }
     ensures last { IfOk result (λ last. last ≡ last_of from (joined lines.now)) }
 {
     let mut cursor = from;
@@ -93,41 +107,45 @@ fn put_lines(
 }
 
 /// Appends a line or a ring, and answers its last point.
-fn put_line(
-    integers: &mut Vec<u32>,
+fn put_line<N: NumberList>(
+    integers: &mut N,
     from: Point,
     line: &[Point],
     is_ring: bool,
 ) -> Result<Point, AllocError>
     requires steps { AreSteps from line.now }
     requires short { IsShort line.now }
-    ensures integers { OnOk result (integers.new.items ≡ integers.old.items ++ stroke (ending is_ring) from line.now) }
-    ensures left { OnErr result (BeginsWith integers.old.items integers.new.items) }
+    ensures integers { OnOk result (N.numbers integers.new ≡ N.numbers integers.old ++ stroke (ending is_ring) from line.now) }
+    ensures left { OnErr result (BeginsWith (N.numbers integers.old) (N.numbers integers.new)) }
     ensures last { IfOk result (λ last. last ≡ last_of from line.now) }
 {
     let (first, others) = line.split_at(1);
-    integers.reserve(3 + 2 * line.len())?;
-    integers.push(9)?;
+    integers.reserve_numbers(3 + 2 * line.len())?;
+    integers.push_number(9)?;
     let first = put_path(integers, from, first)?;
-    integers.push(8 * others.len() as u32 + 2)?;
+    integers.push_number(8 * others.len() as u32 + 2)?;
     let last = put_path(integers, first, others)?;
     if is_ring {
-        integers.push(15)?;
+        integers.push_number(15)?;
     }
     Ok(last)
 }
 
 /// Appends the pairs of a path, and answers its last point.
-fn put_path(integers: &mut Vec<u32>, from: Point, points: &[Point]) -> Result<Point, AllocError>
+fn put_path<N: NumberList>(
+    integers: &mut N,
+    from: Point,
+    points: &[Point],
+) -> Result<Point, AllocError>
     requires { AreSteps from points.now }
-    ensures integers { OnOk result (integers.new.items ≡ integers.old.items ++ path_from from points.now) }
-    ensures left { OnErr result (BeginsWith integers.old.items integers.new.items) }
+    ensures integers { OnOk result (N.numbers integers.new ≡ N.numbers integers.old ++ path_from from points.now) }
+    ensures left { OnErr result (BeginsWith (N.numbers integers.old) (N.numbers integers.new)) }
     ensures last { IfOk result (λ last. last ≡ last_of from points.now) }
 {
     let mut cursor = from;
     for point in points {
-        integers.push(zigzag32(point.x - cursor.x))?;
-        integers.push(zigzag32(point.y - cursor.y))?;
+        integers.push_number(zigzag32(point.x - cursor.x))?;
+        integers.push_number(zigzag32(point.y - cursor.y))?;
         cursor = *point;
     }
     Ok(cursor)

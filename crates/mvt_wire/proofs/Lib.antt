@@ -1,5 +1,6 @@
 pub mod FieldLemmas
 pub mod PackedLemmas
+pub mod PackedNumbersLemmas
 pub mod ShortLemmas
 pub mod SpellingLemmas
 pub mod SplitLemmas

@@ -6,9 +6,9 @@ use Rattle.mvt_geometry.specs.Inner.Putting.{BeginsWith, ending, AreShort}
 use Rattle.mvt_geometry.proofs.put.put_lines.Given as goal
 
 abbrev pub invariant-loop-line : goal.invariant-loop-line
-invariant-loop-line l =
-    (l.integers.items ++ strokes_from (ending l.are_rings) l.cursor (drop l.line-index l.lines)
-    ≡ l.initial.integers.items ++ strokes_from (ending l.are_rings) l.initial.cursor l.lines)
+invariant-loop-line g l =
+    ((g.N.NumberList.numbers l.integers) ++ strokes_from (ending l.are_rings) l.cursor (drop l.line-index l.lines)
+    ≡ (g.N.NumberList.numbers l.initial.integers) ++ strokes_from (ending l.are_rings) l.initial.cursor l.lines)
     × (last_of l.cursor (joined (drop l.line-index l.lines)) ≡ last_of l.initial.cursor (joined l.lines))
     × AreSteps l.cursor (joined (drop l.line-index l.lines)) × AreShort (drop l.line-index l.lines)
-    × BeginsWith l.initial.integers.items l.integers.items
+    × BeginsWith (g.N.NumberList.numbers l.initial.integers) (g.N.NumberList.numbers l.integers)

@@ -6,7 +6,7 @@ use Rattle.mvt_geometry.specs.Inner.Putting.{BeginsWith}
 use Rattle.mvt_geometry.proofs.put.put_path.Given as goal
 
 abbrev pub invariant-loop-point : goal.invariant-loop-point
-invariant-loop-point l =
-    (l.integers.items ++ path_from l.cursor (drop l.point-index l.points) ≡ l.initial.integers.items ++ path_from l.initial.cursor l.points)
+invariant-loop-point g l =
+    ((g.N.NumberList.numbers l.integers) ++ path_from l.cursor (drop l.point-index l.points) ≡ (g.N.NumberList.numbers l.initial.integers) ++ path_from l.initial.cursor l.points)
     × (last_of l.cursor (drop l.point-index l.points) ≡ last_of l.initial.cursor l.points) × AreSteps l.cursor (drop l.point-index l.points)
-    × BeginsWith l.initial.integers.items l.integers.items
+    × BeginsWith (g.N.NumberList.numbers l.initial.integers) (g.N.NumberList.numbers l.integers)

@@ -5,8 +5,8 @@ use Rattle.mvt_geometry.specs.Inner.Putting.{BeginsWith, AreShort}
 use Rattle.mvt_geometry.proofs.put.put_polygons.Given as goal
 
 abbrev pub invariant-loop-polygon : goal.invariant-loop-polygon
-invariant-loop-polygon l =
-    (l.integers.items ++ strokes_from (15 ∷ []) l.cursor (rings_of (drop l.polygon-index l.polygons))
-    ≡ l.initial.integers.items ++ strokes_from (15 ∷ []) l.initial.cursor (rings_of l.polygons))
+invariant-loop-polygon g l =
+    ((g.N.NumberList.numbers l.integers) ++ strokes_from (15 ∷ []) l.cursor (rings_of (drop l.polygon-index l.polygons))
+    ≡ (g.N.NumberList.numbers l.initial.integers) ++ strokes_from (15 ∷ []) l.initial.cursor (rings_of l.polygons))
     × AreSteps l.cursor (joined (rings_of (drop l.polygon-index l.polygons))) × AreShort (rings_of (drop l.polygon-index l.polygons))
-    × BeginsWith l.initial.integers.items l.integers.items
+    × BeginsWith (g.N.NumberList.numbers l.initial.integers) (g.N.NumberList.numbers l.integers)
