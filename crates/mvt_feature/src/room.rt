@@ -1,4 +1,5 @@
 //! Lists that are used again from feature to feature.
+use mvt_wire::PackedNumbers;
 use std::alloc::Global;
 
 /// Room for the tags and the integers of a feature while it is read or written.
@@ -17,6 +18,8 @@ pub struct Room {
     /// The tags of the feature that was written last.
     pub(crate) last: Vec<u32>,
     pub(crate) integers: Vec<u32>,
+    /// The integers of the feature that is written.
+    pub(crate) drawing: PackedNumbers,
 }
 
 impl Room {
@@ -26,6 +29,7 @@ impl Room {
             tags: Vec::new(alloc),
             last: Vec::new(alloc),
             integers: Vec::new(alloc),
+            drawing: PackedNumbers::new(alloc),
         }
     }
 }

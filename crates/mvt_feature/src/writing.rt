@@ -15,7 +15,7 @@ use mvt_attrs::{KeyPool, PoolError, Value, ValuePool, append_tags};
 use mvt_base::LIMIT;
 use mvt_geometry::{Kind, append_geometry, kind_of};
 use mvt_wire::laws::short_lengths;
-use mvt_wire::{Payload, field_len, put_field, put_packed, varint_len, zigzag64};
+use mvt_wire::{PackedNumbers, Payload, field_len, put_field, put_packed, varint_len, zigzag64};
 use std::alloc::AllocError;
 use std::mem::swap;
 
@@ -89,7 +89,7 @@ pub fn append_feature(
 {
     swap(&mut room.tags, &mut room.last);
     room.tags.clear();
-    room.integers.clear();
+    room.drawing.clear();
     append_tags(
         feature.attributes.as_slice(),
         keys,
@@ -97,13 +97,13 @@ pub fn append_feature(
         &room.last,
         &mut room.tags,
     )?;
-    append_geometry(&feature.geometry, &mut room.integers)?;
+    append_geometry(&feature.geometry, &mut room.drawing)?;
     append_fields(
         out,
         feature.id,
         &room.tags,
         kind_of(&feature.geometry),
-        &room.integers,
+        &room.drawing,
     )?;
     Ok(())
 }
@@ -114,7 +114,7 @@ fn append_fields(
     id: Option<u64>,
     tags: &[u32],
     kind: Kind,
-    integers: &[u32],
+    integers: &PackedNumbers,
 ) -> Result<(), AllocError>
     ensures ok { OnOk result (out.new.items ≡ out.old.items
         ++ spelled (id_fields id ++ (tags_fields tags.now ++ drawing_fields kind integers.now))) }
@@ -145,12 +145,12 @@ fn append_tags_field(out: &mut Vec<u8>, tags: &[u32]) -> Result<(), AllocError>
     put_packed(out, 2, tags)
 }
 
-fn append_drawing(out: &mut Vec<u8>, kind: Kind, integers: &[u32]) -> Result<(), AllocError>
+fn append_drawing(out: &mut Vec<u8>, kind: Kind, integers: &PackedNumbers) -> Result<(), AllocError>
     ensures ok { OnOk result (out.new.items ≡ out.old.items ++ spelled (drawing_fields kind integers.now)) }
     ensures left { OnErr result (Extends out.old.items out.new.items) }
 {
     put_field(out, 3, &Payload::Varint(type_number(kind)))?;
-    put_packed(out, 4, integers)
+    put_field(out, 4, &Payload::Len(integers.as_bytes()))
 }
 
 fn type_number(kind: Kind) -> u64
