@@ -1,7 +1,8 @@
--- Entries at slots, when another is added.
-use Rattle.std.proofs.Common.{◌≡◌, ◌≢◌, ℕ, zero, suc, ◌+◌, ◌<◌, ◌%◌, Bool, true, false, ◌⊎◌, List, [], ◌∷◌, ◌++◌, length, Option, Some, Contains, Decides, slice_get, slice_index, slice_set, cond, inl, inr, refl, sym, ap, subst, ◌∙◌, arith}
+-- Entries in slots and in order, when another is added.
+use Rattle.std.proofs.Common.{◌≡◌, ◌≢◌, ℕ, zero, suc, ◌+◌, ◌<◌, Bool, true, false, ◌⊎◌, List, [], ◌∷◌, ◌++◌, length, Option, Some, Contains, Decides, slice_get, slice_index, slice_set, cond, inl, inr, refl, sym, ap, subst, ◌∙◌, arith}
 use Rattle.std.proofs.lemmas.Bool.{cond_both, both_ways}
-use Rattle.std.proofs.lemmas.List.{length-set, get_or-set_same, get_or-set_other}
+use Rattle.std.proofs.lemmas.List.{get_or-set_same, get_or-set_other}
+use Rattle.mvt_attrs.specs.Inner.Spreading.{IsOfOr, IsFreeSlot}
 use Rattle.mvt_attrs.proofs.PoolLemmas.{last_there, front_there}
 use Rattle.mvt_attrs.proofs.PlacingLemmas.{contains_at}
 
@@ -16,34 +17,53 @@ at_index (w ∷ xs) y (suc i) x e =
       | inr last ↦ inr (omega (arith, last.0), last.1)
     ]
 
-module _ {A : Type 0} (hash : A → ℕ) where
-  abbrev slot_in : List ℕ → A → ℕ
-  slot_in slots x = slice_index slots (hash x % length slots)
+-- what holds of each entry and of the new one at its place
+known_more : {A : Type 0} → (entries : List A) (new : A) (Known : ℕ → A → Type 0)
+    → ((i : ℕ) (x : A) → slice_get entries i ≡ Some x → Known i x) → Known (length entries) new
+    → (i : ℕ) (x : A) → slice_get (entries ++ new ∷ []) i ≡ Some x → Known i x
+known_more entries new Known before now i x at =
+    elim (at_index entries new i x at) [
+      | inl there ↦ before i x there
+      | inr last ↦ subst (λ n. Known n x) last.0 (subst (Known (length entries)) last.1 now)
+    ]
 
-  -- a slot that was taken stays when another is
-  pub slot_kept : (slots : List ℕ) (h v : ℕ) (x : A) → slice_index slots h ≡ 0 → slot_in slots x ≢ 0 → slot_in (slice_set slots h v) x ≡ slot_in slots x
-  slot_kept slots h v x free taken =
-      ap (λ n. slice_index (slice_set slots h v) (hash x % n)) (length-set slots h v)
-      ∙ get_or-set_other slots h (hash x % length slots) v 0 (λ e. taken (ap (slice_index slots) e ∙ free))
+-- a slot that is taken stays so
+still_of : {P Q : Type 0} → (mark after i : ℕ) → (mark ≢ 0 → after ≡ mark) → (P → Q) → IsOfOr mark i P → IsOfOr after i Q
+still_of mark after i kept more of =
+    elim of [
+      | inl here ↦ inl (kept (λ e. omega (arith, e, here)) ∙ here)
+      | inr there ↦ inr (λ e. there.0 (sym (kept there.0) ∙ e), more there.1)
+    ]
 
-  pub slot_taken : (slots : List ℕ) (h v : ℕ) (x : A) → h ≡ hash x % length slots → h < length slots → slot_in (slice_set slots h v) x ≡ v
-  slot_taken slots h v x e within =
-      ap (λ n. slice_index (slice_set slots h v) (hash x % n)) (length-set slots h v)
-      ∙ ap (slice_index (slice_set slots h v)) (sym e) ∙ get_or-set_same slots h v 0 within
+module _ {A : Type 0} (entries : List A) (new : A) (first second : A → ℕ) (slots : List ℕ) (old : A → Option ℕ) where
+  abbrev pub Stands : List ℕ → (A → Option ℕ) → ℕ → A → Type 0
+  Stands marks order i x = IsOfOr (slice_index marks (first x)) i (IsOfOr (slice_index marks (second x)) i (order x ≡ Some i))
 
-module _ {A : Type 0} (entries : List A) (new : A) (slot : A → ℕ) (old : A → Option ℕ)
-    (known : (i : ℕ) (x : A) → slice_get entries i ≡ Some x → (slot x ≡ i + 1) ⊎ ((slot x ≢ 0) × (old x ≡ Some i))) where
-  -- the new entry takes a slot
-  pub known_by_slot : (after : A → ℕ) → ((x : A) → slot x ≢ 0 → after x ≡ slot x) → after new ≡ length entries + 1
-      → (i : ℕ) (x : A) → slice_get (entries ++ new ∷ []) i ≡ Some x → (after x ≡ i + 1) ⊎ ((after x ≢ 0) × (old x ≡ Some i))
-  known_by_slot after kept now i x at =
-      elim (at_index entries new i x at) [
-        | inl before ↦ elim (known i x before) [
-          | inl here ↦ inl (kept x (λ e. omega (arith, e, here)) ∙ here)
-          | inr there ↦ inr (λ e. there.0 (sym (kept x there.0) ∙ e), there.1)
-        ]
-        | inr last ↦ inl (sym (ap after last.1) ∙ now ∙ ap (λ n. n + 1) last.0)
-      ]
+  module _ (known : (i : ℕ) (x : A) → slice_get entries i ≡ Some x → Stands slots old i x) where
+    -- the new entry takes a free slot
+    module _ (slot : ℕ) (free : IsFreeSlot slots (first new) (second new) (Some slot)) where
+      abbrev marked : List ℕ
+      marked = slice_set slots slot (length entries + 1)
+
+      mark_kept : (h : ℕ) → slice_index slots h ≢ 0 → slice_index marked h ≡ slice_index slots h
+      mark_kept h taken = get_or-set_other slots slot h (length entries + 1) 0 (λ e. taken (ap (slice_index slots) e ∙ free.1))
+
+      mark_set : (h : ℕ) → slot ≡ h → slice_index marked h ≡ length entries + 1
+      mark_set h e = ap (slice_index marked) (sym e) ∙ get_or-set_same slots slot (length entries + 1) 0 free.0
+
+      stands_now : Stands marked old (length entries) new
+      stands_now =
+          elim free.2 [
+            | inl at_first ↦ inl (mark_set (first new) at_first)
+            | inr at_second ↦ inr (λ e. at_second.0 (sym (mark_kept (first new) at_second.0) ∙ e), inl (mark_set (second new) at_second.1))
+          ]
+
+      pub known_in_slot : (i : ℕ) (x : A) → slice_get (entries ++ new ∷ []) i ≡ Some x → Stands marked old i x
+      known_in_slot =
+          known_more entries new (Stands marked old)
+          (λ i x at. still_of (slice_index slots (first x)) (slice_index marked (first x)) i (mark_kept (first x))
+          (still_of (slice_index slots (second x)) (slice_index marked (second x)) i (mark_kept (second x)) (λ e. e)) (known i x at))
+          stands_now
 
   -- the new entry goes into the order
   module _ (absent : Contains entries new → ⊥) (here : A → Bool) (decides : (x : A) → Decides (here x) (new ≡ x)) (after : A → Option ℕ)
@@ -57,18 +77,18 @@ module _ {A : Type 0} (entries : List A) (new : A) (slot : A → ℕ) (old : A �
     at_other x apart =
         updated x ∙ cond_both (here x) (Some (length entries)) (old x) (λ o. o ≡ old x) (λ e. absurd (apart ((decides x).0 e))) (λ e. refl)
 
-    pub known_by_order : slot new ≢ 0 → (i : ℕ) (x : A) → slice_get (entries ++ new ∷ []) i ≡ Some x → (slot x ≡ i + 1) ⊎ ((slot x ≢ 0) × (after x ≡ Some i))
-    known_by_order taken i x at =
-        elim (at_index entries new i x at) [
-          | inl before ↦ elim (known i x before) [
-            | inl at_slot ↦ inl at_slot
-            | inr there ↦ inr (there.0, at_other x (λ e. absent (subst (Contains entries) (sym e) (contains_at entries i x before))) ∙ there.1)
-          ]
-          | inr last ↦ inr (λ e. taken (ap slot last.1 ∙ e), sym (ap after last.1) ∙ at_new ∙ ap Some last.0)
-        ]
+    pub known_in_order : ((i : ℕ) (x : A) → slice_get entries i ≡ Some x → Stands slots old i x)
+        → slice_index slots (first new) ≢ 0 → slice_index slots (second new) ≢ 0
+        → (i : ℕ) (x : A) → slice_get (entries ++ new ∷ []) i ≡ Some x → Stands slots after i x
+    known_in_order known first_taken second_taken =
+        known_more entries new (Stands slots after)
+        (λ i x at. still_of (slice_index slots (first x)) (slice_index slots (first x)) i (λ e. refl)
+        (still_of (slice_index slots (second x)) (slice_index slots (second x)) i (λ e. refl)
+        (λ there. at_other x (λ e. absent (subst (Contains entries) (sym e) (contains_at entries i x at))) ∙ there)) (known i x at))
+        (inr (first_taken, inr (second_taken, at_new)))
 
-    pub sound_by_order : ((i : ℕ) (x : A) → old x ≡ Some i → slice_get entries i ≡ Some x) → (i : ℕ) (x : A) → after x ≡ Some i → slice_get (entries ++ new ∷ []) i ≡ Some x
-    sound_by_order sound i x e =
+    pub sound_in_order : ((i : ℕ) (x : A) → old x ≡ Some i → slice_get entries i ≡ Some x) → (i : ℕ) (x : A) → after x ≡ Some i → slice_get (entries ++ new ∷ []) i ≡ Some x
+    sound_in_order sound i x e =
         cond_both (here x) (Some (length entries)) (old x) (λ o. o ≡ Some i → slice_get (entries ++ new ∷ []) i ≡ Some x)
         (λ same at. subst (λ o. o ≡ Some x) (ap (slice_get (entries ++ new ∷ [])) (some_once at)) (last_there entries new ∙ ap Some ((decides x).0 same)))
         (λ other at. front_there entries new i x (sound i x at)) (sym (updated x) ∙ e)

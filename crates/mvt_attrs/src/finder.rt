@@ -1,11 +1,12 @@
 //! How the place of an entry is found in a pool.
 ghost use Rattle.std.specs.Prelude.{◌≡◌, ◌<◌, ◌+◌, ◌^◌, ◌++◌, ◌∷◌, [], ℕ, length, take, Contains, IfOk, OnOk, OnErr};
 ghost use Rattle.mvt_attrs.specs.FirstUse.{AreDistinct};
-ghost use Rattle.mvt_attrs.specs.Inner.Found.{IsPlaceOf};
-ghost use Rattle.mvt_attrs.specs.Inner.Finding.{Knows};
+ghost use Rattle.mvt_attrs.specs.Inner.Found.{IsPlaceOf, IsSpotOf};
+ghost use Rattle.mvt_attrs.specs.Inner.Finding.{Knows, IsRoomFor};
 
 use crate::entry::Entry;
-use crate::spread::{Spread, add_spread, find_spread, spread_all};
+use crate::spot::Spot;
+use crate::spread::{Spread, add_spread, find_spread, note_spread, spread_all};
 use indexmap::IndexSet;
 use std::alloc::{AllocError, Global};
 
@@ -14,6 +15,9 @@ const FEW: usize = 8;
 
 /// So many entries are hashed at most, as texts can be chosen that all have one hash.
 const MANY: usize = 32;
+
+/// With fewer slots for an entry than these, slots are made anew.
+const LEAST_ROOM: usize = 4;
 
 /// Where the entries of a pool stand.
 #[derive(Drop)]
@@ -24,15 +28,19 @@ pub enum Finder<T: Entry> {
     Spread(Spread<T>),
 }
 
-/// The place of an entry.
-pub(crate) fn find<T: Entry>(finder: &Finder<T>, entries: &[T], entry: &T) -> Option<usize>
+/// Where an entry stands, or can be noted.
+pub(crate) fn find<T: Entry>(finder: &Finder<T>, entries: &[T], entry: &T) -> Spot
     requires { Knows T.cmp T.hash_input finder.now entries.now }
-    ensures { IsPlaceOf entries.now entry.now result }
+    ensures { IsSpotOf entries.now entry.now (IsRoomFor T.hash_input finder.now entry.now) result }
 {
-    match finder {
+    let place = match finder {
         Finder::Plain => search(entries, entry),
         Finder::Hashed(places) => look_up(places, entry),
-        Finder::Spread(spread) => find_spread(spread, entries, entry),
+        Finder::Spread(spread) => return find_spread(spread, entries, entry),
+    };
+    match place {
+        Some(place) => Spot::Found(place),
+        None => Spot::New { slot: None },
     }
 }
 
@@ -59,39 +67,51 @@ pub(crate) fn note<T: Entry>(
     finder: &mut Finder<T>,
     entries: &[T],
     entry: &T,
+    slot: Option<usize>,
 ) -> Result<(), AllocError>
     requires known { Knows T.cmp T.hash_input finder.old entries.now }
     requires distinct { AreDistinct entries.now }
     requires new { ¬ (Contains entries.now entry.now) }
+    requires room { IsRoomFor T.hash_input finder.old entry.now slot }
     requires few { length entries.now + 1 < 2 ^ 32 }
     ensures added { OnOk result (Knows T.cmp T.hash_input finder.new (entries.now ++ entry.now ∷ [])) }
     ensures unchanged { OnErr result (Knows T.cmp T.hash_input finder.new entries.now) }
 {
-    take_over(alloc, finder, entries)?;
+    if is_outgrown(finder, entries.len()) {
+        *finder = grown(alloc, entries, entry)?;
+        return Ok(());
+    }
     match finder {
         Finder::Plain => Ok(()),
         Finder::Hashed(places) => add_hashed(places, entry.copied(alloc)?),
-        Finder::Spread(spread) => add_spread(alloc, spread, entries, entry),
+        Finder::Spread(spread) => note_spread(alloc, spread, entries, entry, slot),
     }
 }
 
-/// Another form takes over where the entries have become too many for this one.
-fn take_over<T: Entry>(
-    alloc: Global,
-    finder: &mut Finder<T>,
-    entries: &[T],
-) -> Result<(), AllocError>
-    requires known { Knows T.cmp T.hash_input finder.old entries.now }
-    requires distinct { AreDistinct entries.now }
-    requires few { length entries.now + 1 < 2 ^ 32 }
-    ensures { Knows T.cmp T.hash_input finder.new entries.now }
-{
-    if entries.len() == FEW {
-        *finder = Finder::Hashed(hashed(alloc, entries)?);
-    } else if entries.len() >= MANY && entries.len().is_power_of_two() {
-        *finder = Finder::Spread(spread_all(alloc, entries)?);
+/// Whether so many entries are too many for this form.
+fn is_outgrown<T: Entry>(finder: &Finder<T>, count: usize) -> bool {
+    match finder {
+        Finder::Plain => count >= FEW,
+        Finder::Hashed(_) => count >= MANY,
+        Finder::Spread(spread) => count >= spread.slots.len() / LEAST_ROOM,
     }
-    Ok(())
+}
+
+/// The form for these entries and a new one behind them.
+fn grown<T: Entry>(alloc: Global, entries: &[T], entry: &T) -> Result<Finder<T>, AllocError>
+    requires distinct { AreDistinct entries.now }
+    requires new { ¬ (Contains entries.now entry.now) }
+    requires few { length entries.now + 1 < 2 ^ 32 }
+    ensures { IfOk result (λ finder. Knows T.cmp T.hash_input finder (entries.now ++ entry.now ∷ [])) }
+{
+    if entries.len() < MANY {
+        let mut places = hashed(alloc, entries)?;
+        add_hashed(&mut places, entry.copied(alloc)?)?;
+        return Ok(Finder::Hashed(places));
+    }
+    let mut spread = spread_all(alloc, entries)?;
+    add_spread(alloc, &mut spread, entries, entry)?;
+    Ok(Finder::Spread(spread))
 }
 
 fn hashed<T: Entry>(alloc: Global, entries: &[T]) -> Result<IndexSet<T>, AllocError>

@@ -12,6 +12,7 @@ mod placing;
 mod pool;
 mod pool_error;
 mod resolving;
+mod spot;
 mod spread;
 mod value;
 mod value_pool;

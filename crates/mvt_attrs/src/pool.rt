@@ -1,11 +1,12 @@
 //! The entries of a pool, each once, in order of first use.
 ghost use Rattle.std.specs.Prelude.{◌≡◌, ◌<◌, ◌≤◌, ◌↔◌, List, [], ◌∷◌, ◌++◌, length, Contains, slice_get, option_copied, IsOk, IsErrOf, IfOk, OnOk, OnErr, IsTrue};
 ghost use Rattle.mvt_attrs.specs.FirstUse.{AreDistinct};
-ghost use Rattle.mvt_attrs.specs.Inner.Finding.{Knows};
+ghost use Rattle.mvt_attrs.specs.Inner.Finding.{Knows, IsRoomFor};
 
 use crate::entry::Entry;
 use crate::finder::{Finder, find, note};
 use crate::pool_error::PoolError;
+use crate::spot::Spot;
 use crate::spread::is_at;
 use mvt_base::LIMIT;
 use std::alloc::{AllocError, Global};
@@ -80,16 +81,18 @@ impl<T: Entry> Pool<T> {
         ensures unchanged { OnErr result (self.new ≡ self.old) }
         ensures full { IsErrOf result PoolError.Full ↔ ((length self.old ≡ LIMIT) × (¬ (Contains self.old entry.now))) }
     {
-        if let Some(index) = find(&self.finder, &self.entries, entry) {
-            return Ok(index as u32);
-        }
+        let slot = match find(&self.finder, &self.entries, entry) {
+            Spot::Found(place) => return Ok(place as u32),
+            Spot::New { slot } => slot,
+        };
         let index = self.entries.len();
         if index as u64 == LIMIT {
             return Err(PoolError::Full);
         }
-        append(&mut self.entries, &mut self.finder, entry)?;
+        append(&mut self.entries, &mut self.finder, entry, slot)?;
         Ok(index as u32)
     }
+
     /// `place`, where the entry may stand at this place: that is tried first.
     pub(crate) fn place_near(&mut self, entry: &T, guess: Option<&u32>) -> Result<u32, PoolError>
         ensures index { IfOk result (λ i. slice_get self.new i ≡ Some entry.now) }
@@ -116,10 +119,12 @@ fn append<T: Entry>(
     entries: &mut Vec<T>,
     finder: &mut Finder<T>,
     entry: &T,
+    slot: Option<usize>,
 ) -> Result<(), AllocError>
     requires known { Knows T.cmp T.hash_input finder.old entries.old.items }
     requires distinct { AreDistinct entries.old.items }
     requires new { ¬ (Contains entries.old.items entry.now) }
+    requires room { IsRoomFor T.hash_input finder.old entry.now slot }
     requires few { length entries.old.items < LIMIT }
     ensures added { OnOk result (entries.new.items ≡ entries.old.items ++ entry.now ∷ []) }
     ensures distinct { AreDistinct entries.new.items }
@@ -129,7 +134,7 @@ fn append<T: Entry>(
     let alloc = *entries.allocator();
     let copy = entry.copied(alloc)?;
     entries.reserve(1)?;
-    note(alloc, finder, entries, entry)?;
+    note(alloc, finder, entries, entry, slot)?;
     entries.push_reserved(copy);
     Ok(())
 }

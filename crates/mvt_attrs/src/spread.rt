@@ -1,40 +1,60 @@
-//! Places of many entries, found by their hashes: texts can be chosen that have one hash, and what
-//! would stand where another stands is kept in order.
-ghost use Rattle.std.specs.Prelude.{◌≡◌, ◌<◌, ◌↔◌, ◌+◌, ◌^◌, ◌++◌, ◌∷◌, [], Some, length, slice_get, Contains, IsTrue, IfOk, OnOk, OnErr};
+//! Places of many entries, found by their hashes. Texts can be chosen that have one hash, so an entry
+//! has a second slot by another hash, and an entry that finds both taken is kept in order.
+ghost use Rattle.std.specs.Prelude.{◌≡◌, ◌≢◌, ◌<◌, ◌↔◌, ◌+◌, ◌-◌, ◌^◌, ◌++◌, ◌∷◌, [], Some, length, slice_get, slice_index, bit_and, Contains, IsTrue, IfOk, OnOk, OnErr};
 ghost use Rattle.mvt_attrs.specs.FirstUse.{AreDistinct};
-ghost use Rattle.mvt_attrs.specs.Inner.Found.{IsPlaceOf};
-ghost use Rattle.mvt_attrs.specs.Inner.Spreading.{home_of, IsSpread};
+ghost use Rattle.mvt_attrs.specs.Inner.Found.{IsSpotOf, IsToldBy};
+ghost use Rattle.mvt_attrs.specs.Inner.Spreading.{first_slot, second_slot, IsSpread, IsFreeFor};
 
 use crate::entry::Entry;
+use crate::spot::Spot;
 use std::alloc::{AllocError, Global};
 use std::collections::BTreeMap;
-use std::hash::{FoldHasher, Hash, Hasher};
+use std::hash::{DefaultHasher, FoldHasher, Hash, Hasher};
 
 /// So many slots are there for an entry when they are made.
-const ROOM: usize = 16;
+const ROOM: usize = 8;
 
-/// The slot that an entry's hash names holds the entry's place, counted from 1, or 0 where there is
-/// none. An entry whose slot is another's is in `crowded`.
+/// A slot holds the place of an entry, counted from 1, or 0 where it is free. An entry is in the first
+/// of its two slots that was free when it came, or in `crowded`.
 #[derive(Drop)]
 pub struct Spread<T: Entry> {
     pub(crate) slots: Vec<u32>,
     pub(crate) crowded: BTreeMap<T, u32>,
 }
 
-/// The place of an entry.
-pub(crate) fn find_spread<T: Entry>(spread: &Spread<T>, entries: &[T], entry: &T) -> Option<usize>
+/// Where an entry stands, or the slot that it can take.
+pub(crate) fn find_spread<T: Entry>(spread: &Spread<T>, entries: &[T], entry: &T) -> Spot
     requires { IsSpread T.cmp T.hash_input spread.now entries.now }
-    ensures { IsPlaceOf entries.now entry.now result }
+    ensures { IsSpotOf entries.now entry.now (IsFreeFor T.hash_input spread.now entry.now) result }
 {
-    let mark = spread.slots[home(entry, spread.slots.len())] as usize;
+    let slots = spread.slots.as_slice();
+    let first = first_slot(entry, slots.len());
+    if let Some(spot) = told_by(slots, first, entries, entry) {
+        return spot;
+    }
+    let second = second_slot(entry, slots.len());
+    if let Some(spot) = told_by(slots, second, entries, entry) {
+        return spot;
+    }
+    match spread.crowded.get(entry) {
+        Some(place) => Spot::Found(*place as usize),
+        None => Spot::New { slot: None },
+    }
+}
+
+/// What a slot tells of an entry; nothing where it is another's.
+fn told_by<T: Entry>(slots: &[u32], slot: usize, entries: &[T], entry: &T) -> Option<Spot>
+    requires { slot < length slots.now }
+    ensures { IsToldBy slots.now slot entries.now entry.now result }
+{
+    let mark = slots[slot] as usize;
     if mark == 0 {
-        return None;
+        return Some(Spot::New { slot: Some(slot) });
     }
     if is_at(entries, mark - 1, entry) {
-        return Some(mark - 1);
+        return Some(Spot::Found(mark - 1));
     }
-    let place = spread.crowded.get(entry)?;
-    Some(*place as usize)
+    None
 }
 
 /// Whether an entry stands at an index.
@@ -53,8 +73,9 @@ pub(crate) fn spread_all<T: Entry>(alloc: Global, entries: &[T]) -> Result<Sprea
     requires few { length entries.now + 1 < 2 ^ 32 }
     ensures { IfOk result (λ spread. IsSpread T.cmp T.hash_input spread entries.now) }
 {
+    let room = (entries.len() * ROOM).next_power_of_two();
     let mut spread = Spread {
-        slots: vec![in alloc; 0; entries.len() * ROOM + 1]?,
+        slots: vec![in alloc; 0; room]?,
         crowded: BTreeMap::new(alloc),
     };
     for index in 0..entries.len() {
@@ -63,7 +84,7 @@ pub(crate) fn spread_all<T: Entry>(alloc: Global, entries: &[T]) -> Result<Sprea
     Ok(spread)
 }
 
-/// Notes an entry that will stand behind these.
+/// Finds a slot for a new entry that will stand behind these, and notes it.
 pub(crate) fn add_spread<T: Entry>(
     alloc: Global,
     spread: &mut Spread<T>,
@@ -76,24 +97,64 @@ pub(crate) fn add_spread<T: Entry>(
     ensures added { OnOk result (IsSpread T.cmp T.hash_input spread.new (entries.now ++ entry.now ∷ [])) }
     ensures unchanged { OnErr result (IsSpread T.cmp T.hash_input spread.new entries.now) }
 {
-    let home = home(entry, spread.slots.len());
-    if spread.slots[home] == 0 {
-        spread.slots[home] = entries.len() as u32 + 1;
-        return Ok(());
+    match find_spread(spread, entries, entry) {
+        Spot::Found(_) => Ok(()),
+        Spot::New { slot } => note_spread(alloc, spread, entries, entry, slot),
     }
-    spread
-        .crowded
-        .insert(entry.copied(alloc)?, entries.len() as u32)?;
+}
+
+/// Notes a new entry that will stand behind these in its free slot, or in order.
+pub(crate) fn note_spread<T: Entry>(
+    alloc: Global,
+    spread: &mut Spread<T>,
+    entries: &[T],
+    entry: &T,
+    slot: Option<usize>,
+) -> Result<(), AllocError>
+    requires known { IsSpread T.cmp T.hash_input spread.old entries.now }
+    requires new { ¬ (Contains entries.now entry.now) }
+    requires free { IsFreeFor T.hash_input spread.old entry.now slot }
+    requires few { length entries.now + 1 < 2 ^ 32 }
+    ensures added { OnOk result (IsSpread T.cmp T.hash_input spread.new (entries.now ++ entry.now ∷ [])) }
+    ensures unchanged { OnErr result (IsSpread T.cmp T.hash_input spread.new entries.now) }
+{
+    let place = entries.len() as u32;
+    match slot {
+        Some(slot) => spread.slots[slot] = place + 1,
+        None => {
+            spread.crowded.insert(entry.copied(alloc)?, place)?;
+        }
+    }
     Ok(())
 }
 
-/// The slot of an entry.
-fn home<T: Entry>(entry: &T, room: usize) -> usize
+/// The slot of an entry by its cheap hash.
+fn first_slot<T: Entry>(entry: &T, room: usize) -> usize
     requires { 0 < room }
-    ensures value { result ≡ home_of T.hash_input room entry.now }
+    ensures value { result ≡ first_slot T.hash_input room entry.now }
     ensures within { result < room }
 {
     let mut state = FoldHasher::default();
     entry.hash(&mut state);
-    (state.finish() % room as u64) as usize
+    slot_of(state.finish(), room)
+}
+
+/// The slot of an entry by another hash, which is wanted where the first slot is another's.
+fn second_slot<T: Entry>(entry: &T, room: usize) -> usize
+    requires { 0 < room }
+    ensures value { result ≡ second_slot T.hash_input room entry.now }
+    ensures within { result < room }
+{
+    let mut state = DefaultHasher::new();
+    entry.hash(&mut state);
+    slot_of(state.finish(), room)
+}
+
+/// The slot that a hash names. The room is a power of two, so that all its slots are named.
+fn slot_of(hash: u64, room: usize) -> usize
+    requires { 0 < room }
+    ensures value { result ≡ bit_and hash (room - 1) }
+    ensures within { result < room }
+{
+    hash as usize & (room - 1)
 }

@@ -1,18 +1,39 @@
--- Entries that stand at the slots that their hashes name, or in order, where the slot is another's.
-use Rattle.std.specs.Prelude.{◌≡◌, ◌≢◌, ◌+◌, ◌<◌, ◌%◌, ◌⊎◌, ℕ, List, Some, length, slice_get, slice_index, fold}
+-- Entries that stand in slots that their hashes name, or in order, where both slots are others'.
+use Rattle.std.specs.Prelude.{◌≡◌, ◌≢◌, ◌+◌, ◌-◌, ◌<◌, ◌⊎◌, ℕ, List, Option, Some, None, Contains, length, slice_get, slice_index, fold, bit_and}
 use Rattle.std.specs.declared.cmp.Ordering.{Ordering}
-use Rattle.std.specs.Hash.FoldHasher.{initial, write, finish}
+use Rattle.std.specs.Hash.FoldHasher as folding
+use Rattle.std.specs.Hash.DefaultHasher as sip
 use Rattle.std.specs.BTreeMap.{get}
 use Rattle.mvt_attrs.specs.declared.spread.Spread.{Spread}
 
--- the slot of an entry, among so many
-abbrev pub home_of : {T : Type 0} → (T → List (List ℕ)) → ℕ → T → ℕ
-home_of input room x = finish (fold write initial (input x)) % room
+-- the two slots of an entry, among so many
+abbrev pub first_slot : {T : Type 0} → (T → List (List ℕ)) → ℕ → T → ℕ
+first_slot input room x = bit_and (folding.finish (fold folding.write folding.initial (input x))) (room - 1)
 
--- each entry is at its slot, or its slot is another's and it is in order; nothing else is in order
+abbrev pub second_slot : {T : Type 0} → (T → List (List ℕ)) → ℕ → T → ℕ
+second_slot input room x = bit_and (sip.finish (fold sip.write sip.initial (input x))) (room - 1)
+
+-- a slot is place i's, or it is another's and the rest holds
+abbrev pub IsOfOr : ℕ → ℕ → Type 0 → Type 0
+IsOfOr mark i Rest = (mark ≡ i + 1) ⊎ ((mark ≢ 0) × Rest)
+
+-- each entry is in its first slot; or that is another's, and it is in its second; or that is another's
+-- too, and it is in order; nothing else is in order
 pub record IsSpread {T : Type 0} (cmp : T → T → Ordering) (input : T → List (List ℕ)) (spread : Spread T) (entries : List T) : Type 0 where
   pub room : 0 < length spread.slots.items
   pub known : (i : ℕ) (x : T) → slice_get entries i ≡ Some x →
-      let slot = slice_index spread.slots.items (home_of input (length spread.slots.items) x) in
-      (slot ≡ i + 1) ⊎ ((slot ≢ 0) × (get cmp spread.crowded x ≡ Some i))
+      let mark : ℕ → ℕ = slice_index spread.slots.items in
+      let room = length spread.slots.items in
+      IsOfOr (mark (first_slot input room x)) i (IsOfOr (mark (second_slot input room x)) i (get cmp spread.crowded x ≡ Some i))
   pub sound : (i : ℕ) (x : T) → get cmp spread.crowded x ≡ Some i → slice_get entries i ≡ Some x
+
+-- the first of an entry's slots that is free, or none
+abbrev pub IsFreeSlot : List ℕ → ℕ → ℕ → Option ℕ → Type 0
+IsFreeSlot slots first second (Some slot) = (slot < length slots) × (slice_index slots slot ≡ 0) × ((slot ≡ first) ⊎ ((slice_index slots first ≢ 0) × (slot ≡ second)))
+IsFreeSlot slots first second None = (slice_index slots first ≢ 0) × (slice_index slots second ≢ 0)
+
+-- the same of an entry's two slots
+abbrev pub IsFreeFor : {T : Type 0} → (T → List (List ℕ)) → Spread T → T → Option ℕ → Type 0
+IsFreeFor input spread x slot =
+    let room = length spread.slots.items in
+    IsFreeSlot spread.slots.items (first_slot input room x) (second_slot input room x) slot
