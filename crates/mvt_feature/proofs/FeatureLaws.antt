@@ -12,6 +12,7 @@ use Rattle.mvt_geometry.specs.Drawing.{Draws}
 use Rattle.mvt_wire.specs.Field.{Content, varint, fixed64, bytes, fixed32, Entry}
 use Rattle.mvt_wire.specs.Packed.{packed_rules}
 use Rattle.mvt_wire.specs.Split.{split}
+use Rattle.mvt_feature.specs.declared.numbers.feature.TheConstants.{ID, TAGS, TYPE, GEOMETRY}
 use Rattle.mvt_feature.proofs.Below.{SplitIs, SplitOnly, split_of, PackedClean, PackedOnly, PackedOrdered, TagsThere, TagsClean, TagsOnce, CountOrdered, PairsOrdered, DrawingThere, DrawingClean, DrawingOnce, DrawingOrdered}
 use Rattle.mvt_feature.specs.declared.cause.Cause.TheVariants.{WrongType, NumberRange, GeomType}
 use Rattle.mvt_feature.specs.declared.feature.Feature.{Feature}
@@ -34,20 +35,20 @@ feature_there split_is packed_clean tags_there drawing_there payload base keys v
     let later = option_or-nones _ _ parts.1 in
     let last = option_or-nones _ _ later.1 in
     let rest = none_rest base (split payload) parts.0 in
-    let attributes = tags_there keys values (joined 2 xs) (none_mapped tag_told _ last.0) in
-    let small = joined_small (only 4 xs) (joined 4 xs) (joined_is packed_clean base 4 xs (λ c e. e) later.0) in
-    let geometry = drawing_there (kind_in xs) (joined 4 xs) small (none_mapped geometry_told _ last.1) in
-    let f : Feature = record { id = number_in (last_only 1 xs); attributes = attributes.0; geometry = geometry.0 } in
+    let attributes = tags_there keys values (joined TAGS xs) (none_mapped tag_told _ last.0) in
+    let small = joined_small (only GEOMETRY xs) (joined GEOMETRY xs) (joined_is packed_clean base GEOMETRY xs (λ c e. e) later.0) in
+    let geometry = drawing_there (kind_in xs) (joined GEOMETRY xs) small (none_mapped geometry_told _ last.1) in
+    let f : Feature = record { id = number_in (last_only ID xs); attributes = attributes.0; geometry = geometry.0 } in
     (f, feature_from split_is packed_clean payload base keys values f rest later.0 refl attributes.1 geometry.1)
 
 -- the grammar keeps the rules
-form_clean : (x : Entry) → (x.number ≡ 1 → IsVarint x.content) → (x.number ≡ 2 → IsListOf x) → (x.number ≡ 3 → IsType x.content) → (x.number ≡ 4 → IsListOf x) → first (form_rules x.number x.content) ≡ None
+form_clean : (x : Entry) → (x.number ≡ ID → IsVarint x.content) → (x.number ≡ TAGS → IsListOf x) → (x.number ≡ TYPE → IsType x.content) → (x.number ≡ GEOMETRY → IsListOf x) → first (form_rules x.number x.content) ≡ None
 form_clean x h1 h2 h3 h4 =
     let n = x.number in
     let c = x.content in
-    by_number n _ _ 1 (λ e. first-under 0 (varint_rules c) ∙ form_varint c (h1 e)) (by_number n _ _ 2 h2 (by_number n _ _ 3 (λ e. first-under 0 (type_rules c) ∙ form_type c (h3 e)) (by_number n _ _ 4 h4 refl)))
+    by_number n _ _ ID (λ e. first-under 0 (varint_rules c) ∙ form_varint c (h1 e)) (by_number n _ _ TAGS h2 (by_number n _ _ TYPE (λ e. first-under 0 (type_rules c) ∙ form_type c (h3 e)) (by_number n _ _ GEOMETRY h4 refl)))
 
-forms_clean : (base : ℕ) (xs : List Entry) → HaveForm 1 IsVarint xs → HaveForm 2 (λ c. first (list_rules c) ≡ None) xs → HaveForm 3 IsType xs → HaveForm 4 (λ c. first (list_rules c) ≡ None) xs → AllByRecursion (λ (x : Entry). first (feature_field_rules base x) ≡ None) xs
+forms_clean : (base : ℕ) (xs : List Entry) → HaveForm ID IsVarint xs → HaveForm TAGS (λ c. first (list_rules c) ≡ None) xs → HaveForm TYPE IsType xs → HaveForm GEOMETRY (λ c. first (list_rules c) ≡ None) xs → AllByRecursion (λ (x : Entry). first (feature_field_rules base x) ≡ None) xs
 forms_clean base [] h1 h2 h3 h4 = tt
 forms_clean base (x ∷ xs) h1 h2 h3 h4 = (field_clean base x (form_clean x h1.0 h2.0 h3.0 h4.0), forms_clean base xs h1.1 h2.1 h3.1 h4.1)
 
@@ -60,10 +61,10 @@ pub feature_keeps : SplitOnly → PackedOnly → TagsClean → DrawingClean → 
 feature_keeps split_only packed_only tags_clean drawing_clean payload base keys values f (xs, whole, is) =
     let only_split = split_of split_only payload xs whole in
     let clean : fields_fault payload base ≡ None = rw only_split.0 (fields_clean packed_only base xs keys values f is) in
-    let tags_are = (all_joined_are packed_only (only 2 xs) is.tags is.tags_are).1 in
-    let integers_are = (all_joined_are packed_only (only 4 xs) is.integers is.integers_are).1 in
+    let tags_are = (all_joined_are packed_only (only TAGS xs) is.tags is.tags_are).1 in
+    let integers_are = (all_joined_are packed_only (only GEOMETRY xs) is.integers is.integers_are).1 in
     feature_clean payload base keys values is.tags is.integers (kind_in xs) only_split.1 clean
-    (tags_are ∙ ap (joined 2) (sym only_split.0)) (integers_are ∙ ap (joined 4) (sym only_split.0)) (ap kind_in (sym only_split.0))
+    (tags_are ∙ ap (joined TAGS) (sym only_split.0)) (integers_are ∙ ap (joined GEOMETRY) (sym only_split.0)) (ap kind_in (sym only_split.0))
     (tags_clean keys values is.tags f.attributes is.attributes) (drawing_clean (kind_in xs) is.integers f.geometry is.geometry)
 
 -- at most one feature
@@ -72,8 +73,8 @@ same_features f g id attributes geometry = rw (← id, ← attributes, ← geome
 
 pub feature_same : PackedOnly → TagsOnce → DrawingOnce → (xs : List Entry) (keys : List (List ℕ)) (values : List Value) (f g : Feature) → IsFeature xs keys values f → IsFeature xs keys values g → f ≡ g
 feature_same packed_only tags_once drawing_once xs keys values f g a b =
-    let tags : b.tags ≡ a.tags = (all_joined_are packed_only (only 2 xs) b.tags b.tags_are).1 ∙ sym (all_joined_are packed_only (only 2 xs) a.tags a.tags_are).1 in
-    let integers : b.integers ≡ a.integers = (all_joined_are packed_only (only 4 xs) b.integers b.integers_are).1 ∙ sym (all_joined_are packed_only (only 4 xs) a.integers a.integers_are).1 in
+    let tags : b.tags ≡ a.tags = (all_joined_are packed_only (only TAGS xs) b.tags b.tags_are).1 ∙ sym (all_joined_are packed_only (only TAGS xs) a.tags a.tags_are).1 in
+    let integers : b.integers ≡ a.integers = (all_joined_are packed_only (only GEOMETRY xs) b.integers b.integers_are).1 ∙ sym (all_joined_are packed_only (only GEOMETRY xs) a.integers a.integers_are).1 in
     same_features f g (a.id ∙ sym b.id)
     (tags_once keys values a.tags f.attributes g.attributes a.attributes (subst (λ t. Resolved keys values t g.attributes) tags b.attributes))
     (drawing_once (kind_in xs) a.integers f.geometry g.geometry a.geometry (subst (λ i. Draws (kind_in xs) i g.geometry) integers b.geometry))
@@ -117,12 +118,12 @@ feature_rows packed_ordered count pairs drawing payload base keys values = (
         (
           omega arith,
           (
-            told_ordered tag_told _ (count (joined 2 (split payload).fields)),
+            told_ordered tag_told _ (count (joined TAGS (split payload).fields)),
             (
               omega arith,
               (
-                told_ordered tag_told _ (pairs keys values (joined 2 (split payload).fields)),
-                (omega arith, (told_ordered geometry_told _ (drawing (kind_in (split payload).fields) (joined 4 (split payload).fields)), tt)),
+                told_ordered tag_told _ (pairs keys values (joined TAGS (split payload).fields)),
+                (omega arith, (told_ordered geometry_told _ (drawing (kind_in (split payload).fields) (joined GEOMETRY (split payload).fields)), tt)),
               ),
             ),
           ),

@@ -21,6 +21,7 @@ use Rattle.mvt_geometry.specs.Tells.{Tells as TellsGeometry}
 use Rattle.mvt_wire.specs.Field.{Content, varint, fixed64, bytes, fixed32, Entry}
 use Rattle.mvt_wire.specs.Packed.{ArePacked, packed_rules}
 use Rattle.mvt_wire.specs.Split.{split}
+use Rattle.mvt_feature.specs.declared.numbers.feature.TheConstants.{ID, TAGS, TYPE, GEOMETRY}
 use Rattle.mvt_feature.proofs.Below.{SplitIs, PackedClean, PackedOnly}
 use Rattle.mvt_feature.specs.declared.cause.Cause.TheVariants.{NumberRange, GeomType}
 use Rattle.mvt_feature.specs.declared.feature.Feature.{Feature}
@@ -45,10 +46,10 @@ abbrev pub fields_fault : List ℕ → ℕ → Option MessageFault
 fields_fault payload base = first (each (λ _. feature_field_rules base) [] (split payload).fields)
 
 abbrev pub tags_fault : List ℕ → List (List ℕ) → List Value → Option MessageFault
-tags_fault payload keys values = option_map tag_told (tag_fault keys values (joined 2 (split payload).fields))
+tags_fault payload keys values = option_map tag_told (tag_fault keys values (joined TAGS (split payload).fields))
 
 abbrev pub drawing_fault : List ℕ → Option MessageFault
-drawing_fault payload = option_map geometry_told (geometry_fault (kind_in (split payload).fields) (joined 4 (split payload).fields))
+drawing_fault payload = option_map geometry_told (geometry_fault (kind_in (split payload).fields) (joined GEOMETRY (split payload).fields))
 
 mapped_or : {F G : Type 0} → (f : F → G) (a b : Option F) (o : Option G) → option_or (option_map f a) (option_or (option_map f b) o) ≡ option_or (option_map f (option_or a b)) o
 mapped_or f None None o = refl
@@ -79,7 +80,7 @@ drawing_chain kind integers =
 pub feature_chain : (payload : List ℕ) (base : ℕ) (keys : List (List ℕ)) (values : List Value) → feature_fault payload base keys values ≡ option_or (rest_fault payload base) (option_or (fields_fault payload base) (option_or (tags_fault payload keys values) (drawing_fault payload)))
 unfolding feature_fault feature_rules
 feature_chain payload base keys values =
-    first-rows_all (feature_table payload base keys values) ∙ ap (λ o. option_or (rest_fault payload base) (option_or (fields_fault payload base) o)) (tags_chain keys values (joined 2 (split payload).fields) _ ∙ ap (λ o. option_or (tags_fault payload keys values) o) (drawing_chain (kind_in (split payload).fields) (joined 4 (split payload).fields)))
+    first-rows_all (feature_table payload base keys values) ∙ ap (λ o. option_or (rest_fault payload base) (option_or (fields_fault payload base) o)) (tags_chain keys values (joined TAGS (split payload).fields) _ ∙ ap (λ o. option_or (tags_fault payload keys values) o) (drawing_chain (kind_in (split payload).fields) (joined GEOMETRY (split payload).fields)))
 
 -- the exits of `read_feature_in`
 pub known_told : (payload : List ℕ) (base : ℕ) (keys : List (List ℕ)) (values : List Value) (e : MessageError) → TellsMessage e (option_or (rest_fault payload base) (fields_fault payload base)) → TellsMessage e (feature_fault payload base keys values)
@@ -90,17 +91,17 @@ behind_fields : (payload : List ℕ) (base : ℕ) (keys : List (List ℕ)) (valu
 behind_fields payload base keys values rest clean =
     feature_chain payload base keys values ∙ option_or-none _ _ (rest_none base (split payload) rest) ∙ option_or-none _ _ clean
 
-pub tags_told : (payload : List ℕ) (base : ℕ) (keys : List (List ℕ)) (values : List Value) (tags : List ℕ) (e : TagError) → (split payload).rest ≡ [] → fields_fault payload base ≡ None → tags ≡ joined 2 (split payload).fields → TellsTags e (tag_fault keys values tags) → TellsMessage (of_tag_error e) (feature_fault payload base keys values)
+pub tags_told : (payload : List ℕ) (base : ℕ) (keys : List (List ℕ)) (values : List Value) (tags : List ℕ) (e : TagError) → (split payload).rest ≡ [] → fields_fault payload base ≡ None → tags ≡ joined TAGS (split payload).fields → TellsTags e (tag_fault keys values tags) → TellsMessage (of_tag_error e) (feature_fault payload base keys values)
 tags_told payload base keys values tags tag_errors.Memory rest clean is h = tt
 tags_told payload base keys values tags (tag_errors.Fault index cause) rest clean is h =
     behind_fields payload base keys values rest clean ∙ option_or-some _ _ _ (ap (option_map tag_told) (ap (tag_fault keys values) (sym is) ∙ h))
 
-pub drawing_told : (payload : List ℕ) (base : ℕ) (keys : List (List ℕ)) (values : List Value) (tags integers : List ℕ) (kind : Kind) (e : GeometryError) → (split payload).rest ≡ [] → fields_fault payload base ≡ None → tags ≡ joined 2 (split payload).fields → integers ≡ joined 4 (split payload).fields → kind ≡ kind_in (split payload).fields → tag_fault keys values tags ≡ None → TellsGeometry e (geometry_fault kind integers) → TellsMessage (of_geometry_error e) (feature_fault payload base keys values)
+pub drawing_told : (payload : List ℕ) (base : ℕ) (keys : List (List ℕ)) (values : List Value) (tags integers : List ℕ) (kind : Kind) (e : GeometryError) → (split payload).rest ≡ [] → fields_fault payload base ≡ None → tags ≡ joined TAGS (split payload).fields → integers ≡ joined GEOMETRY (split payload).fields → kind ≡ kind_in (split payload).fields → tag_fault keys values tags ≡ None → TellsGeometry e (geometry_fault kind integers) → TellsMessage (of_geometry_error e) (feature_fault payload base keys values)
 drawing_told payload base keys values tags integers kind geometry_errors.Memory rest clean tags_are is kind_is resolved h = tt
 drawing_told payload base keys values tags integers kind (geometry_errors.Fault index cause) rest clean tags_are is kind_is resolved h =
     behind_fields payload base keys values rest clean ∙ option_or-none _ _ (ap (option_map tag_told) (ap (tag_fault keys values) (sym tags_are) ∙ resolved)) ∙ ap (option_map geometry_told) (ap₂ geometry_fault (sym kind_is) (sym is) ∙ h)
 
-pub feature_clean : (payload : List ℕ) (base : ℕ) (keys : List (List ℕ)) (values : List Value) (tags integers : List ℕ) (kind : Kind) → (split payload).rest ≡ [] → fields_fault payload base ≡ None → tags ≡ joined 2 (split payload).fields → integers ≡ joined 4 (split payload).fields → kind ≡ kind_in (split payload).fields → tag_fault keys values tags ≡ None → geometry_fault kind integers ≡ None → feature_fault payload base keys values ≡ None
+pub feature_clean : (payload : List ℕ) (base : ℕ) (keys : List (List ℕ)) (values : List Value) (tags integers : List ℕ) (kind : Kind) → (split payload).rest ≡ [] → fields_fault payload base ≡ None → tags ≡ joined TAGS (split payload).fields → integers ≡ joined GEOMETRY (split payload).fields → kind ≡ kind_in (split payload).fields → tag_fault keys values tags ≡ None → geometry_fault kind integers ≡ None → feature_fault payload base keys values ≡ None
 feature_clean payload base keys values tags integers kind rest clean tags_are is kind_is resolved drawn =
     behind_fields payload base keys values rest clean ∙ option_or-none _ _ (ap (option_map tag_told) (ap (tag_fault keys values) (sym tags_are) ∙ resolved)) ∙ ap (option_map geometry_told) (ap₂ geometry_fault (sym kind_is) (sym is) ∙ drawn)
 
@@ -188,20 +189,20 @@ joined_is packed_clean base k xs form clean =
     joined_all packed_clean (only k xs) (only_form k (λ c. first (list_rules c) ≡ None) xs (of_number base k (λ c. first (list_rules c) ≡ None) form xs clean))
 
 -- what was read is the feature
-pub feature_from : SplitIs → PackedClean → (payload : List ℕ) (base : ℕ) (keys : List (List ℕ)) (values : List Value) (f : Feature) → (split payload).rest ≡ [] → fields_fault payload base ≡ None → f.id ≡ number_in (last_only 1 (split payload).fields) → Resolved keys values (joined 2 (split payload).fields) f.attributes → Draws (kind_in (split payload).fields) (joined 4 (split payload).fields) f.geometry → IsFeatureOf payload keys values f
+pub feature_from : SplitIs → PackedClean → (payload : List ℕ) (base : ℕ) (keys : List (List ℕ)) (values : List Value) (f : Feature) → (split payload).rest ≡ [] → fields_fault payload base ≡ None → f.id ≡ number_in (last_only ID (split payload).fields) → Resolved keys values (joined TAGS (split payload).fields) f.attributes → Draws (kind_in (split payload).fields) (joined GEOMETRY (split payload).fields) f.geometry → IsFeatureOf payload keys values f
 feature_from split_is packed_clean payload base keys values f rest clean id resolved draws =
     let xs = (split payload).fields in (
       xs,
       whole_split split_is payload rest,
       record {
-        ids = of_number base 1 IsVarint (λ c h. varint_form c (sym (first-under 0 (varint_rules c)) ∙ h)) xs clean;
+        ids = of_number base ID IsVarint (λ c h. varint_form c (sym (first-under 0 (varint_rules c)) ∙ h)) xs clean;
         id = id;
-        tags = joined 2 xs;
-        tags_are = joined_is packed_clean base 2 xs (λ c h. h) clean;
+        tags = joined TAGS xs;
+        tags_are = joined_is packed_clean base TAGS xs (λ c h. h) clean;
         attributes = resolved;
-        types = of_number base 3 IsType (λ c h. type_form c (sym (first-under 0 (type_rules c)) ∙ h)) xs clean;
-        integers = joined 4 xs;
-        integers_are = joined_is packed_clean base 4 xs (λ c h. h) clean;
+        types = of_number base TYPE IsType (λ c h. type_form c (sym (first-under 0 (type_rules c)) ∙ h)) xs clean;
+        integers = joined GEOMETRY xs;
+        integers_are = joined_is packed_clean base GEOMETRY xs (λ c h. h) clean;
         geometry = draws;
       },
     )

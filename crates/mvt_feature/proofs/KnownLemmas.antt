@@ -9,6 +9,7 @@ use Rattle.mvt_base.specs.Rules.{each, first}
 use Rattle.mvt_base.proofs.RuleLemmas.{each_more, each_stops, first-told}
 use Rattle.mvt_base.proofs.SelectionLemmas.{last_only-more}
 use Rattle.mvt_wire.specs.Field.{Entry}
+use Rattle.mvt_feature.specs.declared.numbers.feature.TheConstants.{ID, TAGS, TYPE, GEOMETRY}
 use Rattle.mvt_feature.specs.declared.known.Known.{Known}
 use Rattle.mvt_feature.specs.declared.message_error.MessageError.{MessageError}
 use Rattle.mvt_feature.specs.declared.message_error.MessageError.TheVariants.{Memory, Fault}
@@ -34,21 +35,21 @@ number_more k xs x = ap number_in (last_only-more (λ (y : Entry). y.number) k x
     by_test false = refl
 
 kind_more : (xs : List Entry) (x : Entry) → kind_in (xs ++ x ∷ []) ≡ kind_after (kind_in xs) x.number x.content
-kind_more xs x = ap kind_of_type (number_more 3 xs x) ∙ by_test (x.number == 3)
+kind_more xs x = ap kind_of_type (number_more TYPE xs x) ∙ by_test (x.number == TYPE)
   where
-    by_test : (b : Bool) → kind_of_type (if b then number_of x.content else number_in (last_only 3 xs)) ≡ (if b then kind_of_type (number_of x.content) else kind_in xs)
+    by_test : (b : Bool) → kind_of_type (if b then number_of x.content else number_in (last_only TYPE xs)) ≡ (if b then kind_of_type (number_of x.content) else kind_in xs)
     by_test true = refl
     by_test false = refl
 
 known_more : (done : List Entry) (x : Entry) (old new : Known) (tags integers new_tags new_integers : List ℕ) → IsKnown done old tags integers
     → new.id ≡ id_after old.id x.number x.content → new.kind ≡ kind_after old.kind x.number x.content
-    → new_tags ≡ tags ++ numbers_at 2 x.number x.content → new_integers ≡ integers ++ numbers_at 4 x.number x.content
+    → new_tags ≡ tags ++ numbers_at TAGS x.number x.content → new_integers ≡ integers ++ numbers_at GEOMETRY x.number x.content
     → IsKnown (done ++ x ∷ []) new new_tags new_integers
 known_more done x old new tags integers new_tags new_integers known id kind tags_are integers_are = record {
-  id = id ∙ ap (λ o. id_after o x.number x.content) known.id ∙ sym (number_more 1 done x);
+  id = id ∙ ap (λ o. id_after o x.number x.content) known.id ∙ sym (number_more ID done x);
   kind = kind ∙ ap (λ k. kind_after k x.number x.content) known.kind ∙ sym (kind_more done x);
-  tags_are = tags_are ∙ ap (λ l. l ++ numbers_at 2 x.number x.content) known.tags_are ∙ sym (joined_more 2 done x);
-  integers_are = integers_are ∙ ap (λ l. l ++ numbers_at 4 x.number x.content) known.integers_are ∙ sym (joined_more 4 done x);
+  tags_are = tags_are ∙ ap (λ l. l ++ numbers_at TAGS x.number x.content) known.tags_are ∙ sym (joined_more TAGS done x);
+  integers_are = integers_are ∙ ap (λ l. l ++ numbers_at GEOMETRY x.number x.content) known.integers_are ∙ sym (joined_more GEOMETRY done x);
 }
 
 pub field_first : (base : ℕ) (x : Entry) → first (feature_field_rules base x) ≡ option_map (fault_at (base + x.at)) (first (form_rules x.number x.content))
@@ -68,7 +69,7 @@ one_more base done x more f clean broken =
 pub known_with : (base : ℕ) (done : List Entry) (x : Entry) (old : Known) (tags integers new_tags new_integers : List ℕ) (r : Result Known MessageError) → IsKnownSoFar base done (Ok old) tags integers
     → OnOk r (first (form_rules x.number x.content) ≡ None)
     → IfOk r (λ (k : Known). k.id ≡ id_after old.id x.number x.content) → IfOk r (λ (k : Known). k.kind ≡ kind_after old.kind x.number x.content)
-    → OnOk r (new_tags ≡ tags ++ numbers_at 2 x.number x.content) → OnOk r (new_integers ≡ integers ++ numbers_at 4 x.number x.content)
+    → OnOk r (new_tags ≡ tags ++ numbers_at TAGS x.number x.content) → OnOk r (new_integers ≡ integers ++ numbers_at GEOMETRY x.number x.content)
     → IfErr r (λ e. TellsMessage e (option_map (fault_at (base + x.at)) (first (form_rules x.number x.content))))
     → IsKnownSoFar base (done ++ x ∷ []) r new_tags new_integers
 known_with base done x old tags integers new_tags new_integers (Ok new) so_far clean id kind tags_are integers_are told_here =

@@ -10,6 +10,8 @@ use Rattle.mvt_attrs.specs.declared.value.Value.TheVariants.{Text, Float, Double
 use Rattle.mvt_wire.specs.Field.{Content, varint, fixed64, bytes, fixed32, Entry, IsField, IsPayload}
 use Rattle.mvt_wire.specs.Split.{SplitFrom}
 use Rattle.mvt_wire.specs.Zigzag.{zig}
+use Rattle.mvt_feature.specs.declared.numbers.feature.TheConstants.{ID}
+use Rattle.mvt_feature.specs.declared.numbers.value.TheConstants.{STRING}
 use Rattle.mvt_feature.specs.declared.feature.Feature.{Feature}
 use Rattle.mvt_feature.specs.Features.{number_of, number_in, IsFeatureOf}
 use Rattle.mvt_feature.specs.Ranges.{AreBytes, IsInRange}
@@ -64,7 +66,7 @@ value_valid payload v h (xs, whole, is) =
     let ranges = only_all (λ (x : Entry). x.number) (λ (x : Entry). IsInRange x.content) is.kind xs (fields_range 0 payload xs [] h whole) in
     let range = last_of_all (λ (x : Entry). IsInRange x.content) (only is.kind xs) is.last ranges is.is_last in
     let named = last_of_all (λ (x : Entry). x.number ≡ is.kind) (only is.kind xs) is.last (only_number (λ (x : Entry). x.number) is.kind xs) is.is_last in
-    let texts = last_of_all (λ (x : Entry). x.number ≡ 1 → IsText x.content) (only is.kind xs) is.last (only_all (λ (x : Entry). x.number) (λ (x : Entry). x.number ≡ 1 → IsText x.content) is.kind xs is.texts) is.is_last in
+    let texts = last_of_all (λ (x : Entry). x.number ≡ STRING → IsText x.content) (only is.kind xs) is.last (only_all (λ (x : Entry). x.number) (λ (x : Entry). x.number ≡ STRING → IsText x.content) is.kind xs is.texts) is.is_last in
     means_range is.kind is.last.content v range (λ one. texts (named ∙ one)) is.means
 
 -- features
@@ -95,7 +97,7 @@ pub feature_valid : (payload : List ℕ) (keys : List (List ℕ)) (values : List
 feature_valid payload keys values f h utf8 valid (xs, whole, is) =
     let ranges = only_all (λ (x : Entry). x.number) (λ (x : Entry). IsInRange x.content) 1 xs (fields_range 0 payload xs [] h whole) in
     record {
-      id = if_some f.id (λ n. n < 2 ^ 64) (λ n e. number_range (last_only 1 xs) n (λ x at. last_of_all (λ (y : Entry). IsInRange y.content) (only 1 xs) x ranges at) (sym is.id ∙ e));
+      id = if_some f.id (λ n. n < 2 ^ 64) (λ n e. number_range (last_only ID xs) n (λ x at. last_of_all (λ (y : Entry). IsInRange y.content) (only ID xs) x ranges at) (sym is.id ∙ e));
       attributes = all_from ValidAttribute f.attributes (λ i a at. (all_at IsUtf8 keys _ a.key utf8 (is.attributes.named.key i a at), all_at ValidValue values _ a.value valid (is.attributes.named.value i a at)));
       distinct = is.attributes.distinct;
       drawn = is.geometry.valid;

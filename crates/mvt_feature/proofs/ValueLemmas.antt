@@ -14,6 +14,7 @@ use Rattle.mvt_attrs.specs.declared.value.Value.{Value}
 use Rattle.mvt_attrs.specs.declared.value.Value.TheVariants.{Text, Float, Double, Int, Uint, Sint, Bool as Truth}
 use Rattle.mvt_wire.specs.Field.{Content, varint, fixed64, bytes, fixed32, Entry}
 use Rattle.mvt_wire.specs.Split.{Parts, Split, Whole, split}
+use Rattle.mvt_feature.specs.declared.numbers.value.TheConstants.{STRING, FLOAT, DOUBLE, INT, UINT, SINT, BOOL}
 use Rattle.mvt_feature.proofs.Below.{SplitIs, SplitOnly, split_of}
 use Rattle.mvt_wire.specs.Zigzag.{zig}
 use Rattle.mvt_feature.specs.declared.value.Meaning.{Meaning}
@@ -156,10 +157,10 @@ have_form base k Form form xs clean =
     all_weaker (λ (x : Entry). first (value_field_rules base x) ≡ None) (λ (x : Entry). x.number ≡ k → Form x.content) (λ x none is. form x.content (subst (λ n. first (kind_rules n x.content) ≡ None) is (clean_rules base x none))) xs (none_each (value_field_rules base) [] xs clean)
 
 kind_test : (x : Entry) → IsKind x.number → is_kind x ≡ true
-kind_test x h = and_from _ _ (le-leb 1 x.number h.0) (le-leb x.number 7 h.1)
+kind_test x h = and_from _ _ (le-leb STRING x.number h.0) (le-leb x.number BOOL h.1)
 
 test_kind : (x : Entry) → is_kind x ≡ true → IsKind x.number
-test_kind x h = let parts = and_parts (nat_le 1 x.number) (nat_le x.number 7) h in (leb-true 1 x.number parts.0, leb-true x.number 7 parts.1)
+test_kind x h = let parts = and_parts (nat_le STRING x.number) (nat_le x.number BOOL) h in (leb-true STRING x.number parts.0, leb-true x.number BOOL parts.1)
 
 -- the fields of the kinds are those of the only kind
 abbrev IsOnly : ℕ → Entry → Type 0
@@ -207,13 +208,13 @@ all_numbered (x ∷ xs) last one is =
     all_weaker (λ (y : Entry). y.number ≡ x.number) (λ (y : Entry). y.number ≡ last.number) (λ y e. e ∙ sym of_last) (x ∷ xs) all
 
 pub means_kind : (n : ℕ) (c : Content) (v : Value) → Means n c v → IsKind n
-means_kind n (bytes d) (Text t) h = let e : n ≡ 1 = h.0 in (omega arith, omega arith)
-means_kind n (fixed32 m) (Float b) h = let e : n ≡ 2 = h.0 in (omega arith, omega arith)
-means_kind n (fixed64 m) (Double b) h = let e : n ≡ 3 = h.0 in (omega arith, omega arith)
-means_kind n (varint m) (Int z) h = let e : n ≡ 4 = h.0 in (omega arith, omega arith)
-means_kind n (varint m) (Uint b) h = let e : n ≡ 5 = h.0 in (omega arith, omega arith)
-means_kind n (varint m) (Sint z) h = let e : n ≡ 6 = h.0 in (omega arith, omega arith)
-means_kind n (varint m) (Truth b) h = let e : n ≡ 7 = h.0 in (omega arith, omega arith)
+means_kind n (bytes d) (Text t) h = let e : n ≡ STRING = h.0 in (omega arith, omega arith)
+means_kind n (fixed32 m) (Float b) h = let e : n ≡ FLOAT = h.0 in (omega arith, omega arith)
+means_kind n (fixed64 m) (Double b) h = let e : n ≡ DOUBLE = h.0 in (omega arith, omega arith)
+means_kind n (varint m) (Int z) h = let e : n ≡ INT = h.0 in (omega arith, omega arith)
+means_kind n (varint m) (Uint b) h = let e : n ≡ UINT = h.0 in (omega arith, omega arith)
+means_kind n (varint m) (Sint z) h = let e : n ≡ SINT = h.0 in (omega arith, omega arith)
+means_kind n (varint m) (Truth b) h = let e : n ≡ BOOL = h.0 in (omega arith, omega arith)
 means_kind n c v h = absurd (search rules)
 
 -- fields of one kind without a fault are the value that the last of them says
@@ -223,13 +224,13 @@ value_from base xs last v clean one is means =
     let only_one = kinds_one last.number xs same in
     let kind = means_kind last.number last.content v means in
     record {
-      texts = have_form base 1 IsText text_form xs clean;
-      floats = have_form base 2 IsFixed32 fixed32_form xs clean;
-      doubles = have_form base 3 IsFixed64 fixed64_form xs clean;
-      ints = have_form base 4 IsVarint varint_form xs clean;
-      uints = have_form base 5 IsVarint varint_form xs clean;
-      sints = have_form base 6 IsVarint varint_form xs clean;
-      truths = have_form base 7 IsVarint varint_form xs clean;
+      texts = have_form base STRING IsText text_form xs clean;
+      floats = have_form base FLOAT IsFixed32 fixed32_form xs clean;
+      doubles = have_form base DOUBLE IsFixed64 fixed64_form xs clean;
+      ints = have_form base INT IsVarint varint_form xs clean;
+      uints = have_form base UINT IsVarint varint_form xs clean;
+      sints = have_form base SINT IsVarint varint_form xs clean;
+      truths = have_form base BOOL IsVarint varint_form xs clean;
       kind = last.number;
       one = only_one;
       last = last;
@@ -256,19 +257,19 @@ pub several_told : (payload : List ℕ) (base own : ℕ) → (split payload).res
 several_told payload base own rest clean are = value_kind_told payload base own (rest_none base (split payload) rest) clean are.1
 
 -- a field of a kind, of the right form, says a value
-text_means : (c : Content) → IsText c → (v : Value) × Means 1 c v
+text_means : (c : Content) → IsText c → (v : Value) × Means STRING c v
 text_means (bytes d) h = (Text d, (refl, refl))
 text_means (varint n) h = absurd h
 text_means (fixed64 n) h = absurd h
 text_means (fixed32 n) h = absurd h
 
-float_means : (c : Content) → IsFixed32 c → (v : Value) × Means 2 c v
+float_means : (c : Content) → IsFixed32 c → (v : Value) × Means FLOAT c v
 float_means (fixed32 n) h = (Float n, (refl, refl))
 float_means (bytes d) h = absurd h
 float_means (varint n) h = absurd h
 float_means (fixed64 n) h = absurd h
 
-double_means : (c : Content) → IsFixed64 c → (v : Value) × Means 3 c v
+double_means : (c : Content) → IsFixed64 c → (v : Value) × Means DOUBLE c v
 double_means (fixed64 n) h = (Double n, (refl, refl))
 double_means (bytes d) h = absurd h
 double_means (varint n) h = absurd h
@@ -292,10 +293,10 @@ means_there n is = for_seven (λ k. (c : Content) → first (kind_rules k c) ≡
     (λ c h. text_means c (text_form c h))
     (λ c h. float_means c (fixed32_form c h))
     (λ c h. double_means c (fixed64_form c h))
-    (λ c h. varint_means 4 c (λ n. Int (cast_signed w64 n)) (λ n. (refl, refl)) (varint_form c h))
-    (λ c h. varint_means 5 c (λ n. Uint n) (λ n. (refl, refl)) (varint_form c h))
-    (λ c h. varint_means 6 c (λ n. Sint (unzig n)) (λ n. (refl, zig-unzig n)) (varint_form c h))
-    (λ c h. varint_means 7 c (λ n. Truth (not (n == 0))) (λ n. (refl, refl)) (varint_form c h))
+    (λ c h. varint_means INT c (λ n. Int (cast_signed w64 n)) (λ n. (refl, refl)) (varint_form c h))
+    (λ c h. varint_means UINT c (λ n. Uint n) (λ n. (refl, refl)) (varint_form c h))
+    (λ c h. varint_means SINT c (λ n. Sint (unzig n)) (λ n. (refl, zig-unzig n)) (varint_form c h))
+    (λ c h. varint_means BOOL c (λ n. Truth (not (n == 0))) (λ n. (refl, refl)) (varint_form c h))
     n is.0 is.1
 
 filter_kinds : (xs : List Entry) → AllByRecursion (λ (x : Entry). IsKind x.number) (kinds xs)
@@ -337,13 +338,13 @@ value_there split_is payload base own h =
     (found.0, ((split payload).fields, whole_split split_is payload (none_rest base (split payload) parts.0), found.1))
 
 -- the grammar keeps the rules
-form_rules : (x : Entry) → (x.number ≡ 1 → IsText x.content) → (x.number ≡ 2 → IsFixed32 x.content) → (x.number ≡ 3 → IsFixed64 x.content) → (x.number ≡ 4 → IsVarint x.content) → (x.number ≡ 5 → IsVarint x.content) → (x.number ≡ 6 → IsVarint x.content) → (x.number ≡ 7 → IsVarint x.content) → first (kind_rules x.number x.content) ≡ None
+form_rules : (x : Entry) → (x.number ≡ STRING → IsText x.content) → (x.number ≡ FLOAT → IsFixed32 x.content) → (x.number ≡ DOUBLE → IsFixed64 x.content) → (x.number ≡ INT → IsVarint x.content) → (x.number ≡ UINT → IsVarint x.content) → (x.number ≡ SINT → IsVarint x.content) → (x.number ≡ BOOL → IsVarint x.content) → first (kind_rules x.number x.content) ≡ None
 form_rules x h1 h2 h3 h4 h5 h6 h7 =
     let n = x.number in
     let c = x.content in
-    by_number n _ _ 1 (λ e. form_text c (h1 e)) (by_number n _ _ 2 (λ e. form_fixed32 c (h2 e)) (by_number n _ _ 3 (λ e. form_fixed64 c (h3 e)) (by_number n _ _ 4 (λ e. form_varint c (h4 e)) (by_number n _ _ 5 (λ e. form_varint c (h5 e)) (by_number n _ _ 6 (λ e. form_varint c (h6 e)) (by_number n _ _ 7 (λ e. form_varint c (h7 e)) refl))))))
+    by_number n _ _ STRING (λ e. form_text c (h1 e)) (by_number n _ _ FLOAT (λ e. form_fixed32 c (h2 e)) (by_number n _ _ DOUBLE (λ e. form_fixed64 c (h3 e)) (by_number n _ _ INT (λ e. form_varint c (h4 e)) (by_number n _ _ UINT (λ e. form_varint c (h5 e)) (by_number n _ _ SINT (λ e. form_varint c (h6 e)) (by_number n _ _ BOOL (λ e. form_varint c (h7 e)) refl))))))
 
-forms_rules : (base : ℕ) (xs : List Entry) → HaveForm 1 IsText xs → HaveForm 2 IsFixed32 xs → HaveForm 3 IsFixed64 xs → HaveForm 4 IsVarint xs → HaveForm 5 IsVarint xs → HaveForm 6 IsVarint xs → HaveForm 7 IsVarint xs → AllByRecursion (λ (x : Entry). first (value_field_rules base x) ≡ None) xs
+forms_rules : (base : ℕ) (xs : List Entry) → HaveForm STRING IsText xs → HaveForm FLOAT IsFixed32 xs → HaveForm DOUBLE IsFixed64 xs → HaveForm INT IsVarint xs → HaveForm UINT IsVarint xs → HaveForm SINT IsVarint xs → HaveForm BOOL IsVarint xs → AllByRecursion (λ (x : Entry). first (value_field_rules base x) ≡ None) xs
 forms_rules base [] h1 h2 h3 h4 h5 h6 h7 = tt
 forms_rules base (x ∷ xs) h1 h2 h3 h4 h5 h6 h7 =
     (rules_clean base x (form_rules x h1.0 h2.0 h3.0 h4.0 h5.0 h6.0 h7.0), forms_rules base xs h1.1 h2.1 h3.1 h4.1 h5.1 h6.1 h7.1)

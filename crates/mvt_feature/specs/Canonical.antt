@@ -11,6 +11,8 @@ use Rattle.mvt_geometry.specs.Shape.{kind_of}
 use Rattle.mvt_wire.specs.Field.{Content, varint, fixed64, bytes, fixed32}
 use Rattle.mvt_wire.specs.Spelling.{Plain, short_numbers}
 use Rattle.mvt_wire.specs.Zigzag.{zig}
+use Rattle.mvt_feature.specs.declared.numbers.feature.TheConstants.{ID, TAGS, TYPE, GEOMETRY}
+use Rattle.mvt_feature.specs.declared.numbers.value.TheConstants.{STRING, FLOAT, DOUBLE, INT, UINT, SINT, BOOL}
 use Rattle.mvt_feature.specs.declared.feature.Feature.{Feature}
 
 -- a field of this number and content
@@ -19,13 +21,13 @@ plain number content = record { number = number; content = content }
 
 -- the one field of a value
 abbrev pub value_field : Value → Plain
-value_field (Text text) = plain 1 (bytes text)
-value_field (Float bits) = plain 2 (fixed32 bits)
-value_field (Double bits) = plain 3 (fixed64 bits)
-value_field (Int z) = plain 4 (varint (cast_unsigned w64 z))
-value_field (Uint n) = plain 5 (varint n)
-value_field (Sint z) = plain 6 (varint (zig z))
-value_field (Truth b) = plain 7 (varint (if b then 1 else 0))
+value_field (Text text) = plain STRING (bytes text)
+value_field (Float bits) = plain FLOAT (fixed32 bits)
+value_field (Double bits) = plain DOUBLE (fixed64 bits)
+value_field (Int z) = plain INT (varint (cast_unsigned w64 z))
+value_field (Uint n) = plain UINT (varint n)
+value_field (Sint z) = plain SINT (varint (zig z))
+value_field (Truth b) = plain BOOL (varint (if b then 1 else 0))
 
 abbrev pub value_fields : Value → List Plain
 value_fields value = value_field value ∷ []
@@ -33,12 +35,12 @@ value_fields value = value_field value ∷ []
 -- the id, where there is one
 abbrev pub id_fields : Option ℕ → List Plain
 id_fields None = []
-id_fields (Some n) = plain 1 (varint n) ∷ []
+id_fields (Some n) = plain ID (varint n) ∷ []
 
 -- the tags, packed in one piece, where there are some
 abbrev pub tags_fields : List ℕ → List Plain
 tags_fields [] = []
-tags_fields (tag ∷ tags) = plain 2 (bytes (short_numbers (tag ∷ tags))) ∷ []
+tags_fields (tag ∷ tags) = plain TAGS (bytes (short_numbers (tag ∷ tags))) ∷ []
 
 abbrev pub type_number : Kind → ℕ
 type_number kinds.Unknown = 0
@@ -49,7 +51,7 @@ type_number kinds.Polygon = 3
 -- the type, and the integers packed in one piece
 abbrev pub drawing_fields : Kind → List ℕ → List Plain
 drawing_fields kind integers =
-    plain 3 (varint (type_number kind)) ∷ (plain 4 (bytes (short_numbers integers)) ∷ [])
+    plain TYPE (varint (type_number kind)) ∷ (plain GEOMETRY (bytes (short_numbers integers)) ∷ [])
 
 -- the fields of a feature with these tags
 abbrev pub feature_fields : List ℕ → Feature → List Plain

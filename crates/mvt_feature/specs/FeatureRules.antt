@@ -10,6 +10,7 @@ use Rattle.mvt_geometry.specs.Table.{IndexedCause, geometry_rules}
 use Rattle.mvt_wire.specs.Field.{Content, varint, bytes, Entry}
 use Rattle.mvt_wire.specs.Packed.{packed, packed_rules}
 use Rattle.mvt_wire.specs.Split.{split}
+use Rattle.mvt_feature.specs.declared.numbers.feature.TheConstants.{ID, TAGS, TYPE, GEOMETRY}
 use Rattle.mvt_feature.specs.declared.cause.Cause.{Cause}
 use Rattle.mvt_feature.specs.declared.cause.Cause.TheVariants.{WrongType, NumberRange, GeomType}
 use Rattle.mvt_feature.specs.Causes.{of_packed, of_tag, of_geometry}
@@ -41,10 +42,10 @@ list_rules _ = under 0 (when true WrongType)
 -- a field of this number
 abbrev pub form_rules : ℕ → Content → Rules Cause
 form_rules number content =
-    if number == 1 then under 0 (varint_rules content)
-    else if number == 2 then list_rules content
-    else if number == 3 then under 0 (type_rules content)
-    else if number == 4 then list_rules content
+    if number == ID then under 0 (varint_rules content)
+    else if number == TAGS then list_rules content
+    else if number == TYPE then under 0 (type_rules content)
+    else if number == GEOMETRY then list_rules content
     else []
 
 unfoldable pub feature_field_rules : ℕ → Entry → Rules MessageFault
@@ -59,16 +60,16 @@ geometry_told fault = fault_at fault.0 (of_geometry fault.1)
 
 -- the type of a feature's geometry
 abbrev pub kind_in : List Entry → Kind
-kind_in fields = kind_of_type (number_in (last_only 3 fields))
+kind_in fields = kind_of_type (number_in (last_only TYPE fields))
 
 -- the rules of a feature whose payload begins at base, in a layer with these keys and values
 abbrev pub feature_table : List ℕ → ℕ → List (List ℕ) → List Value → List (ℕ × Rules MessageFault)
 feature_table payload base keys values =
     (0, rest_rules base (split payload))
     ∷ ((1, each (λ _. feature_field_rules base) [] (split payload).fields)
-    ∷ ((2, told tag_told (count_rules (joined 2 (split payload).fields)))
-    ∷ ((3, told tag_told (pair_rules keys values (joined 2 (split payload).fields)))
-    ∷ ((4, told geometry_told (geometry_rules (kind_in (split payload).fields) (joined 4 (split payload).fields))) ∷ []))))
+    ∷ ((2, told tag_told (count_rules (joined TAGS (split payload).fields)))
+    ∷ ((3, told tag_told (pair_rules keys values (joined TAGS (split payload).fields)))
+    ∷ ((4, told geometry_told (geometry_rules (kind_in (split payload).fields) (joined GEOMETRY (split payload).fields))) ∷ []))))
 
 unfoldable pub feature_rules : List ℕ → ℕ → List (List ℕ) → List Value → Rules MessageFault
 feature_rules payload base keys values = rows (feature_table payload base keys values)

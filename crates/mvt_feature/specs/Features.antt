@@ -8,6 +8,7 @@ use Rattle.mvt_geometry.specs.Drawing.{Draws}
 use Rattle.mvt_wire.specs.Field.{Content, varint, bytes, Entry}
 use Rattle.mvt_wire.specs.Packed.{ArePacked}
 use Rattle.mvt_wire.specs.Split.{Whole}
+use Rattle.mvt_feature.specs.declared.numbers.feature.TheConstants.{ID, TAGS, TYPE, GEOMETRY}
 use Rattle.mvt_feature.specs.declared.feature.Feature.{Feature}
 use Rattle.mvt_feature.specs.Selection.{only, last_only, HaveForm}
 use Rattle.mvt_feature.specs.Values.{IsVarint}
@@ -49,15 +50,15 @@ Joined (x ∷ xs) numbers =
 
 -- fields that are a feature of a layer with these keys and values
 pub record IsFeature (fields : List Entry) (keys : List (List ℕ)) (values : List Value) (f : Feature) : Type 0 where
-  pub ids : HaveForm 1 IsVarint fields
-  pub id : f.id ≡ number_in (last_only 1 fields)
+  pub ids : HaveForm ID IsVarint fields
+  pub id : f.id ≡ number_in (last_only ID fields)
   pub tags : List ℕ
-  pub tags_are : Joined (only 2 fields) tags
+  pub tags_are : Joined (only TAGS fields) tags
   pub attributes : Resolved keys values tags f.attributes
-  pub types : HaveForm 3 IsType fields
+  pub types : HaveForm TYPE IsType fields
   pub integers : List ℕ
-  pub integers_are : Joined (only 4 fields) integers
-  pub geometry : Draws (kind_of_type (number_in (last_only 3 fields))) integers f.geometry
+  pub integers_are : Joined (only GEOMETRY fields) integers
+  pub geometry : Draws (kind_of_type (number_in (last_only TYPE fields))) integers f.geometry
 
 -- a payload that is this feature
 abbrev pub IsFeatureOf : List ℕ → List (List ℕ) → List Value → Feature → Type 0

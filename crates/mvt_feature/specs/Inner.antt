@@ -5,6 +5,7 @@ use Rattle.mvt_attrs.specs.declared.value.Value.{Value}
 use Rattle.mvt_attrs.specs.declared.value.Value.TheVariants as values
 use Rattle.mvt_geometry.specs.declared.shape.Kind.{Kind}
 use Rattle.mvt_wire.specs.Field.{Content, Entry}
+use Rattle.mvt_feature.specs.declared.numbers.feature.TheConstants.{ID, TAGS, TYPE, GEOMETRY}
 use Rattle.mvt_feature.specs.declared.message_error.MessageError.{MessageError}
 use Rattle.mvt_feature.specs.declared.known.Known.{Known}
 use Rattle.mvt_feature.specs.declared.value.Meaning.{Meaning}
@@ -52,20 +53,20 @@ AreSoFar base done k = IsSoFar (value_field_rules base) AreKinds done k
 
 -- what one more field of a feature changes
 abbrev pub id_after : Option ℕ → ℕ → Content → Option ℕ
-id_after old number content = if number == 1 then number_of content else old
+id_after old number content = if number == ID then number_of content else old
 
 abbrev pub kind_after : Kind → ℕ → Content → Kind
-kind_after old number content = if number == 3 then kind_of_type (number_of content) else old
+kind_after old number content = if number == TYPE then kind_of_type (number_of content) else old
 
 abbrev pub numbers_at : ℕ → ℕ → Content → List ℕ
 numbers_at k number content = if number == k then numbers_of content else []
 
 -- what is known of a feature by these fields
 pub record IsKnown (fields : List Entry) (known : Known) (tags integers : List ℕ) : Type 0 where
-  pub id : known.id ≡ number_in (last_only 1 fields)
+  pub id : known.id ≡ number_in (last_only ID fields)
   pub kind : known.kind ≡ kind_in fields
-  pub tags_are : tags ≡ joined 2 fields
-  pub integers_are : integers ≡ joined 4 fields
+  pub tags_are : tags ≡ joined TAGS fields
+  pub integers_are : integers ≡ joined GEOMETRY fields
 
 abbrev pub IsKnownSoFar : ℕ → List Entry → Result Known MessageError → List ℕ → List ℕ → Type 0
 IsKnownSoFar base done known tags integers =

@@ -6,6 +6,7 @@ use Rattle.mvt_attrs.specs.declared.value.Value.{Value}
 use Rattle.mvt_attrs.specs.declared.value.Value.TheVariants.{Text, Float, Double, Int, Uint, Sint, Bool as Truth}
 use Rattle.mvt_wire.specs.Field.{Content, varint, fixed64, bytes, fixed32, Entry}
 use Rattle.mvt_wire.specs.Split.{split}
+use Rattle.mvt_feature.specs.declared.numbers.value.TheConstants.{STRING, FLOAT, DOUBLE, INT, UINT, SINT, BOOL}
 use Rattle.mvt_feature.specs.ValueRules.{kinds}
 
 -- the number that has this zigzag code
@@ -14,14 +15,14 @@ unzig n = if n % 2 == 0 then pos (n / 2) else negsuc (n / 2)
 
 -- what a field of this number and content says, where it is one of the kinds of value
 abbrev pub said : ℕ → Content → Option Value
-said number (bytes d) = if number == 1 then Some (Text d) else None
-said number (fixed32 n) = if number == 2 then Some (Float n) else None
-said number (fixed64 n) = if number == 3 then Some (Double n) else None
+said number (bytes d) = if number == STRING then Some (Text d) else None
+said number (fixed32 n) = if number == FLOAT then Some (Float n) else None
+said number (fixed64 n) = if number == DOUBLE then Some (Double n) else None
 said number (varint n) =
-    if number == 4 then Some (Int (cast_signed w64 n))
-    else if number == 5 then Some (Uint n)
-    else if number == 6 then Some (Sint (unzig n))
-    else if number == 7 then Some (Truth (not (n == 0)))
+    if number == INT then Some (Int (cast_signed w64 n))
+    else if number == UINT then Some (Uint n)
+    else if number == SINT then Some (Sint (unzig n))
+    else if number == BOOL then Some (Truth (not (n == 0)))
     else None
 
 -- the value of a payload that is one: what the last field of a kind says

@@ -6,6 +6,7 @@ use Rattle.std.specs.Str.{is_utf8}
 use Rattle.mvt_base.specs.Rules.{Rules, when, told, rows, each, first}
 use Rattle.mvt_wire.specs.Field.{Content, varint, fixed64, bytes, fixed32, Entry}
 use Rattle.mvt_wire.specs.Split.{split}
+use Rattle.mvt_feature.specs.declared.numbers.value.TheConstants.{STRING, FLOAT, DOUBLE, INT, UINT, SINT, BOOL}
 use Rattle.mvt_feature.specs.declared.cause.Cause.{Cause}
 use Rattle.mvt_feature.specs.declared.cause.Cause.TheVariants.{WrongType, NotUtf8, ValueKind}
 use Rattle.mvt_feature.specs.Faults.{MessageFault, fault_at, rest_rules}
@@ -30,13 +31,13 @@ text_rules _ = when true WrongType
 -- a field of this number
 abbrev pub kind_rules : ℕ → Content → Rules Cause
 kind_rules number content =
-    if number == 1 then text_rules content
-    else if number == 2 then fixed32_rules content
-    else if number == 3 then fixed64_rules content
-    else if number == 4 then varint_rules content
-    else if number == 5 then varint_rules content
-    else if number == 6 then varint_rules content
-    else if number == 7 then varint_rules content
+    if number == STRING then text_rules content
+    else if number == FLOAT then fixed32_rules content
+    else if number == DOUBLE then fixed64_rules content
+    else if number == INT then varint_rules content
+    else if number == UINT then varint_rules content
+    else if number == SINT then varint_rules content
+    else if number == BOOL then varint_rules content
     else []
 
 unfoldable pub value_field_rules : ℕ → Entry → Rules MessageFault
@@ -44,7 +45,7 @@ value_field_rules base x = told (fault_at (base + x.at)) (kind_rules x.number x.
 
 -- the fields of the seven kinds
 abbrev pub is_kind : Entry → Bool
-is_kind x = nat_le 1 x.number && nat_le x.number 7
+is_kind x = nat_le STRING x.number && nat_le x.number BOOL
 
 abbrev pub kinds : List Entry → List Entry
 kinds xs = filter is_kind xs

@@ -7,6 +7,7 @@ use Rattle.mvt_attrs.specs.declared.value.Value.TheVariants.{Text, Float, Double
 use Rattle.mvt_wire.specs.Field.{Content, varint, fixed64, bytes, fixed32, Entry}
 use Rattle.mvt_wire.specs.Split.{Whole}
 use Rattle.mvt_wire.specs.Zigzag.{zig}
+use Rattle.mvt_feature.specs.declared.numbers.value.TheConstants.{STRING, FLOAT, DOUBLE, INT, UINT, SINT, BOOL}
 use Rattle.mvt_feature.specs.Selection.{HaveForm, last_only}
 
 -- the forms of fields
@@ -28,28 +29,28 @@ IsText _ = ⊥
 
 -- a number of one of the seven kinds
 abbrev pub IsKind : ℕ → Type 0
-IsKind number = (1 ≤ number) × (number ≤ 7)
+IsKind number = (STRING ≤ number) × (number ≤ BOOL)
 
 -- what a field of this number and content says
 abbrev pub Means : ℕ → Content → Value → Type 0
-Means number (bytes d) (Text text) = (number ≡ 1) × (text ≡ d)
-Means number (fixed32 n) (Float bits) = (number ≡ 2) × (bits ≡ n)
-Means number (fixed64 n) (Double bits) = (number ≡ 3) × (bits ≡ n)
-Means number (varint n) (Int z) = (number ≡ 4) × (z ≡ cast_signed w64 n)
-Means number (varint n) (Uint m) = (number ≡ 5) × (m ≡ n)
-Means number (varint n) (Sint z) = (number ≡ 6) × (zig z ≡ n)
-Means number (varint n) (Truth b) = (number ≡ 7) × (b ≡ not (n == 0))
+Means number (bytes d) (Text text) = (number ≡ STRING) × (text ≡ d)
+Means number (fixed32 n) (Float bits) = (number ≡ FLOAT) × (bits ≡ n)
+Means number (fixed64 n) (Double bits) = (number ≡ DOUBLE) × (bits ≡ n)
+Means number (varint n) (Int z) = (number ≡ INT) × (z ≡ cast_signed w64 n)
+Means number (varint n) (Uint m) = (number ≡ UINT) × (m ≡ n)
+Means number (varint n) (Sint z) = (number ≡ SINT) × (zig z ≡ n)
+Means number (varint n) (Truth b) = (number ≡ BOOL) × (b ≡ not (n == 0))
 Means _ _ _ = ⊥
 
 -- fields that are one value: one of the seven kinds occurs, and its last field says the value
 pub record IsValue (fields : List Entry) (value : Value) : Type 0 where
-  pub texts : HaveForm 1 IsText fields
-  pub floats : HaveForm 2 IsFixed32 fields
-  pub doubles : HaveForm 3 IsFixed64 fields
-  pub ints : HaveForm 4 IsVarint fields
-  pub uints : HaveForm 5 IsVarint fields
-  pub sints : HaveForm 6 IsVarint fields
-  pub truths : HaveForm 7 IsVarint fields
+  pub texts : HaveForm STRING IsText fields
+  pub floats : HaveForm FLOAT IsFixed32 fields
+  pub doubles : HaveForm DOUBLE IsFixed64 fields
+  pub ints : HaveForm INT IsVarint fields
+  pub uints : HaveForm UINT IsVarint fields
+  pub sints : HaveForm SINT IsVarint fields
+  pub truths : HaveForm BOOL IsVarint fields
   pub kind : ℕ
   pub one : AllByRecursion (λ (x : Entry). IsKind x.number → x.number ≡ kind) fields
   pub last : Entry

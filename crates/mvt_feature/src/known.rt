@@ -5,6 +5,7 @@ ghost use Rattle.mvt_base.specs.Rules.{each, first};
 ghost use Rattle.mvt_wire.specs.Field.{Entry, entry_of, content_of, varint};
 ghost use Rattle.mvt_wire.specs.Packed.{PackedCause, TellsPacked};
 ghost use Rattle.mvt_wire.specs.Split.{split};
+ghost use Rattle.mvt_feature.specs.declared.numbers.feature.TheConstants.{TAGS, GEOMETRY};
 ghost use Rattle.mvt_feature.specs.Causes.{of_packed};
 ghost use Rattle.mvt_feature.specs.Faults.{TellsMessage, fault_at as the_fault_at, rest_rules};
 ghost use Rattle.mvt_feature.specs.Features.{number_of, kind_of_type};
@@ -14,6 +15,7 @@ ghost use Rattle.mvt_feature.specs.Inner.{id_after, kind_after, numbers_at, IsKn
 
 use crate::cause::Cause;
 use crate::message_error::MessageError;
+use crate::numbers::feature;
 use crate::room::Room;
 use crate::value::varint_of;
 use crate::whole::{fault_at, rest_fault, rest_fault_or};
@@ -63,19 +65,19 @@ impl Known {
         ensures id { IfOk result (λ known. known.id ≡ id_after self.id field.now.number (content_of field.now.payload)) }
         ensures kind { IfOk result (λ known. known.kind ≡ kind_after self.kind field.now.number (content_of field.now.payload)) }
         ensures tags { OnOk result
-            (room.new.tags.items ≡ room.old.tags.items ++ numbers_at 2 field.now.number (content_of field.now.payload)) }
+            (room.new.tags.items ≡ room.old.tags.items ++ numbers_at TAGS field.now.number (content_of field.now.payload)) }
         ensures integers { OnOk result
-            (room.new.integers.items ≡ room.old.integers.items ++ numbers_at 4 field.now.number (content_of field.now.payload)) }
+            (room.new.integers.items ≡ room.old.integers.items ++ numbers_at GEOMETRY field.now.number (content_of field.now.payload)) }
         ensures err { IfErr result (λ error. TellsMessage error
             (option_map (the_fault_at at) (first (form_rules field.now.number (content_of field.now.payload))))) }
     {
         let payload = &field.payload;
         let mut known = self;
         match field.number {
-            1 => known.id = Some(id_of(payload, at)?),
-            2 => append_numbers(payload, at, &mut room.tags)?,
-            3 => known.kind = kind_of_payload(payload, at)?,
-            4 => append_numbers(payload, at, &mut room.integers)?,
+            feature::ID => known.id = Some(id_of(payload, at)?),
+            feature::TAGS => append_numbers(payload, at, &mut room.tags)?,
+            feature::TYPE => known.kind = kind_of_payload(payload, at)?,
+            feature::GEOMETRY => append_numbers(payload, at, &mut room.integers)?,
             _ => {}
         }
         Ok(known)

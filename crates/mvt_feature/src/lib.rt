@@ -8,6 +8,7 @@ mod feature;
 mod known;
 pub mod laws;
 mod message_error;
+pub mod numbers;
 mod reading;
 mod room;
 #[cfg(test)]

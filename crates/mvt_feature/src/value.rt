@@ -11,6 +11,7 @@ ghost use Rattle.mvt_feature.specs.Inner.{value_of, kinds_with, AreKinds};
 
 use crate::cause::Cause;
 use crate::message_error::MessageError;
+use crate::numbers::value;
 use crate::whole::{fault_at, rest_fault, rest_fault_or};
 use mvt_attrs::Value;
 use mvt_base::Text;
@@ -156,13 +157,13 @@ fn meaning_of<'a>(field: &Field<'a>) -> Result<Option<Meaning<'a>>, Cause>
 {
     let payload = &field.payload;
     let meaning = match field.number {
-        1 => Meaning::Text(text_of(payload)?),
-        2 => Meaning::Float(fixed32_of(payload)?),
-        3 => Meaning::Double(fixed64_of(payload)?),
-        4 => Meaning::Int(varint_of(payload)?.cast_signed()),
-        5 => Meaning::Uint(varint_of(payload)?),
-        6 => Meaning::Sint(unzigzag64(varint_of(payload)?)),
-        7 => Meaning::Bool(varint_of(payload)? != 0),
+        value::STRING => Meaning::Text(text_of(payload)?),
+        value::FLOAT => Meaning::Float(fixed32_of(payload)?),
+        value::DOUBLE => Meaning::Double(fixed64_of(payload)?),
+        value::INT => Meaning::Int(varint_of(payload)?.cast_signed()),
+        value::UINT => Meaning::Uint(varint_of(payload)?),
+        value::SINT => Meaning::Sint(unzigzag64(varint_of(payload)?)),
+        value::BOOL => Meaning::Bool(varint_of(payload)? != 0),
         _ => return Ok(None),
     };
     Ok(Some(meaning))

@@ -18,6 +18,7 @@ use Rattle.mvt_feature.specs.Faults.{MessageFault, fault_at}
 use Rattle.mvt_feature.specs.Selection.{HaveForm}
 use Rattle.mvt_feature.specs.Values.{IsText}
 use Rattle.mvt_feature.specs.ValueRules.{text_rules}
+use Rattle.mvt_message.specs.declared.numbers.layer.TheConstants.{NAME, FEATURES, KEYS, VALUES, EXTENT, VERSION}
 use Rattle.mvt_message.specs.ItemRules.{uint32_rules, bytes_rules, version_form_rules, version_rules, layer_form_rules, layer_field_rules}
 use Rattle.mvt_message.specs.Items.{IsUint32, IsBytes}
 use Rattle.mvt_message.specs.Inner.{versions_fault, forms_fault}
@@ -79,44 +80,44 @@ form_text (fixed64 n) h = absurd h
 form_text (fixed32 n) h = absurd h
 
 -- versions
-pub versions_form : (base : ℕ) (xs : List Entry) → versions_fault base xs ≡ None → HaveForm 15 IsUint32 xs
+pub versions_form : (base : ℕ) (xs : List Entry) → versions_fault base xs ≡ None → HaveForm VERSION IsUint32 xs
 unfolding version_rules
-versions_form base xs clean = have_form version_form_rules base 15 IsUint32 uint32_form xs clean
+versions_form base xs clean = have_form version_form_rules base VERSION IsUint32 uint32_form xs clean
 
-versions_all : (xs : List Entry) → HaveForm 15 IsUint32 xs → AllByRecursion (λ (x : Entry). first (version_form_rules x.number x.content) ≡ None) xs
+versions_all : (xs : List Entry) → HaveForm VERSION IsUint32 xs → AllByRecursion (λ (x : Entry). first (version_form_rules x.number x.content) ≡ None) xs
 versions_all [] h = tt
 versions_all (x ∷ xs) h = (by_number x.number _ _ 15 (λ e. form_uint32 x.content (h.0 e)) refl, versions_all xs h.1)
 
-pub form_versions : (base : ℕ) (xs : List Entry) → HaveForm 15 IsUint32 xs → versions_fault base xs ≡ None
+pub form_versions : (base : ℕ) (xs : List Entry) → HaveForm VERSION IsUint32 xs → versions_fault base xs ≡ None
 unfolding version_rules
 form_versions base xs h = forms_clean version_form_rules base xs (versions_all xs h)
 
 -- the other fields of a layer
 pub record AreForms (xs : List Entry) : Type 0 where
-  pub names : HaveForm 1 IsText xs
-  pub messages : HaveForm 2 IsBytes xs
-  pub texts : HaveForm 3 IsText xs
-  pub pool : HaveForm 4 IsBytes xs
-  pub extents : HaveForm 5 IsUint32 xs
+  pub names : HaveForm NAME IsText xs
+  pub messages : HaveForm FEATURES IsBytes xs
+  pub texts : HaveForm KEYS IsText xs
+  pub pool : HaveForm VALUES IsBytes xs
+  pub extents : HaveForm EXTENT IsUint32 xs
 
 pub layer_forms : (base : ℕ) (xs : List Entry) → forms_fault base xs ≡ None → AreForms xs
 unfolding layer_field_rules
 layer_forms base xs clean = record {
-  names = have_form layer_form_rules base 1 IsText text_form xs clean;
-  messages = have_form layer_form_rules base 2 IsBytes bytes_form xs clean;
-  texts = have_form layer_form_rules base 3 IsText text_form xs clean;
-  pool = have_form layer_form_rules base 4 IsBytes bytes_form xs clean;
-  extents = have_form layer_form_rules base 5 IsUint32 uint32_form xs clean;
+  names = have_form layer_form_rules base NAME IsText text_form xs clean;
+  messages = have_form layer_form_rules base FEATURES IsBytes bytes_form xs clean;
+  texts = have_form layer_form_rules base KEYS IsText text_form xs clean;
+  pool = have_form layer_form_rules base VALUES IsBytes bytes_form xs clean;
+  extents = have_form layer_form_rules base EXTENT IsUint32 uint32_form xs clean;
 }
 
-forms_all : (xs : List Entry) → HaveForm 1 IsText xs → HaveForm 2 IsBytes xs → HaveForm 3 IsText xs → HaveForm 4 IsBytes xs → HaveForm 5 IsUint32 xs → AllByRecursion (λ (x : Entry). first (layer_form_rules x.number x.content) ≡ None) xs
+forms_all : (xs : List Entry) → HaveForm NAME IsText xs → HaveForm FEATURES IsBytes xs → HaveForm KEYS IsText xs → HaveForm VALUES IsBytes xs → HaveForm EXTENT IsUint32 xs → AllByRecursion (λ (x : Entry). first (layer_form_rules x.number x.content) ≡ None) xs
 forms_all [] h1 h2 h3 h4 h5 = tt
 forms_all (x ∷ xs) h1 h2 h3 h4 h5 =
     let n = x.number in
     let c = x.content in
-    (by_number n _ _ 1 (λ e. form_text c (h1.0 e)) (by_number n _ _ 2 (λ e. form_bytes c (h2.0 e)) (by_number n _ _ 3 (λ e. form_text c (h3.0 e)) (by_number n _ _ 4 (λ e. form_bytes c (h4.0 e)) (by_number n _ _ 5 (λ e. form_uint32 c (h5.0 e)) refl)))), forms_all xs h1.1 h2.1 h3.1 h4.1 h5.1)
+    (by_number n _ _ NAME (λ e. form_text c (h1.0 e)) (by_number n _ _ FEATURES (λ e. form_bytes c (h2.0 e)) (by_number n _ _ KEYS (λ e. form_text c (h3.0 e)) (by_number n _ _ VALUES (λ e. form_bytes c (h4.0 e)) (by_number n _ _ EXTENT (λ e. form_uint32 c (h5.0 e)) refl)))), forms_all xs h1.1 h2.1 h3.1 h4.1 h5.1)
 
-pub forms_layer : (base : ℕ) (xs : List Entry) → HaveForm 1 IsText xs → HaveForm 2 IsBytes xs → HaveForm 3 IsText xs → HaveForm 4 IsBytes xs → HaveForm 5 IsUint32 xs → forms_fault base xs ≡ None
+pub forms_layer : (base : ℕ) (xs : List Entry) → HaveForm NAME IsText xs → HaveForm FEATURES IsBytes xs → HaveForm KEYS IsText xs → HaveForm VALUES IsBytes xs → HaveForm EXTENT IsUint32 xs → forms_fault base xs ≡ None
 unfolding layer_field_rules
 forms_layer base xs h1 h2 h3 h4 h5 = forms_clean layer_form_rules base xs (forms_all xs h1 h2 h3 h4 h5)
 
@@ -154,7 +155,7 @@ text_ordered (fixed32 n) = when_ordered true WrongType
 pub version_ordered : (base : ℕ) (x : Entry) → AreOrdered (version_rules base x)
 unfolding version_rules
 version_ordered base x =
-    told_ordered (fault_at (base + x.at)) (version_form_rules x.number x.content) (if_ordered (x.number == 15) _ _ (uint32_ordered x.content) tt)
+    told_ordered (fault_at (base + x.at)) (version_form_rules x.number x.content) (if_ordered (x.number == VERSION) _ _ (uint32_ordered x.content) tt)
 
 pub layer_field_ordered : (base : ℕ) (x : Entry) → AreOrdered (layer_field_rules base x)
 unfolding layer_field_rules

@@ -22,6 +22,7 @@ use Rattle.mvt_feature.specs.FeatureRules.{feature_rules, feature_fault}
 use Rattle.mvt_feature.specs.Selection.{only, last_only, HaveForm}
 use Rattle.mvt_feature.specs.Values.{IsValueOf}
 use Rattle.mvt_feature.specs.ValueRules.{value_rules, value_fault}
+use Rattle.mvt_message.specs.declared.numbers.layer.TheConstants.{NAME, FEATURES, VALUES, VERSION}
 use Rattle.mvt_message.specs.declared.item.Item.{Item as AnItem}
 use Rattle.mvt_message.specs.declared.item.Layer.{Layer as ALayer}
 use Rattle.mvt_message.specs.declared.item.Item.TheVariants.{Layer, Foreign}
@@ -82,10 +83,10 @@ pub two_there : (o : Option ℕ) → is_two o ≡ true → o ≡ Some 2
 two_there None h = cc
 two_there (Some n) h = ap Some (eqb-true n 2 h)
 
-pub version_there : (xs : List Entry) → HaveForm 15 IsUint32 xs → is_none (last_only 15 xs) ≡ false → (n : ℕ) × (version_in xs ≡ Some n)
+pub version_there : (xs : List Entry) → HaveForm VERSION IsUint32 xs → is_none (last_only VERSION xs) ≡ false → (n : ℕ) × (version_in xs ≡ Some n)
 version_there xs forms some =
-    let last = some_there (last_only 15 xs) some in
-    let number = of_form last.0.content (last_selected (λ (x : Entry). x.number) (λ (x : Entry). IsUint32 x.content) 15 xs last.0 forms last.1) in
+    let last = some_there (last_only VERSION xs) some in
+    let number = of_form last.0.content (last_selected (λ (x : Entry). x.number) (λ (x : Entry). IsUint32 x.content) VERSION xs last.0 forms last.1) in
     (number.0, ap number_in last.1 ∙ number.1)
   where
     of_form : (c : Content) → IsUint32 c → (n : ℕ) × (number_of c ≡ Some n)
@@ -113,27 +114,27 @@ related_left R P gives (x ∷ xs) [] h = absurd h
 related_left R P gives (x ∷ xs) (y ∷ ys) h = (gives x y h.0, related_left R P gives xs ys h.1)
 
 -- the rows of values and of features
-pub values_there : ValuesThere → (base : ℕ) (xs : List Entry) → values_fault base xs ≡ None → (values : List Value) × AreRelated HoldsValue (only 4 xs) values
+pub values_there : ValuesThere → (base : ℕ) (xs : List Entry) → values_fault base xs ≡ None → (values : List Value) × AreRelated HoldsValue (only VALUES xs) values
 values_there there base xs clean =
-    related_there (λ (x : Entry). first (value_rules_of base x) ≡ None) HoldsValue (λ x none. there (bytes_of x.content) (base + x.body) (base + x.at) (value_first _ _ _ ∙ none)) (only 4 xs) (none_each (value_rules_of base) [] (only 4 xs) clean)
+    related_there (λ (x : Entry). first (value_rules_of base x) ≡ None) HoldsValue (λ x none. there (bytes_of x.content) (base + x.body) (base + x.at) (value_first _ _ _ ∙ none)) (only VALUES xs) (none_each (value_rules_of base) [] (only VALUES xs) clean)
 
-pub values_clean : ValuesClean → (base : ℕ) (xs : List Entry) (values : List Value) → AreRelated HoldsValue (only 4 xs) values → values_fault base xs ≡ None
+pub values_clean : ValuesClean → (base : ℕ) (xs : List Entry) (values : List Value) → AreRelated HoldsValue (only VALUES xs) values → values_fault base xs ≡ None
 values_clean clean base xs values are =
-    each_none (value_rules_of base) [] (only 4 xs) (related_left HoldsValue (λ (x : Entry). first (value_rules_of base x) ≡ None) (λ x v is. sym (value_first _ _ _) ∙ clean (bytes_of x.content) (base + x.body) (base + x.at) v is) (only 4 xs) values are)
+    each_none (value_rules_of base) [] (only VALUES xs) (related_left HoldsValue (λ (x : Entry). first (value_rules_of base x) ≡ None) (λ x v is. sym (value_first _ _ _) ∙ clean (bytes_of x.content) (base + x.body) (base + x.at) v is) (only VALUES xs) values are)
 
 abbrev feature_rules_at : ℕ → List (List ℕ) → List Value → Entry → Rules MessageFault
 feature_rules_at base keys values x = feature_rules (bytes_of x.content) (base + x.body) keys values
 
-pub features_there : FeaturesThere → (base : ℕ) (keys : List (List ℕ)) (values : List Value) (xs : List Entry) → features_fault base keys values xs ≡ None → (features : List Feature) × AreRelated (HoldsFeature keys values) (only 2 xs) features
+pub features_there : FeaturesThere → (base : ℕ) (keys : List (List ℕ)) (values : List Value) (xs : List Entry) → features_fault base keys values xs ≡ None → (features : List Feature) × AreRelated (HoldsFeature keys values) (only FEATURES xs) features
 features_there there base keys values xs clean =
-    related_there (λ (x : Entry). first (feature_rules_at base keys values x) ≡ None) (HoldsFeature keys values) (λ x none. there (bytes_of x.content) (base + x.body) keys values (feature_first _ _ _ _ ∙ none)) (only 2 xs) (none_each_told (λ (earlier : List Entry). in_feature (length earlier)) (feature_rules_at base keys values) [] (only 2 xs) clean)
+    related_there (λ (x : Entry). first (feature_rules_at base keys values x) ≡ None) (HoldsFeature keys values) (λ x none. there (bytes_of x.content) (base + x.body) keys values (feature_first _ _ _ _ ∙ none)) (only FEATURES xs) (none_each_told (λ (earlier : List Entry). in_feature (length earlier)) (feature_rules_at base keys values) [] (only FEATURES xs) clean)
 
-pub features_clean : FeaturesClean → (base : ℕ) (keys : List (List ℕ)) (values : List Value) (xs : List Entry) (features : List Feature) → AreRelated (HoldsFeature keys values) (only 2 xs) features → features_fault base keys values xs ≡ None
+pub features_clean : FeaturesClean → (base : ℕ) (keys : List (List ℕ)) (values : List Value) (xs : List Entry) (features : List Feature) → AreRelated (HoldsFeature keys values) (only FEATURES xs) features → features_fault base keys values xs ≡ None
 features_clean clean base keys values xs features are =
-    each_told_none (λ (earlier : List Entry). in_feature (length earlier)) (feature_rules_at base keys values) [] (only 2 xs) (related_left (HoldsFeature keys values) (λ (x : Entry). first (feature_rules_at base keys values x) ≡ None) (λ x f is. sym (feature_first _ _ _ _) ∙ clean (bytes_of x.content) (base + x.body) keys values f is) (only 2 xs) features are)
+    each_told_none (λ (earlier : List Entry). in_feature (length earlier)) (feature_rules_at base keys values) [] (only FEATURES xs) (related_left (HoldsFeature keys values) (λ (x : Entry). first (feature_rules_at base keys values x) ≡ None) (λ x f is. sym (feature_first _ _ _ _) ∙ clean (bytes_of x.content) (base + x.body) keys values f is) (only FEATURES xs) features are)
 
 -- a layer without a fault is there
-pub layer_from : (base own : ℕ) (xs : List Entry) (layer : ALayer) (values : List Value) → forms_fault base xs ≡ None → name_in xs ≡ Some layer.name → layer.extent ≡ extent_in xs → AreRelated HoldsValue (only 4 xs) values → AreRelated (HoldsFeature (keys_in xs) values) (only 2 xs) layer.features → IsLayer xs layer
+pub layer_from : (base own : ℕ) (xs : List Entry) (layer : ALayer) (values : List Value) → forms_fault base xs ≡ None → name_in xs ≡ Some layer.name → layer.extent ≡ extent_in xs → AreRelated HoldsValue (only VALUES xs) values → AreRelated (HoldsFeature (keys_in xs) values) (only FEATURES xs) layer.features → IsLayer xs layer
 layer_from base own xs layer values clean name extent values_are features =
     let forms = layer_forms base xs clean in
     record {
@@ -155,15 +156,15 @@ layer_there value_is values_are_there features_are_there base own xs none =
     let later = option_or-nones _ _ parts.1 in
     let last = option_or-nones _ _ later.1 in
     let end = option_or-nones _ _ last.1 in
-    let name = some_there (last_only 1 xs) (when_none (is_none (last_only 1 xs)) (fault_at own NoName) later.0) in
+    let name = some_there (last_only NAME xs) (when_none (is_none (last_only NAME xs)) (fault_at own NoName) later.0) in
     let values = values_there values_are_there base xs last.0 in
-    let same : values_in xs ≡ values.0 = values_said value_is (only 4 xs) values.0 values.1 in
+    let same : values_in xs ≡ values.0 = values_said value_is (only VALUES xs) values.0 values.1 in
     let features = features_there features_are_there base (keys_in xs) values.0 xs (subst (λ vs. features_fault base (keys_in xs) vs xs ≡ None) same end.0) in
     let layer : ALayer = record { name = bytes_of name.0.content; extent = extent_in xs; features = features.0 } in
     (layer, layer_from base own xs layer values.0 parts.0 (ap (option_map (λ (x : Entry). bytes_of x.content)) name.1) refl values.1 features.1)
 
-name_there : (xs : List Entry) (name : List ℕ) → name_in xs ≡ Some name → is_none (last_only 1 xs) ≡ false
-name_there xs name is = of_option (last_only 1 xs) is
+name_there : (xs : List Entry) (name : List ℕ) → name_in xs ≡ Some name → is_none (last_only NAME xs) ≡ false
+name_there xs name is = of_option (last_only NAME xs) is
   where
     of_option : (o : Option Entry) → option_map (λ (x : Entry). bytes_of x.content) o ≡ Some name → is_none o ≡ false
     of_option None h = cc
@@ -175,25 +176,25 @@ layer_clean base own xs forms name values features =
 
 layer_keeps : ValueIs → ValuesClean → FeaturesClean → (base own : ℕ) (xs : List Entry) (layer : ALayer) → IsLayer xs layer → layer_fault base own xs ≡ None
 layer_keeps value_is clean_values clean_features base own xs layer is =
-    let same : values_in xs ≡ is.values = values_said value_is (only 4 xs) is.values is.values_are in
+    let same : values_in xs ≡ is.values = values_said value_is (only VALUES xs) is.values is.values_are in
     layer_clean base own xs (forms_layer base xs is.names is.messages is.texts is.pool is.extents) (first-when_not _ _ (name_there xs layer.name is.name)) (values_clean clean_values base xs is.values is.values_are) (subst (λ vs. features_fault base (keys_in xs) vs xs ≡ None) (sym same) (features_clean clean_features base (keys_in xs) is.values xs layer.features is.features))
 
 -- no fault: the payload is an item
 abbrev FaultBehind : ℕ → ℕ → List Entry → Bool → Option MessageFault
 FaultBehind base own xs two = if two then layer_fault base own xs else None
 
-pub head_clean : NoneRest → (payload : List ℕ) (base own : ℕ) → head_fault payload base own ≡ None → ((split payload).rest ≡ []) × HaveForm 15 IsUint32 (split payload).fields × ((n : ℕ) × (version_in (split payload).fields ≡ Some n))
+pub head_clean : NoneRest → (payload : List ℕ) (base own : ℕ) → head_fault payload base own ≡ None → ((split payload).rest ≡ []) × HaveForm VERSION IsUint32 (split payload).fields × ((n : ℕ) × (version_in (split payload).fields ≡ Some n))
 head_clean none_rest payload base own none =
     let xs = (split payload).fields in
     let parts = option_or-nones _ _ none in
     let later = option_or-nones _ _ parts.1 in
     let forms = versions_form base xs later.0 in
-    (none_rest base (split payload) parts.0, forms, version_there xs forms (when_none (is_none (last_only 15 xs)) (fault_at own NoVersion) later.1))
+    (none_rest base (split payload) parts.0, forms, version_there xs forms (when_none (is_none (last_only VERSION xs)) (fault_at own NoVersion) later.1))
 
 pub whole_of : SplitIs → (payload : List ℕ) → (split payload).rest ≡ [] → Whole payload (split payload).fields
 whole_of split_is payload rest = subst (λ r. Split payload (split payload).fields r) rest (split_is payload)
 
-pub item_from : SplitIs → (payload : List ℕ) (item : AnItem) → (split payload).rest ≡ [] → HaveForm 15 IsUint32 (split payload).fields → AreItem (split payload).fields payload item → IsItem payload item
+pub item_from : SplitIs → (payload : List ℕ) (item : AnItem) → (split payload).rest ≡ [] → HaveForm VERSION IsUint32 (split payload).fields → AreItem (split payload).fields payload item → IsItem payload item
 unfolding IsItem
 item_from split_is payload item rest forms are = ((split payload).fields, whole_of split_is payload rest, forms, are)
 
@@ -203,7 +204,7 @@ item_there none_rest split_is value_is values_are_there features_are_there paylo
     let head = head_clean none_rest payload base own parts.0 in
     by_version (is_two (version_in (split payload).fields)) refl head.0 head.1 head.2 parts.1
   where
-    by_version : (two : Bool) → is_two (version_in (split payload).fields) ≡ two → (split payload).rest ≡ [] → HaveForm 15 IsUint32 (split payload).fields → ((n : ℕ) × (version_in (split payload).fields ≡ Some n)) → FaultBehind base own (split payload).fields two ≡ None → (item : AnItem) × IsItem payload item
+    by_version : (two : Bool) → is_two (version_in (split payload).fields) ≡ two → (split payload).rest ≡ [] → HaveForm VERSION IsUint32 (split payload).fields → ((n : ℕ) × (version_in (split payload).fields ≡ Some n)) → FaultBehind base own (split payload).fields two ≡ None → (item : AnItem) × IsItem payload item
     by_version true is rest forms version behind =
         let layer = layer_there value_is values_are_there features_are_there base own (split payload).fields behind in
         (Layer layer.0, item_from split_is payload (Layer layer.0) rest forms (two_there _ is, layer.1))
@@ -212,14 +213,14 @@ item_there none_rest split_is value_is values_are_there features_are_there paylo
         (Foreign version.0 payload, item_from split_is payload (Foreign version.0 payload) rest forms (version.1, other, refl))
 
 -- and a payload that is an item has none
-last_there : (xs : List Entry) (n : ℕ) → version_in xs ≡ Some n → is_none (last_only 15 xs) ≡ false
-last_there xs n is = of_option (last_only 15 xs) is
+last_there : (xs : List Entry) (n : ℕ) → version_in xs ≡ Some n → is_none (last_only VERSION xs) ≡ false
+last_there xs n is = of_option (last_only VERSION xs) is
   where
     of_option : (o : Option Entry) → number_in o ≡ Some n → is_none o ≡ false
     of_option None h = cc
     of_option (Some x) h = refl
 
-pub head_keeps : RestNone → (payload : List ℕ) (base own n : ℕ) → (split payload).rest ≡ [] → HaveForm 15 IsUint32 (split payload).fields → version_in (split payload).fields ≡ Some n → head_fault payload base own ≡ None
+pub head_keeps : RestNone → (payload : List ℕ) (base own n : ℕ) → (split payload).rest ≡ [] → HaveForm VERSION IsUint32 (split payload).fields → version_in (split payload).fields ≡ Some n → head_fault payload base own ≡ None
 head_keeps rest_none payload base own n rest forms version =
     option_or-none _ _ (rest_none base (split payload) rest) ∙ option_or-none _ _ (form_versions base (split payload).fields forms) ∙ first-when_not _ _ (last_there (split payload).fields n version)
 
@@ -236,9 +237,9 @@ unfolding IsItem
 item_keeps rest_none split_only value_is clean_values clean_features payload base own item (xs, whole, forms, are) =
     let only_split = split_only payload [] xs whole in
     let here : AreItem (split payload).fields payload item = subst (λ fs. AreItem fs payload item) only_split.0 are in
-    by_item item (sym only_split.1) (subst (HaveForm 15 IsUint32) only_split.0 forms) here
+    by_item item (sym only_split.1) (subst (HaveForm VERSION IsUint32) only_split.0 forms) here
   where
-    by_item : (i : AnItem) → (split payload).rest ≡ [] → HaveForm 15 IsUint32 (split payload).fields → AreItem (split payload).fields payload i → item_fault payload base own ≡ None
+    by_item : (i : AnItem) → (split payload).rest ≡ [] → HaveForm VERSION IsUint32 (split payload).fields → AreItem (split payload).fields payload i → item_fault payload base own ≡ None
     by_item (Layer layer) rest form is =
         item_of_layer payload base own (head_keeps rest_none payload base own 2 rest form is.0) is.0 ∙ layer_keeps value_is clean_values clean_features base own (split payload).fields layer is.1
     by_item (Foreign version content) rest form is = item_of_other payload base own version (head_keeps rest_none payload base own version rest form is.0) is.0 is.1
@@ -251,8 +252,8 @@ layer_same : ValuesOnce → FeaturesOnce → (xs : List Entry) (k l : ALayer) �
 layer_same one_value one_feature xs k l a b =
     let names : Some k.name ≡ Some l.name = sym a.name ∙ b.name in
     let name : k.name ≡ l.name = cc in
-    let values : a.values ≡ b.values = related_once HoldsValue (λ x v w is also_is. one_value (bytes_of x.content) v w is also_is) (only 4 xs) a.values b.values a.values_are b.values_are in
-    same_layers k l name (a.extent ∙ sym b.extent) (related_once (HoldsFeature (keys_in xs) b.values) (λ x f g is also_is. one_feature (bytes_of x.content) (keys_in xs) b.values f g is also_is) (only 2 xs) k.features l.features (subst (λ vs. AreRelated (HoldsFeature (keys_in xs) vs) (only 2 xs) k.features) values a.features) b.features)
+    let values : a.values ≡ b.values = related_once HoldsValue (λ x v w is also_is. one_value (bytes_of x.content) v w is also_is) (only VALUES xs) a.values b.values a.values_are b.values_are in
+    same_layers k l name (a.extent ∙ sym b.extent) (related_once (HoldsFeature (keys_in xs) b.values) (λ x f g is also_is. one_feature (bytes_of x.content) (keys_in xs) b.values f g is also_is) (only FEATURES xs) k.features l.features (subst (λ vs. AreRelated (HoldsFeature (keys_in xs) vs) (only FEATURES xs) k.features) values a.features) b.features)
 
 same_items : ValuesOnce → FeaturesOnce → (xs : List Entry) (payload : List ℕ) (i j : AnItem) → AreItem xs payload i → AreItem xs payload j → i ≡ j
 same_items one_value one_feature xs payload (Layer k) (Layer l) a b = ap Layer (layer_same one_value one_feature xs k l a.1 b.1)
@@ -299,15 +300,15 @@ layer_rows values features base own xs true = (
     (
       omega arith,
       (
-        when_ordered (is_none (last_only 1 xs)) (fault_at own NoName),
+        when_ordered (is_none (last_only NAME xs)) (fault_at own NoName),
         (
           omega arith,
           (
-            each_ordered (λ _. value_rules_of base) [] (only 4 xs) (λ seen x. values (bytes_of x.content) (base + x.body) (base + x.at)),
+            each_ordered (λ _. value_rules_of base) [] (only VALUES xs) (λ seen x. values (bytes_of x.content) (base + x.body) (base + x.at)),
             (
               omega arith,
               (
-                each_ordered (feature_rules_of base (keys_in xs) (values_in xs)) [] (only 2 xs) (λ seen x. told_ordered (in_feature (length seen)) _ (features (bytes_of x.content) (base + x.body) (keys_in xs) (values_in xs))),
+                each_ordered (feature_rules_of base (keys_in xs) (values_in xs)) [] (only FEATURES xs) (λ seen x. told_ordered (in_feature (length seen)) _ (features (bytes_of x.content) (base + x.body) (keys_in xs) (values_in xs))),
                 tt,
               ),
             ),
@@ -320,7 +321,7 @@ layer_rows values features base own xs true = (
 
 item_rows : RestOrdered → ValuesOrdered → FeaturesOrdered → (payload : List ℕ) (base own : ℕ) → AreRowsFrom 0 (item_table payload base own)
 item_rows rest_ordered values features payload base own =
-    (omega arith, (rest_ordered base (split payload), (omega arith, (each_ordered (λ _. version_rules base) [] (split payload).fields (λ seen x. version_ordered base x), (omega arith, (when_ordered (is_none (last_only 15 (split payload).fields)) (fault_at own NoVersion), layer_rows values features base own (split payload).fields (is_two (version_in (split payload).fields))))))))
+    (omega arith, (rest_ordered base (split payload), (omega arith, (each_ordered (λ _. version_rules base) [] (split payload).fields (λ seen x. version_ordered base x), (omega arith, (when_ordered (is_none (last_only VERSION (split payload).fields)) (fault_at own NoVersion), layer_rows values features base own (split payload).fields (is_two (version_in (split payload).fields))))))))
 
 pub item_ordered : RestOrdered → ValuesOrdered → FeaturesOrdered → (payload : List ℕ) (base own : ℕ) → AreOrdered (item_rules payload base own)
 unfolding item_rules

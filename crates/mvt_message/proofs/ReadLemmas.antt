@@ -28,6 +28,7 @@ use Rattle.mvt_feature.specs.Selection.{only, last_only}
 use Rattle.mvt_feature.specs.Values.{IsValueOf}
 use Rattle.mvt_feature.specs.ValueRules.{value_fault}
 use Rattle.mvt_feature.specs.Walks.{Walk}
+use Rattle.mvt_message.specs.declared.numbers.layer.TheConstants.{NAME, FEATURES, KEYS, VALUES, EXTENT, VERSION}
 use Rattle.mvt_message.specs.declared.item.Layer.{Layer as ALayer}
 use Rattle.mvt_message.specs.declared.item.Item.TheVariants.{Layer, Foreign}
 use Rattle.mvt_message.specs.LayerFields.{bytes_of, version_in, is_two, name_in, extent_in, keys_in, values_in}
@@ -69,23 +70,23 @@ version_first : (base : ℕ) (x : Entry) → first (version_rules base x) ≡ op
 unfolding version_rules
 version_first base x = placed_first version_form_rules base x
 
-pub version_skip : (base : ℕ) (done : List Entry) (v : Option ℕ) (x : Entry) → IsVersionSoFar base done (Ok v) → x.number ≢ 15 → IsVersionSoFar base (done ++ x ∷ []) (Ok v)
+pub version_skip : (base : ℕ) (done : List Entry) (v : Option ℕ) (x : Entry) → IsVersionSoFar base done (Ok v) → x.number ≢ VERSION → IsVersionSoFar base (done ++ x ∷ []) (Ok v)
 version_skip base done v x so_far other =
-    let test = ne_eqb x.number 15 other in (
+    let test = ne_eqb x.number VERSION other in (
       each_more (λ _. version_rules base) done x so_far.0 ∙ version_first base x ∙ ap (λ (b : Bool). option_map (fault_at (base + x.at)) (first (if b then uint32_rules x.content else []))) test,
-      so_far.1 ∙ sym (number_more 15 done x ∙ ap (λ (b : Bool). if b then number_of x.content else version_in done) test),
+      so_far.1 ∙ sym (number_more VERSION done x ∙ ap (λ (b : Bool). if b then number_of x.content else version_in done) test),
     )
 
-pub version_take : (base : ℕ) (done : List Entry) (v : Option ℕ) (x : Entry) (n : ℕ) → IsVersionSoFar base done (Ok v) → x.number ≡ 15 → number_of x.content ≡ Some n → first (uint32_rules x.content) ≡ None → IsVersionSoFar base (done ++ x ∷ []) (Ok (Some n))
+pub version_take : (base : ℕ) (done : List Entry) (v : Option ℕ) (x : Entry) (n : ℕ) → IsVersionSoFar base done (Ok v) → x.number ≡ VERSION → number_of x.content ≡ Some n → first (uint32_rules x.content) ≡ None → IsVersionSoFar base (done ++ x ∷ []) (Ok (Some n))
 version_take base done v x n so_far is number clean =
-    let test = eq-eqb x.number 15 is in (
+    let test = eq-eqb x.number VERSION is in (
       each_more (λ _. version_rules base) done x so_far.0 ∙ version_first base x ∙ ap (λ (b : Bool). option_map (fault_at (base + x.at)) (first (if b then uint32_rules x.content else []))) test ∙ ap (option_map (fault_at (base + x.at))) clean,
-      sym (number_more 15 done x ∙ ap (λ (b : Bool). if b then number_of x.content else version_in done) test ∙ number),
+      sym (number_more VERSION done x ∙ ap (λ (b : Bool). if b then number_of x.content else version_in done) test ∙ number),
     )
 
-pub version_stops : (base : ℕ) (done : List Entry) (v : Option ℕ) (x : Entry) (e : MessageError) → IsVersionSoFar base done (Ok v) → x.number ≡ 15 → TellsMessage e (option_map (fault_at (base + x.at)) (first (uint32_rules x.content))) → (more : List Entry) → TellsMessage e (versions_fault base ((done ++ x ∷ []) ++ more))
+pub version_stops : (base : ℕ) (done : List Entry) (v : Option ℕ) (x : Entry) (e : MessageError) → IsVersionSoFar base done (Ok v) → x.number ≡ VERSION → TellsMessage e (option_map (fault_at (base + x.at)) (first (uint32_rules x.content))) → (more : List Entry) → TellsMessage e (versions_fault base ((done ++ x ∷ []) ++ more))
 version_stops base done v x e so_far is told_here more =
-    let test = eq-eqb x.number 15 is in
+    let test = eq-eqb x.number VERSION is in
     tells_as e (option_map (fault_at (base + x.at)) (first (uint32_rules x.content))) _ (λ f broken. rw append_assoc (each_stops (λ _. version_rules base) done x more f so_far.0 (version_first base x ∙ ap (λ (b : Bool). option_map (fault_at (base + x.at)) (first (if b then uint32_rules x.content else []))) test ∙ broken))) told_here
 
 -- a fault stays
@@ -106,7 +107,7 @@ pub or_told : (fault : List Entry → Option MessageFault) (done : List Entry) (
 or_told fault done e stays = subst (λ xs. TellsMessage e (fault xs)) (append-nil done) (stays [])
 
 -- the version so far with a field of another number, or behind a fault
-pub version_passes : (base : ℕ) (done : List Entry) (v : Result (Option ℕ) MessageError) (x : Entry) → IsVersionSoFar base done v → x.number ≢ 15 → IsVersionSoFar base (done ++ x ∷ []) v
+pub version_passes : (base : ℕ) (done : List Entry) (v : Result (Option ℕ) MessageError) (x : Entry) → IsVersionSoFar base done v → x.number ≢ VERSION → IsVersionSoFar base (done ++ x ∷ []) v
 version_passes base done (Ok v) x so_far other = version_skip base done v x so_far other
 version_passes base done (Err e) x stays other = fault_stays (versions_fault base) done x e stays
 
@@ -124,22 +125,22 @@ unfolding layer_field_rules
 form_first base x = placed_first layer_form_rules base x
 
 name_more : (done : List Entry) (x : Entry) → name_in (done ++ x ∷ []) ≡ name_after (name_in done) x.number x.content
-name_more done x = ap (option_map (λ (y : Entry). bytes_of y.content)) (last_only-more (λ (y : Entry). y.number) 1 done x) ∙ by_test (x.number == 1)
+name_more done x = ap (option_map (λ (y : Entry). bytes_of y.content)) (last_only-more (λ (y : Entry). y.number) NAME done x) ∙ by_test (x.number == NAME)
   where
-    by_test : (b : Bool) → option_map (λ (y : Entry). bytes_of y.content) (if b then Some x else last_only 1 done) ≡ (if b then Some (bytes_of x.content) else name_in done)
+    by_test : (b : Bool) → option_map (λ (y : Entry). bytes_of y.content) (if b then Some x else last_only NAME done) ≡ (if b then Some (bytes_of x.content) else name_in done)
     by_test true = refl
     by_test false = refl
 
 extent_more : (done : List Entry) (x : Entry) → extent_in (done ++ x ∷ []) ≡ extent_after (extent_in done) x.number x.content
-extent_more done x = ap (λ o. unwrap_or o 4096) (number_more 5 done x) ∙ by_test (x.number == 5)
+extent_more done x = ap (λ o. unwrap_or o 4096) (number_more EXTENT done x) ∙ by_test (x.number == EXTENT)
   where
-    by_test : (b : Bool) → unwrap_or (if b then number_of x.content else number_in (last_only 5 done)) 4096 ≡ (if b then unwrap_or (number_of x.content) 4096 else extent_in done)
+    by_test : (b : Bool) → unwrap_or (if b then number_of x.content else number_in (last_only EXTENT done)) 4096 ≡ (if b then unwrap_or (number_of x.content) 4096 else extent_in done)
     by_test true = refl
     by_test false = refl
 
 keys_more : (done : List Entry) (x : Entry) → keys_in (done ++ x ∷ []) ≡ keys_in done ++ keys_at x.number x.content
 keys_more done x =
-    ap (map (λ (y : Entry). bytes_of y.content)) (filter-append (λ (y : Entry). y.number == 3) done (x ∷ [])) ∙ map-append (λ (y : Entry). bytes_of y.content) (only 3 done) (only 3 (x ∷ [])) ∙ ap (λ l. keys_in done ++ l) (by_test (x.number == 3))
+    ap (map (λ (y : Entry). bytes_of y.content)) (filter-append (λ (y : Entry). y.number == KEYS) done (x ∷ [])) ∙ map-append (λ (y : Entry). bytes_of y.content) (only KEYS done) (only KEYS (x ∷ [])) ∙ ap (λ l. keys_in done ++ l) (by_test (x.number == KEYS))
   where
     by_test : (b : Bool) → map (λ (y : Entry). bytes_of y.content) (if b then x ∷ [] else []) ≡ (if b then bytes_of x.content ∷ [] else [])
     by_test true = refl
@@ -158,35 +159,35 @@ head_stops base done x e clean told_here more =
     tells_as e (option_map (fault_at (base + x.at)) (first (layer_form_rules x.number x.content))) _ (λ f broken. rw append_assoc (each_stops (λ _. layer_field_rules base) done x more f clean (form_first base x ∙ broken))) told_here
 
 -- values
-pub values_skip : (base : ℕ) (done : List Entry) (values : List Value) (x : Entry) → AreValuesSoFar base done values → x.number ≢ 4 → AreValuesSoFar base (done ++ x ∷ []) values
+pub values_skip : (base : ℕ) (done : List Entry) (values : List Value) (x : Entry) → AreValuesSoFar base done values → x.number ≢ VALUES → AreValuesSoFar base (done ++ x ∷ []) values
 values_skip base done values x so_far other =
-    subst (λ xs. (first (each (λ _. value_rules_of base) [] xs) ≡ None) × AreRelated HoldsValue xs values) (sym (only_skip 4 done x other)) so_far
+    subst (λ xs. (first (each (λ _. value_rules_of base) [] xs) ≡ None) × AreRelated HoldsValue xs values) (sym (only_skip VALUES done x other)) so_far
 
-pub values_take : (base : ℕ) (done : List Entry) (values new : List Value) (x : Entry) (value : Value) → AreValuesSoFar base done values → x.number ≡ 4 → IsValueOf (bytes_of x.content) value → value_fault (bytes_of x.content) (base + x.body) (base + x.at) ≡ None → new ≡ values ++ value ∷ [] → AreValuesSoFar base (done ++ x ∷ []) new
+pub values_take : (base : ℕ) (done : List Entry) (values new : List Value) (x : Entry) (value : Value) → AreValuesSoFar base done values → x.number ≡ VALUES → IsValueOf (bytes_of x.content) value → value_fault (bytes_of x.content) (base + x.body) (base + x.at) ≡ None → new ≡ values ++ value ∷ [] → AreValuesSoFar base (done ++ x ∷ []) new
 values_take base done values new x value so_far is holds clean new_is =
-    subst (λ xs. (first (each (λ _. value_rules_of base) [] xs) ≡ None) × AreRelated HoldsValue xs new) (sym (only_take 4 done x is)) (each_more (λ _. value_rules_of base) (only 4 done) x so_far.0 ∙ sym (value_first _ _ _) ∙ clean, rw new_is (related-append HoldsValue (only 4 done) values (x ∷ []) (value ∷ []) so_far.1 (holds, tt)))
+    subst (λ xs. (first (each (λ _. value_rules_of base) [] xs) ≡ None) × AreRelated HoldsValue xs new) (sym (only_take VALUES done x is)) (each_more (λ _. value_rules_of base) (only VALUES done) x so_far.0 ∙ sym (value_first _ _ _) ∙ clean, rw new_is (related-append HoldsValue (only VALUES done) values (x ∷ []) (value ∷ []) so_far.1 (holds, tt)))
 
-pub values_stop : (base : ℕ) (done : List Entry) (values : List Value) (x : Entry) (more : List Entry) (e : MessageError) → AreValuesSoFar base done values → x.number ≡ 4 → TellsMessage e (value_fault (bytes_of x.content) (base + x.body) (base + x.at)) → TellsMessage e (values_fault base ((done ++ x ∷ []) ++ more))
+pub values_stop : (base : ℕ) (done : List Entry) (values : List Value) (x : Entry) (more : List Entry) (e : MessageError) → AreValuesSoFar base done values → x.number ≡ VALUES → TellsMessage e (value_fault (bytes_of x.content) (base + x.body) (base + x.at)) → TellsMessage e (values_fault base ((done ++ x ∷ []) ++ more))
 values_stop base done values x more e so_far is told_here =
-    selected_stops 4 (λ _. value_rules_of base) e done x more is so_far.0 (subst (TellsMessage e) (value_first (bytes_of x.content) (base + x.body) (base + x.at)) told_here)
+    selected_stops VALUES (λ _. value_rules_of base) e done x more is so_far.0 (subst (TellsMessage e) (value_first (bytes_of x.content) (base + x.body) (base + x.at)) told_here)
 
 -- features
 feature_told : (base : ℕ) (keys : List (List ℕ)) (values : List Value) (earlier : List Entry) (x : Entry) → first (feature_rules_of base keys values earlier x) ≡ option_map (in_feature (length earlier)) (feature_fault (bytes_of x.content) (base + x.body) keys values)
 feature_told base keys values earlier x =
     first-told (in_feature (length earlier)) (feature_rules (bytes_of x.content) (base + x.body) keys values) ∙ ap (option_map (in_feature (length earlier))) (sym (feature_first (bytes_of x.content) (base + x.body) keys values))
 
-pub features_skip : (base : ℕ) (keys : List (List ℕ)) (values : List Value) (done : List Entry) (features : List Feature) (x : Entry) → AreFeaturesSoFar base keys values done features → x.number ≢ 2 → AreFeaturesSoFar base keys values (done ++ x ∷ []) features
+pub features_skip : (base : ℕ) (keys : List (List ℕ)) (values : List Value) (done : List Entry) (features : List Feature) (x : Entry) → AreFeaturesSoFar base keys values done features → x.number ≢ FEATURES → AreFeaturesSoFar base keys values (done ++ x ∷ []) features
 features_skip base keys values done features x so_far other =
-    subst (λ xs. (first (each (feature_rules_of base keys values) [] xs) ≡ None) × AreRelated (HoldsFeature keys values) xs features) (sym (only_skip 2 done x other)) so_far
+    subst (λ xs. (first (each (feature_rules_of base keys values) [] xs) ≡ None) × AreRelated (HoldsFeature keys values) xs features) (sym (only_skip FEATURES done x other)) so_far
 
-pub features_take : (base : ℕ) (keys : List (List ℕ)) (values : List Value) (done : List Entry) (features new : List Feature) (x : Entry) (feature : Feature) → AreFeaturesSoFar base keys values done features → x.number ≡ 2 → IsFeatureOf (bytes_of x.content) keys values feature → feature_fault (bytes_of x.content) (base + x.body) keys values ≡ None → new ≡ features ++ feature ∷ [] → AreFeaturesSoFar base keys values (done ++ x ∷ []) new
+pub features_take : (base : ℕ) (keys : List (List ℕ)) (values : List Value) (done : List Entry) (features new : List Feature) (x : Entry) (feature : Feature) → AreFeaturesSoFar base keys values done features → x.number ≡ FEATURES → IsFeatureOf (bytes_of x.content) keys values feature → feature_fault (bytes_of x.content) (base + x.body) keys values ≡ None → new ≡ features ++ feature ∷ [] → AreFeaturesSoFar base keys values (done ++ x ∷ []) new
 features_take base keys values done features new x feature so_far is holds clean new_is =
-    subst (λ xs. (first (each (feature_rules_of base keys values) [] xs) ≡ None) × AreRelated (HoldsFeature keys values) xs new) (sym (only_take 2 done x is)) (each_more (feature_rules_of base keys values) (only 2 done) x so_far.0 ∙ feature_told base keys values (only 2 done) x ∙ ap (option_map (in_feature (length (only 2 done)))) clean, rw new_is (related-append (HoldsFeature keys values) (only 2 done) features (x ∷ []) (feature ∷ []) so_far.1 (holds, tt)))
+    subst (λ xs. (first (each (feature_rules_of base keys values) [] xs) ≡ None) × AreRelated (HoldsFeature keys values) xs new) (sym (only_take FEATURES done x is)) (each_more (feature_rules_of base keys values) (only FEATURES done) x so_far.0 ∙ feature_told base keys values (only FEATURES done) x ∙ ap (option_map (in_feature (length (only FEATURES done)))) clean, rw new_is (related-append (HoldsFeature keys values) (only FEATURES done) features (x ∷ []) (feature ∷ []) so_far.1 (holds, tt)))
 
-pub features_stop : (base : ℕ) (keys : List (List ℕ)) (values : List Value) (done : List Entry) (features : List Feature) (x : Entry) (more : List Entry) (index : ℕ) (e : MessageError) → AreFeaturesSoFar base keys values done features → x.number ≡ 2 → index ≡ length features → TellsMessage e (option_map (in_feature index) (feature_fault (bytes_of x.content) (base + x.body) keys values)) → TellsMessage e (features_fault base keys values ((done ++ x ∷ []) ++ more))
+pub features_stop : (base : ℕ) (keys : List (List ℕ)) (values : List Value) (done : List Entry) (features : List Feature) (x : Entry) (more : List Entry) (index : ℕ) (e : MessageError) → AreFeaturesSoFar base keys values done features → x.number ≡ FEATURES → index ≡ length features → TellsMessage e (option_map (in_feature index) (feature_fault (bytes_of x.content) (base + x.body) keys values)) → TellsMessage e (features_fault base keys values ((done ++ x ∷ []) ++ more))
 features_stop base keys values done features x more index e so_far is index_is told_here =
-    let count : index ≡ length (only 2 done) = index_is ∙ sym (length-related (HoldsFeature keys values) (only 2 done) features so_far.1) in
-    selected_stops 2 (feature_rules_of base keys values) e done x more is so_far.0 (subst (TellsMessage e) (ap (λ n. option_map (in_feature n) (feature_fault (bytes_of x.content) (base + x.body) keys values)) count ∙ sym (feature_told base keys values (only 2 done) x)) told_here)
+    let count : index ≡ length (only FEATURES done) = index_is ∙ sym (length-related (HoldsFeature keys values) (only FEATURES done) features so_far.1) in
+    selected_stops FEATURES (feature_rules_of base keys values) e done x more is so_far.0 (subst (TellsMessage e) (ap (λ n. option_map (in_feature n) (feature_fault (bytes_of x.content) (base + x.body) keys values)) count ∙ sym (feature_told base keys values (only FEATURES done) x)) told_here)
 
 only_few : (k : ℕ) (xs : List Entry) → length (only k xs) ≤ length xs
 only_few k [] = omega arith
@@ -221,7 +222,7 @@ walk_whole payload old new done fault walk step whole = step.1 (walk.rest ∙ wh
 -- the exits of `read_version`
 pub head_some : RestNone → (payload : List ℕ) (base own n : ℕ) → (split payload).rest ≡ [] → versions_fault base (split payload).fields ≡ None → Some n ≡ version_in (split payload).fields → head_fault payload base own ≡ None
 head_some rest_none payload base own n rest clean version =
-    option_or-none _ _ (rest_none base (split payload) rest) ∙ option_or-none _ _ clean ∙ first-when_not _ _ (by_option (last_only 15 (split payload).fields) version)
+    option_or-none _ _ (rest_none base (split payload) rest) ∙ option_or-none _ _ clean ∙ first-when_not _ _ (by_option (last_only VERSION (split payload).fields) version)
   where
     by_option : (o : Option Entry) → Some n ≡ number_in o → is_none o ≡ false
     by_option None h = cc
@@ -229,9 +230,9 @@ head_some rest_none payload base own n rest clean version =
 
 pub head_none : RestNone → (payload : List ℕ) (base own : ℕ) → (split payload).rest ≡ [] → versions_fault base (split payload).fields ≡ None → None ≡ version_in (split payload).fields → head_fault payload base own ≡ Some (fault_at own NoVersion)
 head_none rest_none payload base own rest clean version =
-    option_or-none _ _ (rest_none base (split payload) rest) ∙ option_or-none _ _ clean ∙ first-when _ _ (by_test (is_none (last_only 15 (split payload).fields)) refl)
+    option_or-none _ _ (rest_none base (split payload) rest) ∙ option_or-none _ _ clean ∙ first-when _ _ (by_test (is_none (last_only VERSION (split payload).fields)) refl)
   where
-    by_test : (b : Bool) → is_none (last_only 15 (split payload).fields) ≡ b → b ≡ true
+    by_test : (b : Bool) → is_none (last_only VERSION (split payload).fields) ≡ b → b ≡ true
     by_test true e = refl
     by_test false e =
         let there = version_there (split payload).fields (versions_form base (split payload).fields clean) e in
@@ -247,7 +248,7 @@ pub forms_told : (base own : ℕ) (xs : List Entry) (e : MessageError) → Tells
 forms_told base own xs e h = subst (TellsMessage e) (sym (layer_chain base own xs)) (tells_or e (forms_fault base xs) _ h)
 
 name_some : (own : ℕ) (xs : List Entry) (name : List ℕ) → Some name ≡ name_in xs → no_name_fault own xs ≡ None
-name_some own xs name is = first-when_not _ _ (by_option (last_only 1 xs) is)
+name_some own xs name is = first-when_not _ _ (by_option (last_only NAME xs) is)
   where
     by_option : (o : Option Entry) → Some name ≡ option_map (λ (x : Entry). bytes_of x.content) o → is_none o ≡ false
     by_option None h = cc
@@ -255,7 +256,7 @@ name_some own xs name is = first-when_not _ _ (by_option (last_only 1 xs) is)
 
 pub name_told : (base own : ℕ) (xs : List Entry) → forms_fault base xs ≡ None → None ≡ name_in xs → layer_fault base own xs ≡ Some (fault_at own NoName)
 name_told base own xs forms is =
-    layer_chain base own xs ∙ option_or-none _ _ forms ∙ option_or-some _ _ _ (first-when _ _ (by_option (last_only 1 xs) is))
+    layer_chain base own xs ∙ option_or-none _ _ forms ∙ option_or-some _ _ _ (first-when _ _ (by_option (last_only NAME xs) is))
   where
     by_option : (o : Option Entry) → None ≡ option_map (λ (x : Entry). bytes_of x.content) o → is_none o ≡ true
     by_option None h = refl
@@ -265,20 +266,20 @@ pub values_told : (base own : ℕ) (xs : List Entry) (name : List ℕ) (e : Mess
 values_told base own xs name e forms is h =
     subst (TellsMessage e) (sym (layer_chain base own xs)) (or_tells e (forms_fault base xs) _ forms (or_tells e (no_name_fault own xs) _ (name_some own xs name is) (tells_or e (values_fault base xs) _ h)))
 
-pub features_told : ValueIs → (base own : ℕ) (xs : List Entry) (name : List ℕ) (keys : List (List ℕ)) (values : List Value) (e : MessageError) → forms_fault base xs ≡ None → Some name ≡ name_in xs → values_fault base xs ≡ None → keys ≡ keys_in xs → AreRelated HoldsValue (only 4 xs) values → TellsMessage e (features_fault base keys values xs) → TellsMessage e (layer_fault base own xs)
+pub features_told : ValueIs → (base own : ℕ) (xs : List Entry) (name : List ℕ) (keys : List (List ℕ)) (values : List Value) (e : MessageError) → forms_fault base xs ≡ None → Some name ≡ name_in xs → values_fault base xs ≡ None → keys ≡ keys_in xs → AreRelated HoldsValue (only VALUES xs) values → TellsMessage e (features_fault base keys values xs) → TellsMessage e (layer_fault base own xs)
 features_told value_is base own xs name keys values e forms is clean keys_are values_are h =
-    let same : values_in xs ≡ values = values_said value_is (only 4 xs) values values_are in
+    let same : values_in xs ≡ values = values_said value_is (only VALUES xs) values values_are in
     let here : TellsMessage e (features_fault base (keys_in xs) (values_in xs) xs) = subst (TellsMessage e) (ap₂ (λ ks vs. features_fault base ks vs xs) keys_are (sym same)) h in
     subst (TellsMessage e) (sym (layer_chain base own xs)) (or_tells e (forms_fault base xs) _ forms (or_tells e (no_name_fault own xs) _ (name_some own xs name is) (or_tells e (values_fault base xs) _ clean (tells_or e (features_fault base (keys_in xs) (values_in xs) xs) _ here))))
 
-pub layer_ok : ValueIs → (base own : ℕ) (xs : List Entry) (name : List ℕ) (keys : List (List ℕ)) (values : List Value) → forms_fault base xs ≡ None → Some name ≡ name_in xs → values_fault base xs ≡ None → keys ≡ keys_in xs → AreRelated HoldsValue (only 4 xs) values → features_fault base keys values xs ≡ None → layer_fault base own xs ≡ None
+pub layer_ok : ValueIs → (base own : ℕ) (xs : List Entry) (name : List ℕ) (keys : List (List ℕ)) (values : List Value) → forms_fault base xs ≡ None → Some name ≡ name_in xs → values_fault base xs ≡ None → keys ≡ keys_in xs → AreRelated HoldsValue (only VALUES xs) values → features_fault base keys values xs ≡ None → layer_fault base own xs ≡ None
 layer_ok value_is base own xs name keys values forms is clean keys_are values_are h =
-    let same : values_in xs ≡ values = values_said value_is (only 4 xs) values values_are in
+    let same : values_in xs ≡ values = values_said value_is (only VALUES xs) values values_are in
     layer_clean base own xs forms (name_some own xs name is) clean (sym (ap₂ (λ ks vs. features_fault base ks vs xs) keys_are (sym same)) ∙ h)
 
-pub layer_read : (base own : ℕ) (xs : List Entry) (layer : ALayer) (name : List ℕ) (extent : ℕ) (keys : List (List ℕ)) (values : List Value) → forms_fault base xs ≡ None → Some name ≡ name_in xs → layer.name ≡ name → extent ≡ extent_in xs → layer.extent ≡ extent → keys ≡ keys_in xs → AreRelated HoldsValue (only 4 xs) values → AreRelated (HoldsFeature keys values) (only 2 xs) layer.features → IsLayer xs layer
+pub layer_read : (base own : ℕ) (xs : List Entry) (layer : ALayer) (name : List ℕ) (extent : ℕ) (keys : List (List ℕ)) (values : List Value) → forms_fault base xs ≡ None → Some name ≡ name_in xs → layer.name ≡ name → extent ≡ extent_in xs → layer.extent ≡ extent → keys ≡ keys_in xs → AreRelated HoldsValue (only VALUES xs) values → AreRelated (HoldsFeature keys values) (only FEATURES xs) layer.features → IsLayer xs layer
 layer_read base own xs layer name extent keys values forms is name_is extent_is extent_same keys_are values_are features =
-    layer_from base own xs layer values forms (sym is ∙ ap Some (sym name_is)) (extent_same ∙ extent_is) values_are (subst (λ ks. AreRelated (HoldsFeature ks values) (only 2 xs) layer.features) keys_are features)
+    layer_from base own xs layer values forms (sym is ∙ ap Some (sym name_is)) (extent_same ∙ extent_is) values_are (subst (λ ks. AreRelated (HoldsFeature ks values) (only FEATURES xs) layer.features) keys_are features)
 
 -- the exits of `read_item`
 pub head_told : (payload : List ℕ) (base own : ℕ) (e : MessageError) → TellsMessage e (head_fault payload base own) → TellsMessage e (item_fault payload base own)

@@ -20,6 +20,7 @@ use Rattle.mvt_feature.specs.Ranges.{AreBytes, IsInRange}
 use Rattle.mvt_feature.specs.Selection.{only, last_only, HaveForm}
 use Rattle.mvt_feature.specs.Valid.{ValidValue, ValidFeature}
 use Rattle.mvt_feature.specs.Values.{IsText, IsValueOf}
+use Rattle.mvt_message.specs.declared.numbers.layer.TheConstants.{NAME, FEATURES, VALUES, EXTENT, VERSION}
 use Rattle.mvt_message.specs.declared.item.Item.{Item as AnItem}
 use Rattle.mvt_message.specs.declared.item.Layer.{Layer as ALayer}
 use Rattle.mvt_message.specs.declared.item.Item.TheVariants.{Layer, Foreign}
@@ -72,15 +73,15 @@ texts_utf8 k xs forms =
     of_all [] h g = tt
     of_all (y ∷ ys) h g = (text_utf8 y.content (h.0 g.0), of_all ys h.1 g.1)
 
-name_utf8 : (xs : List Entry) (name : List ℕ) → HaveForm 1 IsText xs → name_in xs ≡ Some name → IsUtf8 name
-name_utf8 xs name forms is = of_option (last_only 1 xs) refl is
+name_utf8 : (xs : List Entry) (name : List ℕ) → HaveForm NAME IsText xs → name_in xs ≡ Some name → IsUtf8 name
+name_utf8 xs name forms is = of_option (last_only NAME xs) refl is
   where
-    of_option : (o : Option Entry) → last_only 1 xs ≡ o → option_map (λ (x : Entry). bytes_of x.content) o ≡ Some name → IsUtf8 name
+    of_option : (o : Option Entry) → last_only NAME xs ≡ o → option_map (λ (x : Entry). bytes_of x.content) o ≡ Some name → IsUtf8 name
     of_option None e h = cc
     of_option (Some x) e h = let same : bytes_of x.content ≡ name = cc in subst IsUtf8 same (text_utf8 x.content (last_selected (λ (x : Entry). x.number) (λ (y : Entry). IsText y.content) 1 xs x forms e))
 
-extent_small : (xs : List Entry) → HaveForm 5 IsUint32 xs → extent_in xs < 2 ^ 32
-extent_small xs forms = of_option (last_only 5 xs) refl
+extent_small : (xs : List Entry) → HaveForm EXTENT IsUint32 xs → extent_in xs < 2 ^ 32
+extent_small xs forms = of_option (last_only EXTENT xs) refl
   where
     of_content : (c : Content) → IsUint32 c → unwrap_or (number_of c) 4096 < 2 ^ 32
     of_content (varint n) h = h
@@ -88,7 +89,7 @@ extent_small xs forms = of_option (last_only 5 xs) refl
     of_content (fixed64 n) h = absurd h
     of_content (fixed32 n) h = absurd h
 
-    of_option : (o : Option Entry) → last_only 5 xs ≡ o → unwrap_or (number_in o) 4096 < 2 ^ 32
+    of_option : (o : Option Entry) → last_only EXTENT xs ≡ o → unwrap_or (number_in o) 4096 < 2 ^ 32
     of_option None e = omega arith
     of_option (Some x) e = of_content x.content (last_selected (λ (x : Entry). x.number) (λ (y : Entry). IsUint32 y.content) 5 xs x forms e)
 
@@ -103,10 +104,10 @@ layer_valid : ValuesValid → FeaturesValid → (xs : List Entry) (layer : ALaye
 unfolding ValidLayer
 layer_valid values_valid features_valid xs layer range is =
     let keys = texts_utf8 3 xs is.texts in
-    let values = related_right (λ (x : Entry). IsInRange x.content) HoldsValue ValidValue (λ x v here holds. values_valid (bytes_of x.content) v (bytes_in_range x.content here) holds) (only 4 xs) is.values (only_all (λ (x : Entry). x.number) (λ (x : Entry). IsInRange x.content) 4 xs range) is.values_are in (
+    let values = related_right (λ (x : Entry). IsInRange x.content) HoldsValue ValidValue (λ x v here holds. values_valid (bytes_of x.content) v (bytes_in_range x.content here) holds) (only VALUES xs) is.values (only_all (λ (x : Entry). x.number) (λ (x : Entry). IsInRange x.content) 4 xs range) is.values_are in (
       name_utf8 xs layer.name is.names is.name,
       subst (λ n. n < 2 ^ 32) (sym is.extent) (extent_small xs is.extents),
-      related_right (λ (x : Entry). IsInRange x.content) (HoldsFeature (keys_in xs) is.values) ValidFeature (λ x f here holds. features_valid (bytes_of x.content) (keys_in xs) is.values f (bytes_in_range x.content here) keys values holds) (only 2 xs) layer.features (only_all (λ (x : Entry). x.number) (λ (x : Entry). IsInRange x.content) 2 xs range) is.features,
+      related_right (λ (x : Entry). IsInRange x.content) (HoldsFeature (keys_in xs) is.values) ValidFeature (λ x f here holds. features_valid (bytes_of x.content) (keys_in xs) is.values f (bytes_in_range x.content here) keys values holds) (only FEATURES xs) layer.features (only_all (λ (x : Entry). x.number) (λ (x : Entry). IsInRange x.content) 2 xs range) is.features,
     )
 
 pub item_valid : FieldsInRange → ValuesValid → FeaturesValid → (payload : List ℕ) (item : AnItem) → AreBytes payload → IsItem payload item → ValidItem item
@@ -127,7 +128,7 @@ pub version_of : RestNone → SplitOnly → (payload : List ℕ) (version : ℕ)
 version_of rest_none split_only payload version (xs, whole, forms, is, other) =
     let only = split_only payload [] xs whole in
     let here : version_in (split payload).fields ≡ Some version = ap version_in (sym only.0) ∙ is in
-    (head_keeps rest_none payload 0 0 version (sym only.1) (subst (HaveForm 15 IsUint32) only.0 forms) here, here, other)
+    (head_keeps rest_none payload 0 0 version (sym only.1) (subst (HaveForm VERSION IsUint32) only.0 forms) here, here, other)
 
 -- a fault of the head leaves no version
 pub no_version : RestNone → SplitOnly → (payload : List ℕ) (version : ℕ) (e : MessageError) → IsFault e → TellsMessage e (head_fault payload 0 0) → AreOfVersion version payload → ⊥

@@ -8,13 +8,14 @@ use Rattle.mvt_wire.specs.Spelling.{short_field, spelled}
 use Rattle.mvt_feature.specs.declared.feature.Feature.{Feature}
 use Rattle.mvt_feature.specs.Bounds.{feature_bound}
 use Rattle.mvt_feature.specs.Canonical.{value_fields}
+use Rattle.mvt_message.specs.declared.numbers.layer.TheConstants.{KEYS, VALUES}
 use Rattle.mvt_message.specs.declared.item.Item.{Item as AnItem}
 use Rattle.mvt_message.specs.declared.item.Layer.{Layer as ALayer}
 use Rattle.mvt_message.specs.declared.item.Item.TheVariants.{Layer, Foreign}
 
 -- the fields of its key and of its value
 abbrev pub attribute_bound : Attribute → ℕ
-attribute_bound a = length (short_field 3 (bytes a.key)) + length (short_field 4 (bytes (spelled (value_fields a.value))))
+attribute_bound a = length (short_field KEYS (bytes a.key)) + length (short_field VALUES (bytes (spelled (value_fields a.value))))
 
 -- a feature, with what stands before its payload (11), and its entries
 abbrev pub entries_bound : Feature → ℕ

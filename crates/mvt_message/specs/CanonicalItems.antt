@@ -10,6 +10,7 @@ use Rattle.mvt_wire.specs.Field.{varint, bytes}
 use Rattle.mvt_wire.specs.Spelling.{Plain, spelled}
 use Rattle.mvt_feature.specs.declared.feature.Feature.{Feature}
 use Rattle.mvt_feature.specs.Canonical.{plain, value_fields, feature_fields}
+use Rattle.mvt_message.specs.declared.numbers.layer.TheConstants.{NAME, FEATURES, KEYS, VALUES, EXTENT, VERSION}
 use Rattle.mvt_message.specs.declared.item.Item.{Item as AnItem}
 use Rattle.mvt_message.specs.declared.item.Layer.{Layer as ALayer}
 use Rattle.mvt_message.specs.declared.item.Item.TheVariants.{Layer, Foreign}
@@ -27,20 +28,20 @@ values_of features = value_pool [] (attributes_of features)
 
 -- the version and the name
 abbrev pub head_fields : List ℕ → List Plain
-head_fields name = plain 15 (varint 2) ∷ (plain 1 (bytes name) ∷ [])
+head_fields name = plain VERSION (varint 2) ∷ (plain NAME (bytes name) ∷ [])
 
 -- a feature of a layer with these keys and values
 abbrev pub feature_field : List (List ℕ) → List Value → Feature → Plain
-feature_field keys values f = plain 2 (bytes (spelled (feature_fields (tags_in keys values f.attributes) f)))
+feature_field keys values f = plain FEATURES (bytes (spelled (feature_fields (tags_in keys values f.attributes) f)))
 
 abbrev pub key_field : List ℕ → Plain
-key_field key = plain 3 (bytes key)
+key_field key = plain KEYS (bytes key)
 
 abbrev pub value_field : Value → Plain
-value_field value = plain 4 (bytes (spelled (value_fields value)))
+value_field value = plain VALUES (bytes (spelled (value_fields value)))
 
 abbrev pub extent_fields : ℕ → List Plain
-extent_fields extent = plain 5 (varint extent) ∷ []
+extent_fields extent = plain EXTENT (varint extent) ∷ []
 
 -- the fields of a layer with these keys and values
 abbrev pub fields_with : List (List ℕ) → List Value → ALayer → List Plain

@@ -20,6 +20,7 @@ use Rattle.mvt_feature.specs.Faults.{MessageFault, TellsMessage, fault_at, rest_
 use Rattle.mvt_feature.specs.Features.{number_of}
 use Rattle.mvt_feature.specs.Walks.{IsSoFar}
 use Rattle.mvt_feature.specs.Selection.{only, last_only}
+use Rattle.mvt_message.specs.declared.numbers.layer.TheConstants.{NAME, FEATURES, KEYS, VALUES, EXTENT, VERSION}
 use Rattle.mvt_message.specs.declared.front.Front.{Front}
 use Rattle.mvt_message.specs.declared.item.Layer.{Layer as ALayer}
 use Rattle.mvt_message.specs.ItemRules.{version_rules, layer_field_rules, value_rules_of, feature_rules_of, layer_table}
@@ -34,19 +35,19 @@ abbrev pub versions_fault : ℕ → List Entry → Option MessageFault
 versions_fault base fields = first (each (λ _. version_rules base) [] fields)
 
 abbrev pub no_version_fault : ℕ → List Entry → Option MessageFault
-no_version_fault own fields = first (when (is_none (last_only 15 fields)) (fault_at own NoVersion))
+no_version_fault own fields = first (when (is_none (last_only VERSION fields)) (fault_at own NoVersion))
 
 abbrev pub forms_fault : ℕ → List Entry → Option MessageFault
 forms_fault base fields = first (each (λ _. layer_field_rules base) [] fields)
 
 abbrev pub no_name_fault : ℕ → List Entry → Option MessageFault
-no_name_fault own fields = first (when (is_none (last_only 1 fields)) (fault_at own NoName))
+no_name_fault own fields = first (when (is_none (last_only NAME fields)) (fault_at own NoName))
 
 abbrev pub values_fault : ℕ → List Entry → Option MessageFault
-values_fault base fields = first (each (λ _. value_rules_of base) [] (only 4 fields))
+values_fault base fields = first (each (λ _. value_rules_of base) [] (only VALUES fields))
 
 abbrev pub features_fault : ℕ → List (List ℕ) → List Value → List Entry → Option MessageFault
-features_fault base keys values fields = first (each (feature_rules_of base keys values) [] (only 2 fields))
+features_fault base keys values fields = first (each (feature_rules_of base keys values) [] (only FEATURES fields))
 
 -- the fault up to the version, and that of a layer of version 2 behind it
 abbrev pub head_fault : List ℕ → ℕ → ℕ → Option MessageFault
@@ -62,13 +63,13 @@ IsVersionSoFar base done version = IsSoFar (version_rules base) (λ fields v. v 
 
 -- what one more field changes
 abbrev pub name_after : Option (List ℕ) → ℕ → Content → Option (List ℕ)
-name_after old number content = if number == 1 then Some (bytes_of content) else old
+name_after old number content = if number == NAME then Some (bytes_of content) else old
 
 abbrev pub extent_after : ℕ → ℕ → Content → ℕ
-extent_after old number content = if number == 5 then unwrap_or (number_of content) 4096 else old
+extent_after old number content = if number == EXTENT then unwrap_or (number_of content) 4096 else old
 
 abbrev pub keys_at : ℕ → Content → List (List ℕ)
-keys_at number content = if number == 3 then bytes_of content ∷ [] else []
+keys_at number content = if number == KEYS then bytes_of content ∷ [] else []
 
 -- what the fields so far say, or the first fault that they have, which stays whatever fields follow
 abbrev pub OrFault : (List Entry → Option MessageFault) → (List Entry → Type 0) → List Entry → Option MessageError → Type 0
@@ -87,11 +88,11 @@ IsHeadSoFar base done fault name extent keys = OrFault (forms_fault base) (IsHea
 
 -- the values, and the features, by the fields so far
 abbrev pub AreValuesSoFar : ℕ → List Entry → List Value → Type 0
-AreValuesSoFar base done values = (values_fault base done ≡ None) × AreRelated HoldsValue (only 4 done) values
+AreValuesSoFar base done values = (values_fault base done ≡ None) × AreRelated HoldsValue (only VALUES done) values
 
 abbrev pub AreFeaturesSoFar : ℕ → List (List ℕ) → List Value → List Entry → List Feature → Type 0
 AreFeaturesSoFar base keys values done features =
-    (features_fault base keys values done ≡ None) × AreRelated (HoldsFeature keys values) (only 2 done) features
+    (features_fault base keys values done ≡ None) × AreRelated (HoldsFeature keys values) (only FEATURES done) features
 
 -- things that are counted, and kept where that is wanted
 abbrev pub AreHeld : {A : Type 0} → Bool → List A → ℕ → List A → Type 0

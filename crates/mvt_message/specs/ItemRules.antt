@@ -12,6 +12,7 @@ use Rattle.mvt_feature.specs.Faults.{MessageFault, fault_at, in_feature, rest_ru
 use Rattle.mvt_feature.specs.FeatureRules.{feature_rules}
 use Rattle.mvt_feature.specs.Selection.{only, last_only}
 use Rattle.mvt_feature.specs.ValueRules.{text_rules, value_rules}
+use Rattle.mvt_message.specs.declared.numbers.layer.TheConstants.{NAME, FEATURES, KEYS, VALUES, EXTENT, VERSION}
 use Rattle.mvt_message.specs.LayerFields.{bytes_of, version_in, is_two, name_in, keys_in, values_in}
 
 -- a version or an extent: its form, and then its number
@@ -26,7 +27,7 @@ bytes_rules _ = when true WrongType
 
 -- a field of this number, as far as versions go
 abbrev pub version_form_rules : ℕ → Content → Rules Cause
-version_form_rules number content = if number == 15 then uint32_rules content else []
+version_form_rules number content = if number == VERSION then uint32_rules content else []
 
 unfoldable pub version_rules : ℕ → Entry → Rules MessageFault
 version_rules base x = told (fault_at (base + x.at)) (version_form_rules x.number x.content)
@@ -34,11 +35,11 @@ version_rules base x = told (fault_at (base + x.at)) (version_form_rules x.numbe
 -- a field of this number in a layer of version 2
 abbrev pub layer_form_rules : ℕ → Content → Rules Cause
 layer_form_rules number content =
-    if number == 1 then text_rules content
-    else if number == 2 then bytes_rules content
-    else if number == 3 then text_rules content
-    else if number == 4 then bytes_rules content
-    else if number == 5 then uint32_rules content
+    if number == NAME then text_rules content
+    else if number == FEATURES then bytes_rules content
+    else if number == KEYS then text_rules content
+    else if number == VALUES then bytes_rules content
+    else if number == EXTENT then uint32_rules content
     else []
 
 unfoldable pub layer_field_rules : ℕ → Entry → Rules MessageFault
@@ -57,9 +58,9 @@ feature_rules_of base keys values earlier x =
 abbrev pub layer_table : ℕ → ℕ → List Entry → List (ℕ × Rules MessageFault)
 layer_table base own fields =
     (6, each (λ _. layer_field_rules base) [] fields)
-    ∷ ((7, when (is_none (last_only 1 fields)) (fault_at own NoName))
-    ∷ ((8, each (λ _. value_rules_of base) [] (only 4 fields))
-    ∷ ((9, each (feature_rules_of base (keys_in fields) (values_in fields)) [] (only 2 fields)) ∷ [])))
+    ∷ ((7, when (is_none (last_only NAME fields)) (fault_at own NoName))
+    ∷ ((8, each (λ _. value_rules_of base) [] (only VALUES fields))
+    ∷ ((9, each (feature_rules_of base (keys_in fields) (values_in fields)) [] (only FEATURES fields)) ∷ [])))
 
 -- the rules of a payload whose first byte stands at base, and its field's tag at own: where its version
 -- isn't 2, they end with it
@@ -67,7 +68,7 @@ abbrev pub item_table : List ℕ → ℕ → ℕ → List (ℕ × Rules MessageF
 item_table payload base own =
     (2, rest_rules base (split payload))
     ∷ ((3, each (λ _. version_rules base) [] (split payload).fields)
-    ∷ ((4, when (is_none (last_only 15 (split payload).fields)) (fault_at own NoVersion))
+    ∷ ((4, when (is_none (last_only VERSION (split payload).fields)) (fault_at own NoVersion))
     ∷ (if is_two (version_in (split payload).fields) then layer_table base own (split payload).fields else [])))
 
 unfoldable pub item_rules : List ℕ → ℕ → ℕ → Rules MessageFault

@@ -9,6 +9,7 @@ use Rattle.mvt_feature.specs.declared.feature.Feature.{Feature}
 use Rattle.mvt_feature.specs.Features.{IsFeatureOf}
 use Rattle.mvt_feature.specs.Selection.{only, HaveForm}
 use Rattle.mvt_feature.specs.Values.{IsText, IsValueOf}
+use Rattle.mvt_message.specs.declared.numbers.layer.TheConstants.{NAME, FEATURES, KEYS, VALUES, EXTENT, VERSION}
 use Rattle.mvt_message.specs.declared.item.Item.{Item as AnItem}
 use Rattle.mvt_message.specs.declared.item.Layer.{Layer as ALayer}
 use Rattle.mvt_message.specs.declared.item.Item.TheVariants.{Layer, Foreign}
@@ -32,16 +33,16 @@ HoldsFeature keys values x feature = IsFeatureOf (bytes_of x.content) keys value
 
 -- fields that are this layer of version 2
 pub record IsLayer (fields : List Entry) (layer : ALayer) : Type 0 where
-  pub names : HaveForm 1 IsText fields
-  pub messages : HaveForm 2 IsBytes fields
-  pub texts : HaveForm 3 IsText fields
-  pub pool : HaveForm 4 IsBytes fields
-  pub extents : HaveForm 5 IsUint32 fields
+  pub names : HaveForm NAME IsText fields
+  pub messages : HaveForm FEATURES IsBytes fields
+  pub texts : HaveForm KEYS IsText fields
+  pub pool : HaveForm VALUES IsBytes fields
+  pub extents : HaveForm EXTENT IsUint32 fields
   pub name : name_in fields ≡ Some layer.name
   pub extent : layer.extent ≡ extent_in fields
   pub values : List Value
-  pub values_are : AreRelated HoldsValue (only 4 fields) values
-  pub features : AreRelated (HoldsFeature (keys_in fields) values) (only 2 fields) layer.features
+  pub values_are : AreRelated HoldsValue (only VALUES fields) values
+  pub features : AreRelated (HoldsFeature (keys_in fields) values) (only FEATURES fields) layer.features
 
 -- fields that are this item, of this payload
 abbrev pub AreItem : List Entry → List ℕ → AnItem → Type 0
@@ -51,7 +52,7 @@ AreItem fields payload (Foreign version content) = (version_in fields ≡ Some v
 -- the payload is this item
 unfoldable pub IsItem : List ℕ → AnItem → Type 0
 IsItem payload item =
-    (fields : List Entry) × Whole payload fields × HaveForm 15 IsUint32 fields × AreItem fields payload item
+    (fields : List Entry) × Whole payload fields × HaveForm VERSION IsUint32 fields × AreItem fields payload item
 
 -- the name of a layer of version 2, as a list of one
 abbrev pub names_in : AnItem → List (List ℕ)

@@ -7,6 +7,7 @@ use Rattle.mvt_wire.specs.Field.{Content, bytes, Entry}
 use Rattle.mvt_feature.specs.Features.{number_in}
 use Rattle.mvt_feature.specs.Selection.{only, last_only}
 use Rattle.mvt_feature.specs.ValueIn.{value_in}
+use Rattle.mvt_message.specs.declared.numbers.layer.TheConstants.{NAME, KEYS, VALUES, EXTENT, VERSION}
 
 -- the bytes of a field
 abbrev pub bytes_of : Content → List ℕ
@@ -15,7 +16,7 @@ bytes_of _ = []
 
 -- the version that counts
 abbrev pub version_in : List Entry → Option ℕ
-version_in fields = number_in (last_only 15 fields)
+version_in fields = number_in (last_only VERSION fields)
 
 -- a layer is read where that is 2
 abbrev pub is_two : Option ℕ → Bool
@@ -24,14 +25,14 @@ is_two (Some n) = n == 2
 
 -- the name that counts
 abbrev pub name_in : List Entry → Option (List ℕ)
-name_in fields = option_map (λ (x : Entry). bytes_of x.content) (last_only 1 fields)
+name_in fields = option_map (λ (x : Entry). bytes_of x.content) (last_only NAME fields)
 
 -- the extent that counts, or the default
 abbrev pub extent_in : List Entry → ℕ
-extent_in fields = unwrap_or (number_in (last_only 5 fields)) 4096
+extent_in fields = unwrap_or (number_in (last_only EXTENT fields)) 4096
 
 abbrev pub keys_in : List Entry → List (List ℕ)
-keys_in fields = map (λ (x : Entry). bytes_of x.content) (only 3 fields)
+keys_in fields = map (λ (x : Entry). bytes_of x.content) (only KEYS fields)
 
 abbrev pub values_in : List Entry → List Value
-values_in fields = flat_map (λ (x : Entry). option_to_list (value_in (bytes_of x.content))) (only 4 fields)
+values_in fields = flat_map (λ (x : Entry). option_to_list (value_in (bytes_of x.content))) (only VALUES fields)

@@ -9,9 +9,11 @@ ghost use Rattle.mvt_wire.specs.Fields.{bytes_size};
 ghost use Rattle.mvt_wire.specs.Split.{split};
 ghost use Rattle.mvt_feature.specs.Faults.{MessageFault, TellsMessage, in_feature as the_in_feature};
 ghost use Rattle.mvt_feature.specs.Selection.{only};
+ghost use Rattle.mvt_message.specs.declared.numbers.layer.TheConstants.{FEATURES};
 ghost use Rattle.mvt_message.specs.Items.{HoldsFeature};
 ghost use Rattle.mvt_message.specs.Inner.{features_fault, AreHeld, AreFeaturesHeld};
 
+use crate::numbers::layer;
 use crate::payload::bytes_of;
 use crate::pool::LayerValues;
 use mvt_attrs::LayerKeys;
@@ -47,7 +49,7 @@ pub(crate) fn read_features(
         → OnOk result (features_fault base keys.now held (split payload.now).fields ≡ None) }
     ensures features { (held : List Value) → AreHeld keeps held values.now.count values.now.kept.items
         → IfOk result (λ found. (features : List Feature)
-        × AreRelated (HoldsFeature keys.now held) (only 2 (split payload.now).fields) features
+        × AreRelated (HoldsFeature keys.now held) (only FEATURES (split payload.now).fields) features
         × OnTrue keeps (found.items ≡ features)) }
     ensures err { (held : List Value) → AreHeld keeps held values.now.count values.now.kept.items
         → IfErr result (λ error. TellsMessage error (features_fault base keys.now held (split payload.now).fields)) }
@@ -103,7 +105,7 @@ fn append_feature(
 {
     // What the proof needs to know of features; it does nothing.
     feature_or_fault();
-    if field.number != 2 {
+    if field.number != layer::FEATURES {
         return Ok(());
     }
     let index = features.count as u32;

@@ -8,6 +8,7 @@ ghost use Rattle.mvt_feature.specs.Faults.{TellsMessage, fault_at as the_fault_a
 ghost use Rattle.mvt_message.specs.ItemRules.{layer_form_rules};
 ghost use Rattle.mvt_message.specs.Inner.{name_after, extent_after, keys_at, IsHeadSoFar};
 
+use crate::numbers::layer;
 use crate::payload::{check_bytes, text_of, uint32_of};
 use mvt_base::Text;
 use mvt_feature::MessageError;
@@ -50,13 +51,13 @@ impl<'a> Head<'a> {
     {
         let payload = &field.payload;
         match field.number {
-            1 => self.name = Some(text_of(payload, at)?),
-            2 => check_bytes(payload, at)?,
-            3 => self
+            layer::NAME => self.name = Some(text_of(payload, at)?),
+            layer::FEATURES => check_bytes(payload, at)?,
+            layer::KEYS => self
                 .keys
                 .push(Text::from_str(alloc, text_of(payload, at)?)?)?,
-            4 => check_bytes(payload, at)?,
-            5 => self.extent = uint32_of(payload, at)?,
+            layer::VALUES => check_bytes(payload, at)?,
+            layer::EXTENT => self.extent = uint32_of(payload, at)?,
             _ => {}
         }
         Ok(())

@@ -10,6 +10,7 @@ mod head;
 mod item;
 pub mod laws;
 mod layer_len;
+pub mod numbers;
 mod payload;
 mod pool;
 mod put;

@@ -9,6 +9,7 @@ ghost use Rattle.mvt_feature.specs.Selection.{only};
 ghost use Rattle.mvt_message.specs.Items.{HoldsValue};
 ghost use Rattle.mvt_message.specs.Inner.{values_fault, AreValuesHeld, AreValuesSaid};
 
+use crate::numbers::layer;
 use crate::payload::bytes_of;
 use mvt_attrs::Value;
 use mvt_feature::laws::{value_or_fault, walks};
@@ -81,7 +82,7 @@ fn append_value(
 {
     // What the proof needs to know of values; it does nothing.
     value_or_fault();
-    if field.number != 4 {
+    if field.number != layer::VALUES {
         return Ok(());
     }
     values.count += 1;

@@ -6,6 +6,7 @@ ghost use Rattle.mvt_feature.specs.Faults.{TellsMessage};
 ghost use Rattle.mvt_message.specs.LayerFields.{version_in};
 ghost use Rattle.mvt_message.specs.Inner.{head_fault, IsFault, IsVersionSoFar};
 
+use crate::numbers::layer;
 use crate::payload::uint32_of;
 use mvt_feature::laws::{rests, walks};
 use mvt_feature::{Cause, MessageError, fault_at, rest_fault};
@@ -43,7 +44,7 @@ pub(crate) fn take_version(
         → IsVersionSoFar base (done ++ entry_of field.now ∷ []) version.new }
     ensures fault { IfErr version.old IsFault → IfErr version.new IsFault }
 {
-    if field.number != 15 {
+    if field.number != layer::VERSION {
         return;
     }
     if version.is_err() {

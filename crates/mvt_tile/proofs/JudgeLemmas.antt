@@ -27,6 +27,7 @@ use Rattle.mvt_message.specs.Items.{IsItem, names_in}
 use Rattle.mvt_tile.specs.declared.fault.DecodeError.{DecodeError}
 use Rattle.mvt_tile.specs.declared.fault.DecodeError.TheVariants.{Memory, Fault, Read}
 use Rattle.mvt_tile.specs.declared.fault.Fault.{Fault as AFault}
+use Rattle.mvt_tile.specs.declared.numbers.tile.TheConstants.{LAYERS}
 use Rattle.mvt_tile.specs.Faults.{outer_fault, in_layer, is_open}
 use Rattle.mvt_tile.specs.Inner.{ItemLaws, SplitLaws}
 use Rattle.mvt_tile.specs.Inner.Judging.{shifted, told_in, payload_fault, repeated_at, fault_behind, IsJudged, IsPlaceOf, TakesItem, TellsBehind}
@@ -67,14 +68,14 @@ is_added names item added e is_new = not-true (repeats names (names_in item)) (s
 
 -- of a field
 
-pub field_over : (items : List Item) (offset : ℕ) (x : Entry) → (x.number ≡ 3 → ⊥) → (front : List Entry) → AreItems front items → AreItems (front ++ shifted offset x ∷ []) items
+pub field_over : (items : List Item) (offset : ℕ) (x : Entry) → (x.number ≡ LAYERS → ⊥) → (front : List Entry) → AreItems front items → AreItems (front ++ shifted offset x ∷ []) items
 field_over items offset x other front are = are_over front items (shifted offset x) are (ne_eqb x.number 3 other)
 
-pub field_taken : ItemLaws → (r : Result (Unit {0}) DecodeError) (old new : List Item) (offset : ℕ) (x : Entry) (d : List ℕ) → x.number ≡ 3 → x.content ≡ bytes d
+pub field_taken : ItemLaws → (r : Result (Unit {0}) DecodeError) (old new : List Item) (offset : ℕ) (x : Entry) (d : List ℕ) → x.number ≡ LAYERS → x.content ≡ bytes d
     → OnOk r (TakesItem old new d) → OnOk r ((front : List Entry) → AreItems front old → AreItems (front ++ shifted offset x ∷ []) new)
 field_taken laws (Err e) old new offset x d three held h = tt
 field_taken laws (Ok u) old new offset x d three held h = λ front are.
-    subst (AreItems (front ++ shifted offset x ∷ [])) (sym h.1) (are_more laws front old (shifted offset x) d h.0 are (eq-eqb x.number 3 three) held h.2 h.3)
+    subst (AreItems (front ++ shifted offset x ∷ [])) (sym h.1) (are_more laws front old (shifted offset x) d h.0 are (eq-eqb x.number LAYERS three) held h.2 h.3)
 
 pub field_few : (r : Result (Unit {0}) DecodeError) (old new : List Item) (d : List ℕ) → OnOk r (TakesItem old new d) → OnOk r (length new ≤ length old + 1)
 field_few (Err e) old new d h = tt
@@ -86,13 +87,13 @@ pub field_tells : ItemLaws → (r : Result (Unit {0}) DecodeError) (old : List I
 field_tells laws (Ok u) old offset x d base own place h = tt
 field_tells laws (Err e) old offset x d base own place h = λ front are.
     let here : Tells e (payload_fault (length old) (flat_map names_in old) d (offset + x.body) (offset + x.at)) = subst (λ b. Tells e (payload_fault (length old) (flat_map names_in old) d b (offset + x.at))) place.base_is (subst (λ o. Tells e (payload_fault (length old) (flat_map names_in old) d base o)) place.own_is h) in
-    subst (Tells e) (sym (first-behind laws front old (shifted offset x) d are (eq-eqb x.number 3 place.three) place.holds))
+    subst (Tells e) (sym (first-behind laws front old (shifted offset x) d are (eq-eqb x.number LAYERS place.three) place.holds))
     (subst (λ n. Tells e (payload_fault n (flat_map names_in old) d (offset + x.body) (offset + x.at))) (sym (length-related HoldsItem (layers_of front) old are.held)) here)
 
-pub field_wrong : (offset : ℕ) (x : Entry) (c : Content) → x.number ≡ 3 → x.content ≡ c → is_bytes c ≡ false → (front : List Entry)
+pub field_wrong : (offset : ℕ) (x : Entry) (c : Content) → x.number ≡ LAYERS → x.content ≡ c → is_bytes c ≡ false → (front : List Entry)
     → Tells (Fault (outer_fault (offset + x.at) WrongType)) (first (field_rules front (shifted offset x)))
 field_wrong offset x c three held other front =
-    (first-wrong front (shifted offset x) (eq-eqb x.number 3 three) (ap is_bytes held ∙ other), refl)
+    (first-wrong front (shifted offset x) (eq-eqb x.number LAYERS three) (ap is_bytes held ∙ other), refl)
 
 -- of the fields so far
 

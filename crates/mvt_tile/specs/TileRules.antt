@@ -9,12 +9,13 @@ use Rattle.mvt_feature.specs.declared.cause.Cause.TheVariants.{WrongType, Repeat
 use Rattle.mvt_feature.specs.Causes.{of_wire}
 use Rattle.mvt_message.specs.ItemRules.{item_rules, payload_names}
 use Rattle.mvt_tile.specs.declared.fault.Fault.{Fault}
+use Rattle.mvt_tile.specs.declared.numbers.tile.TheConstants.{LAYERS}
 use Rattle.mvt_tile.specs.Faults.{outer_fault, in_layer, is_open}
 
--- the fields numbered 3, which hold layers
+-- the fields that hold layers
 abbrev pub layers_of : List Entry → List Entry
 layers_of [] = []
-layers_of (x ∷ xs) = if x.number == 3 then x ∷ layers_of xs else layers_of xs
+layers_of (x ∷ xs) = if x.number == LAYERS then x ∷ layers_of xs else layers_of xs
 
 -- the bytes of a field, or none
 abbrev pub bytes_in : Content → List ℕ
@@ -51,10 +52,10 @@ is_bytes (fixed64 n) = false
 is_bytes (bytes d) = true
 is_bytes (fixed32 n) = false
 
--- the rules of a top-level field: only those numbered 3 have any
+-- the rules of a top-level field: only those that hold layers have any
 unfoldable pub field_rules : List Entry → Entry → Rules Fault
 field_rules front x =
-    if x.number == 3
+    if x.number == LAYERS
     then (if is_bytes x.content then rows (layer_rules front x) else under 0 (when true (outer_fault x.at WrongType)))
     else []
 

@@ -14,6 +14,7 @@ pub mod laws;
 mod layers;
 mod note;
 mod noting;
+pub mod numbers;
 mod reading;
 mod round_trip;
 mod taking;

@@ -6,6 +6,7 @@ ghost use Rattle.mvt_wire.specs.Field.{Entry, entry_of};
 ghost use Rattle.mvt_wire.specs.Fields.{bytes_size};
 ghost use Rattle.mvt_message.specs.Items.{names_in};
 ghost use Rattle.mvt_feature.specs.Causes.{of_wire};
+ghost use Rattle.mvt_tile.specs.declared.numbers.tile.TheConstants.{LAYERS};
 ghost use Rattle.mvt_tile.specs.Faults.{outer_fault};
 ghost use Rattle.mvt_tile.specs.Inner.Judging.{IsJudged, IsPlaceOf, TakesItem, TellsBehind, payload_fault, repeated_at, shifted, told_in};
 ghost use Rattle.mvt_tile.specs.Streams.{Tells};
@@ -15,6 +16,7 @@ ghost use Rattle.mvt_tile.specs.Tiles.{AreItems};
 use crate::below;
 use crate::fault::{DecodeError, Fault};
 use crate::layers::Layers;
+use crate::numbers::tile;
 use mvt_base::LIMIT;
 use mvt_message::{Cause, MessageError, read_item};
 use mvt_wire::{Field, Fields, Payload, WireCause, WireFault};
@@ -68,16 +70,16 @@ pub(crate) struct Place<'a> {
     pub(crate) own: u64,
 }
 
-/// The payload of a field numbered 3. Other fields hold no layer.
+/// The payload of a field that holds a layer. Other fields hold no layer.
 pub(crate) fn layer_in<'a>(field: &Field<'a>, offset: u64) -> Result<Option<Place<'a>>, DecodeError>
     requires place { offset + field.now.at ≤ LIMIT }
     requires fits { offset + (field.now.body + bytes_size (entry_of field.now).content) ≤ LIMIT }
-    ensures place { IfOk result (λ found. MatchOption found (field.now.number ≢ 3)
+    ensures place { IfOk result (λ found. MatchOption found (field.now.number ≢ LAYERS)
         (λ place. IsPlaceOf offset (entry_of field.now) place.payload.now place.base place.own)) }
     ensures fault { IfErr result (λ error. (front : List Entry) →
         Tells error (first (field_rules front (shifted offset (entry_of field.now))))) }
 {
-    if field.number != 3 {
+    if field.number != tile::LAYERS {
         return Ok(None);
     }
     let own = offset + field.at as u64;

@@ -17,6 +17,7 @@ use Rattle.mvt_message.specs.ValidItems.{ValidItem}
 use Rattle.mvt_tile.specs.declared.fault.Fault.{Fault as AFault}
 use Rattle.mvt_tile.specs.declared.fault.DecodeError.{DecodeError}
 use Rattle.mvt_tile.specs.declared.fault.DecodeError.TheVariants.{Memory, Fault}
+use Rattle.mvt_tile.specs.declared.numbers.tile.TheConstants.{LAYERS}
 use Rattle.mvt_tile.specs.Faults.{in_layer}
 use Rattle.mvt_tile.specs.TileRules.{repeats, field_rules, rest_rules}
 use Rattle.mvt_tile.specs.Tiles.{AreItems, HasDistinctNames}
@@ -47,7 +48,7 @@ shifted offset x = record { at = offset + x.at; body = offset + x.body; number =
 
 -- the field of a slice that stands at this place of the input holds this layer's payload
 pub record IsPlaceOf (offset : ℕ) (x : Entry) (payload : List ℕ) (base own : ℕ) : Type 0 where
-  pub three : x.number ≡ 3
+  pub three : x.number ≡ LAYERS
   pub holds : x.content ≡ held_bytes payload
   pub base_is : base ≡ offset + x.body
   pub own_is : own ≡ offset + x.at

@@ -4,8 +4,8 @@ use Rattle.mvt_tile.proofs.JudgeLemmas.{field_wrong, not_bytes}
 use Rattle.mvt_tile.proofs.taking.layer_in.Goals as goal
 
 pub returns-in-Len-clause-place : goal.returns-in-Len-clause-place
-returns-in-Len-clause-place c = record { three = c.if-field-ne3.false; holds = ap content_of c.in-Len.is; base_is = refl; own_is = refl }
+returns-in-Len-clause-place c = record { three = c.if-field-ne-LAYERS.false; holds = ap content_of c.in-Len.is; base_is = refl; own_is = refl }
 
 pub returns-in-Varint-clause-fault : goal.returns-in-Varint-clause-fault
 returns-in-Varint-clause-fault c =
-    rw c.outer.ensures (field_wrong c.args.offset (entry_of c.args.field.now) (content_of c.args.field.now.payload) c.if-field-ne3.false refl (not_bytes c.args.field.now.payload c.in-Varint.is))
+    rw c.outer.ensures (field_wrong c.args.offset (entry_of c.args.field.now) (content_of c.args.field.now.payload) c.if-field-ne-LAYERS.false refl (not_bytes c.args.field.now.payload c.in-Varint.is))
