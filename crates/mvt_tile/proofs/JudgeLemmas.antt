@@ -81,6 +81,14 @@ pub field_few : (r : Result (Unit {0}) DecodeError) (old new : List Item) (d : L
 field_few (Err e) old new d h = tt
 field_few (Ok u) old new d h = omega (arith, ap length h.1, length-append old (h.0 ∷ []))
 
+-- where the item of a field is taken
+pub field_gives : ItemLaws → (Knows : List Item → Type 0) (r : Result (Unit {0}) DecodeError) (items : List Item) (offset : ℕ) (x : Entry) (d : List ℕ) (base own : ℕ) → IsPlaceOf offset x d base own
+    → OnOk r ((new : List Item) × Knows new × TakesItem items new d)
+    → OnOk r ((new : List Item) × Knows new × (length new ≤ length items + 1) × ((front : List Entry) → AreItems front items → AreItems (front ++ shifted offset x ∷ []) new))
+field_gives laws Knows (Err e) items offset x d base own place h = tt
+field_gives laws Knows (Ok u) items offset x d base own place h =
+    (h.0, h.1, field_few (Ok u) items h.0 d h.2, field_taken laws (Ok u) items h.0 offset x d place.three place.holds h.2)
+
 pub field_tells : ItemLaws → (r : Result (Unit {0}) DecodeError) (old : List Item) (offset : ℕ) (x : Entry) (d : List ℕ) (base own : ℕ) → IsPlaceOf offset x d base own
     → IfErr r (λ e. Tells e (payload_fault (length old) (flat_map names_in old) d base own))
     → IfErr r (λ e. (front : List Entry) → AreItems front old → Tells e (first (field_rules front (shifted offset x))))
@@ -245,6 +253,13 @@ not_bytes p (inr (inl h)) = ap (λ x. is_bytes (content_of x)) h.1
 not_bytes p (inr (inr h)) = ap (λ x. is_bytes (content_of x)) h.1
 
 -- the items that are judged so far are there
-pub judged_there : (offset : ℕ) (b : List ℕ) (old now : List Item) (r : Result ℕ DecodeError) → IfOk r (IsJudged offset b old now) → IfOk r (λ used. (items : List Item) × IsJudged offset b old items used)
-judged_there offset b old now (Ok n) h = (now, h)
-judged_there offset b old now (Err e) h = tt
+pub judged_there : (Knows : List Item → Type 0) (offset : ℕ) (b : List ℕ) (old now : List Item) (r : Result ℕ DecodeError) → Knows now → IfOk r (IsJudged offset b old now)
+    → IfOk r (λ used. (new : List Item) × Knows new × IsJudged offset b old new used)
+judged_there Knows offset b old now (Ok n) known h = (now, known, h)
+judged_there Knows offset b old now (Err e) known h = tt
+
+-- where the items that are there are known
+pub judged_as : (offset : ℕ) (b : List ℕ) (old now : List Item) (r : Result ℕ DecodeError) → IfOk r (λ used. (new : List Item) × (now ≡ new) × IsJudged offset b old new used)
+    → IfOk r (IsJudged offset b old now)
+judged_as offset b old now (Ok n) h = subst (λ is. IsJudged offset b old is n) (sym h.1) h.2
+judged_as offset b old now (Err e) h = tt

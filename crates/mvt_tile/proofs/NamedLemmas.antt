@@ -13,7 +13,7 @@ use Rattle.mvt_tile.specs.Inner.Judging.{AreNamed, IsPlaceOf, TakesItem, payload
 use Rattle.mvt_tile.specs.Streams.{Tells}
 use Rattle.mvt_tile.specs.TileRules.{repeats}
 use Rattle.mvt_tile.specs.Tiles.{AreItems}
-use Rattle.mvt_tile.proofs.JudgeLemmas.{field_few, field_taken, tells_repeated}
+use Rattle.mvt_tile.proofs.JudgeLemmas.{tells_repeated}
 use Rattle.mvt_tile.proofs.NameLemmas.{names_more}
 
 pub named_none : (keys : List (List ℕ)) → keys ≡ [] → AreNamed 0 keys []
@@ -65,11 +65,3 @@ module _ (laws : ItemLaws) (count : ℕ) (names : List (List ℕ)) (items : List
   named_twice added e no_more index is_count =
       subst (λ n. Tells (Fault (repeated_at n own)) (payload_fault (length items) (flat_map names_in items) d base own)) (sym (is_count ∙ are.counted))
       (tells_repeated laws (length items) (flat_map names_in items) d base own item added none is (e ∙ ap not test) no_more)
-
--- a field whose layer is taken
-pub named_field : ItemLaws → (r : Result (Unit {0}) DecodeError) (items : List Item) (count : ℕ) (names : List (List ℕ)) (offset : ℕ) (x : Entry) (d : List ℕ) (base own : ℕ) → IsPlaceOf offset x d base own
-    → OnOk r ((new : List Item) × AreNamed count names new × TakesItem items new d)
-    → OnOk r ((new : List Item) × AreNamed count names new × (length new ≤ length items + 1) × ((front : List Entry) → AreItems front items → AreItems (front ++ shifted offset x ∷ []) new))
-named_field laws (Err e) items count names offset x d base own place h = tt
-named_field laws (Ok u) items count names offset x d base own place h =
-    (h.0, h.1, field_few (Ok u) items h.0 d h.2, field_taken laws (Ok u) items h.0 offset x d place.three place.holds h.2)

@@ -5,7 +5,6 @@ use Rattle.mvt_feature.specs.declared.cause.Cause.TheVariants.{Truncated, TooLar
 use Rattle.mvt_tile.specs.declared.fault.DecodeError.{DecodeError}
 use Rattle.mvt_tile.specs.declared.fault.DecodeError.TheVariants.{Memory, Fault, Read}
 use Rattle.mvt_tile.specs.declared.fault.Fault.{Fault as AFault}
-use Rattle.mvt_tile.specs.declared.tile.Tile.{Tile}
 use Rattle.mvt_tile.specs.Faults.{outer_fault}
 use Rattle.mvt_tile.specs.Inner.{ItemLaws, SplitLaws}
 use Rattle.mvt_tile.specs.Inner.Judging.{IsJudged, TellsBehind}
@@ -42,5 +41,5 @@ module _ (laws : ItemLaws) (splits : SplitLaws) (limit : ℕ) (b fitting beyond 
     pub whole_truncated : used < length fitting → fault_within limit b ≡ Some (outer_fault used Truncated)
     whole_truncated left = live_truncated laws limit used items (drop used fitting) b (λ empty. omega (arith, length-drop used fitting)) live
 
-    pub whole_tile : length fitting ≤ used → (tile : Tile) × IsTile limit b tile
-    whole_tile all = (record { items = items }, live_tile splits limit used items (drop used fitting) b (nil_from_length (drop used fitting) (omega (arith, length-drop used fitting))) live)
+    pub whole_tile : length fitting ≤ used → IsTile limit b (record { items = items })
+    whole_tile all = live_tile splits limit used items (drop used fitting) b (nil_from_length (drop used fitting) (omega (arith, length-drop used fitting))) live

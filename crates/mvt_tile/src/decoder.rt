@@ -9,7 +9,6 @@ ghost use Rattle.mvt_tile.specs.ValidTiles.{Valid};
 use crate::below;
 use crate::fault::{DecodeError, Fault};
 use crate::layers::Layers;
-use crate::taking::take_fields;
 use crate::tile::Tile;
 use mvt_base::{Items, LIMIT};
 use mvt_message::Cause;
@@ -199,12 +198,12 @@ fn swallow(
     ensures fault { IfErr result (λ error. TellsBehind error offset (raw.old.items ++ piece.now) layers.old) }
 {
     if raw.is_empty() {
-        let used = take_fields(alloc, layers, piece, offset)?;
+        let used = layers.take_fields(alloc, piece, offset)?;
         raw.extend_from_slice(&piece[used..])?;
         return Ok(used);
     }
     raw.extend_from_slice(piece)?;
-    let used = take_fields(alloc, layers, raw.as_slice(), offset)?;
+    let used = layers.take_fields(alloc, raw.as_slice(), offset)?;
     if used > 0 {
         raw.drain(..used);
     }

@@ -1,26 +1,17 @@
 //! Judging a tile without building one.
-ghost use Rattle.std.specs.Prelude.{◌≡◌, ◌+◌, ◌≤◌, List, [], ◌∷◌, ◌++◌, length, None, IfOk, IfErr, OnOk};
-ghost use Rattle.std.specs.List.{flat_map};
-ghost use Rattle.mvt_base.specs.Rules.{first};
-ghost use Rattle.mvt_wire.specs.Field.{Entry, entry_of};
-ghost use Rattle.mvt_wire.specs.Fields.{bytes_size};
-ghost use Rattle.mvt_message.specs.declared.item.Item.{Item};
-ghost use Rattle.mvt_message.specs.Items.{names_in};
+ghost use Rattle.std.specs.Prelude.{◌≡◌, None, IfErr, OnOk};
 ghost use Rattle.mvt_tile.specs.declared.tile.Tile.{Tile};
-ghost use Rattle.mvt_tile.specs.Inner.Judging.{AreNamed, IsJudged, TakesItem, TellsBehind, payload_fault, shifted};
-ghost use Rattle.mvt_tile.specs.Streams.{Tells, TellsAtEnd};
-ghost use Rattle.mvt_tile.specs.TileRules.{field_rules, fault_within};
-ghost use Rattle.mvt_tile.specs.Tiles.{AreItems, IsTile};
+ghost use Rattle.mvt_tile.specs.Streams.{TellsAtEnd};
+ghost use Rattle.mvt_tile.specs.TileRules.{fault_within};
+ghost use Rattle.mvt_tile.specs.Tiles.{IsTile};
 
 use crate::below;
-use crate::fault::{DecodeError, Fault};
-use crate::layers::add_name;
-use crate::taking::{in_layer, judge_rest, layer_in, repeated_name};
+use crate::fault::DecodeError;
+use crate::layers::{Names, add_name};
+use crate::taking::{Taker, in_layer, repeated_name, take_whole};
 use mvt_base::{LIMIT, Text};
-use mvt_message::{Cause, judge_item};
-use mvt_wire::{Field, Fields};
+use mvt_message::judge_item;
 use std::alloc::Global;
-use std::collections::BTreeSet;
 
 /// Judges a tile without building one: it keeps the names of the layers, and of one layer at a time its
 /// keys, and the tags and the integers of one feature.
@@ -36,90 +27,35 @@ pub fn judge(alloc: Global, bytes: &[u8]) -> Result<(), DecodeError>
 {
     below::item_laws();
     below::split_laws();
-    let (fitting, beyond) = bytes.split_at(bytes.len().min(LIMIT as usize));
-    let used = judge_fields(alloc, fitting)?;
-    if !beyond.is_empty() {
-        return Err(DecodeError::Fault(Fault::outer(used as u64, Cause::TooLarge)));
-    }
-    if used < fitting.len() {
-        return Err(DecodeError::Fault(Fault::outer(used as u64, Cause::Truncated)));
-    }
-    Ok(())
+    take_whole(alloc, &mut Names::new(alloc), bytes)
 }
 
-/// How many layers were judged, and the names among them.
-#[derive(Drop)]
-struct Names {
-    count: u32,
-    names: BTreeSet<Text>,
-}
+impl Taker for Names {
+    ghost use Rattle.mvt_tile.specs.Inner.Judging.{AreNamed};
 
-/// Judges the whole fields at the front, and answers how many bytes those are.
-fn judge_fields(alloc: Global, bytes: &[u8]) -> Result<usize, DecodeError>
-    requires { length bytes.now ≤ LIMIT }
-    ensures judged { IfOk result (λ used. (items : List Item) × IsJudged 0 bytes.now [] items used) }
-    ensures fault { IfErr result (λ error. TellsBehind error 0 bytes.now []) }
-{
-    below::item_laws();
-    below::split_laws();
-    let mut names = Names {
-        count: 0,
-        names: BTreeSet::new(alloc),
-    };
-    for field in Fields::new(bytes) {
-        match field {
-            Ok(field) => judge_field(alloc, &mut names, &field)?,
-            Err(fault) => return judge_rest(fault, 0),
+    ghost has_taken = { λ _ names items. AreNamed names.count names.names.keys items };
+
+    /// Judges a layer's payload, and adds its name.
+    fn take_item(
+        &mut self,
+        alloc: Global,
+        payload: &[u8],
+        base: u64,
+        own: u64,
+    ) -> Result<(), DecodeError> {
+        below::item_laws();
+        let index = self.count;
+        let name = match judge_item(alloc, payload, base, own) {
+            Ok(name) => name,
+            Err(error) => return Err(in_layer(index, error)),
+        };
+        self.count += 1;
+        let Some(name) = name else {
+            return Ok(());
+        };
+        if add_name(&mut self.names, Text::from_str(alloc, name)?)? {
+            return Ok(());
         }
+        Err(repeated_name(index, own))
     }
-    Ok(bytes.len())
-}
-
-/// Judges the layer of a field that holds one.
-fn judge_field(alloc: Global, names: &mut Names, field: &Field<'_>) -> Result<(), DecodeError>
-    requires few { names.old.count ≤ LIMIT }
-    requires place { field.now.at ≤ LIMIT }
-    requires fits { field.now.body + bytes_size (entry_of field.now).content ≤ LIMIT }
-    ensures items { (items : List Item) → AreNamed names.old.count names.old.names.keys items → OnOk result ((new : List Item)
-        × AreNamed names.new.count names.new.names.keys new × (length new ≤ length items + 1)
-        × ((front : List Entry) → AreItems front items → AreItems (front ++ shifted 0 (entry_of field.now) ∷ []) new)) }
-    ensures fault { (items : List Item) → AreNamed names.old.count names.old.names.keys items → IfErr result (λ error.
-        (front : List Entry) → AreItems front items → Tells error (first (field_rules front (shifted 0 (entry_of field.now))))) }
-{
-    below::item_laws();
-    match layer_in(field, 0)? {
-        None => Ok(()),
-        Some(place) => judge_layer(alloc, names, place.payload, place.base, place.own),
-    }
-}
-
-/// Judges a layer's payload, and adds its name.
-fn judge_layer(
-    alloc: Global,
-    names: &mut Names,
-    payload: &[u8],
-    base: u64,
-    own: u64,
-) -> Result<(), DecodeError>
-    requires few { names.old.count ≤ LIMIT }
-    requires fits { base + length payload.now ≤ LIMIT }
-    ensures item { (items : List Item) → AreNamed names.old.count names.old.names.keys items → OnOk result ((new : List Item)
-        × AreNamed names.new.count names.new.names.keys new × TakesItem items new payload.now) }
-    ensures fault { (items : List Item) → AreNamed names.old.count names.old.names.keys items → IfErr result (λ error.
-        Tells error (payload_fault (length items) (flat_map names_in items) payload.now base own)) }
-{
-    below::item_laws();
-    let index = names.count;
-    let name = match judge_item(alloc, payload, base, own) {
-        Ok(name) => name,
-        Err(error) => return Err(in_layer(index, error)),
-    };
-    names.count += 1;
-    let Some(name) = name else {
-        return Ok(());
-    };
-    if add_name(&mut names.names, Text::from_str(alloc, name)?)? {
-        return Ok(());
-    }
-    Err(repeated_name(index, own))
 }

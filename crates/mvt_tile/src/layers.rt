@@ -1,14 +1,18 @@
-//! The items that were read so far, with the names of the layers among them.
-ghost use Rattle.std.specs.Prelude.{◌≡◌, ◌∷◌, ◌++◌, ◌||◌, ℕ, List, [], length, not, bytes_eq, IfOk, OnErr, IsTrue};
+//! The items that were read so far, and the names of the layers among them.
+ghost use Rattle.std.specs.Prelude.{◌≡◌, ◌∷◌, ◌++◌, ◌||◌, ℕ, ◌+◌, ◌≤◌, List, [], length, not, bytes_eq, IfOk, IfErr, OnErr, IsTrue};
 ghost use Rattle.std.specs.Bool.{OnFalse};
 ghost use Rattle.std.specs.List.{AllByRecursion, flat_map, list_any};
 ghost use Rattle.mvt_message.specs.Items.{names_in};
 ghost use Rattle.mvt_message.specs.ValidItems.{ValidItem};
+ghost use Rattle.mvt_tile.specs.Inner.Judging.{AreNamed, IsJudged, TellsBehind};
 ghost use Rattle.mvt_tile.specs.TileRules.{repeats};
 ghost use Rattle.mvt_tile.specs.Tiles.{HasDistinctNames};
 
-use mvt_base::Text;
-use mvt_message::Item;
+use crate::below;
+use crate::fault::DecodeError;
+use crate::taking::{Taker, in_layer, repeated_name, take_fields};
+use mvt_base::{LIMIT, Text};
+use mvt_message::{Item, read_item};
 use std::alloc::{AllocError, Global};
 use std::collections::BTreeSet;
 use std::marker::Model;
@@ -58,6 +62,21 @@ impl Layers {
         items
     }
 
+    /// Takes the items of the whole fields at the front of some bytes, which stand at an offset of the input.
+    pub(crate) fn take_fields(
+        &mut self,
+        alloc: Global,
+        bytes: &[u8],
+        offset: u64,
+    ) -> Result<usize, DecodeError>
+        requires few { length self.old ≤ offset }
+        requires fits { offset + length bytes.now ≤ LIMIT }
+        ensures judged { IfOk result (IsJudged offset bytes.now self.old self.new) }
+        ensures fault { IfErr result (λ error. TellsBehind error offset bytes.now self.old) }
+    {
+        take_fields(alloc, self, bytes, offset)
+    }
+
     /// Adds an item, but for a layer whose name is there. Answers whether it did.
     pub(crate) fn add(&mut self, item: Item) -> Result<bool, AllocError>
         requires { ValidItem item }
@@ -70,6 +89,51 @@ impl Layers {
             self.items.push(item).unwrap();
         }
         Ok(added)
+    }
+}
+
+impl Taker for Layers {
+    ghost use Rattle.std.specs.Prelude.{◌≡◌};
+
+    ghost has_taken = { λ _ layers items. layers ≡ items };
+
+    /// Reads an item, and keeps it.
+    fn take_item(
+        &mut self,
+        alloc: Global,
+        payload: &[u8],
+        base: u64,
+        own: u64,
+    ) -> Result<(), DecodeError> {
+        below::item_laws();
+        let index = self.len() as u32;
+        let item = match read_item(alloc, payload, base, own) {
+            Ok(item) => item,
+            Err(error) => return Err(in_layer(index, error)),
+        };
+        if self.add(item)? {
+            return Ok(());
+        }
+        Err(repeated_name(index, own))
+    }
+}
+
+/// How many items there are, and the names of the layers among them.
+#[derive(Drop)]
+pub(crate) struct Names {
+    pub(crate) count: u32,
+    pub(crate) names: BTreeSet<Text>,
+}
+
+impl Names {
+    /// No names, without memory.
+    pub(crate) fn new(alloc: Global) -> Self
+        ensures { AreNamed result.count result.names.keys [] }
+    {
+        Names {
+            count: 0,
+            names: BTreeSet::new(alloc),
+        }
     }
 }
 

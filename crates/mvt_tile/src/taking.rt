@@ -1,45 +1,93 @@
-//! The whole fields at the front of some bytes, taken as items.
-ghost use Rattle.std.specs.Prelude.{◌≡◌, ◌≢◌, ◌+◌, ◌≤◌, List, [], ◌∷◌, ◌++◌, length, IfOk, IfErr, OnOk, MatchOption};
+//! The whole fields at the front of some bytes, and what takes the items in them.
+ghost use Rattle.std.specs.Prelude.{◌≡◌, ◌≢◌, ℕ, ◌+◌, ◌≤◌, List, [], ◌∷◌, ◌++◌, length, IfOk, IfErr, OnOk, MatchOption};
 ghost use Rattle.std.specs.List.{flat_map};
 ghost use Rattle.mvt_base.specs.Rules.{first};
 ghost use Rattle.mvt_wire.specs.Field.{Entry, entry_of};
 ghost use Rattle.mvt_wire.specs.Fields.{bytes_size};
-ghost use Rattle.mvt_message.specs.Items.{names_in};
 ghost use Rattle.mvt_feature.specs.Causes.{of_wire};
+ghost use Rattle.mvt_message.specs.declared.item.Item.{Item};
+ghost use Rattle.mvt_message.specs.Items.{names_in};
 ghost use Rattle.mvt_tile.specs.declared.numbers.tile.TheConstants.{LAYERS};
+ghost use Rattle.mvt_tile.specs.declared.tile.Tile.{Tile};
 ghost use Rattle.mvt_tile.specs.Faults.{outer_fault};
 ghost use Rattle.mvt_tile.specs.Inner.Judging.{IsJudged, IsPlaceOf, TakesItem, TellsBehind, payload_fault, repeated_at, shifted, told_in};
-ghost use Rattle.mvt_tile.specs.Streams.{Tells};
-ghost use Rattle.mvt_tile.specs.TileRules.{field_rules};
-ghost use Rattle.mvt_tile.specs.Tiles.{AreItems};
+ghost use Rattle.mvt_tile.specs.Streams.{Tells, TellsAtEnd};
+ghost use Rattle.mvt_tile.specs.TileRules.{field_rules, fault_within};
+ghost use Rattle.mvt_tile.specs.Tiles.{AreItems, IsTile};
 
 use crate::below;
 use crate::fault::{DecodeError, Fault};
-use crate::layers::Layers;
 use crate::numbers::tile;
 use mvt_base::LIMIT;
-use mvt_message::{Cause, MessageError, read_item};
+use mvt_message::{Cause, MessageError};
 use mvt_wire::{Field, Fields, Payload, WireCause, WireFault};
 use std::alloc::Global;
 
+/// What takes the items of a tile, one after the other.
+pub(crate) trait Taker {
+    // What it knows of an input when it has taken these items.
+    ghost has_taken: { List ℕ → Self → List Item → Type 0 };
+
+    /// Takes the item of a payload. Its first byte and the tag of its field stand at these places.
+    fn take_item(
+        &mut self,
+        alloc: Global,
+        payload: &[u8],
+        base: u64,
+        own: u64,
+    ) -> Result<(), DecodeError>
+        requires few { (input : List ℕ) × (items : List Item) × has_taken input self.old items × (length items ≤ LIMIT) }
+        requires fits { base + length payload.now ≤ LIMIT }
+        ensures item { (input : List ℕ) (items : List Item) → has_taken input self.old items → OnOk result
+            ((new : List Item) × has_taken input self.new new × TakesItem items new payload.now) }
+        ensures fault { (input : List ℕ) (items : List Item) → has_taken input self.old items → IfErr result
+            (λ error. Tells error (payload_fault (length items) (flat_map names_in items) payload.now base own)) };
+}
+
+/// Takes the items of a tile: all bytes, which stand at the front of an input.
+pub(crate) fn take_whole<T: Taker>(
+    alloc: Global,
+    taker: &mut T,
+    bytes: &[u8],
+) -> Result<(), DecodeError>
+    requires start { (input : List ℕ) × T.has_taken input taker.old [] }
+    ensures tile { (input : List ℕ) → T.has_taken input taker.old [] → OnOk result
+        ((tile : Tile) × IsTile LIMIT bytes.now tile × T.has_taken input taker.new tile.items) }
+    ensures fault { IfErr result (λ error. TellsAtEnd error (fault_within LIMIT bytes.now)) }
+{
+    below::item_laws();
+    below::split_laws();
+    let (fitting, beyond) = bytes.split_at(bytes.len().min(LIMIT as usize));
+    let used = take_fields(alloc, taker, fitting, 0)?;
+    if !beyond.is_empty() {
+        return Err(DecodeError::Fault(Fault::outer(used as u64, Cause::TooLarge)));
+    }
+    if used < fitting.len() {
+        return Err(DecodeError::Fault(Fault::outer(used as u64, Cause::Truncated)));
+    }
+    Ok(())
+}
+
 /// Takes the items of the whole fields at the front, and answers how many bytes those are. The bytes
 /// stand at an offset of the input.
-pub(crate) fn take_fields(
+pub(crate) fn take_fields<T: Taker>(
     alloc: Global,
-    layers: &mut Layers,
+    taker: &mut T,
     bytes: &[u8],
     offset: u64,
 ) -> Result<usize, DecodeError>
-    requires few { length layers.old ≤ offset }
+    requires few { (input : List ℕ) × (items : List Item) × T.has_taken input taker.old items × (length items ≤ offset) }
     requires fits { offset + length bytes.now ≤ LIMIT }
-    ensures judged { IfOk result (IsJudged offset bytes.now layers.old layers.new) }
-    ensures fault { IfErr result (λ error. TellsBehind error offset bytes.now layers.old) }
+    ensures judged { (input : List ℕ) (items : List Item) → T.has_taken input taker.old items → IfOk result
+        (λ used. (new : List Item) × T.has_taken input taker.new new × IsJudged offset bytes.now items new used) }
+    ensures fault { (input : List ℕ) (items : List Item) → T.has_taken input taker.old items → IfErr result
+        (λ error. TellsBehind error offset bytes.now items) }
 {
     below::item_laws();
     below::split_laws();
     for field in Fields::new(bytes) {
         match field {
-            Ok(field) => take_field(alloc, layers, &field, offset)?,
+            Ok(field) => take_field(alloc, taker, &field, offset)?,
             Err(fault) => return judge_rest(fault, offset),
         }
     }
@@ -47,7 +95,7 @@ pub(crate) fn take_fields(
 }
 
 /// An unfinished field ends the fields; another broken spelling is a fault.
-pub(crate) fn judge_rest(fault: WireFault, offset: u64) -> Result<usize, DecodeError>
+fn judge_rest(fault: WireFault, offset: u64) -> Result<usize, DecodeError>
     requires { offset + fault.at ≤ LIMIT }
     ensures unfinished { IfOk result (λ at. (at ≡ fault.at) × (fault.cause ≡ WireCause.Truncated)) }
     ensures fault { IfErr result (λ error. (fault.cause ≢ WireCause.Truncated)
@@ -64,14 +112,14 @@ pub(crate) fn judge_rest(fault: WireFault, offset: u64) -> Result<usize, DecodeE
 
 /// A layer's payload in the input, with the places of its first byte and of its field's tag.
 #[derive(Clone, Copy, Debug)]
-pub(crate) struct Place<'a> {
-    pub(crate) payload: &'a [u8],
-    pub(crate) base: u64,
-    pub(crate) own: u64,
+struct Place<'a> {
+    payload: &'a [u8],
+    base: u64,
+    own: u64,
 }
 
 /// The payload of a field that holds a layer. Other fields hold no layer.
-pub(crate) fn layer_in<'a>(field: &Field<'a>, offset: u64) -> Result<Option<Place<'a>>, DecodeError>
+fn layer_in<'a>(field: &Field<'a>, offset: u64) -> Result<Option<Place<'a>>, DecodeError>
     requires place { offset + field.now.at ≤ LIMIT }
     requires fits { offset + (field.now.body + bytes_size (entry_of field.now).content) ≤ LIMIT }
     ensures place { IfOk result (λ found. MatchOption found (field.now.number ≢ LAYERS)
@@ -96,52 +144,26 @@ pub(crate) fn layer_in<'a>(field: &Field<'a>, offset: u64) -> Result<Option<Plac
 }
 
 /// Takes the item of a field that holds one.
-fn take_field(
+fn take_field<T: Taker>(
     alloc: Global,
-    layers: &mut Layers,
+    taker: &mut T,
     field: &Field<'_>,
     offset: u64,
 ) -> Result<(), DecodeError>
-    requires few { length layers.old ≤ LIMIT }
+    requires few { (input : List ℕ) × (items : List Item) × T.has_taken input taker.old items × (length items ≤ LIMIT) }
     requires place { offset + field.now.at ≤ LIMIT }
     requires fits { offset + (field.now.body + bytes_size (entry_of field.now).content) ≤ LIMIT }
-    ensures items { OnOk result ((front : List Entry) → AreItems front layers.old
-        → AreItems (front ++ shifted offset (entry_of field.now) ∷ []) layers.new) }
-    ensures few { OnOk result (length layers.new ≤ length layers.old + 1) }
-    ensures fault { IfErr result (λ error. (front : List Entry) → AreItems front layers.old
-        → Tells error (first (field_rules front (shifted offset (entry_of field.now))))) }
+    ensures items { (input : List ℕ) (items : List Item) → T.has_taken input taker.old items → OnOk result ((new : List Item)
+        × T.has_taken input taker.new new × (length new ≤ length items + 1)
+        × ((front : List Entry) → AreItems front items → AreItems (front ++ shifted offset (entry_of field.now) ∷ []) new)) }
+    ensures fault { (input : List ℕ) (items : List Item) → T.has_taken input taker.old items → IfErr result (λ error.
+        (front : List Entry) → AreItems front items → Tells error (first (field_rules front (shifted offset (entry_of field.now))))) }
 {
     below::item_laws();
     match layer_in(field, offset)? {
         None => Ok(()),
-        Some(place) => take_layer(alloc, layers, place.payload, place.base, place.own),
+        Some(place) => taker.take_item(alloc, place.payload, place.base, place.own),
     }
-}
-
-/// Takes the item of a payload.
-fn take_layer(
-    alloc: Global,
-    layers: &mut Layers,
-    payload: &[u8],
-    base: u64,
-    own: u64,
-) -> Result<(), DecodeError>
-    requires few { length layers.old ≤ LIMIT }
-    requires fits { base + length payload.now ≤ LIMIT }
-    ensures item { OnOk result (TakesItem layers.old layers.new payload.now) }
-    ensures fault { IfErr result (λ error.
-        Tells error (payload_fault (length layers.old) (flat_map names_in layers.old) payload.now base own)) }
-{
-    below::item_laws();
-    let index = layers.len() as u32;
-    let item = match read_item(alloc, payload, base, own) {
-        Ok(item) => item,
-        Err(error) => return Err(in_layer(index, error)),
-    };
-    if layers.add(item)? {
-        return Ok(());
-    }
-    Err(repeated_name(index, own))
 }
 
 /// An error of a payload, as the tile tells it.

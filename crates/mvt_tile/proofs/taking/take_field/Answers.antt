@@ -1,25 +1,24 @@
+use Rattle.std.proofs.Common.{arith}
 use Rattle.std.proofs.lemmas.Result.{err_from_is_err_and}
 use Rattle.mvt_wire.specs.Field.{entry_of}
-use Rattle.mvt_tile.proofs.JudgeLemmas.{field_over, field_taken, field_few, field_tells}
+use Rattle.mvt_tile.proofs.JudgeLemmas.{field_over, field_gives, field_tells}
 use Rattle.mvt_tile.proofs.taking.take_field.Goals as goal
 
 pub returns-in_err-layer_in-clause-fault : goal.returns-in_err-layer_in-clause-fault
-returns-in_err-layer_in-clause-fault c =
+returns-in_err-layer_in-clause-fault g c = λ input items has.
     let p = err_from_is_err_and c.from_residual.result c.from_residual.ensures.1 in
     rw (p.1, p.2) (λ front are. c.in_err-layer_in.ensures.fault front)
 
 pub returns-in-None-clause-items : goal.returns-in-None-clause-items
-returns-in-None-clause-items c = field_over c.args.layers.now c.args.offset (entry_of c.args.field.now) (rw c.in-None.is at c.in_ok-layer_in.ensures.place)
+returns-in-None-clause-items g c = λ input items has.
+    (items, has, omega arith, field_over items c.args.offset (entry_of c.args.field.now) (rw c.in-None.is at c.in_ok-layer_in.ensures.place))
 
 pub returns-in-Some-clause-items : goal.returns-in-Some-clause-items
-returns-in-Some-clause-items c =
+returns-in-Some-clause-items g c = λ input items has.
     let place = rw c.in-Some.is at c.in_ok-layer_in.ensures.place in
-    field_taken c.item_laws.ensures _ c.args.layers.now _ c.args.offset (entry_of c.args.field.now) c.in-Some.place.payload.now place.three place.holds c.take_layer.ensures.item
-
-pub returns-in-Some-clause-few : goal.returns-in-Some-clause-few
-returns-in-Some-clause-few c = field_few _ c.args.layers.now _ c.in-Some.place.payload.now c.take_layer.ensures.item
+    field_gives c.item_laws.ensures (g.T.Taker.has_taken input c.take_item.new.self) _ items c.args.offset (entry_of c.args.field.now) _ _ _ place (c.take_item.ensures.item input items has)
 
 pub returns-in-Some-clause-fault : goal.returns-in-Some-clause-fault
-returns-in-Some-clause-fault c =
+returns-in-Some-clause-fault g c = λ input items has.
     let place = rw c.in-Some.is at c.in_ok-layer_in.ensures.place in
-    field_tells c.item_laws.ensures _ c.args.layers.now c.args.offset (entry_of c.args.field.now) c.in-Some.place.payload.now c.in-Some.place.base c.in-Some.place.own place c.take_layer.ensures.fault
+    field_tells c.item_laws.ensures _ items c.args.offset (entry_of c.args.field.now) c.in-Some.place.payload.now c.in-Some.place.base c.in-Some.place.own place (c.take_item.ensures.fault input items has)
