@@ -17,6 +17,7 @@ use mvt_base::Text;
 pub type KeyPool = Pool<Text>;
 
 impl Pool<Text> {
+    /// The key of a tag.
     pub fn get(&self, index: u32) -> Option<&str>
         ensures { option_copied result ≡ slice_get self.now index }
     {

@@ -15,6 +15,7 @@ use crate::value::Value;
 pub type ValuePool = Pool<Value>;
 
 impl Pool<Value> {
+    /// The value of a tag.
     pub fn get(&self, index: u32) -> Option<&Value>
         ensures { option_copied result ≡ slice_get self.now index }
     {

@@ -20,18 +20,21 @@ impl<T> Model for Items<T> {
 }
 
 impl<T> Items<T> {
+    /// A list of these items, in the memory that the `Vec` has.
     pub fn new(vec: Vec<T>) -> Self
         ensures { result ≡ vec.items }
     {
         Items { vec }
     }
 
+    /// The items.
     pub fn as_slice(&self) -> &[T]
         ensures { result.now ≡ self.now }
     {
         self.vec.as_slice()
     }
 
+    /// The `Vec` that the list was made of.
     pub fn into_vec(self) -> Vec<T>
         ensures { result.items ≡ self }
     {

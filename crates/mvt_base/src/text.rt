@@ -63,6 +63,7 @@ impl Text {
         Ok(Text { repr })
     }
 
+    /// The text.
     #[inline(always)]
     pub fn as_str(&self) -> &str
         ensures text { result.now ≡ self.now }

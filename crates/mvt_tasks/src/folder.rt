@@ -47,6 +47,7 @@ pub struct Disk<'a, R: Files> {
 }
 
 impl<'a, R: Files> Disk<'a, R> {
+    /// The files that the system shows the program.
     pub fn new(files: &'a R) -> Self {
         Disk { files }
     }

@@ -38,6 +38,7 @@ impl Model for MemoryFolder {
 }
 
 impl MemoryFolder {
+    /// These files, none of which was asked for yet.
     pub fn new(alloc: Global, files: Vec<MemoryFile>) -> Self
         ensures { result ≡ record { files = files.items; visits = Some [] } }
     {

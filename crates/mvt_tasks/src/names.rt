@@ -18,12 +18,14 @@ impl Model for Names {
 }
 
 impl Names {
+    /// These names, in this order.
     pub fn new(strings: Vec<String>) -> Self
         ensures { result ≡ map string_bytes strings.items }
     {
         Names { strings }
     }
 
+    /// Whether there is no name.
     pub fn is_empty(&self) -> bool
         ensures none { result ≡ true → self.now ≡ [] }
         ensures some { result ≡ false → self.now ≢ [] }
@@ -31,6 +33,7 @@ impl Names {
         self.strings.is_empty()
     }
 
+    /// The names.
     pub fn as_slice(&self) -> &[String]
         ensures { map string_bytes result.now ≡ self.now }
     {

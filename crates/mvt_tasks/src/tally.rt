@@ -38,6 +38,7 @@ pub struct Tally {
 }
 
 impl Tally {
+    /// No file yet.
     pub fn none() -> Self
         ensures { result ≡ record { accepted = 0; refused = 0; unread = 0 } }
     {

@@ -8,6 +8,7 @@ use mvt_tile::TileDecoder;
 use std::alloc::{AllocError, Global};
 use std::marker::Model;
 
+/// A decoder, as a value of this crate.
 #[derive(Drop)]
 pub struct Decoder {
     pub inner: TileDecoder,
@@ -26,6 +27,7 @@ impl Model for Held {
 }
 
 impl Held {
+    /// A decoder in memory of its own.
     pub fn new(alloc: Global, decoder: Decoder) -> Result<Held, AllocError>
         ensures { IfOk result (λ held. held.decoder ≡ decoder) }
     {
@@ -40,12 +42,14 @@ impl Held {
         Held { ptr, alloc }
     }
 
+    /// The decoder back from C.
     pub fn into_box(self) -> Box<Decoder>
         ensures { result.value ≡ self.decoder }
     {
         self.into_parts().into_box()
     }
 
+    /// The decoder for C to hold.
     pub fn of_box(decoder: Box<Decoder>) -> Held
         ensures { result.decoder ≡ decoder.value }
     {
