@@ -6,7 +6,8 @@ use Rattle.std.proofs.lemmas.Int.{ints, to_z-of_z, fits_signed_from_abs}
 use Rattle.mvt_geometry.specs.declared.shape.Point.{Point}
 use Rattle.mvt_geometry.specs.Area.{cross, crosses, area2}
 use Rattle.mvt_geometry.specs.Commands.{Pair, stepped, moved, positions}
-use Rattle.mvt_geometry.specs.Inner.Judging.{edges, last_of}
+use Rattle.mvt_geometry.specs.Inner.Judging.{edges}
+use Rattle.mvt_geometry.specs.Shape.{last_of}
 
 pub crosses-edges : (p : Point) (ps : List Point) (q : Point) → crosses (p ∷ ps) (ps ++ q ∷ []) ≡ edges p ps +ℤ cross (last_of p ps) q
 crosses-edges p [] q = omega (arith, ints)

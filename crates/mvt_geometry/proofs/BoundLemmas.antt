@@ -8,15 +8,11 @@ use Rattle.mvt_geometry.specs.declared.shape.Polygon.{Polygon}
 use Rattle.mvt_geometry.specs.declared.shape.Geometry.{Geometry}
 use Rattle.mvt_geometry.specs.declared.shape.Geometry.TheVariants.{Unknown, Points, Lines, Polygons}
 use Rattle.mvt_geometry.specs.Bounds.{line_bound, lines_bound, polygon_bound, geometry_bound}
-use Rattle.mvt_geometry.specs.Shape.{origin, rings_of}
+use Rattle.mvt_geometry.specs.Shape.{origin, rings_of, last_of}
 use Rattle.mvt_geometry.specs.Valid.{IsValid}
-use Rattle.mvt_geometry.specs.Drawing.{drawn, path_from}
-use Rattle.mvt_geometry.specs.Inner.Strokes.{stroke, strokes_from}
-use Rattle.mvt_geometry.specs.Inner.Judging.{last_of}
+use Rattle.mvt_geometry.specs.Drawing.{drawn, path_from, stroke, strokes}
 use Rattle.mvt_geometry.proofs.LawLemmas.{drawn_small_lem}
 use Rattle.mvt_geometry.proofs.PathLemmas.{length-path}
-use Rattle.mvt_geometry.proofs.StrokeLemmas.{strokes_are}
-use Rattle.mvt_geometry.proofs.WholeLemmas.{some_of_strokes}
 
 -- what the level below gives
 abbrev pub FiveEach : Type 0
@@ -29,12 +25,12 @@ stroke_length end c (p ∷ ps) h =
     let behind = length-append (path_from p ps) end in
     omega (arith, path, behind)
 
-strokes_length : (end : List ℕ) (c : Point) (ls : List (List Point)) → length end ≤ 1 → 5 * length (strokes_from end c ls) ≤ lines_bound ls
+strokes_length : (end : List ℕ) (c : Point) (ls : List (List Point)) → length end ≤ 1 → 5 * length (strokes end c ls) ≤ lines_bound ls
 strokes_length end c [] h = omega arith
 strokes_length end c (l ∷ ls) h =
     let one = stroke_length end c l h in
     let others = strokes_length end (last_of c l) ls h in
-    let parts = length-append (stroke end c l) (strokes_from end (last_of c l) ls) in
+    let parts = length-append (stroke end c l) (strokes end (last_of c l) ls) in
     let sums = sum_by-cons line_bound l ls in
     omega (arith, parts, sums)
 
@@ -51,14 +47,11 @@ few_integers : (g : Geometry) → IsValid g → 5 * length (drawn g) ≤ geometr
 few_integers (Unknown integers) valid = omega arith
 few_integers (Points points) valid = let path = length-path origin points in omega (arith, path)
 few_integers (Lines ls) valid =
-    let same = ap length (strokes_are [] origin ls (some_of_strokes 2 ls (omega arith) valid.1)) in
-    let few = strokes_length [] origin ls (omega arith) in
-    omega (arith, same, few)
+    strokes_length [] origin ls (omega arith)
 few_integers (Polygons ps) valid =
-    let same = ap length (strokes_are (15 ∷ []) origin (rings_of ps) (some_of_strokes 3 (rings_of ps) (omega arith) valid.1)) in
     let few = strokes_length (15 ∷ []) origin (rings_of ps) (omega arith) in
     let sums = rings_bound ps in
-    omega (arith, same, few, sums)
+    omega (arith, few, sums)
 
 pub bound_holds_lem : FiveEach → (g : Geometry) → IsValid g → length (short_numbers (drawn g)) ≤ geometry_bound g
 bound_holds_lem five g valid =

@@ -8,16 +8,13 @@ use Rattle.mvt_geometry.specs.declared.shape.Polygon.{Polygon}
 use Rattle.mvt_geometry.specs.declared.shape.Geometry.{Geometry}
 use Rattle.mvt_geometry.specs.declared.shape.Geometry.TheVariants.{Unknown, Points, Lines, Polygons}
 use Rattle.mvt_geometry.specs.declared.shape.Kind.TheVariants as kinds
-use Rattle.mvt_geometry.specs.Shape.{IsPlace, origin, rings_of}
+use Rattle.mvt_geometry.specs.Shape.{IsPlace, origin, rings_of, last_of}
 use Rattle.mvt_geometry.specs.Valid.{IsStroke, Grouped}
-use Rattle.mvt_geometry.specs.Drawing.{path_from, Draws}
+use Rattle.mvt_geometry.specs.Drawing.{path_from, Draws, strokes}
 use Rattle.mvt_geometry.specs.Commands.{pairs_of, stepped, moved, positions}
-use Rattle.mvt_geometry.specs.Inner.Judging.{last_of}
-use Rattle.mvt_geometry.specs.Inner.Strokes.{strokes_from}
 use Rattle.mvt_geometry.specs.Inner.Building.{ArePlaces, IsFront, AreLines, AreRings}
 use Rattle.mvt_geometry.proofs.PathLemmas.{pairs-path, positions-between, moved-between, length-path}
-use Rattle.mvt_geometry.proofs.StrokeLemmas.{stroke-more, strokes_are}
-use Rattle.mvt_geometry.proofs.WholeLemmas.{some_of_strokes}
+use Rattle.mvt_geometry.proofs.StrokeLemmas.{stroke-more}
 use Rattle.mvt_geometry.proofs.GroupLemmas.{one_grouping}
 use Rattle.mvt_geometry.specs.Inner.Grouping.{polygons_of}
 use Rattle.mvt_geometry.proofs.WalkLemmas.{pairs_front, pairs_end, first_pair}
@@ -69,10 +66,10 @@ front_is from ints (p ∷ ps) more f =
     record { head = p; tail = ps; line_is = refl; ints_are = f.spelled ∙ stroke-more [] from p ps more; few = omega (arith, f.is.few); places = f.is.places }
 
 -- the first of some lines
-pub lines_front : (end : List ℕ) (c : Point) (ints : List ℕ) (l : List Point) (ls : List (List Point)) → AreLines end c ints (l ∷ ls) → IsFront c ints l (end ++ strokes_from end (last_of c l) ls)
+pub lines_front : (end : List ℕ) (c : Point) (ints : List ℕ) (l : List Point) (ls : List (List Point)) → AreLines end c ints (l ∷ ls) → IsFront c ints l (end ++ strokes end (last_of c l) ls)
 lines_front end c ints [] ls a = absurd (omega (arith, a.are.0.enough))
 lines_front end c ints (p ∷ ps) ls a =
-    record { is = a.are.0; spelled = a.spelled ∙ stroke-more end c p ps (strokes_from end (last_of p ps) ls) ∙ sym (stroke-more [] c p ps (end ++ strokes_from end (last_of p ps) ls)) }
+    record { is = a.are.0; spelled = a.spelled ∙ stroke-more end c p ps (strokes end (last_of p ps) ls) ∙ sym (stroke-more [] c p ps (end ++ strokes end (last_of p ps) ls)) }
 
 -- the parts of a line in front
 module _ {from : Point} {ints : List ℕ} {line : List Point} {more : List ℕ} (f : Front from ints line more) (front back : List ℕ) (front_part : front ≡ take 4 ints) (back_part : back ≡ drop 4 ints) where
@@ -117,12 +114,12 @@ pub record FirstLine (end : List ℕ) (c : Point) (ints : List ℕ) (lines : Lis
   pub line : List Point
   pub others : List (List Point)
   pub lines_are : lines ≡ line ∷ others
-  pub front : IsFront c ints line (end ++ strokes_from end (last_of c line) others)
-  pub others_are : (d : Point) (rest : List ℕ) → d ≡ last_of c line → rest ≡ strokes_from end (last_of c line) others → AreLines end d rest others
+  pub front : IsFront c ints line (end ++ strokes end (last_of c line) others)
+  pub others_are : (d : Point) (rest : List ℕ) → d ≡ last_of c line → rest ≡ strokes end (last_of c line) others → AreLines end d rest others
 
 lines_first : (end : List ℕ) (c : Point) (ints : List ℕ) (l : List Point) (ls : List (List Point)) → AreLines end c ints (l ∷ ls) → FirstLine end c ints (l ∷ ls)
 lines_first end c ints l ls a =
-    record { line = l; others = ls; lines_are = refl; front = lines_front end c ints l ls a; others_are = λ d rest e f. record { are = a.are.1; spelled = f ∙ ap (λ p. strokes_from end p ls) (sym e) } }
+    record { line = l; others = ls; lines_are = refl; front = lines_front end c ints l ls a; others_are = λ d rest e f. record { are = a.are.1; spelled = f ∙ ap (λ p. strokes end p ls) (sym e) } }
 
 pub rings_first : {ints : List ℕ} {rings : List (List Point)} → AreRings ints rings → FirstLine (15 ∷ []) origin ints rings
 rings_first {rings = []} a = absurd (omega (arith, a.some))
@@ -147,7 +144,7 @@ draws_points ints (Polygons ps) d = cc d.same_kind
 pub draws_lines : (ints : List ℕ) (g : Geometry) → Draws kinds.LineString ints g → (ls : List (List Point)) × (g ≡ Lines ls) × AreLines [] origin ints ls
 draws_lines ints (Unknown u) d = cc d.same_kind
 draws_lines ints (Points ps) d = cc d.same_kind
-draws_lines ints (Lines ls) d = (ls, refl, record { are = d.valid.1; spelled = d.spelled ∙ strokes_are [] origin ls (some_of_strokes 2 ls (omega arith) d.valid.1) })
+draws_lines ints (Lines ls) d = (ls, refl, record { are = d.valid.1; spelled = d.spelled })
 draws_lines ints (Polygons ps) d = cc d.same_kind
 
 some_rings : (polygons : List Polygon) → Grouped (rings_of polygons) polygons → 0 < length (rings_of polygons)
@@ -161,4 +158,4 @@ draws_polygons ints (Lines ls) d = cc d.same_kind
 draws_polygons ints (Polygons polygons) d =
     let rings = rings_of polygons in
     let weaker = all_weaker (IsStroke 3) (IsStroke 2) (λ l is. record { enough = omega (arith, is.enough); few = is.few; apart = is.apart; places = is.places }) rings d.valid.1 in
-    (polygons, refl, record { lines = record { are = weaker; spelled = d.spelled ∙ strokes_are (15 ∷ []) origin rings (some_of_strokes 3 rings (omega arith) d.valid.1) }; some = some_rings polygons d.valid.0 }, one_grouping rings polygons d.valid.0)
+    (polygons, refl, record { lines = record { are = weaker; spelled = d.spelled }; some = some_rings polygons d.valid.0 }, one_grouping rings polygons d.valid.0)

@@ -8,22 +8,21 @@ use Rattle.mvt_geometry.specs.declared.shape.Geometry.TheVariants.{Unknown, Poin
 use Rattle.mvt_geometry.specs.declared.shape.Kind.{Kind}
 use Rattle.mvt_geometry.specs.declared.shape.Kind.TheVariants as kinds
 use Rattle.mvt_geometry.specs.declared.command.Command.TheVariants.{LineTo}
-use Rattle.mvt_geometry.specs.Shape.{AreSteps, joined, origin, rings_of}
+use Rattle.mvt_geometry.specs.Shape.{AreSteps, joined, origin, rings_of, last_of}
 use Rattle.mvt_geometry.specs.Area.{cross, area2}
 use Rattle.mvt_geometry.specs.Valid.{IsStroke}
-use Rattle.mvt_geometry.specs.Drawing.{Draws}
+use Rattle.mvt_geometry.specs.Drawing.{Draws, stroke, strokes}
 use Rattle.mvt_geometry.specs.Commands.{pairs_of, pairs_at, moved, positions}
 use Rattle.mvt_geometry.specs.Table.{pair_rules}
-use Rattle.mvt_geometry.specs.Inner.Judging.{IsHeader, Reached, edges, last_of, part_count}
-use Rattle.mvt_geometry.specs.Inner.Strokes.{pairs_between, stroke, strokes_from}
+use Rattle.mvt_geometry.specs.Inner.Judging.{IsHeader, Reached, edges, part_count}
+use Rattle.mvt_geometry.specs.Inner.Strokes.{pairs_between}
 use Rattle.mvt_geometry.specs.Inner.Grouping.{groups_of, polygons_of}
 use Rattle.mvt_geometry.proofs.AreaLemmas.{area2-ring}
 use Rattle.mvt_geometry.proofs.CommandLemmas.{moves-are, cursor-next, pairs_behind}
 use Rattle.mvt_geometry.proofs.PathLemmas.{positions-between, moved-between}
 use Rattle.mvt_geometry.proofs.FoundLemmas.{front_of_rest}
 use Rattle.mvt_geometry.proofs.RingLemmas.{ring_due, reached_close}
-use Rattle.mvt_geometry.proofs.StrokeLemmas.{lines_have, rings_have, stroke_drawn, strokes_are, steps-front, steps-back}
-use Rattle.mvt_geometry.proofs.WholeLemmas.{some_of_strokes}
+use Rattle.mvt_geometry.proofs.StrokeLemmas.{lines_have, rings_have, stroke_drawn, steps-front, steps-back}
 use Rattle.mvt_geometry.proofs.LineLemmas.{line_due}
 use Rattle.mvt_geometry.proofs.PolygonLemmas.{stroke_closed}
 use Rattle.mvt_geometry.proofs.GroupLemmas.{opens, joins, one_grouping}
@@ -36,7 +35,7 @@ one_place r q = let same = sym r.stands.begins ∙ q.stands.begins in (cc, sym r
 pub record Left (least : ℕ) (end : List ℕ) (g : List ℕ) (s : ℕ) (c : Point) (rest : List (List Point)) : Type 0 where
   pub are : AllByRecursion (IsStroke least) rest
   pub small_steps : AreSteps c (joined rest)
-  pub spelled : drop s g ≡ strokes_from end c rest
+  pub spelled : drop s g ≡ strokes end c rest
 
 -- at the end none is left
 pub none_left : (least : ℕ) (end g : List ℕ) (s : ℕ) (c : Point) (rest : List (List Point)) → 0 < least → Left least end g s c rest → length g ≤ s → rest ≡ []
@@ -55,12 +54,12 @@ some_left least end g s c ((p ∷ ps) ∷ rest) some left here = (p, ps, rest, r
 pub line_passed : (g : List ℕ) (k s t : ℕ) (c d p : Point) (ps : List Point) (rs : List (List Point)) → Reached kinds.LineString g k s c → k % 2 ≡ 0 → Left 2 [] g s c ((p ∷ ps) ∷ rs) → Reached kinds.LineString g (suc (suc k)) t d → Left 2 [] g t d rs
 line_passed g k s t c d p ps rs r e left next =
     let is_due = line_due k e in
-    let f = stroke_drawn lines_have r is_due.0 is_due.1 p ps (strokes_from [] (last_of p ps) rs) left.are.0 (steps-front c (p ∷ ps) (joined rs) left.small_steps) left.spelled in
+    let f = stroke_drawn lines_have r is_due.0 is_due.1 p ps (strokes [] (last_of p ps) rs) left.are.0 (steps-front c (p ∷ ps) (joined rs) left.small_steps) left.spelled in
     let same = one_place next f.1 in
     record {
       are = left.are.1;
       small_steps = subst (λ q. AreSteps q (joined rs)) (sym same.1) (steps-back c (p ∷ ps) (joined rs) left.small_steps);
-      spelled = ap (λ m. drop m g) same.0 ∙ f.2 ∙ ap (λ q. strokes_from [] q rs) (sym same.1);
+      spelled = ap (λ m. drop m g) same.0 ∙ f.2 ∙ ap (λ q. strokes [] q rs) (sym same.1);
     }
 
 -- ---- rings
@@ -83,12 +82,12 @@ module _ {g : List ℕ} {k s t : ℕ} {c d : Point} (e : k % 3 ≡ 0) (r : Reach
       let tail_is : positions d (pairs_of parameters) ≡ ps = ap₂ positions head_is pairs_are ∙ positions-between p ps in
       (ap₂ (λ x y. x +ℤ y) (ap₂ edges head_is tail_is) (ap₂ cross same.1 head_is) ∙ sym (area2-ring p ps), (front_of_rest g (t + 1 + 2 * n) 15 more (ap (λ m. drop m g) same.0 ∙ f.2)).2, same.1)
 
-pub ring_left : (g : List ℕ) (s t : ℕ) (c d p : Point) (ps : List Point) (rs : List (List Point)) → Left 3 (15 ∷ []) g s c ((p ∷ ps) ∷ rs) → drop t g ≡ strokes_from (15 ∷ []) (last_of p ps) rs → d ≡ last_of p ps → Left 3 (15 ∷ []) g t d rs
+pub ring_left : (g : List ℕ) (s t : ℕ) (c d p : Point) (ps : List Point) (rs : List (List Point)) → Left 3 (15 ∷ []) g s c ((p ∷ ps) ∷ rs) → drop t g ≡ strokes (15 ∷ []) (last_of p ps) rs → d ≡ last_of p ps → Left 3 (15 ∷ []) g t d rs
 ring_left g s t c d p ps rs left spelled last =
     record {
       are = left.are.1;
       small_steps = subst (λ q. AreSteps q (joined rs)) (sym last) (steps-back c (p ∷ ps) (joined rs) left.small_steps);
-      spelled = spelled ∙ ap (λ q. strokes_from (15 ∷ []) q rs) (sym last);
+      spelled = spelled ∙ ap (λ q. strokes (15 ∷ []) q rs) (sym last);
     }
 
 -- a ring opens a polygon where none is open, or its area is positive
@@ -120,7 +119,7 @@ rings_step g s t c d n m area rings here passed counts (rest, left, total) =
     let ps = some.1 in
     let rs = some.2 in
     let whole : Left 3 (15 ∷ []) g s c ((p ∷ ps) ∷ rs) = subst (Left 3 (15 ∷ []) g s c) some.3 left in
-    let ring = passed p ps (strokes_from (15 ∷ []) (last_of p ps) rs) whole.are.0 (steps-front c (p ∷ ps) (joined rs) whole.small_steps) whole.spelled in
+    let ring = passed p ps (strokes (15 ∷ []) (last_of p ps) rs) whole.are.0 (steps-front c (p ∷ ps) (joined rs) whole.small_steps) whole.spelled in
     (rs, ring_left g s t c d p ps rs whole ring.1 ring.2, counts (p ∷ ps) rs ring.0 ∙ sym (ap (λ l. n + polygons_left n l) some.3) ∙ total)
 
 -- ---- by kind
@@ -128,7 +127,7 @@ rings_step g s t c d n m area rings here passed counts (rest, left, total) =
 pub line_parts : (g : List ℕ) (geometry : Geometry) → Draws kinds.LineString g geometry → (ls : List (List Point)) × Left 2 [] g 0 origin ls × (part_count geometry ≡ length ls)
 line_parts g (Unknown u) d = cc d.same_kind
 line_parts g (Points ps) d = cc d.same_kind
-line_parts g (Lines ls) d = (ls, record { are = d.valid.1; small_steps = d.valid.2; spelled = d.spelled ∙ strokes_are [] origin ls (some_of_strokes 2 ls (omega arith) d.valid.1) }, refl)
+line_parts g (Lines ls) d = (ls, record { are = d.valid.1; small_steps = d.valid.2; spelled = d.spelled }, refl)
 line_parts g (Polygons ps) d = cc d.same_kind
 
 pub polygon_parts : (g : List ℕ) (geometry : Geometry) → Draws kinds.Polygon g geometry → (rings : List (List Point)) × Left 3 (15 ∷ []) g 0 origin rings × (part_count geometry ≡ length (polygons_of rings))
@@ -137,4 +136,4 @@ polygon_parts g (Points ps) d = cc d.same_kind
 polygon_parts g (Lines ls) d = cc d.same_kind
 polygon_parts g (Polygons polygons) d =
     let rings = rings_of polygons in
-    (rings, record { are = d.valid.1; small_steps = d.valid.2; spelled = d.spelled ∙ strokes_are (15 ∷ []) origin rings (some_of_strokes 3 rings (omega arith) d.valid.1) }, ap length (sym (one_grouping rings polygons d.valid.0)))
+    (rings, record { are = d.valid.1; small_steps = d.valid.2; spelled = d.spelled }, ap length (sym (one_grouping rings polygons d.valid.0)))

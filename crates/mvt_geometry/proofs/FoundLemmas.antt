@@ -11,11 +11,12 @@ use Rattle.mvt_geometry.specs.declared.command.Command.TheVariants.{MoveTo, Line
 use Rattle.mvt_geometry.specs.Drawing.{path_from}
 use Rattle.mvt_geometry.specs.Commands.{id_of, is_allowed, due, may_not_end, Pair, pair_count, pairs_of, pairs_at, moves, moved, positions}
 use Rattle.mvt_geometry.specs.Table.{is_line_to, pair_rules, wrong_pairs, wrong_ring, geometry_fault}
-use Rattle.mvt_geometry.specs.Inner.Judging.{IsHeader, Reached, last_of}
+use Rattle.mvt_geometry.specs.Inner.Judging.{IsHeader, Reached}
 use Rattle.mvt_geometry.specs.Inner.Strokes.{pairs_between, MayDraw, AreSmall, Found}
 use Rattle.mvt_geometry.proofs.CommandLemmas.{goes_on, pairs_behind, header_kept, pairs_kept, ring_kept, moves-are, reached_calm}
 use Rattle.mvt_geometry.proofs.RingLemmas.{header_pairs}
 use Rattle.mvt_geometry.proofs.PathLemmas.{moved-between, length-positions, length-path, pairs-path, path-pairs, path_calm, calm_path, SmallPair}
+use Rattle.mvt_geometry.specs.Shape.{last_of}
 
 -- what stands in front of a rest
 pub front_of_rest : (g : List ℕ) (s x : ℕ) (xs : List ℕ) → drop s g ≡ x ∷ xs → (s < length g) × (get_or g s 0 ≡ x) × (drop (s + 1) g ≡ xs)

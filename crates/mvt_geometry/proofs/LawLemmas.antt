@@ -9,17 +9,15 @@ use Rattle.mvt_geometry.specs.declared.shape.Point.{Point}
 use Rattle.mvt_geometry.specs.declared.shape.Geometry.{Geometry}
 use Rattle.mvt_geometry.specs.declared.shape.Geometry.TheVariants.{Unknown, Points, Lines, Polygons}
 use Rattle.mvt_geometry.specs.declared.shape.Kind.{Kind}
-use Rattle.mvt_geometry.specs.Shape.{narrow, InRangeOf, InRange, IsPlaceOf, IsPlace, AreSteps, joined, origin, rings_of, kind_of}
+use Rattle.mvt_geometry.specs.Shape.{narrow, InRangeOf, InRange, IsPlaceOf, IsPlace, AreSteps, joined, origin, rings_of, kind_of, last_of}
 use Rattle.mvt_geometry.specs.Valid.{IsStrokeOf, IsStroke, IsValidOf, IsValid, IsOfFirstProfile}
-use Rattle.mvt_geometry.specs.Drawing.{path_from, path, strokes, drawn, DrawsOf, Draws}
-use Rattle.mvt_geometry.specs.Inner.Judging.{last_of}
-use Rattle.mvt_geometry.specs.Inner.Strokes.{stroke, strokes_from, AreSmall}
+use Rattle.mvt_geometry.specs.Drawing.{path_from, path, strokes, drawn, DrawsOf, Draws, stroke}
+use Rattle.mvt_geometry.specs.Inner.Strokes.{AreSmall}
 use Rattle.mvt_geometry.specs.Inner.Grouping.{polygons_of}
 use Rattle.mvt_geometry.proofs.PathLemmas.{length-path}
 use Rattle.mvt_geometry.proofs.BuildLemmas.{positions-path}
 use Rattle.mvt_geometry.specs.Commands.{pairs_of, positions}
-use Rattle.mvt_geometry.proofs.StrokeLemmas.{stroke-more, strokes_are, steps-front, steps-back}
-use Rattle.mvt_geometry.proofs.WholeLemmas.{some_of_strokes}
+use Rattle.mvt_geometry.proofs.StrokeLemmas.{stroke-more, steps-front, steps-back}
 use Rattle.mvt_geometry.proofs.GroupLemmas.{one_grouping}
 
 -- a path has one list of points
@@ -41,7 +39,7 @@ one_stroke end c p q ps qs more others e =
     let back : end ++ more ≡ end ++ others = sym (drop_at (path_from p ps) (end ++ more) (2 * length ps) (length-path p ps)) ∙ ap₂ (λ n xs. drop (2 * n) xs) long parts.2 ∙ drop_at (path_from q qs) (end ++ others) (2 * length qs) (length-path q qs) in
     (ap₂ (λ (r : Point) rs. r ∷ rs) same (one_path p ps qs front), append_cancel_left end more others back)
 
-one_list : (end : List ℕ) (c : Point) (ls ms : List (List Point)) → AllByRecursion (λ l. 0 < length l) ls → AllByRecursion (λ l. 0 < length l) ms → strokes_from end c ls ≡ strokes_from end c ms → ls ≡ ms
+one_list : (end : List ℕ) (c : Point) (ls ms : List (List Point)) → AllByRecursion (λ l. 0 < length l) ls → AllByRecursion (λ l. 0 < length l) ms → strokes end c ls ≡ strokes end c ms → ls ≡ ms
 one_list end c [] [] some others e = refl
 one_list end c [] ([] ∷ ms) some others e = absurd (omega (arith, others.0))
 one_list end c [] ((q ∷ qs) ∷ ms) some others e = absurd (omega (arith, ap length e))
@@ -49,15 +47,16 @@ one_list end c ([] ∷ ls) ms some others e = absurd (omega (arith, some.0))
 one_list end c ((p ∷ ps) ∷ ls) [] some others e = absurd (omega (arith, ap length e))
 one_list end c ((p ∷ ps) ∷ ls) ([] ∷ ms) some others e = absurd (omega (arith, others.0))
 one_list end c ((p ∷ ps) ∷ ls) ((q ∷ qs) ∷ ms) some others e =
-    let parts = one_stroke end c p q ps qs (strokes_from end (last_of p ps) ls) (strokes_from end (last_of q qs) ms) e in
-    let more = one_list end (last_of c (p ∷ ps)) ls ms some.1 others.1 (parts.1 ∙ ap (λ l. strokes_from end (last_of c l) ms) (sym parts.0)) in
+    let parts = one_stroke end c p q ps qs (strokes end (last_of p ps) ls) (strokes end (last_of q qs) ms) e in
+    let more = one_list end (last_of c (p ∷ ps)) ls ms some.1 others.1 (parts.1 ∙ ap (λ l. strokes end (last_of c l) ms) (sym parts.0)) in
     ap₂ (λ (l : List Point) rs. l ∷ rs) parts.0 more
 
-one_strokes : (least : ℕ) (end : List ℕ) (ls ms : List (List Point)) → 0 < least → AllByRecursion (IsStroke least) ls → AllByRecursion (IsStroke least) ms → strokes end ls (path (joined ls)) ≡ strokes end ms (path (joined ms)) → ls ≡ ms
+some_of_strokes : (least : ℕ) (ls : List (List Point)) → 0 < least → AllByRecursion (IsStroke least) ls → AllByRecursion (λ l. 0 < length l) ls
+some_of_strokes least ls h are = all_weaker (IsStroke least) (λ l. 0 < length l) (λ l is. omega (arith, is.enough)) ls are
+
+one_strokes : (least : ℕ) (end : List ℕ) (ls ms : List (List Point)) → 0 < least → AllByRecursion (IsStroke least) ls → AllByRecursion (IsStroke least) ms → strokes end origin ls ≡ strokes end origin ms → ls ≡ ms
 one_strokes least end ls ms h are others e =
-    let some = some_of_strokes least ls h are in
-    let some_others = some_of_strokes least ms h others in
-    one_list end origin ls ms some some_others (sym (strokes_are end origin ls some) ∙ e ∙ strokes_are end origin ms some_others)
+    one_list end origin ls ms (some_of_strokes least ls h are) (some_of_strokes least ms h others) e
 
 pub one_drawing : (g h : Geometry) → kind_of g ≡ kind_of h → IsValid g → IsValid h → drawn g ≡ drawn h → g ≡ h
 one_drawing (Unknown u) (Unknown w) k v w' e = ap Unknown e
@@ -91,22 +90,21 @@ small_path : (c : Point) (ps : List Point) → AreSteps c ps → AreSmall (path_
 small_path c [] steps = tt
 small_path c (p ∷ ps) steps = (small_zig (p.x -ℤ c.x) steps.0.0, (small_zig (p.y -ℤ c.y) steps.0.1, small_path p ps steps.1))
 
-small_strokes : (least : ℕ) (end : List ℕ) (c : Point) (ls : List (List Point)) → AreSmall end → AllByRecursion (IsStroke least) ls → AreSteps c (joined ls) → AreSmall (strokes_from end c ls)
+small_strokes : (least : ℕ) (end : List ℕ) (c : Point) (ls : List (List Point)) → AreSmall end → AllByRecursion (IsStroke least) ls → AreSteps c (joined ls) → AreSmall (strokes end c ls)
 small_strokes least end c [] small are steps = tt
-small_strokes least end c ([] ∷ ls) small are steps = all_joined (λ n. n < 2 ^ 32) end (strokes_from end c ls) small (small_strokes least end c ls small are.1 steps)
+small_strokes least end c ([] ∷ ls) small are steps = all_joined (λ n. n < 2 ^ 32) end (strokes end c ls) small (small_strokes least end c ls small are.1 steps)
 small_strokes least end c ((p ∷ ps) ∷ ls) small are steps =
     let here = steps-front c (p ∷ ps) (joined ls) steps in
     let first = small_path c (p ∷ []) (here.0, tt) in
     let more = small_strokes least end (last_of p ps) ls small are.1 (steps-back c (p ∷ ps) (joined ls) steps) in
-    let behind = all_joined (λ n. n < 2 ^ 32) (path_from p ps) (end ++ strokes_from end (last_of p ps) ls) (small_path p ps here.1) (all_joined (λ n. n < 2 ^ 32) end (strokes_from end (last_of p ps) ls) small more) in
-    subst AreSmall (sym (stroke-more end c p ps (strokes_from end (last_of p ps) ls))) (omega arith, (first.0, (first.1.0, (omega (arith, are.0.few), behind))))
+    let behind = all_joined (λ n. n < 2 ^ 32) (path_from p ps) (end ++ strokes end (last_of p ps) ls) (small_path p ps here.1) (all_joined (λ n. n < 2 ^ 32) end (strokes end (last_of p ps) ls) small more) in
+    subst AreSmall (sym (stroke-more end c p ps (strokes end (last_of p ps) ls))) (omega arith, (first.0, (first.1.0, (omega (arith, are.0.few), behind))))
 
 pub drawn_small_lem : (g : Geometry) → IsValid g → AreSmall (drawn g)
 drawn_small_lem (Unknown u) v = v
 drawn_small_lem (Points ps) v = (omega (arith, v.1), small_path origin ps v.3)
-drawn_small_lem (Lines ls) v = subst AreSmall (sym (strokes_are [] origin ls (some_of_strokes 2 ls (omega arith) v.1))) (small_strokes 2 [] origin ls tt v.1 v.2)
-drawn_small_lem (Polygons ps) v =
-    subst AreSmall (sym (strokes_are (15 ∷ []) origin (rings_of ps) (some_of_strokes 3 (rings_of ps) (omega arith) v.1))) (small_strokes 3 (15 ∷ []) origin (rings_of ps) (omega arith, tt) v.1 v.2)
+drawn_small_lem (Lines ls) v = small_strokes 2 [] origin ls tt v.1 v.2
+drawn_small_lem (Polygons ps) v = small_strokes 3 (15 ∷ []) origin (rings_of ps) (omega arith, tt) v.1 v.2
 
 -- the first profile's positions are in the wide range, and so are their differences
 widened : (z : ℤ) → InRangeOf narrow z → InRange z

@@ -6,14 +6,15 @@ use Rattle.std.proofs.lemmas.List.{drop_all}
 use Rattle.mvt_geometry.specs.declared.shape.Point.{Point}
 use Rattle.mvt_geometry.specs.declared.shape.Kind.TheVariants as kinds
 use Rattle.mvt_geometry.specs.declared.command.Command.TheVariants.{MoveTo, LineTo, ClosePath}
-use Rattle.mvt_geometry.specs.Shape.{AreSteps, joined}
+use Rattle.mvt_geometry.specs.Shape.{AreSteps, joined, last_of}
 use Rattle.mvt_geometry.specs.Valid.{IsStroke}
 use Rattle.mvt_geometry.specs.Commands.{due, may_not_end}
 use Rattle.mvt_geometry.specs.Table.{geometry_fault}
-use Rattle.mvt_geometry.specs.Inner.Judging.{Reached, last_of}
-use Rattle.mvt_geometry.specs.Inner.Strokes.{stroke, strokes_from, AreSmall, FoundStroke}
+use Rattle.mvt_geometry.specs.Inner.Judging.{Reached}
+use Rattle.mvt_geometry.specs.Inner.Strokes.{AreSmall, FoundStroke}
 use Rattle.mvt_geometry.proofs.CommandLemmas.{may_end}
 use Rattle.mvt_geometry.proofs.StrokeLemmas.{lines_have, stroke_found, stroke_drawn, steps-append, steps-front, steps-back}
+use Rattle.mvt_geometry.specs.Drawing.{stroke, strokes}
 
 pub line_due : (k : ℕ) → k % 2 ≡ 0 → (due kinds.LineString k ≡ Some MoveTo) × (due kinds.LineString (suc k) ≡ Some LineTo)
 line_due k e = let one : suc k % 2 ≡ 1 = omega (arith, e) in (rw e refl, rw one refl)
@@ -26,7 +27,7 @@ pub record FoundLines (g : List ℕ) (s : ℕ) (c : Point) : Type 0 where
   pub lines : List (List Point)
   pub are : AllByRecursion (IsStroke 2) lines
   pub small_steps : AreSteps c (joined lines)
-  pub spelled : drop s g ≡ strokes_from [] c lines
+  pub spelled : drop s g ≡ strokes [] c lines
   pub some : s < length g → 0 < length lines
 
 no_lines : (g : List ℕ) (s : ℕ) (c : Point) → length g ≤ s → FoundLines g s c
@@ -52,7 +53,7 @@ lines_found g none small (suc n) k s c bound r e = at_place (cases_lt s (length 
         let f = stroke_found lines_have r (line_due k e).0 (line_due k e).1 none h small in
         one_line g k s c h f (again (suc (suc k)) f.end (last_of f.head f.tail) (omega (arith, bound, f.further)) f.next (omega (arith, e)))
 
-pub lines_drawn : (g : List ℕ) (ls : List (List Point)) (k s : ℕ) (c : Point) → Reached kinds.LineString g k s c → k % 2 ≡ 0 → 0 < k + length ls → AllByRecursion (IsStroke 2) ls → AreSteps c (joined ls) → drop s g ≡ strokes_from [] c ls
+pub lines_drawn : (g : List ℕ) (ls : List (List Point)) (k s : ℕ) (c : Point) → Reached kinds.LineString g k s c → k % 2 ≡ 0 → 0 < k + length ls → AllByRecursion (IsStroke 2) ls → AreSteps c (joined ls) → drop s g ≡ strokes [] c ls
     → geometry_fault kinds.LineString g ≡ None
 lines_drawn g [] k s c r e some are small spelled =
     let over : length g ≤ s = omega (arith, length-drop s g, ap length spelled) in
@@ -60,5 +61,5 @@ lines_drawn g [] k s c r e some are small spelled =
     may_end (λ same. cc) r over may.0 may.1
 lines_drawn g ([] ∷ ls) k s c r e some are small spelled = absurd (omega (arith, are.0.enough))
 lines_drawn g ((p ∷ ps) ∷ ls) k s c r e some are small spelled =
-    let next = stroke_drawn lines_have r (line_due k e).0 (line_due k e).1 p ps (strokes_from [] (last_of p ps) ls) are.0 (steps-front c (p ∷ ps) (joined ls) small) spelled in
+    let next = stroke_drawn lines_have r (line_due k e).0 (line_due k e).1 p ps (strokes [] (last_of p ps) ls) are.0 (steps-front c (p ∷ ps) (joined ls) small) spelled in
     lines_drawn g ls (suc (suc k)) next.0 (last_of p ps) next.1 (omega (arith, e)) (omega arith) are.1 (steps-back c (p ∷ ps) (joined ls) small) next.2

@@ -8,11 +8,10 @@ use Rattle.mvt_base.specs.Rules.{Rules, first, under, each}
 use Rattle.mvt_base.proofs.RuleLemmas.{first-append, first-under, option_or-nones}
 use Rattle.mvt_wire.specs.Zigzag.{zig}
 use Rattle.mvt_geometry.specs.declared.shape.Point.{Point}
-use Rattle.mvt_geometry.specs.Shape.{InRange, IsPlace, AreSteps, Apart}
+use Rattle.mvt_geometry.specs.Shape.{InRange, IsPlace, AreSteps, Apart, last_of}
 use Rattle.mvt_geometry.specs.Drawing.{path_from}
 use Rattle.mvt_geometry.specs.Commands.{Pair, pairs_of, unzig, stepped, moved, positions}
 use Rattle.mvt_geometry.specs.Table.{IndexedCause, step_rules, pair_rules}
-use Rattle.mvt_geometry.specs.Inner.Judging.{last_of}
 use Rattle.mvt_geometry.specs.Inner.Strokes.{pair_between, pairs_between}
 use Rattle.mvt_geometry.proofs.StepLemmas.{step_right, step_gives}
 use Rattle.mvt_geometry.proofs.WalkLemmas.{moved-append, pair_rule}

@@ -9,14 +9,14 @@ use Rattle.mvt_base.specs.Rules.{first}
 use Rattle.mvt_geometry.specs.declared.shape.Point.{Point}
 use Rattle.mvt_geometry.specs.declared.shape.Kind.TheVariants as kinds
 use Rattle.mvt_geometry.specs.declared.command.Command.TheVariants.{ClosePath}
-use Rattle.mvt_geometry.specs.Shape.{AreSteps, joined, origin}
+use Rattle.mvt_geometry.specs.Shape.{AreSteps, joined, origin, last_of}
 use Rattle.mvt_geometry.specs.Area.{area2}
 use Rattle.mvt_geometry.specs.Valid.{IsStroke}
-use Rattle.mvt_geometry.specs.Drawing.{path_from}
+use Rattle.mvt_geometry.specs.Drawing.{path_from, stroke, strokes}
 use Rattle.mvt_geometry.specs.Commands.{Pair, due, may_not_end, moves, positions, first_ring}
 use Rattle.mvt_geometry.specs.Table.{wrong_ring, geometry_fault}
-use Rattle.mvt_geometry.specs.Inner.Judging.{Reached, last_of}
-use Rattle.mvt_geometry.specs.Inner.Strokes.{pair_between, pairs_between, stroke, strokes_from, MayDraw, AreSmall}
+use Rattle.mvt_geometry.specs.Inner.Judging.{Reached}
+use Rattle.mvt_geometry.specs.Inner.Strokes.{pair_between, pairs_between, MayDraw, AreSmall}
 use Rattle.mvt_geometry.proofs.CommandLemmas.{may_end, reached_calm, ring_kept}
 use Rattle.mvt_geometry.proofs.RingLemmas.{ring_due, ring_fine, fine_ring, must_draw}
 use Rattle.mvt_geometry.proofs.PathLemmas.{positions-between}
@@ -36,7 +36,7 @@ pub record FoundRings (g : List ℕ) (k s : ℕ) (c : Point) : Type 0 where
   pub rings : List (List Point)
   pub are : AllByRecursion (IsStroke 3) rings
   pub small_steps : AreSteps c (joined rings)
-  pub spelled : drop s g ≡ strokes_from (15 ∷ []) c rings
+  pub spelled : drop s g ≡ strokes (15 ∷ []) c rings
   pub some : s < length g → 0 < length rings
   pub fine : k ≡ 0 → c ≡ origin → HasFineFirst rings
 
@@ -112,7 +112,7 @@ rings_found g none small (suc n) k s c bound r e = at_place (cases_lt s (length 
         one_ring g k s c h f (again (suc (suc (suc k))) f.end (last_of f.head f.tail) (omega (arith, bound, further)) f.next (omega (arith, e)))
 
 pub rings_drawn : (g : List ℕ) (rings : List (List Point)) (k s : ℕ) (c : Point) → Reached kinds.Polygon g k s c → k % 3 ≡ 0 → 0 < k + length rings → (k ≡ 0 → (c ≡ origin) × HasFineFirst rings)
-    → AllByRecursion (IsStroke 3) rings → AreSteps c (joined rings) → drop s g ≡ strokes_from (15 ∷ []) c rings → geometry_fault kinds.Polygon g ≡ None
+    → AllByRecursion (IsStroke 3) rings → AreSteps c (joined rings) → drop s g ≡ strokes (15 ∷ []) c rings → geometry_fault kinds.Polygon g ≡ None
 rings_drawn g [] k s c r e some fine are small spelled =
     let over : length g ≤ s = omega (arith, length-drop s g, ap length spelled) in
     let may = rings_may_end k e (omega arith) in
@@ -120,7 +120,7 @@ rings_drawn g [] k s c r e some fine are small spelled =
 rings_drawn g ([] ∷ rings) k s c r e some fine are small spelled = absurd (omega (arith, are.0.enough))
 rings_drawn g ((p ∷ ps) ∷ rings) k s c r e some fine are small spelled =
     let is_due = ring_due k e in
-    let behind = strokes_from (15 ∷ []) (last_of p ps) rings in
+    let behind = strokes (15 ∷ []) (last_of p ps) rings in
     let f = stroke_drawn rings_have r is_due.0 is_due.1 p ps (15 ∷ behind) are.0 (steps-front c (p ∷ ps) (joined rings) small) (spelled ∙ sym (stroke_closed c p ps behind)) in
     let may : MayDraw kinds.Polygon ClosePath 1 (last_of p ps) [] = record { allowed = refl; pairs = refl; places = tt; small_steps = tt; apart = λ e. cc } in
     let fine_here : suc (suc k) ≡ 2 → pos 0 ≤ℤ area2 (first_ring g) = λ two. let z : k ≡ 0 = omega arith in subst (λ ring. pos 0 ≤ℤ area2 ring) (sym (first_ring_is g k c p ps z (fine z).0 f.3 f.4)) (fine z).1 in

@@ -7,11 +7,9 @@ use Rattle.mvt_base.proofs.ListLemmas.{all_weaker}
 use Rattle.mvt_wire.specs.Zigzag.{zig}
 use Rattle.mvt_geometry.specs.declared.shape.Point.{Point}
 use Rattle.mvt_geometry.specs.declared.shape.Polygon.{Polygon}
-use Rattle.mvt_geometry.specs.Shape.{InRange, AreSteps, joined, rings_of}
+use Rattle.mvt_geometry.specs.Shape.{InRange, AreSteps, joined, rings_of, last_of}
 use Rattle.mvt_geometry.specs.Valid.{IsStroke}
-use Rattle.mvt_geometry.specs.Drawing.{path_from}
-use Rattle.mvt_geometry.specs.Inner.Judging.{last_of}
-use Rattle.mvt_geometry.specs.Inner.Strokes.{stroke, strokes_from}
+use Rattle.mvt_geometry.specs.Drawing.{path_from, stroke, strokes}
 use Rattle.mvt_geometry.specs.Inner.Putting.{IsShort, AreShort, BeginsWith}
 use Rattle.mvt_geometry.proofs.AreaLemmas.{last_of-append}
 use Rattle.mvt_geometry.proofs.StrokeLemmas.{steps-front, steps-back}
@@ -32,9 +30,9 @@ pub path_step : (old new whole : List ℕ) (c p : Point) (points rest : List Poi
 path_step old new whole c p points rest e put so_far =
     ap (λ xs. xs ++ path_from p rest) put ∙ append_assoc (old ++ zig (p.x -ℤ c.x) ∷ []) (zig (p.y -ℤ c.y) ∷ []) (path_from p rest) ∙ append_assoc old (zig (p.x -ℤ c.x) ∷ []) (zig (p.y -ℤ c.y) ∷ path_from p rest) ∙ ap (λ ps. old ++ path_from c ps) (sym e) ∙ so_far
 
-pub stroke_step : (old new whole end : List ℕ) (c d : Point) (line l : List Point) (lines rest : List (List Point)) → lines ≡ l ∷ rest → line ≡ l → d ≡ last_of c line → new ≡ old ++ stroke end c line → old ++ strokes_from end c lines ≡ whole → new ++ strokes_from end d rest ≡ whole
+pub stroke_step : (old new whole end : List ℕ) (c d : Point) (line l : List Point) (lines rest : List (List Point)) → lines ≡ l ∷ rest → line ≡ l → d ≡ last_of c line → new ≡ old ++ stroke end c line → old ++ strokes end c lines ≡ whole → new ++ strokes end d rest ≡ whole
 stroke_step old new whole end c d line l lines rest e same last put so_far =
-    ap₂ (λ xs p. xs ++ strokes_from end p rest) put last ∙ append_assoc old (stroke end c line) (strokes_from end (last_of c line) rest) ∙ ap (λ k. old ++ strokes_from end c (k ∷ rest)) same ∙ ap (λ ls. old ++ strokes_from end c ls) (sym e) ∙ so_far
+    ap₂ (λ xs p. xs ++ strokes end p rest) put last ∙ append_assoc old (stroke end c line) (strokes end (last_of c line) rest) ∙ ap (λ k. old ++ strokes end c (k ∷ rest)) same ∙ ap (λ ls. old ++ strokes end c ls) (sym e) ∙ so_far
 
 pub steps_of : (c : Point) (line l : List Point) (lines rest : List (List Point)) → lines ≡ l ∷ rest → line ≡ l → AreSteps c (joined lines) → AreSteps c line
 steps_of c line l lines rest e same steps = subst (AreSteps c) (sym same) (steps-front c l (joined rest) (subst (λ ls. AreSteps c (joined ls)) e steps))
@@ -51,14 +49,14 @@ pub joined-append : (ls ms : List (List Point)) → joined (ls ++ ms) ≡ joined
 joined-append [] ms = refl
 joined-append (l ∷ ls) ms = ap (λ ps. l ++ ps) (joined-append ls ms) ∙ sym (append_assoc l (joined ls) (joined ms))
 
-pub strokes-append : (end : List ℕ) (c : Point) (ls ms : List (List Point)) → strokes_from end c (ls ++ ms) ≡ strokes_from end c ls ++ strokes_from end (last_of c (joined ls)) ms
+pub strokes-append : (end : List ℕ) (c : Point) (ls ms : List (List Point)) → strokes end c (ls ++ ms) ≡ strokes end c ls ++ strokes end (last_of c (joined ls)) ms
 strokes-append end c [] ms = refl
 strokes-append end c (l ∷ ls) ms =
-    ap (λ xs. stroke end c l ++ xs) (strokes-append end (last_of c l) ls ms ∙ ap (λ p. strokes_from end (last_of c l) ls ++ strokes_from end p ms) (sym (last_of-append c l (joined ls)))) ∙ sym (append_assoc (stroke end c l) (strokes_from end (last_of c l) ls) (strokes_from end (last_of c (l ++ joined ls)) ms))
+    ap (λ xs. stroke end c l ++ xs) (strokes-append end (last_of c l) ls ms ∙ ap (λ p. strokes end (last_of c l) ls ++ strokes end p ms) (sym (last_of-append c l (joined ls)))) ∙ sym (append_assoc (stroke end c l) (strokes end (last_of c l) ls) (strokes end (last_of c (l ++ joined ls)) ms))
 
-pub strokes_step : (old new whole end : List ℕ) (c d : Point) (ls ms : List (List Point)) → d ≡ last_of c (joined ls) → new ≡ old ++ strokes_from end c ls → old ++ strokes_from end c (ls ++ ms) ≡ whole → new ++ strokes_from end d ms ≡ whole
+pub strokes_step : (old new whole end : List ℕ) (c d : Point) (ls ms : List (List Point)) → d ≡ last_of c (joined ls) → new ≡ old ++ strokes end c ls → old ++ strokes end c (ls ++ ms) ≡ whole → new ++ strokes end d ms ≡ whole
 strokes_step old new whole end c d ls ms last put so_far =
-    ap₂ (λ xs p. xs ++ strokes_from end p ms) put last ∙ append_assoc old (strokes_from end c ls) (strokes_from end (last_of c (joined ls)) ms) ∙ ap (λ xs. old ++ xs) (sym (strokes-append end c ls ms)) ∙ so_far
+    ap₂ (λ xs p. xs ++ strokes end p ms) put last ∙ append_assoc old (strokes end c ls) (strokes end (last_of c (joined ls)) ms) ∙ ap (λ xs. old ++ xs) (sym (strokes-append end c ls ms)) ∙ so_far
 
 pub strokes_front : (c : Point) (ls ms : List (List Point)) → AreSteps c (joined (ls ++ ms)) → AreSteps c (joined ls)
 strokes_front c ls ms steps = steps-front c (joined ls) (joined ms) (subst (AreSteps c) (joined-append ls ms) steps)

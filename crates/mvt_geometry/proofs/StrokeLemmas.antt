@@ -8,16 +8,15 @@ use Rattle.mvt_geometry.specs.declared.shape.Point.{Point}
 use Rattle.mvt_geometry.specs.declared.shape.Kind.{Kind}
 use Rattle.mvt_geometry.specs.declared.shape.Kind.TheVariants as kinds
 use Rattle.mvt_geometry.specs.declared.command.Command.TheVariants.{MoveTo, LineTo, ClosePath}
-use Rattle.mvt_geometry.specs.Shape.{IsPlace, AreSteps, joined}
+use Rattle.mvt_geometry.specs.Shape.{IsPlace, AreSteps, joined, last_of}
 use Rattle.mvt_geometry.specs.Valid.{IsStroke}
-use Rattle.mvt_geometry.specs.Drawing.{path_from, strokes}
+use Rattle.mvt_geometry.specs.Drawing.{path_from, stroke}
 use Rattle.mvt_geometry.specs.Commands.{is_allowed, due, moves}
 use Rattle.mvt_geometry.specs.Table.{geometry_fault}
-use Rattle.mvt_geometry.specs.Inner.Judging.{Reached, last_of}
-use Rattle.mvt_geometry.specs.Inner.Strokes.{pair_between, pairs_between, stroke, strokes_from, MayDraw, AreSmall, FoundStroke}
+use Rattle.mvt_geometry.specs.Inner.Judging.{Reached}
+use Rattle.mvt_geometry.specs.Inner.Strokes.{pair_between, pairs_between, MayDraw, AreSmall, FoundStroke}
 use Rattle.mvt_geometry.proofs.CommandLemmas.{no_ring}
 use Rattle.mvt_geometry.proofs.RingLemmas.{must_draw}
-use Rattle.mvt_geometry.proofs.PathLemmas.{length-path, path-append}
 use Rattle.mvt_geometry.proofs.FoundLemmas.{command_drawn, rest_drawn, moves_drawn, command_found}
 
 -- steps and neighbours of joined paths
@@ -33,21 +32,9 @@ pub steps-back : (c : Point) (ps qs : List Point) → AreSteps c (ps ++ qs) → 
 steps-back c [] qs h = h
 steps-back c (p ∷ ps) qs h = steps-back p ps qs h.1
 
--- the commands of one line, and all the path cut into lines
+-- the commands of one line, with more behind them
 pub stroke-more : (end : List ℕ) (c p : Point) (ps : List Point) (more : List ℕ) → stroke end c (p ∷ ps) ++ more ≡ 9 ∷ (path_from c (p ∷ []) ++ ((2 + 8 * length ps) ∷ (path_from p ps ++ (end ++ more))))
 stroke-more end c p ps more = ap (λ xs. 9 ∷ (path_from c (p ∷ []) ++ ((2 + 8 * length ps) ∷ xs))) (append_assoc (path_from p ps) end more)
-
-pub strokes_are : (end : List ℕ) (c : Point) (ls : List (List Point)) → AllByRecursion (λ l. 0 < length l) ls → strokes end ls (path_from c (joined ls)) ≡ strokes_from end c ls
-strokes_are end c [] some = refl
-strokes_are end c ([] ∷ ls) some = absurd (omega (arith, some.0))
-strokes_are end c ((p ∷ ps) ∷ ls) some =
-    let rest = path_from (last_of p ps) (joined ls) in
-    let n : suc (length ps) - 1 ≡ length ps = omega arith in
-    let m : 2 * suc (length ps) ≡ suc (suc (2 * length ps)) = omega arith in
-    let whole : path_from p (ps ++ joined ls) ≡ path_from p ps ++ rest = path-append p ps (joined ls) in
-    let front : take (2 * length ps) (path_from p (ps ++ joined ls)) ≡ path_from p ps = ap (take (2 * length ps)) whole ∙ take_at (path_from p ps) rest (2 * length ps) (length-path p ps) in
-    let back : drop (2 * length ps) (path_from p (ps ++ joined ls)) ≡ rest = ap (drop (2 * length ps)) whole ∙ drop_at (path_from p ps) rest (2 * length ps) (length-path p ps) in
-    rw (n, m, front, back, strokes_are end (last_of p ps) ls some.1, append_assoc (path_from p ps) end (strokes_from end (last_of p ps) ls)) refl
 
 one_point : (ps : List Point) → length ps ≡ 1 → (p : Point) × (ps ≡ p ∷ [])
 one_point [] e = cc

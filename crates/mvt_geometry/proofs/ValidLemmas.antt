@@ -6,11 +6,10 @@ use Rattle.mvt_geometry.specs.declared.shape.Polygon.{Polygon}
 use Rattle.mvt_geometry.specs.declared.shape.Geometry.{Geometry}
 use Rattle.mvt_geometry.specs.declared.shape.Geometry.TheVariants.{Unknown, Points, Lines, Polygons}
 use Rattle.mvt_geometry.specs.declared.shape.Kind.{Kind}
-use Rattle.mvt_geometry.specs.Shape.{IsPlace, IsStep, AreSteps, Apart, joined, origin, rings_of, kind_of}
+use Rattle.mvt_geometry.specs.Shape.{IsPlace, IsStep, AreSteps, Apart, joined, origin, rings_of, kind_of, last_of}
 use Rattle.mvt_geometry.specs.Area.{area2}
 use Rattle.mvt_geometry.specs.Valid.{IsStroke, AreInner, IsValid}
 use Rattle.mvt_geometry.specs.Drawing.{drawn, Draws}
-use Rattle.mvt_geometry.specs.Inner.Judging.{last_of}
 use Rattle.mvt_geometry.specs.Inner.Validity.{IsStepTo, IsPath, IsLineFrom, AreLinesFrom, end_of_lines, end_of_polygon, ArePolygonsFrom, CanBeDrawn}
 use Rattle.mvt_geometry.proofs.StrokeLemmas.{steps-append, steps-front, steps-back}
 

@@ -18,17 +18,13 @@ use Rattle.mvt_geometry.specs.Valid.{IsStroke, Grouped, IsValid}
 use Rattle.mvt_geometry.specs.Drawing.{path_from, path, strokes, drawn, Draws}
 use Rattle.mvt_geometry.specs.Table.{IndexedCause, geometry_fault}
 use Rattle.mvt_geometry.specs.Inner.Judging.{Reached}
-use Rattle.mvt_geometry.specs.Inner.Strokes.{strokes_from, MayDraw, AreSmall}
+use Rattle.mvt_geometry.specs.Inner.Strokes.{MayDraw, AreSmall}
 use Rattle.mvt_geometry.specs.Inner.Grouping.{polygons_of}
 use Rattle.mvt_geometry.proofs.CommandLemmas.{first_command, no_ring, may_end, one_command, empty_ends, unknown_calm}
 use Rattle.mvt_geometry.proofs.FoundLemmas.{command_drawn, rest_drawn, command_found}
-use Rattle.mvt_geometry.proofs.StrokeLemmas.{strokes_are}
 use Rattle.mvt_geometry.proofs.LineLemmas.{lines_found, lines_drawn}
 use Rattle.mvt_geometry.proofs.PolygonLemmas.{rings_found, rings_drawn, HasFineFirst}
 use Rattle.mvt_geometry.proofs.GroupLemmas.{rings_grouped}
-
-pub some_of_strokes : (least : ℕ) (ls : List (List Point)) → 0 < least → AllByRecursion (IsStroke least) ls → AllByRecursion (λ l. 0 < length l) ls
-some_of_strokes least ls h are = all_weaker (IsStroke least) (λ l. 0 < length l) (λ l is. omega (arith, is.enough)) ls are
 
 -- integers that draw a geometry have no fault
 points_faultless : (g : List ℕ) (ps : List Point) → IsValid (Points ps) → g ≡ drawn (Points ps) → geometry_fault kinds.Point g ≡ None
@@ -42,7 +38,7 @@ points_faultless g ps valid spelled =
 
 lines_faultless : (g : List ℕ) (ls : List (List Point)) → IsValid (Lines ls) → g ≡ drawn (Lines ls) → geometry_fault kinds.LineString g ≡ None
 lines_faultless g ls valid spelled =
-    lines_drawn g ls 0 0 origin (first_command kinds.LineString g) refl (omega (arith, valid.0)) valid.1 valid.2 (spelled ∙ strokes_are [] origin ls (some_of_strokes 2 ls (omega arith) valid.1))
+    lines_drawn g ls 0 0 origin (first_command kinds.LineString g) refl (omega (arith, valid.0)) valid.1 valid.2 (spelled)
 
 fine_first : (polygons : List Polygon) → Grouped (rings_of polygons) polygons → (0 < length (rings_of polygons)) × HasFineFirst (rings_of polygons)
 fine_first [] h = absurd h
@@ -52,7 +48,7 @@ polygons_faultless : (g : List ℕ) (polygons : List Polygon) → IsValid (Polyg
 polygons_faultless g polygons valid spelled =
     let rings = rings_of polygons in
     let fine = fine_first polygons valid.0 in
-    rings_drawn g rings 0 0 origin (first_command kinds.Polygon g) refl (omega (arith, fine.0)) (λ z. (refl, fine.1)) valid.1 valid.2 (spelled ∙ strokes_are (15 ∷ []) origin rings (some_of_strokes 3 rings (omega arith) valid.1))
+    rings_drawn g rings 0 0 origin (first_command kinds.Polygon g) refl (omega (arith, fine.0)) (λ z. (refl, fine.1)) valid.1 valid.2 (spelled)
 
 pub drawn_faultless : (kind : Kind) (g : List ℕ) (geometry : Geometry) → Draws kind g geometry → geometry_fault kind g ≡ None
 drawn_faultless kind g (Unknown integers) d = rw d.same_kind (unknown_calm g)
@@ -89,14 +85,14 @@ points_there g small none =
 lines_there : (g : List ℕ) → AreSmall g → geometry_fault kinds.LineString g ≡ None → (geometry : Geometry) × Draws kinds.LineString g geometry
 lines_there g small none =
     let found = lines_found g none small (length g) 0 0 origin (omega arith) (first_command kinds.LineString g) refl in
-    (Lines found.lines, record { same_kind = refl; valid = (found.some (not_empty kinds.LineString g (λ same. cc) none), found.are, found.small_steps); spelled = found.spelled ∙ sym (strokes_are [] origin found.lines (some_of_strokes 2 found.lines (omega arith) found.are)) })
+    (Lines found.lines, record { same_kind = refl; valid = (found.some (not_empty kinds.LineString g (λ same. cc) none), found.are, found.small_steps); spelled = found.spelled })
 
 polygons_there : (g : List ℕ) → AreSmall g → geometry_fault kinds.Polygon g ≡ None → (geometry : Geometry) × Draws kinds.Polygon g geometry
 polygons_there g small none =
     let found = rings_found g none small (length g) 0 0 origin (omega arith) (first_command kinds.Polygon g) refl in
     by_rings found.rings found.are found.small_steps found.spelled (found.some (not_empty kinds.Polygon g (λ same. cc) none)) (found.fine refl refl)
   where
-    by_rings : (rings : List (List Point)) → AllByRecursion (IsStroke 3) rings → AreSteps origin (joined rings) → g ≡ strokes_from (15 ∷ []) origin rings → 0 < length rings → HasFineFirst rings → (geometry : Geometry) × Draws kinds.Polygon g geometry
+    by_rings : (rings : List (List Point)) → AllByRecursion (IsStroke 3) rings → AreSteps origin (joined rings) → g ≡ strokes (15 ∷ []) origin rings → 0 < length rings → HasFineFirst rings → (geometry : Geometry) × Draws kinds.Polygon g geometry
     by_rings [] are small spelled some fine = absurd (omega (arith, some))
     by_rings (ring ∷ rings) are small spelled some fine =
         let grouped = rings_grouped ring rings fine in
@@ -106,7 +102,7 @@ polygons_there g small none =
           record {
             same_kind = refl;
             valid = (subst (λ rs. Grouped rs polygons) whole grouped, subst (AllByRecursion (IsStroke 3)) whole are, subst (λ rs. AreSteps origin (joined rs)) whole small);
-            spelled = spelled ∙ sym (strokes_are (15 ∷ []) origin (ring ∷ rings) (some_of_strokes 3 (ring ∷ rings) (omega arith) are)) ∙ ap (λ rs. strokes (15 ∷ []) rs (path (joined rs))) whole;
+            spelled = spelled ∙ ap (strokes (15 ∷ []) origin) whole;
           },
         )
 

@@ -4,15 +4,14 @@ ghost use Rattle.std.specs.Int.RustNames.{unsigned_abs};
 ghost use Rattle.mvt_base.specs.Rules.{first, rows, each};
 ghost use Rattle.mvt_geometry.specs.declared.shape.Geometry.{Geometry};
 ghost use Rattle.mvt_geometry.specs.declared.shape.Point.{Point};
-ghost use Rattle.mvt_geometry.specs.Shape.{AreSteps, InRange, IsPlace};
+ghost use Rattle.mvt_geometry.specs.Shape.{AreSteps, InRange, IsPlace, last_of};
 ghost use Rattle.mvt_geometry.specs.Area.{area2};
-ghost use Rattle.mvt_geometry.specs.Drawing.{Draws};
+ghost use Rattle.mvt_geometry.specs.Drawing.{Draws, stroke};
 ghost use Rattle.mvt_geometry.specs.Valid.{IsStroke};
 ghost use Rattle.mvt_geometry.specs.Commands.{Pair, pair_count, pairs_of, due, may_not_end, unzig, stepped, moved, positions};
 ghost use Rattle.mvt_geometry.specs.Table.{step_rules, pair_rules, header_rows, geometry_fault};
 ghost use Rattle.mvt_geometry.specs.Tells.{Tells};
-ghost use Rattle.mvt_geometry.specs.Inner.Judging.{IsHeader, Reached, edges, last_of, part_count};
-ghost use Rattle.mvt_geometry.specs.Inner.Strokes.{stroke};
+ghost use Rattle.mvt_geometry.specs.Inner.Judging.{IsHeader, Reached, edges, part_count};
 
 use crate::area::cross;
 use crate::command::Command;

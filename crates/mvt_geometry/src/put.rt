@@ -1,11 +1,9 @@
 //! The integers that draw a geometry (sections 4.3.1 to 4.3.4).
 ghost use Rattle.std.specs.Prelude.{◌≡◌, ◌<◌, ◌+◌, ◌*◌, ◌≤◌, ◌^◌, Bool, if◌then◌else◌, List, [], ◌∷◌, ◌++◌, length, ℕ, IfOk, OnOk, OnErr};
 ghost use Rattle.std.specs.List.{AllByRecursion};
-ghost use Rattle.mvt_geometry.specs.Shape.{kind_of, AreSteps, origin, joined, rings_of};
+ghost use Rattle.mvt_geometry.specs.Shape.{kind_of, AreSteps, origin, joined, rings_of, last_of};
 ghost use Rattle.mvt_geometry.specs.Valid.{IsValid};
-ghost use Rattle.mvt_geometry.specs.Drawing.{path_from, drawn, Draws};
-ghost use Rattle.mvt_geometry.specs.Inner.Judging.{last_of};
-ghost use Rattle.mvt_geometry.specs.Inner.Strokes.{stroke, strokes_from};
+ghost use Rattle.mvt_geometry.specs.Drawing.{path_from, drawn, Draws, stroke, strokes};
 ghost use Rattle.mvt_geometry.specs.Inner.Putting.{ending, AreShort, IsShort, BeginsWith};
 
 use crate::judge::ORIGIN;
@@ -74,7 +72,7 @@ fn put_polygons<N: NumberList>(integers: &mut N, polygons: &[Polygon]) -> Result
     requires steps { AreSteps origin (joined (rings_of polygons.now)) }
     requires short { AreShort (rings_of polygons.now) }
     ensures integers { OnOk result (N.numbers integers.new
-        ≡ N.numbers integers.old ++ strokes_from (15 ∷ []) origin (rings_of polygons.now)) }
+        ≡ N.numbers integers.old ++ strokes (15 ∷ []) origin (rings_of polygons.now)) }
     ensures left { OnErr result (BeginsWith (N.numbers integers.old) (N.numbers integers.new)) }
 {
     let mut cursor = ORIGIN;
@@ -95,7 +93,7 @@ fn put_lines<N: NumberList>(
     requires steps { AreSteps from (joined lines.now) }
     requires short { AreShort lines.now }
     ensures integers { OnOk result (N.numbers integers.new
-        ≡ N.numbers integers.old ++ strokes_from (ending are_rings) from lines.now) }
+        ≡ N.numbers integers.old ++ strokes (ending are_rings) from lines.now) }
     ensures left { OnErr result (BeginsWith (N.numbers integers.old) (N.numbers integers.new)) }
     ensures last { IfOk result (λ last. last ≡ last_of from (joined lines.now)) }
 {

@@ -1,11 +1,11 @@
 //! Geometries from integers: judged first, and then built with exact room.
 ghost use Rattle.std.specs.Prelude.{◌≡◌, ◌<◌, ◌⊎◌, ℕ, List, [], ◌∷◌, ◌++◌, length, IfOk, IfErr, OnOk};
-ghost use Rattle.mvt_geometry.specs.Shape.{origin};
+ghost use Rattle.mvt_geometry.specs.Shape.{origin, last_of};
 ghost use Rattle.mvt_geometry.specs.Drawing.{Draws};
 ghost use Rattle.mvt_geometry.specs.Commands.{pairs_of, moved, positions};
 ghost use Rattle.mvt_geometry.specs.Table.{geometry_fault};
 ghost use Rattle.mvt_geometry.specs.Tells.{Tells};
-ghost use Rattle.mvt_geometry.specs.Inner.Judging.{last_of, part_count};
+ghost use Rattle.mvt_geometry.specs.Inner.Judging.{part_count};
 ghost use Rattle.mvt_geometry.specs.Inner.Building.{ArePlaces, IsFront, AreLines, AreRings};
 ghost use Rattle.mvt_geometry.specs.Inner.Grouping.{opened, polygons_of};
 

@@ -1,10 +1,9 @@
 //! Whether integers can draw a geometry.
 ghost use Rattle.std.specs.Prelude.{◌≡◌, ◌↔◌, ◌<◌, ℕ, IsTrue, ◌-ℤ◌, List, IfSome, IfNone};
 ghost use Rattle.mvt_geometry.specs.declared.shape.Kind.{Kind};
-ghost use Rattle.mvt_geometry.specs.Shape.{InRange};
+ghost use Rattle.mvt_geometry.specs.Shape.{InRange, last_of};
 ghost use Rattle.mvt_geometry.specs.Valid.{AreInner, IsValid};
 ghost use Rattle.mvt_geometry.specs.Drawing.{Draws};
-ghost use Rattle.mvt_geometry.specs.Inner.Judging.{last_of};
 ghost use Rattle.mvt_geometry.specs.Inner.Strokes.{AreSmall};
 ghost use Rattle.mvt_geometry.specs.Inner.Validity.{IsStepTo, IsPath, IsLineFrom, AreLinesFrom, end_of_lines, HasArea, IsPolygonFrom, end_of_polygon, ArePoints, AreLines, ArePolygons, CanBeDrawn};
 

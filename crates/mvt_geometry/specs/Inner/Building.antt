@@ -4,7 +4,7 @@ use Rattle.std.specs.List.{AllByRecursion}
 use Rattle.mvt_geometry.specs.declared.shape.Point.{Point}
 use Rattle.mvt_geometry.specs.Shape.{IsPlace, origin}
 use Rattle.mvt_geometry.specs.Valid.{IsStroke}
-use Rattle.mvt_geometry.specs.Inner.Strokes.{stroke, strokes_from}
+use Rattle.mvt_geometry.specs.Drawing.{stroke, strokes}
 
 abbrev pub ArePlaces : List Point → Type 0
 ArePlaces points = AllByRecursion IsPlace points
@@ -17,7 +17,7 @@ pub record IsFront (from : Point) (ints : List ℕ) (line : List Point) (more : 
 -- the integers are lines, each ended in the same way
 pub record AreLines (end : List ℕ) (from : Point) (ints : List ℕ) (lines : List (List Point)) : Type 0 where
   pub are : AllByRecursion (IsStroke 2) lines
-  pub spelled : ints ≡ strokes_from end from lines
+  pub spelled : ints ≡ strokes end from lines
 
 -- the integers are rings, one at least
 pub record AreRings (ints : List ℕ) (rings : List (List Point)) : Type 0 where

@@ -40,11 +40,6 @@ abbrev pub edges : Point → List Point → ℤ
 edges c [] = pos 0
 edges c (p ∷ points) = cross c p +ℤ edges p points
 
--- where a path ends
-abbrev pub last_of : Point → List Point → Point
-last_of c [] = c
-last_of c (p ∷ points) = last_of p points
-
 -- how many lines or polygons a geometry has
 abbrev pub part_count : Geometry → ℕ
 part_count (Unknown integers) = 0

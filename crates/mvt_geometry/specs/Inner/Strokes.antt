@@ -5,12 +5,12 @@ use Rattle.mvt_wire.specs.Zigzag.{zig}
 use Rattle.mvt_geometry.specs.declared.shape.Point.{Point}
 use Rattle.mvt_geometry.specs.declared.shape.Kind.{Kind}
 use Rattle.mvt_geometry.specs.declared.command.Command.{Command}
-use Rattle.mvt_geometry.specs.Shape.{IsPlace, AreSteps, Apart}
+use Rattle.mvt_geometry.specs.Shape.{IsPlace, AreSteps, Apart, last_of}
 use Rattle.mvt_geometry.specs.Valid.{IsStroke}
-use Rattle.mvt_geometry.specs.Drawing.{path_from}
+use Rattle.mvt_geometry.specs.Drawing.{path_from, stroke}
 use Rattle.mvt_geometry.specs.Commands.{id_of, Pair, pair_count, is_allowed, moves}
 use Rattle.mvt_geometry.specs.Table.{is_line_to}
-use Rattle.mvt_geometry.specs.Inner.Judging.{Reached, last_of}
+use Rattle.mvt_geometry.specs.Inner.Judging.{Reached}
 
 -- the pair that leads from one point to another
 abbrev pub pair_between : Point → Point → Pair
@@ -19,15 +19,6 @@ pair_between p q = record { dx = zig (q.x -ℤ p.x); dy = zig (q.y -ℤ p.y) }
 abbrev pub pairs_between : Point → List Point → List Pair
 pairs_between c [] = []
 pairs_between c (p ∷ points) = pair_between c p ∷ pairs_between p points
-
--- a line or ring from the cursor c: MoveTo to its first point, LineTo to the others, and what ends it
-abbrev pub stroke : List ℕ → Point → List Point → List ℕ
-stroke end c [] = end
-stroke end c (p ∷ points) = (9 ∷ path_from c (p ∷ [])) ++ (((2 + 8 * length points) ∷ path_from p points) ++ end)
-
-abbrev pub strokes_from : List ℕ → Point → List (List Point) → List ℕ
-strokes_from end c [] = []
-strokes_from end c (l ∷ lines) = stroke end c l ++ strokes_from end (last_of c l) lines
 
 -- a command of this count may lead from c over these points
 pub record MayDraw (kind : Kind) (command : Command) (count : ℕ) (c : Point) (points : List Point) : Type 0 where

@@ -4,11 +4,10 @@ use Rattle.mvt_geometry.specs.declared.shape.Point.{Point}
 use Rattle.mvt_geometry.specs.declared.shape.Polygon.{Polygon}
 use Rattle.mvt_geometry.specs.declared.shape.Geometry.{Geometry}
 use Rattle.mvt_geometry.specs.declared.shape.Geometry.TheVariants.{Unknown, Points, Lines, Polygons}
-use Rattle.mvt_geometry.specs.Shape.{IsPlace, IsStep, origin}
+use Rattle.mvt_geometry.specs.Shape.{IsPlace, IsStep, origin, last_of}
 use Rattle.mvt_geometry.specs.Area.{area2}
 use Rattle.mvt_geometry.specs.Valid.{AreInner}
 use Rattle.mvt_geometry.specs.Inner.Strokes.{AreSmall}
-use Rattle.mvt_geometry.specs.Inner.Judging.{last_of}
 
 -- a pair can lead from one point to another; a line leads away
 abbrev pub IsStepTo : Bool → Point → Point → Type 0

@@ -3,9 +3,10 @@ use Rattle.std.specs.Int.{w128}
 use Rattle.std.proofs.lemmas.List.{take_more, take_all}
 use Rattle.mvt_geometry.specs.declared.shape.Point.{Point}
 use Rattle.mvt_geometry.specs.Area.{cross}
-use Rattle.mvt_geometry.specs.Inner.Judging.{edges, last_of}
+use Rattle.mvt_geometry.specs.Inner.Judging.{edges}
 use Rattle.mvt_geometry.proofs.AreaLemmas.{summed, edges-push, last_of-push, whole_round}
 use Rattle.mvt_geometry.proofs.area.twice_area.Goals as goal
+use Rattle.mvt_geometry.specs.Shape.{last_of}
 
 pub loop-point-preserved : goal.loop-point-preserved
 loop-point-preserved c =

@@ -1,7 +1,8 @@
 use Rattle.std.proofs.Common.{◌≡◌, ◌≤◌, ◌*◌, ◌^◌, take}
 use Rattle.std.specs.Int.RustNames.{unsigned_abs}
-use Rattle.mvt_geometry.specs.Inner.Judging.{edges, last_of}
+use Rattle.mvt_geometry.specs.Inner.Judging.{edges}
 use Rattle.mvt_geometry.proofs.area.twice_area.Given as goal
+use Rattle.mvt_geometry.specs.Shape.{last_of}
 
 abbrev pub invariant-loop-point : goal.invariant-loop-point
 invariant-loop-point l =

@@ -3,8 +3,7 @@ use Rattle.std.proofs.lemmas.List.{drop_more}
 use Rattle.std.proofs.lemmas.Result.{err_from_is_err_and}
 use Rattle.mvt_wire.specs.Zigzag.{zig}
 use Rattle.mvt_geometry.specs.declared.shape.Point.{Point}
-use Rattle.mvt_geometry.specs.Shape.{AreSteps}
-use Rattle.mvt_geometry.specs.Inner.Judging.{last_of}
+use Rattle.mvt_geometry.specs.Shape.{AreSteps, last_of}
 use Rattle.mvt_geometry.proofs.PutLemmas.{begins_same, begins_more, difference, path_step}
 use Rattle.mvt_geometry.proofs.put.put_path.Goals as goal
 

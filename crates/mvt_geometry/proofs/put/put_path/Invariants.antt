@@ -1,7 +1,6 @@
 use Rattle.std.proofs.Common.{◌≡◌, ◌++◌, drop}
-use Rattle.mvt_geometry.specs.Shape.{AreSteps}
+use Rattle.mvt_geometry.specs.Shape.{AreSteps, last_of}
 use Rattle.mvt_geometry.specs.Drawing.{path_from}
-use Rattle.mvt_geometry.specs.Inner.Judging.{last_of}
 use Rattle.mvt_geometry.specs.Inner.Putting.{BeginsWith}
 use Rattle.mvt_geometry.proofs.put.put_path.Given as goal
 

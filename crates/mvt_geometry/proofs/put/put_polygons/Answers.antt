@@ -1,12 +1,11 @@
 use Rattle.std.proofs.Common.{◌+◌, [], ◌∷◌, ◌++◌, drop, sym, ap, subst, ◌∙◌}
 use Rattle.mvt_base.proofs.ListLemmas.{all_left, all_right}
 use Rattle.std.proofs.lemmas.Result.{err_from_is_err_and}
-use Rattle.mvt_geometry.specs.Shape.{AreSteps, joined, rings_of}
-use Rattle.mvt_geometry.specs.Inner.Judging.{last_of}
-use Rattle.mvt_geometry.specs.Inner.Strokes.{strokes_from}
+use Rattle.mvt_geometry.specs.Shape.{AreSteps, joined, rings_of, last_of}
 use Rattle.mvt_geometry.specs.Inner.Putting.{IsShort, AreShort}
 use Rattle.mvt_geometry.proofs.PutLemmas.{begins_more, begins_on, item_at, rings_at, steps_of, steps_behind, stroke_step, strokes_step, strokes_front, strokes_back}
 use Rattle.mvt_geometry.proofs.put.put_polygons.Goals as goal
+use Rattle.mvt_geometry.specs.Drawing.{strokes}
 
 pub put_line-requires-clause-steps : goal.put_line-requires-clause-steps
 put_line-requires-clause-steps g c =
@@ -37,7 +36,7 @@ loop-polygon-preserved g c =
     let outer = stroke_step _ _ _ (15 ∷ []) l.cursor c.in_ok-cursor.cursor c.as_slice.result.now p.outer _ _ e c.as_slice.ensures c.in_ok-cursor.ensures.last c.in_ok-cursor.ensures.integers l.invariant.0 in
     let rest_is = c.as_slice-in-loop-polygon.ensures in
     let last = c.in_ok-cursor-2.ensures.last ∙ ap (λ ls. last_of c.in_ok-cursor.cursor (joined ls)) rest_is in
-    let put = c.in_ok-cursor-2.ensures.integers ∙ ap (λ ls. (g.N.NumberList.numbers c.put_line.new.integers) ++ strokes_from (15 ∷ []) c.in_ok-cursor.cursor ls) rest_is in
+    let put = c.in_ok-cursor-2.ensures.integers ∙ ap (λ ls. (g.N.NumberList.numbers c.put_line.new.integers) ++ strokes (15 ∷ []) c.in_ok-cursor.cursor ls) rest_is in
     (strokes_step _ _ _ (15 ∷ []) c.in_ok-cursor.cursor c.in_ok-cursor-2.cursor p.rest more last put outer, strokes_back c.in_ok-cursor.cursor c.in_ok-cursor-2.cursor p.rest more last behind, all_right IsShort p.rest more (subst AreShort e l.invariant.2).1, begins_more (g.N.NumberList.numbers c.args.integers.now) _ _ _ (begins_more (g.N.NumberList.numbers c.args.integers.now) _ _ _ l.invariant.3 c.in_ok-cursor.ensures.integers) c.in_ok-cursor-2.ensures.integers)
 
 pub returns-in_err-cursor-clause-left : goal.returns-in_err-cursor-clause-left

@@ -1,7 +1,7 @@
 use Rattle.std.proofs.Common.{◌≡◌, drop}
-use Rattle.mvt_geometry.specs.Inner.Judging.{last_of}
 use Rattle.mvt_geometry.specs.Inner.Validity.{IsPath}
 use Rattle.mvt_geometry.proofs.valid.path_end.Given as goal
+use Rattle.mvt_geometry.specs.Shape.{last_of}
 
 abbrev pub invariant-loop-point : goal.invariant-loop-point
 invariant-loop-point l =
