@@ -1,6 +1,7 @@
 //! Integers read and put back, their faults, areas and validity.
 use super::*;
 use mvt_base::Items;
+use mvt_wire::{PackedNumbers, read_packed};
 use std::alloc::{AllocError, Global};
 use std::test::Fail;
 
@@ -49,6 +50,11 @@ fn round_trips(
     let put = put_geometry(alloc, &read)?;
     let mut appended = Vec::from_slice(alloc, &[7])?;
     append_geometry(&read, &mut appended)?;
+    let mut packed = PackedNumbers::new(alloc);
+    append_geometry(&read, &mut packed)?;
+    let Ok(unpacked) = read_packed(alloc, packed.as_bytes()) else {
+        return Ok(false);
+    };
     let copy = read.copy(alloc)?;
     Ok(
         read == expected
@@ -56,6 +62,7 @@ fn round_trips(
             && kind_of(&read) == kind
             && is_valid_geometry(&expected)
             && put.as_slice() == integers
+            && unpacked.as_slice() == integers
             && appended.first() == Some(&7)
             && appended.len() == 1 + integers.len(),
     )

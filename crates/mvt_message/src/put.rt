@@ -127,7 +127,7 @@ fn put_layer(alloc: Global, layer: &Layer) -> Result<Vec<u8>, PutError>
         &mut values,
     )?;
     put_keys(&mut out, &keys)?;
-    put_values(alloc, &mut out, &values)?;
+    put_values(&mut out, &values)?;
     put_extent(&mut out, layer.extent)?;
     if out.len() as u64 > LIMIT {
         return Err(PutError::TooLarge);

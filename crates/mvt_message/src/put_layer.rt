@@ -10,8 +10,8 @@ use crate::below::pool_laws;
 use crate::put::PutError;
 use mvt_attrs::{KeyPool, ValuePool};
 use mvt_base::LIMIT;
-use mvt_feature::{Feature, Room, append_feature, append_value};
-use mvt_wire::{Payload, put_field};
+use mvt_feature::{Feature, Room, append_feature, append_value, value_len};
+use mvt_wire::{Payload, put_field, put_field_head};
 use std::alloc::{AllocError, Global};
 
 /// Appends the version and the name.
@@ -71,20 +71,14 @@ pub(crate) fn put_keys(out: &mut Vec<u8>, keys: &KeyPool) -> Result<(), AllocErr
 }
 
 /// Appends the values of a pool.
-pub(crate) fn put_values(
-    alloc: Global,
-    out: &mut Vec<u8>,
-    values: &ValuePool,
-) -> Result<(), AllocError>
+pub(crate) fn put_values(out: &mut Vec<u8>, values: &ValuePool) -> Result<(), AllocError>
     ensures { OnOk result (out.new.items ≡ out.old.items ++ spelled (map value_field values.now)) }
 {
-    let mut payload = Vec::new(alloc);
     for index in 0..values.len() as u32 {
         match values.get(index) {
             Some(value) => {
-                payload.clear();
-                append_value(&mut payload, value)?;
-                put_field(out, 4, &Payload::Len(&payload))?;
+                put_field_head(out, 4, value_len(value))?;
+                append_value(out, value)?;
             }
             None => unreachable!(),
         }

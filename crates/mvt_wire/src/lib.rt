@@ -22,6 +22,6 @@ pub use numbers::NumberList;
 pub use packed::{PackedError, append_packed, packed_len, put_packed, read_packed};
 pub use packed_numbers::PackedNumbers;
 pub use span::{Span, field_span};
-pub use spelling::{field_len, put_field};
+pub use spelling::{field_len, put_field, put_field_head};
 pub use varint::{put_varint, read_varint, varint_len};
 pub use zigzag::{unzigzag32, unzigzag64, zigzag32, zigzag64};

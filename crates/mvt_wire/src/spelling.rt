@@ -14,7 +14,7 @@ use std::alloc::AllocError;
 /// # Errors
 ///
 /// Where the vector has no room and none is found.
-#[inline]
+#[inline(always)]
 pub fn put_field(out: &mut Vec<u8>, number: u32, payload: &Payload<'_>) -> Result<(), AllocError>
     requires first { 1 ≤ number }
     requires last { number < 2 ^ 29 }
@@ -33,6 +33,24 @@ pub fn put_field(out: &mut Vec<u8>, number: u32, payload: &Payload<'_>) -> Resul
     done
 }
 
+/// Appends what stands before the bytes of a field of so many bytes: its tag and its length.
+///
+/// # Errors
+///
+/// Where the vector has no room and none is found; it is then as it was or a longer one.
+#[inline(always)]
+#[tactic(auto, unfolding(crate::specs::Spelling::short_field))]
+pub fn put_field_head(out: &mut Vec<u8>, number: u32, len: u64) -> Result<(), AllocError>
+    requires first { 1 ≤ number }
+    requires last { number < 2 ^ 29 }
+    ensures ok { (d : List ℕ) → length d ≡ len
+        → OnOk result (out.new.items ++ d ≡ out.old.items ++ short_field number (bytes d)) }
+    ensures left { OnErr result ((more : List ℕ) × (out.new.items ≡ out.old.items ++ more)) }
+{
+    put_varint(out, 8 * u64::from(number) + 2)?;
+    put_varint(out, len)
+}
+
 /// How many bytes the shortest spelling of a field of so many bytes has.
 #[tactic(auto, unfolding(crate::specs::Spelling::short_field))]
 pub fn field_len(number: u32, len: u64) -> u64
@@ -44,6 +62,7 @@ pub fn field_len(number: u32, len: u64) -> u64
 }
 
 /// Appends a field, or a front of it.
+#[inline(always)]
 #[tactic(auto, unfolding(crate::specs::Spelling::short_field))]
 fn append_field(out: &mut Vec<u8>, number: u32, payload: &Payload<'_>) -> Result<(), AllocError>
     requires { number < 2 ^ 29 }

@@ -1,8 +1,10 @@
 use crate::{
-    Field, Fields, PackedError, Payload, Span, WireCause, WireFault, append_packed, field_len,
-    field_span, next_field, packed_len, put_field, put_packed, put_varint, read_packed,
-    read_varint, unzigzag32, unzigzag64, varint_len, zigzag32, zigzag64,
+    Field, Fields, NumberList, PackedError, PackedNumbers, Payload, Span, WireCause, WireFault,
+    append_packed, field_len, field_span, next_field, packed_len, put_field, put_field_head,
+    put_packed, put_varint, read_packed, read_varint, unzigzag32, unzigzag64, varint_len, zigzag32,
+    zigzag64,
 };
+use std::alloc::AllocError;
 
 /// A layer with one point.
 const ONE_POINT: [u8; 19] = [
@@ -150,6 +152,33 @@ fn wire_calls(rt: HostRuntime) {
     assert_eq!(rt; numbers.as_slice(), [9, 50, 34, 7].as_slice());
 }
 
+fn push_all<N: NumberList>(numbers: &mut N) -> Result<(), AllocError> {
+    numbers.reserve_numbers(3)?;
+    numbers.push_number(9)?;
+    numbers.push_number(300)?;
+    numbers.push_number(4294967290)
+}
+
+#[test]
+fn numbers_being_packed(rt: HostRuntime) {
+    let alloc = rt.alloc();
+    let mut listed = Vec::new(alloc);
+    assert!(rt; push_all(&mut listed).is_ok());
+    assert_eq!(rt; listed.as_slice(), [9, 300, 4294967290].as_slice());
+
+    let mut packed = PackedNumbers::new(alloc);
+    assert!(rt; packed.reserve(3).is_ok());
+    assert!(rt; packed.push(7).is_ok());
+    packed.clear();
+    assert!(rt; push_all(&mut packed).is_ok());
+    let want = [0x09, 0xAC, 0x02, 0xFA, 0xFF, 0xFF, 0xFF, 0x0F];
+    assert_eq!(rt; packed.as_bytes(), want.as_slice());
+
+    let mut out = Vec::new(alloc);
+    assert!(rt; put_field_head(&mut out, 4, 300).is_ok());
+    assert_eq!(rt; out.as_slice(), [0x22, 0xAC, 0x02].as_slice());
+}
+
 // The tests of refused growths pass too where one allocation, whichever, is refused: each call has
 // two turns, of which one at most may want memory.
 
@@ -215,6 +244,21 @@ fn refused_put_packed(rt: HostRuntime) {
             } else {
                 assert_eq!(rt; out.as_slice(), bytes);
             }
+        }
+    }
+    assert!(rt; refusals < 2);
+}
+
+#[test]
+fn refused_packed_numbers(rt: HostRuntime) {
+    let mut refusals = 0u32;
+    for _ in 0..2 {
+        let mut numbers = PackedNumbers::new(rt.alloc());
+        if numbers.push(300).is_err() {
+            refusals = refusals.saturating_add(1);
+            assert_eq!(rt; numbers.as_bytes().len(), 0);
+        } else {
+            assert_eq!(rt; numbers.as_bytes(), [0xAC, 0x02].as_slice());
         }
     }
     assert!(rt; refusals < 2);

@@ -111,8 +111,9 @@ fn put_two_bytes(out: &mut Vec<u8>, first: u8, second: u8) -> Result<(), AllocEr
     ensures capacity { vec_capacity out.old ≤ vec_capacity out.new }
 {
     out.reserve(2)?;
-    put_byte(out, first)?;
-    put_byte(out, second)
+    out.push_reserved(first);
+    out.push_reserved(second);
+    Ok(())
 }
 
 /// The same, by the spelling in an array.
