@@ -1,9 +1,7 @@
-use Rattle.std.proofs.Common.{◌≡◌, ◌≢◌, ◌<◌, ◌+◌, ◌++◌, ◌∷◌, [], Some, None, cond, ℕ, List, length, Decides, slice_get, slice_index, slice_set, sym, ap, subst, ◌∙◌, arith}
-use Rattle.std.proofs.lemmas.List.{length-set}
+use Rattle.std.proofs.Common.{◌≡◌, Some, cond, length, Decides, subst}
 use Rattle.std.specs.Ordering.{is_eq}
 use Rattle.std.specs.BTreeMap.{get}
-use Rattle.mvt_attrs.specs.Inner.Spreading.{first_slot, second_slot, IsFreeFor}
-use Rattle.mvt_attrs.proofs.PoolLemmas.{front_there}
+use Rattle.mvt_attrs.specs.Inner.Spreading.{first_slot, second_slot}
 use Rattle.mvt_attrs.proofs.SpreadLemmas.{known_in_order, sound_in_order}
 use Rattle.mvt_attrs.proofs.spread.note_in_order.Goals as goal
 

@@ -1,6 +1,5 @@
-use Rattle.std.proofs.Common.{◌≡◌, ◌≢◌, ◌<◌, ◌+◌, ◌++◌, ◌∷◌, [], Some, None, cond, ℕ, List, length, Decides, slice_get, slice_index, slice_set, sym, ap, subst, ◌∙◌, arith}
+use Rattle.std.proofs.Common.{◌≡◌, ◌+◌, ◌++◌, ◌∷◌, [], Some, ℕ, length, slice_get, slice_set, sym, subst, arith}
 use Rattle.std.proofs.lemmas.List.{length-set}
-use Rattle.std.specs.Ordering.{is_eq}
 use Rattle.std.specs.BTreeMap.{get}
 use Rattle.mvt_attrs.specs.Inner.Spreading.{first_slot, second_slot, IsFreeFor}
 use Rattle.mvt_attrs.proofs.PoolLemmas.{front_there}
