@@ -17,7 +17,7 @@ use Rattle.mvt_attrs.proofs.FirstUseLemmas.{put, put_is, put_cases, first_use-pu
 use Rattle.mvt_attrs.proofs.PlaceLemmas.{names_longer, names_push, names_places, pool_grows}
 
 -- what placing x promises of a pool
-pub record IsPlaced {A : Type 0} (pool after : List A) (x : A) : Type 0 where
+pub record IsPut {A : Type 0} (pool after : List A) (x : A) : Type 0 where
   pub kept : Contains pool x → after ≡ pool
   pub added : (Contains pool x → ⊥) → after ≡ pool ++ x ∷ []
 
@@ -28,7 +28,7 @@ module _ {A : Type 0} (same : A → A → Bool) (decides : (x y : A) → Decides
 
   -- one attribute more
   pub pool_more : (held pool after : List A) (attributes : List Attribute) (i : ℕ) (a : Attribute) (x : A)
-      → pool ≡ first_use same (held ++ map part (take i attributes)) → i < length attributes → a ≡ get_or attributes i a → x ≡ part a → IsPlaced pool after x
+      → pool ≡ first_use same (held ++ map part (take i attributes)) → i < length attributes → a ≡ get_or attributes i a → x ≡ part a → IsPut pool after x
       → after ≡ first_use same (held ++ map part (take (i + 1) attributes))
   pool_more held pool after attributes i a x so_far within at of_part placed =
       put_is same decides pool after x placed.kept placed.added
@@ -48,7 +48,7 @@ module _ {A : Type 0} (same : A → A → Bool) (decides : (x y : A) → Decides
       ap (λ as'. first_use same (held ++ map part as')) (sym (take-append-drop (i + 1) attributes)) ∙ grown.1 ∙ ap (λ p. p ++ grown.0) (sym more) in
       omega (arith, ap length all, length-append (pool ++ x ∷ []) grown.0, length-append pool (x ∷ []), full)
 
-  pub pool_longer : (pool after : List A) (x : A) → IsPlaced pool after x → (more : List A) × (after ≡ pool ++ more)
+  pub pool_longer : (pool after : List A) (x : A) → IsPut pool after x → (more : List A) × (after ≡ pool ++ more)
   pool_longer pool after x placed =
       subst (λ p. (more : List A) × (p ≡ pool ++ more)) (sym (put_is same decides pool after x placed.kept placed.added))
       (put_cases same decides (λ p. (more : List A) × (p ≡ pool ++ more)) pool x (λ e. ([], sym (append-nil pool))) (λ e. (x ∷ [], refl)))
@@ -77,13 +77,13 @@ on_err_at P (Err e) n h = (n, h)
 
 -- pools behind attributes placed, where each entry that is met is placed or its pool is full
 pub keys_more : (held pool after : List (List ℕ)) (attributes : List Attribute) (i : ℕ) (a : Attribute) (key : List ℕ)
-    → pool ≡ key_pool held (take i attributes) → i < length attributes → a ≡ get_or attributes i a → key ≡ a.key → IsPlaced pool after key
+    → pool ≡ key_pool held (take i attributes) → i < length attributes → a ≡ get_or attributes i a → key ≡ a.key → IsPut pool after key
     → after ≡ key_pool held (take (i + 1) attributes)
 keys_more held pool after attributes i a key so_far within at of_key placed =
     pool_more bytes_eq bytes_eq-Decides (λ (b : Attribute). b.key) held pool after attributes i a key so_far within at of_key placed
 
 pub values_more : (held pool after : List Value) (attributes : List Attribute) (i : ℕ) (a : Attribute)
-    → pool ≡ value_pool held (take i attributes) → i < length attributes → a ≡ get_or attributes i a → IsPlaced pool after a.value
+    → pool ≡ value_pool held (take i attributes) → i < length attributes → a ≡ get_or attributes i a → IsPut pool after a.value
     → after ≡ value_pool held (take (i + 1) attributes)
 values_more held pool after attributes i a so_far within at placed =
     pool_more equal_values equal_values-Decides (λ (b : Attribute). b.value) held pool after attributes i a a.value so_far within at refl placed

@@ -2,6 +2,7 @@
 ghost use Rattle.std.specs.Prelude.{◌≡◌, ◌<◌, ◌≤◌, ◌↔◌, List, [], ◌∷◌, ◌++◌, length, Contains, slice_get, option_copied, IsOk, IsErrOf, IfOk, OnOk, OnErr, IsTrue};
 ghost use Rattle.mvt_attrs.specs.FirstUse.{AreDistinct};
 ghost use Rattle.mvt_attrs.specs.Inner.Finding.{Knows, IsRoomFor};
+ghost use Rattle.mvt_attrs.specs.Placed.{IsPlaced};
 
 use crate::entry::Entry;
 use crate::finder::{Finder, find, note};
@@ -70,16 +71,7 @@ impl<T: Entry> Pool<T> {
     /// The place of an entry, which is copied and added last where it is new. An entry that is there
     /// needs no memory.
     pub fn place(&mut self, entry: &T) -> Result<u32, PoolError>
-        ensures index { IfOk result (λ i. slice_get self.new i ≡ Some entry.now) }
-
-        // An entry that is there is found.
-        ensures present { Contains self.old entry.now → IsOk result }
-        ensures kept { Contains self.old entry.now → self.new ≡ self.old }
-
-        // Another is added, or the pool stays.
-        ensures added { ¬ (Contains self.old entry.now) → OnOk result (self.new ≡ self.old ++ entry.now ∷ []) }
-        ensures unchanged { OnErr result (self.new ≡ self.old) }
-        ensures full { IsErrOf result PoolError.Full ↔ ((length self.old ≡ LIMIT) × (¬ (Contains self.old entry.now))) }
+        ensures { IsPlaced self.old self.new entry.now result }
     {
         let slot = match find(&self.finder, &self.entries, entry) {
             Spot::Found(place) => return Ok(place as u32),
@@ -95,16 +87,7 @@ impl<T: Entry> Pool<T> {
 
     /// `place`, where the entry may stand at this place: that is tried first.
     pub(crate) fn place_near(&mut self, entry: &T, guess: Option<&u32>) -> Result<u32, PoolError>
-        ensures index { IfOk result (λ i. slice_get self.new i ≡ Some entry.now) }
-
-        // An entry that is there is found.
-        ensures present { Contains self.old entry.now → IsOk result }
-        ensures kept { Contains self.old entry.now → self.new ≡ self.old }
-
-        // Another is added, or the pool stays.
-        ensures added { ¬ (Contains self.old entry.now) → OnOk result (self.new ≡ self.old ++ entry.now ∷ []) }
-        ensures unchanged { OnErr result (self.new ≡ self.old) }
-        ensures full { IsErrOf result PoolError.Full ↔ ((length self.old ≡ LIMIT) × (¬ (Contains self.old entry.now))) }
+        ensures { IsPlaced self.old self.new entry.now result }
     {
         if let Some(index) = guess {
             if is_at(&self.entries, *index as usize, entry) {

@@ -1,5 +1,6 @@
 //! Pools of few, of more and of many entries.
 use super::*;
+use crate::spread::{first_slot, second_slot};
 use mvt_base::Text;
 use std::alloc::{AllocError, Global};
 use std::process::Abort;
@@ -32,6 +33,29 @@ fn places_keys_of_one_hash(rt: HostRuntime) -> Result<(), Fail> {
     assert_eq!(rt; keys.len(), 300);
     let last = hashes_alike(rt.alloc(), 299)?;
     assert_eq!(rt; keys.get(299), Some(last.as_str()));
+    Ok(())
+}
+
+// Three texts meet in their first slot, and two of them in their second one too.
+#[test]
+fn places_keys_that_meet_twice(rt: HostRuntime) -> Result<(), Fail> {
+    let mut keys = KeyPool::new(rt.alloc());
+    for letter in LETTERS {
+        keys.place(&Text::from_str(rt.alloc(), letter)?)?;
+    }
+    let other = hashes_alike(rt.alloc(), 0)?;
+    let one = hashes_alike(rt.alloc(), 988)?;
+    let two = hashes_alike(rt.alloc(), 2_066)?;
+    let room = 1 << 20;
+    assert_eq!(rt; first_slot(&one, room), first_slot(&other, room));
+    assert_eq!(rt; first_slot(&one, room), first_slot(&two, room));
+    assert_eq!(rt; second_slot(&one, room), second_slot(&two, room));
+    for _turn in 0..2 {
+        assert_eq!(rt; keys.place(&other), Ok(40));
+        assert_eq!(rt; keys.place(&one), Ok(41));
+        assert_eq!(rt; keys.place(&two), Ok(42));
+    }
+    assert_eq!(rt; keys.get(42), Some(two.as_str()));
     Ok(())
 }
 

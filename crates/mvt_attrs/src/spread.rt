@@ -1,6 +1,6 @@
 //! Places of many entries, found by their hashes. Texts can be chosen that have one hash, so an entry
 //! has a second slot by another hash, and an entry that finds both taken is kept in order.
-ghost use Rattle.std.specs.Prelude.{◌≡◌, ◌≢◌, ◌<◌, ◌↔◌, ◌+◌, ◌-◌, ◌^◌, ◌++◌, ◌∷◌, [], Some, length, slice_get, slice_index, bit_and, Contains, IsTrue, IfOk, OnOk, OnErr};
+ghost use Rattle.std.specs.Prelude.{◌≡◌, ◌≢◌, ◌<◌, ◌↔◌, ◌+◌, ◌-◌, ◌^◌, ◌++◌, ◌∷◌, [], Some, None, length, slice_get, slice_index, bit_and, Contains, IsTrue, IfOk, OnOk, OnErr};
 ghost use Rattle.mvt_attrs.specs.FirstUse.{AreDistinct};
 ghost use Rattle.mvt_attrs.specs.Inner.Found.{IsSpotOf, IsToldBy};
 ghost use Rattle.mvt_attrs.specs.Inner.Spreading.{first_slot, second_slot, IsSpread, IsFreeFor};
@@ -12,7 +12,7 @@ use std::collections::BTreeMap;
 use std::hash::{DefaultHasher, FoldHasher, Hash, Hasher};
 
 /// So many slots are there for an entry when they are made.
-const ROOM: usize = 8;
+const ROOM: usize = 16;
 
 /// A slot holds the place of an entry, counted from 1, or 0 where it is free. An entry is in the first
 /// of its two slots that was free when it came, or in `crowded`.
@@ -23,15 +23,27 @@ pub struct Spread<T: Entry> {
 }
 
 /// Where an entry stands, or the slot that it can take.
+#[inline(always)]
 pub(crate) fn find_spread<T: Entry>(spread: &Spread<T>, entries: &[T], entry: &T) -> Spot
     requires { IsSpread T.cmp T.hash_input spread.now entries.now }
     ensures { IsSpotOf entries.now entry.now (IsFreeFor T.hash_input spread.now entry.now) result }
 {
     let slots = spread.slots.as_slice();
     let first = first_slot(entry, slots.len());
-    if let Some(spot) = told_by(slots, first, entries, entry) {
-        return spot;
+    match told_by(slots, first, entries, entry) {
+        Some(spot) => spot,
+        None => find_second(spread, entries, entry),
     }
+}
+
+/// The same of an entry whose first slot is another's.
+#[inline(never)]
+fn find_second<T: Entry>(spread: &Spread<T>, entries: &[T], entry: &T) -> Spot
+    requires known { IsSpread T.cmp T.hash_input spread.now entries.now }
+    requires first { IsToldBy spread.now.slots.items (first_slot T.hash_input (length spread.now.slots.items) entry.now) entries.now entry.now None }
+    ensures { IsSpotOf entries.now entry.now (IsFreeFor T.hash_input spread.now entry.now) result }
+{
+    let slots = spread.slots.as_slice();
     let second = second_slot(entry, slots.len());
     if let Some(spot) = told_by(slots, second, entries, entry) {
         return spot;
@@ -43,6 +55,7 @@ pub(crate) fn find_spread<T: Entry>(spread: &Spread<T>, entries: &[T], entry: &T
 }
 
 /// What a slot tells of an entry; nothing where it is another's.
+#[inline(always)]
 fn told_by<T: Entry>(slots: &[u32], slot: usize, entries: &[T], entry: &T) -> Option<Spot>
     requires { slot < length slots.now }
     ensures { IsToldBy slots.now slot entries.now entry.now result }
@@ -104,6 +117,7 @@ pub(crate) fn add_spread<T: Entry>(
 }
 
 /// Notes a new entry that will stand behind these in its free slot, or in order.
+#[inline(always)]
 pub(crate) fn note_spread<T: Entry>(
     alloc: Global,
     spread: &mut Spread<T>,
@@ -118,18 +132,36 @@ pub(crate) fn note_spread<T: Entry>(
     ensures added { OnOk result (IsSpread T.cmp T.hash_input spread.new (entries.now ++ entry.now ∷ [])) }
     ensures unchanged { OnErr result (IsSpread T.cmp T.hash_input spread.new entries.now) }
 {
-    let place = entries.len() as u32;
-    match slot {
-        Some(slot) => spread.slots[slot] = place + 1,
-        None => {
-            spread.crowded.insert(entry.copied(alloc)?, place)?;
-        }
-    }
+    let Some(slot) = slot else {
+        return note_in_order(alloc, spread, entries, entry);
+    };
+    spread.slots[slot] = entries.len() as u32 + 1;
+    Ok(())
+}
+
+/// The same of an entry whose slots are both taken.
+#[inline(never)]
+fn note_in_order<T: Entry>(
+    alloc: Global,
+    spread: &mut Spread<T>,
+    entries: &[T],
+    entry: &T,
+) -> Result<(), AllocError>
+    requires known { IsSpread T.cmp T.hash_input spread.old entries.now }
+    requires new { ¬ (Contains entries.now entry.now) }
+    requires taken { IsFreeFor T.hash_input spread.old entry.now None }
+    requires few { length entries.now + 1 < 2 ^ 32 }
+    ensures added { OnOk result (IsSpread T.cmp T.hash_input spread.new (entries.now ++ entry.now ∷ [])) }
+    ensures unchanged { OnErr result (IsSpread T.cmp T.hash_input spread.new entries.now) }
+{
+    spread
+        .crowded
+        .insert(entry.copied(alloc)?, entries.len() as u32)?;
     Ok(())
 }
 
 /// The slot of an entry by its cheap hash.
-fn first_slot<T: Entry>(entry: &T, room: usize) -> usize
+pub(crate) fn first_slot<T: Entry>(entry: &T, room: usize) -> usize
     requires { 0 < room }
     ensures value { result ≡ first_slot T.hash_input room entry.now }
     ensures within { result < room }
@@ -140,7 +172,7 @@ fn first_slot<T: Entry>(entry: &T, room: usize) -> usize
 }
 
 /// The slot of an entry by another hash, which is wanted where the first slot is another's.
-fn second_slot<T: Entry>(entry: &T, room: usize) -> usize
+pub(crate) fn second_slot<T: Entry>(entry: &T, room: usize) -> usize
     requires { 0 < room }
     ensures value { result ≡ second_slot T.hash_input room entry.now }
     ensures within { result < room }

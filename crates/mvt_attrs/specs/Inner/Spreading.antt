@@ -1,5 +1,5 @@
 -- Entries that stand in slots that their hashes name, or in order, where both slots are others'.
-use Rattle.std.specs.Prelude.{◌≡◌, ◌≢◌, ◌+◌, ◌-◌, ◌<◌, ◌⊎◌, ℕ, List, Option, Some, None, Contains, length, slice_get, slice_index, fold, bit_and}
+use Rattle.std.specs.Prelude.{◌≡◌, ◌≢◌, ◌+◌, ◌-◌, ◌<◌, ◌⊎◌, ℕ, List, Option, Some, None, length, slice_get, slice_index, fold, bit_and}
 use Rattle.std.specs.declared.cmp.Ordering.{Ordering}
 use Rattle.std.specs.Hash.FoldHasher as folding
 use Rattle.std.specs.Hash.DefaultHasher as sip

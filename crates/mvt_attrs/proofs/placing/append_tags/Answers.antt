@@ -6,7 +6,7 @@ use Rattle.mvt_attrs.specs.declared.value.Attribute.{Attribute}
 use Rattle.mvt_attrs.specs.Values.{equal_values}
 use Rattle.std.proofs.lemmas.Slice.Eq.{bytes_eq-Decides}
 use Rattle.mvt_attrs.proofs.EqualityLemmas.{equal_values-Decides}
-use Rattle.mvt_attrs.proofs.PlacingLemmas.{IsPlaced, pool_none, pool_more, pool_longer, names_more, names_none, pool_passes, on_err_at, keys_more, values_more, not_full_at, contains_at, told_tags, not_longer, all_places, all_named, tags_left_at}
+use Rattle.mvt_attrs.proofs.PlacingLemmas.{IsPut, pool_none, pool_more, pool_longer, names_more, names_none, pool_passes, on_err_at, keys_more, values_more, not_full_at, contains_at, told_tags, not_longer, all_places, all_named, tags_left_at}
 use Rattle.mvt_attrs.proofs.placing.append_tags.Goals as goal
 
 pub loop-attribute-init : goal.loop-attribute-init
@@ -33,8 +33,8 @@ loop-attribute-preserved c =
     let attributes = c.args.attributes.now in
     let i = c.loop-attribute.attribute-index in
     let a = c.attribute-item.result in
-    let key : IsPlaced c.loop-attribute.keys c.place_near.new.self a.key = record { kept = c.in_ok-key.ensures.kept; added = c.in_ok-key.ensures.added } in
-    let value : IsPlaced c.loop-attribute.values c.place_near-in-loop-attribute.new.self a.value = record { kept = c.in_ok-value.ensures.kept; added = c.in_ok-value.ensures.added } in
+    let key : IsPut c.loop-attribute.keys c.place_near.new.self a.key = record { kept = c.in_ok-key.ensures.kept; added = c.in_ok-key.ensures.added } in
+    let value : IsPut c.loop-attribute.values c.place_near-in-loop-attribute.new.self a.value = record { kept = c.in_ok-value.ensures.kept; added = c.in_ok-value.ensures.added } in
     let of_key : slice_get c.place_near.new.self c.in_ok-key.key ≡ Some a.key = c.in_ok-key.ensures.index in
     record {
       so_far = c.loop-attribute.invariant.so_far ++ c.in_ok-key.key ∷ (c.in_ok-value.value ∷ []);
@@ -89,7 +89,7 @@ returns-in_err-key-clause-memory c =
 
 pub returns-in_err-value-clause-left : goal.returns-in_err-value-clause-left
 returns-in_err-value-clause-left c =
-    let key : IsPlaced c.loop-attribute.keys c.place_near.new.self c.attribute-item.result.key = record { kept = c.in_ok-key.ensures.kept; added = c.in_ok-key.ensures.added } in
+    let key : IsPut c.loop-attribute.keys c.place_near.new.self c.attribute-item.result.key = record { kept = c.in_ok-key.ensures.kept; added = c.in_ok-key.ensures.added } in
     on_err_at (λ n. ArePlaced n c.args.attributes.now c.args.keys.now c.place_near.new.self c.args.values.now c.place_near-in-loop-attribute.new.self) c.from_residual-in_err-value.result c.loop-attribute.attribute-index
     (record {
       within = omega arith;
@@ -110,7 +110,7 @@ returns-in_err-value-clause-memory c =
     let all = c.loop-attribute.invariant in
     let a = c.attribute-item.result in
     let stays = c.in_err-value.ensures.unchanged in
-    let key : IsPlaced c.loop-attribute.keys c.place_near.new.self c.attribute-item.result.key = record { kept = c.in_ok-key.ensures.kept; added = c.in_ok-key.ensures.added } in
+    let key : IsPut c.loop-attribute.keys c.place_near.new.self c.attribute-item.result.key = record { kept = c.in_ok-key.ensures.kept; added = c.in_ok-key.ensures.added } in
     λ h. (
       c.loop-attribute.attribute-index,
       record {
@@ -128,8 +128,8 @@ returns-in_err-value-clause-memory c =
 pub returns-in_err-extend_from_slice-clause-left : goal.returns-in_err-extend_from_slice-clause-left
 returns-in_err-extend_from_slice-clause-left c =
     let a = c.attribute-item.result in
-    let key : IsPlaced c.loop-attribute.keys c.place_near.new.self c.attribute-item.result.key = record { kept = c.in_ok-key.ensures.kept; added = c.in_ok-key.ensures.added } in
-    let value : IsPlaced c.loop-attribute.values c.place_near-in-loop-attribute.new.self a.value = record { kept = c.in_ok-value.ensures.kept; added = c.in_ok-value.ensures.added } in
+    let key : IsPut c.loop-attribute.keys c.place_near.new.self c.attribute-item.result.key = record { kept = c.in_ok-key.ensures.kept; added = c.in_ok-key.ensures.added } in
+    let value : IsPut c.loop-attribute.values c.place_near-in-loop-attribute.new.self a.value = record { kept = c.in_ok-value.ensures.kept; added = c.in_ok-value.ensures.added } in
     on_err_at (λ n. ArePlaced n c.args.attributes.now c.args.keys.now c.place_near.new.self c.args.values.now c.place_near-in-loop-attribute.new.self) c.from_residual-in_err-extend_from_slice.result (c.loop-attribute.attribute-index + 1)
     (record {
       within = omega arith;
@@ -141,8 +141,8 @@ pub returns-in_err-extend_from_slice-clause-memory : goal.returns-in_err-extend_
 returns-in_err-extend_from_slice-clause-memory c =
     let all = c.loop-attribute.invariant in
     let a = c.attribute-item.result in
-    let key : IsPlaced c.loop-attribute.keys c.place_near.new.self c.attribute-item.result.key = record { kept = c.in_ok-key.ensures.kept; added = c.in_ok-key.ensures.added } in
-    let value : IsPlaced c.loop-attribute.values c.place_near-in-loop-attribute.new.self a.value = record { kept = c.in_ok-value.ensures.kept; added = c.in_ok-value.ensures.added } in
+    let key : IsPut c.loop-attribute.keys c.place_near.new.self c.attribute-item.result.key = record { kept = c.in_ok-key.ensures.kept; added = c.in_ok-key.ensures.added } in
+    let value : IsPut c.loop-attribute.values c.place_near-in-loop-attribute.new.self a.value = record { kept = c.in_ok-value.ensures.kept; added = c.in_ok-value.ensures.added } in
     λ h. (
       c.loop-attribute.attribute-index,
       record {

@@ -1,14 +1,13 @@
-use Rattle.std.proofs.Common.{◌≡◌, ◌≢◌, ◌<◌, ◌+◌, ◌++◌, ◌∷◌, [], Some, None, cond, ℕ, List, length, Decides, slice_get, slice_index, slice_set, sym, ap, subst, ◌∙◌, arith}
+use Rattle.std.proofs.Common.{◌≡◌, ◌+◌, ◌++◌, ◌∷◌, [], Some, ℕ, length, slice_get, slice_set, sym, subst, arith}
 use Rattle.std.proofs.lemmas.List.{length-set}
-use Rattle.std.specs.Ordering.{is_eq}
 use Rattle.std.specs.BTreeMap.{get}
 use Rattle.mvt_attrs.specs.Inner.Spreading.{first_slot, second_slot, IsFreeFor}
 use Rattle.mvt_attrs.proofs.PoolLemmas.{front_there}
-use Rattle.mvt_attrs.proofs.SpreadLemmas.{Stands, known_in_slot, known_in_order, sound_in_order}
+use Rattle.mvt_attrs.proofs.SpreadLemmas.{Stands, known_in_slot}
 use Rattle.mvt_attrs.proofs.spread.note_spread.Goals as goal
 
-pub returns-in-Some-clause-added : goal.returns-in-Some-clause-added
-returns-in-Some-clause-added g c =
+pub returns-clause-added : goal.returns-clause-added
+returns-clause-added g c =
     let input = g.T.Hash.hash_input in
     let entries = c.args.entries.now in
     let entry = c.args.entry.now in
@@ -24,25 +23,4 @@ returns-in-Some-clause-added g c =
       known = subst (λ n. (i : ℕ) (x : g.row.T.Denot) → slice_get (entries ++ entry ∷ []) i ≡ Some x → Stands entries entry (first_slot input n) (second_slot input n) slots order marked order i x) (sym kept)
           (known_in_slot entries entry (first_slot input room) (second_slot input room) slots order c.requires.known.known slot free);
       sound = λ i x e. front_there entries entry i x (c.requires.known.sound i x e);
-    }
-
-pub returns-in_ok-insert-in-None-clause-added : goal.returns-in_ok-insert-in-None-clause-added
-returns-in_ok-insert-in-None-clause-added g c =
-    let cmp = g.T.Ord.cmp in
-    let input = g.T.Hash.hash_input in
-    let entries = c.args.entries.now in
-    let entry = c.args.entry.now in
-    let slots = c.args.spread.now.slots.items in
-    let room = length slots in
-    let order = get cmp c.args.spread.now.crowded in
-    let taken : IsFreeFor input c.args.spread.now entry None = subst (IsFreeFor input c.args.spread.now entry) c.in-None.is c.requires.free in
-    let decides : (x : g.row.T.Denot) → Decides (is_eq (cmp entry x)) (entry ≡ x) = λ x. subst (λ b. Decides b (entry ≡ x)) (g.met.T.Ord.matches_eq entry x) (g.met.T.Entry.identical entry x) in
-    let updated : (x : g.row.T.Denot) → get cmp c.insert.new.self x ≡ cond (is_eq (cmp entry x)) (Some (length entries)) (order x) =
-    subst (λ e. (x : g.row.T.Denot) → get cmp c.insert.new.self x ≡ cond (is_eq (cmp e x)) (Some (length entries)) (order x)) c.in_ok-copied-in-None.ensures c.in_ok-insert-in-None.ensures.updates.0 in
-    record {
-      room = c.requires.known.room;
-      known = known_in_order entries entry (first_slot input room) (second_slot input room) slots order c.requires.new
-          (λ x. is_eq (cmp entry x)) decides (get cmp c.insert.new.self) updated c.requires.known.known taken.0 taken.1;
-      sound = sound_in_order entries entry (first_slot input room) (second_slot input room) slots order c.requires.new
-          (λ x. is_eq (cmp entry x)) decides (get cmp c.insert.new.self) updated c.requires.known.sound;
     }
