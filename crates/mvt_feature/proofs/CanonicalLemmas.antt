@@ -24,11 +24,12 @@ use Rattle.mvt_wire.specs.Zigzag.{zig}
 use Rattle.mvt_feature.proofs.Below.{ShortPacked, SpelledWhole, BytesLonger}
 use Rattle.mvt_feature.specs.declared.feature.Feature.{Feature}
 use Rattle.mvt_feature.specs.Canonical.{plain, value_field, value_fields, id_fields, tags_fields, type_number, drawing_fields, feature_fields}
-use Rattle.mvt_feature.specs.Features.{IsType, Joined, number_of, number_in, kind_numbered, kind_of_type, IsFeature, IsFeatureOf}
+use Rattle.mvt_feature.specs.Features.{Joined, number_of, number_in, kind_numbered, kind_of_type, IsFeature, IsFeatureOf}
+use Rattle.mvt_feature.specs.Forms.{any_varint, geom_type, HasForm, number_rules}
 use Rattle.mvt_feature.specs.Selection.{only}
 use Rattle.mvt_feature.specs.Valid.{ValidValue, ValidFeature}
-use Rattle.mvt_feature.specs.Values.{IsVarint, Means, IsValue, IsValueOf}
-use Rattle.mvt_feature.specs.ValueRules.{kind_rules, kinds, are_one_kind, value_field_rules}
+use Rattle.mvt_feature.specs.Values.{value_forms, Means, IsValue, IsValueOf}
+use Rattle.mvt_feature.specs.ValueRules.{kinds, are_one_kind, value_field_rules}
 use Rattle.mvt_feature.proofs.TextLemmas.{text_clean}
 use Rattle.mvt_feature.proofs.ValueLemmas.{value_from, rules_clean}
 use Rattle.mvt_feature.proofs.WritingLemmas.{spelled-append}
@@ -45,7 +46,7 @@ none_of (x ∷ xs) h = cc
 
 -- ---- values
 
-value_clean : (v : Value) → ValidValue v → first (kind_rules (value_field v).number (value_field v).content) ≡ None
+value_clean : (v : Value) → ValidValue v → first (number_rules value_forms (value_field v).number (value_field v).content) ≡ None
 value_clean (Text text) h = text_clean text h
 value_clean (Float bits) h = refl
 value_clean (Double bits) h = refl
@@ -168,13 +169,13 @@ id_last xs (Some n) h =
     let one = one_of xs (plain 1 (varint n)) h in
     ap (λ l. number_in (last_or None l)) one.1 ∙ ap (λ (p : Plain). number_of p.content) one.2
 
-id_forms : (xs : List Entry) (id : Option ℕ) → map plain_of xs ≡ id_fields id → AllByRecursion (λ (x : Entry). IsVarint x.content) xs
+id_forms : (xs : List Entry) (id : Option ℕ) → map plain_of xs ≡ id_fields id → AllByRecursion (λ (x : Entry). HasForm any_varint x.content) xs
 id_forms xs None h = rw (none_of xs h) tt
 id_forms xs (Some n) h =
     let one = one_of xs (plain 1 (varint n)) h in
-    let form : IsVarint one.0.content = subst (λ (p : Plain). IsVarint p.content) (sym one.2) tt in
-    let all : AllByRecursion (λ (x : Entry). IsVarint x.content) (one.0 ∷ []) = (form, tt) in
-    subst (AllByRecursion (λ (x : Entry). IsVarint x.content)) (sym one.1) all
+    let form : HasForm any_varint one.0.content = subst (λ (p : Plain). HasForm any_varint p.content) (sym one.2) tt in
+    let all : AllByRecursion (λ (x : Entry). HasForm any_varint x.content) (one.0 ∷ []) = (form, tt) in
+    subst (AllByRecursion (λ (x : Entry). HasForm any_varint x.content)) (sym one.1) all
 
 type_small : (kind : Kind) → type_number kind ≤ 3
 type_small kinds.Unknown = lit≤ tt
@@ -188,12 +189,12 @@ kind_back kinds.Point = refl
 kind_back kinds.LineString = refl
 kind_back kinds.Polygon = refl
 
-type_forms : (xs : List Entry) (kind : Kind) → map plain_of xs ≡ plain 3 (varint (type_number kind)) ∷ [] → AllByRecursion (λ (x : Entry). IsType x.content) xs
+type_forms : (xs : List Entry) (kind : Kind) → map plain_of xs ≡ plain 3 (varint (type_number kind)) ∷ [] → AllByRecursion (λ (x : Entry). HasForm geom_type x.content) xs
 type_forms xs kind h =
     let one = one_of xs (plain 3 (varint (type_number kind))) h in
-    let form : IsType one.0.content = subst (λ (p : Plain). IsType p.content) (sym one.2) (type_small kind) in
-    let all : AllByRecursion (λ (x : Entry). IsType x.content) (one.0 ∷ []) = (form, tt) in
-    subst (AllByRecursion (λ (x : Entry). IsType x.content)) (sym one.1) all
+    let form : HasForm geom_type one.0.content = subst (λ (p : Plain). HasForm geom_type p.content) (sym one.2) (type_small kind) in
+    let all : AllByRecursion (λ (x : Entry). HasForm geom_type x.content) (one.0 ∷ []) = (form, tt) in
+    subst (AllByRecursion (λ (x : Entry). HasForm geom_type x.content)) (sym one.1) all
 
 type_last : (xs : List Entry) (kind : Kind) → map plain_of xs ≡ plain 3 (varint (type_number kind)) ∷ [] → kind_of_type (number_in (last_or None xs)) ≡ kind
 type_last xs kind h =
@@ -219,12 +220,11 @@ feature_reads short_packed xs keys values tags f is names small valid drawn_smal
     let ids = only_of_plain 1 xs ∙ ap (only_plain 1) is ∙ ids_only f.id tags kind integers in
     let types = only_of_plain 3 xs ∙ ap (only_plain 3) is ∙ type_only f.id tags kind integers in
     record {
-      ids = all_only (λ (x : Entry). x.number) (λ (x : Entry). IsVarint x.content) 1 xs (id_forms (only 1 xs) f.id ids);
+      forms = (all_only (λ (x : Entry). x.number) (λ (x : Entry). HasForm any_varint x.content) 1 xs (id_forms (only 1 xs) f.id ids), (all_only (λ (x : Entry). x.number) (λ (x : Entry). HasForm geom_type x.content) 3 xs (type_forms (only 3 xs) kind types), tt));
       id = sym (id_last (only 1 xs) f.id ids);
       tags = tags;
       tags_are = tags_joined short_packed (only 2 xs) tags small (only_of_plain 2 xs ∙ ap (only_plain 2) is ∙ tags_only f.id tags kind integers);
       attributes = record { named = names; distinct = valid.distinct };
-      types = all_only (λ (x : Entry). x.number) (λ (x : Entry). IsType x.content) 3 xs (type_forms (only 3 xs) kind types);
       integers = integers;
       integers_are = packed_joined short_packed (only 4 xs) 4 integers drawn_small (only_of_plain 4 xs ∙ ap (only_plain 4) is ∙ integers_only f.id tags kind integers);
       geometry = record { same_kind = type_last (only 3 xs) kind types; valid = valid.drawn; spelled = refl };

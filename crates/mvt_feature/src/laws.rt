@@ -1,7 +1,7 @@
 //! Laws about the definitions alone: functions without effect, whose contract is the law.
 ghost use Rattle.std.specs.Prelude.{◌≡◌, ◌↔◌, ℕ, ◌+◌, ◌^◌, ◌<◌, ◌≤◌, List, [], ◌∷◌, ◌++◌, length, None, Some, Ok, Err, IsUtf8};
 ghost use Rattle.std.specs.List.{AllByRecursion};
-ghost use Rattle.mvt_base.specs.Rules.{AreOrdered, IsLeast, first};
+ghost use Rattle.mvt_base.specs.Rules.{AreOrdered, IsLeast, each, first};
 ghost use Rattle.mvt_attrs.specs.declared.value.Value.{Value};
 ghost use Rattle.mvt_feature.specs.declared.feature.Feature.{Feature};
 ghost use Rattle.mvt_attrs.specs.Tags.{Names};
@@ -17,6 +17,7 @@ ghost use Rattle.mvt_feature.specs.Causes.{of_wire};
 ghost use Rattle.mvt_feature.specs.Canonical.{value_fields, feature_fields};
 ghost use Rattle.mvt_feature.specs.Bounds.{feature_bound};
 ghost use Rattle.mvt_feature.specs.Faults.{MessageFault, fault_at, rest_rules};
+ghost use Rattle.mvt_feature.specs.Forms.{Form, IsFirst, HaveForms, forms_rules};
 ghost use Rattle.mvt_feature.specs.Ranges.{AreBytes, IsInRange};
 ghost use Rattle.mvt_feature.specs.Valid.{ValidValue, ValidFeature};
 ghost use Rattle.mvt_feature.specs.Features.{IsFeatureOf};
@@ -116,6 +117,15 @@ pub fn read_is_valid()
     ensures feature { (payload : List ℕ) (keys : List (List ℕ)) (values : List Value) (feature : Feature) →
         AreBytes payload → AllByRecursion IsUtf8 keys → AllByRecursion ValidValue values
         → IsFeatureOf payload keys values feature → ValidFeature feature }
+{}
+
+/// Fields break no rule of their forms exactly where they have them, and these rules are in order.
+pub fn forms()
+    ensures have { (forms : List (ℕ × Form)) (base : ℕ) (fields : List Entry) → AllByRecursion (IsFirst forms) forms
+        → first (each (λ _. forms_rules forms base) [] fields) ≡ None → HaveForms forms fields }
+    ensures clean { (forms : List (ℕ × Form)) (base : ℕ) (fields : List Entry) → HaveForms forms fields
+        → first (each (λ _. forms_rules forms base) [] fields) ≡ None }
+    ensures ordered { (forms : List (ℕ × Form)) (base : ℕ) (x : Entry) → AreOrdered (forms_rules forms base x) }
 {}
 
 /// A rest has no fault exactly where no bytes are left, and its rules are in order.

@@ -18,14 +18,16 @@ use Rattle.mvt_wire.specs.Spelling.{Plain, plain_of, short_field, spelled, IsFit
 use Rattle.mvt_feature.specs.declared.feature.Feature.{Feature}
 use Rattle.mvt_feature.specs.Canonical.{plain, value_fields, feature_fields}
 use Rattle.mvt_feature.specs.Features.{IsFeatureOf, number_in, number_of}
+use Rattle.mvt_feature.specs.Forms.{uint32, string, message, HasForm}
 use Rattle.mvt_feature.specs.Selection.{only, HaveForm}
 use Rattle.mvt_feature.specs.Valid.{ValidValue, ValidAttribute, ValidFeature}
-use Rattle.mvt_feature.specs.Values.{IsText, IsValueOf}
+use Rattle.mvt_feature.specs.Values.{IsValueOf}
+use Rattle.mvt_message.specs.declared.numbers.layer.TheConstants.{NAME, FEATURES, KEYS, VALUES, EXTENT, VERSION}
 use Rattle.mvt_message.specs.declared.item.Item.{Item as AnItem}
 use Rattle.mvt_message.specs.declared.item.Layer.{Layer as ALayer}
 use Rattle.mvt_message.specs.declared.item.Item.TheVariants.{Layer, Foreign}
 use Rattle.mvt_message.specs.LayerFields.{bytes_of, version_in, keys_in}
-use Rattle.mvt_message.specs.Items.{IsUint32, IsBytes, HoldsFeature, IsLayer, IsItem}
+use Rattle.mvt_message.specs.Items.{HoldsFeature, IsLayer, IsItem}
 use Rattle.mvt_message.specs.CanonicalItems.{attributes_of, keys_of, values_of, head_fields, extent_fields, fields_with, layer_fields, canonical_item}
 use Rattle.mvt_message.specs.ValidItems.{ValidLayer, AreOfVersion, ValidItem}
 
@@ -125,7 +127,7 @@ all_true (y ∷ ys) = (tt, all_true ys)
 
 -- the fields of a layer, wherever they stand, are the layer
 pub layer_is : (xs : List Entry) (keys : List (List ℕ)) (values : List Value) (layer : ALayer) → map plain_of xs ≡ fields_with keys values layer → IsUtf8 layer.name → layer.extent < 2 ^ 32 → AllByRecursion IsUtf8 keys → AllByRecursion (λ v. IsValueOf (value_bytes v) v) values → AllByRecursion (λ f. IsFeatureOf (feature_bytes keys values f) keys values f) layer.features
-    → HaveForm 15 IsUint32 xs × (version_in xs ≡ Some 2) × IsLayer xs layer
+    → HaveForm VERSION (HasForm uint32) xs × (version_in xs ≡ Some 2) × IsLayer xs layer
 layer_is xs keys values layer is name extent texts hold features =
     let at = λ (k : ℕ). only_contents k xs ∙ ap (contents_at k) is in
     let versions : map (λ (x : Entry). x.content) (only 15 xs) ≡ varint 2 ∷ [] = at 15 ∙ ap (λ l. varint 2 ∷ l) (tail_none 15 keys values layer.features layer.extent refl refl refl) in
@@ -138,14 +140,22 @@ layer_is xs keys values layer is name extent texts hold features =
     let the_name = one_content (only 1 xs) (bytes layer.name) names in
     let the_extent = one_content (only 5 xs) (varint layer.extent) extents in
     let same_keys : keys_in xs ≡ keys = keys_are (only 3 xs) keys key_texts in (
-      form_contents 15 IsUint32 xs (varint 2 ∷ []) versions (lit< tt, tt),
+      form_contents VERSION (HasForm uint32) xs (varint 2 ∷ []) versions (lit< tt, tt),
       ap (λ l. number_in (last_or None l)) version.1 ∙ ap number_of version.2,
       record {
-        names = form_contents 1 IsText xs (bytes layer.name ∷ []) names (name, tt);
-        messages = form_contents 2 IsBytes xs _ messages (bytes_all IsBytes (feature_bytes keys values) layer.features (all_true layer.features));
-        texts = form_contents 3 IsText xs _ key_texts (bytes_all IsText same_bytes keys texts);
-        pool = form_contents 4 IsBytes xs _ pool (bytes_all IsBytes value_bytes values (all_true values));
-        extents = form_contents 5 IsUint32 xs (varint layer.extent ∷ []) extents (extent, tt);
+        forms = (
+          form_contents NAME (HasForm string) xs (bytes layer.name ∷ []) names (name, tt),
+          (
+            form_contents FEATURES (HasForm message) xs _ messages (bytes_all (HasForm message) (feature_bytes keys values) layer.features (all_true layer.features)),
+            (
+              form_contents KEYS (HasForm string) xs _ key_texts (bytes_all (HasForm string) same_bytes keys texts),
+              (
+                form_contents VALUES (HasForm message) xs _ pool (bytes_all (HasForm message) value_bytes values (all_true values)),
+                (form_contents EXTENT (HasForm uint32) xs (varint layer.extent ∷ []) extents (extent, tt), tt),
+              ),
+            ),
+          ),
+        );
         name = ap (λ l. option_map (λ (x : Entry). bytes_of x.content) (last_or None l)) the_name.1 ∙ ap (λ c. Some (bytes_of c)) the_name.2;
         extent = sym (ap (λ l. unwrap_or (number_in (last_or None l)) 4096) the_extent.1 ∙ ap (λ c. unwrap_or (number_of c) 4096) the_extent.2);
         values = values;
