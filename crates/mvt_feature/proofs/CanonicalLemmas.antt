@@ -21,14 +21,17 @@ use Rattle.mvt_geometry.specs.Valid.{IsValid}
 use Rattle.mvt_wire.specs.Field.{varint, bytes, Entry}
 use Rattle.mvt_wire.specs.Spelling.{Plain, plain_of, short_field, short_numbers, spelled, IsFit}
 use Rattle.mvt_wire.specs.Zigzag.{zig}
+use Rattle.mvt_feature.specs.declared.numbers.feature.TheConstants.{ID, TAGS, TYPE, GEOMETRY}
+use Rattle.mvt_feature.specs.declared.numbers.value.TheConstants.{STRING}
 use Rattle.mvt_feature.proofs.Below.{ShortPacked, SpelledWhole, BytesLonger}
 use Rattle.mvt_feature.specs.declared.feature.Feature.{Feature}
 use Rattle.mvt_feature.specs.Canonical.{plain, value_field, value_fields, id_fields, tags_fields, type_number, drawing_fields, feature_fields}
-use Rattle.mvt_feature.specs.Features.{IsType, Joined, number_of, number_in, kind_numbered, kind_of_type, IsFeature, IsFeatureOf}
+use Rattle.mvt_feature.specs.Features.{Joined, number_of, number_in, kind_numbered, kind_of_type, IsFeature, IsFeatureOf}
+use Rattle.mvt_feature.specs.Forms.{any_varint, geom_type, HasForm, number_rules}
 use Rattle.mvt_feature.specs.Selection.{only}
 use Rattle.mvt_feature.specs.Valid.{ValidValue, ValidFeature}
-use Rattle.mvt_feature.specs.Values.{IsVarint, Means, IsValue, IsValueOf}
-use Rattle.mvt_feature.specs.ValueRules.{kind_rules, kinds, are_one_kind, value_field_rules}
+use Rattle.mvt_feature.specs.Values.{value_forms, Means, IsValue, IsValueOf}
+use Rattle.mvt_feature.specs.ValueRules.{kinds, are_one_kind, value_field_rules}
 use Rattle.mvt_feature.proofs.TextLemmas.{text_clean}
 use Rattle.mvt_feature.proofs.ValueLemmas.{value_from, rules_clean}
 use Rattle.mvt_feature.proofs.WritingLemmas.{spelled-append}
@@ -45,7 +48,7 @@ none_of (x ∷ xs) h = cc
 
 -- ---- values
 
-value_clean : (v : Value) → ValidValue v → first (kind_rules (value_field v).number (value_field v).content) ≡ None
+value_clean : (v : Value) → ValidValue v → first (number_rules value_forms (value_field v).number (value_field v).content) ≡ None
 value_clean (Text text) h = text_clean text h
 value_clean (Float bits) h = refl
 value_clean (Double bits) h = refl
@@ -104,8 +107,8 @@ code_small z h = let fits = Fits-of_z h in search rules
 
 pub value_fit : BytesLonger → (v : Value) → ValidValue v → length (spelled (value_fields v)) < 2 ^ 64 → IsFit (value_field v)
 value_fit bytes_longer (Text text) h small =
-    let longer = bytes_longer 1 text in
-    let all : length (short_field 1 (bytes text)) < 2 ^ 64 = subst (λ l. length l < 2 ^ 64) (append-nil (short_field 1 (bytes text))) small in
+    let longer = bytes_longer STRING text in
+    let all : length (short_field STRING (bytes text)) < 2 ^ 64 = subst (λ l. length l < 2 ^ 64) (append-nil (short_field STRING (bytes text))) small in
     record { first = lit≤ tt; last = lit< tt; content = omega arith }
 value_fit bytes_longer (Float bits) h small = record { first = lit≤ tt; last = lit< tt; content = h }
 value_fit bytes_longer (Double bits) h small = record { first = lit≤ tt; last = lit< tt; content = h }
@@ -137,25 +140,25 @@ only_of_plain k (x ∷ xs) = by_test (x.number == k) (only_of_plain k xs)
 abbrev all_fields : Option ℕ → List ℕ → Kind → List ℕ → List Plain
 all_fields id tags kind integers = id_fields id ++ (tags_fields tags ++ drawing_fields kind integers)
 
-ids_only : (id : Option ℕ) (tags : List ℕ) (kind : Kind) (integers : List ℕ) → only_plain 1 (all_fields id tags kind integers) ≡ id_fields id
+ids_only : (id : Option ℕ) (tags : List ℕ) (kind : Kind) (integers : List ℕ) → only_plain ID (all_fields id tags kind integers) ≡ id_fields id
 ids_only None [] kind integers = refl
 ids_only None (t ∷ ts) kind integers = refl
 ids_only (Some n) [] kind integers = refl
 ids_only (Some n) (t ∷ ts) kind integers = refl
 
-tags_only : (id : Option ℕ) (tags : List ℕ) (kind : Kind) (integers : List ℕ) → only_plain 2 (all_fields id tags kind integers) ≡ tags_fields tags
+tags_only : (id : Option ℕ) (tags : List ℕ) (kind : Kind) (integers : List ℕ) → only_plain TAGS (all_fields id tags kind integers) ≡ tags_fields tags
 tags_only None [] kind integers = refl
 tags_only None (t ∷ ts) kind integers = refl
 tags_only (Some n) [] kind integers = refl
 tags_only (Some n) (t ∷ ts) kind integers = refl
 
-type_only : (id : Option ℕ) (tags : List ℕ) (kind : Kind) (integers : List ℕ) → only_plain 3 (all_fields id tags kind integers) ≡ plain 3 (varint (type_number kind)) ∷ []
+type_only : (id : Option ℕ) (tags : List ℕ) (kind : Kind) (integers : List ℕ) → only_plain TYPE (all_fields id tags kind integers) ≡ plain TYPE (varint (type_number kind)) ∷ []
 type_only None [] kind integers = refl
 type_only None (t ∷ ts) kind integers = refl
 type_only (Some n) [] kind integers = refl
 type_only (Some n) (t ∷ ts) kind integers = refl
 
-integers_only : (id : Option ℕ) (tags : List ℕ) (kind : Kind) (integers : List ℕ) → only_plain 4 (all_fields id tags kind integers) ≡ plain 4 (bytes (short_numbers integers)) ∷ []
+integers_only : (id : Option ℕ) (tags : List ℕ) (kind : Kind) (integers : List ℕ) → only_plain GEOMETRY (all_fields id tags kind integers) ≡ plain GEOMETRY (bytes (short_numbers integers)) ∷ []
 integers_only None [] kind integers = refl
 integers_only None (t ∷ ts) kind integers = refl
 integers_only (Some n) [] kind integers = refl
@@ -165,16 +168,16 @@ integers_only (Some n) (t ∷ ts) kind integers = refl
 id_last : (xs : List Entry) (id : Option ℕ) → map plain_of xs ≡ id_fields id → number_in (last_or None xs) ≡ id
 id_last xs None h = rw (none_of xs h) refl
 id_last xs (Some n) h =
-    let one = one_of xs (plain 1 (varint n)) h in
+    let one = one_of xs (plain ID (varint n)) h in
     ap (λ l. number_in (last_or None l)) one.1 ∙ ap (λ (p : Plain). number_of p.content) one.2
 
-id_forms : (xs : List Entry) (id : Option ℕ) → map plain_of xs ≡ id_fields id → AllByRecursion (λ (x : Entry). IsVarint x.content) xs
+id_forms : (xs : List Entry) (id : Option ℕ) → map plain_of xs ≡ id_fields id → AllByRecursion (λ (x : Entry). HasForm any_varint x.content) xs
 id_forms xs None h = rw (none_of xs h) tt
 id_forms xs (Some n) h =
-    let one = one_of xs (plain 1 (varint n)) h in
-    let form : IsVarint one.0.content = subst (λ (p : Plain). IsVarint p.content) (sym one.2) tt in
-    let all : AllByRecursion (λ (x : Entry). IsVarint x.content) (one.0 ∷ []) = (form, tt) in
-    subst (AllByRecursion (λ (x : Entry). IsVarint x.content)) (sym one.1) all
+    let one = one_of xs (plain ID (varint n)) h in
+    let form : HasForm any_varint one.0.content = subst (λ (p : Plain). HasForm any_varint p.content) (sym one.2) tt in
+    let all : AllByRecursion (λ (x : Entry). HasForm any_varint x.content) (one.0 ∷ []) = (form, tt) in
+    subst (AllByRecursion (λ (x : Entry). HasForm any_varint x.content)) (sym one.1) all
 
 type_small : (kind : Kind) → type_number kind ≤ 3
 type_small kinds.Unknown = lit≤ tt
@@ -188,16 +191,16 @@ kind_back kinds.Point = refl
 kind_back kinds.LineString = refl
 kind_back kinds.Polygon = refl
 
-type_forms : (xs : List Entry) (kind : Kind) → map plain_of xs ≡ plain 3 (varint (type_number kind)) ∷ [] → AllByRecursion (λ (x : Entry). IsType x.content) xs
+type_forms : (xs : List Entry) (kind : Kind) → map plain_of xs ≡ plain TYPE (varint (type_number kind)) ∷ [] → AllByRecursion (λ (x : Entry). HasForm geom_type x.content) xs
 type_forms xs kind h =
-    let one = one_of xs (plain 3 (varint (type_number kind))) h in
-    let form : IsType one.0.content = subst (λ (p : Plain). IsType p.content) (sym one.2) (type_small kind) in
-    let all : AllByRecursion (λ (x : Entry). IsType x.content) (one.0 ∷ []) = (form, tt) in
-    subst (AllByRecursion (λ (x : Entry). IsType x.content)) (sym one.1) all
+    let one = one_of xs (plain TYPE (varint (type_number kind))) h in
+    let form : HasForm geom_type one.0.content = subst (λ (p : Plain). HasForm geom_type p.content) (sym one.2) (type_small kind) in
+    let all : AllByRecursion (λ (x : Entry). HasForm geom_type x.content) (one.0 ∷ []) = (form, tt) in
+    subst (AllByRecursion (λ (x : Entry). HasForm geom_type x.content)) (sym one.1) all
 
-type_last : (xs : List Entry) (kind : Kind) → map plain_of xs ≡ plain 3 (varint (type_number kind)) ∷ [] → kind_of_type (number_in (last_or None xs)) ≡ kind
+type_last : (xs : List Entry) (kind : Kind) → map plain_of xs ≡ plain TYPE (varint (type_number kind)) ∷ [] → kind_of_type (number_in (last_or None xs)) ≡ kind
 type_last xs kind h =
-    let one = one_of xs (plain 3 (varint (type_number kind))) h in
+    let one = one_of xs (plain TYPE (varint (type_number kind))) h in
     ap (λ l. kind_of_type (number_in (last_or None l))) one.1 ∙ ap (λ (p : Plain). kind_of_type (number_of p.content)) one.2 ∙ kind_back kind
 
 -- the numbers of one packed field
@@ -210,24 +213,23 @@ packed_joined short_packed xs k ns small h =
 
 tags_joined : ShortPacked → (xs : List Entry) (tags : List ℕ) → AllByRecursion (λ n. n < 2 ^ 32) tags → map plain_of xs ≡ tags_fields tags → Joined xs tags
 tags_joined short_packed xs [] small h = rw (none_of xs h) refl
-tags_joined short_packed xs (t ∷ ts) small h = packed_joined short_packed xs 2 (t ∷ ts) small h
+tags_joined short_packed xs (t ∷ ts) small h = packed_joined short_packed xs TAGS (t ∷ ts) small h
 
 pub feature_reads : ShortPacked → (xs : List Entry) (keys : List (List ℕ)) (values : List Value) (tags : List ℕ) (f : Feature) → map plain_of xs ≡ feature_fields tags f → Names keys values tags f.attributes → AllByRecursion (λ n. n < 2 ^ 32) tags → ValidFeature f → AllByRecursion (λ n. n < 2 ^ 32) (drawn f.geometry) → IsFeature xs keys values f
 feature_reads short_packed xs keys values tags f is names small valid drawn_small =
     let kind = kind_of f.geometry in
     let integers = drawn f.geometry in
-    let ids = only_of_plain 1 xs ∙ ap (only_plain 1) is ∙ ids_only f.id tags kind integers in
-    let types = only_of_plain 3 xs ∙ ap (only_plain 3) is ∙ type_only f.id tags kind integers in
+    let ids = only_of_plain ID xs ∙ ap (only_plain ID) is ∙ ids_only f.id tags kind integers in
+    let types = only_of_plain TYPE xs ∙ ap (only_plain TYPE) is ∙ type_only f.id tags kind integers in
     record {
-      ids = all_only (λ (x : Entry). x.number) (λ (x : Entry). IsVarint x.content) 1 xs (id_forms (only 1 xs) f.id ids);
-      id = sym (id_last (only 1 xs) f.id ids);
+      forms = (all_only (λ (x : Entry). x.number) (λ (x : Entry). HasForm any_varint x.content) ID xs (id_forms (only ID xs) f.id ids), (all_only (λ (x : Entry). x.number) (λ (x : Entry). HasForm geom_type x.content) TYPE xs (type_forms (only TYPE xs) kind types), tt));
+      id = sym (id_last (only ID xs) f.id ids);
       tags = tags;
-      tags_are = tags_joined short_packed (only 2 xs) tags small (only_of_plain 2 xs ∙ ap (only_plain 2) is ∙ tags_only f.id tags kind integers);
+      tags_are = tags_joined short_packed (only TAGS xs) tags small (only_of_plain TAGS xs ∙ ap (only_plain TAGS) is ∙ tags_only f.id tags kind integers);
       attributes = record { named = names; distinct = valid.distinct };
-      types = all_only (λ (x : Entry). x.number) (λ (x : Entry). IsType x.content) 3 xs (type_forms (only 3 xs) kind types);
       integers = integers;
-      integers_are = packed_joined short_packed (only 4 xs) 4 integers drawn_small (only_of_plain 4 xs ∙ ap (only_plain 4) is ∙ integers_only f.id tags kind integers);
-      geometry = record { same_kind = type_last (only 3 xs) kind types; valid = valid.drawn; spelled = refl };
+      integers_are = packed_joined short_packed (only GEOMETRY xs) GEOMETRY integers drawn_small (only_of_plain GEOMETRY xs ∙ ap (only_plain GEOMETRY) is ∙ integers_only f.id tags kind integers);
+      geometry = record { same_kind = type_last (only TYPE xs) kind types; valid = valid.drawn; spelled = refl };
     }
 
 -- the fields of a feature can be spelled
@@ -239,16 +241,16 @@ bytes_fit bytes_longer k d n low high within small =
 drawing_fit : BytesLonger → (kind : Kind) (integers : List ℕ) → length (spelled (drawing_fields kind integers)) < 2 ^ 64 → AllByRecursion IsFit (drawing_fields kind integers)
 drawing_fit bytes_longer kind integers small =
     let low = type_small kind in
-    let size = length-append (short_field 3 (varint (type_number kind))) (spelled (plain 4 (bytes (short_numbers integers)) ∷ [])) in
-    let last = ap length (append-nil (short_field 4 (bytes (short_numbers integers)))) in
-    let packed = bytes_fit bytes_longer 4 (short_numbers integers) (length (short_field 4 (bytes (short_numbers integers)))) (lit≤ tt) (lit< tt) (omega arith) (omega (arith, size, last)) in
+    let size = length-append (short_field TYPE (varint (type_number kind))) (spelled (plain GEOMETRY (bytes (short_numbers integers)) ∷ [])) in
+    let last = ap length (append-nil (short_field GEOMETRY (bytes (short_numbers integers)))) in
+    let packed = bytes_fit bytes_longer GEOMETRY (short_numbers integers) (length (short_field GEOMETRY (bytes (short_numbers integers)))) (lit≤ tt) (lit< tt) (omega arith) (omega (arith, size, last)) in
     (record { first = lit≤ tt; last = lit< tt; content = omega arith }, (packed, tt))
 
 tags_fit : BytesLonger → (tags : List ℕ) → length (spelled (tags_fields tags)) < 2 ^ 64 → AllByRecursion IsFit (tags_fields tags)
 tags_fit bytes_longer [] small = tt
 tags_fit bytes_longer (t ∷ ts) small =
-    let last = ap length (append-nil (short_field 2 (bytes (short_numbers (t ∷ ts))))) in
-    (bytes_fit bytes_longer 2 (short_numbers (t ∷ ts)) (length (short_field 2 (bytes (short_numbers (t ∷ ts))))) (lit≤ tt) (lit< tt) (omega arith) (omega (arith, last)), tt)
+    let last = ap length (append-nil (short_field TAGS (bytes (short_numbers (t ∷ ts))))) in
+    (bytes_fit bytes_longer TAGS (short_numbers (t ∷ ts)) (length (short_field TAGS (bytes (short_numbers (t ∷ ts))))) (lit≤ tt) (lit< tt) (omega arith) (omega (arith, last)), tt)
 
 id_fit : (id : Option ℕ) → IfSome id (λ n. n < 2 ^ 64) → AllByRecursion IsFit (id_fields id)
 id_fit None h = tt

@@ -1,5 +1,5 @@
 -- The laws of features, from those of tags and of geometries.
-use Rattle.std.proofs.Common.{◌≡◌, ℕ, ◌+◌, ◌^◌, ◌==◌, ◌↔◌, true, not, nat_lt, nat_le, List, [], ◌∷◌, Some, None, refl, sym, ap, ◌∙◌, subst, arith}
+use Rattle.std.proofs.Common.{◌≡◌, ℕ, ◌+◌, ◌^◌, ◌==◌, ◌↔◌, true, not, nat_lt, List, [], ◌∷◌, Some, None, refl, sym, ap, ◌∙◌, subst, arith}
 use Rattle.std.specs.List.{AllByRecursion}
 use Rattle.mvt_base.specs.Rules.{AreOrdered, IsLeast, when, told, first, each}
 use Rattle.mvt_base.proofs.OrderLemmas.{first_is_least, least_is_first, AreRowsFrom, rows_ordered, each_ordered, told_ordered, under_ordered, when_ordered}
@@ -12,19 +12,19 @@ use Rattle.mvt_geometry.specs.Drawing.{Draws}
 use Rattle.mvt_wire.specs.Field.{Content, varint, fixed64, bytes, fixed32, Entry}
 use Rattle.mvt_wire.specs.Packed.{packed_rules}
 use Rattle.mvt_wire.specs.Split.{split}
-use Rattle.mvt_feature.specs.declared.numbers.feature.TheConstants.{ID, TAGS, TYPE, GEOMETRY}
+use Rattle.mvt_feature.specs.declared.numbers.feature.TheConstants.{ID, TAGS, GEOMETRY}
 use Rattle.mvt_feature.proofs.Below.{SplitIs, SplitOnly, split_of, PackedClean, PackedOnly, PackedOrdered, TagsThere, TagsClean, TagsOnce, CountOrdered, PairsOrdered, DrawingThere, DrawingClean, DrawingOnce, DrawingOrdered}
-use Rattle.mvt_feature.specs.declared.cause.Cause.TheVariants.{WrongType, NumberRange, GeomType}
+use Rattle.mvt_feature.specs.declared.cause.Cause.TheVariants.{WrongType, NumberRange}
 use Rattle.mvt_feature.specs.declared.feature.Feature.{Feature}
 use Rattle.mvt_feature.specs.Causes.{of_packed}
 use Rattle.mvt_feature.specs.Faults.{MessageFault, fault_at}
-use Rattle.mvt_feature.specs.Features.{IsType, Joined, number_in, IsFeature, IsFeatureOf}
-use Rattle.mvt_feature.specs.FeatureRules.{joined, type_rules, list_rules, form_rules, feature_field_rules, tag_told, geometry_told, kind_in, feature_table, feature_rules, feature_fault}
+use Rattle.mvt_feature.specs.Features.{feature_forms, Joined, number_in, IsFeature, IsFeatureOf}
+use Rattle.mvt_feature.specs.FeatureRules.{joined, list_rules, feature_form_rules, feature_field_rules, tag_told, geometry_told, kind_in, feature_table, feature_rules, feature_fault}
+use Rattle.mvt_feature.specs.Forms.{Form, HasForm, HaveForms, number_rules}
 use Rattle.mvt_feature.specs.Selection.{only, last_only, HaveForm}
-use Rattle.mvt_feature.specs.Values.{IsVarint}
-use Rattle.mvt_feature.specs.ValueRules.{varint_rules}
-use Rattle.mvt_feature.proofs.ValueLemmas.{form_varint, varint_ordered, rest_ordered}
-use Rattle.mvt_feature.proofs.FeatureLemmas.{feature_chain, fields_fault, feature_clean, feature_from, field_clean, form_type, all_joined_are, joined_small, joined_is, IsListOf}
+use Rattle.mvt_feature.proofs.ValueLemmas.{rest_ordered}
+use Rattle.mvt_feature.proofs.FormLemmas.{number_clean, number_ordered, forms_split}
+use Rattle.mvt_feature.proofs.FeatureLemmas.{feature_chain, fields_fault, feature_clean, feature_from, field_clean, all_joined_are, joined_small, joined_is, IsListOf}
 use Rattle.mvt_feature.proofs.WalkLemmas.{none_rest}
 
 -- no fault: the payload is a feature
@@ -42,20 +42,20 @@ feature_there split_is packed_clean tags_there drawing_there payload base keys v
     (f, feature_from split_is packed_clean payload base keys values f rest later.0 refl attributes.1 geometry.1)
 
 -- the grammar keeps the rules
-form_clean : (x : Entry) → (x.number ≡ ID → IsVarint x.content) → (x.number ≡ TAGS → IsListOf x) → (x.number ≡ TYPE → IsType x.content) → (x.number ≡ GEOMETRY → IsListOf x) → first (form_rules x.number x.content) ≡ None
-form_clean x h1 h2 h3 h4 =
-    let n = x.number in
-    let c = x.content in
-    by_number n _ _ ID (λ e. first-under 0 (varint_rules c) ∙ form_varint c (h1 e)) (by_number n _ _ TAGS h2 (by_number n _ _ TYPE (λ e. first-under 0 (type_rules c) ∙ form_type c (h3 e)) (by_number n _ _ GEOMETRY h4 refl)))
+numbers_clean : (x : Entry) → (x.number ≡ TAGS → IsListOf x) → (x.number ≡ GEOMETRY → IsListOf x) → AllByRecursion (λ (known : ℕ × Form). x.number ≡ known.0 → HasForm known.1 x.content) feature_forms → first (feature_form_rules x.number x.content) ≡ None
+numbers_clean x tags integers known =
+    by_number x.number _ _ TAGS tags (by_number x.number _ _ GEOMETRY integers (first-under 0 (number_rules feature_forms x.number x.content) ∙ number_clean feature_forms x.number x.content known))
 
-forms_clean : (base : ℕ) (xs : List Entry) → HaveForm ID IsVarint xs → HaveForm TAGS (λ c. first (list_rules c) ≡ None) xs → HaveForm TYPE IsType xs → HaveForm GEOMETRY (λ c. first (list_rules c) ≡ None) xs → AllByRecursion (λ (x : Entry). first (feature_field_rules base x) ≡ None) xs
-forms_clean base [] h1 h2 h3 h4 = tt
-forms_clean base (x ∷ xs) h1 h2 h3 h4 = (field_clean base x (form_clean x h1.0 h2.0 h3.0 h4.0), forms_clean base xs h1.1 h2.1 h3.1 h4.1)
+all_clean : (base : ℕ) (xs : List Entry) → HaveForm TAGS (λ c. first (list_rules c) ≡ None) xs → HaveForm GEOMETRY (λ c. first (list_rules c) ≡ None) xs → HaveForms feature_forms xs → AllByRecursion (λ (x : Entry). first (feature_field_rules base x) ≡ None) xs
+all_clean base [] tags integers forms = tt
+all_clean base (x ∷ xs) tags integers forms =
+    let parts = forms_split feature_forms x xs forms in
+    (field_clean base x (numbers_clean x tags.0 integers.0 parts.0), all_clean base xs tags.1 integers.1 parts.1)
 
 pub fields_clean : PackedOnly → (base : ℕ) (xs : List Entry) (keys : List (List ℕ)) (values : List Value) (f : Feature) → IsFeature xs keys values f → first (each (λ _. feature_field_rules base) [] xs) ≡ None
 fields_clean packed_only base xs keys values f is =
     let lists = λ (k : ℕ) (ns : List ℕ) (are : Joined (only k xs) ns). all_only (λ (x : Entry). x.number) (λ (x : Entry). first (list_rules x.content) ≡ None) k xs (all_joined_are packed_only (only k xs) ns are).0 in
-    each_none (feature_field_rules base) [] xs (forms_clean base xs is.ids (lists 2 is.tags is.tags_are) is.types (lists 4 is.integers is.integers_are))
+    each_none (feature_field_rules base) [] xs (all_clean base xs (lists TAGS is.tags is.tags_are) (lists GEOMETRY is.integers is.integers_are) is.forms)
 
 pub feature_keeps : SplitOnly → PackedOnly → TagsClean → DrawingClean → (payload : List ℕ) (base : ℕ) (keys : List (List ℕ)) (values : List Value) (f : Feature) → IsFeatureOf payload keys values f → feature_fault payload base keys values ≡ None
 feature_keeps split_only packed_only tags_clean drawing_clean payload base keys values f (xs, whole, is) =
@@ -86,25 +86,19 @@ feature_once split_only packed_only tags_once drawing_once payload keys values f
     feature_same packed_only tags_once drawing_once xs keys values f g is (subst (λ zs. IsFeature zs keys values g) (sym b.0 ∙ a.0) also_is)
 
 -- the table is in order
-type_ordered : (c : Content) → AreOrdered (type_rules c)
-type_ordered (varint n) = when_ordered (not (nat_le n 3)) GeomType
-type_ordered (bytes d) = when_ordered true WrongType
-type_ordered (fixed64 n) = when_ordered true WrongType
-type_ordered (fixed32 n) = when_ordered true WrongType
-
 list_ordered : PackedOrdered → (c : Content) → AreOrdered (list_rules c)
 list_ordered packed_ordered (varint n) = under_ordered 1 _ (under_ordered 0 _ (when_ordered (not (nat_lt n (2 ^ 32))) NumberRange))
 list_ordered packed_ordered (bytes d) = under_ordered 1 (told of_packed (packed_rules d)) (told_ordered of_packed (packed_rules d) (packed_ordered d))
 list_ordered packed_ordered (fixed64 n) = under_ordered 0 (when true WrongType) (when_ordered true WrongType)
 list_ordered packed_ordered (fixed32 n) = under_ordered 0 (when true WrongType) (when_ordered true WrongType)
 
-form_ordered : PackedOrdered → (n : ℕ) (c : Content) → AreOrdered (form_rules n c)
-form_ordered packed_ordered n c =
-    if_ordered (n == 1) _ _ (under_ordered 0 (varint_rules c) (varint_ordered c)) (if_ordered (n == 2) _ _ (list_ordered packed_ordered c) (if_ordered (n == 3) _ _ (under_ordered 0 (type_rules c) (type_ordered c)) (if_ordered (n == 4) _ _ (list_ordered packed_ordered c) tt)))
+rules_ordered : PackedOrdered → (n : ℕ) (c : Content) → AreOrdered (feature_form_rules n c)
+rules_ordered packed_ordered n c =
+    if_ordered (n == TAGS) _ _ (list_ordered packed_ordered c) (if_ordered (n == GEOMETRY) _ _ (list_ordered packed_ordered c) (under_ordered 0 (number_rules feature_forms n c) (number_ordered feature_forms n c)))
 
 field_ordered : PackedOrdered → (base : ℕ) (x : Entry) → AreOrdered (feature_field_rules base x)
 unfolding feature_field_rules
-field_ordered packed_ordered base x = told_ordered (fault_at (base + x.at)) (form_rules x.number x.content) (form_ordered packed_ordered x.number x.content)
+field_ordered packed_ordered base x = told_ordered (fault_at (base + x.at)) (feature_form_rules x.number x.content) (rules_ordered packed_ordered x.number x.content)
 
 feature_rows : PackedOrdered → CountOrdered → PairsOrdered → DrawingOrdered → (payload : List ℕ) (base : ℕ) (keys : List (List ℕ)) (values : List Value) → AreRowsFrom 0 (feature_table payload base keys values)
 feature_rows packed_ordered count pairs drawing payload base keys values = (

@@ -1,8 +1,8 @@
 -- Features: the rules and the grammar say the same.
-use Rattle.std.proofs.Common.{◌≡◌, ℕ, ◌+◌, ◌^◌, ◌<◌, ◌==◌, Bool, true, false, not, nat_lt, nat_le, List, [], ◌∷◌, ◌++◌, Option, Some, None, refl, sym, ap, ap₂, ◌∙◌, subst, if◌then◌else◌}
+use Rattle.std.proofs.Common.{◌≡◌, ℕ, ◌+◌, ◌^◌, ◌<◌, ◌==◌, Bool, true, false, not, nat_lt, List, [], ◌∷◌, ◌++◌, Option, Some, None, refl, sym, ap, ap₂, ◌∙◌, subst, if◌then◌else◌}
 use Rattle.std.specs.List.{AllByRecursion, flat_map}
 use Rattle.std.specs.Option.{option_or, option_map}
-use Rattle.std.proofs.lemmas.Bool.{eqb-true, ltb-true, lt-ltb, leb-true, le-leb, not-false}
+use Rattle.std.proofs.lemmas.Bool.{eqb-true, ltb-true, lt-ltb, not-false}
 use Rattle.mvt_base.specs.Rules.{when, under, told, each, first}
 use Rattle.mvt_base.proofs.ListLemmas.{all_weaker, all_joined}
 use Rattle.mvt_base.proofs.RuleLemmas.{first-under, first-told, first-when_not, option_or-none, option_or-some}
@@ -23,18 +23,18 @@ use Rattle.mvt_wire.specs.Packed.{ArePacked, packed_rules}
 use Rattle.mvt_wire.specs.Split.{split}
 use Rattle.mvt_feature.specs.declared.numbers.feature.TheConstants.{ID, TAGS, TYPE, GEOMETRY}
 use Rattle.mvt_feature.proofs.Below.{SplitIs, PackedClean, PackedOnly}
-use Rattle.mvt_feature.specs.declared.cause.Cause.TheVariants.{NumberRange, GeomType}
+use Rattle.mvt_feature.specs.declared.cause.Cause.TheVariants.{NumberRange}
 use Rattle.mvt_feature.specs.declared.feature.Feature.{Feature}
 use Rattle.mvt_feature.specs.declared.message_error.MessageError.{MessageError}
 use Rattle.mvt_feature.specs.Causes.{of_packed}
 use Rattle.mvt_feature.specs.Faults.{MessageFault, fault_at, rest_rules, TellsMessage}
-use Rattle.mvt_feature.specs.Features.{IsType, AreNumbers, Joined, number_in, IsFeatureOf}
-use Rattle.mvt_feature.specs.FeatureRules.{numbers_of, joined, type_rules, list_rules, form_rules, feature_field_rules, tag_told, geometry_told, kind_in, feature_table, feature_rules, feature_fault}
+use Rattle.mvt_feature.specs.Features.{AreNumbers, Joined, number_in, IsFeatureOf}
+use Rattle.mvt_feature.specs.FeatureRules.{numbers_of, joined, list_rules, feature_form_rules, feature_field_rules, tag_told, geometry_told, kind_in, feature_table, feature_rules, feature_fault}
 use Rattle.mvt_feature.specs.Selection.{only, last_only, HaveForm}
-use Rattle.mvt_feature.specs.Values.{IsVarint}
-use Rattle.mvt_feature.specs.ValueRules.{varint_rules}
+use Rattle.mvt_feature.specs.Forms.{any_varint, geom_type, HasForm, form_rules}
 use Rattle.mvt_feature.specs.Faults.{of_tag_error, of_geometry_error}
-use Rattle.mvt_feature.proofs.ValueLemmas.{tells_front, varint_form, whole_split}
+use Rattle.mvt_feature.proofs.ValueLemmas.{tells_front, whole_split}
+use Rattle.mvt_feature.proofs.FormLemmas.{has_form}
 use Rattle.mvt_feature.proofs.KnownLemmas.{field_first}
 use Rattle.mvt_feature.proofs.WalkLemmas.{rest_none}
 
@@ -106,28 +106,22 @@ feature_clean payload base keys values tags integers kind rest clean tags_are is
     behind_fields payload base keys values rest clean ∙ option_or-none _ _ (ap (option_map tag_told) (ap (tag_fault keys values) (sym tags_are) ∙ resolved)) ∙ ap (option_map geometry_told) (ap₂ geometry_fault (sym kind_is) (sym is) ∙ drawn)
 
 -- the form of a field and its rules
-clean_field : (base : ℕ) (x : Entry) → first (feature_field_rules base x) ≡ None → first (form_rules x.number x.content) ≡ None
-clean_field base x h = none_mapped (fault_at (base + x.at)) (first (form_rules x.number x.content)) (sym (field_first base x) ∙ h)
+clean_field : (base : ℕ) (x : Entry) → first (feature_field_rules base x) ≡ None → first (feature_form_rules x.number x.content) ≡ None
+clean_field base x h = none_mapped (fault_at (base + x.at)) (first (feature_form_rules x.number x.content)) (sym (field_first base x) ∙ h)
 
-pub field_clean : (base : ℕ) (x : Entry) → first (form_rules x.number x.content) ≡ None → first (feature_field_rules base x) ≡ None
+pub field_clean : (base : ℕ) (x : Entry) → first (feature_form_rules x.number x.content) ≡ None → first (feature_field_rules base x) ≡ None
 field_clean base x h = field_first base x ∙ ap (option_map (fault_at (base + x.at))) h
 
 -- the rules of the fields of one number
-of_number : (base k : ℕ) (P : Content → Type 0) → ((c : Content) → first (form_rules k c) ≡ None → P c) → (xs : List Entry) → first (each (λ _. feature_field_rules base) [] xs) ≡ None → HaveForm k P xs
+of_number : (base k : ℕ) (P : Content → Type 0) → ((c : Content) → first (feature_form_rules k c) ≡ None → P c) → (xs : List Entry) → first (each (λ _. feature_field_rules base) [] xs) ≡ None → HaveForm k P xs
 of_number base k P form xs clean =
-    all_weaker (λ (x : Entry). first (feature_field_rules base x) ≡ None) (λ (x : Entry). x.number ≡ k → P x.content) (λ x none is. form x.content (subst (λ n. first (form_rules n x.content) ≡ None) is (clean_field base x none))) xs (none_each (feature_field_rules base) [] xs clean)
+    all_weaker (λ (x : Entry). first (feature_field_rules base x) ≡ None) (λ (x : Entry). x.number ≡ k → P x.content) (λ x none is. form x.content (subst (λ n. first (feature_form_rules n x.content) ≡ None) is (clean_field base x none))) xs (none_each (feature_field_rules base) [] xs clean)
 
-type_form : (c : Content) → first (type_rules c) ≡ None → IsType c
-type_form (varint n) h = leb-true n 3 (not-false (nat_le n 3) (when_none (not (nat_le n 3)) GeomType h))
-type_form (bytes d) h = cc
-type_form (fixed64 n) h = cc
-type_form (fixed32 n) h = cc
+id_form : (base : ℕ) (xs : List Entry) → first (each (λ _. feature_field_rules base) [] xs) ≡ None → HaveForm ID (HasForm any_varint) xs
+id_form base xs clean = of_number base ID (HasForm any_varint) (λ c h. has_form any_varint c (sym (first-under 0 (form_rules any_varint c)) ∙ h)) xs clean
 
-pub form_type : (c : Content) → IsType c → first (type_rules c) ≡ None
-form_type (varint n) h = first-when_not (not (nat_le n 3)) GeomType (ap not (le-leb n 3 h))
-form_type (bytes d) h = absurd h
-form_type (fixed64 n) h = absurd h
-form_type (fixed32 n) h = absurd h
+type_form : (base : ℕ) (xs : List Entry) → first (each (λ _. feature_field_rules base) [] xs) ≡ None → HaveForm TYPE (HasForm geom_type) xs
+type_form base xs clean = of_number base TYPE (HasForm geom_type) (λ c h. has_form geom_type c (sym (first-under 0 (form_rules geom_type c)) ∙ h)) xs clean
 
 list_numbers : PackedClean → (c : Content) → first (list_rules c) ≡ None → AreNumbers c (numbers_of c)
 list_numbers packed_clean (varint n) h =
@@ -184,7 +178,7 @@ joined_small [] ns h = subst (AllByRecursion (λ m. m < 2 ^ 32)) (sym h) tt
 joined_small (x ∷ xs) ns (front, back, is, numbers, more) =
     subst (AllByRecursion (λ m. m < 2 ^ 32)) (sym is) (all_joined (λ m. m < 2 ^ 32) front back (numbers_small x.content front numbers) (joined_small xs back more))
 
-pub joined_is : PackedClean → (base k : ℕ) (xs : List Entry) → ((c : Content) → first (form_rules k c) ≡ None → first (list_rules c) ≡ None) → first (each (λ _. feature_field_rules base) [] xs) ≡ None → Joined (only k xs) (joined k xs)
+pub joined_is : PackedClean → (base k : ℕ) (xs : List Entry) → ((c : Content) → first (feature_form_rules k c) ≡ None → first (list_rules c) ≡ None) → first (each (λ _. feature_field_rules base) [] xs) ≡ None → Joined (only k xs) (joined k xs)
 joined_is packed_clean base k xs form clean =
     joined_all packed_clean (only k xs) (only_form k (λ c. first (list_rules c) ≡ None) xs (of_number base k (λ c. first (list_rules c) ≡ None) form xs clean))
 
@@ -195,12 +189,11 @@ feature_from split_is packed_clean payload base keys values f rest clean id reso
       xs,
       whole_split split_is payload rest,
       record {
-        ids = of_number base ID IsVarint (λ c h. varint_form c (sym (first-under 0 (varint_rules c)) ∙ h)) xs clean;
+        forms = (id_form base xs clean, (type_form base xs clean, tt));
         id = id;
         tags = joined TAGS xs;
         tags_are = joined_is packed_clean base TAGS xs (λ c h. h) clean;
         attributes = resolved;
-        types = of_number base TYPE IsType (λ c h. type_form c (sym (first-under 0 (type_rules c)) ∙ h)) xs clean;
         integers = joined GEOMETRY xs;
         integers_are = joined_is packed_clean base GEOMETRY xs (λ c h. h) clean;
         geometry = draws;

@@ -1,5 +1,6 @@
 pub mod Below
 pub mod TextLemmas
+pub mod FormLemmas
 pub mod WalkLemmas
 pub mod KindLemmas
 pub mod ValueLemmas

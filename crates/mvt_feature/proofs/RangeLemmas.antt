@@ -17,7 +17,8 @@ use Rattle.mvt_feature.specs.Features.{number_of, number_in, IsFeatureOf}
 use Rattle.mvt_feature.specs.Ranges.{AreBytes, IsInRange}
 use Rattle.mvt_feature.specs.Selection.{only, last_only}
 use Rattle.mvt_feature.specs.Valid.{ValidValue, ValidAttribute, ValidFeature}
-use Rattle.mvt_feature.specs.Values.{IsText, Means, IsValueOf}
+use Rattle.mvt_feature.specs.Forms.{string, HasForm}
+use Rattle.mvt_feature.specs.Values.{Means, IsValueOf}
 
 bytes_front : (xs ys : List ℕ) → AreBytes (xs ++ ys) → AreBytes xs
 bytes_front [] ys h k = lit< tt
@@ -51,7 +52,7 @@ signed_range (negsuc n) h = search rules
 code_range : (n : ℕ) → n < 2 ^ 64 → FitsSigned w64 (cast_signed w64 n)
 code_range n h = sfits_to_z (Fits-of_lt h)
 
-means_range : (n : ℕ) (c : Content) (v : Value) → IsInRange c → (n ≡ 1 → IsText c) → Means n c v → ValidValue v
+means_range : (n : ℕ) (c : Content) (v : Value) → IsInRange c → (n ≡ 1 → HasForm string c) → Means n c v → ValidValue v
 means_range n (bytes d) (Text t) h text m = subst IsUtf8 (sym m.1) (text m.0)
 means_range n (fixed32 k) (Float b) h text m = subst (λ i. i < 2 ^ 32) (sym m.1) h
 means_range n (fixed64 k) (Double b) h text m = subst (λ i. i < 2 ^ 64) (sym m.1) h
@@ -66,7 +67,7 @@ value_valid payload v h (xs, whole, is) =
     let ranges = only_all (λ (x : Entry). x.number) (λ (x : Entry). IsInRange x.content) is.kind xs (fields_range 0 payload xs [] h whole) in
     let range = last_of_all (λ (x : Entry). IsInRange x.content) (only is.kind xs) is.last ranges is.is_last in
     let named = last_of_all (λ (x : Entry). x.number ≡ is.kind) (only is.kind xs) is.last (only_number (λ (x : Entry). x.number) is.kind xs) is.is_last in
-    let texts = last_of_all (λ (x : Entry). x.number ≡ STRING → IsText x.content) (only is.kind xs) is.last (only_all (λ (x : Entry). x.number) (λ (x : Entry). x.number ≡ STRING → IsText x.content) is.kind xs is.texts) is.is_last in
+    let texts = last_of_all (λ (x : Entry). x.number ≡ STRING → HasForm string x.content) (only is.kind xs) is.last (only_all (λ (x : Entry). x.number) (λ (x : Entry). x.number ≡ STRING → HasForm string x.content) is.kind xs is.forms.0) is.is_last in
     means_range is.kind is.last.content v range (λ one. texts (named ∙ one)) is.means
 
 -- features

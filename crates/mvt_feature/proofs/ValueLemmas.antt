@@ -1,14 +1,11 @@
 -- Values: the rules and the grammar say the same.
 use Rattle.std.proofs.Common.{◌≡◌, ℕ, ◌+◌, ◌%◌, ◌≤◌, ◌==◌, ◌↔◌, inl, inr, Bool, true, false, not, nat_le, ℤ, pos, negsuc, List, [], ◌∷◌, Option, Some, None, refl, sym, ap, ◌∙◌, subst, arith, rules, if◌then◌else◌}
-use Rattle.std.specs.Prelude.{IsUtf8}
 use Rattle.std.specs.Int.{w64, cast_signed}
 use Rattle.std.specs.List.{AllByRecursion, list_all, last_or}
 use Rattle.std.specs.Option.{option_or}
-use Rattle.std.specs.Str.{is_utf8}
 use Rattle.std.proofs.lemmas.Bool.{eqb-true, eq-eqb, ne_eqb, cases_eq, and_parts, and_from, leb-true, le-leb, not-false, both_ways}
-use Rattle.std.proofs.lemmas.Str.{IsUtf8-from_is_utf8}
 use Rattle.mvt_base.specs.Rules.{AreOrdered, IsLeast, when, each, first}
-use Rattle.mvt_base.proofs.RuleLemmas.{first-when, first-when_not, first-told, option_or-none, option_or-nones, option_or-right}
+use Rattle.mvt_base.proofs.RuleLemmas.{first-when, first-when_not, option_or-none, option_or-nones, option_or-right}
 use Rattle.mvt_base.proofs.ListLemmas.{all_weaker}
 use Rattle.mvt_attrs.specs.declared.value.Value.{Value}
 use Rattle.mvt_attrs.specs.declared.value.Value.TheVariants.{Text, Float, Double, Int, Uint, Sint, Bool as Truth}
@@ -20,19 +17,20 @@ use Rattle.mvt_wire.specs.Zigzag.{zig}
 use Rattle.mvt_feature.specs.declared.value.Meaning.{Meaning}
 use Rattle.mvt_feature.specs.declared.value.Kinds.TheVariants.{Nothing, One, Several}
 use Rattle.mvt_feature.specs.Inner.{value_of, AreKinds}
-use Rattle.mvt_base.proofs.OrderLemmas.{first_is_least, least_is_first, AreRowsFrom, rows_ordered, each_ordered, told_ordered, when_ordered}
-use Rattle.mvt_base.proofs.TableLemmas.{firsts, first-rows_all, none_mapped, when_none, none_each, each_none, by_number, if_ordered}
+use Rattle.mvt_base.proofs.OrderLemmas.{first_is_least, least_is_first, AreRowsFrom, rows_ordered, each_ordered, when_ordered}
+use Rattle.mvt_base.proofs.TableLemmas.{firsts, first-rows_all, when_none, none_each}
 use Rattle.mvt_base.proofs.SelectionLemmas.{only_number, only_all, last_of_all, last_there}
 use Rattle.mvt_feature.proofs.WalkLemmas.{rest_none, none_rest}
-use Rattle.mvt_feature.specs.declared.cause.Cause.TheVariants.{ValueKind, WrongType, NotUtf8}
+use Rattle.mvt_feature.specs.declared.cause.Cause.TheVariants.{ValueKind}
 use Rattle.mvt_feature.specs.Faults.{MessageFault, fault_at, rest_rules, rest_rules_at, TellsMessage}
 use Rattle.mvt_feature.specs.declared.message_error.MessageError.{MessageError}
 use Rattle.mvt_feature.specs.declared.message_error.MessageError.TheVariants.{Memory, Fault}
-use Rattle.mvt_feature.specs.Selection.{only, last_only, HaveForm}
-use Rattle.mvt_feature.specs.Values.{IsVarint, IsFixed32, IsFixed64, IsText, IsKind, Means, IsValue, IsValueOf}
+use Rattle.mvt_feature.specs.Selection.{only, last_only}
+use Rattle.mvt_feature.specs.Forms.{any_varint, float, double, string, HasForm, HaveForms, number_rules}
+use Rattle.mvt_feature.specs.Values.{value_forms, IsKind, Means, IsValue, IsValueOf}
 use Rattle.mvt_feature.specs.ValueIn.{unzig}
-use Rattle.mvt_feature.specs.ValueRules.{text_rules, varint_rules, fixed32_rules, fixed64_rules, kind_rules, is_kind, kinds, are_one_kind, value_field_rules, value_table, value_rules, value_fault}
-use Rattle.mvt_feature.proofs.TextLemmas.{text_clean}
+use Rattle.mvt_feature.specs.ValueRules.{is_kind, kinds, are_one_kind, value_field_rules, value_table, value_rules, value_fault}
+use Rattle.mvt_feature.proofs.FormLemmas.{has_form, clean_at, told_clean, forms_have, forms_clean, forms_ordered}
 
 -- the fault of a value from its parts
 pub value_chain : (payload : List ℕ) (base own : ℕ) → value_fault payload base own ≡ firsts (value_table payload base own)
@@ -91,70 +89,23 @@ for_seven P p1 p2 p3 p4 p5 p6 p7 n low high =
     ]
 
 -- a field's rules and its form
-clean_rules : (base : ℕ) (x : Entry) → first (value_field_rules base x) ≡ None → first (kind_rules x.number x.content) ≡ None
+clean_rules : (base : ℕ) (x : Entry) → first (value_field_rules base x) ≡ None → first (number_rules value_forms x.number x.content) ≡ None
 unfolding value_field_rules
-clean_rules base x h = none_mapped (fault_at (base + x.at)) (first (kind_rules x.number x.content)) (sym (first-told (fault_at (base + x.at)) (kind_rules x.number x.content)) ∙ h)
+clean_rules base x h = clean_at value_forms base x h
 
-pub rules_clean : (base : ℕ) (x : Entry) → first (kind_rules x.number x.content) ≡ None → first (value_field_rules base x) ≡ None
+pub rules_clean : (base : ℕ) (x : Entry) → first (number_rules value_forms x.number x.content) ≡ None → first (value_field_rules base x) ≡ None
 unfolding value_field_rules
-rules_clean base x h = rw (first-told (fault_at (base + x.at)) (kind_rules x.number x.content), h) refl
+rules_clean base x h = told_clean value_forms base x h
 
-text_form : (c : Content) → first (text_rules c) ≡ None → IsText c
-text_form (bytes d) h = elim_utf8 (is_utf8 d) refl h
-  where
-    elim_utf8 : (b : Bool) → is_utf8 d ≡ b → first (when (not b) NotUtf8) ≡ None → IsUtf8 d
-    elim_utf8 true e h = IsUtf8-from_is_utf8 d e
-    elim_utf8 false e h = cc
-text_form (varint n) h = cc
-text_form (fixed64 n) h = cc
-text_form (fixed32 n) h = cc
+-- fields without a fault have the forms of their kinds, and such fields have no fault
+values_have : (base : ℕ) (xs : List Entry) → first (each (λ _. value_field_rules base) [] xs) ≡ None → HaveForms value_forms xs
+unfolding value_field_rules
+values_have base xs clean =
+    forms_have value_forms base xs (λ c. refl, (λ c. refl, (λ c. refl, (λ c. refl, (λ c. refl, (λ c. refl, (λ c. refl, tt))))))) clean
 
-form_text : (c : Content) → IsText c → first (text_rules c) ≡ None
-form_text (bytes d) h = text_clean d h
-form_text (varint n) h = absurd h
-form_text (fixed64 n) h = absurd h
-form_text (fixed32 n) h = absurd h
-
-pub varint_form : (c : Content) → first (varint_rules c) ≡ None → IsVarint c
-varint_form (varint n) h = tt
-varint_form (bytes d) h = cc
-varint_form (fixed64 n) h = cc
-varint_form (fixed32 n) h = cc
-
-pub form_varint : (c : Content) → IsVarint c → first (varint_rules c) ≡ None
-form_varint (varint n) h = refl
-form_varint (bytes d) h = absurd h
-form_varint (fixed64 n) h = absurd h
-form_varint (fixed32 n) h = absurd h
-
-fixed32_form : (c : Content) → first (fixed32_rules c) ≡ None → IsFixed32 c
-fixed32_form (fixed32 n) h = tt
-fixed32_form (varint n) h = cc
-fixed32_form (bytes d) h = cc
-fixed32_form (fixed64 n) h = cc
-
-form_fixed32 : (c : Content) → IsFixed32 c → first (fixed32_rules c) ≡ None
-form_fixed32 (fixed32 n) h = refl
-form_fixed32 (varint n) h = absurd h
-form_fixed32 (bytes d) h = absurd h
-form_fixed32 (fixed64 n) h = absurd h
-
-fixed64_form : (c : Content) → first (fixed64_rules c) ≡ None → IsFixed64 c
-fixed64_form (fixed64 n) h = tt
-fixed64_form (varint n) h = cc
-fixed64_form (bytes d) h = cc
-fixed64_form (fixed32 n) h = cc
-
-form_fixed64 : (c : Content) → IsFixed64 c → first (fixed64_rules c) ≡ None
-form_fixed64 (fixed64 n) h = refl
-form_fixed64 (varint n) h = absurd h
-form_fixed64 (bytes d) h = absurd h
-form_fixed64 (fixed32 n) h = absurd h
-
--- fields without a fault have the form of a kind
-have_form : (base k : ℕ) (Form : Content → Type 0) → ((c : Content) → first (kind_rules k c) ≡ None → Form c) → (xs : List Entry) → first (each (λ _. value_field_rules base) [] xs) ≡ None → HaveForm k Form xs
-have_form base k Form form xs clean =
-    all_weaker (λ (x : Entry). first (value_field_rules base x) ≡ None) (λ (x : Entry). x.number ≡ k → Form x.content) (λ x none is. form x.content (subst (λ n. first (kind_rules n x.content) ≡ None) is (clean_rules base x none))) xs (none_each (value_field_rules base) [] xs clean)
+values_clean : (base : ℕ) (xs : List Entry) → HaveForms value_forms xs → first (each (λ _. value_field_rules base) [] xs) ≡ None
+unfolding value_field_rules
+values_clean base xs h = forms_clean value_forms base xs h
 
 kind_test : (x : Entry) → IsKind x.number → is_kind x ≡ true
 kind_test x h = and_from _ _ (le-leb STRING x.number h.0) (le-leb x.number BOOL h.1)
@@ -224,13 +175,7 @@ value_from base xs last v clean one is means =
     let only_one = kinds_one last.number xs same in
     let kind = means_kind last.number last.content v means in
     record {
-      texts = have_form base STRING IsText text_form xs clean;
-      floats = have_form base FLOAT IsFixed32 fixed32_form xs clean;
-      doubles = have_form base DOUBLE IsFixed64 fixed64_form xs clean;
-      ints = have_form base INT IsVarint varint_form xs clean;
-      uints = have_form base UINT IsVarint varint_form xs clean;
-      sints = have_form base SINT IsVarint varint_form xs clean;
-      truths = have_form base BOOL IsVarint varint_form xs clean;
+      forms = values_have base xs clean;
       kind = last.number;
       one = only_one;
       last = last;
@@ -257,46 +202,45 @@ pub several_told : (payload : List ℕ) (base own : ℕ) → (split payload).res
 several_told payload base own rest clean are = value_kind_told payload base own (rest_none base (split payload) rest) clean are.1
 
 -- a field of a kind, of the right form, says a value
-text_means : (c : Content) → IsText c → (v : Value) × Means STRING c v
+text_means : (c : Content) → HasForm string c → (v : Value) × Means STRING c v
 text_means (bytes d) h = (Text d, (refl, refl))
 text_means (varint n) h = absurd h
 text_means (fixed64 n) h = absurd h
 text_means (fixed32 n) h = absurd h
 
-float_means : (c : Content) → IsFixed32 c → (v : Value) × Means FLOAT c v
+float_means : (c : Content) → HasForm float c → (v : Value) × Means FLOAT c v
 float_means (fixed32 n) h = (Float n, (refl, refl))
 float_means (bytes d) h = absurd h
 float_means (varint n) h = absurd h
 float_means (fixed64 n) h = absurd h
 
-double_means : (c : Content) → IsFixed64 c → (v : Value) × Means DOUBLE c v
+double_means : (c : Content) → HasForm double c → (v : Value) × Means DOUBLE c v
 double_means (fixed64 n) h = (Double n, (refl, refl))
 double_means (bytes d) h = absurd h
 double_means (varint n) h = absurd h
 double_means (fixed32 n) h = absurd h
 
-varint_means : (k : ℕ) (c : Content) (make : ℕ → Value) → ((n : ℕ) → Means k (varint n) (make n)) → IsVarint c → (v : Value) × Means k c v
+varint_means : (k : ℕ) (c : Content) (make : ℕ → Value) → ((n : ℕ) → Means k (varint n) (make n)) → HasForm any_varint c → (v : Value) × Means k c v
 varint_means k (varint n) make means h = (make n, means n)
 varint_means k (bytes d) make means h = absurd h
 varint_means k (fixed64 n) make means h = absurd h
 varint_means k (fixed32 n) make means h = absurd h
 
 zig-unzig : (n : ℕ) → zig (unzig n) ≡ n
-unfolding unzig
 zig-unzig n = elim (cases_eq (n % 2) 0) [
   | inl e ↦ rw (eq-eqb (n % 2) 0 e) (omega arith)
   | inr d ↦ rw (ne_eqb (n % 2) 0 d) (omega arith)
 ]
 
-means_there : (n : ℕ) → IsKind n → (c : Content) → first (kind_rules n c) ≡ None → (v : Value) × Means n c v
-means_there n is = for_seven (λ k. (c : Content) → first (kind_rules k c) ≡ None → (v : Value) × Means k c v)
-    (λ c h. text_means c (text_form c h))
-    (λ c h. float_means c (fixed32_form c h))
-    (λ c h. double_means c (fixed64_form c h))
-    (λ c h. varint_means INT c (λ n. Int (cast_signed w64 n)) (λ n. (refl, refl)) (varint_form c h))
-    (λ c h. varint_means UINT c (λ n. Uint n) (λ n. (refl, refl)) (varint_form c h))
-    (λ c h. varint_means SINT c (λ n. Sint (unzig n)) (λ n. (refl, zig-unzig n)) (varint_form c h))
-    (λ c h. varint_means BOOL c (λ n. Truth (not (n == 0))) (λ n. (refl, refl)) (varint_form c h))
+means_there : (n : ℕ) → IsKind n → (c : Content) → first (number_rules value_forms n c) ≡ None → (v : Value) × Means n c v
+means_there n is = for_seven (λ k. (c : Content) → first (number_rules value_forms k c) ≡ None → (v : Value) × Means k c v)
+    (λ c h. text_means c (has_form string c h))
+    (λ c h. float_means c (has_form float c h))
+    (λ c h. double_means c (has_form double c h))
+    (λ c h. varint_means INT c (λ n. Int (cast_signed w64 n)) (λ n. (refl, refl)) (has_form any_varint c h))
+    (λ c h. varint_means UINT c (λ n. Uint n) (λ n. (refl, refl)) (has_form any_varint c h))
+    (λ c h. varint_means SINT c (λ n. Sint (unzig n)) (λ n. (refl, zig-unzig n)) (has_form any_varint c h))
+    (λ c h. varint_means BOOL c (λ n. Truth (not (n == 0))) (λ n. (refl, refl)) (has_form any_varint c h))
     n is.0 is.1
 
 filter_kinds : (xs : List Entry) → AllByRecursion (λ (x : Entry). IsKind x.number) (kinds xs)
@@ -338,17 +282,6 @@ value_there split_is payload base own h =
     (found.0, ((split payload).fields, whole_split split_is payload (none_rest base (split payload) parts.0), found.1))
 
 -- the grammar keeps the rules
-form_rules : (x : Entry) → (x.number ≡ STRING → IsText x.content) → (x.number ≡ FLOAT → IsFixed32 x.content) → (x.number ≡ DOUBLE → IsFixed64 x.content) → (x.number ≡ INT → IsVarint x.content) → (x.number ≡ UINT → IsVarint x.content) → (x.number ≡ SINT → IsVarint x.content) → (x.number ≡ BOOL → IsVarint x.content) → first (kind_rules x.number x.content) ≡ None
-form_rules x h1 h2 h3 h4 h5 h6 h7 =
-    let n = x.number in
-    let c = x.content in
-    by_number n _ _ STRING (λ e. form_text c (h1 e)) (by_number n _ _ FLOAT (λ e. form_fixed32 c (h2 e)) (by_number n _ _ DOUBLE (λ e. form_fixed64 c (h3 e)) (by_number n _ _ INT (λ e. form_varint c (h4 e)) (by_number n _ _ UINT (λ e. form_varint c (h5 e)) (by_number n _ _ SINT (λ e. form_varint c (h6 e)) (by_number n _ _ BOOL (λ e. form_varint c (h7 e)) refl))))))
-
-forms_rules : (base : ℕ) (xs : List Entry) → HaveForm STRING IsText xs → HaveForm FLOAT IsFixed32 xs → HaveForm DOUBLE IsFixed64 xs → HaveForm INT IsVarint xs → HaveForm UINT IsVarint xs → HaveForm SINT IsVarint xs → HaveForm BOOL IsVarint xs → AllByRecursion (λ (x : Entry). first (value_field_rules base x) ≡ None) xs
-forms_rules base [] h1 h2 h3 h4 h5 h6 h7 = tt
-forms_rules base (x ∷ xs) h1 h2 h3 h4 h5 h6 h7 =
-    (rules_clean base x (form_rules x h1.0 h2.0 h3.0 h4.0 h5.0 h6.0 h7.0), forms_rules base xs h1.1 h2.1 h3.1 h4.1 h5.1 h6.1 h7.1)
-
 all_one : (k : ℕ) (xs : List Entry) (last : Entry) → AllByRecursion (λ (y : Entry). y.number ≡ k) xs → last_or None xs ≡ Some last → are_one_kind xs ≡ true
 all_one k [] last h is = cc
 all_one k (x ∷ xs) last h is = go xs h.1
@@ -360,7 +293,7 @@ all_one k (x ∷ xs) last h is = go xs h.1
 pub value_keeps : SplitOnly → (base own : ℕ) (payload : List ℕ) (v : Value) → IsValueOf payload v → value_fault payload base own ≡ None
 value_keeps split_only base own payload v (xs, whole, is) =
     let only = split_of split_only payload xs whole in
-    let clean = each_none (value_field_rules base) [] xs (forms_rules base xs is.texts is.floats is.doubles is.ints is.uints is.sints is.truths) in
+    let clean = values_clean base xs is.forms in
     let kind = means_kind is.kind is.last.content v is.means in
     let numbers = subst (λ ys. AllByRecursion (λ (y : Entry). y.number ≡ is.kind) ys) (only_kinds is.kind xs kind is.one) (only_number (λ (x : Entry). x.number) is.kind xs) in
     let one = all_one is.kind (kinds xs) is.last numbers (ap (last_or None) (sym (only_kinds is.kind xs kind is.one)) ∙ is.is_last) in
@@ -400,37 +333,9 @@ value_once split_only payload v w (xs, whole, is) (ys, also_whole, also_is) =
     value_same xs v w is (subst (λ zs. IsValue zs w) (sym b.0 ∙ a.0) also_is)
 
 -- the table is in order
-text_ordered : (c : Content) → AreOrdered (text_rules c)
-text_ordered (bytes d) = when_ordered (not (is_utf8 d)) NotUtf8
-text_ordered (varint n) = when_ordered true WrongType
-text_ordered (fixed64 n) = when_ordered true WrongType
-text_ordered (fixed32 n) = when_ordered true WrongType
-
-pub varint_ordered : (c : Content) → AreOrdered (varint_rules c)
-varint_ordered (varint n) = tt
-varint_ordered (bytes d) = when_ordered true WrongType
-varint_ordered (fixed64 n) = when_ordered true WrongType
-varint_ordered (fixed32 n) = when_ordered true WrongType
-
-fixed32_ordered : (c : Content) → AreOrdered (fixed32_rules c)
-fixed32_ordered (fixed32 n) = tt
-fixed32_ordered (bytes d) = when_ordered true WrongType
-fixed32_ordered (fixed64 n) = when_ordered true WrongType
-fixed32_ordered (varint n) = when_ordered true WrongType
-
-fixed64_ordered : (c : Content) → AreOrdered (fixed64_rules c)
-fixed64_ordered (fixed64 n) = tt
-fixed64_ordered (bytes d) = when_ordered true WrongType
-fixed64_ordered (varint n) = when_ordered true WrongType
-fixed64_ordered (fixed32 n) = when_ordered true WrongType
-
-kind_ordered : (n : ℕ) (c : Content) → AreOrdered (kind_rules n c)
-kind_ordered n c =
-    if_ordered (n == 1) _ _ (text_ordered c) (if_ordered (n == 2) _ _ (fixed32_ordered c) (if_ordered (n == 3) _ _ (fixed64_ordered c) (if_ordered (n == 4) _ _ (varint_ordered c) (if_ordered (n == 5) _ _ (varint_ordered c) (if_ordered (n == 6) _ _ (varint_ordered c) (if_ordered (n == 7) _ _ (varint_ordered c) tt))))))
-
 field_ordered : (base : ℕ) (x : Entry) → AreOrdered (value_field_rules base x)
 unfolding value_field_rules
-field_ordered base x = told_ordered (fault_at (base + x.at)) (kind_rules x.number x.content) (kind_ordered x.number x.content)
+field_ordered base x = forms_ordered value_forms base x
 
 pub rest_ordered : (base : ℕ) (parts : Parts) → AreOrdered (rest_rules base parts)
 unfolding rest_rules

@@ -1,18 +1,15 @@
 -- The steps of a walk over the fields of a payload, and its end.
-use Rattle.std.proofs.Common.{◌≡◌, ◌≢◌, ℕ, ◌+◌, ◌^◌, ◌<◌, List, [], ◌∷◌, ◌++◌, length, Some, None, Result, Ok, Err, refl, subst, sym, ap, ap₂, ◌∙◌, append_assoc, append-nil, arith}
-use Rattle.std.specs.Prelude.{OnOk, IfOk, IfErr}
-use Rattle.std.specs.Option.{option_or}
-use Rattle.mvt_base.specs.Rules.{Rules, each, first}
+use Rattle.std.proofs.Common.{◌≡◌, ◌≢◌, ℕ, ◌+◌, ◌^◌, ◌<◌, List, [], ◌∷◌, ◌++◌, length, Some, None, Ok, Err, refl, sym, ap, ap₂, ◌∙◌, append_assoc, append-nil, arith}
+use Rattle.mvt_base.specs.Rules.{first}
 use Rattle.mvt_wire.specs.declared.fault.WireFault.{WireFault}
 use Rattle.mvt_wire.specs.declared.field.Field.{Field}
 use Rattle.mvt_wire.specs.Field.{Entry, entry_of}
 use Rattle.mvt_wire.specs.Fields.{GivesEntry}
 use Rattle.mvt_wire.specs.Fronts.{rest_cause}
 use Rattle.mvt_wire.specs.Split.{Parts, split}
-use Rattle.mvt_feature.specs.declared.message_error.MessageError.{MessageError}
 use Rattle.mvt_feature.specs.Causes.{of_wire}
-use Rattle.mvt_feature.specs.Faults.{MessageFault, fault_at, TellsMessage, rest_rules, rest_rules_at}
-use Rattle.mvt_feature.specs.Walks.{Walk, IsSoFar}
+use Rattle.mvt_feature.specs.Faults.{fault_at, rest_rules, rest_rules_at}
+use Rattle.mvt_feature.specs.Walks.{Walk}
 
 pub walk_start : (payload : List ℕ) (it : Parts) → it ≡ split payload → it.rest_at + length it.rest ≡ length payload → Walk payload it []
 walk_start payload it is bound = record {
@@ -73,25 +70,3 @@ nothing_left at (b ∷ bs) h = cc
 pub none_rest : (base : ℕ) (parts : Parts) → first (rest_rules base parts) ≡ None → parts.rest ≡ []
 unfolding rest_rules
 none_rest base parts h = nothing_left (base + parts.rest_at) parts.rest h
-
--- at the end of a walk: what holds of the fields so far holds of all
-pub end_whole : {K : Type 0} → (payload : List ℕ) (old new : Parts) (done : List Entry) (r : Result K MessageError) → Walk payload old done → GivesEntry old None new → OnOk r ((split payload).rest ≡ [])
-end_whole payload old new done (Ok k) walk step = (walk_end payload old new done walk step).1
-end_whole payload old new done (Err e) walk step = tt
-
-pub end_clean : {K : Type 0} → (payload : List ℕ) (old new : Parts) (done : List Entry) (rules : Entry → Rules MessageFault) (Holds : List Entry → K → Type 0) (r : Result K MessageError) → Walk payload old done → GivesEntry old None new → IsSoFar rules Holds done r → OnOk r (first (each (λ _. rules) [] (split payload).fields) ≡ None)
-end_clean payload old new done rules Holds (Ok k) walk step so_far = rw (walk_end payload old new done walk step).0 so_far.0
-end_clean payload old new done rules Holds (Err e) walk step so_far = tt
-
-pub end_holds : {K : Type 0} → (payload : List ℕ) (old new : Parts) (done : List Entry) (rules : Entry → Rules MessageFault) (Holds : List Entry → K → Type 0) (r : Result K MessageError) → Walk payload old done → GivesEntry old None new → IsSoFar rules Holds done r → IfOk r (Holds (split payload).fields)
-end_holds payload old new done rules Holds (Ok k) walk step so_far = subst (λ fields. Holds fields k) (sym (walk_end payload old new done walk step).0) so_far.1
-end_holds payload old new done rules Holds (Err e) walk step so_far = tt
-
-pub end_told : {K : Type 0} → (payload : List ℕ) (old new : Parts) (done : List Entry) (base : ℕ) (rules : Entry → Rules MessageFault) (Holds : List Entry → K → Type 0) (r : Result K MessageError) → Walk payload old done → GivesEntry old None new → IsSoFar rules Holds done r
-    → IfErr r (λ e. TellsMessage e (option_or (first (rest_rules base (split payload))) (first (each (λ _. rules) [] (split payload).fields))))
-end_told payload old new done base rules Holds (Ok k) walk step so_far = tt
-end_told payload old new done base rules Holds (Err e) walk step so_far =
-    let all = walk_end payload old new done walk step in
-    let told_here : TellsMessage e (first (each (λ _. rules) [] (split payload).fields)) =
-    subst (λ fields. TellsMessage e (first (each (λ _. rules) [] fields))) (append-nil done ∙ sym all.0) (so_far []) in
-    subst (λ o. TellsMessage e (option_or o (first (each (λ _. rules) [] (split payload).fields)))) (sym (rest_none base (split payload) all.1)) told_here

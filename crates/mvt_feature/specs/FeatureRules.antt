@@ -1,5 +1,5 @@
 -- The rules that bind a feature's payload (Mapbox Vector Tile Specification 2.1, 4.2 to 4.4), as a table.
-use Rattle.std.specs.Prelude.{ℕ, ◌+◌, ◌^◌, true, not, ◌==◌, nat_lt, nat_le, List, [], ◌∷◌, Option, if◌then◌else◌}
+use Rattle.std.specs.Prelude.{ℕ, ◌+◌, ◌^◌, true, not, ◌==◌, nat_lt, List, [], ◌∷◌, Option, if◌then◌else◌}
 use Rattle.std.specs.List.{flat_map}
 use Rattle.mvt_base.specs.Rules.{Rules, when, under, told, rows, each, first}
 use Rattle.mvt_attrs.specs.declared.value.Value.{Value}
@@ -10,14 +10,14 @@ use Rattle.mvt_geometry.specs.Table.{IndexedCause, geometry_rules}
 use Rattle.mvt_wire.specs.Field.{Content, varint, bytes, Entry}
 use Rattle.mvt_wire.specs.Packed.{packed, packed_rules}
 use Rattle.mvt_wire.specs.Split.{split}
-use Rattle.mvt_feature.specs.declared.numbers.feature.TheConstants.{ID, TAGS, TYPE, GEOMETRY}
+use Rattle.mvt_feature.specs.declared.numbers.feature.TheConstants.{TAGS, TYPE, GEOMETRY}
 use Rattle.mvt_feature.specs.declared.cause.Cause.{Cause}
-use Rattle.mvt_feature.specs.declared.cause.Cause.TheVariants.{WrongType, NumberRange, GeomType}
+use Rattle.mvt_feature.specs.declared.cause.Cause.TheVariants.{WrongType, NumberRange}
 use Rattle.mvt_feature.specs.Causes.{of_packed, of_tag, of_geometry}
 use Rattle.mvt_feature.specs.Faults.{MessageFault, fault_at, rest_rules}
-use Rattle.mvt_feature.specs.Features.{number_in, kind_of_type}
+use Rattle.mvt_feature.specs.Features.{feature_forms, number_in, kind_of_type}
+use Rattle.mvt_feature.specs.Forms.{number_rules}
 use Rattle.mvt_feature.specs.Selection.{only, last_only}
-use Rattle.mvt_feature.specs.ValueRules.{varint_rules}
 
 -- the numbers of a field, and of fields, joined
 abbrev pub numbers_of : Content → List ℕ
@@ -28,11 +28,6 @@ numbers_of _ = []
 abbrev pub joined : ℕ → List Entry → List ℕ
 joined k fields = flat_map (λ (x : Entry). numbers_of x.content) (only k fields)
 
--- a type: its form, and then its number
-abbrev pub type_rules : Content → Rules Cause
-type_rules (varint n) = when (not (nat_le n 3)) GeomType
-type_rules _ = when true WrongType
-
 -- a list: its form, and then each of its numbers
 abbrev pub list_rules : Content → Rules Cause
 list_rules (varint n) = under 1 (under 0 (when (not (nat_lt n (2 ^ 32))) NumberRange))
@@ -40,16 +35,14 @@ list_rules (bytes d) = under 1 (told of_packed (packed_rules d))
 list_rules _ = under 0 (when true WrongType)
 
 -- a field of this number
-abbrev pub form_rules : ℕ → Content → Rules Cause
-form_rules number content =
-    if number == ID then under 0 (varint_rules content)
-    else if number == TAGS then list_rules content
-    else if number == TYPE then under 0 (type_rules content)
+abbrev pub feature_form_rules : ℕ → Content → Rules Cause
+feature_form_rules number content =
+    if number == TAGS then list_rules content
     else if number == GEOMETRY then list_rules content
-    else []
+    else under 0 (number_rules feature_forms number content)
 
 unfoldable pub feature_field_rules : ℕ → Entry → Rules MessageFault
-feature_field_rules base x = told (fault_at (base + x.at)) (form_rules x.number x.content)
+feature_field_rules base x = told (fault_at (base + x.at)) (feature_form_rules x.number x.content)
 
 -- the faults of tags and of integers, which are told by their index
 abbrev pub tag_told : ℕ × TagCause → MessageFault

@@ -1,5 +1,5 @@
 -- Features (Mapbox Vector Tile Specification 2.1, 4.2 and 4.1, message Feature).
-use Rattle.std.specs.Prelude.{◌≡◌, ℕ, ◌^◌, ◌<◌, ◌≤◌, ◌==◌, List, [], ◌∷◌, ◌++◌, Option, Some, None, if◌then◌else◌}
+use Rattle.std.specs.Prelude.{◌≡◌, ℕ, ◌^◌, ◌<◌, ◌==◌, List, [], ◌∷◌, ◌++◌, Option, Some, None, if◌then◌else◌}
 use Rattle.mvt_attrs.specs.declared.value.Value.{Value}
 use Rattle.mvt_attrs.specs.Tags.{Resolved}
 use Rattle.mvt_geometry.specs.declared.shape.Kind.{Kind}
@@ -10,14 +10,14 @@ use Rattle.mvt_wire.specs.Packed.{ArePacked}
 use Rattle.mvt_wire.specs.Split.{Whole}
 use Rattle.mvt_feature.specs.declared.numbers.feature.TheConstants.{ID, TAGS, TYPE, GEOMETRY}
 use Rattle.mvt_feature.specs.declared.feature.Feature.{Feature}
-use Rattle.mvt_feature.specs.Selection.{only, last_only, HaveForm}
-use Rattle.mvt_feature.specs.Values.{IsVarint}
+use Rattle.mvt_feature.specs.Forms.{Form, any_varint, geom_type, HaveForms}
+use Rattle.mvt_feature.specs.Selection.{only, last_only}
+
+-- the fields of a feature besides its lists, each by its number and its form
+abbrev pub feature_forms : List (ℕ × Form)
+feature_forms = (ID, any_varint) ∷ ((TYPE, geom_type) ∷ [])
 
 -- the geometry types (4.3.4)
-abbrev pub IsType : Content → Type 0
-IsType (varint n) = n ≤ 3
-IsType _ = ⊥
-
 abbrev pub kind_numbered : ℕ → Kind
 kind_numbered n =
     if n == 0 then kinds.Unknown else if n == 1 then kinds.Point else if n == 2 then kinds.LineString else kinds.Polygon
@@ -50,12 +50,11 @@ Joined (x ∷ xs) numbers =
 
 -- fields that are a feature of a layer with these keys and values
 pub record IsFeature (fields : List Entry) (keys : List (List ℕ)) (values : List Value) (f : Feature) : Type 0 where
-  pub ids : HaveForm ID IsVarint fields
+  pub forms : HaveForms feature_forms fields
   pub id : f.id ≡ number_in (last_only ID fields)
   pub tags : List ℕ
   pub tags_are : Joined (only TAGS fields) tags
   pub attributes : Resolved keys values tags f.attributes
-  pub types : HaveForm TYPE IsType fields
   pub integers : List ℕ
   pub integers_are : Joined (only GEOMETRY fields) integers
   pub geometry : Draws (kind_of_type (number_in (last_only TYPE fields))) integers f.geometry

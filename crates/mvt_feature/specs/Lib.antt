@@ -1,6 +1,7 @@
 pub mod Causes
 pub mod Faults
 pub mod Selection
+pub mod Forms
 pub mod Texts
 pub mod Values
 pub mod ValueRules

@@ -1,47 +1,19 @@
 -- The rules that bind a value's payload (Mapbox Vector Tile Specification 2.1, 4.1, message Value), as a
 -- table.
-use Rattle.std.specs.Prelude.{ℕ, ◌+◌, Bool, true, false, not, ◌&&◌, ◌==◌, nat_le, List, [], ◌∷◌, filter, Option, if◌then◌else◌}
+use Rattle.std.specs.Prelude.{ℕ, Bool, false, not, ◌&&◌, ◌==◌, nat_le, List, [], ◌∷◌, filter, Option}
 use Rattle.std.specs.List.{list_all}
-use Rattle.std.specs.Str.{is_utf8}
-use Rattle.mvt_base.specs.Rules.{Rules, when, told, rows, each, first}
-use Rattle.mvt_wire.specs.Field.{Content, varint, fixed64, bytes, fixed32, Entry}
+use Rattle.mvt_base.specs.Rules.{Rules, when, rows, each, first}
+use Rattle.mvt_wire.specs.Field.{Entry}
 use Rattle.mvt_wire.specs.Split.{split}
-use Rattle.mvt_feature.specs.declared.numbers.value.TheConstants.{STRING, FLOAT, DOUBLE, INT, UINT, SINT, BOOL}
-use Rattle.mvt_feature.specs.declared.cause.Cause.{Cause}
-use Rattle.mvt_feature.specs.declared.cause.Cause.TheVariants.{WrongType, NotUtf8, ValueKind}
+use Rattle.mvt_feature.specs.declared.numbers.value.TheConstants.{STRING, BOOL}
+use Rattle.mvt_feature.specs.declared.cause.Cause.TheVariants.{ValueKind}
 use Rattle.mvt_feature.specs.Faults.{MessageFault, fault_at, rest_rules}
+use Rattle.mvt_feature.specs.Forms.{forms_rules}
+use Rattle.mvt_feature.specs.Values.{value_forms}
 
--- a field of the wire type that is due
-abbrev pub varint_rules : Content → Rules Cause
-varint_rules (varint n) = []
-varint_rules _ = when true WrongType
-
-abbrev pub fixed32_rules : Content → Rules Cause
-fixed32_rules (fixed32 n) = []
-fixed32_rules _ = when true WrongType
-
-abbrev pub fixed64_rules : Content → Rules Cause
-fixed64_rules (fixed64 n) = []
-fixed64_rules _ = when true WrongType
-
-abbrev pub text_rules : Content → Rules Cause
-text_rules (bytes d) = when (not (is_utf8 d)) NotUtf8
-text_rules _ = when true WrongType
-
--- a field of this number
-abbrev pub kind_rules : ℕ → Content → Rules Cause
-kind_rules number content =
-    if number == STRING then text_rules content
-    else if number == FLOAT then fixed32_rules content
-    else if number == DOUBLE then fixed64_rules content
-    else if number == INT then varint_rules content
-    else if number == UINT then varint_rules content
-    else if number == SINT then varint_rules content
-    else if number == BOOL then varint_rules content
-    else []
-
+-- a field of one of the kinds has the form of its kind
 unfoldable pub value_field_rules : ℕ → Entry → Rules MessageFault
-value_field_rules base x = told (fault_at (base + x.at)) (kind_rules x.number x.content)
+value_field_rules base x = forms_rules value_forms base x
 
 -- the fields of the seven kinds
 abbrev pub is_kind : Entry → Bool

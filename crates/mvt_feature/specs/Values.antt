@@ -1,5 +1,5 @@
 -- Values (Mapbox Vector Tile Specification 2.1, 4.1, message Value).
-use Rattle.std.specs.Prelude.{◌≡◌, ℕ, ◌≤◌, ◌==◌, not, List, Some, IsUtf8, ⊤}
+use Rattle.std.specs.Prelude.{◌≡◌, ℕ, ◌≤◌, ◌==◌, not, List, [], ◌∷◌, Some}
 use Rattle.std.specs.Int.{w64, cast_signed}
 use Rattle.std.specs.List.{AllByRecursion}
 use Rattle.mvt_attrs.specs.declared.value.Value.{Value}
@@ -8,24 +8,16 @@ use Rattle.mvt_wire.specs.Field.{Content, varint, fixed64, bytes, fixed32, Entry
 use Rattle.mvt_wire.specs.Split.{Whole}
 use Rattle.mvt_wire.specs.Zigzag.{zig}
 use Rattle.mvt_feature.specs.declared.numbers.value.TheConstants.{STRING, FLOAT, DOUBLE, INT, UINT, SINT, BOOL}
-use Rattle.mvt_feature.specs.Selection.{HaveForm, last_only}
+use Rattle.mvt_feature.specs.Forms.{Form, any_varint, float, double, string, HaveForms}
+use Rattle.mvt_feature.specs.Selection.{last_only}
 
--- the forms of fields
-abbrev pub IsVarint : Content → Type 0
-IsVarint (varint n) = ⊤
-IsVarint _ = ⊥
-
-abbrev pub IsFixed32 : Content → Type 0
-IsFixed32 (fixed32 n) = ⊤
-IsFixed32 _ = ⊥
-
-abbrev pub IsFixed64 : Content → Type 0
-IsFixed64 (fixed64 n) = ⊤
-IsFixed64 _ = ⊥
-
-abbrev pub IsText : Content → Type 0
-IsText (bytes d) = IsUtf8 d
-IsText _ = ⊥
+-- the kinds of value, each by the number of its field and its form
+abbrev pub value_forms : List (ℕ × Form)
+value_forms =
+    (STRING, string)
+    ∷ ((FLOAT, float)
+    ∷ ((DOUBLE, double)
+    ∷ ((INT, any_varint) ∷ ((UINT, any_varint) ∷ ((SINT, any_varint) ∷ ((BOOL, any_varint) ∷ []))))))
 
 -- a number of one of the seven kinds
 abbrev pub IsKind : ℕ → Type 0
@@ -44,13 +36,7 @@ Means _ _ _ = ⊥
 
 -- fields that are one value: one of the seven kinds occurs, and its last field says the value
 pub record IsValue (fields : List Entry) (value : Value) : Type 0 where
-  pub texts : HaveForm STRING IsText fields
-  pub floats : HaveForm FLOAT IsFixed32 fields
-  pub doubles : HaveForm DOUBLE IsFixed64 fields
-  pub ints : HaveForm INT IsVarint fields
-  pub uints : HaveForm UINT IsVarint fields
-  pub sints : HaveForm SINT IsVarint fields
-  pub truths : HaveForm BOOL IsVarint fields
+  pub forms : HaveForms value_forms fields
   pub kind : ℕ
   pub one : AllByRecursion (λ (x : Entry). IsKind x.number → x.number ≡ kind) fields
   pub last : Entry

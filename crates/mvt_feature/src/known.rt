@@ -1,16 +1,16 @@
 //! The known fields of a feature (Mapbox Vector Tile Specification 2.1, 4.1, message Feature).
-ghost use Rattle.std.specs.Prelude.{◌≡◌, ℕ, ◌+◌, ◌^◌, ◌<◌, List, [], ◌∷◌, ◌++◌, length, Option, Some, None, IfOk, IfErr, OnOk};
+ghost use Rattle.std.specs.Prelude.{◌≡◌, ◌+◌, ◌^◌, ◌<◌, [], ◌++◌, length, Option, Some, None, IfOk, IfErr, OnOk};
 ghost use Rattle.std.specs.Option.{option_or, option_map};
 ghost use Rattle.mvt_base.specs.Rules.{each, first};
-ghost use Rattle.mvt_wire.specs.Field.{Entry, entry_of, content_of, varint};
+ghost use Rattle.mvt_wire.specs.Field.{content_of};
 ghost use Rattle.mvt_wire.specs.Packed.{PackedCause, TellsPacked};
 ghost use Rattle.mvt_wire.specs.Split.{split};
 ghost use Rattle.mvt_feature.specs.declared.numbers.feature.TheConstants.{TAGS, GEOMETRY};
 ghost use Rattle.mvt_feature.specs.Causes.{of_packed};
 ghost use Rattle.mvt_feature.specs.Faults.{TellsMessage, fault_at as the_fault_at, rest_rules};
 ghost use Rattle.mvt_feature.specs.Features.{number_of, kind_of_type};
-ghost use Rattle.mvt_feature.specs.FeatureRules.{numbers_of, type_rules, list_rules, form_rules, feature_field_rules};
-ghost use Rattle.mvt_feature.specs.ValueRules.{varint_rules};
+ghost use Rattle.mvt_feature.specs.FeatureRules.{numbers_of, list_rules, feature_form_rules, feature_field_rules};
+ghost use Rattle.mvt_feature.specs.Forms.{any_varint, geom_type, form_rules};
 ghost use Rattle.mvt_feature.specs.Inner.{id_after, kind_after, numbers_at, IsKnown};
 
 use crate::cause::Cause;
@@ -61,7 +61,7 @@ impl Known {
     /// What is known with one more field, which is told to stand at this place.
     #[inline(always)]
     fn with(self, field: &Field<'_>, at: u64, room: &mut Room) -> Result<Known, MessageError>
-        ensures ok { OnOk result (first (form_rules field.now.number (content_of field.now.payload)) ≡ None) }
+        ensures ok { OnOk result (first (feature_form_rules field.now.number (content_of field.now.payload)) ≡ None) }
         ensures id { IfOk result (λ known. known.id ≡ id_after self.id field.now.number (content_of field.now.payload)) }
         ensures kind { IfOk result (λ known. known.kind ≡ kind_after self.kind field.now.number (content_of field.now.payload)) }
         ensures tags { OnOk result
@@ -69,7 +69,7 @@ impl Known {
         ensures integers { OnOk result
             (room.new.integers.items ≡ room.old.integers.items ++ numbers_at GEOMETRY field.now.number (content_of field.now.payload)) }
         ensures err { IfErr result (λ error. TellsMessage error
-            (option_map (the_fault_at at) (first (form_rules field.now.number (content_of field.now.payload))))) }
+            (option_map (the_fault_at at) (first (feature_form_rules field.now.number (content_of field.now.payload))))) }
     {
         let payload = &field.payload;
         let mut known = self;
@@ -87,8 +87,8 @@ impl Known {
 #[inline(always)]
 fn id_of(payload: &Payload<'_>, at: u64) -> Result<u64, MessageError>
     ensures number { IfOk result (λ n. number_of (content_of payload.now) ≡ Some n) }
-    ensures ok { OnOk result (first (varint_rules (content_of payload.now)) ≡ None) }
-    ensures err { IfErr result (λ error. TellsMessage error (option_map (the_fault_at at) (first (varint_rules (content_of payload.now))))) }
+    ensures ok { OnOk result (first (form_rules any_varint (content_of payload.now)) ≡ None) }
+    ensures err { IfErr result (λ error. TellsMessage error (option_map (the_fault_at at) (first (form_rules any_varint (content_of payload.now))))) }
 {
     match varint_of(payload) {
         Ok(number) => Ok(number),
@@ -99,8 +99,8 @@ fn id_of(payload: &Payload<'_>, at: u64) -> Result<u64, MessageError>
 #[inline(always)]
 fn kind_of_payload(payload: &Payload<'_>, at: u64) -> Result<Kind, MessageError>
     ensures kind { IfOk result (λ kind. kind ≡ kind_of_type (number_of (content_of payload.now))) }
-    ensures ok { OnOk result (first (type_rules (content_of payload.now)) ≡ None) }
-    ensures err { IfErr result (λ error. TellsMessage error (option_map (the_fault_at at) (first (type_rules (content_of payload.now))))) }
+    ensures ok { OnOk result (first (form_rules geom_type (content_of payload.now)) ≡ None) }
+    ensures err { IfErr result (λ error. TellsMessage error (option_map (the_fault_at at) (first (form_rules geom_type (content_of payload.now))))) }
 {
     let Payload::Varint(number) = payload else {
         return Err(fault_at(at, Cause::WrongType));

@@ -1,8 +1,7 @@
 //! Laws about the definitions alone: functions without effect, whose contract is the law.
-ghost use Rattle.std.specs.Prelude.{◌≡◌, ◌↔◌, ℕ, ◌+◌, ◌^◌, ◌<◌, ◌≤◌, List, [], ◌∷◌, ◌++◌, length, None, Some, Result, Ok, Err, IsUtf8, OnOk, IfOk, IfErr};
+ghost use Rattle.std.specs.Prelude.{◌≡◌, ◌↔◌, ℕ, ◌+◌, ◌^◌, ◌<◌, ◌≤◌, List, [], ◌∷◌, ◌++◌, length, None, Some, Ok, Err, IsUtf8};
 ghost use Rattle.std.specs.List.{AllByRecursion};
-ghost use Rattle.std.specs.Option.{option_or};
-ghost use Rattle.mvt_base.specs.Rules.{Rules, AreOrdered, IsLeast, each, first};
+ghost use Rattle.mvt_base.specs.Rules.{AreOrdered, IsLeast, each, first};
 ghost use Rattle.mvt_attrs.specs.declared.value.Value.{Value};
 ghost use Rattle.mvt_feature.specs.declared.feature.Feature.{Feature};
 ghost use Rattle.mvt_attrs.specs.Tags.{Names};
@@ -14,11 +13,11 @@ ghost use Rattle.mvt_wire.specs.Field.{Entry, entry_of};
 ghost use Rattle.mvt_wire.specs.Fields.{GivesEntry};
 ghost use Rattle.mvt_wire.specs.Spelling.{spelled};
 ghost use Rattle.mvt_wire.specs.Split.{Parts, Whole, split};
-ghost use Rattle.mvt_feature.specs.declared.message_error.MessageError.{MessageError};
 ghost use Rattle.mvt_feature.specs.Causes.{of_wire};
 ghost use Rattle.mvt_feature.specs.Canonical.{value_fields, feature_fields};
 ghost use Rattle.mvt_feature.specs.Bounds.{feature_bound};
-ghost use Rattle.mvt_feature.specs.Faults.{MessageFault, TellsMessage, fault_at, rest_rules};
+ghost use Rattle.mvt_feature.specs.Faults.{MessageFault, fault_at, rest_rules};
+ghost use Rattle.mvt_feature.specs.Forms.{Form, IsFirst, HaveForms, forms_rules};
 ghost use Rattle.mvt_feature.specs.Ranges.{AreBytes, IsInRange};
 ghost use Rattle.mvt_feature.specs.Valid.{ValidValue, ValidFeature};
 ghost use Rattle.mvt_feature.specs.Features.{IsFeatureOf};
@@ -26,7 +25,7 @@ ghost use Rattle.mvt_feature.specs.FeatureRules.{feature_rules, feature_fault};
 ghost use Rattle.mvt_feature.specs.Values.{IsValueOf};
 ghost use Rattle.mvt_feature.specs.ValueIn.{value_in};
 ghost use Rattle.mvt_feature.specs.ValueRules.{value_rules, value_fault};
-ghost use Rattle.mvt_feature.specs.Walks.{IsSoFar, Walk};
+ghost use Rattle.mvt_feature.specs.Walks.{Walk};
 
 /// A payload without a fault is just one value, and a payload that is a value has no fault.
 pub fn value_or_fault()
@@ -120,6 +119,15 @@ pub fn read_is_valid()
         → IsFeatureOf payload keys values feature → ValidFeature feature }
 {}
 
+/// Fields break no rule of their forms exactly where they have them, and these rules are in order.
+pub fn forms()
+    ensures have { (forms : List (ℕ × Form)) (base : ℕ) (fields : List Entry) → AllByRecursion (IsFirst forms) forms
+        → first (each (λ _. forms_rules forms base) [] fields) ≡ None → HaveForms forms fields }
+    ensures clean { (forms : List (ℕ × Form)) (base : ℕ) (fields : List Entry) → HaveForms forms fields
+        → first (each (λ _. forms_rules forms base) [] fields) ≡ None }
+    ensures ordered { (forms : List (ℕ × Form)) (base : ℕ) (x : Entry) → AreOrdered (forms_rules forms base x) }
+{}
+
 /// A rest has no fault exactly where no bytes are left, and its rules are in order.
 pub fn rests()
     ensures none { (base : ℕ) (parts : Parts) → parts.rest ≡ [] → first (rest_rules base parts) ≡ None }
@@ -145,22 +153,4 @@ pub fn walks()
     ensures fault { (payload : List ℕ) (old new : Parts) (done : List Entry) (fault : WireFault) (base : ℕ)
         → Walk payload old done → GivesEntry old (Some (Err fault)) new
         → first (rest_rules base (split payload)) ≡ Some (fault_at (base + fault.at) (of_wire fault.cause)) }
-{}
-
-/// At the end of a walk, what was found in the fields so far is what is found in all.
-pub fn walk_results<K>()
-    ensures whole { (payload : List ℕ) (old new : Parts) (done : List Entry) (r : Result K MessageError)
-        → Walk payload old done → GivesEntry old None new → OnOk r ((split payload).rest ≡ []) }
-    ensures clean { (payload : List ℕ) (old new : Parts) (done : List Entry) (rules : Entry → Rules MessageFault)
-        (found : List Entry → K) (r : Result K MessageError) → Walk payload old done → GivesEntry old None new
-        → IsSoFar rules (λ fields k. k ≡ found fields) done r
-        → OnOk r (first (each (λ _. rules) [] (split payload).fields) ≡ None) }
-    ensures found { (payload : List ℕ) (old new : Parts) (done : List Entry) (rules : Entry → Rules MessageFault)
-        (found : List Entry → K) (r : Result K MessageError) → Walk payload old done → GivesEntry old None new
-        → IsSoFar rules (λ fields k. k ≡ found fields) done r → IfOk r (λ k. k ≡ found (split payload).fields) }
-    ensures told { (payload : List ℕ) (old new : Parts) (done : List Entry) (base : ℕ)
-        (rules : Entry → Rules MessageFault) (found : List Entry → K) (r : Result K MessageError)
-        → Walk payload old done → GivesEntry old None new → IsSoFar rules (λ fields k. k ≡ found fields) done r
-        → IfErr r (λ error. TellsMessage error (option_or (first (rest_rules base (split payload)))
-        (first (each (λ _. rules) [] (split payload).fields)))) }
 {}

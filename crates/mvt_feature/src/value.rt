@@ -1,12 +1,13 @@
 //! Values (Mapbox Vector Tile Specification 2.1, 4.1, message Value).
-ghost use Rattle.std.specs.Prelude.{◌≡◌, ℕ, ◌+◌, ◌^◌, ◌<◌, List, [], ◌∷◌, ◌++◌, length, Some, None, true, false, IfOk, IfErr, OnOk, MatchOption};
+ghost use Rattle.std.specs.Prelude.{◌≡◌, ◌+◌, ◌^◌, ◌<◌, [], length, Some, None, true, false, IfOk, IfErr, OnOk, MatchOption};
 ghost use Rattle.std.specs.Option.{option_or};
 ghost use Rattle.mvt_base.specs.Rules.{each, first};
-ghost use Rattle.mvt_wire.specs.Field.{Entry, entry_of, content_of, varint, fixed64, fixed32, bytes};
+ghost use Rattle.mvt_wire.specs.Field.{entry_of, content_of, varint, fixed64, fixed32, bytes};
 ghost use Rattle.mvt_wire.specs.Split.{split};
 ghost use Rattle.mvt_feature.specs.Faults.{TellsMessage, rest_rules};
-ghost use Rattle.mvt_feature.specs.Values.{Means, IsValueOf};
-ghost use Rattle.mvt_feature.specs.ValueRules.{text_rules, varint_rules, fixed32_rules, fixed64_rules, kind_rules, is_kind, value_field_rules, value_fault};
+ghost use Rattle.mvt_feature.specs.Forms.{any_varint, float, double, string, form_rules, number_rules};
+ghost use Rattle.mvt_feature.specs.Values.{value_forms, Means, IsValueOf};
+ghost use Rattle.mvt_feature.specs.ValueRules.{is_kind, value_field_rules, value_fault};
 ghost use Rattle.mvt_feature.specs.Inner.{value_of, kinds_with, AreKinds};
 
 use crate::cause::Cause;
@@ -149,11 +150,11 @@ impl Meaning<'_> {
 /// What a field says, if it is of one of the seven kinds.
 #[inline(always)]
 fn meaning_of<'a>(field: &Field<'a>) -> Result<Option<Meaning<'a>>, Cause>
-    ensures ok { OnOk result (first (kind_rules field.now.number (content_of field.now.payload)) ≡ None) }
+    ensures ok { OnOk result (first (number_rules value_forms field.now.number (content_of field.now.payload)) ≡ None) }
     ensures means { IfOk result (λ meaning. MatchOption meaning
         (is_kind (entry_of field.now) ≡ false)
         (λ m. (is_kind (entry_of field.now) ≡ true) × Means field.now.number (content_of field.now.payload) (value_of m))) }
-    ensures err { IfErr result (λ cause. first (kind_rules field.now.number (content_of field.now.payload)) ≡ Some cause) }
+    ensures err { IfErr result (λ cause. first (number_rules value_forms field.now.number (content_of field.now.payload)) ≡ Some cause) }
 {
     let payload = &field.payload;
     let meaning = match field.number {
@@ -177,8 +178,8 @@ fn meaning_of<'a>(field: &Field<'a>) -> Result<Option<Meaning<'a>>, Cause>
 #[inline(always)]
 pub fn text_of<'a>(payload: &Payload<'a>) -> Result<&'a str, Cause>
     ensures text { IfOk result (λ text. content_of payload.now ≡ bytes text.now) }
-    ensures ok { OnOk result (first (text_rules (content_of payload.now)) ≡ None) }
-    ensures err { IfErr result (λ cause. first (text_rules (content_of payload.now)) ≡ Some cause) }
+    ensures ok { OnOk result (first (form_rules string (content_of payload.now)) ≡ None) }
+    ensures err { IfErr result (λ cause. first (form_rules string (content_of payload.now)) ≡ Some cause) }
 {
     let Payload::Len(bytes) = payload else {
         return Err(Cause::WrongType);
@@ -191,8 +192,8 @@ pub fn text_of<'a>(payload: &Payload<'a>) -> Result<&'a str, Cause>
 
 fn fixed32_of(payload: &Payload<'_>) -> Result<u32, Cause>
     ensures number { IfOk result (λ n. content_of payload.now ≡ fixed32 n) }
-    ensures ok { OnOk result (first (fixed32_rules (content_of payload.now)) ≡ None) }
-    ensures err { IfErr result (λ cause. first (fixed32_rules (content_of payload.now)) ≡ Some cause) }
+    ensures ok { OnOk result (first (form_rules float (content_of payload.now)) ≡ None) }
+    ensures err { IfErr result (λ cause. first (form_rules float (content_of payload.now)) ≡ Some cause) }
 {
     let Payload::I32(number) = payload else {
         return Err(Cause::WrongType);
@@ -202,8 +203,8 @@ fn fixed32_of(payload: &Payload<'_>) -> Result<u32, Cause>
 
 fn fixed64_of(payload: &Payload<'_>) -> Result<u64, Cause>
     ensures number { IfOk result (λ n. content_of payload.now ≡ fixed64 n) }
-    ensures ok { OnOk result (first (fixed64_rules (content_of payload.now)) ≡ None) }
-    ensures err { IfErr result (λ cause. first (fixed64_rules (content_of payload.now)) ≡ Some cause) }
+    ensures ok { OnOk result (first (form_rules double (content_of payload.now)) ≡ None) }
+    ensures err { IfErr result (λ cause. first (form_rules double (content_of payload.now)) ≡ Some cause) }
 {
     let Payload::I64(number) = payload else {
         return Err(Cause::WrongType);
@@ -218,8 +219,8 @@ fn fixed64_of(payload: &Payload<'_>) -> Result<u64, Cause>
 /// Another wire type.
 pub fn varint_of(payload: &Payload<'_>) -> Result<u64, Cause>
     ensures number { IfOk result (λ n. content_of payload.now ≡ varint n) }
-    ensures ok { OnOk result (first (varint_rules (content_of payload.now)) ≡ None) }
-    ensures err { IfErr result (λ cause. first (varint_rules (content_of payload.now)) ≡ Some cause) }
+    ensures ok { OnOk result (first (form_rules any_varint (content_of payload.now)) ≡ None) }
+    ensures err { IfErr result (λ cause. first (form_rules any_varint (content_of payload.now)) ≡ Some cause) }
 {
     let Payload::Varint(number) = payload else {
         return Err(Cause::WrongType);

@@ -10,6 +10,7 @@ ghost use Rattle.mvt_feature.specs.Canonical.{value_fields, id_fields, tags_fiel
 ghost use Rattle.mvt_feature.specs.Inner.{Extends};
 
 use crate::feature::Feature;
+use crate::numbers::{feature, value};
 use crate::room::Room;
 use mvt_attrs::{KeyPool, PoolError, Value, ValuePool, append_tags};
 use mvt_base::LIMIT;
@@ -25,13 +26,13 @@ pub fn append_value(out: &mut Vec<u8>, value: &Value) -> Result<(), AllocError>
     ensures err { OnErr result (out.new.items ≡ out.old.items) }
 {
     match value {
-        Value::Text(text) => put_field(out, 1, &Payload::Len(text.as_str().as_bytes())),
-        Value::Float(bits) => put_field(out, 2, &Payload::I32(*bits)),
-        Value::Double(bits) => put_field(out, 3, &Payload::I64(*bits)),
-        Value::Int(number) => put_field(out, 4, &Payload::Varint(number.cast_unsigned())),
-        Value::Uint(number) => put_field(out, 5, &Payload::Varint(*number)),
-        Value::Sint(number) => put_field(out, 6, &Payload::Varint(zigzag64(*number))),
-        Value::Bool(truth) => put_field(out, 7, &Payload::Varint(u64::from(*truth))),
+        Value::Text(text) => put_field(out, value::STRING, &Payload::Len(text.as_str().as_bytes())),
+        Value::Float(bits) => put_field(out, value::FLOAT, &Payload::I32(*bits)),
+        Value::Double(bits) => put_field(out, value::DOUBLE, &Payload::I64(*bits)),
+        Value::Int(number) => put_field(out, value::INT, &Payload::Varint(number.cast_unsigned())),
+        Value::Uint(number) => put_field(out, value::UINT, &Payload::Varint(*number)),
+        Value::Sint(number) => put_field(out, value::SINT, &Payload::Varint(zigzag64(*number))),
+        Value::Bool(truth) => put_field(out, value::BOOL, &Payload::Varint(u64::from(*truth))),
     }
 }
 
@@ -42,7 +43,7 @@ pub fn value_len(value: &Value) -> u64
     // What the proof needs to know of short spellings; it does nothing.
     short_lengths();
     match value {
-        Value::Text(text) => field_len(1, text.as_str().len() as u64),
+        Value::Text(text) => field_len(value::STRING, text.as_str().len() as u64),
         Value::Float(_) => 5,
         Value::Double(_) => 9,
         Value::Int(number) => 1 + varint_len(number.cast_unsigned()) as u64,
@@ -130,7 +131,7 @@ fn append_id(out: &mut Vec<u8>, id: Option<u64>) -> Result<(), AllocError>
     ensures err { OnErr result (out.new.items ≡ out.old.items) }
 {
     match id {
-        Some(id) => put_field(out, 1, &Payload::Varint(id)),
+        Some(id) => put_field(out, feature::ID, &Payload::Varint(id)),
         None => Ok(()),
     }
 }
@@ -142,15 +143,15 @@ fn append_tags_field(out: &mut Vec<u8>, tags: &[u32]) -> Result<(), AllocError>
     if tags.is_empty() {
         return Ok(());
     }
-    put_packed(out, 2, tags)
+    put_packed(out, feature::TAGS, tags)
 }
 
 fn append_drawing(out: &mut Vec<u8>, kind: Kind, integers: &PackedNumbers) -> Result<(), AllocError>
     ensures ok { OnOk result (out.new.items ≡ out.old.items ++ spelled (drawing_fields kind integers.now)) }
     ensures left { OnErr result (Extends out.old.items out.new.items) }
 {
-    put_field(out, 3, &Payload::Varint(type_number(kind)))?;
-    put_field(out, 4, &Payload::Len(integers.as_bytes()))
+    put_field(out, feature::TYPE, &Payload::Varint(type_number(kind)))?;
+    put_field(out, feature::GEOMETRY, &Payload::Len(integers.as_bytes()))
 }
 
 fn type_number(kind: Kind) -> u64

@@ -18,14 +18,16 @@ use Rattle.mvt_wire.specs.Spelling.{Plain, plain_of, short_field, spelled, IsFit
 use Rattle.mvt_feature.specs.declared.feature.Feature.{Feature}
 use Rattle.mvt_feature.specs.Canonical.{plain, value_fields, feature_fields}
 use Rattle.mvt_feature.specs.Features.{IsFeatureOf, number_in, number_of}
+use Rattle.mvt_feature.specs.Forms.{uint32, string, message, HasForm}
 use Rattle.mvt_feature.specs.Selection.{only, HaveForm}
 use Rattle.mvt_feature.specs.Valid.{ValidValue, ValidAttribute, ValidFeature}
-use Rattle.mvt_feature.specs.Values.{IsText, IsValueOf}
+use Rattle.mvt_feature.specs.Values.{IsValueOf}
+use Rattle.mvt_message.specs.declared.numbers.layer.TheConstants.{NAME, FEATURES, KEYS, VALUES, EXTENT, VERSION}
 use Rattle.mvt_message.specs.declared.item.Item.{Item as AnItem}
 use Rattle.mvt_message.specs.declared.item.Layer.{Layer as ALayer}
 use Rattle.mvt_message.specs.declared.item.Item.TheVariants.{Layer, Foreign}
 use Rattle.mvt_message.specs.LayerFields.{bytes_of, version_in, keys_in}
-use Rattle.mvt_message.specs.Items.{IsUint32, IsBytes, HoldsFeature, IsLayer, IsItem}
+use Rattle.mvt_message.specs.Items.{HoldsFeature, IsLayer, IsItem}
 use Rattle.mvt_message.specs.CanonicalItems.{attributes_of, keys_of, values_of, head_fields, extent_fields, fields_with, layer_fields, canonical_item}
 use Rattle.mvt_message.specs.ValidItems.{ValidLayer, AreOfVersion, ValidItem}
 
@@ -76,16 +78,16 @@ same_bytes key = key
 -- the fields behind the name
 abbrev tail : List (List ℕ) → List Value → List Feature → ℕ → List Plain
 tail keys values features extent =
-    all_of 2 (feature_bytes keys values) features ++ (all_of 3 same_bytes keys ++ (all_of 4 value_bytes values ++ extent_fields extent))
+    all_of FEATURES (feature_bytes keys values) features ++ (all_of KEYS same_bytes keys ++ (all_of VALUES value_bytes values ++ extent_fields extent))
 
-tail_contents : (k : ℕ) (keys : List (List ℕ)) (values : List Value) (features : List Feature) (extent : ℕ) (a b c : List Content) → contents_at k (all_of 2 (feature_bytes keys values) features) ≡ a → contents_at k (all_of 3 same_bytes keys) ≡ b → contents_at k (all_of 4 value_bytes values) ≡ c → contents_at k (tail keys values features extent) ≡ a ++ (b ++ (c ++ contents_at k (extent_fields extent)))
+tail_contents : (k : ℕ) (keys : List (List ℕ)) (values : List Value) (features : List Feature) (extent : ℕ) (a b c : List Content) → contents_at k (all_of FEATURES (feature_bytes keys values) features) ≡ a → contents_at k (all_of KEYS same_bytes keys) ≡ b → contents_at k (all_of VALUES value_bytes values) ≡ c → contents_at k (tail keys values features extent) ≡ a ++ (b ++ (c ++ contents_at k (extent_fields extent)))
 tail_contents k keys values features extent a b c ea eb ec =
-    contents-append k (all_of 2 (feature_bytes keys values) features) _ ∙ ap₂ (λ x y. x ++ y) ea (contents-append k (all_of 3 same_bytes keys) _ ∙ ap₂ (λ x y. x ++ y) eb (contents-append k (all_of 4 value_bytes values) (extent_fields extent) ∙ ap (λ x. x ++ contents_at k (extent_fields extent)) ec))
+    contents-append k (all_of FEATURES (feature_bytes keys values) features) _ ∙ ap₂ (λ x y. x ++ y) ea (contents-append k (all_of KEYS same_bytes keys) _ ∙ ap₂ (λ x y. x ++ y) eb (contents-append k (all_of VALUES value_bytes values) (extent_fields extent) ∙ ap (λ x. x ++ contents_at k (extent_fields extent)) ec))
 
 -- no field of another number stands behind the name
-tail_none : (k : ℕ) (keys : List (List ℕ)) (values : List Value) (features : List Feature) (extent : ℕ) → (2 == k) ≡ false → (3 == k) ≡ false → (4 == k) ≡ false → contents_at k (tail keys values features extent) ≡ contents_at k (extent_fields extent)
+tail_none : (k : ℕ) (keys : List (List ℕ)) (values : List Value) (features : List Feature) (extent : ℕ) → (FEATURES == k) ≡ false → (KEYS == k) ≡ false → (VALUES == k) ≡ false → contents_at k (tail keys values features extent) ≡ contents_at k (extent_fields extent)
 tail_none k keys values features extent two three four =
-    tail_contents k keys values features extent [] [] [] (contents_other 2 k (feature_bytes keys values) features two) (contents_other 3 k same_bytes keys three) (contents_other 4 k value_bytes values four)
+    tail_contents k keys values features extent [] [] [] (contents_other FEATURES k (feature_bytes keys values) features two) (contents_other KEYS k same_bytes keys three) (contents_other VALUES k value_bytes values four)
 
 -- the one field of a number
 one_content : (xs : List Entry) (c : Content) → map (λ (x : Entry). x.content) xs ≡ c ∷ [] → (x : Entry) × (xs ≡ x ∷ []) × (x.content ≡ c)
@@ -125,32 +127,40 @@ all_true (y ∷ ys) = (tt, all_true ys)
 
 -- the fields of a layer, wherever they stand, are the layer
 pub layer_is : (xs : List Entry) (keys : List (List ℕ)) (values : List Value) (layer : ALayer) → map plain_of xs ≡ fields_with keys values layer → IsUtf8 layer.name → layer.extent < 2 ^ 32 → AllByRecursion IsUtf8 keys → AllByRecursion (λ v. IsValueOf (value_bytes v) v) values → AllByRecursion (λ f. IsFeatureOf (feature_bytes keys values f) keys values f) layer.features
-    → HaveForm 15 IsUint32 xs × (version_in xs ≡ Some 2) × IsLayer xs layer
+    → HaveForm VERSION (HasForm uint32) xs × (version_in xs ≡ Some 2) × IsLayer xs layer
 layer_is xs keys values layer is name extent texts hold features =
     let at = λ (k : ℕ). only_contents k xs ∙ ap (contents_at k) is in
-    let versions : map (λ (x : Entry). x.content) (only 15 xs) ≡ varint 2 ∷ [] = at 15 ∙ ap (λ l. varint 2 ∷ l) (tail_none 15 keys values layer.features layer.extent refl refl refl) in
-    let names : map (λ (x : Entry). x.content) (only 1 xs) ≡ bytes layer.name ∷ [] = at 1 ∙ ap (λ l. bytes layer.name ∷ l) (tail_none 1 keys values layer.features layer.extent refl refl refl) in
-    let extents : map (λ (x : Entry). x.content) (only 5 xs) ≡ varint layer.extent ∷ [] = at 5 ∙ tail_none 5 keys values layer.features layer.extent refl refl refl in
-    let messages : map (λ (x : Entry). x.content) (only 2 xs) ≡ map (λ f. bytes (feature_bytes keys values f)) layer.features = at 2 ∙ tail_contents 2 keys values layer.features layer.extent _ [] [] (contents_same 2 (feature_bytes keys values) layer.features) (contents_other 3 2 same_bytes keys refl) (contents_other 4 2 value_bytes values refl) ∙ append-nil _ in
-    let key_texts : map (λ (x : Entry). x.content) (only 3 xs) ≡ map (λ key. bytes (same_bytes key)) keys = at 3 ∙ tail_contents 3 keys values layer.features layer.extent [] _ [] (contents_other 2 3 (feature_bytes keys values) layer.features refl) (contents_same 3 same_bytes keys) (contents_other 4 3 value_bytes values refl) ∙ append-nil _ in
-    let pool : map (λ (x : Entry). x.content) (only 4 xs) ≡ map (λ v. bytes (value_bytes v)) values = at 4 ∙ tail_contents 4 keys values layer.features layer.extent [] [] _ (contents_other 2 4 (feature_bytes keys values) layer.features refl) (contents_other 3 4 same_bytes keys refl) (contents_same 4 value_bytes values) ∙ append-nil _ in
-    let version = one_content (only 15 xs) (varint 2) versions in
-    let the_name = one_content (only 1 xs) (bytes layer.name) names in
-    let the_extent = one_content (only 5 xs) (varint layer.extent) extents in
-    let same_keys : keys_in xs ≡ keys = keys_are (only 3 xs) keys key_texts in (
-      form_contents 15 IsUint32 xs (varint 2 ∷ []) versions (lit< tt, tt),
+    let versions : map (λ (x : Entry). x.content) (only VERSION xs) ≡ varint 2 ∷ [] = at VERSION ∙ ap (λ l. varint 2 ∷ l) (tail_none VERSION keys values layer.features layer.extent refl refl refl) in
+    let names : map (λ (x : Entry). x.content) (only NAME xs) ≡ bytes layer.name ∷ [] = at NAME ∙ ap (λ l. bytes layer.name ∷ l) (tail_none NAME keys values layer.features layer.extent refl refl refl) in
+    let extents : map (λ (x : Entry). x.content) (only EXTENT xs) ≡ varint layer.extent ∷ [] = at EXTENT ∙ tail_none EXTENT keys values layer.features layer.extent refl refl refl in
+    let messages : map (λ (x : Entry). x.content) (only FEATURES xs) ≡ map (λ f. bytes (feature_bytes keys values f)) layer.features = at FEATURES ∙ tail_contents FEATURES keys values layer.features layer.extent _ [] [] (contents_same FEATURES (feature_bytes keys values) layer.features) (contents_other KEYS FEATURES same_bytes keys refl) (contents_other VALUES FEATURES value_bytes values refl) ∙ append-nil _ in
+    let key_texts : map (λ (x : Entry). x.content) (only KEYS xs) ≡ map (λ key. bytes (same_bytes key)) keys = at KEYS ∙ tail_contents KEYS keys values layer.features layer.extent [] _ [] (contents_other FEATURES KEYS (feature_bytes keys values) layer.features refl) (contents_same KEYS same_bytes keys) (contents_other VALUES KEYS value_bytes values refl) ∙ append-nil _ in
+    let pool : map (λ (x : Entry). x.content) (only VALUES xs) ≡ map (λ v. bytes (value_bytes v)) values = at VALUES ∙ tail_contents VALUES keys values layer.features layer.extent [] [] _ (contents_other FEATURES VALUES (feature_bytes keys values) layer.features refl) (contents_other KEYS VALUES same_bytes keys refl) (contents_same VALUES value_bytes values) ∙ append-nil _ in
+    let version = one_content (only VERSION xs) (varint 2) versions in
+    let the_name = one_content (only NAME xs) (bytes layer.name) names in
+    let the_extent = one_content (only EXTENT xs) (varint layer.extent) extents in
+    let same_keys : keys_in xs ≡ keys = keys_are (only KEYS xs) keys key_texts in (
+      form_contents VERSION (HasForm uint32) xs (varint 2 ∷ []) versions (lit< tt, tt),
       ap (λ l. number_in (last_or None l)) version.1 ∙ ap number_of version.2,
       record {
-        names = form_contents 1 IsText xs (bytes layer.name ∷ []) names (name, tt);
-        messages = form_contents 2 IsBytes xs _ messages (bytes_all IsBytes (feature_bytes keys values) layer.features (all_true layer.features));
-        texts = form_contents 3 IsText xs _ key_texts (bytes_all IsText same_bytes keys texts);
-        pool = form_contents 4 IsBytes xs _ pool (bytes_all IsBytes value_bytes values (all_true values));
-        extents = form_contents 5 IsUint32 xs (varint layer.extent ∷ []) extents (extent, tt);
+        forms = (
+          form_contents NAME (HasForm string) xs (bytes layer.name ∷ []) names (name, tt),
+          (
+            form_contents FEATURES (HasForm message) xs _ messages (bytes_all (HasForm message) (feature_bytes keys values) layer.features (all_true layer.features)),
+            (
+              form_contents KEYS (HasForm string) xs _ key_texts (bytes_all (HasForm string) same_bytes keys texts),
+              (
+                form_contents VALUES (HasForm message) xs _ pool (bytes_all (HasForm message) value_bytes values (all_true values)),
+                (form_contents EXTENT (HasForm uint32) xs (varint layer.extent ∷ []) extents (extent, tt), tt),
+              ),
+            ),
+          ),
+        );
         name = ap (λ l. option_map (λ (x : Entry). bytes_of x.content) (last_or None l)) the_name.1 ∙ ap (λ c. Some (bytes_of c)) the_name.2;
         extent = sym (ap (λ l. unwrap_or (number_in (last_or None l)) 4096) the_extent.1 ∙ ap (λ c. unwrap_or (number_of c) 4096) the_extent.2);
         values = values;
-        values_are = related_contents value_bytes (λ b v. IsValueOf b v) (only 4 xs) values pool hold;
-        features = subst (λ ks. AreRelated (HoldsFeature ks values) (only 2 xs) layer.features) (sym same_keys) (related_contents (feature_bytes keys values) (λ b f. IsFeatureOf b keys values f) (only 2 xs) layer.features messages features);
+        values_are = related_contents value_bytes (λ b v. IsValueOf b v) (only VALUES xs) values pool hold;
+        features = subst (λ ks. AreRelated (HoldsFeature ks values) (only FEATURES xs) layer.features) (sym same_keys) (related_contents (feature_bytes keys values) (λ b f. IsFeatureOf b keys values f) (only FEATURES xs) layer.features messages features);
       },
     )
 
@@ -190,8 +200,8 @@ fine_bytes k g (y ∷ ys) low high = (record { first = low; last = high; content
 
 layer_fine : (keys : List (List ℕ)) (values : List Value) (layer : ALayer) → layer.extent < 2 ^ 32 → AllByRecursion IsFine (fields_with keys values layer)
 layer_fine keys values layer small =
-    let extent : IsFine (plain 5 (varint layer.extent)) = record { first = lit≤ tt; last = lit< tt; content = omega arith } in
-    (record { first = lit≤ tt; last = lit< tt; content = lit< tt }, (record { first = lit≤ tt; last = lit< tt; content = tt }, all_joined IsFine (all_of 2 (feature_bytes keys values) layer.features) _ (fine_bytes 2 (feature_bytes keys values) layer.features (lit≤ tt) (lit< tt)) (all_joined IsFine (all_of 3 same_bytes keys) _ (fine_bytes 3 same_bytes keys (lit≤ tt) (lit< tt)) (all_joined IsFine (all_of 4 value_bytes values) (extent_fields layer.extent) (fine_bytes 4 value_bytes values (lit≤ tt) (lit< tt)) (extent, tt)))))
+    let extent : IsFine (plain EXTENT (varint layer.extent)) = record { first = lit≤ tt; last = lit< tt; content = omega arith } in
+    (record { first = lit≤ tt; last = lit< tt; content = lit< tt }, (record { first = lit≤ tt; last = lit< tt; content = tt }, all_joined IsFine (all_of FEATURES (feature_bytes keys values) layer.features) _ (fine_bytes FEATURES (feature_bytes keys values) layer.features (lit≤ tt) (lit< tt)) (all_joined IsFine (all_of KEYS same_bytes keys) _ (fine_bytes KEYS same_bytes keys (lit≤ tt) (lit< tt)) (all_joined IsFine (all_of VALUES value_bytes values) (extent_fields layer.extent) (fine_bytes VALUES value_bytes values (lit≤ tt) (lit< tt)) (extent, tt)))))
 
 -- the sizes of the payloads
 sizes : {Y : Type 0} → (k : ℕ) (g : Y → List ℕ) (ys : List Y) → AllByRecursion IsFit (all_of k g ys) → AllByRecursion (λ y. length (g y) < 2 ^ 64) ys
@@ -216,11 +226,11 @@ spelled_length ps qs = ap length (spelled-append ps qs) ∙ length-append (spell
 pub pools_within : BytesLonger → (keys : List (List ℕ)) (values : List Value) (layer : ALayer) → (2 * length keys ≤ length (spelled (fields_with keys values layer))) × (2 * length values ≤ length (spelled (fields_with keys values layer)))
 pools_within longer keys values layer =
     let a = spelled_length (head_fields layer.name) (tail keys values layer.features layer.extent) in
-    let b = spelled_length (all_of 2 (feature_bytes keys values) layer.features) (all_of 3 same_bytes keys ++ (all_of 4 value_bytes values ++ extent_fields layer.extent)) in
-    let c = spelled_length (all_of 3 same_bytes keys) (all_of 4 value_bytes values ++ extent_fields layer.extent) in
-    let d = spelled_length (all_of 4 value_bytes values) (extent_fields layer.extent) in
-    let k = count_bytes longer 3 same_bytes keys in
-    let v = count_bytes longer 4 value_bytes values in
+    let b = spelled_length (all_of FEATURES (feature_bytes keys values) layer.features) (all_of KEYS same_bytes keys ++ (all_of VALUES value_bytes values ++ extent_fields layer.extent)) in
+    let c = spelled_length (all_of KEYS same_bytes keys) (all_of VALUES value_bytes values ++ extent_fields layer.extent) in
+    let d = spelled_length (all_of VALUES value_bytes values) (extent_fields layer.extent) in
+    let k = count_bytes longer KEYS same_bytes keys in
+    let v = count_bytes longer VALUES value_bytes values in
     (omega (arith, a, b, c, d, k, v), omega (arith, a, b, c, d, k, v))
 
 -- entries of a list
@@ -296,9 +306,9 @@ layer_canonical spelled_whole longer from_keys from_values hold names small valu
     let behind = fits.1.1 in
     let whole = spelled_whole (layer_fields layer) fits in
     let pools = pools_within longer keys values layer in
-    let feature_sizes = sizes 2 (feature_bytes keys values) features (all_left IsFit (all_of 2 (feature_bytes keys values) features) _ behind) in
-    let pool_fits = all_right IsFit (all_of 2 (feature_bytes keys values) features) _ behind in
-    let value_sizes = sizes 4 value_bytes values (all_left IsFit (all_of 4 value_bytes values) (extent_fields layer.extent) (all_right IsFit (all_of 3 same_bytes keys) _ pool_fits)) in
+    let feature_sizes = sizes FEATURES (feature_bytes keys values) features (all_left IsFit (all_of FEATURES (feature_bytes keys values) features) _ behind) in
+    let pool_fits = all_right IsFit (all_of FEATURES (feature_bytes keys values) features) _ behind in
+    let value_sizes = sizes VALUES value_bytes values (all_left IsFit (all_of VALUES value_bytes values) (extent_fields layer.extent) (all_right IsFit (all_of KEYS same_bytes keys) _ pool_fits)) in
     let hold_values = all_weaker (λ v. ValidValue v × (length (value_bytes v) < 2 ^ 64)) (λ v. IsValueOf (value_bytes v) v) (λ v h. value_reads v h.0 h.1) values (all_both ValidValue (λ v. length (value_bytes v) < 2 ^ 64) values (values_valid from_values features valid.2) value_sizes) in
     let hold_features = all_weaker (λ (f : Feature). (ValidFeature f × AllByRecursion (IsIn keys values) f.attributes) × (length (feature_bytes keys values f) < 2 ^ 64)) (λ f. IsFeatureOf (feature_bytes keys values f) keys values f) (λ f h. feature_reads keys values (tags_in keys values f.attributes) f h.0.0 (names keys values f.attributes h.0.1) (small keys values f.attributes (2 ^ 32) h.0.1 (omega (arith, pools.0)) (omega (arith, pools.1))) h.1) features (all_both (λ (f : Feature). ValidFeature f × AllByRecursion (IsIn keys values) f.attributes) (λ f. length (feature_bytes keys values f) < 2 ^ 64) features (all_both ValidFeature (λ (f : Feature). AllByRecursion (IsIn keys values) f.attributes) features valid.2 (features_held hold features)) feature_sizes) in
     let is = layer_is whole.0 keys values layer whole.2 valid.0 valid.1 (keys_valid from_keys features valid.2) hold_values hold_features in

@@ -19,6 +19,7 @@ use Rattle.mvt_feature.specs.declared.feature.Feature.{Feature}
 use Rattle.mvt_feature.specs.Faults.{MessageFault, fault_at, in_feature, rest_rules}
 use Rattle.mvt_feature.specs.Features.{IsFeatureOf, number_in, number_of}
 use Rattle.mvt_feature.specs.FeatureRules.{feature_rules, feature_fault}
+use Rattle.mvt_feature.specs.Forms.{uint32, HasForm}
 use Rattle.mvt_feature.specs.Selection.{only, last_only, HaveForm}
 use Rattle.mvt_feature.specs.Values.{IsValueOf}
 use Rattle.mvt_feature.specs.ValueRules.{value_rules, value_fault}
@@ -28,10 +29,10 @@ use Rattle.mvt_message.specs.declared.item.Layer.{Layer as ALayer}
 use Rattle.mvt_message.specs.declared.item.Item.TheVariants.{Layer, Foreign}
 use Rattle.mvt_message.specs.LayerFields.{bytes_of, version_in, is_two, name_in, extent_in, keys_in, values_in}
 use Rattle.mvt_message.specs.ItemRules.{version_rules, layer_field_rules, value_rules_of, feature_rules_of, layer_table, item_table, item_rules, item_fault, payload_names}
-use Rattle.mvt_message.specs.Items.{IsUint32, HoldsValue, HoldsFeature, IsLayer, AreItem, IsItem, names_in}
+use Rattle.mvt_message.specs.Items.{HoldsValue, HoldsFeature, IsLayer, AreItem, IsItem, names_in}
 use Rattle.mvt_message.specs.Inner.{forms_fault, no_name_fault, values_fault, features_fault, head_fault, layer_fault}
 use Rattle.mvt_message.proofs.ChainLemmas.{item_chain, layer_chain}
-use Rattle.mvt_message.proofs.FormLemmas.{versions_form, form_versions, layer_forms, forms_layer, none_each_told, each_told_none, version_ordered, layer_field_ordered}
+use Rattle.mvt_message.proofs.FormLemmas.{FormsHave, FormsClean, FormsOrdered, versions_form, form_versions, layer_have, have_layer, none_each_told, each_told_none, version_ordered, layer_field_ordered}
 use Rattle.mvt_message.proofs.SaidLemmas.{SplitOnly, ValueIs, values_said}
 
 -- what the levels below give
@@ -83,13 +84,13 @@ pub two_there : (o : Option ℕ) → is_two o ≡ true → o ≡ Some 2
 two_there None h = cc
 two_there (Some n) h = ap Some (eqb-true n 2 h)
 
-pub version_there : (xs : List Entry) → HaveForm VERSION IsUint32 xs → is_none (last_only VERSION xs) ≡ false → (n : ℕ) × (version_in xs ≡ Some n)
+pub version_there : (xs : List Entry) → HaveForm VERSION (HasForm uint32) xs → is_none (last_only VERSION xs) ≡ false → (n : ℕ) × (version_in xs ≡ Some n)
 version_there xs forms some =
     let last = some_there (last_only VERSION xs) some in
-    let number = of_form last.0.content (last_selected (λ (x : Entry). x.number) (λ (x : Entry). IsUint32 x.content) VERSION xs last.0 forms last.1) in
+    let number = of_form last.0.content (last_selected (λ (x : Entry). x.number) (λ (x : Entry). HasForm uint32 x.content) VERSION xs last.0 forms last.1) in
     (number.0, ap number_in last.1 ∙ number.1)
   where
-    of_form : (c : Content) → IsUint32 c → (n : ℕ) × (number_of c ≡ Some n)
+    of_form : (c : Content) → HasForm uint32 c → (n : ℕ) × (number_of c ≡ Some n)
     of_form (varint n) h = (n, refl)
     of_form (bytes d) h = absurd h
     of_form (fixed64 n) h = absurd h
@@ -134,15 +135,10 @@ features_clean clean base keys values xs features are =
     each_told_none (λ (earlier : List Entry). in_feature (length earlier)) (feature_rules_at base keys values) [] (only FEATURES xs) (related_left (HoldsFeature keys values) (λ (x : Entry). first (feature_rules_at base keys values x) ≡ None) (λ x f is. sym (feature_first _ _ _ _) ∙ clean (bytes_of x.content) (base + x.body) keys values f is) (only FEATURES xs) features are)
 
 -- a layer without a fault is there
-pub layer_from : (base own : ℕ) (xs : List Entry) (layer : ALayer) (values : List Value) → forms_fault base xs ≡ None → name_in xs ≡ Some layer.name → layer.extent ≡ extent_in xs → AreRelated HoldsValue (only VALUES xs) values → AreRelated (HoldsFeature (keys_in xs) values) (only FEATURES xs) layer.features → IsLayer xs layer
-layer_from base own xs layer values clean name extent values_are features =
-    let forms = layer_forms base xs clean in
+pub layer_from : FormsHave → (base own : ℕ) (xs : List Entry) (layer : ALayer) (values : List Value) → forms_fault base xs ≡ None → name_in xs ≡ Some layer.name → layer.extent ≡ extent_in xs → AreRelated HoldsValue (only VALUES xs) values → AreRelated (HoldsFeature (keys_in xs) values) (only FEATURES xs) layer.features → IsLayer xs layer
+layer_from have base own xs layer values clean name extent values_are features =
     record {
-      names = forms.names;
-      messages = forms.messages;
-      texts = forms.texts;
-      pool = forms.pool;
-      extents = forms.extents;
+      forms = layer_have have base xs clean;
       name = name;
       extent = extent;
       values = values;
@@ -150,8 +146,8 @@ layer_from base own xs layer values clean name extent values_are features =
       features = features;
     }
 
-layer_there : ValueIs → ValuesThere → FeaturesThere → (base own : ℕ) (xs : List Entry) → layer_fault base own xs ≡ None → (layer : ALayer) × IsLayer xs layer
-layer_there value_is values_are_there features_are_there base own xs none =
+layer_there : FormsHave → ValueIs → ValuesThere → FeaturesThere → (base own : ℕ) (xs : List Entry) → layer_fault base own xs ≡ None → (layer : ALayer) × IsLayer xs layer
+layer_there have value_is values_are_there features_are_there base own xs none =
     let parts = option_or-nones _ _ (sym (layer_chain base own xs) ∙ none) in
     let later = option_or-nones _ _ parts.1 in
     let last = option_or-nones _ _ later.1 in
@@ -161,7 +157,7 @@ layer_there value_is values_are_there features_are_there base own xs none =
     let same : values_in xs ≡ values.0 = values_said value_is (only VALUES xs) values.0 values.1 in
     let features = features_there features_are_there base (keys_in xs) values.0 xs (subst (λ vs. features_fault base (keys_in xs) vs xs ≡ None) same end.0) in
     let layer : ALayer = record { name = bytes_of name.0.content; extent = extent_in xs; features = features.0 } in
-    (layer, layer_from base own xs layer values.0 parts.0 (ap (option_map (λ (x : Entry). bytes_of x.content)) name.1) refl values.1 features.1)
+    (layer, layer_from have base own xs layer values.0 parts.0 (ap (option_map (λ (x : Entry). bytes_of x.content)) name.1) refl values.1 features.1)
 
 name_there : (xs : List Entry) (name : List ℕ) → name_in xs ≡ Some name → is_none (last_only NAME xs) ≡ false
 name_there xs name is = of_option (last_only NAME xs) is
@@ -174,39 +170,39 @@ pub layer_clean : (base own : ℕ) (xs : List Entry) → forms_fault base xs ≡
 layer_clean base own xs forms name values features =
     layer_chain base own xs ∙ option_or-none _ _ forms ∙ option_or-none _ _ name ∙ option_or-none _ _ values ∙ option_or-none _ _ features
 
-layer_keeps : ValueIs → ValuesClean → FeaturesClean → (base own : ℕ) (xs : List Entry) (layer : ALayer) → IsLayer xs layer → layer_fault base own xs ≡ None
-layer_keeps value_is clean_values clean_features base own xs layer is =
+layer_keeps : FormsClean → ValueIs → ValuesClean → FeaturesClean → (base own : ℕ) (xs : List Entry) (layer : ALayer) → IsLayer xs layer → layer_fault base own xs ≡ None
+layer_keeps forms_clean value_is clean_values clean_features base own xs layer is =
     let same : values_in xs ≡ is.values = values_said value_is (only VALUES xs) is.values is.values_are in
-    layer_clean base own xs (forms_layer base xs is.names is.messages is.texts is.pool is.extents) (first-when_not _ _ (name_there xs layer.name is.name)) (values_clean clean_values base xs is.values is.values_are) (subst (λ vs. features_fault base (keys_in xs) vs xs ≡ None) (sym same) (features_clean clean_features base (keys_in xs) is.values xs layer.features is.features))
+    layer_clean base own xs (have_layer forms_clean base xs is.forms) (first-when_not _ _ (name_there xs layer.name is.name)) (values_clean clean_values base xs is.values is.values_are) (subst (λ vs. features_fault base (keys_in xs) vs xs ≡ None) (sym same) (features_clean clean_features base (keys_in xs) is.values xs layer.features is.features))
 
 -- no fault: the payload is an item
 abbrev FaultBehind : ℕ → ℕ → List Entry → Bool → Option MessageFault
 FaultBehind base own xs two = if two then layer_fault base own xs else None
 
-pub head_clean : NoneRest → (payload : List ℕ) (base own : ℕ) → head_fault payload base own ≡ None → ((split payload).rest ≡ []) × HaveForm VERSION IsUint32 (split payload).fields × ((n : ℕ) × (version_in (split payload).fields ≡ Some n))
-head_clean none_rest payload base own none =
+pub head_clean : NoneRest → FormsHave → (payload : List ℕ) (base own : ℕ) → head_fault payload base own ≡ None → ((split payload).rest ≡ []) × HaveForm VERSION (HasForm uint32) (split payload).fields × ((n : ℕ) × (version_in (split payload).fields ≡ Some n))
+head_clean none_rest have payload base own none =
     let xs = (split payload).fields in
     let parts = option_or-nones _ _ none in
     let later = option_or-nones _ _ parts.1 in
-    let forms = versions_form base xs later.0 in
+    let forms = versions_form have base xs later.0 in
     (none_rest base (split payload) parts.0, forms, version_there xs forms (when_none (is_none (last_only VERSION xs)) (fault_at own NoVersion) later.1))
 
 pub whole_of : SplitIs → (payload : List ℕ) → (split payload).rest ≡ [] → Whole payload (split payload).fields
 whole_of split_is payload rest = subst (λ r. Split payload (split payload).fields r) rest (split_is payload)
 
-pub item_from : SplitIs → (payload : List ℕ) (item : AnItem) → (split payload).rest ≡ [] → HaveForm VERSION IsUint32 (split payload).fields → AreItem (split payload).fields payload item → IsItem payload item
+pub item_from : SplitIs → (payload : List ℕ) (item : AnItem) → (split payload).rest ≡ [] → HaveForm VERSION (HasForm uint32) (split payload).fields → AreItem (split payload).fields payload item → IsItem payload item
 unfolding IsItem
 item_from split_is payload item rest forms are = ((split payload).fields, whole_of split_is payload rest, forms, are)
 
-pub item_there : NoneRest → SplitIs → ValueIs → ValuesThere → FeaturesThere → (payload : List ℕ) (base own : ℕ) → item_fault payload base own ≡ None → (item : AnItem) × IsItem payload item
-item_there none_rest split_is value_is values_are_there features_are_there payload base own none =
+pub item_there : NoneRest → FormsHave → SplitIs → ValueIs → ValuesThere → FeaturesThere → (payload : List ℕ) (base own : ℕ) → item_fault payload base own ≡ None → (item : AnItem) × IsItem payload item
+item_there none_rest have split_is value_is values_are_there features_are_there payload base own none =
     let parts = option_or-nones _ _ (sym (item_chain payload base own) ∙ none) in
-    let head = head_clean none_rest payload base own parts.0 in
+    let head = head_clean none_rest have payload base own parts.0 in
     by_version (is_two (version_in (split payload).fields)) refl head.0 head.1 head.2 parts.1
   where
-    by_version : (two : Bool) → is_two (version_in (split payload).fields) ≡ two → (split payload).rest ≡ [] → HaveForm VERSION IsUint32 (split payload).fields → ((n : ℕ) × (version_in (split payload).fields ≡ Some n)) → FaultBehind base own (split payload).fields two ≡ None → (item : AnItem) × IsItem payload item
+    by_version : (two : Bool) → is_two (version_in (split payload).fields) ≡ two → (split payload).rest ≡ [] → HaveForm VERSION (HasForm uint32) (split payload).fields → ((n : ℕ) × (version_in (split payload).fields ≡ Some n)) → FaultBehind base own (split payload).fields two ≡ None → (item : AnItem) × IsItem payload item
     by_version true is rest forms version behind =
-        let layer = layer_there value_is values_are_there features_are_there base own (split payload).fields behind in
+        let layer = layer_there have value_is values_are_there features_are_there base own (split payload).fields behind in
         (Layer layer.0, item_from split_is payload (Layer layer.0) rest forms (two_there _ is, layer.1))
     by_version false is rest forms version behind =
         let other : version.0 ≢ 2 = eqb-false version.0 2 (sym (ap is_two version.1) ∙ is) in
@@ -220,9 +216,9 @@ last_there xs n is = of_option (last_only VERSION xs) is
     of_option None h = cc
     of_option (Some x) h = refl
 
-pub head_keeps : RestNone → (payload : List ℕ) (base own n : ℕ) → (split payload).rest ≡ [] → HaveForm VERSION IsUint32 (split payload).fields → version_in (split payload).fields ≡ Some n → head_fault payload base own ≡ None
-head_keeps rest_none payload base own n rest forms version =
-    option_or-none _ _ (rest_none base (split payload) rest) ∙ option_or-none _ _ (form_versions base (split payload).fields forms) ∙ first-when_not _ _ (last_there (split payload).fields n version)
+pub head_keeps : RestNone → FormsClean → (payload : List ℕ) (base own n : ℕ) → (split payload).rest ≡ [] → HaveForm VERSION (HasForm uint32) (split payload).fields → version_in (split payload).fields ≡ Some n → head_fault payload base own ≡ None
+head_keeps rest_none forms_clean payload base own n rest forms version =
+    option_or-none _ _ (rest_none base (split payload) rest) ∙ option_or-none _ _ (form_versions forms_clean base (split payload).fields forms) ∙ first-when_not _ _ (last_there (split payload).fields n version)
 
 pub item_of_layer : (payload : List ℕ) (base own : ℕ) → head_fault payload base own ≡ None → version_in (split payload).fields ≡ Some 2 → item_fault payload base own ≡ layer_fault base own (split payload).fields
 item_of_layer payload base own head version =
@@ -232,17 +228,17 @@ pub item_of_other : (payload : List ℕ) (base own n : ℕ) → head_fault paylo
 item_of_other payload base own n head version other =
     item_chain payload base own ∙ option_or-none _ _ head ∙ ap (FaultBehind base own (split payload).fields) (ap is_two version ∙ ne_eqb n 2 other)
 
-pub item_keeps : RestNone → SplitOnly → ValueIs → ValuesClean → FeaturesClean → (payload : List ℕ) (base own : ℕ) (item : AnItem) → IsItem payload item → item_fault payload base own ≡ None
+pub item_keeps : RestNone → FormsClean → SplitOnly → ValueIs → ValuesClean → FeaturesClean → (payload : List ℕ) (base own : ℕ) (item : AnItem) → IsItem payload item → item_fault payload base own ≡ None
 unfolding IsItem
-item_keeps rest_none split_only value_is clean_values clean_features payload base own item (xs, whole, forms, are) =
+item_keeps rest_none forms_clean split_only value_is clean_values clean_features payload base own item (xs, whole, forms, are) =
     let only_split = split_only payload [] xs whole in
     let here : AreItem (split payload).fields payload item = subst (λ fs. AreItem fs payload item) only_split.0 are in
-    by_item item (sym only_split.1) (subst (HaveForm VERSION IsUint32) only_split.0 forms) here
+    by_item item (sym only_split.1) (subst (HaveForm VERSION (HasForm uint32)) only_split.0 forms) here
   where
-    by_item : (i : AnItem) → (split payload).rest ≡ [] → HaveForm VERSION IsUint32 (split payload).fields → AreItem (split payload).fields payload i → item_fault payload base own ≡ None
+    by_item : (i : AnItem) → (split payload).rest ≡ [] → HaveForm VERSION (HasForm uint32) (split payload).fields → AreItem (split payload).fields payload i → item_fault payload base own ≡ None
     by_item (Layer layer) rest form is =
-        item_of_layer payload base own (head_keeps rest_none payload base own 2 rest form is.0) is.0 ∙ layer_keeps value_is clean_values clean_features base own (split payload).fields layer is.1
-    by_item (Foreign version content) rest form is = item_of_other payload base own version (head_keeps rest_none payload base own version rest form is.0) is.0 is.1
+        item_of_layer payload base own (head_keeps rest_none forms_clean payload base own 2 rest form is.0) is.0 ∙ layer_keeps forms_clean value_is clean_values clean_features base own (split payload).fields layer is.1
+    by_item (Foreign version content) rest form is = item_of_other payload base own version (head_keeps rest_none forms_clean payload base own version rest form is.0) is.0 is.1
 
 -- at most one item
 same_layers : (k l : ALayer) → k.name ≡ l.name → k.extent ≡ l.extent → k.features ≡ l.features → k ≡ l
@@ -291,12 +287,12 @@ ValuesOrdered = (payload : List ℕ) (base own : ℕ) → AreOrdered (value_rule
 abbrev pub FeaturesOrdered : Type 0
 FeaturesOrdered = (payload : List ℕ) (base : ℕ) (keys : List (List ℕ)) (values : List Value) → AreOrdered (feature_rules payload base keys values)
 
-layer_rows : ValuesOrdered → FeaturesOrdered → (base own : ℕ) (xs : List Entry) (two : Bool) → AreRowsFrom 5 (if two then layer_table base own xs else [])
-layer_rows values features base own xs false = tt
-layer_rows values features base own xs true = (
+layer_rows : FormsOrdered → ValuesOrdered → FeaturesOrdered → (base own : ℕ) (xs : List Entry) (two : Bool) → AreRowsFrom 5 (if two then layer_table base own xs else [])
+layer_rows forms values features base own xs false = tt
+layer_rows forms values features base own xs true = (
   omega arith,
   (
-    each_ordered (λ _. layer_field_rules base) [] xs (λ seen x. layer_field_ordered base x),
+    each_ordered (λ _. layer_field_rules base) [] xs (λ seen x. layer_field_ordered forms base x),
     (
       omega arith,
       (
@@ -319,13 +315,13 @@ layer_rows values features base own xs true = (
   ),
 )
 
-item_rows : RestOrdered → ValuesOrdered → FeaturesOrdered → (payload : List ℕ) (base own : ℕ) → AreRowsFrom 0 (item_table payload base own)
-item_rows rest_ordered values features payload base own =
-    (omega arith, (rest_ordered base (split payload), (omega arith, (each_ordered (λ _. version_rules base) [] (split payload).fields (λ seen x. version_ordered base x), (omega arith, (when_ordered (is_none (last_only VERSION (split payload).fields)) (fault_at own NoVersion), layer_rows values features base own (split payload).fields (is_two (version_in (split payload).fields))))))))
+item_rows : RestOrdered → FormsOrdered → ValuesOrdered → FeaturesOrdered → (payload : List ℕ) (base own : ℕ) → AreRowsFrom 0 (item_table payload base own)
+item_rows rest_ordered forms values features payload base own =
+    (omega arith, (rest_ordered base (split payload), (omega arith, (each_ordered (λ _. version_rules base) [] (split payload).fields (λ seen x. version_ordered forms base x), (omega arith, (when_ordered (is_none (last_only VERSION (split payload).fields)) (fault_at own NoVersion), layer_rows forms values features base own (split payload).fields (is_two (version_in (split payload).fields))))))))
 
-pub item_ordered : RestOrdered → ValuesOrdered → FeaturesOrdered → (payload : List ℕ) (base own : ℕ) → AreOrdered (item_rules payload base own)
+pub item_ordered : RestOrdered → FormsOrdered → ValuesOrdered → FeaturesOrdered → (payload : List ℕ) (base own : ℕ) → AreOrdered (item_rules payload base own)
 unfolding item_rules
-item_ordered rest_ordered values features payload base own = rows_ordered 0 (item_table payload base own) (item_rows rest_ordered values features payload base own)
+item_ordered rest_ordered forms values features payload base own = rows_ordered 0 (item_table payload base own) (item_rows rest_ordered forms values features payload base own)
 
 pub item_first : (payload : List ℕ) (base own : ℕ) → item_fault payload base own ≡ first (item_rules payload base own)
 unfolding item_fault

@@ -9,7 +9,7 @@ use Rattle.std.proofs.lemmas.List.Elements.{filter-append}
 use Rattle.mvt_base.specs.Related.{AreRelated}
 use Rattle.mvt_base.specs.Rules.{Rules, each, first}
 use Rattle.mvt_base.proofs.ListLemmas.{related-append, length-related}
-use Rattle.mvt_base.proofs.RuleLemmas.{each_more, each_stops, first-told, first-when, first-when_not, option_or-none, option_or-some}
+use Rattle.mvt_base.proofs.RuleLemmas.{each_more, each_stops, first-told, first-when, first-when_not, option_or-none, option_or-nones, option_or-some}
 use Rattle.mvt_base.proofs.SelectionLemmas.{last_only-more}
 use Rattle.mvt_attrs.specs.declared.value.Value.{Value}
 use Rattle.mvt_wire.specs.declared.field.Field.{Field}
@@ -24,6 +24,7 @@ use Rattle.mvt_feature.specs.declared.message_error.MessageError.TheVariants.{Me
 use Rattle.mvt_feature.specs.Faults.{MessageFault, fault_at, in_feature, TellsMessage}
 use Rattle.mvt_feature.specs.Features.{IsFeatureOf, number_in, number_of}
 use Rattle.mvt_feature.specs.FeatureRules.{feature_rules, feature_fault}
+use Rattle.mvt_feature.specs.Forms.{uint32, form_rules, number_rules}
 use Rattle.mvt_feature.specs.Selection.{only, last_only}
 use Rattle.mvt_feature.specs.Values.{IsValueOf}
 use Rattle.mvt_feature.specs.ValueRules.{value_fault}
@@ -31,12 +32,12 @@ use Rattle.mvt_feature.specs.Walks.{Walk}
 use Rattle.mvt_message.specs.declared.numbers.layer.TheConstants.{NAME, FEATURES, KEYS, VALUES, EXTENT, VERSION}
 use Rattle.mvt_message.specs.declared.item.Layer.{Layer as ALayer}
 use Rattle.mvt_message.specs.declared.item.Item.TheVariants.{Layer, Foreign}
-use Rattle.mvt_message.specs.LayerFields.{bytes_of, version_in, is_two, name_in, extent_in, keys_in, values_in}
-use Rattle.mvt_message.specs.ItemRules.{uint32_rules, version_rules, version_form_rules, layer_form_rules, layer_field_rules, value_rules_of, feature_rules_of, item_fault, payload_names}
+use Rattle.mvt_message.specs.LayerFields.{version_forms, layer_forms, bytes_of, version_in, is_two, name_in, extent_in, keys_in, values_in}
+use Rattle.mvt_message.specs.ItemRules.{version_rules, layer_field_rules, value_rules_of, feature_rules_of, item_fault, payload_names}
 use Rattle.mvt_message.specs.Items.{HoldsValue, HoldsFeature, IsLayer, IsItem}
 use Rattle.mvt_message.specs.Inner.{rest_fault, versions_fault, forms_fault, no_name_fault, values_fault, features_fault, head_fault, layer_fault, IsVersionSoFar, OrFault, IsHead, name_after, extent_after, keys_at, AreValuesSoFar, AreFeaturesSoFar}
 use Rattle.mvt_message.proofs.ChainLemmas.{item_chain, layer_chain, tells_or, or_tells}
-use Rattle.mvt_message.proofs.FormLemmas.{placed_first, versions_form}
+use Rattle.mvt_message.proofs.FormLemmas.{FormsHave, versions_form}
 use Rattle.mvt_message.proofs.SaidLemmas.{ValueIs, values_said}
 use Rattle.mvt_message.proofs.ItemLaws.{RestNone, NoneRest, SplitIs, value_first, feature_first, version_there, head_clean, layer_from, layer_clean, item_of_layer, item_from}
 
@@ -66,28 +67,28 @@ number_more k done x = ap number_in (last_only-more (λ (y : Entry). y.number) k
     by_test true = refl
     by_test false = refl
 
-version_first : (base : ℕ) (x : Entry) → first (version_rules base x) ≡ option_map (fault_at (base + x.at)) (first (version_form_rules x.number x.content))
+version_first : (base : ℕ) (x : Entry) → first (version_rules base x) ≡ option_map (fault_at (base + x.at)) (first (number_rules version_forms x.number x.content))
 unfolding version_rules
-version_first base x = placed_first version_form_rules base x
+version_first base x = first-told (fault_at (base + x.at)) (number_rules version_forms x.number x.content)
 
 pub version_skip : (base : ℕ) (done : List Entry) (v : Option ℕ) (x : Entry) → IsVersionSoFar base done (Ok v) → x.number ≢ VERSION → IsVersionSoFar base (done ++ x ∷ []) (Ok v)
 version_skip base done v x so_far other =
     let test = ne_eqb x.number VERSION other in (
-      each_more (λ _. version_rules base) done x so_far.0 ∙ version_first base x ∙ ap (λ (b : Bool). option_map (fault_at (base + x.at)) (first (if b then uint32_rules x.content else []))) test,
+      each_more (λ _. version_rules base) done x so_far.0 ∙ version_first base x ∙ ap (λ (b : Bool). option_map (fault_at (base + x.at)) (first (if b then form_rules uint32 x.content else []))) test,
       so_far.1 ∙ sym (number_more VERSION done x ∙ ap (λ (b : Bool). if b then number_of x.content else version_in done) test),
     )
 
-pub version_take : (base : ℕ) (done : List Entry) (v : Option ℕ) (x : Entry) (n : ℕ) → IsVersionSoFar base done (Ok v) → x.number ≡ VERSION → number_of x.content ≡ Some n → first (uint32_rules x.content) ≡ None → IsVersionSoFar base (done ++ x ∷ []) (Ok (Some n))
+pub version_take : (base : ℕ) (done : List Entry) (v : Option ℕ) (x : Entry) (n : ℕ) → IsVersionSoFar base done (Ok v) → x.number ≡ VERSION → number_of x.content ≡ Some n → first (form_rules uint32 x.content) ≡ None → IsVersionSoFar base (done ++ x ∷ []) (Ok (Some n))
 version_take base done v x n so_far is number clean =
     let test = eq-eqb x.number VERSION is in (
-      each_more (λ _. version_rules base) done x so_far.0 ∙ version_first base x ∙ ap (λ (b : Bool). option_map (fault_at (base + x.at)) (first (if b then uint32_rules x.content else []))) test ∙ ap (option_map (fault_at (base + x.at))) clean,
+      each_more (λ _. version_rules base) done x so_far.0 ∙ version_first base x ∙ ap (λ (b : Bool). option_map (fault_at (base + x.at)) (first (if b then form_rules uint32 x.content else []))) test ∙ ap (option_map (fault_at (base + x.at))) clean,
       sym (number_more VERSION done x ∙ ap (λ (b : Bool). if b then number_of x.content else version_in done) test ∙ number),
     )
 
-pub version_stops : (base : ℕ) (done : List Entry) (v : Option ℕ) (x : Entry) (e : MessageError) → IsVersionSoFar base done (Ok v) → x.number ≡ VERSION → TellsMessage e (option_map (fault_at (base + x.at)) (first (uint32_rules x.content))) → (more : List Entry) → TellsMessage e (versions_fault base ((done ++ x ∷ []) ++ more))
+pub version_stops : (base : ℕ) (done : List Entry) (v : Option ℕ) (x : Entry) (e : MessageError) → IsVersionSoFar base done (Ok v) → x.number ≡ VERSION → TellsMessage e (option_map (fault_at (base + x.at)) (first (form_rules uint32 x.content))) → (more : List Entry) → TellsMessage e (versions_fault base ((done ++ x ∷ []) ++ more))
 version_stops base done v x e so_far is told_here more =
     let test = eq-eqb x.number VERSION is in
-    tells_as e (option_map (fault_at (base + x.at)) (first (uint32_rules x.content))) _ (λ f broken. rw append_assoc (each_stops (λ _. version_rules base) done x more f so_far.0 (version_first base x ∙ ap (λ (b : Bool). option_map (fault_at (base + x.at)) (first (if b then uint32_rules x.content else []))) test ∙ broken))) told_here
+    tells_as e (option_map (fault_at (base + x.at)) (first (form_rules uint32 x.content))) _ (λ f broken. rw append_assoc (each_stops (λ _. version_rules base) done x more f so_far.0 (version_first base x ∙ ap (λ (b : Bool). option_map (fault_at (base + x.at)) (first (if b then form_rules uint32 x.content else []))) test ∙ broken))) told_here
 
 -- a fault stays
 pub fault_stays : (fault : List Entry → Option MessageFault) (done : List Entry) (x : Entry) (e : MessageError) → ((more : List Entry) → TellsMessage e (fault (done ++ more))) → (more : List Entry) → TellsMessage e (fault ((done ++ x ∷ []) ++ more))
@@ -120,9 +121,9 @@ version_clean base done (Ok v) whole so_far = (v, so_far)
 version_clean base done (Err e) whole stays = absurd (let clash : false ≡ true = whole in cc)
 
 -- the head
-form_first : (base : ℕ) (x : Entry) → first (layer_field_rules base x) ≡ option_map (fault_at (base + x.at)) (first (layer_form_rules x.number x.content))
+form_first : (base : ℕ) (x : Entry) → first (layer_field_rules base x) ≡ option_map (fault_at (base + x.at)) (first (number_rules layer_forms x.number x.content))
 unfolding layer_field_rules
-form_first base x = placed_first layer_form_rules base x
+form_first base x = first-told (fault_at (base + x.at)) (number_rules layer_forms x.number x.content)
 
 name_more : (done : List Entry) (x : Entry) → name_in (done ++ x ∷ []) ≡ name_after (name_in done) x.number x.content
 name_more done x = ap (option_map (λ (y : Entry). bytes_of y.content)) (last_only-more (λ (y : Entry). y.number) NAME done x) ∙ by_test (x.number == NAME)
@@ -146,7 +147,7 @@ keys_more done x =
     by_test true = refl
     by_test false = refl
 
-pub head_step : (base : ℕ) (done : List Entry) (x : Entry) (name new_name : Option (List ℕ)) (extent new_extent : ℕ) (keys new_keys : List (List ℕ)) → IsHead base name extent keys done → first (layer_form_rules x.number x.content) ≡ None → new_name ≡ name_after name x.number x.content → new_extent ≡ extent_after extent x.number x.content → new_keys ≡ keys ++ keys_at x.number x.content → IsHead base new_name new_extent new_keys (done ++ x ∷ [])
+pub head_step : (base : ℕ) (done : List Entry) (x : Entry) (name new_name : Option (List ℕ)) (extent new_extent : ℕ) (keys new_keys : List (List ℕ)) → IsHead base name extent keys done → first (number_rules layer_forms x.number x.content) ≡ None → new_name ≡ name_after name x.number x.content → new_extent ≡ extent_after extent x.number x.content → new_keys ≡ keys ++ keys_at x.number x.content → IsHead base new_name new_extent new_keys (done ++ x ∷ [])
 head_step base done x name new_name extent new_extent keys new_keys so_far clean name_is extent_is keys_are = record {
   clean = each_more (λ _. layer_field_rules base) done x so_far.clean ∙ form_first base x ∙ ap (option_map (fault_at (base + x.at))) clean;
   name_is = name_is ∙ ap (λ o. name_after o x.number x.content) so_far.name_is ∙ sym (name_more done x);
@@ -154,9 +155,9 @@ head_step base done x name new_name extent new_extent keys new_keys so_far clean
   keys_are = keys_are ∙ ap (λ l. l ++ keys_at x.number x.content) so_far.keys_are ∙ sym (keys_more done x);
 }
 
-pub head_stops : (base : ℕ) (done : List Entry) (x : Entry) (e : MessageError) → forms_fault base done ≡ None → TellsMessage e (option_map (fault_at (base + x.at)) (first (layer_form_rules x.number x.content))) → (more : List Entry) → TellsMessage e (forms_fault base ((done ++ x ∷ []) ++ more))
+pub head_stops : (base : ℕ) (done : List Entry) (x : Entry) (e : MessageError) → forms_fault base done ≡ None → TellsMessage e (option_map (fault_at (base + x.at)) (first (number_rules layer_forms x.number x.content))) → (more : List Entry) → TellsMessage e (forms_fault base ((done ++ x ∷ []) ++ more))
 head_stops base done x e clean told_here more =
-    tells_as e (option_map (fault_at (base + x.at)) (first (layer_form_rules x.number x.content))) _ (λ f broken. rw append_assoc (each_stops (λ _. layer_field_rules base) done x more f clean (form_first base x ∙ broken))) told_here
+    tells_as e (option_map (fault_at (base + x.at)) (first (number_rules layer_forms x.number x.content))) _ (λ f broken. rw append_assoc (each_stops (λ _. layer_field_rules base) done x more f clean (form_first base x ∙ broken))) told_here
 
 -- values
 pub values_skip : (base : ℕ) (done : List Entry) (values : List Value) (x : Entry) → AreValuesSoFar base done values → x.number ≢ VALUES → AreValuesSoFar base (done ++ x ∷ []) values
@@ -228,14 +229,14 @@ head_some rest_none payload base own n rest clean version =
     by_option None h = cc
     by_option (Some x) h = refl
 
-pub head_none : RestNone → (payload : List ℕ) (base own : ℕ) → (split payload).rest ≡ [] → versions_fault base (split payload).fields ≡ None → None ≡ version_in (split payload).fields → head_fault payload base own ≡ Some (fault_at own NoVersion)
-head_none rest_none payload base own rest clean version =
+pub head_none : RestNone → FormsHave → (payload : List ℕ) (base own : ℕ) → (split payload).rest ≡ [] → versions_fault base (split payload).fields ≡ None → None ≡ version_in (split payload).fields → head_fault payload base own ≡ Some (fault_at own NoVersion)
+head_none rest_none have payload base own rest clean version =
     option_or-none _ _ (rest_none base (split payload) rest) ∙ option_or-none _ _ clean ∙ first-when _ _ (by_test (is_none (last_only VERSION (split payload).fields)) refl)
   where
     by_test : (b : Bool) → is_none (last_only VERSION (split payload).fields) ≡ b → b ≡ true
     by_test true e = refl
     by_test false e =
-        let there = version_there (split payload).fields (versions_form base (split payload).fields clean) e in
+        let there = version_there (split payload).fields (versions_form have base (split payload).fields clean) e in
         let clash : None ≡ Some there.0 = version ∙ there.1 in
         cc
 
@@ -277,28 +278,28 @@ layer_ok value_is base own xs name keys values forms is clean keys_are values_ar
     let same : values_in xs ≡ values = values_said value_is (only VALUES xs) values values_are in
     layer_clean base own xs forms (name_some own xs name is) clean (sym (ap₂ (λ ks vs. features_fault base ks vs xs) keys_are (sym same)) ∙ h)
 
-pub layer_read : (base own : ℕ) (xs : List Entry) (layer : ALayer) (name : List ℕ) (extent : ℕ) (keys : List (List ℕ)) (values : List Value) → forms_fault base xs ≡ None → Some name ≡ name_in xs → layer.name ≡ name → extent ≡ extent_in xs → layer.extent ≡ extent → keys ≡ keys_in xs → AreRelated HoldsValue (only VALUES xs) values → AreRelated (HoldsFeature keys values) (only FEATURES xs) layer.features → IsLayer xs layer
-layer_read base own xs layer name extent keys values forms is name_is extent_is extent_same keys_are values_are features =
-    layer_from base own xs layer values forms (sym is ∙ ap Some (sym name_is)) (extent_same ∙ extent_is) values_are (subst (λ ks. AreRelated (HoldsFeature ks values) (only FEATURES xs) layer.features) keys_are features)
+pub layer_read : FormsHave → (base own : ℕ) (xs : List Entry) (layer : ALayer) (name : List ℕ) (extent : ℕ) (keys : List (List ℕ)) (values : List Value) → forms_fault base xs ≡ None → Some name ≡ name_in xs → layer.name ≡ name → extent ≡ extent_in xs → layer.extent ≡ extent → keys ≡ keys_in xs → AreRelated HoldsValue (only VALUES xs) values → AreRelated (HoldsFeature keys values) (only FEATURES xs) layer.features → IsLayer xs layer
+layer_read have base own xs layer name extent keys values forms is name_is extent_is extent_same keys_are values_are features =
+    layer_from have base own xs layer values forms (sym is ∙ ap Some (sym name_is)) (extent_same ∙ extent_is) values_are (subst (λ ks. AreRelated (HoldsFeature ks values) (only FEATURES xs) layer.features) keys_are features)
 
 -- the exits of `read_item`
 pub head_told : (payload : List ℕ) (base own : ℕ) (e : MessageError) → TellsMessage e (head_fault payload base own) → TellsMessage e (item_fault payload base own)
 head_told payload base own e h = subst (TellsMessage e) (sym (item_chain payload base own)) (tells_or e (head_fault payload base own) _ h)
 
 pub head_whole : NoneRest → (payload : List ℕ) (base own : ℕ) → head_fault payload base own ≡ None → (split payload).rest ≡ []
-head_whole none_rest payload base own none = (head_clean none_rest payload base own none).0
+head_whole none_rest payload base own none = none_rest base (split payload) (option_or-nones _ _ none).0
 
 pub layer_told : (payload : List ℕ) (base own : ℕ) (e : MessageError) → head_fault payload base own ≡ None → version_in (split payload).fields ≡ Some 2 → TellsMessage e (layer_fault base own (split payload).fields) → TellsMessage e (item_fault payload base own)
 layer_told payload base own e head version h = subst (TellsMessage e) (sym (item_of_layer payload base own head version)) h
 
-pub layer_item : NoneRest → SplitIs → (payload : List ℕ) (base own : ℕ) (layer : ALayer) → head_fault payload base own ≡ None → version_in (split payload).fields ≡ Some 2 → IsLayer (split payload).fields layer → IsItem payload (Layer layer)
-layer_item none_rest split_is payload base own layer head version is =
-    let parts = head_clean none_rest payload base own head in
+pub layer_item : NoneRest → FormsHave → SplitIs → (payload : List ℕ) (base own : ℕ) (layer : ALayer) → head_fault payload base own ≡ None → version_in (split payload).fields ≡ Some 2 → IsLayer (split payload).fields layer → IsItem payload (Layer layer)
+layer_item none_rest have split_is payload base own layer head version is =
+    let parts = head_clean none_rest have payload base own head in
     item_from split_is payload (Layer layer) parts.0 parts.1 (version, is)
 
-pub other_item : NoneRest → SplitIs → (payload : List ℕ) (base own n : ℕ) (content : List ℕ) → head_fault payload base own ≡ None → version_in (split payload).fields ≡ Some n → n ≢ 2 → content ≡ payload → IsItem payload (Foreign n content)
-other_item none_rest split_is payload base own n content head version other is =
-    let parts = head_clean none_rest payload base own head in
+pub other_item : NoneRest → FormsHave → SplitIs → (payload : List ℕ) (base own n : ℕ) (content : List ℕ) → head_fault payload base own ≡ None → version_in (split payload).fields ≡ Some n → n ≢ 2 → content ≡ payload → IsItem payload (Foreign n content)
+other_item none_rest have split_is payload base own n content head version other is =
+    let parts = head_clean none_rest have payload base own head in
     item_from split_is payload (Foreign n content) parts.0 parts.1 (version, other, is)
 
 -- the names of a payload

@@ -17,17 +17,19 @@ use Rattle.mvt_feature.specs.declared.message_error.MessageError.TheVariants.{Me
 use Rattle.mvt_feature.specs.Faults.{TellsMessage}
 use Rattle.mvt_feature.specs.Features.{IsFeatureOf, number_in, number_of}
 use Rattle.mvt_feature.specs.Ranges.{AreBytes, IsInRange}
+use Rattle.mvt_feature.specs.Forms.{uint32, string, HasForm}
 use Rattle.mvt_feature.specs.Selection.{only, last_only, HaveForm}
 use Rattle.mvt_feature.specs.Valid.{ValidValue, ValidFeature}
-use Rattle.mvt_feature.specs.Values.{IsText, IsValueOf}
-use Rattle.mvt_message.specs.declared.numbers.layer.TheConstants.{NAME, FEATURES, VALUES, EXTENT, VERSION}
+use Rattle.mvt_feature.specs.Values.{IsValueOf}
+use Rattle.mvt_message.specs.declared.numbers.layer.TheConstants.{NAME, FEATURES, KEYS, VALUES, EXTENT, VERSION}
 use Rattle.mvt_message.specs.declared.item.Item.{Item as AnItem}
 use Rattle.mvt_message.specs.declared.item.Layer.{Layer as ALayer}
 use Rattle.mvt_message.specs.declared.item.Item.TheVariants.{Layer, Foreign}
 use Rattle.mvt_message.specs.LayerFields.{bytes_of, version_in, name_in, extent_in, keys_in}
-use Rattle.mvt_message.specs.Items.{IsUint32, HoldsValue, HoldsFeature, IsLayer, AreItem, IsItem}
+use Rattle.mvt_message.specs.Items.{HoldsValue, HoldsFeature, IsLayer, AreItem, IsItem}
 use Rattle.mvt_message.specs.ValidItems.{ValidLayer, AreOfVersion, ValidItem, WasValidFeature, WasValidItem}
 use Rattle.mvt_message.specs.Inner.{head_fault, IsFault}
+use Rattle.mvt_message.proofs.FormLemmas.{FormsHave, FormsClean}
 use Rattle.mvt_message.proofs.SaidLemmas.{SplitOnly}
 use Rattle.mvt_message.proofs.ItemLaws.{RestNone, NoneRest, SplitIs, head_clean, head_keeps, whole_of}
 
@@ -58,32 +60,32 @@ bytes_in_range (varint n) h = no_bytes
 bytes_in_range (fixed64 n) h = no_bytes
 bytes_in_range (fixed32 n) h = no_bytes
 
-text_utf8 : (c : Content) → IsText c → IsUtf8 (bytes_of c)
+text_utf8 : (c : Content) → HasForm string c → IsUtf8 (bytes_of c)
 text_utf8 (bytes d) h = h
 text_utf8 (varint n) h = absurd h
 text_utf8 (fixed64 n) h = absurd h
 text_utf8 (fixed32 n) h = absurd h
 
 -- the keys are texts
-texts_utf8 : (k : ℕ) (xs : List Entry) → HaveForm k IsText xs → AllByRecursion IsUtf8 (map (λ (x : Entry). bytes_of x.content) (only k xs))
+texts_utf8 : (k : ℕ) (xs : List Entry) → HaveForm k (HasForm string) xs → AllByRecursion IsUtf8 (map (λ (x : Entry). bytes_of x.content) (only k xs))
 texts_utf8 k xs forms =
-    of_all (only k xs) (only_all (λ (x : Entry). x.number) (λ (x : Entry). x.number ≡ k → IsText x.content) k xs forms) (only_number (λ (x : Entry). x.number) k xs)
+    of_all (only k xs) (only_all (λ (x : Entry). x.number) (λ (x : Entry). x.number ≡ k → HasForm string x.content) k xs forms) (only_number (λ (x : Entry). x.number) k xs)
   where
-    of_all : (ys : List Entry) → AllByRecursion (λ (x : Entry). x.number ≡ k → IsText x.content) ys → AllByRecursion (λ (x : Entry). x.number ≡ k) ys → AllByRecursion IsUtf8 (map (λ (x : Entry). bytes_of x.content) ys)
+    of_all : (ys : List Entry) → AllByRecursion (λ (x : Entry). x.number ≡ k → HasForm string x.content) ys → AllByRecursion (λ (x : Entry). x.number ≡ k) ys → AllByRecursion IsUtf8 (map (λ (x : Entry). bytes_of x.content) ys)
     of_all [] h g = tt
     of_all (y ∷ ys) h g = (text_utf8 y.content (h.0 g.0), of_all ys h.1 g.1)
 
-name_utf8 : (xs : List Entry) (name : List ℕ) → HaveForm NAME IsText xs → name_in xs ≡ Some name → IsUtf8 name
+name_utf8 : (xs : List Entry) (name : List ℕ) → HaveForm NAME (HasForm string) xs → name_in xs ≡ Some name → IsUtf8 name
 name_utf8 xs name forms is = of_option (last_only NAME xs) refl is
   where
     of_option : (o : Option Entry) → last_only NAME xs ≡ o → option_map (λ (x : Entry). bytes_of x.content) o ≡ Some name → IsUtf8 name
     of_option None e h = cc
-    of_option (Some x) e h = let same : bytes_of x.content ≡ name = cc in subst IsUtf8 same (text_utf8 x.content (last_selected (λ (x : Entry). x.number) (λ (y : Entry). IsText y.content) 1 xs x forms e))
+    of_option (Some x) e h = let same : bytes_of x.content ≡ name = cc in subst IsUtf8 same (text_utf8 x.content (last_selected (λ (x : Entry). x.number) (λ (y : Entry). HasForm string y.content) NAME xs x forms e))
 
-extent_small : (xs : List Entry) → HaveForm EXTENT IsUint32 xs → extent_in xs < 2 ^ 32
+extent_small : (xs : List Entry) → HaveForm EXTENT (HasForm uint32) xs → extent_in xs < 2 ^ 32
 extent_small xs forms = of_option (last_only EXTENT xs) refl
   where
-    of_content : (c : Content) → IsUint32 c → unwrap_or (number_of c) 4096 < 2 ^ 32
+    of_content : (c : Content) → HasForm uint32 c → unwrap_or (number_of c) 4096 < 2 ^ 32
     of_content (varint n) h = h
     of_content (bytes d) h = absurd h
     of_content (fixed64 n) h = absurd h
@@ -91,7 +93,7 @@ extent_small xs forms = of_option (last_only EXTENT xs) refl
 
     of_option : (o : Option Entry) → last_only EXTENT xs ≡ o → unwrap_or (number_in o) 4096 < 2 ^ 32
     of_option None e = omega arith
-    of_option (Some x) e = of_content x.content (last_selected (λ (x : Entry). x.number) (λ (y : Entry). IsUint32 y.content) 5 xs x forms e)
+    of_option (Some x) e = of_content x.content (last_selected (λ (x : Entry). x.number) (λ (y : Entry). HasForm uint32 y.content) EXTENT xs x forms e)
 
 -- what holds of each of the things related
 related_right : {X Y : Type 0} → (P : X → Type 0) (R : X → Y → Type 0) (Q : Y → Type 0) → ((x : X) (y : Y) → P x → R x y → Q y) → (xs : List X) (ys : List Y) → AllByRecursion P xs → AreRelated R xs ys → AllByRecursion Q ys
@@ -103,11 +105,11 @@ related_right P R Q gives (x ∷ xs) (y ∷ ys) all h = (gives x y all.0 h.0, re
 layer_valid : ValuesValid → FeaturesValid → (xs : List Entry) (layer : ALayer) → AllByRecursion (λ (x : Entry). IsInRange x.content) xs → IsLayer xs layer → ValidLayer layer
 unfolding ValidLayer
 layer_valid values_valid features_valid xs layer range is =
-    let keys = texts_utf8 3 xs is.texts in
-    let values = related_right (λ (x : Entry). IsInRange x.content) HoldsValue ValidValue (λ x v here holds. values_valid (bytes_of x.content) v (bytes_in_range x.content here) holds) (only VALUES xs) is.values (only_all (λ (x : Entry). x.number) (λ (x : Entry). IsInRange x.content) 4 xs range) is.values_are in (
-      name_utf8 xs layer.name is.names is.name,
-      subst (λ n. n < 2 ^ 32) (sym is.extent) (extent_small xs is.extents),
-      related_right (λ (x : Entry). IsInRange x.content) (HoldsFeature (keys_in xs) is.values) ValidFeature (λ x f here holds. features_valid (bytes_of x.content) (keys_in xs) is.values f (bytes_in_range x.content here) keys values holds) (only FEATURES xs) layer.features (only_all (λ (x : Entry). x.number) (λ (x : Entry). IsInRange x.content) 2 xs range) is.features,
+    let keys = texts_utf8 KEYS xs is.forms.1.1.0 in
+    let values = related_right (λ (x : Entry). IsInRange x.content) HoldsValue ValidValue (λ x v here holds. values_valid (bytes_of x.content) v (bytes_in_range x.content here) holds) (only VALUES xs) is.values (only_all (λ (x : Entry). x.number) (λ (x : Entry). IsInRange x.content) VALUES xs range) is.values_are in (
+      name_utf8 xs layer.name is.forms.0 is.name,
+      subst (λ n. n < 2 ^ 32) (sym is.extent) (extent_small xs is.forms.1.1.1.1.0),
+      related_right (λ (x : Entry). IsInRange x.content) (HoldsFeature (keys_in xs) is.values) ValidFeature (λ x f here holds. features_valid (bytes_of x.content) (keys_in xs) is.values f (bytes_in_range x.content here) keys values holds) (only FEATURES xs) layer.features (only_all (λ (x : Entry). x.number) (λ (x : Entry). IsInRange x.content) FEATURES xs range) is.features,
     )
 
 pub item_valid : FieldsInRange → ValuesValid → FeaturesValid → (payload : List ℕ) (item : AnItem) → AreBytes payload → IsItem payload item → ValidItem item
@@ -119,24 +121,24 @@ item_valid in_range values_valid features_valid payload item are_bytes (xs, whol
     by_item (Foreign version content) is = (xs, subst (λ b. Whole b xs) (sym is.2) whole, forms, is.0, is.1)
 
 -- the bytes of a layer of another version
-pub of_version : NoneRest → SplitIs → (payload : List ℕ) (version found : ℕ) → head_fault payload 0 0 ≡ None → version_in (split payload).fields ≡ Some found → found ≡ version → version ≢ 2 → AreOfVersion version payload
-of_version none_rest split_is payload version found head is same other =
-    let parts = head_clean none_rest payload 0 0 head in
+pub of_version : NoneRest → FormsHave → SplitIs → (payload : List ℕ) (version found : ℕ) → head_fault payload 0 0 ≡ None → version_in (split payload).fields ≡ Some found → found ≡ version → version ≢ 2 → AreOfVersion version payload
+of_version none_rest have split_is payload version found head is same other =
+    let parts = head_clean none_rest have payload 0 0 head in
     ((split payload).fields, whole_of split_is payload parts.0, parts.1, is ∙ ap Some same, other)
 
-pub version_of : RestNone → SplitOnly → (payload : List ℕ) (version : ℕ) → AreOfVersion version payload → (head_fault payload 0 0 ≡ None) × (version_in (split payload).fields ≡ Some version) × (version ≢ 2)
-version_of rest_none split_only payload version (xs, whole, forms, is, other) =
+pub version_of : RestNone → FormsClean → SplitOnly → (payload : List ℕ) (version : ℕ) → AreOfVersion version payload → (head_fault payload 0 0 ≡ None) × (version_in (split payload).fields ≡ Some version) × (version ≢ 2)
+version_of rest_none forms_clean split_only payload version (xs, whole, forms, is, other) =
     let only = split_only payload [] xs whole in
     let here : version_in (split payload).fields ≡ Some version = ap version_in (sym only.0) ∙ is in
-    (head_keeps rest_none payload 0 0 version (sym only.1) (subst (HaveForm VERSION IsUint32) only.0 forms) here, here, other)
+    (head_keeps rest_none forms_clean payload 0 0 version (sym only.1) (subst (HaveForm VERSION (HasForm uint32)) only.0 forms) here, here, other)
 
 -- a fault of the head leaves no version
-pub no_version : RestNone → SplitOnly → (payload : List ℕ) (version : ℕ) (e : MessageError) → IsFault e → TellsMessage e (head_fault payload 0 0) → AreOfVersion version payload → ⊥
-no_version rest_none split_only payload version Memory is told_here of = is
-no_version rest_none split_only payload version (Fault feature at cause) is told_here of = let clean = (version_of rest_none split_only payload version of).0 in cc
+pub no_version : RestNone → FormsClean → SplitOnly → (payload : List ℕ) (version : ℕ) (e : MessageError) → IsFault e → TellsMessage e (head_fault payload 0 0) → AreOfVersion version payload → ⊥
+no_version rest_none forms_clean split_only payload version Memory is told_here of = is
+no_version rest_none forms_clean split_only payload version (Fault feature at cause) is told_here of = let clean = (version_of rest_none forms_clean split_only payload version of).0 in cc
 
-pub found_version : RestNone → SplitOnly → (payload : List ℕ) (version found : ℕ) → version_in (split payload).fields ≡ Some found → AreOfVersion version payload → (found ≡ version) × (version ≢ 2)
-found_version rest_none split_only payload version found is of =
-    let parts = version_of rest_none split_only payload version of in
+pub found_version : RestNone → FormsClean → SplitOnly → (payload : List ℕ) (version found : ℕ) → version_in (split payload).fields ≡ Some found → AreOfVersion version payload → (found ≡ version) × (version ≢ 2)
+found_version rest_none forms_clean split_only payload version found is of =
+    let parts = version_of rest_none forms_clean split_only payload version of in
     let same : Some found ≡ Some version = sym is ∙ parts.1 in
     (cc, parts.2)

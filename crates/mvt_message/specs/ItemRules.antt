@@ -1,49 +1,27 @@
 -- The rules that bind a layer's payload (Mapbox Vector Tile Specification 2.1, 4.1, message Layer), as a
 -- table.
-use Rattle.std.specs.Prelude.{ℕ, ◌+◌, ◌^◌, ◌==◌, true, not, nat_lt, List, [], ◌∷◌, length, Option, is_none, if◌then◌else◌}
+use Rattle.std.specs.Prelude.{ℕ, ◌+◌, List, [], ◌∷◌, length, Option, is_none, if◌then◌else◌}
 use Rattle.std.specs.Option.{option_to_list}
 use Rattle.mvt_base.specs.Rules.{Rules, when, told, rows, each, first}
 use Rattle.mvt_attrs.specs.declared.value.Value.{Value}
-use Rattle.mvt_wire.specs.Field.{Content, varint, bytes, Entry}
+use Rattle.mvt_wire.specs.Field.{Entry}
 use Rattle.mvt_wire.specs.Split.{split}
-use Rattle.mvt_feature.specs.declared.cause.Cause.{Cause}
-use Rattle.mvt_feature.specs.declared.cause.Cause.TheVariants.{WrongType, NumberRange, NoVersion, NoName}
+use Rattle.mvt_feature.specs.declared.cause.Cause.TheVariants.{NoVersion, NoName}
 use Rattle.mvt_feature.specs.Faults.{MessageFault, fault_at, in_feature, rest_rules}
 use Rattle.mvt_feature.specs.FeatureRules.{feature_rules}
+use Rattle.mvt_feature.specs.Forms.{forms_rules}
 use Rattle.mvt_feature.specs.Selection.{only, last_only}
-use Rattle.mvt_feature.specs.ValueRules.{text_rules, value_rules}
-use Rattle.mvt_message.specs.declared.numbers.layer.TheConstants.{NAME, FEATURES, KEYS, VALUES, EXTENT, VERSION}
-use Rattle.mvt_message.specs.LayerFields.{bytes_of, version_in, is_two, name_in, keys_in, values_in}
+use Rattle.mvt_feature.specs.ValueRules.{value_rules}
+use Rattle.mvt_message.specs.declared.numbers.layer.TheConstants.{NAME, FEATURES, VALUES, VERSION}
+use Rattle.mvt_message.specs.LayerFields.{version_forms, layer_forms, bytes_of, version_in, is_two, name_in, keys_in, values_in}
 
--- a version or an extent: its form, and then its number
-abbrev pub uint32_rules : Content → Rules Cause
-uint32_rules (varint n) = when (not (nat_lt n (2 ^ 32))) NumberRange
-uint32_rules _ = when true WrongType
-
--- a feature or a value
-abbrev pub bytes_rules : Content → Rules Cause
-bytes_rules (bytes d) = []
-bytes_rules _ = when true WrongType
-
--- a field of this number, as far as versions go
-abbrev pub version_form_rules : ℕ → Content → Rules Cause
-version_form_rules number content = if number == VERSION then uint32_rules content else []
-
+-- the form of a version
 unfoldable pub version_rules : ℕ → Entry → Rules MessageFault
-version_rules base x = told (fault_at (base + x.at)) (version_form_rules x.number x.content)
+version_rules base x = forms_rules version_forms base x
 
--- a field of this number in a layer of version 2
-abbrev pub layer_form_rules : ℕ → Content → Rules Cause
-layer_form_rules number content =
-    if number == NAME then text_rules content
-    else if number == FEATURES then bytes_rules content
-    else if number == KEYS then text_rules content
-    else if number == VALUES then bytes_rules content
-    else if number == EXTENT then uint32_rules content
-    else []
-
+-- the forms of the other fields, in a layer of version 2
 unfoldable pub layer_field_rules : ℕ → Entry → Rules MessageFault
-layer_field_rules base x = told (fault_at (base + x.at)) (layer_form_rules x.number x.content)
+layer_field_rules base x = forms_rules layer_forms base x
 
 -- the value of a field
 abbrev pub value_rules_of : ℕ → Entry → Rules MessageFault

@@ -1,28 +1,20 @@
 -- Items (Mapbox Vector Tile Specification 2.1, 4.1, message Layer): layers of version 2, and others as
 -- their bytes.
-use Rattle.std.specs.Prelude.{◌≡◌, ◌≢◌, ℕ, ◌^◌, ◌<◌, List, [], ◌∷◌, Some, ⊤}
+use Rattle.std.specs.Prelude.{◌≡◌, ◌≢◌, ℕ, List, [], ◌∷◌, Some}
 use Rattle.mvt_base.specs.Related.{AreRelated}
 use Rattle.mvt_attrs.specs.declared.value.Value.{Value}
-use Rattle.mvt_wire.specs.Field.{Content, varint, bytes, Entry}
+use Rattle.mvt_wire.specs.Field.{bytes, Entry}
 use Rattle.mvt_wire.specs.Split.{Whole}
 use Rattle.mvt_feature.specs.declared.feature.Feature.{Feature}
 use Rattle.mvt_feature.specs.Features.{IsFeatureOf}
+use Rattle.mvt_feature.specs.Forms.{uint32, HasForm, HaveForms}
 use Rattle.mvt_feature.specs.Selection.{only, HaveForm}
-use Rattle.mvt_feature.specs.Values.{IsText, IsValueOf}
-use Rattle.mvt_message.specs.declared.numbers.layer.TheConstants.{NAME, FEATURES, KEYS, VALUES, EXTENT, VERSION}
+use Rattle.mvt_feature.specs.Values.{IsValueOf}
+use Rattle.mvt_message.specs.declared.numbers.layer.TheConstants.{FEATURES, VALUES, VERSION}
 use Rattle.mvt_message.specs.declared.item.Item.{Item as AnItem}
 use Rattle.mvt_message.specs.declared.item.Layer.{Layer as ALayer}
 use Rattle.mvt_message.specs.declared.item.Item.TheVariants.{Layer, Foreign}
-use Rattle.mvt_message.specs.LayerFields.{bytes_of, version_in, name_in, extent_in, keys_in}
-
--- the forms of fields
-abbrev pub IsUint32 : Content → Type 0
-IsUint32 (varint n) = n < 2 ^ 32
-IsUint32 _ = ⊥
-
-abbrev pub IsBytes : Content → Type 0
-IsBytes (bytes d) = ⊤
-IsBytes _ = ⊥
+use Rattle.mvt_message.specs.LayerFields.{layer_forms, bytes_of, version_in, name_in, extent_in, keys_in}
 
 -- a field that holds this value, or this feature of a layer with these keys and values
 abbrev pub HoldsValue : Entry → Value → Type 0
@@ -33,11 +25,7 @@ HoldsFeature keys values x feature = IsFeatureOf (bytes_of x.content) keys value
 
 -- fields that are this layer of version 2
 pub record IsLayer (fields : List Entry) (layer : ALayer) : Type 0 where
-  pub names : HaveForm NAME IsText fields
-  pub messages : HaveForm FEATURES IsBytes fields
-  pub texts : HaveForm KEYS IsText fields
-  pub pool : HaveForm VALUES IsBytes fields
-  pub extents : HaveForm EXTENT IsUint32 fields
+  pub forms : HaveForms layer_forms fields
   pub name : name_in fields ≡ Some layer.name
   pub extent : layer.extent ≡ extent_in fields
   pub values : List Value
@@ -52,7 +40,7 @@ AreItem fields payload (Foreign version content) = (version_in fields ≡ Some v
 -- the payload is this item
 unfoldable pub IsItem : List ℕ → AnItem → Type 0
 IsItem payload item =
-    (fields : List Entry) × Whole payload fields × HaveForm VERSION IsUint32 fields × AreItem fields payload item
+    (fields : List Entry) × Whole payload fields × HaveForm VERSION (HasForm uint32) fields × AreItem fields payload item
 
 -- the name of a layer of version 2, as a list of one
 abbrev pub names_in : AnItem → List (List ℕ)

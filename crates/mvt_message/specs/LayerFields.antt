@@ -1,13 +1,22 @@
 -- What the fields of a layer say (Mapbox Vector Tile Specification 2.1, 4.1, message Layer).
-use Rattle.std.specs.Prelude.{ℕ, ◌==◌, Bool, false, List, [], map, Option, Some, None, unwrap_or}
+use Rattle.std.specs.Prelude.{ℕ, ◌==◌, Bool, false, List, [], ◌∷◌, map, Option, Some, None, unwrap_or}
 use Rattle.std.specs.List.{flat_map}
 use Rattle.std.specs.Option.{option_map, option_to_list}
 use Rattle.mvt_attrs.specs.declared.value.Value.{Value}
 use Rattle.mvt_wire.specs.Field.{Content, bytes, Entry}
 use Rattle.mvt_feature.specs.Features.{number_in}
+use Rattle.mvt_feature.specs.Forms.{Form, uint32, string, message}
 use Rattle.mvt_feature.specs.Selection.{only, last_only}
 use Rattle.mvt_feature.specs.ValueIn.{value_in}
-use Rattle.mvt_message.specs.declared.numbers.layer.TheConstants.{NAME, KEYS, VALUES, EXTENT, VERSION}
+use Rattle.mvt_message.specs.declared.numbers.layer.TheConstants.{NAME, FEATURES, KEYS, VALUES, EXTENT, VERSION}
+
+-- the version, which is read first, and the other fields, each by its number and its form
+abbrev pub version_forms : List (ℕ × Form)
+version_forms = (VERSION, uint32) ∷ []
+
+abbrev pub layer_forms : List (ℕ × Form)
+layer_forms =
+    (NAME, string) ∷ ((FEATURES, message) ∷ ((KEYS, string) ∷ ((VALUES, message) ∷ ((EXTENT, uint32) ∷ []))))
 
 -- the bytes of a field
 abbrev pub bytes_of : Content → List ℕ

@@ -6,13 +6,13 @@ use Rattle.mvt_geometry.specs.Valid.{IsOfFirstProfile}
 use Rattle.mvt_wire.specs.Field.{Entry}
 use Rattle.mvt_wire.specs.Split.{Whole}
 use Rattle.mvt_feature.specs.declared.feature.Feature.{Feature}
+use Rattle.mvt_feature.specs.Forms.{uint32, HasForm}
 use Rattle.mvt_feature.specs.Selection.{HaveForm}
 use Rattle.mvt_feature.specs.Valid.{ValidAttribute, ValidFeature}
 use Rattle.mvt_message.specs.declared.numbers.layer.TheConstants.{VERSION}
 use Rattle.mvt_message.specs.declared.item.Item.{Item as AnItem}
 use Rattle.mvt_message.specs.declared.item.Layer.{Layer as ALayer}
 use Rattle.mvt_message.specs.declared.item.Item.TheVariants.{Layer, Foreign}
-use Rattle.mvt_message.specs.Items.{IsUint32}
 use Rattle.mvt_message.specs.LayerFields.{version_in}
 
 unfoldable pub ValidLayer : ALayer → Type 0
@@ -21,7 +21,7 @@ ValidLayer layer = IsUtf8 layer.name × (layer.extent < 2 ^ 32) × AllByRecursio
 -- the bytes of a layer of another version: they are fields, whose versions are in range
 abbrev pub AreOfVersion : ℕ → List ℕ → Type 0
 AreOfVersion version content =
-    (fields : List Entry) × Whole content fields × HaveForm VERSION IsUint32 fields × (version_in fields ≡ Some version) × (version ≢ 2)
+    (fields : List Entry) × Whole content fields × HaveForm VERSION (HasForm uint32) fields × (version_in fields ≡ Some version) × (version ≢ 2)
 
 unfoldable pub ValidItem : AnItem → Type 0
 ValidItem (Layer layer) = ValidLayer layer

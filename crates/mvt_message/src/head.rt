@@ -5,7 +5,8 @@ ghost use Rattle.std.specs.Option.{option_map, option_copied};
 ghost use Rattle.mvt_base.specs.Rules.{first};
 ghost use Rattle.mvt_wire.specs.Field.{Entry, content_of, entry_of};
 ghost use Rattle.mvt_feature.specs.Faults.{TellsMessage, fault_at as the_fault_at};
-ghost use Rattle.mvt_message.specs.ItemRules.{layer_form_rules};
+ghost use Rattle.mvt_feature.specs.Forms.{number_rules};
+ghost use Rattle.mvt_message.specs.LayerFields.{layer_forms};
 ghost use Rattle.mvt_message.specs.Inner.{name_after, extent_after, keys_at, IsHeadSoFar};
 
 use crate::numbers::layer;
@@ -39,7 +40,7 @@ impl<'a> Head<'a> {
     /// Takes one more field, which is told to stand at this place.
     #[inline(always)]
     fn take(&mut self, alloc: Global, field: &Field<'a>, at: u64) -> Result<(), MessageError>
-        ensures ok { OnOk result (first (layer_form_rules field.now.number (content_of field.now.payload)) ≡ None) }
+        ensures ok { OnOk result (first (number_rules layer_forms field.now.number (content_of field.now.payload)) ≡ None) }
         ensures name { OnOk result (option_copied self.new.name
             ≡ name_after (option_copied self.old.name) field.now.number (content_of field.now.payload)) }
         ensures extent { OnOk result (self.new.extent
@@ -47,7 +48,7 @@ impl<'a> Head<'a> {
         ensures keys { OnOk result (self.new.keys.items
             ≡ self.old.keys.items ++ keys_at field.now.number (content_of field.now.payload)) }
         ensures err { IfErr result (λ error. TellsMessage error
-            (option_map (the_fault_at at) (first (layer_form_rules field.now.number (content_of field.now.payload))))) }
+            (option_map (the_fault_at at) (first (number_rules layer_forms field.now.number (content_of field.now.payload))))) }
     {
         let payload = &field.payload;
         match field.number {

@@ -21,6 +21,7 @@ pub fn item_or_fault()
 {
     mvt_wire::laws::split_function();
     mvt_feature::laws::rests();
+    mvt_feature::laws::forms();
     mvt_feature::laws::value_function();
     mvt_feature::laws::value_or_fault();
     mvt_feature::laws::feature_or_fault();
@@ -32,6 +33,7 @@ pub fn item_in_order()
     ensures ordered { (b : List ℕ) (base own : ℕ) → AreOrdered (item_rules b base own) }
 {
     mvt_feature::laws::rests();
+    mvt_feature::laws::forms();
     mvt_feature::laws::value_fault_is_least();
     mvt_feature::laws::feature_fault_is_least();
 }

@@ -10,6 +10,7 @@ ghost use Rattle.mvt_message.specs.ValidItems.{ValidLayer};
 
 use crate::below::pool_laws;
 use crate::item::Layer;
+use crate::numbers::layer;
 use crate::put::PutError;
 use mvt_attrs::{KeyPool, ValuePool};
 use mvt_base::LIMIT;
@@ -29,7 +30,7 @@ pub(crate) fn layer_len(alloc: Global, layer: &Layer) -> Result<u64, PutError>
     let mut keys = KeyPool::new(alloc);
     let mut values = ValuePool::new(alloc);
     // The version takes two bytes.
-    let len = with_field(2, 1, layer.name.as_str().len() as u64)?;
+    let len = with_field(2, layer::NAME, layer.name.as_str().len() as u64)?;
     let len = with_features(
         alloc,
         layer.features.as_slice(),
@@ -98,7 +99,7 @@ fn with_features(
     for feature in features {
         payload.clear();
         append_feature(&mut payload, feature, keys, values, &mut room)?;
-        len = with_field(len, 2, payload.len() as u64)?;
+        len = with_field(len, layer::FEATURES, payload.len() as u64)?;
     }
     Ok(len)
 }
@@ -113,7 +114,7 @@ fn with_keys(start: u64, keys: &KeyPool) -> Result<u64, PutError>
     let mut len = start;
     for index in 0..keys.len() as u32 {
         match keys.get(index) {
-            Some(key) => len = with_field(len, 3, key.len() as u64)?,
+            Some(key) => len = with_field(len, layer::KEYS, key.len() as u64)?,
             None => unreachable!(),
         }
     }
@@ -130,7 +131,7 @@ fn with_values(start: u64, values: &ValuePool) -> Result<u64, PutError>
     let mut len = start;
     for index in 0..values.len() as u32 {
         match values.get(index) {
-            Some(value) => len = with_field(len, 4, value_len(value))?,
+            Some(value) => len = with_field(len, layer::VALUES, value_len(value))?,
             None => unreachable!(),
         }
     }

@@ -5,9 +5,8 @@ ghost use Rattle.mvt_base.specs.Rules.{first};
 ghost use Rattle.mvt_wire.specs.Field.{content_of};
 ghost use Rattle.mvt_feature.specs.Faults.{TellsMessage, fault_at as the_fault_at};
 ghost use Rattle.mvt_feature.specs.Features.{number_of};
-ghost use Rattle.mvt_feature.specs.ValueRules.{text_rules};
+ghost use Rattle.mvt_feature.specs.Forms.{uint32, string, message, form_rules};
 ghost use Rattle.mvt_message.specs.LayerFields.{bytes_of as the_bytes_of};
-ghost use Rattle.mvt_message.specs.ItemRules.{uint32_rules, bytes_rules};
 ghost use Rattle.mvt_message.specs.Inner.{IsFault};
 
 use mvt_feature::{Cause, MessageError, fault_at};
@@ -29,8 +28,8 @@ pub(crate) fn bytes_of<'a>(payload: &Payload<'a>) -> &'a [u8]
 /// Whether a field has the form of a message.
 #[inline(always)]
 pub(crate) fn check_bytes(payload: &Payload<'_>, at: u64) -> Result<(), MessageError>
-    ensures ok { OnOk result (first (bytes_rules (content_of payload.now)) ≡ None) }
-    ensures err { IfErr result (λ error. TellsMessage error (option_map (the_fault_at at) (first (bytes_rules (content_of payload.now))))) }
+    ensures ok { OnOk result (first (form_rules message (content_of payload.now)) ≡ None) }
+    ensures err { IfErr result (λ error. TellsMessage error (option_map (the_fault_at at) (first (form_rules message (content_of payload.now))))) }
 {
     let Payload::Len(_) = payload else {
         return Err(fault_at(at, Cause::WrongType));
@@ -42,8 +41,8 @@ pub(crate) fn check_bytes(payload: &Payload<'_>, at: u64) -> Result<(), MessageE
 #[inline(always)]
 pub(crate) fn text_of<'a>(payload: &Payload<'a>, at: u64) -> Result<&'a str, MessageError>
     ensures text { IfOk result (λ text. text.now ≡ the_bytes_of (content_of payload.now)) }
-    ensures ok { OnOk result (first (text_rules (content_of payload.now)) ≡ None) }
-    ensures err { IfErr result (λ error. TellsMessage error (option_map (the_fault_at at) (first (text_rules (content_of payload.now))))) }
+    ensures ok { OnOk result (first (form_rules string (content_of payload.now)) ≡ None) }
+    ensures err { IfErr result (λ error. TellsMessage error (option_map (the_fault_at at) (first (form_rules string (content_of payload.now))))) }
 {
     match mvt_feature::text_of(payload) {
         Ok(text) => Ok(text),
@@ -54,8 +53,8 @@ pub(crate) fn text_of<'a>(payload: &Payload<'a>, at: u64) -> Result<&'a str, Mes
 #[inline(always)]
 pub(crate) fn uint32_of(payload: &Payload<'_>, at: u64) -> Result<u32, MessageError>
     ensures number { IfOk result (λ n. number_of (content_of payload.now) ≡ Some n) }
-    ensures ok { OnOk result (first (uint32_rules (content_of payload.now)) ≡ None) }
-    ensures err { IfErr result (λ error. TellsMessage error (option_map (the_fault_at at) (first (uint32_rules (content_of payload.now))))) }
+    ensures ok { OnOk result (first (form_rules uint32 (content_of payload.now)) ≡ None) }
+    ensures err { IfErr result (λ error. TellsMessage error (option_map (the_fault_at at) (first (form_rules uint32 (content_of payload.now))))) }
     ensures fault { IfErr result IsFault }
 {
     let Payload::Varint(number) = payload else {

@@ -1,12 +1,9 @@
 //! The values of a layer (Mapbox Vector Tile Specification 2.1, 4.1).
-ghost use Rattle.std.specs.Prelude.{◌≡◌, ◌+◌, ◌^◌, ◌<◌, List, [], ◌∷◌, ◌++◌, length, None, IfOk, IfErr, OnOk};
-ghost use Rattle.mvt_base.specs.Related.{AreRelated};
+ghost use Rattle.std.specs.Prelude.{◌≡◌, ◌+◌, ◌^◌, ◌<◌, List, [], ◌∷◌, ◌++◌, None, IfErr, OnOk};
 ghost use Rattle.mvt_wire.specs.Field.{Entry, entry_of, content_of};
 ghost use Rattle.mvt_wire.specs.Fields.{bytes_size};
-ghost use Rattle.mvt_wire.specs.Split.{split};
 ghost use Rattle.mvt_feature.specs.Faults.{TellsMessage};
 ghost use Rattle.mvt_feature.specs.Selection.{only};
-ghost use Rattle.mvt_message.specs.Items.{HoldsValue};
 ghost use Rattle.mvt_message.specs.Inner.{values_fault, AreValuesHeld, AreValuesSaid};
 
 use crate::numbers::layer;

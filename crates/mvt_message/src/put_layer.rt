@@ -7,6 +7,7 @@ ghost use Rattle.mvt_feature.specs.declared.feature.Feature.{Feature as OneFeatu
 ghost use Rattle.mvt_message.specs.CanonicalItems.{keys_of, values_of, head_fields, feature_field, key_field, value_field, extent_fields};
 
 use crate::below::pool_laws;
+use crate::numbers::layer;
 use crate::put::PutError;
 use mvt_attrs::{KeyPool, ValuePool};
 use mvt_base::LIMIT;
@@ -18,8 +19,8 @@ use std::alloc::{AllocError, Global};
 pub(crate) fn put_head(out: &mut Vec<u8>, name: &str) -> Result<(), AllocError>
     ensures { OnOk result (out.new.items ≡ out.old.items ++ spelled (head_fields name.now)) }
 {
-    put_field(out, 15, &Payload::Varint(2))?;
-    put_field(out, 1, &Payload::Len(name.as_bytes()))
+    put_field(out, layer::VERSION, &Payload::Varint(2))?;
+    put_field(out, layer::NAME, &Payload::Len(name.as_bytes()))
 }
 
 /// Appends the features; their keys and values are placed in the pools.
@@ -49,7 +50,7 @@ pub(crate) fn put_features(
     for feature in features {
         payload.clear();
         append_feature(&mut payload, feature, keys, values, &mut room)?;
-        put_field(out, 2, &Payload::Len(&payload))?;
+        put_field(out, layer::FEATURES, &Payload::Len(&payload))?;
         if out.len() as u64 > LIMIT {
             return Err(PutError::TooLarge);
         }
@@ -63,7 +64,7 @@ pub(crate) fn put_keys(out: &mut Vec<u8>, keys: &KeyPool) -> Result<(), AllocErr
 {
     for index in 0..keys.len() as u32 {
         match keys.get(index) {
-            Some(key) => put_field(out, 3, &Payload::Len(key.as_bytes()))?,
+            Some(key) => put_field(out, layer::KEYS, &Payload::Len(key.as_bytes()))?,
             None => unreachable!(),
         }
     }
@@ -77,7 +78,7 @@ pub(crate) fn put_values(out: &mut Vec<u8>, values: &ValuePool) -> Result<(), Al
     for index in 0..values.len() as u32 {
         match values.get(index) {
             Some(value) => {
-                put_field_head(out, 4, value_len(value))?;
+                put_field_head(out, layer::VALUES, value_len(value))?;
                 append_value(out, value)?;
             }
             None => unreachable!(),
@@ -90,5 +91,5 @@ pub(crate) fn put_values(out: &mut Vec<u8>, values: &ValuePool) -> Result<(), Al
 pub(crate) fn put_extent(out: &mut Vec<u8>, extent: u32) -> Result<(), AllocError>
     ensures { OnOk result (out.new.items ≡ out.old.items ++ spelled (extent_fields extent)) }
 {
-    put_field(out, 5, &Payload::Varint(u64::from(extent)))
+    put_field(out, layer::EXTENT, &Payload::Varint(u64::from(extent)))
 }

@@ -14,7 +14,7 @@ use crate::features::read_features;
 use crate::front::{Front, read_front};
 use crate::item::{Item, Layer};
 use mvt_base::{Items, LIMIT, Text};
-use mvt_feature::laws::{read_is_valid, rests, value_function};
+use mvt_feature::laws::{forms, read_is_valid, rests, value_function};
 use mvt_feature::{Cause, Feature, MessageError, fault_at};
 use mvt_wire::laws::split_function;
 use std::alloc::Global;
@@ -37,6 +37,7 @@ pub fn read_item(alloc: Global, payload: &[u8], base: u64, own: u64) -> Result<I
     // What the proof needs to know of the levels below; it does nothing.
     split_function();
     rests();
+    forms();
     read_is_valid();
     let (version, front) = read_front(alloc, payload, base, own, true)?;
     if version == 2 {
@@ -125,8 +126,9 @@ fn read_parts<'a>(
         × AreParts keeps layer parts.name.now parts.extent parts.features.items) }
     ensures fault { IfErr result (λ error. TellsMessage error (layer_fault base own (split payload.now).fields)) }
 {
-    // What the proof needs to know of values; it does nothing.
+    // What the proof needs to know of values and of forms; they do nothing.
     value_function();
+    forms();
     let Front {
         head,
         head_fault,

@@ -8,7 +8,7 @@ ghost use Rattle.mvt_message.specs.Inner.{head_fault, IsFault, IsVersionSoFar};
 
 use crate::numbers::layer;
 use crate::payload::uint32_of;
-use mvt_feature::laws::{rests, walks};
+use mvt_feature::laws::{forms, rests, walks};
 use mvt_feature::{Cause, MessageError, fault_at, rest_fault};
 use mvt_wire::{Field, Fields};
 
@@ -70,8 +70,9 @@ pub(crate) fn version_of(
         → IfErr result (λ error. TellsMessage error (head_fault payload base own)) }
     ensures fault { IfErr version IsFault → IfErr result IsFault }
 {
-    // What the proof needs to know of rests; it does nothing.
+    // What the proof needs to know of rests and of forms; they do nothing.
     rests();
+    forms();
     match version? {
         Some(version) => Ok(version),
         None => Err(fault_at(own, Cause::NoVersion)),

@@ -8,6 +8,7 @@ ghost use Rattle.mvt_wire.specs.Field.{bytes};
 ghost use Rattle.mvt_wire.specs.Spelling.{short_field, spelled};
 ghost use Rattle.mvt_message.specs.CanonicalItems.{canonical_item};
 ghost use Rattle.mvt_message.specs.ValidItems.{ValidItem};
+ghost use Rattle.mvt_tile.specs.declared.numbers.tile.TheConstants.{LAYERS};
 ghost use Rattle.mvt_tile.specs.Bounds.{items_bound};
 ghost use Rattle.mvt_tile.specs.CanonicalTiles.{canonical, item_field};
 ghost use Rattle.mvt_tile.specs.Tiles.{IsTile};
@@ -15,6 +16,7 @@ ghost use Rattle.mvt_tile.specs.ValidTiles.{Valid};
 ghost use Rattle.mvt_tile.specs.Writing.{IsWriteFault, IsWriteKind};
 
 use crate::below;
+use crate::numbers::tile;
 use crate::tile::Tile;
 use crate::write_error::WriteError;
 use mvt_base::LIMIT;
@@ -132,13 +134,13 @@ fn items_len(alloc: Global, items: &[Item]) -> Result<u64, PutError>
 /// How many bytes the field of an item has.
 fn layer_len(alloc: Global, item: &Item) -> Result<u64, PutError>
     requires { ValidItem item.now }
-    ensures len { IfOk result (λ len. len ≡ length (short_field 3 (bytes (canonical_item item.now)))) }
+    ensures len { IfOk result (λ len. len ≡ length (short_field LAYERS (bytes (canonical_item item.now)))) }
     ensures most { IfOk result (λ len. len ≤ LIMIT + 20) }
     ensures too_large { IsErrOf result PutError.TooLarge → LIMIT < length (canonical_item item.now) }
 {
     below::writing_laws();
     let len = item_len(alloc, item)?;
-    Ok(field_len(3, len))
+    Ok(field_len(tile::LAYERS, len))
 }
 
 /// Writes items one after the other.
@@ -170,11 +172,11 @@ fn write_items<W: Sink>(alloc: Global, items: &[Item], writer: &mut W) -> Result
 fn write_item<W: Sink>(alloc: Global, item: &Item, writer: &mut W) -> Result<(), WriteError>
     requires { ValidItem item.now }
     ensures taken { OnOk result (Appends (W.taken writer.old) (W.taken writer.new)
-        (short_field 3 (bytes (canonical_item item.now)))) }
+        (short_field LAYERS (bytes (canonical_item item.now)))) }
     ensures honest { OnOk result (W.failed writer.new ≡ W.failed writer.old) }
     ensures too_large { IsErrOf result WriteError.TooLarge → LIMIT < length (canonical_item item.now) }
     ensures prefix { OnErr result (TakesPrefix (W.taken writer.old) (W.taken writer.new)
-        (short_field 3 (bytes (canonical_item item.now)))) }
+        (short_field LAYERS (bytes (canonical_item item.now)))) }
     ensures failed { IfErr result (λ error. IsWriteFault error
         → HasFailed (W.failed writer.old) (W.failed writer.new)) }
     ensures ended { IfErr result (λ error. IsWriteFault error → W.ended writer.new ≡ true) }
@@ -195,10 +197,10 @@ fn write_item<W: Sink>(alloc: Global, item: &Item, writer: &mut W) -> Result<(),
 fn append_item(alloc: Global, out: &mut Vec<u8>, item: &Item) -> Result<(), PutError>
     requires { ValidItem item.now }
     ensures put { OnOk result
-        (out.new.items ≡ out.old.items ++ short_field 3 (bytes (canonical_item item.now))) }
+        (out.new.items ≡ out.old.items ++ short_field LAYERS (bytes (canonical_item item.now))) }
     ensures too_large { IsErrOf result PutError.TooLarge → LIMIT < length (canonical_item item.now) }
 {
     let payload = put_item(alloc, item)?;
-    put_field(out, 3, &Payload::Len(payload.as_slice()))?;
+    put_field(out, tile::LAYERS, &Payload::Len(payload.as_slice()))?;
     Ok(())
 }

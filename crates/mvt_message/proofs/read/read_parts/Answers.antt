@@ -55,6 +55,6 @@ returns-clause-layer c =
     let features = c.in_ok-features.ensures.features values.0 values.2 in
     let layer : ALayer = record { name = c.in-Some-name.name.now; extent = c.args.front.head.extent; features = features.0 } in (
       layer,
-      layer_read c.args.base c.args.own fields layer c.in-Some-name.name.now c.args.front.head.extent c.deref.result.now values.0 head.clean name refl head.extent_is refl keys values.1.1 features.1,
+      layer_read c.forms.ensures.have c.args.base c.args.own fields layer c.in-Some-name.name.now c.args.front.head.extent c.deref.result.now values.0 head.clean name refl head.extent_is refl keys values.1.1 features.1,
       record { name_is = refl; extent_is = refl; features_are = features.2 },
     )

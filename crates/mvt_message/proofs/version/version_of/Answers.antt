@@ -11,4 +11,4 @@ returns-in_err-version-clause-err c = λ payload base whole so_far.
 pub returns-in-None-clause-err : goal.returns-in-None-clause-err
 returns-in-None-clause-err c = λ payload base whole so_far.
     let now = rw c.in_ok-version.was at so_far in
-    rw c.fault_at.ensures (head_none c.rests.ensures.none payload base c.args.own whole now.0 (sym c.in-None.is ∙ now.1))
+    rw c.fault_at.ensures (head_none c.rests.ensures.none c.forms.ensures.have payload base c.args.own whole now.0 (sym c.in-None.is ∙ now.1))

@@ -1,0 +1,5 @@
+use Rattle.mvt_feature.proofs.FormLemmas.{forms_have, forms_clean, forms_ordered}
+use Rattle.mvt_feature.proofs.laws.forms.Goals as goal
+
+pub returns : goal.returns
+returns c = record { have = forms_have; clean = forms_clean; ordered = forms_ordered }
