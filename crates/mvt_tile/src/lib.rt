@@ -16,6 +16,8 @@ mod note;
 mod noting;
 mod reading;
 mod round_trip;
+mod survey;
+mod surveying;
 mod taking;
 #[cfg(test)]
 mod tests;
@@ -39,6 +41,8 @@ pub use note::Note;
 pub use noting::notes;
 pub use reading::{MOST_READS, read_tile};
 pub use round_trip::write_and_read;
+pub use survey::Survey;
+pub use surveying::survey_tile;
 pub use tile::Tile;
 pub use validity::{is_valid, validate};
 pub use write_error::WriteError;
