@@ -1,9 +1,9 @@
 //! The command `check`.
-ghost use Rattle.std.specs.Prelude.{◌≡◌, ◌+◌, ◌≤◌, max, length, IfOk, IfErr, IfSome, OnOk};
+ghost use Rattle.std.specs.Prelude.{◌≡◌, ◌+◌, ◌≤◌, max, IfOk, IfErr, IfSome, OnOk};
 ghost use Rattle.mvt_io.specs.Transfers.{TakesAtMost};
-ghost use Rattle.mvt_tile.specs.ValidTiles.{Valid};
+ghost use Rattle.mvt_view.specs.Reports.{survey_lines};
 ghost use Rattle.mvt_tasks.specs.Failures.{EndsFailed, IsCaused};
-ghost use Rattle.mvt_tasks.specs.Output.{IsReply, HasOutput, done, check_lines};
+ghost use Rattle.mvt_tasks.specs.Output.{IsReply, HasOutput, done};
 
 use crate::failure::Failure;
 use crate::refusal::refusal;
@@ -11,8 +11,8 @@ use crate::reply::Reply;
 use crate::task::Task;
 use mvt_base::{LIMIT, Text};
 use mvt_io::{Source, read_up_to};
-use mvt_tile::{MOST_READS, Tile, decode, is_canonical};
-use mvt_view::report_text;
+use mvt_tile::{MOST_READS, Survey, survey_tile};
+use mvt_view::survey_text;
 use std::alloc::Global;
 
 /// Checks a tile, and reports on it.
@@ -35,8 +35,8 @@ fn checked(alloc: Global, input: &[u8]) -> Result<Reply, Failure>
     ensures output { IfOk result HasOutput }
     ensures failed { IfErr result (λ failure. failure ≡ Failure.Memory) }
 {
-    match decode(alloc, input) {
-        Ok(tile) => reported(alloc, &tile, input),
+    match survey_tile(alloc, input) {
+        Ok(survey) => reported(alloc, &survey),
         Err(error) => Ok(Reply {
             written: None,
             told: Some(refusal(alloc, error)?),
@@ -44,14 +44,11 @@ fn checked(alloc: Global, input: &[u8]) -> Result<Reply, Failure>
     }
 }
 
-fn reported(alloc: Global, tile: &Tile, input: &[u8]) -> Result<Reply, Failure>
-    requires valid { Valid tile.now }
-    requires small { length input.now ≤ LIMIT }
-    ensures reply { IfOk result (λ reply. reply ≡ done (check_lines input.now tile.now)) }
+fn reported(alloc: Global, survey: &Survey) -> Result<Reply, Failure>
+    ensures reply { IfOk result (λ reply. reply ≡ done (survey_lines survey.now)) }
     ensures failed { IfErr result (λ failure. failure ≡ Failure.Memory) }
 {
-    let canonical = is_canonical(alloc, tile, input)?;
-    let text = report_text(alloc, tile, canonical)?;
+    let text = survey_text(alloc, survey)?;
     Ok(Reply {
         written: Some(Text::from_string(text)?),
         told: None,

@@ -1,14 +1,11 @@
 -- Bytes compared with the fields of items, one after the other.
-use Rattle.std.proofs.Common.{◌≡◌, ◌≢◌, ◌↔◌, ℕ, ◌+◌, ◌<◌, ◌≤◌, Bool, ◌==◌, List, [], ◌∷◌, ◌++◌, length, take, drop, get_or, Option, Some, None, MatchOption, Bor, refl, sym, ap, ◌∙◌, arith, append_assoc, append-nil}
+use Rattle.std.proofs.Common.{◌≡◌, ◌≢◌, ◌↔◌, ℕ, ◌+◌, ◌<◌, ◌≤◌, Bool, ◌==◌, List, [], ◌∷◌, ◌++◌, length, take, drop, get_or, Option, Some, None, Bor, refl, sym, ap, ◌∙◌, arith, append_assoc, append-nil}
 use Rattle.std.specs.Prelude.{IsTrue}
 use Rattle.std.proofs.lemmas.Bool.{eqb-true, eq-eqb}
 use Rattle.std.proofs.lemmas.List.{append_cancel_left}
 use Rattle.mvt_message.specs.declared.item.Item.{Item}
+use Rattle.mvt_tile.specs.Inner.Comparing.{IsBehind}
 use Rattle.mvt_tile.proofs.WritingLemmas.{written, field_of, written_more, written_parts, written_all}
-
--- what is not at the front of some bytes, or what stands behind it
-abbrev pub IsBehind : List ℕ → List ℕ → Option (Bor (List ℕ)) → Type 0
-IsBehind bytes front behind = MatchOption behind ((more : List ℕ) → bytes ≢ front ++ more) (λ rest. bytes ≡ front ++ rest.now)
 
 pub behind_parts : (bytes head body payload front : List ℕ) (r : Option (Bor (List ℕ))) → front ≡ head ++ payload → bytes ≡ head ++ body → IsBehind body payload r → IsBehind bytes front r
 behind_parts bytes head body payload front None is at none =
@@ -29,7 +26,7 @@ pub parts_differ : (items : List Item) (i : ℕ) (item : Item) (bytes rest : Lis
 parts_differ items i item bytes rest h is so_far differs e =
     differs (written (drop (i + 1) items)) (append_cancel_left (written (take i items)) rest (field_of item ++ written (drop (i + 1) items)) (sym so_far ∙ e ∙ written_parts items i item h is))
 
-none_left : (rest : List ℕ) → length rest ≡ 0 → rest ≡ []
+pub none_left : (rest : List ℕ) → length rest ≡ 0 → rest ≡ []
 none_left [] e = refl
 none_left (x ∷ rest) e = absurd (omega arith)
 

@@ -18,3 +18,4 @@ pub mod RoundTripLemmas
 pub mod ExtractionLemmas
 pub mod PickLemmas
 pub mod NoteLemmas
+pub mod SurveyLemmas

@@ -1,6 +1,7 @@
 -- The names of the layers that are judged.
 use Rattle.std.proofs.Common.{◌≡◌, ℕ, ◌+◌, ◌≤◌, Bool, true, false, not, ◌||◌, List, [], ◌∷◌, ◌++◌, length, None, Result, Ok, Err, OnOk, bytes_eq, refl, sym, ap, ap₂, subst, ◌∙◌, arith, length-append}
 use Rattle.std.specs.List.{list_any, flat_map}
+use Rattle.std.proofs.lemmas.Bool.{not-true}
 use Rattle.std.proofs.lemmas.List.Folds.{list_any-append}
 use Rattle.mvt_wire.specs.Field.{Entry}
 use Rattle.mvt_message.specs.declared.item.Item.{Item}
@@ -19,7 +20,7 @@ use Rattle.mvt_tile.proofs.NameLemmas.{names_more}
 pub named_none : (keys : List (List ℕ)) → keys ≡ [] → AreNamed 0 keys []
 named_none keys e = record { counted = refl; named = λ n. ap (list_any (bytes_eq n)) e }
 
-named_more : (count : ℕ) (names after : List (List ℕ)) (items : List Item) (item : Item) → AreNamed count names items
+pub named_more : (count : ℕ) (names after : List (List ℕ)) (items : List Item) (item : Item) → AreNamed count names items
     → ((n : List ℕ) → list_any (bytes_eq n) after ≡ (list_any (bytes_eq n) names || list_any (bytes_eq n) (names_in item)))
     → AreNamed (count + 1) after (items ++ item ∷ [])
 named_more count names after items item are more = record {
@@ -65,3 +66,16 @@ module _ (laws : ItemLaws) (count : ℕ) (names : List (List ℕ)) (items : List
   named_twice added e no_more index is_count =
       subst (λ n. Tells (Fault (repeated_at n own)) (payload_fault (length items) (flat_map names_in items) d base own)) (sym (is_count ∙ are.counted))
       (tells_repeated laws (length items) (flat_map names_in items) d base own item added none is (e ∙ ap not test) no_more)
+
+-- an item that is read and whose name isn't new, or is
+
+pub named_again : ItemLaws → (count : ℕ) (names : List (List ℕ)) (items : List Item) (d : List ℕ) (base own : ℕ) (item : Item) (added : Bool) → AreNamed count names items → item_fault d base own ≡ None → IsItem d item
+    → added ≡ not (repeats names (names_in item)) → added ≡ false → Tells (Fault (repeated_at count own)) (payload_fault (length items) (flat_map names_in items) d base own)
+named_again laws count names items d base own item added are none is e no_more =
+    subst (λ n. Tells (Fault (repeated_at n own)) (payload_fault (length items) (flat_map names_in items) d base own)) (sym are.counted)
+    (tells_repeated laws (length items) (flat_map names_in items) d base own item added none is (e ∙ ap not (repeats_by names (flat_map names_in items) (names_in item) are.named)) no_more)
+
+pub named_new : (count : ℕ) (names : List (List ℕ)) (items : List Item) (item : Item) (added : Bool) → AreNamed count names items → added ≡ not (repeats names (names_in item)) → added ≡ true
+    → repeats (flat_map names_in items) (names_in item) ≡ false
+named_new count names items item added are e new =
+    sym (repeats_by names (flat_map names_in items) (names_in item) are.named) ∙ not-true (repeats names (names_in item)) (sym e ∙ new)

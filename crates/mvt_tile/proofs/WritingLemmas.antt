@@ -28,7 +28,7 @@ pub written-append : (xs ys : List Item) → written (xs ++ ys) ≡ written xs +
 written-append xs ys =
     ap spelled (map-append item_field xs ys) ∙ flat_map-append (λ (f : Plain). short_field f.number f.content) (map item_field xs) (map item_field ys)
 
-written_one : (item : Item) → written (item ∷ []) ≡ field_of item
+pub written_one : (item : Item) → written (item ∷ []) ≡ field_of item
 written_one item = append-nil (field_of item)
 
 pub written_more : (items : List Item) (i : ℕ) (item : Item) → i < length items → item ≡ get_or items i item → written (take (i + 1) items) ≡ written (take i items) ++ field_of item

@@ -1,5 +1,7 @@
 -- What the laws of the crates below say, together.
+pub mod Comparing
 pub mod Judging
+pub mod Surveying
 pub mod Taking
 use Rattle.std.specs.Prelude.{◌≡◌, ◌≢◌, ℕ, ◌+◌, ◌≤◌, List, [], ◌++◌, length, None}
 use Rattle.std.specs.List.{AllByRecursion}

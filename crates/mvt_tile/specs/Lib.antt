@@ -10,3 +10,4 @@ pub mod Reading
 pub mod Writing
 pub mod Extraction
 pub mod Notes
+pub mod Survey

@@ -1,10 +1,11 @@
 //! Whether bytes are the canonical bytes of a tile.
-ghost use Rattle.std.specs.Prelude.{◌≡◌, ◌≢◌, ◌↔◌, ◌≤◌, ◌++◌, ℕ, List, length, IfOk, IsTrue, MatchOption};
+ghost use Rattle.std.specs.Prelude.{◌≡◌, ◌↔◌, ◌≤◌, ◌++◌, ℕ, List, length, IfOk, IsTrue};
 ghost use Rattle.mvt_wire.specs.Field.{bytes as in_bytes};
 ghost use Rattle.mvt_wire.specs.Spelling.{short_field};
 ghost use Rattle.mvt_message.specs.CanonicalItems.{canonical_item};
 ghost use Rattle.mvt_message.specs.ValidItems.{ValidItem};
 ghost use Rattle.mvt_tile.specs.CanonicalTiles.{canonical};
+ghost use Rattle.mvt_tile.specs.Inner.Comparing.{IsBehind};
 ghost use Rattle.mvt_tile.specs.ValidTiles.{Valid};
 
 use crate::below;
@@ -36,16 +37,14 @@ pub fn is_canonical(alloc: Global, tile: &Tile, bytes: &[u8]) -> Result<bool, Al
 }
 
 /// What stands behind the field of an item, where that is at the front of some bytes.
-fn behind_item<'b>(
+pub(crate) fn behind_item<'b>(
     alloc: Global,
     item: &Item,
     bytes: &'b [u8],
 ) -> Result<Option<&'b [u8]>, AllocError>
     requires valid { ValidItem item.now }
     requires small { length bytes.now ≤ LIMIT }
-    ensures { IfOk result (λ behind. MatchOption behind
-        ((more : List ℕ) → bytes.now ≢ short_field 3 (in_bytes (canonical_item item.now)) ++ more)
-        (λ rest. bytes.now ≡ short_field 3 (in_bytes (canonical_item item.now)) ++ rest.now)) }
+    ensures { IfOk result (IsBehind bytes.now (short_field 3 (in_bytes (canonical_item item.now)))) }
 {
     below::writing_laws();
     let payload = match put_item(alloc, item) {

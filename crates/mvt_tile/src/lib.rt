@@ -17,6 +17,8 @@ mod noting;
 pub mod numbers;
 mod reading;
 mod round_trip;
+mod survey;
+mod surveying;
 mod taking;
 #[cfg(test)]
 mod tests;
@@ -40,6 +42,8 @@ pub use note::Note;
 pub use noting::notes;
 pub use reading::{MOST_READS, read_tile};
 pub use round_trip::write_and_read;
+pub use survey::Survey;
+pub use surveying::survey_tile;
 pub use tile::Tile;
 pub use validity::{is_valid, validate};
 pub use write_error::WriteError;

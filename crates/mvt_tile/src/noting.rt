@@ -25,7 +25,7 @@ pub fn notes(alloc: Global, tile: &Tile) -> Result<Vec<Note>, AllocError>
     Ok(notes)
 }
 
-fn note_if(notes: &mut Vec<Note>, test: bool, note: Note) -> Result<(), AllocError>
+pub(crate) fn note_if(notes: &mut Vec<Note>, test: bool, note: Note) -> Result<(), AllocError>
     ensures { OnOk result (notes.new.items ≡ notes.old.items ++ the_note_if test note) }
 {
     if test {
@@ -43,7 +43,7 @@ fn note_items(alloc: Global, notes: &mut Vec<Note>, items: &[Item]) -> Result<()
     Ok(())
 }
 
-fn note_item(
+pub(crate) fn note_item(
     alloc: Global,
     notes: &mut Vec<Note>,
     index: usize,

@@ -15,7 +15,7 @@ mod xml;
 
 pub use fault::fault_text;
 pub use fields::{FieldsText, fields_text};
-pub use report::report_text;
+pub use report::{report_text, survey_text};
 pub use svg::svg_text;
 pub use tile_json::{json_of, json_text};
 pub use view_error::ViewError;

@@ -1,11 +1,12 @@
 //! The report on a tile that was accepted.
 ghost use Rattle.std.specs.Prelude.{◌≡◌, ◌++◌, OnOk, IfOk, string_bytes};
 ghost use Rattle.std.specs.List.{flat_map, sum_by};
-ghost use Rattle.mvt_view.specs.Reports.{feature_count, head_line, note_line, report_lines};
+ghost use Rattle.mvt_tile.specs.Survey.{feature_count};
+ghost use Rattle.mvt_view.specs.Reports.{head_line, note_line, report_lines, survey_lines};
 
 use crate::view_error::ViewError;
 use mvt_message::Item;
-use mvt_tile::{Note, Tile, notes};
+use mvt_tile::{Items, Note, Survey, Tile, notes};
 use std::alloc::{AllocError, Global};
 use std::fmt::Write;
 
@@ -16,20 +17,32 @@ use std::fmt::Write;
 pub fn report_text(alloc: Global, tile: &Tile, canonical: bool) -> Result<String, ViewError>
     ensures { IfOk result (λ text. string_bytes text ≡ report_lines tile.now canonical) }
 {
-    let notes = notes(alloc, tile)?;
+    let survey = Survey {
+        layers: tile.items.as_slice().len(),
+        features: count_features(tile),
+        is_canonical: canonical,
+        notes: Items::new(notes(alloc, tile)?),
+    };
+    survey_text(alloc, &survey)
+}
+
+/// The same of a tile that was surveyed.
+pub fn survey_text(alloc: Global, survey: &Survey) -> Result<String, ViewError>
+    ensures { IfOk result (λ text. string_bytes text ≡ survey_lines survey.now) }
+{
     let mut text = String::new(alloc);
-    push_head(&mut text, tile, canonical)?;
-    push_notes(&mut text, &notes)?;
+    push_head(&mut text, survey)?;
+    push_notes(&mut text, survey.notes.as_slice())?;
     Ok(text)
 }
 
 #[tactic(auto, unfolding(crate::specs::Reports::head_line))]
-fn push_head(text: &mut String, tile: &Tile, canonical: bool) -> Result<(), AllocError>
-    ensures { OnOk result (string_bytes text.new ≡ string_bytes text.old ++ head_line tile.now canonical) }
+fn push_head(text: &mut String, survey: &Survey) -> Result<(), AllocError>
+    ensures { OnOk result (string_bytes text.new ≡ string_bytes text.old ++ head_line survey.now) }
 {
-    let layers = tile.items.as_slice().len();
-    let features = count_features(tile);
-    let answer = if canonical { "yes" } else { "no" };
+    let layers = survey.layers;
+    let features = survey.features;
+    let answer = if survey.is_canonical { "yes" } else { "no" };
     writeln!(
         text,
         "ok layers {layers} features {features} canonical {answer}"

@@ -4,7 +4,7 @@ use super::rows::*;
 use super::support::{joined, names};
 use crate::{
     DecodeError, ExtractError, PutError, Tile, TileDecoder, WriteError, decode, encode, extract,
-    is_valid, judge, notes, read_tile, write_tile,
+    is_valid, judge, notes, read_tile, survey_tile, write_tile,
 };
 use mvt_io::{MemorySink, MemorySource};
 use std::alloc::{AllocError, Global};
@@ -55,6 +55,19 @@ fn is_judge_refused(rt: &(impl Abort + AllocGlobal), input: &[u8]) -> bool {
     answer.is_err()
 }
 
+fn is_survey_refused(rt: &(impl Abort + AllocGlobal), input: &[u8]) -> bool {
+    match survey_tile(rt.alloc(), input) {
+        Ok(survey) => {
+            assert!(rt; survey.layers == 1 && survey.is_canonical);
+            false
+        }
+        Err(error) => {
+            assert_eq!(rt; error, DecodeError::Memory);
+            true
+        }
+    }
+}
+
 #[test]
 fn refused_reads(rt: HostRuntime) {
     let mut refused = 0u32;
@@ -65,6 +78,7 @@ fn refused_reads(rt: HostRuntime) {
                 is_feed_refused(&rt, input),
                 is_read_refused(&rt, input),
                 is_judge_refused(&rt, input),
+                is_survey_refused(&rt, input),
             ];
             for is_refused in answers {
                 refused = refused.saturating_add(u32::from(is_refused));

@@ -1,6 +1,7 @@
 //! Tiles made by hand, and what several tests compare.
 use crate::{
-    DecodeError, Fault, Tile, TileDecoder, decode, encode, is_canonical, is_valid, judge, validate,
+    DecodeError, Fault, Tile, TileDecoder, decode, encode, is_canonical, is_valid, judge,
+    survey_tile, validate,
 };
 use mvt_attrs::Attribute;
 use mvt_base::{Items, Text};
@@ -100,7 +101,7 @@ pub(super) fn fed(rt: &(impl Abort + AllocGlobal), input: &[u8]) -> Result<Tile,
 }
 
 // The input is this tile, whole and byte by byte, and where it is only judged it has no fault; the tile is
-// written as these bytes.
+// written as these bytes, and a survey tells whether the input is them.
 pub(super) fn expect_tile(
     rt: &(impl Abort + AllocGlobal),
     input: &[u8],
@@ -111,6 +112,9 @@ pub(super) fn expect_tile(
     assert!(rt; read == *tile && is_valid(&read));
     assert!(rt; fed(rt, input)? == *tile);
     judge(rt.alloc(), input)?;
+    let survey = survey_tile(rt.alloc(), input)?;
+    assert_eq!(rt; survey.layers, tile.items.as_slice().len());
+    assert_eq!(rt; survey.is_canonical, input == canonical, "of {input:?}");
     let written = encode(rt.alloc(), &read).map_err(|_| AllocError)?;
     assert_eq!(rt; written.as_slice(), canonical);
     assert!(rt; validate(rt.alloc(), &read)?);
@@ -142,7 +146,7 @@ fn expect_canonical(
     Ok(())
 }
 
-// The input has this fault, whole, byte by byte, and where it is only judged.
+// The input has this fault, whole, byte by byte, and where it is only judged or surveyed.
 pub(super) fn expect_fault(rt: &(impl Abort + AllocGlobal), input: &[u8], error: DecodeError) {
     assert_eq!(rt;
         decode(rt.alloc(), input).err(),
@@ -151,4 +155,9 @@ pub(super) fn expect_fault(rt: &(impl Abort + AllocGlobal), input: &[u8], error:
     );
     assert_eq!(rt; fed(rt, input).err(), Some(error), "of {input:?} by bytes");
     assert_eq!(rt; judge(rt.alloc(), input), Err(error), "of {input:?} judged");
+    assert_eq!(rt;
+        survey_tile(rt.alloc(), input).err(),
+        Some(error),
+        "of {input:?} surveyed"
+    );
 }

@@ -1,7 +1,9 @@
-//! Extraction and notes.
+//! Extraction, notes and surveys.
 use super::rows::*;
 use super::support::{joined, names};
-use crate::{ExtractError, Note, decode, extract, notes};
+use crate::{ExtractError, Note, Survey, decode, encode, extract, notes, survey_tile};
+use std::alloc::AllocError;
+use std::process::Abort;
 use std::test::Fail;
 
 #[test]
@@ -43,5 +45,42 @@ fn tells_notes(rt: HostRuntime) -> Result<(), Fail> {
         let found = notes(alloc, &decode(alloc, input)?)?;
         assert_eq!(rt; found.as_slice(), expected);
     }
+    Ok(())
+}
+
+fn expect_survey(
+    rt: &impl Abort,
+    survey: &Survey,
+    layers: usize,
+    features: u128,
+    is_canonical: bool,
+    notes: &[Note],
+) {
+    assert_eq!(rt; survey.layers, layers);
+    assert_eq!(rt; survey.features, features);
+    assert_eq!(rt; survey.is_canonical, is_canonical);
+    assert_eq!(rt; survey.notes.as_slice(), notes);
+}
+
+#[test]
+fn surveys(rt: HostRuntime) -> Result<(), Fail> {
+    let alloc = rt.alloc();
+    expect_survey(
+        &rt,
+        &survey_tile(alloc, b"")?,
+        0,
+        0,
+        true,
+        &[Note::NoLayers],
+    );
+    let flat = [Note::FlatRing(0, 0, 2)];
+    expect_survey(&rt, &survey_tile(alloc, RINGS)?, 1, 1, true, &flat);
+    let longer = joined(alloc, RINGS, b"\x20\x05")?;
+    expect_survey(&rt, &survey_tile(alloc, &longer)?, 1, 1, false, &flat);
+    let both = joined(alloc, FOREIGN, SAME_ID)?;
+    let notes = [Note::Foreign(0, 1), Note::RepeatedId(1, 1, 0)];
+    let tile = decode(alloc, &both)?;
+    let canonical = encode(alloc, &tile).map_err(|_| AllocError)?;
+    expect_survey(&rt, &survey_tile(alloc, &canonical)?, 2, 2, true, &notes);
     Ok(())
 }
