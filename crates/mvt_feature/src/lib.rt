@@ -10,8 +10,6 @@ pub mod laws;
 mod message_error;
 mod reading;
 mod room;
-#[cfg(test)]
-mod tests;
 mod validity;
 mod value;
 mod whole;

@@ -17,8 +17,6 @@ mod noting;
 mod reading;
 mod round_trip;
 mod taking;
-#[cfg(test)]
-mod tests;
 mod tile;
 mod validity;
 mod write_error;

@@ -8,8 +8,6 @@ pub mod laws;
 mod packed;
 mod span;
 mod spelling;
-#[cfg(test)]
-mod tests;
 mod varint;
 mod zigzag;
 

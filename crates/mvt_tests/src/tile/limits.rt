@@ -1,6 +1,6 @@
 //! Inputs and tiles of 64 MiB.
 use super::support::{layer_a, outer, points};
-use crate::{
+use mvt_tile::{
     Note, PutError, Tile, TileDecoder, WriteError, decode, encode, is_valid, judge, notes,
     write_tile,
 };

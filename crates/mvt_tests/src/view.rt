@@ -1,5 +1,5 @@
 //! Tiles as JSON, the lines of fields, and the lines of faults.
-use super::*;
+use mvt_view::*;
 use mvt_attrs::{Attribute, Value};
 use mvt_base::{Items, LIMIT, Text};
 use mvt_geometry::{Geometry, Point, Polygon};

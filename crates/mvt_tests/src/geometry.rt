@@ -1,5 +1,5 @@
 //! Integers read and put back, their faults, areas and validity.
-use super::*;
+use mvt_geometry::*;
 use mvt_base::Items;
 use std::alloc::{AllocError, Global};
 use std::test::Fail;

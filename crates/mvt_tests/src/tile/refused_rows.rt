@@ -2,7 +2,7 @@
 //! growths, one turn at most wants memory, and the others answer as ever.
 use super::rows::*;
 use super::support::{joined, names};
-use crate::{
+use mvt_tile::{
     DecodeError, ExtractError, PutError, Tile, TileDecoder, WriteError, decode, encode, extract,
     is_valid, read_tile, write_tile,
 };

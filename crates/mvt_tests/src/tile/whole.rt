@@ -1,7 +1,7 @@
 //! Whole tiles, read and written.
 use super::rows::*;
 use super::support::{expect_tile, foreign_item, joined, layer_a, one_feature, points};
-use crate::{Tile, decode};
+use mvt_tile::{Tile, decode};
 use mvt_attrs::{Attribute, Value};
 use mvt_base::{Items, Text};
 use mvt_geometry::{Geometry, Polygon};

@@ -1,5 +1,5 @@
 //! Values and features read, refused and written.
-use super::*;
+use mvt_feature::*;
 use mvt_attrs::{Attribute, KeyPool, LayerKeys, PoolError, Value, ValuePool};
 use mvt_base::{Items, Text};
 use mvt_geometry::{Geometry, Point};

@@ -1,5 +1,5 @@
 //! Pools of few, of more and of many entries.
-use super::*;
+use mvt_attrs::*;
 use mvt_base::Text;
 use std::alloc::{AllocError, Global};
 use std::process::Abort;

@@ -1,5 +1,5 @@
 //! Items read, refused and written.
-use super::*;
+use mvt_message::*;
 use mvt_attrs::{Attribute, Value};
 use mvt_base::{Items, Text};
 use mvt_geometry::{Geometry, Point};

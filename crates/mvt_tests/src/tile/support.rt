@@ -1,5 +1,5 @@
 //! Tiles made by hand, and what several tests compare.
-use crate::{
+use mvt_tile::{
     DecodeError, Fault, Tile, TileDecoder, decode, encode, is_canonical, is_valid, judge, validate,
 };
 use mvt_attrs::Attribute;

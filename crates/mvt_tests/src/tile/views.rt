@@ -1,7 +1,7 @@
 //! Extraction and notes.
 use super::rows::*;
 use super::support::{joined, names};
-use crate::{ExtractError, Note, decode, extract, notes};
+use mvt_tile::{ExtractError, Note, decode, extract, notes};
 use std::test::Fail;
 
 #[test]
