@@ -22,6 +22,7 @@ WORDS = {
     "mvt_cli": "the program mvt",
     "mvt_c": "the library for C",
     "mvt_bench": "what bench/ measures",
+    "mvt_tests": "tests of the libraries",
 }
 # Each crate's place from the left, in boxes; how high it stands follows from crates.txt.
 COLUMN = {
@@ -39,6 +40,7 @@ COLUMN = {
     "mvt_cli": 0,
     "mvt_c": 1,
     "mvt_bench": 2,
+    "mvt_tests": 3,
 }
 WIDE, HIGH, GAP, RISE = 176, 50, 24, 92
 

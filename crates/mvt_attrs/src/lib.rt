@@ -28,7 +28,3 @@ pub use resolving::{TagCause, TagError, resolve, resolve_in};
 pub use value::{Attribute, Value};
 pub use value_pool::ValuePool;
 
-#[cfg(test)]
-mod pool_tests;
-#[cfg(test)]
-mod tests;

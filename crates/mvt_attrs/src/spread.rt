@@ -161,7 +161,7 @@ fn note_in_order<T: Entry>(
 }
 
 /// The slot of an entry by its cheap hash.
-pub(crate) fn first_slot<T: Entry>(entry: &T, room: usize) -> usize
+fn first_slot<T: Entry>(entry: &T, room: usize) -> usize
     requires { 0 < room }
     ensures value { result ≡ first_slot T.hash_input room entry.now }
     ensures within { result < room }
@@ -172,7 +172,7 @@ pub(crate) fn first_slot<T: Entry>(entry: &T, room: usize) -> usize
 }
 
 /// The slot of an entry by another hash, which is wanted where the first slot is another's.
-pub(crate) fn second_slot<T: Entry>(entry: &T, room: usize) -> usize
+fn second_slot<T: Entry>(entry: &T, room: usize) -> usize
     requires { 0 < room }
     ensures value { result ≡ second_slot T.hash_input room entry.now }
     ensures within { result < room }

@@ -11,8 +11,6 @@ mod message_error;
 pub mod numbers;
 mod reading;
 mod room;
-#[cfg(test)]
-mod tests;
 mod validity;
 mod value;
 mod whole;

@@ -25,5 +25,3 @@ pub use read::read_geometry;
 pub use shape::{Geometry, Kind, Point, Polygon, kind_of};
 pub use valid::is_valid_geometry;
 
-#[cfg(test)]
-mod tests;

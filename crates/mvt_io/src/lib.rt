@@ -9,8 +9,6 @@ mod memory_source;
 mod read_error;
 mod sink;
 mod source;
-#[cfg(test)]
-mod tests;
 mod transfers;
 
 pub use host::Host;

@@ -16,8 +16,6 @@ mod pool;
 mod put;
 mod put_layer;
 mod read;
-#[cfg(test)]
-mod tests;
 mod valid;
 mod version;
 

@@ -20,8 +20,6 @@ mod round_trip;
 mod survey;
 mod surveying;
 mod taking;
-#[cfg(test)]
-mod tests;
 mod tile;
 mod validity;
 mod write_error;

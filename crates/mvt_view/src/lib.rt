@@ -20,5 +20,3 @@ pub use svg::svg_text;
 pub use tile_json::{json_of, json_text};
 pub use view_error::ViewError;
 
-#[cfg(test)]
-mod tests;

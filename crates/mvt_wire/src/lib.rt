@@ -10,8 +10,6 @@ mod packed;
 mod packed_numbers;
 mod span;
 mod spelling;
-#[cfg(test)]
-mod tests;
 mod varint;
 mod zigzag;
 

@@ -1,12 +1,12 @@
 //! Tiles made by hand, and what several tests compare.
-use crate::{
-    DecodeError, Fault, Tile, TileDecoder, decode, encode, is_canonical, is_valid, judge,
-    survey_tile, validate,
-};
 use mvt_attrs::Attribute;
 use mvt_base::{Items, Text};
 use mvt_geometry::{Geometry, Point};
 use mvt_message::{Cause, Feature, Item, Layer};
+use mvt_tile::{
+    DecodeError, Fault, Tile, TileDecoder, decode, encode, is_canonical, is_valid, judge,
+    survey_tile, validate,
+};
 use std::alloc::{AllocError, Global};
 use std::process::Abort;
 use std::test::Fail;

@@ -1,8 +1,8 @@
 //! Items read, refused and written.
-use super::*;
 use mvt_attrs::{Attribute, Value};
 use mvt_base::{Items, Text};
 use mvt_geometry::{Geometry, Point};
+use mvt_message::*;
 use std::alloc::{AllocError, Global};
 use std::test::Fail;
 

@@ -1,9 +1,9 @@
 //! Reading from readers and writing to writers, also such as fail.
 use super::rows::{FOREIGN, ONE_POINT};
 use super::support::outer;
-use crate::{DecodeError, WriteError, decode, read_tile, write_and_read, write_tile};
 use mvt_io::{MemorySink, MemorySource};
 use mvt_message::Cause;
+use mvt_tile::{DecodeError, WriteError, decode, read_tile, write_and_read, write_tile};
 use std::io::ErrorKind;
 use std::test::Fail;
 

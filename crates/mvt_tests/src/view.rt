@@ -1,10 +1,10 @@
 //! Tiles as JSON, the lines of fields, and the lines of faults.
-use super::*;
 use mvt_attrs::{Attribute, Value};
 use mvt_base::{Items, LIMIT, Text};
 use mvt_geometry::{Geometry, Point, Polygon};
 use mvt_message::{Cause, Feature, Item, Layer};
 use mvt_tile::{Fault, Tile};
+use mvt_view::*;
 use std::alloc::{AllocError, Global};
 use std::process::Abort;
 use std::test::Fail;

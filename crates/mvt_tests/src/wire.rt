@@ -1,4 +1,4 @@
-use crate::{
+use mvt_wire::{
     Field, Fields, NumberList, PackedError, PackedNumbers, Payload, Span, WireCause, WireFault,
     append_packed, field_len, field_span, next_field, packed_len, put_field, put_field_head,
     put_packed, put_varint, read_packed, read_varint, unzigzag32, unzigzag64, varint_len, zigzag32,

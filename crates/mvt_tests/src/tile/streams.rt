@@ -1,8 +1,8 @@
 //! A tile in pieces.
 use super::rows::{ONE_POINT, UNKNOWN_FIRST};
 use super::support::{in_layer, joined, outer};
-use crate::{DecodeError, TileDecoder, decode};
 use mvt_message::Cause;
+use mvt_tile::{DecodeError, TileDecoder, decode};
 use std::alloc::Global;
 use std::test::Fail;
 

@@ -1,6 +1,6 @@
 //! Integers read and put back, their faults, areas and validity.
-use super::*;
 use mvt_base::Items;
+use mvt_geometry::*;
 use mvt_wire::{PackedNumbers, read_packed};
 use std::alloc::{AllocError, Global};
 use std::test::Fail;

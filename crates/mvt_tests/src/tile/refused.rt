@@ -2,11 +2,11 @@
 //! turns, of which one at most may want memory; the other answers as ever.
 use super::rows::*;
 use super::support::{joined, names};
-use crate::{
+use mvt_io::{MemorySink, MemorySource};
+use mvt_tile::{
     DecodeError, ExtractError, PutError, Tile, TileDecoder, WriteError, decode, encode, extract,
     is_valid, judge, notes, read_tile, survey_tile, write_tile,
 };
-use mvt_io::{MemorySink, MemorySource};
 use std::alloc::{AllocError, Global};
 use std::process::Abort;
 

@@ -1,7 +1,7 @@
 //! Values and features read, refused and written.
-use super::*;
 use mvt_attrs::{Attribute, KeyPool, LayerKeys, PoolError, Value, ValuePool};
 use mvt_base::{Items, Text};
+use mvt_feature::*;
 use mvt_geometry::{Geometry, Point};
 use std::alloc::{AllocError, Global};
 use std::test::Fail;

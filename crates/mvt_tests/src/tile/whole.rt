@@ -1,11 +1,11 @@
 //! Whole tiles, read and written.
 use super::rows::*;
 use super::support::{expect_tile, foreign_item, joined, layer_a, one_feature, points};
-use crate::{Tile, decode};
 use mvt_attrs::{Attribute, Value};
 use mvt_base::{Items, Text};
 use mvt_geometry::{Geometry, Polygon};
 use mvt_message::{Feature, Item, Layer};
+use mvt_tile::{Tile, decode};
 use std::alloc::{AllocError, Global};
 use std::test::Fail;
 

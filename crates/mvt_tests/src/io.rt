@@ -1,5 +1,5 @@
 //! The devices, the hosts and the transfers on one small tile.
-use super::*;
+use mvt_io::*;
 use std::alloc::{AllocError, Global};
 use std::io;
 use std::io::{ErrorKind, Read, Write};

@@ -1,10 +1,10 @@
 //! Tiles that can be written, and tiles that can't.
 use super::support::{layer_a, one_feature, points};
-use crate::{Tile, is_valid, validate};
 use mvt_attrs::{Attribute, Value};
 use mvt_base::{Items, Text};
 use mvt_geometry::Geometry;
 use mvt_message::{Item, Layer};
+use mvt_tile::{Tile, is_valid, validate};
 use std::alloc::{AllocError, Global};
 use std::process::Abort;
 use std::test::Fail;

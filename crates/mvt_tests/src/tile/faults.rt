@@ -1,8 +1,8 @@
 //! Faults of whole inputs, and of inputs that are cut.
 use super::rows::*;
 use super::support::{expect_fault, expect_tile, in_layer, outer};
-use crate::{DecodeError, Fault, decode};
 use mvt_message::Cause;
+use mvt_tile::{DecodeError, Fault, decode};
 use std::process::Abort;
 use std::test::Fail;
 

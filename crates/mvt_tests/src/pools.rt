@@ -1,8 +1,8 @@
 //! Pools of few, of more and of many entries.
-use super::*;
-use crate::spread::{first_slot, second_slot};
+use mvt_attrs::*;
 use mvt_base::Text;
 use std::alloc::{AllocError, Global};
+use std::hash::{DefaultHasher, FoldHasher, Hash, Hasher};
 use std::process::Abort;
 use std::test::Fail;
 
@@ -36,6 +36,20 @@ fn places_keys_of_one_hash(rt: HostRuntime) -> Result<(), Fail> {
     Ok(())
 }
 
+// The last 20 bits of a text's hash, which name its first slot.
+fn first_end(text: &Text) -> u64 {
+    let mut state = FoldHasher::default();
+    text.hash(&mut state);
+    state.finish() % (1 << 20)
+}
+
+// The same of the hash that names its second slot.
+fn second_end(text: &Text) -> u64 {
+    let mut state = DefaultHasher::new();
+    text.hash(&mut state);
+    state.finish() % (1 << 20)
+}
+
 // Three texts meet in their first slot, and two of them in their second one too.
 #[test]
 fn places_keys_that_meet_twice(rt: HostRuntime) -> Result<(), Fail> {
@@ -46,10 +60,9 @@ fn places_keys_that_meet_twice(rt: HostRuntime) -> Result<(), Fail> {
     let other = hashes_alike(rt.alloc(), 0)?;
     let one = hashes_alike(rt.alloc(), 988)?;
     let two = hashes_alike(rt.alloc(), 2_066)?;
-    let room = 1 << 20;
-    assert_eq!(rt; first_slot(&one, room), first_slot(&other, room));
-    assert_eq!(rt; first_slot(&one, room), first_slot(&two, room));
-    assert_eq!(rt; second_slot(&one, room), second_slot(&two, room));
+    assert_eq!(rt; first_end(&one), first_end(&other));
+    assert_eq!(rt; first_end(&one), first_end(&two));
+    assert_eq!(rt; second_end(&one), second_end(&two));
     for _turn in 0..2 {
         assert_eq!(rt; keys.place(&other), Ok(40));
         assert_eq!(rt; keys.place(&one), Ok(41));

@@ -1,7 +1,7 @@
 //! Extraction, notes and surveys.
 use super::rows::*;
 use super::support::{joined, names};
-use crate::{ExtractError, Note, Survey, decode, encode, extract, notes, survey_tile};
+use mvt_tile::{ExtractError, Note, Survey, decode, encode, extract, notes, survey_tile};
 use std::alloc::AllocError;
 use std::process::Abort;
 use std::test::Fail;

@@ -1,14 +1,14 @@
 //! Inputs and tiles of 64 MiB.
 use super::support::{layer_a, outer, points};
-use crate::{
-    Note, PutError, Tile, TileDecoder, WriteError, decode, encode, is_valid, judge, notes,
-    write_tile,
-};
 use mvt_attrs::{Attribute, Value};
 use mvt_base::{Items, LIMIT, Text};
 use mvt_geometry::Geometry;
 use mvt_io::MemorySink;
 use mvt_message::{Cause, Feature, is_valid_item, item_len, put_item, room_behind_item};
+use mvt_tile::{
+    Note, PutError, Tile, TileDecoder, WriteError, decode, encode, is_valid, judge, notes,
+    write_tile,
+};
 use std::alloc::{AllocError, Global};
 use std::process::Abort;
 use std::str;

@@ -1,5 +1,5 @@
 //! Attributes by their tags and back, and the pools.
-use super::*;
+use mvt_attrs::*;
 use mvt_base::Text;
 use std::alloc::{AllocError, Global};
 use std::process::Abort;

@@ -2,11 +2,11 @@
 //! growths, one turn at most wants memory, and the others answer as ever.
 use super::rows::*;
 use super::support::{joined, names};
-use crate::{
+use mvt_io::{MemorySink, MemorySource};
+use mvt_tile::{
     DecodeError, ExtractError, PutError, Tile, TileDecoder, WriteError, decode, encode, extract,
     is_valid, read_tile, write_tile,
 };
-use mvt_io::{MemorySink, MemorySource};
 use std::alloc::Global;
 use std::io::ErrorKind;
 use std::process::Abort;
