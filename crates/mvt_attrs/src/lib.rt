@@ -27,4 +27,3 @@ pub use pool_error::PoolError;
 pub use resolving::{TagCause, TagError, resolve, resolve_in};
 pub use value::{Attribute, Value};
 pub use value_pool::ValuePool;
-

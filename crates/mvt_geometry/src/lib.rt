@@ -24,4 +24,3 @@ pub use put::{append_geometry, put_geometry};
 pub use read::read_geometry;
 pub use shape::{Geometry, Kind, Point, Polygon, kind_of};
 pub use valid::is_valid_geometry;
-

@@ -19,4 +19,3 @@ pub use report::{report_text, survey_text};
 pub use svg::svg_text;
 pub use tile_json::{json_of, json_text};
 pub use view_error::ViewError;
-
