@@ -15,9 +15,9 @@ use std::marker::Model;
 
 /// Entries, each once, in order of first use.
 ///
-/// Few are searched one by one, more are hashed, and of many those whose slot is taken are kept in
-/// order: so n entries are placed in n log n steps at most, whatever their texts are. After an error
-/// a pool is as it was.
+/// Few are searched one by one, more are hashed, and of many those whose two slots are taken are kept
+/// in order: so n entries are placed in n log n steps at most, whatever their texts are. After an
+/// error a pool is as it was.
 #[derive(Drop)]
 pub struct Pool<T: Entry> {
     entries: Vec<T>,
