@@ -1,3 +1,4 @@
+pub mod AttrsLaws
 pub mod EqualityLemmas
 pub mod FirstUseLemmas
 pub mod PoolLemmas

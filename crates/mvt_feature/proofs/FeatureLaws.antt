@@ -1,138 +1,97 @@
--- The laws of features, from those of tags and of geometries.
-use Rattle.std.proofs.Common.{◌≡◌, ℕ, ◌+◌, ◌^◌, ◌==◌, ◌↔◌, true, not, nat_lt, List, [], ◌∷◌, Some, None, refl, sym, ap, ◌∙◌, subst, arith}
+-- What the public laws state, for the proofs of the crates above: a lemma for each clause.
+pub use Rattle.mvt_feature.proofs.RangeLemmas.{value_valid as read_is_valid_value, feature_valid as read_is_valid_feature}
+pub use Rattle.mvt_feature.proofs.FormLemmas.{forms_have, forms_clean, forms_ordered}
+pub use Rattle.mvt_feature.proofs.WalkLemmas.{rest_none as rests_none, none_rest as rests_nothing, walk_start as walks_start, walk_step as walks_step, walk_fits as walks_fits, walk_end as walks_end, walk_fault_fits as walks_fault_fits, walk_fault as walks_fault}
+pub use Rattle.mvt_feature.proofs.ValueLemmas.{rest_ordered as rests_ordered}
+use Rattle.std.proofs.Common.{[]}
 use Rattle.std.specs.List.{AllByRecursion}
-use Rattle.mvt_base.specs.Rules.{AreOrdered, IsLeast, when, told, first, each}
-use Rattle.mvt_base.proofs.OrderLemmas.{first_is_least, least_is_first, AreRowsFrom, rows_ordered, each_ordered, told_ordered, under_ordered, when_ordered}
-use Rattle.mvt_base.proofs.RuleLemmas.{first-under, option_or-nones}
-use Rattle.mvt_base.proofs.TableLemmas.{none_mapped, each_none, by_number, if_ordered}
-use Rattle.mvt_base.proofs.SelectionLemmas.{all_only}
+use Rattle.std.specs.Prelude.{List, None, Some, length, ℕ, ◌<◌, ◌^◌, ◌↔◌, ◌≡◌, ◌≤◌}
+use Rattle.mvt_attrs.proofs.AttrsLaws.{attributes_or_fault_clean, attributes_or_fault_once, attributes_or_fault_there, rules_in_order_count, rules_in_order_pairs}
+use Rattle.mvt_attrs.specs.TagPlaces.{tags_in}
+use Rattle.mvt_attrs.specs.Tags.{Names}
 use Rattle.mvt_attrs.specs.declared.value.Value.{Value}
-use Rattle.mvt_attrs.specs.Tags.{Resolved}
-use Rattle.mvt_geometry.specs.Drawing.{Draws}
-use Rattle.mvt_wire.specs.Field.{Content, varint, fixed64, bytes, fixed32, Entry}
-use Rattle.mvt_wire.specs.Packed.{packed_rules}
-use Rattle.mvt_wire.specs.Split.{split}
-use Rattle.mvt_feature.specs.declared.numbers.feature.TheConstants.{ID, TAGS, GEOMETRY}
-use Rattle.mvt_feature.proofs.Below.{SplitIs, SplitOnly, split_of, PackedClean, PackedOnly, PackedOrdered, TagsThere, TagsClean, TagsOnce, CountOrdered, PairsOrdered, DrawingThere, DrawingClean, DrawingOnce, DrawingOrdered}
-use Rattle.mvt_feature.specs.declared.cause.Cause.TheVariants.{WrongType, NumberRange}
+use Rattle.mvt_base.specs.Rules.{AreOrdered, IsLeast}
+use Rattle.mvt_feature.proofs.BoundLemmas.{bound_holds_lem}
+use Rattle.mvt_feature.proofs.CanonicalLemmas.{canonical_feature, canonical_value}
+use Rattle.mvt_feature.proofs.OrFaultLemmas.{feature_keeps, feature_least, feature_once, feature_ordered, feature_there}
+use Rattle.mvt_feature.proofs.RangeLemmas.{fields_range}
+use Rattle.mvt_feature.proofs.SaidLemmas.{value_said}
+use Rattle.mvt_feature.proofs.ValueLemmas.{value_keeps, value_least, value_once, value_ordered, value_there}
+use Rattle.mvt_feature.specs.Bounds.{feature_bound}
+use Rattle.mvt_feature.specs.Canonical.{feature_fields, value_fields}
+use Rattle.mvt_feature.specs.Faults.{MessageFault}
+use Rattle.mvt_feature.specs.FeatureRules.{feature_fault, feature_rules}
+use Rattle.mvt_feature.specs.Features.{IsFeatureOf}
+use Rattle.mvt_feature.specs.Ranges.{AreBytes, IsInRange}
+use Rattle.mvt_feature.specs.Valid.{ValidFeature, ValidValue}
+use Rattle.mvt_feature.specs.ValueIn.{value_in}
+use Rattle.mvt_feature.specs.ValueRules.{value_fault, value_rules}
+use Rattle.mvt_feature.specs.Values.{IsValueOf}
 use Rattle.mvt_feature.specs.declared.feature.Feature.{Feature}
-use Rattle.mvt_feature.specs.Causes.{of_packed}
-use Rattle.mvt_feature.specs.Faults.{MessageFault, fault_at}
-use Rattle.mvt_feature.specs.Features.{feature_forms, Joined, number_in, IsFeature, IsFeatureOf}
-use Rattle.mvt_feature.specs.FeatureRules.{joined, list_rules, feature_form_rules, feature_field_rules, tag_told, geometry_told, kind_in, feature_table, feature_rules, feature_fault}
-use Rattle.mvt_feature.specs.Forms.{Form, HasForm, HaveForms, number_rules}
-use Rattle.mvt_feature.specs.Selection.{only, last_only, HaveForm}
-use Rattle.mvt_feature.proofs.ValueLemmas.{rest_ordered}
-use Rattle.mvt_feature.proofs.FormLemmas.{number_clean, number_ordered, forms_split}
-use Rattle.mvt_feature.proofs.FeatureLemmas.{feature_chain, fields_fault, feature_clean, feature_from, field_clean, all_joined_are, joined_small, joined_is, IsListOf}
-use Rattle.mvt_feature.proofs.WalkLemmas.{none_rest}
+use Rattle.mvt_geometry.proofs.GeometryLaws.{bound_holds as geometry_bound_holds, drawn_is_faultless, drawn_small, faultless_draws, geometry_ordered, one_geometry}
+use Rattle.mvt_geometry.specs.Valid.{IsValid}
+use Rattle.mvt_wire.proofs.WireLaws.{packed_function_clean, packed_function_only, packed_is_least_ordered, packed_lengths, short_lengths_bytes, short_lengths_field, short_lengths_most, short_lengths_one, short_packed_packed, spelled_whole_whole, split_function_is, split_function_only}
+use Rattle.mvt_wire.specs.Field.{Entry}
+use Rattle.mvt_wire.specs.Spelling.{spelled}
+use Rattle.mvt_wire.specs.Split.{Whole}
 
--- no fault: the payload is a feature
-pub feature_there : SplitIs → PackedClean → TagsThere → DrawingThere → (payload : List ℕ) (base : ℕ) (keys : List (List ℕ)) (values : List Value) → feature_fault payload base keys values ≡ None → (f : Feature) × IsFeatureOf payload keys values f
-feature_there split_is packed_clean tags_there drawing_there payload base keys values h =
-    let xs = (split payload).fields in
-    let parts = option_or-nones _ _ (sym (feature_chain payload base keys values) ∙ h) in
-    let later = option_or-nones _ _ parts.1 in
-    let last = option_or-nones _ _ later.1 in
-    let rest = none_rest base (split payload) parts.0 in
-    let attributes = tags_there keys values (joined TAGS xs) (none_mapped tag_told _ last.0) in
-    let small = joined_small (only GEOMETRY xs) (joined GEOMETRY xs) (joined_is packed_clean base GEOMETRY xs (λ c e. e) later.0) in
-    let geometry = drawing_there (kind_in xs) (joined GEOMETRY xs) small (none_mapped geometry_told _ last.1) in
-    let f : Feature = record { id = number_in (last_only ID xs); attributes = attributes.0; geometry = geometry.0 } in
-    (f, feature_from split_is packed_clean payload base keys values f rest later.0 refl attributes.1 geometry.1)
+pub value_or_fault_there : (payload : List ℕ) (payload_at tag_at : ℕ) → value_fault payload payload_at tag_at ≡ None
+    → (value : Value) × IsValueOf payload value
+value_or_fault_there = λ payload payload_at tag_at none. value_there split_function_is payload payload_at tag_at none
 
--- the grammar keeps the rules
-numbers_clean : (x : Entry) → (x.number ≡ TAGS → IsListOf x) → (x.number ≡ GEOMETRY → IsListOf x) → AllByRecursion (λ (known : ℕ × Form). x.number ≡ known.0 → HasForm known.1 x.content) feature_forms → first (feature_form_rules x.number x.content) ≡ None
-numbers_clean x tags integers known =
-    by_number x.number _ _ TAGS tags (by_number x.number _ _ GEOMETRY integers (first-under 0 (number_rules feature_forms x.number x.content) ∙ number_clean feature_forms x.number x.content known))
+pub value_or_fault_clean : (payload : List ℕ) (payload_at tag_at : ℕ) (value : Value) → IsValueOf payload value
+    → value_fault payload payload_at tag_at ≡ None
+value_or_fault_clean = λ payload payload_at tag_at value is. value_keeps split_function_only payload_at tag_at payload value is
 
-all_clean : (base : ℕ) (xs : List Entry) → HaveForm TAGS (λ c. first (list_rules c) ≡ None) xs → HaveForm GEOMETRY (λ c. first (list_rules c) ≡ None) xs → HaveForms feature_forms xs → AllByRecursion (λ (x : Entry). first (feature_field_rules base x) ≡ None) xs
-all_clean base [] tags integers forms = tt
-all_clean base (x ∷ xs) tags integers forms =
-    let parts = forms_split feature_forms x xs forms in
-    (field_clean base x (numbers_clean x tags.0 integers.0 parts.0), all_clean base xs tags.1 integers.1 parts.1)
+pub value_or_fault_once : (payload : List ℕ) (value other : Value) → IsValueOf payload value
+    → IsValueOf payload other → value ≡ other
+value_or_fault_once = λ payload value other is also_is. value_once split_function_only payload value other is also_is
 
-pub fields_clean : PackedOnly → (base : ℕ) (xs : List Entry) (keys : List (List ℕ)) (values : List Value) (f : Feature) → IsFeature xs keys values f → first (each (λ _. feature_field_rules base) [] xs) ≡ None
-fields_clean packed_only base xs keys values f is =
-    let lists = λ (k : ℕ) (ns : List ℕ) (are : Joined (only k xs) ns). all_only (λ (x : Entry). x.number) (λ (x : Entry). first (list_rules x.content) ≡ None) k xs (all_joined_are packed_only (only k xs) ns are).0 in
-    each_none (feature_field_rules base) [] xs (all_clean base xs (lists TAGS is.tags is.tags_are) (lists GEOMETRY is.integers is.integers_are) is.forms)
+pub value_function : (payload : List ℕ) (value : Value) → IsValueOf payload value → value_in payload ≡ Some value
+value_function = value_said split_function_only
 
-pub feature_keeps : SplitOnly → PackedOnly → TagsClean → DrawingClean → (payload : List ℕ) (base : ℕ) (keys : List (List ℕ)) (values : List Value) (f : Feature) → IsFeatureOf payload keys values f → feature_fault payload base keys values ≡ None
-feature_keeps split_only packed_only tags_clean drawing_clean payload base keys values f (xs, whole, is) =
-    let only_split = split_of split_only payload xs whole in
-    let clean : fields_fault payload base ≡ None = rw only_split.0 (fields_clean packed_only base xs keys values f is) in
-    let tags_are = (all_joined_are packed_only (only TAGS xs) is.tags is.tags_are).1 in
-    let integers_are = (all_joined_are packed_only (only GEOMETRY xs) is.integers is.integers_are).1 in
-    feature_clean payload base keys values is.tags is.integers (kind_in xs) only_split.1 clean
-    (tags_are ∙ ap (joined TAGS) (sym only_split.0)) (integers_are ∙ ap (joined GEOMETRY) (sym only_split.0)) (ap kind_in (sym only_split.0))
-    (tags_clean keys values is.tags f.attributes is.attributes) (drawing_clean (kind_in xs) is.integers f.geometry is.geometry)
+pub value_fault_is_least_ordered : (payload : List ℕ) (payload_at tag_at : ℕ) → AreOrdered (value_rules payload payload_at tag_at)
+value_fault_is_least_ordered = λ payload payload_at tag_at. value_ordered payload payload_at tag_at
 
--- at most one feature
-same_features : (f g : Feature) → f.id ≡ g.id → f.attributes ≡ g.attributes → f.geometry ≡ g.geometry → f ≡ g
-same_features f g id attributes geometry = rw (← id, ← attributes, ← geometry) refl
+pub value_fault_is_least_least : (payload : List ℕ) (payload_at tag_at : ℕ) (fault : MessageFault) →
+    (value_fault payload payload_at tag_at ≡ Some fault) ↔ IsLeast (value_rules payload payload_at tag_at) fault
+value_fault_is_least_least = λ payload payload_at tag_at fault. value_least payload payload_at tag_at fault
 
-pub feature_same : PackedOnly → TagsOnce → DrawingOnce → (xs : List Entry) (keys : List (List ℕ)) (values : List Value) (f g : Feature) → IsFeature xs keys values f → IsFeature xs keys values g → f ≡ g
-feature_same packed_only tags_once drawing_once xs keys values f g a b =
-    let tags : b.tags ≡ a.tags = (all_joined_are packed_only (only TAGS xs) b.tags b.tags_are).1 ∙ sym (all_joined_are packed_only (only TAGS xs) a.tags a.tags_are).1 in
-    let integers : b.integers ≡ a.integers = (all_joined_are packed_only (only GEOMETRY xs) b.integers b.integers_are).1 ∙ sym (all_joined_are packed_only (only GEOMETRY xs) a.integers a.integers_are).1 in
-    same_features f g (a.id ∙ sym b.id)
-    (tags_once keys values a.tags f.attributes g.attributes a.attributes (subst (λ t. Resolved keys values t g.attributes) tags b.attributes))
-    (drawing_once (kind_in xs) a.integers f.geometry g.geometry a.geometry (subst (λ i. Draws (kind_in xs) i g.geometry) integers b.geometry))
+pub feature_or_fault_there : (payload : List ℕ) (payload_at : ℕ) (keys : List (List ℕ)) (values : List Value) →
+    feature_fault payload payload_at keys values ≡ None → (feature : Feature) × IsFeatureOf payload keys values feature
+feature_or_fault_there = feature_there split_function_is packed_function_clean attributes_or_fault_there faultless_draws
 
-pub feature_once : SplitOnly → PackedOnly → TagsOnce → DrawingOnce → (payload : List ℕ) (keys : List (List ℕ)) (values : List Value) (f g : Feature) → IsFeatureOf payload keys values f → IsFeatureOf payload keys values g → f ≡ g
-feature_once split_only packed_only tags_once drawing_once payload keys values f g (xs, whole, is) (ys, also_whole, also_is) =
-    let a = split_of split_only payload xs whole in
-    let b = split_of split_only payload ys also_whole in
-    feature_same packed_only tags_once drawing_once xs keys values f g is (subst (λ zs. IsFeature zs keys values g) (sym b.0 ∙ a.0) also_is)
+pub feature_or_fault_clean : (payload : List ℕ) (payload_at : ℕ) (keys : List (List ℕ)) (values : List Value) (feature : Feature) →
+    IsFeatureOf payload keys values feature → feature_fault payload payload_at keys values ≡ None
+feature_or_fault_clean = feature_keeps split_function_only packed_function_only attributes_or_fault_clean drawn_is_faultless
 
--- the table is in order
-list_ordered : PackedOrdered → (c : Content) → AreOrdered (list_rules c)
-list_ordered packed_ordered (varint n) = under_ordered 1 _ (under_ordered 0 _ (when_ordered (not (nat_lt n (2 ^ 32))) NumberRange))
-list_ordered packed_ordered (bytes d) = under_ordered 1 (told of_packed (packed_rules d)) (told_ordered of_packed (packed_rules d) (packed_ordered d))
-list_ordered packed_ordered (fixed64 n) = under_ordered 0 (when true WrongType) (when_ordered true WrongType)
-list_ordered packed_ordered (fixed32 n) = under_ordered 0 (when true WrongType) (when_ordered true WrongType)
+pub feature_or_fault_once : (payload : List ℕ) (keys : List (List ℕ)) (values : List Value) (feature other : Feature) →
+    IsFeatureOf payload keys values feature → IsFeatureOf payload keys values other → feature ≡ other
+feature_or_fault_once = feature_once split_function_only packed_function_only attributes_or_fault_once one_geometry
 
-rules_ordered : PackedOrdered → (n : ℕ) (c : Content) → AreOrdered (feature_form_rules n c)
-rules_ordered packed_ordered n c =
-    if_ordered (n == TAGS) _ _ (list_ordered packed_ordered c) (if_ordered (n == GEOMETRY) _ _ (list_ordered packed_ordered c) (under_ordered 0 (number_rules feature_forms n c) (number_ordered feature_forms n c)))
+pub feature_fault_is_least_ordered : (payload : List ℕ) (payload_at : ℕ) (keys : List (List ℕ)) (values : List Value) →
+    AreOrdered (feature_rules payload payload_at keys values)
+feature_fault_is_least_ordered = feature_ordered packed_is_least_ordered rules_in_order_count rules_in_order_pairs geometry_ordered
 
-field_ordered : PackedOrdered → (base : ℕ) (x : Entry) → AreOrdered (feature_field_rules base x)
-unfolding feature_field_rules
-field_ordered packed_ordered base x = told_ordered (fault_at (base + x.at)) (feature_form_rules x.number x.content) (rules_ordered packed_ordered x.number x.content)
+pub feature_fault_is_least_least : (payload : List ℕ) (payload_at : ℕ) (keys : List (List ℕ)) (values : List Value) (fault : MessageFault) →
+    (feature_fault payload payload_at keys values ≡ Some fault) ↔ IsLeast (feature_rules payload payload_at keys values) fault
+feature_fault_is_least_least = feature_least packed_is_least_ordered rules_in_order_count rules_in_order_pairs geometry_ordered
 
-feature_rows : PackedOrdered → CountOrdered → PairsOrdered → DrawingOrdered → (payload : List ℕ) (base : ℕ) (keys : List (List ℕ)) (values : List Value) → AreRowsFrom 0 (feature_table payload base keys values)
-feature_rows packed_ordered count pairs drawing payload base keys values = (
-  omega arith,
-  (
-    rest_ordered base (split payload),
-    (
-      omega arith,
-      (
-        each_ordered (λ _. feature_field_rules base) [] (split payload).fields (λ seen x. field_ordered packed_ordered base x),
-        (
-          omega arith,
-          (
-            told_ordered tag_told _ (count (joined TAGS (split payload).fields)),
-            (
-              omega arith,
-              (
-                told_ordered tag_told _ (pairs keys values (joined TAGS (split payload).fields)),
-                (omega arith, (told_ordered geometry_told _ (drawing (kind_in (split payload).fields) (joined GEOMETRY (split payload).fields)), tt)),
-              ),
-            ),
-          ),
-        ),
-      ),
-    ),
-  ),
-)
+pub canonical_reads_value : (value : Value) → ValidValue value → length (spelled (value_fields value)) < 2 ^ 64
+    → IsValueOf (spelled (value_fields value)) value
+canonical_reads_value = canonical_value spelled_whole_whole short_lengths_bytes
 
-pub feature_ordered : PackedOrdered → CountOrdered → PairsOrdered → DrawingOrdered → (payload : List ℕ) (base : ℕ) (keys : List (List ℕ)) (values : List Value) → AreOrdered (feature_rules payload base keys values)
-unfolding feature_rules
-feature_ordered packed_ordered count pairs drawing payload base keys values = rows_ordered 0 (feature_table payload base keys values) (feature_rows packed_ordered count pairs drawing payload base keys values)
+pub canonical_reads_feature : (keys : List (List ℕ)) (values : List Value) (tags : List ℕ) (feature : Feature) →
+    ValidFeature feature → Names keys values tags feature.attributes → AllByRecursion (λ tag. tag < 2 ^ 32) tags
+    → length (spelled (feature_fields tags feature)) < 2 ^ 64
+    → IsFeatureOf (spelled (feature_fields tags feature)) keys values feature
+canonical_reads_feature = canonical_feature spelled_whole_whole short_lengths_bytes short_packed_packed drawn_small
 
-pub feature_least : PackedOrdered → CountOrdered → PairsOrdered → DrawingOrdered → (payload : List ℕ) (base : ℕ) (keys : List (List ℕ)) (values : List Value) (fault : MessageFault) → (feature_fault payload base keys values ≡ Some fault) ↔ IsLeast (feature_rules payload base keys values) fault
-unfolding feature_fault
-feature_least packed_ordered count pairs drawing payload base keys values fault =
-    let ordered = feature_ordered packed_ordered count pairs drawing payload base keys values in
-    (λ h. first_is_least (feature_rules payload base keys values) fault ordered h, λ h. least_is_first (feature_rules payload base keys values) fault ordered h)
+pub bound_holds : (keys : List (List ℕ)) (values : List Value) (feature : Feature) → IsValid feature.geometry
+    → AllByRecursion (λ tag. tag < 2 ^ 32) (tags_in keys values feature.attributes)
+    → length (spelled (feature_fields (tags_in keys values feature.attributes) feature)) ≤ feature_bound feature
+bound_holds = bound_holds_lem short_lengths_one short_lengths_most short_lengths_field packed_lengths geometry_bound_holds
+
+pub read_is_valid_fields : (payload : List ℕ) (fields : List Entry) → AreBytes payload → Whole payload fields
+    → AllByRecursion (λ (x : Entry). IsInRange x.content) fields
+read_is_valid_fields = λ payload fields bytes whole. fields_range 0 payload fields [] bytes whole

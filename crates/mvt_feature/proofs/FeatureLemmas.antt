@@ -40,10 +40,10 @@ use Rattle.mvt_feature.proofs.WalkLemmas.{rest_none}
 
 -- the fault of a feature from its parts
 abbrev pub rest_fault : List ℕ → ℕ → Option MessageFault
-rest_fault payload base = first (rest_rules base (split payload))
+rest_fault payload payload_at = first (rest_rules payload_at (split payload))
 
 abbrev pub fields_fault : List ℕ → ℕ → Option MessageFault
-fields_fault payload base = first (each (λ _. feature_field_rules base) [] (split payload).fields)
+fields_fault payload payload_at = first (each (λ _. feature_field_rules payload_at) [] (split payload).fields)
 
 abbrev pub tags_fault : List ℕ → List (List ℕ) → List Value → Option MessageFault
 tags_fault payload keys values = option_map tag_told (tag_fault keys values (joined TAGS (split payload).fields))
@@ -77,51 +77,51 @@ drawing_chain : (kind : Kind) (integers : List ℕ) → option_or (first (told g
 drawing_chain kind integers =
     or_right _ ∙ first-told geometry_told (geometry_rules kind integers) ∙ ap (option_map geometry_told) (geometry_first kind integers)
 
-pub feature_chain : (payload : List ℕ) (base : ℕ) (keys : List (List ℕ)) (values : List Value) → feature_fault payload base keys values ≡ option_or (rest_fault payload base) (option_or (fields_fault payload base) (option_or (tags_fault payload keys values) (drawing_fault payload)))
+pub feature_chain : (payload : List ℕ) (payload_at : ℕ) (keys : List (List ℕ)) (values : List Value) → feature_fault payload payload_at keys values ≡ option_or (rest_fault payload payload_at) (option_or (fields_fault payload payload_at) (option_or (tags_fault payload keys values) (drawing_fault payload)))
 unfolding feature_fault feature_rules
-feature_chain payload base keys values =
-    first-rows_all (feature_table payload base keys values) ∙ ap (λ o. option_or (rest_fault payload base) (option_or (fields_fault payload base) o)) (tags_chain keys values (joined TAGS (split payload).fields) _ ∙ ap (λ o. option_or (tags_fault payload keys values) o) (drawing_chain (kind_in (split payload).fields) (joined GEOMETRY (split payload).fields)))
+feature_chain payload payload_at keys values =
+    first-rows_all (feature_table payload payload_at keys values) ∙ ap (λ o. option_or (rest_fault payload payload_at) (option_or (fields_fault payload payload_at) o)) (tags_chain keys values (joined TAGS (split payload).fields) _ ∙ ap (λ o. option_or (tags_fault payload keys values) o) (drawing_chain (kind_in (split payload).fields) (joined GEOMETRY (split payload).fields)))
 
 -- the exits of `read_feature_in`
-pub known_told : (payload : List ℕ) (base : ℕ) (keys : List (List ℕ)) (values : List Value) (e : MessageError) → TellsMessage e (option_or (rest_fault payload base) (fields_fault payload base)) → TellsMessage e (feature_fault payload base keys values)
-known_told payload base keys values e h =
-    subst (λ o. TellsMessage e o) (sym (feature_chain payload base keys values)) (tells_front e (rest_fault payload base) (fields_fault payload base) (option_or (tags_fault payload keys values) (drawing_fault payload)) h)
+pub known_told : (payload : List ℕ) (payload_at : ℕ) (keys : List (List ℕ)) (values : List Value) (e : MessageError) → TellsMessage e (option_or (rest_fault payload payload_at) (fields_fault payload payload_at)) → TellsMessage e (feature_fault payload payload_at keys values)
+known_told payload payload_at keys values e h =
+    subst (λ o. TellsMessage e o) (sym (feature_chain payload payload_at keys values)) (tells_front e (rest_fault payload payload_at) (fields_fault payload payload_at) (option_or (tags_fault payload keys values) (drawing_fault payload)) h)
 
-behind_fields : (payload : List ℕ) (base : ℕ) (keys : List (List ℕ)) (values : List Value) → (split payload).rest ≡ [] → fields_fault payload base ≡ None → feature_fault payload base keys values ≡ option_or (tags_fault payload keys values) (drawing_fault payload)
-behind_fields payload base keys values rest clean =
-    feature_chain payload base keys values ∙ option_or-none _ _ (rest_none base (split payload) rest) ∙ option_or-none _ _ clean
+behind_fields : (payload : List ℕ) (payload_at : ℕ) (keys : List (List ℕ)) (values : List Value) → (split payload).rest ≡ [] → fields_fault payload payload_at ≡ None → feature_fault payload payload_at keys values ≡ option_or (tags_fault payload keys values) (drawing_fault payload)
+behind_fields payload payload_at keys values rest clean =
+    feature_chain payload payload_at keys values ∙ option_or-none _ _ (rest_none payload_at (split payload) rest) ∙ option_or-none _ _ clean
 
-pub tags_told : (payload : List ℕ) (base : ℕ) (keys : List (List ℕ)) (values : List Value) (tags : List ℕ) (e : TagError) → (split payload).rest ≡ [] → fields_fault payload base ≡ None → tags ≡ joined TAGS (split payload).fields → TellsTags e (tag_fault keys values tags) → TellsMessage (of_tag_error e) (feature_fault payload base keys values)
-tags_told payload base keys values tags tag_errors.Memory rest clean is h = tt
-tags_told payload base keys values tags (tag_errors.Fault index cause) rest clean is h =
-    behind_fields payload base keys values rest clean ∙ option_or-some _ _ _ (ap (option_map tag_told) (ap (tag_fault keys values) (sym is) ∙ h))
+pub tags_told : (payload : List ℕ) (payload_at : ℕ) (keys : List (List ℕ)) (values : List Value) (tags : List ℕ) (e : TagError) → (split payload).rest ≡ [] → fields_fault payload payload_at ≡ None → tags ≡ joined TAGS (split payload).fields → TellsTags e (tag_fault keys values tags) → TellsMessage (of_tag_error e) (feature_fault payload payload_at keys values)
+tags_told payload payload_at keys values tags tag_errors.Memory rest clean is h = tt
+tags_told payload payload_at keys values tags (tag_errors.Fault index cause) rest clean is h =
+    behind_fields payload payload_at keys values rest clean ∙ option_or-some _ _ _ (ap (option_map tag_told) (ap (tag_fault keys values) (sym is) ∙ h))
 
-pub drawing_told : (payload : List ℕ) (base : ℕ) (keys : List (List ℕ)) (values : List Value) (tags integers : List ℕ) (kind : Kind) (e : GeometryError) → (split payload).rest ≡ [] → fields_fault payload base ≡ None → tags ≡ joined TAGS (split payload).fields → integers ≡ joined GEOMETRY (split payload).fields → kind ≡ kind_in (split payload).fields → tag_fault keys values tags ≡ None → TellsGeometry e (geometry_fault kind integers) → TellsMessage (of_geometry_error e) (feature_fault payload base keys values)
-drawing_told payload base keys values tags integers kind geometry_errors.Memory rest clean tags_are is kind_is resolved h = tt
-drawing_told payload base keys values tags integers kind (geometry_errors.Fault index cause) rest clean tags_are is kind_is resolved h =
-    behind_fields payload base keys values rest clean ∙ option_or-none _ _ (ap (option_map tag_told) (ap (tag_fault keys values) (sym tags_are) ∙ resolved)) ∙ ap (option_map geometry_told) (ap₂ geometry_fault (sym kind_is) (sym is) ∙ h)
+pub drawing_told : (payload : List ℕ) (payload_at : ℕ) (keys : List (List ℕ)) (values : List Value) (tags integers : List ℕ) (kind : Kind) (e : GeometryError) → (split payload).rest ≡ [] → fields_fault payload payload_at ≡ None → tags ≡ joined TAGS (split payload).fields → integers ≡ joined GEOMETRY (split payload).fields → kind ≡ kind_in (split payload).fields → tag_fault keys values tags ≡ None → TellsGeometry e (geometry_fault kind integers) → TellsMessage (of_geometry_error e) (feature_fault payload payload_at keys values)
+drawing_told payload payload_at keys values tags integers kind geometry_errors.Memory rest clean tags_are is kind_is resolved h = tt
+drawing_told payload payload_at keys values tags integers kind (geometry_errors.Fault index cause) rest clean tags_are is kind_is resolved h =
+    behind_fields payload payload_at keys values rest clean ∙ option_or-none _ _ (ap (option_map tag_told) (ap (tag_fault keys values) (sym tags_are) ∙ resolved)) ∙ ap (option_map geometry_told) (ap₂ geometry_fault (sym kind_is) (sym is) ∙ h)
 
-pub feature_clean : (payload : List ℕ) (base : ℕ) (keys : List (List ℕ)) (values : List Value) (tags integers : List ℕ) (kind : Kind) → (split payload).rest ≡ [] → fields_fault payload base ≡ None → tags ≡ joined TAGS (split payload).fields → integers ≡ joined GEOMETRY (split payload).fields → kind ≡ kind_in (split payload).fields → tag_fault keys values tags ≡ None → geometry_fault kind integers ≡ None → feature_fault payload base keys values ≡ None
-feature_clean payload base keys values tags integers kind rest clean tags_are is kind_is resolved drawn =
-    behind_fields payload base keys values rest clean ∙ option_or-none _ _ (ap (option_map tag_told) (ap (tag_fault keys values) (sym tags_are) ∙ resolved)) ∙ ap (option_map geometry_told) (ap₂ geometry_fault (sym kind_is) (sym is) ∙ drawn)
+pub feature_clean : (payload : List ℕ) (payload_at : ℕ) (keys : List (List ℕ)) (values : List Value) (tags integers : List ℕ) (kind : Kind) → (split payload).rest ≡ [] → fields_fault payload payload_at ≡ None → tags ≡ joined TAGS (split payload).fields → integers ≡ joined GEOMETRY (split payload).fields → kind ≡ kind_in (split payload).fields → tag_fault keys values tags ≡ None → geometry_fault kind integers ≡ None → feature_fault payload payload_at keys values ≡ None
+feature_clean payload payload_at keys values tags integers kind rest clean tags_are is kind_is resolved drawn =
+    behind_fields payload payload_at keys values rest clean ∙ option_or-none _ _ (ap (option_map tag_told) (ap (tag_fault keys values) (sym tags_are) ∙ resolved)) ∙ ap (option_map geometry_told) (ap₂ geometry_fault (sym kind_is) (sym is) ∙ drawn)
 
 -- the form of a field and its rules
-clean_field : (base : ℕ) (x : Entry) → first (feature_field_rules base x) ≡ None → first (feature_form_rules x.number x.content) ≡ None
-clean_field base x h = none_mapped (fault_at (base + x.at)) (first (feature_form_rules x.number x.content)) (sym (field_first base x) ∙ h)
+clean_field : (payload_at : ℕ) (x : Entry) → first (feature_field_rules payload_at x) ≡ None → first (feature_form_rules x.number x.content) ≡ None
+clean_field payload_at x h = none_mapped (fault_at (payload_at + x.at)) (first (feature_form_rules x.number x.content)) (sym (field_first payload_at x) ∙ h)
 
-pub field_clean : (base : ℕ) (x : Entry) → first (feature_form_rules x.number x.content) ≡ None → first (feature_field_rules base x) ≡ None
-field_clean base x h = field_first base x ∙ ap (option_map (fault_at (base + x.at))) h
+pub field_clean : (payload_at : ℕ) (x : Entry) → first (feature_form_rules x.number x.content) ≡ None → first (feature_field_rules payload_at x) ≡ None
+field_clean payload_at x h = field_first payload_at x ∙ ap (option_map (fault_at (payload_at + x.at))) h
 
 -- the rules of the fields of one number
-of_number : (base k : ℕ) (P : Content → Type 0) → ((c : Content) → first (feature_form_rules k c) ≡ None → P c) → (xs : List Entry) → first (each (λ _. feature_field_rules base) [] xs) ≡ None → HaveForm k P xs
-of_number base k P form xs clean =
-    all_weaker (λ (x : Entry). first (feature_field_rules base x) ≡ None) (λ (x : Entry). x.number ≡ k → P x.content) (λ x none is. form x.content (subst (λ n. first (feature_form_rules n x.content) ≡ None) is (clean_field base x none))) xs (none_each (feature_field_rules base) [] xs clean)
+of_number : (payload_at k : ℕ) (P : Content → Type 0) → ((c : Content) → first (feature_form_rules k c) ≡ None → P c) → (xs : List Entry) → first (each (λ _. feature_field_rules payload_at) [] xs) ≡ None → HaveForm k P xs
+of_number payload_at k P form xs clean =
+    all_weaker (λ (x : Entry). first (feature_field_rules payload_at x) ≡ None) (λ (x : Entry). x.number ≡ k → P x.content) (λ x none is. form x.content (subst (λ n. first (feature_form_rules n x.content) ≡ None) is (clean_field payload_at x none))) xs (none_each (feature_field_rules payload_at) [] xs clean)
 
-id_form : (base : ℕ) (xs : List Entry) → first (each (λ _. feature_field_rules base) [] xs) ≡ None → HaveForm ID (HasForm any_varint) xs
-id_form base xs clean = of_number base ID (HasForm any_varint) (λ c h. has_form any_varint c (sym (first-under 0 (form_rules any_varint c)) ∙ h)) xs clean
+id_form : (payload_at : ℕ) (xs : List Entry) → first (each (λ _. feature_field_rules payload_at) [] xs) ≡ None → HaveForm ID (HasForm any_varint) xs
+id_form payload_at xs clean = of_number payload_at ID (HasForm any_varint) (λ c h. has_form any_varint c (sym (first-under 0 (form_rules any_varint c)) ∙ h)) xs clean
 
-type_form : (base : ℕ) (xs : List Entry) → first (each (λ _. feature_field_rules base) [] xs) ≡ None → HaveForm TYPE (HasForm geom_type) xs
-type_form base xs clean = of_number base TYPE (HasForm geom_type) (λ c h. has_form geom_type c (sym (first-under 0 (form_rules geom_type c)) ∙ h)) xs clean
+type_form : (payload_at : ℕ) (xs : List Entry) → first (each (λ _. feature_field_rules payload_at) [] xs) ≡ None → HaveForm TYPE (HasForm geom_type) xs
+type_form payload_at xs clean = of_number payload_at TYPE (HasForm geom_type) (λ c h. has_form geom_type c (sym (first-under 0 (form_rules geom_type c)) ∙ h)) xs clean
 
 list_numbers : PackedClean → (c : Content) → first (list_rules c) ≡ None → AreNumbers c (numbers_of c)
 list_numbers packed_clean (varint n) h =
@@ -178,24 +178,24 @@ joined_small [] ns h = subst (AllByRecursion (λ m. m < 2 ^ 32)) (sym h) tt
 joined_small (x ∷ xs) ns (front, back, is, numbers, more) =
     subst (AllByRecursion (λ m. m < 2 ^ 32)) (sym is) (all_joined (λ m. m < 2 ^ 32) front back (numbers_small x.content front numbers) (joined_small xs back more))
 
-pub joined_is : PackedClean → (base k : ℕ) (xs : List Entry) → ((c : Content) → first (feature_form_rules k c) ≡ None → first (list_rules c) ≡ None) → first (each (λ _. feature_field_rules base) [] xs) ≡ None → Joined (only k xs) (joined k xs)
-joined_is packed_clean base k xs form clean =
-    joined_all packed_clean (only k xs) (only_form k (λ c. first (list_rules c) ≡ None) xs (of_number base k (λ c. first (list_rules c) ≡ None) form xs clean))
+pub joined_is : PackedClean → (payload_at k : ℕ) (xs : List Entry) → ((c : Content) → first (feature_form_rules k c) ≡ None → first (list_rules c) ≡ None) → first (each (λ _. feature_field_rules payload_at) [] xs) ≡ None → Joined (only k xs) (joined k xs)
+joined_is packed_clean payload_at k xs form clean =
+    joined_all packed_clean (only k xs) (only_form k (λ c. first (list_rules c) ≡ None) xs (of_number payload_at k (λ c. first (list_rules c) ≡ None) form xs clean))
 
 -- what was read is the feature
-pub feature_from : SplitIs → PackedClean → (payload : List ℕ) (base : ℕ) (keys : List (List ℕ)) (values : List Value) (f : Feature) → (split payload).rest ≡ [] → fields_fault payload base ≡ None → f.id ≡ number_in (last_only ID (split payload).fields) → Resolved keys values (joined TAGS (split payload).fields) f.attributes → Draws (kind_in (split payload).fields) (joined GEOMETRY (split payload).fields) f.geometry → IsFeatureOf payload keys values f
-feature_from split_is packed_clean payload base keys values f rest clean id resolved draws =
+pub feature_from : SplitIs → PackedClean → (payload : List ℕ) (payload_at : ℕ) (keys : List (List ℕ)) (values : List Value) (f : Feature) → (split payload).rest ≡ [] → fields_fault payload payload_at ≡ None → f.id ≡ number_in (last_only ID (split payload).fields) → Resolved keys values (joined TAGS (split payload).fields) f.attributes → Draws (kind_in (split payload).fields) (joined GEOMETRY (split payload).fields) f.geometry → IsFeatureOf payload keys values f
+feature_from split_is packed_clean payload payload_at keys values f rest clean id resolved draws =
     let xs = (split payload).fields in (
       xs,
       whole_split split_is payload rest,
       record {
-        forms = (id_form base xs clean, (type_form base xs clean, tt));
+        forms = (id_form payload_at xs clean, (type_form payload_at xs clean, tt));
         id = id;
         tags = joined TAGS xs;
-        tags_are = joined_is packed_clean base TAGS xs (λ c h. h) clean;
+        tags_are = joined_is packed_clean payload_at TAGS xs (λ c h. h) clean;
         attributes = resolved;
         integers = joined GEOMETRY xs;
-        integers_are = joined_is packed_clean base GEOMETRY xs (λ c h. h) clean;
+        integers_are = joined_is packed_clean payload_at GEOMETRY xs (λ c h. h) clean;
         geometry = draws;
       },
     )

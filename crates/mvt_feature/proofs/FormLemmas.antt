@@ -71,25 +71,25 @@ number_form forms known is xs clean =
     (λ x none same. has_form known.1 x.content (ap first (sym (is x.content)) ∙ subst (λ n. first (number_rules forms n x.content) ≡ None) same none)) xs clean
 
 -- the rules of fields, told at their places
-pub clean_at : (forms : List (ℕ × Form)) (base : ℕ) (x : Entry) → first (forms_rules forms base x) ≡ None → first (number_rules forms x.number x.content) ≡ None
-clean_at forms base x h = none_mapped (fault_at (base + x.at)) _ (sym (first-told (fault_at (base + x.at)) (number_rules forms x.number x.content)) ∙ h)
+pub clean_at : (forms : List (ℕ × Form)) (payload_at : ℕ) (x : Entry) → first (forms_rules forms payload_at x) ≡ None → first (number_rules forms x.number x.content) ≡ None
+clean_at forms payload_at x h = none_mapped (fault_at (payload_at + x.at)) _ (sym (first-told (fault_at (payload_at + x.at)) (number_rules forms x.number x.content)) ∙ h)
 
-pub told_clean : (forms : List (ℕ × Form)) (base : ℕ) (x : Entry) → first (number_rules forms x.number x.content) ≡ None → first (forms_rules forms base x) ≡ None
-told_clean forms base x h = first-told (fault_at (base + x.at)) (number_rules forms x.number x.content) ∙ ap (option_map (fault_at (base + x.at))) h
+pub told_clean : (forms : List (ℕ × Form)) (payload_at : ℕ) (x : Entry) → first (number_rules forms x.number x.content) ≡ None → first (forms_rules forms payload_at x) ≡ None
+told_clean forms payload_at x h = first-told (fault_at (payload_at + x.at)) (number_rules forms x.number x.content) ∙ ap (option_map (fault_at (payload_at + x.at))) h
 
-pub forms_ordered : (forms : List (ℕ × Form)) (base : ℕ) (x : Entry) → AreOrdered (forms_rules forms base x)
-forms_ordered forms base x = told_ordered (fault_at (base + x.at)) (number_rules forms x.number x.content) (number_ordered forms x.number x.content)
+pub forms_ordered : (forms : List (ℕ × Form)) (payload_at : ℕ) (x : Entry) → AreOrdered (forms_rules forms payload_at x)
+forms_ordered forms payload_at x = told_ordered (fault_at (payload_at + x.at)) (number_rules forms x.number x.content) (number_ordered forms x.number x.content)
 
-pub forms_have : (forms : List (ℕ × Form)) (base : ℕ) (xs : List Entry) → AllByRecursion (IsFirst forms) forms → first (each (λ _. forms_rules forms base) [] xs) ≡ None → HaveForms forms xs
-forms_have forms base xs firsts clean =
+pub forms_have : (forms : List (ℕ × Form)) (payload_at : ℕ) (xs : List Entry) → AllByRecursion (IsFirst forms) forms → first (each (λ _. forms_rules forms payload_at) [] xs) ≡ None → HaveForms forms xs
+forms_have forms payload_at xs firsts clean =
     all_weaker (IsFirst forms) (λ (known : ℕ × Form). HaveForm known.0 (HasForm known.1) xs) (λ known is. number_form forms known is xs all) forms firsts
   where
     all : AllByRecursion (λ (x : Entry). first (number_rules forms x.number x.content) ≡ None) xs
-    all = all_weaker (λ (x : Entry). first (forms_rules forms base x) ≡ None) (λ (x : Entry). first (number_rules forms x.number x.content) ≡ None) (λ x h. clean_at forms base x h) xs (none_each (forms_rules forms base) [] xs clean)
+    all = all_weaker (λ (x : Entry). first (forms_rules forms payload_at x) ≡ None) (λ (x : Entry). first (number_rules forms x.number x.content) ≡ None) (λ x h. clean_at forms payload_at x h) xs (none_each (forms_rules forms payload_at) [] xs clean)
 
-pub forms_clean : (forms : List (ℕ × Form)) (base : ℕ) (xs : List Entry) → HaveForms forms xs → first (each (λ _. forms_rules forms base) [] xs) ≡ None
-forms_clean forms base xs h = each_none (forms_rules forms base) [] xs (all xs h)
+pub forms_clean : (forms : List (ℕ × Form)) (payload_at : ℕ) (xs : List Entry) → HaveForms forms xs → first (each (λ _. forms_rules forms payload_at) [] xs) ≡ None
+forms_clean forms payload_at xs h = each_none (forms_rules forms payload_at) [] xs (all xs h)
   where
-    all : (ys : List Entry) → HaveForms forms ys → AllByRecursion (λ (y : Entry). first (forms_rules forms base y) ≡ None) ys
+    all : (ys : List Entry) → HaveForms forms ys → AllByRecursion (λ (y : Entry). first (forms_rules forms payload_at y) ≡ None) ys
     all [] g = tt
-    all (y ∷ ys) g = let parts = forms_split forms y ys g in (told_clean forms base y (number_clean forms y.number y.content parts.0), all ys parts.1)
+    all (y ∷ ys) g = let parts = forms_split forms y ys g in (told_clean forms payload_at y (number_clean forms y.number y.content parts.0), all ys parts.1)

@@ -65,23 +65,23 @@ with_more (y ∷ ys) (One number old) x m (one, (last, (is, (named, old_means)))
 with_more [] Several x m are means = absurd (are.0 refl)
 with_more (y ∷ ys) Several x m are means = (λ e. cc, one_number y ys x ∙ and_left (are_one_kind (y ∷ ys)) (x.number == y.number) are.1)
 
-field_clean : (base : ℕ) (x : Entry) → first (number_rules value_forms x.number x.content) ≡ None → first (value_field_rules base x) ≡ None
+field_clean : (payload_at : ℕ) (x : Entry) → first (number_rules value_forms x.number x.content) ≡ None → first (value_field_rules payload_at x) ≡ None
 unfolding value_field_rules
-field_clean base x clean = rw (first-told (fault_at (base + x.at)) (number_rules value_forms x.number x.content), clean) refl
+field_clean payload_at x clean = rw (first-told (fault_at (payload_at + x.at)) (number_rules value_forms x.number x.content), clean) refl
 
-field_broken : (base : ℕ) (x : Entry) (cause : Cause) → first (number_rules value_forms x.number x.content) ≡ Some cause → first (value_field_rules base x) ≡ Some (fault_at (base + x.at) cause)
+field_broken : (payload_at : ℕ) (x : Entry) (cause : Cause) → first (number_rules value_forms x.number x.content) ≡ Some cause → first (value_field_rules payload_at x) ≡ Some (fault_at (payload_at + x.at) cause)
 unfolding value_field_rules
-field_broken base x cause broken = rw (first-told (fault_at (base + x.at)) (number_rules value_forms x.number x.content), broken) refl
+field_broken payload_at x cause broken = rw (first-told (fault_at (payload_at + x.at)) (number_rules value_forms x.number x.content), broken) refl
 
 -- the steps of the walk
-pub so_far_skip : (base : ℕ) (done : List Entry) (k : Kinds) (x : Entry) → AreSoFar base done (Ok k) → first (number_rules value_forms x.number x.content) ≡ None → is_kind x ≡ false → AreSoFar base (done ++ x ∷ []) (Ok k)
-so_far_skip base done k x so_far clean skip =
-    (each_more (λ _. value_field_rules base) done x so_far.0 ∙ field_clean base x clean, subst (λ ys. AreKindsOf ys k) (sym (kinds_skip done x skip)) so_far.1)
+pub so_far_skip : (payload_at : ℕ) (done : List Entry) (k : Kinds) (x : Entry) → AreSoFar payload_at done (Ok k) → first (number_rules value_forms x.number x.content) ≡ None → is_kind x ≡ false → AreSoFar payload_at (done ++ x ∷ []) (Ok k)
+so_far_skip payload_at done k x so_far clean skip =
+    (each_more (λ _. value_field_rules payload_at) done x so_far.0 ∙ field_clean payload_at x clean, subst (λ ys. AreKindsOf ys k) (sym (kinds_skip done x skip)) so_far.1)
 
-pub so_far_with : (base : ℕ) (done : List Entry) (k : Kinds) (x : Entry) (m : Meaning) → AreSoFar base done (Ok k) → first (number_rules value_forms x.number x.content) ≡ None → is_kind x ≡ true → Means x.number x.content (value_of m) → AreSoFar base (done ++ x ∷ []) (Ok (kinds_with k x.number m))
-so_far_with base done k x m so_far clean take means =
-    (each_more (λ _. value_field_rules base) done x so_far.0 ∙ field_clean base x clean, subst (λ ys. AreKindsOf ys (kinds_with k x.number m)) (sym (kinds_take done x take)) (with_more (kinds done) k x m so_far.1 means))
+pub so_far_with : (payload_at : ℕ) (done : List Entry) (k : Kinds) (x : Entry) (m : Meaning) → AreSoFar payload_at done (Ok k) → first (number_rules value_forms x.number x.content) ≡ None → is_kind x ≡ true → Means x.number x.content (value_of m) → AreSoFar payload_at (done ++ x ∷ []) (Ok (kinds_with k x.number m))
+so_far_with payload_at done k x m so_far clean take means =
+    (each_more (λ _. value_field_rules payload_at) done x so_far.0 ∙ field_clean payload_at x clean, subst (λ ys. AreKindsOf ys (kinds_with k x.number m)) (sym (kinds_take done x take)) (with_more (kinds done) k x m so_far.1 means))
 
-pub so_far_stops : (base : ℕ) (done : List Entry) (k : Kinds) (x : Entry) (cause : Cause) → AreSoFar base done (Ok k) → first (number_rules value_forms x.number x.content) ≡ Some cause → (more : List Entry) → first (each (λ _. value_field_rules base) [] ((done ++ x ∷ []) ++ more)) ≡ Some (fault_at (base + x.at) cause)
-so_far_stops base done k x cause so_far broken more =
-    rw append_assoc (each_stops (λ _. value_field_rules base) done x more (fault_at (base + x.at) cause) so_far.0 (field_broken base x cause broken))
+pub so_far_stops : (payload_at : ℕ) (done : List Entry) (k : Kinds) (x : Entry) (cause : Cause) → AreSoFar payload_at done (Ok k) → first (number_rules value_forms x.number x.content) ≡ Some cause → (more : List Entry) → first (each (λ _. value_field_rules payload_at) [] ((done ++ x ∷ []) ++ more)) ≡ Some (fault_at (payload_at + x.at) cause)
+so_far_stops payload_at done k x cause so_far broken more =
+    rw append_assoc (each_stops (λ _. value_field_rules payload_at) done x more (fault_at (payload_at + x.at) cause) so_far.0 (field_broken payload_at x cause broken))

@@ -52,27 +52,27 @@ known_more done x old new tags integers new_tags new_integers known id kind tags
   integers_are = integers_are ∙ ap (λ l. l ++ numbers_at GEOMETRY x.number x.content) known.integers_are ∙ sym (joined_more GEOMETRY done x);
 }
 
-pub field_first : (base : ℕ) (x : Entry) → first (feature_field_rules base x) ≡ option_map (fault_at (base + x.at)) (first (feature_form_rules x.number x.content))
+pub field_first : (payload_at : ℕ) (x : Entry) → first (feature_field_rules payload_at x) ≡ option_map (fault_at (payload_at + x.at)) (first (feature_form_rules x.number x.content))
 unfolding feature_field_rules
-field_first base x = first-told (fault_at (base + x.at)) (feature_form_rules x.number x.content)
+field_first payload_at x = first-told (fault_at (payload_at + x.at)) (feature_form_rules x.number x.content)
 
 -- a fault stays before the rules of later fields
 tells_first : (e : MessageError) (o : Option MessageFault) (p : Option MessageFault) → ((f : MessageFault) → o ≡ Some f → p ≡ Some f) → TellsMessage e o → TellsMessage e p
 tells_first Memory o p keep h = tt
 tells_first (Fault feature at cause) o p keep h = keep _ h
 
-one_more : (base : ℕ) (done : List Entry) (x : Entry) (more : List Entry) (f : MessageFault) → first (each (λ _. feature_field_rules base) [] done) ≡ None → option_map (fault_at (base + x.at)) (first (feature_form_rules x.number x.content)) ≡ Some f → first (each (λ _. feature_field_rules base) [] ((done ++ x ∷ []) ++ more)) ≡ Some f
-one_more base done x more f clean broken =
-    rw append_assoc (each_stops (λ _. feature_field_rules base) done x more f clean (field_first base x ∙ broken))
+one_more : (payload_at : ℕ) (done : List Entry) (x : Entry) (more : List Entry) (f : MessageFault) → first (each (λ _. feature_field_rules payload_at) [] done) ≡ None → option_map (fault_at (payload_at + x.at)) (first (feature_form_rules x.number x.content)) ≡ Some f → first (each (λ _. feature_field_rules payload_at) [] ((done ++ x ∷ []) ++ more)) ≡ Some f
+one_more payload_at done x more f clean broken =
+    rw append_assoc (each_stops (λ _. feature_field_rules payload_at) done x more f clean (field_first payload_at x ∙ broken))
 
 -- the step of the walk
-pub known_with : (base : ℕ) (done : List Entry) (x : Entry) (old : Known) (tags integers new_tags new_integers : List ℕ) (r : Result Known MessageError) → IsKnownSoFar base done (Ok old) tags integers
+pub known_with : (payload_at : ℕ) (done : List Entry) (x : Entry) (old : Known) (tags integers new_tags new_integers : List ℕ) (r : Result Known MessageError) → IsKnownSoFar payload_at done (Ok old) tags integers
     → OnOk r (first (feature_form_rules x.number x.content) ≡ None)
     → IfOk r (λ (k : Known). k.id ≡ id_after old.id x.number x.content) → IfOk r (λ (k : Known). k.kind ≡ kind_after old.kind x.number x.content)
     → OnOk r (new_tags ≡ tags ++ numbers_at TAGS x.number x.content) → OnOk r (new_integers ≡ integers ++ numbers_at GEOMETRY x.number x.content)
-    → IfErr r (λ e. TellsMessage e (option_map (fault_at (base + x.at)) (first (feature_form_rules x.number x.content))))
-    → IsKnownSoFar base (done ++ x ∷ []) r new_tags new_integers
-known_with base done x old tags integers new_tags new_integers (Ok new) so_far clean id kind tags_are integers_are told_here =
-    (each_more (λ _. feature_field_rules base) done x so_far.0 ∙ field_first base x ∙ ap (option_map (fault_at (base + x.at))) clean, known_more done x old new tags integers new_tags new_integers so_far.1 id kind tags_are integers_are)
-known_with base done x old tags integers new_tags new_integers (Err e) so_far clean id kind tags_are integers_are told_here =
-    λ more. tells_first e (option_map (fault_at (base + x.at)) (first (feature_form_rules x.number x.content))) (first (each (λ _. feature_field_rules base) [] ((done ++ x ∷ []) ++ more))) (λ f broken. one_more base done x more f so_far.0 broken) told_here
+    → IfErr r (λ e. TellsMessage e (option_map (fault_at (payload_at + x.at)) (first (feature_form_rules x.number x.content))))
+    → IsKnownSoFar payload_at (done ++ x ∷ []) r new_tags new_integers
+known_with payload_at done x old tags integers new_tags new_integers (Ok new) so_far clean id kind tags_are integers_are told_here =
+    (each_more (λ _. feature_field_rules payload_at) done x so_far.0 ∙ field_first payload_at x ∙ ap (option_map (fault_at (payload_at + x.at))) clean, known_more done x old new tags integers new_tags new_integers so_far.1 id kind tags_are integers_are)
+known_with payload_at done x old tags integers new_tags new_integers (Err e) so_far clean id kind tags_are integers_are told_here =
+    λ more. tells_first e (option_map (fault_at (payload_at + x.at)) (first (feature_form_rules x.number x.content))) (first (each (λ _. feature_field_rules payload_at) [] ((done ++ x ∷ []) ++ more))) (λ f broken. one_more payload_at done x more f so_far.0 broken) told_here

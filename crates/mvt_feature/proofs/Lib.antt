@@ -1,3 +1,4 @@
+pub mod FeatureLaws
 pub mod Below
 pub mod TextLemmas
 pub mod FormLemmas
@@ -7,7 +8,7 @@ pub mod ValueLemmas
 pub mod SaidLemmas
 pub mod KnownLemmas
 pub mod FeatureLemmas
-pub mod FeatureLaws
+pub mod OrFaultLemmas
 pub mod WritingLemmas
 pub mod CanonicalLemmas
 pub mod ValidLemmas

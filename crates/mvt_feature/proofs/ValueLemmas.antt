@@ -33,9 +33,9 @@ use Rattle.mvt_feature.specs.ValueRules.{is_kind, kinds, are_one_kind, value_fie
 use Rattle.mvt_feature.proofs.FormLemmas.{has_form, clean_at, told_clean, forms_have, forms_clean, forms_ordered}
 
 -- the fault of a value from its parts
-pub value_chain : (payload : List ℕ) (base own : ℕ) → value_fault payload base own ≡ firsts (value_table payload base own)
+pub value_chain : (payload : List ℕ) (payload_at tag_at : ℕ) → value_fault payload payload_at tag_at ≡ firsts (value_table payload payload_at tag_at)
 unfolding value_fault value_rules
-value_chain payload base own = first-rows_all (value_table payload base own)
+value_chain payload payload_at tag_at = first-rows_all (value_table payload payload_at tag_at)
 
 front_some : {F : Type 0} → (a b d : Option F) (f : F) → option_or a b ≡ Some f → option_or a (option_or b d) ≡ Some f
 front_some None None d f h = cc
@@ -47,17 +47,17 @@ pub tells_front : (e : MessageError) (a b d : Option MessageFault) → TellsMess
 tells_front Memory a b d h = tt
 tells_front (Fault feature at cause) a b d h = front_some a b d _ h
 
-pub tells_value : (payload : List ℕ) (base own : ℕ) (e : MessageError) → TellsMessage e (option_or (first (rest_rules base (split payload))) (first (each (λ _. value_field_rules base) [] (split payload).fields))) → TellsMessage e (value_fault payload base own)
-tells_value payload base own e h =
-    subst (λ o. TellsMessage e o) (sym (value_chain payload base own)) (tells_front e (first (rest_rules base (split payload))) (first (each (λ _. value_field_rules base) [] (split payload).fields)) (option_or (first (when (not (are_one_kind (kinds (split payload).fields))) (fault_at own ValueKind))) None) h)
+pub tells_value : (payload : List ℕ) (payload_at tag_at : ℕ) (e : MessageError) → TellsMessage e (option_or (first (rest_rules payload_at (split payload))) (first (each (λ _. value_field_rules payload_at) [] (split payload).fields))) → TellsMessage e (value_fault payload payload_at tag_at)
+tells_value payload payload_at tag_at e h =
+    subst (λ o. TellsMessage e o) (sym (value_chain payload payload_at tag_at)) (tells_front e (first (rest_rules payload_at (split payload))) (first (each (λ _. value_field_rules payload_at) [] (split payload).fields)) (option_or (first (when (not (are_one_kind (kinds (split payload).fields))) (fault_at tag_at ValueKind))) None) h)
 
-pub value_kind_told : (payload : List ℕ) (base own : ℕ) → first (rest_rules base (split payload)) ≡ None → first (each (λ _. value_field_rules base) [] (split payload).fields) ≡ None → are_one_kind (kinds (split payload).fields) ≡ false → value_fault payload base own ≡ Some (fault_at own ValueKind)
-value_kind_told payload base own rest clean several =
-    value_chain payload base own ∙ option_or-none _ _ rest ∙ option_or-none _ _ clean ∙ option_or-right _ ∙ first-when _ _ (ap not several)
+pub value_kind_told : (payload : List ℕ) (payload_at tag_at : ℕ) → first (rest_rules payload_at (split payload)) ≡ None → first (each (λ _. value_field_rules payload_at) [] (split payload).fields) ≡ None → are_one_kind (kinds (split payload).fields) ≡ false → value_fault payload payload_at tag_at ≡ Some (fault_at tag_at ValueKind)
+value_kind_told payload payload_at tag_at rest clean several =
+    value_chain payload payload_at tag_at ∙ option_or-none _ _ rest ∙ option_or-none _ _ clean ∙ option_or-right _ ∙ first-when _ _ (ap not several)
 
-pub value_clean : (payload : List ℕ) (base own : ℕ) → first (rest_rules base (split payload)) ≡ None → first (each (λ _. value_field_rules base) [] (split payload).fields) ≡ None → are_one_kind (kinds (split payload).fields) ≡ true → value_fault payload base own ≡ None
-value_clean payload base own rest clean one =
-    value_chain payload base own ∙ option_or-none _ _ rest ∙ option_or-none _ _ clean ∙ option_or-right _ ∙ first-when_not _ _ (ap not one)
+pub value_clean : (payload : List ℕ) (payload_at tag_at : ℕ) → first (rest_rules payload_at (split payload)) ≡ None → first (each (λ _. value_field_rules payload_at) [] (split payload).fields) ≡ None → are_one_kind (kinds (split payload).fields) ≡ true → value_fault payload payload_at tag_at ≡ None
+value_clean payload payload_at tag_at rest clean one =
+    value_chain payload payload_at tag_at ∙ option_or-none _ _ rest ∙ option_or-none _ _ clean ∙ option_or-right _ ∙ first-when_not _ _ (ap not one)
 
 -- a fact for each of the seven numbers
 for_seven : (P : ℕ → Type 0) → P 1 → P 2 → P 3 → P 4 → P 5 → P 6 → P 7 → (n : ℕ) → 1 ≤ n → n ≤ 7 → P n
@@ -89,23 +89,23 @@ for_seven P p1 p2 p3 p4 p5 p6 p7 n low high =
     ]
 
 -- a field's rules and its form
-clean_rules : (base : ℕ) (x : Entry) → first (value_field_rules base x) ≡ None → first (number_rules value_forms x.number x.content) ≡ None
+clean_rules : (payload_at : ℕ) (x : Entry) → first (value_field_rules payload_at x) ≡ None → first (number_rules value_forms x.number x.content) ≡ None
 unfolding value_field_rules
-clean_rules base x h = clean_at value_forms base x h
+clean_rules payload_at x h = clean_at value_forms payload_at x h
 
-pub rules_clean : (base : ℕ) (x : Entry) → first (number_rules value_forms x.number x.content) ≡ None → first (value_field_rules base x) ≡ None
+pub rules_clean : (payload_at : ℕ) (x : Entry) → first (number_rules value_forms x.number x.content) ≡ None → first (value_field_rules payload_at x) ≡ None
 unfolding value_field_rules
-rules_clean base x h = told_clean value_forms base x h
+rules_clean payload_at x h = told_clean value_forms payload_at x h
 
 -- fields without a fault have the forms of their kinds, and such fields have no fault
-values_have : (base : ℕ) (xs : List Entry) → first (each (λ _. value_field_rules base) [] xs) ≡ None → HaveForms value_forms xs
+values_have : (payload_at : ℕ) (xs : List Entry) → first (each (λ _. value_field_rules payload_at) [] xs) ≡ None → HaveForms value_forms xs
 unfolding value_field_rules
-values_have base xs clean =
-    forms_have value_forms base xs (λ c. refl, (λ c. refl, (λ c. refl, (λ c. refl, (λ c. refl, (λ c. refl, (λ c. refl, tt))))))) clean
+values_have payload_at xs clean =
+    forms_have value_forms payload_at xs (λ c. refl, (λ c. refl, (λ c. refl, (λ c. refl, (λ c. refl, (λ c. refl, (λ c. refl, tt))))))) clean
 
-values_clean : (base : ℕ) (xs : List Entry) → HaveForms value_forms xs → first (each (λ _. value_field_rules base) [] xs) ≡ None
+values_clean : (payload_at : ℕ) (xs : List Entry) → HaveForms value_forms xs → first (each (λ _. value_field_rules payload_at) [] xs) ≡ None
 unfolding value_field_rules
-values_clean base xs h = forms_clean value_forms base xs h
+values_clean payload_at xs h = forms_clean value_forms payload_at xs h
 
 kind_test : (x : Entry) → IsKind x.number → is_kind x ≡ true
 kind_test x h = and_from _ _ (le-leb STRING x.number h.0) (le-leb x.number BOOL h.1)
@@ -169,13 +169,13 @@ means_kind n (varint m) (Truth b) h = let e : n ≡ BOOL = h.0 in (omega arith, 
 means_kind n c v h = absurd (search rules)
 
 -- fields of one kind without a fault are the value that the last of them says
-pub value_from : (base : ℕ) (xs : List Entry) (last : Entry) (v : Value) → first (each (λ _. value_field_rules base) [] xs) ≡ None → are_one_kind (kinds xs) ≡ true → last_or None (kinds xs) ≡ Some last → Means last.number last.content v → IsValue xs v
-value_from base xs last v clean one is means =
+pub value_from : (payload_at : ℕ) (xs : List Entry) (last : Entry) (v : Value) → first (each (λ _. value_field_rules payload_at) [] xs) ≡ None → are_one_kind (kinds xs) ≡ true → last_or None (kinds xs) ≡ Some last → Means last.number last.content v → IsValue xs v
+value_from payload_at xs last v clean one is means =
     let same = all_numbered (kinds xs) last one is in
     let only_one = kinds_one last.number xs same in
     let kind = means_kind last.number last.content v means in
     record {
-      forms = values_have base xs clean;
+      forms = values_have payload_at xs clean;
       kind = last.number;
       one = only_one;
       last = last;
@@ -188,18 +188,18 @@ pub whole_split : SplitIs → (payload : List ℕ) → (split payload).rest ≡ 
 whole_split split_is payload rest = subst (λ r. Split payload (split payload).fields r) rest (split_is payload)
 
 -- the answers of `read_value`
-pub kinds_value : SplitIs → (payload : List ℕ) (base number : ℕ) (m : Meaning) → (split payload).rest ≡ [] → first (each (λ _. value_field_rules base) [] (split payload).fields) ≡ None → AreKinds (split payload).fields (One number m) → IsValueOf payload (value_of m)
-kinds_value split_is payload base number m rest clean (one, (last, (is, (named, means)))) =
-    ((split payload).fields, whole_split split_is payload rest, value_from base (split payload).fields last (value_of m) clean one is (subst (λ n. Means n last.content (value_of m)) (sym named) means))
+pub kinds_value : SplitIs → (payload : List ℕ) (payload_at number : ℕ) (m : Meaning) → (split payload).rest ≡ [] → first (each (λ _. value_field_rules payload_at) [] (split payload).fields) ≡ None → AreKinds (split payload).fields (One number m) → IsValueOf payload (value_of m)
+kinds_value split_is payload payload_at number m rest clean (one, (last, (is, (named, means)))) =
+    ((split payload).fields, whole_split split_is payload rest, value_from payload_at (split payload).fields last (value_of m) clean one is (subst (λ n. Means n last.content (value_of m)) (sym named) means))
 
-pub kinds_clean : (payload : List ℕ) (base own number : ℕ) (m : Meaning) → (split payload).rest ≡ [] → first (each (λ _. value_field_rules base) [] (split payload).fields) ≡ None → AreKinds (split payload).fields (One number m) → value_fault payload base own ≡ None
-kinds_clean payload base own number m rest clean are = value_clean payload base own (rest_none base (split payload) rest) clean are.0
+pub kinds_clean : (payload : List ℕ) (payload_at tag_at number : ℕ) (m : Meaning) → (split payload).rest ≡ [] → first (each (λ _. value_field_rules payload_at) [] (split payload).fields) ≡ None → AreKinds (split payload).fields (One number m) → value_fault payload payload_at tag_at ≡ None
+kinds_clean payload payload_at tag_at number m rest clean are = value_clean payload payload_at tag_at (rest_none payload_at (split payload) rest) clean are.0
 
-pub nothing_told : (payload : List ℕ) (base own : ℕ) → (split payload).rest ≡ [] → first (each (λ _. value_field_rules base) [] (split payload).fields) ≡ None → AreKinds (split payload).fields Nothing → value_fault payload base own ≡ Some (fault_at own ValueKind)
-nothing_told payload base own rest clean are = value_kind_told payload base own (rest_none base (split payload) rest) clean (ap are_one_kind are)
+pub nothing_told : (payload : List ℕ) (payload_at tag_at : ℕ) → (split payload).rest ≡ [] → first (each (λ _. value_field_rules payload_at) [] (split payload).fields) ≡ None → AreKinds (split payload).fields Nothing → value_fault payload payload_at tag_at ≡ Some (fault_at tag_at ValueKind)
+nothing_told payload payload_at tag_at rest clean are = value_kind_told payload payload_at tag_at (rest_none payload_at (split payload) rest) clean (ap are_one_kind are)
 
-pub several_told : (payload : List ℕ) (base own : ℕ) → (split payload).rest ≡ [] → first (each (λ _. value_field_rules base) [] (split payload).fields) ≡ None → AreKinds (split payload).fields Several → value_fault payload base own ≡ Some (fault_at own ValueKind)
-several_told payload base own rest clean are = value_kind_told payload base own (rest_none base (split payload) rest) clean are.1
+pub several_told : (payload : List ℕ) (payload_at tag_at : ℕ) → (split payload).rest ≡ [] → first (each (λ _. value_field_rules payload_at) [] (split payload).fields) ≡ None → AreKinds (split payload).fields Several → value_fault payload payload_at tag_at ≡ Some (fault_at tag_at ValueKind)
+several_told payload payload_at tag_at rest clean are = value_kind_told payload payload_at tag_at (rest_none payload_at (split payload) rest) clean are.1
 
 -- a field of a kind, of the right form, says a value
 text_means : (c : Content) → HasForm string c → (v : Value) × Means STRING c v
@@ -259,27 +259,27 @@ filter_all P (x ∷ xs) h = by_test (is_kind x) (filter_all P xs h.1)
     by_test true more = (h.0, more)
     by_test false more = more
 
-value_of_last : (base : ℕ) (xs : List Entry) (last : Entry) → first (each (λ _. value_field_rules base) [] xs) ≡ None → are_one_kind (kinds xs) ≡ true → last_or None (kinds xs) ≡ Some last → (v : Value) × IsValue xs v
-value_of_last base xs last clean one is =
+value_of_last : (payload_at : ℕ) (xs : List Entry) (last : Entry) → first (each (λ _. value_field_rules payload_at) [] xs) ≡ None → are_one_kind (kinds xs) ≡ true → last_or None (kinds xs) ≡ Some last → (v : Value) × IsValue xs v
+value_of_last payload_at xs last clean one is =
     let kind = last_of_all (λ (x : Entry). IsKind x.number) (kinds xs) last (filter_kinds xs) is in
-    let rule = last_of_all (λ (x : Entry). first (value_field_rules base x) ≡ None) (kinds xs) last (filter_all (λ (x : Entry). first (value_field_rules base x) ≡ None) xs (none_each (value_field_rules base) [] xs clean)) is in
-    let found = means_there last.number kind last.content (clean_rules base last rule) in
-    (found.0, value_from base xs last found.0 clean one is found.1)
+    let rule = last_of_all (λ (x : Entry). first (value_field_rules payload_at x) ≡ None) (kinds xs) last (filter_all (λ (x : Entry). first (value_field_rules payload_at x) ≡ None) xs (none_each (value_field_rules payload_at) [] xs clean)) is in
+    let found = means_there last.number kind last.content (clean_rules payload_at last rule) in
+    (found.0, value_from payload_at xs last found.0 clean one is found.1)
 
 last_kind : (xs : List Entry) → are_one_kind xs ≡ true → (x : Entry) × (last_or None xs ≡ Some x)
 last_kind [] h = cc
 last_kind (x ∷ xs) h = last_there x xs
 
 -- no fault: the payload is a value
-pub value_there : SplitIs → (payload : List ℕ) (base own : ℕ) → value_fault payload base own ≡ None → (v : Value) × IsValueOf payload v
-value_there split_is payload base own h =
-    let parts = option_or-nones _ _ (sym (value_chain payload base own) ∙ h) in
+pub value_there : SplitIs → (payload : List ℕ) (payload_at tag_at : ℕ) → value_fault payload payload_at tag_at ≡ None → (v : Value) × IsValueOf payload v
+value_there split_is payload payload_at tag_at h =
+    let parts = option_or-nones _ _ (sym (value_chain payload payload_at tag_at) ∙ h) in
     let later = option_or-nones _ _ parts.1 in
-    let one = when_none (not (are_one_kind (kinds (split payload).fields))) (fault_at own ValueKind) (option_or-nones _ _ later.1).0 in
+    let one = when_none (not (are_one_kind (kinds (split payload).fields))) (fault_at tag_at ValueKind) (option_or-nones _ _ later.1).0 in
     let kind = not-false (are_one_kind (kinds (split payload).fields)) one in
     let last = last_kind (kinds (split payload).fields) kind in
-    let found = value_of_last base (split payload).fields last.0 later.0 kind last.1 in
-    (found.0, ((split payload).fields, whole_split split_is payload (none_rest base (split payload) parts.0), found.1))
+    let found = value_of_last payload_at (split payload).fields last.0 later.0 kind last.1 in
+    (found.0, ((split payload).fields, whole_split split_is payload (none_rest payload_at (split payload) parts.0), found.1))
 
 -- the grammar keeps the rules
 all_one : (k : ℕ) (xs : List Entry) (last : Entry) → AllByRecursion (λ (y : Entry). y.number ≡ k) xs → last_or None xs ≡ Some last → are_one_kind xs ≡ true
@@ -290,14 +290,14 @@ all_one k (x ∷ xs) last h is = go xs h.1
     go [] more = refl
     go (y ∷ ys) more = and_from _ _ (eq-eqb y.number x.number (more.0 ∙ sym h.0)) (go ys more.1)
 
-pub value_keeps : SplitOnly → (base own : ℕ) (payload : List ℕ) (v : Value) → IsValueOf payload v → value_fault payload base own ≡ None
-value_keeps split_only base own payload v (xs, whole, is) =
+pub value_keeps : SplitOnly → (payload_at tag_at : ℕ) (payload : List ℕ) (v : Value) → IsValueOf payload v → value_fault payload payload_at tag_at ≡ None
+value_keeps split_only payload_at tag_at payload v (xs, whole, is) =
     let only = split_of split_only payload xs whole in
-    let clean = values_clean base xs is.forms in
+    let clean = values_clean payload_at xs is.forms in
     let kind = means_kind is.kind is.last.content v is.means in
     let numbers = subst (λ ys. AllByRecursion (λ (y : Entry). y.number ≡ is.kind) ys) (only_kinds is.kind xs kind is.one) (only_number (λ (x : Entry). x.number) is.kind xs) in
     let one = all_one is.kind (kinds xs) is.last numbers (ap (last_or None) (sym (only_kinds is.kind xs kind is.one)) ∙ is.is_last) in
-    value_clean payload base own (rest_none base (split payload) only.1) (rw only.0 clean) (rw only.0 one)
+    value_clean payload payload_at tag_at (rest_none payload_at (split payload) only.1) (rw only.0 clean) (rw only.0 one)
 
 -- at most one value
 zig-same : (y z : ℤ) → zig y ≡ zig z → y ≡ z
@@ -333,27 +333,27 @@ value_once split_only payload v w (xs, whole, is) (ys, also_whole, also_is) =
     value_same xs v w is (subst (λ zs. IsValue zs w) (sym b.0 ∙ a.0) also_is)
 
 -- the table is in order
-field_ordered : (base : ℕ) (x : Entry) → AreOrdered (value_field_rules base x)
+field_ordered : (payload_at : ℕ) (x : Entry) → AreOrdered (value_field_rules payload_at x)
 unfolding value_field_rules
-field_ordered base x = forms_ordered value_forms base x
+field_ordered payload_at x = forms_ordered value_forms payload_at x
 
-pub rest_ordered : (base : ℕ) (parts : Parts) → AreOrdered (rest_rules base parts)
+pub rest_ordered : (payload_at : ℕ) (parts : Parts) → AreOrdered (rest_rules payload_at parts)
 unfolding rest_rules
-rest_ordered base parts = of_rest parts.rest
+rest_ordered payload_at parts = of_rest parts.rest
   where
-    of_rest : (r : List ℕ) → AreOrdered (rest_rules_at (base + parts.rest_at) r)
+    of_rest : (r : List ℕ) → AreOrdered (rest_rules_at (payload_at + parts.rest_at) r)
     of_rest [] = tt
     of_rest (b ∷ bs) = (tt, tt)
 
-value_rows : (payload : List ℕ) (base own : ℕ) → AreRowsFrom 0 (value_table payload base own)
-value_rows payload base own =
-    (omega arith, (rest_ordered base (split payload), (omega arith, (each_ordered (λ _. value_field_rules base) [] (split payload).fields (λ seen x. field_ordered base x), (omega arith, (when_ordered _ (fault_at own ValueKind), tt))))))
+value_rows : (payload : List ℕ) (payload_at tag_at : ℕ) → AreRowsFrom 0 (value_table payload payload_at tag_at)
+value_rows payload payload_at tag_at =
+    (omega arith, (rest_ordered payload_at (split payload), (omega arith, (each_ordered (λ _. value_field_rules payload_at) [] (split payload).fields (λ seen x. field_ordered payload_at x), (omega arith, (when_ordered _ (fault_at tag_at ValueKind), tt))))))
 
-pub value_ordered : (payload : List ℕ) (base own : ℕ) → AreOrdered (value_rules payload base own)
+pub value_ordered : (payload : List ℕ) (payload_at tag_at : ℕ) → AreOrdered (value_rules payload payload_at tag_at)
 unfolding value_rules
-value_ordered payload base own = rows_ordered 0 (value_table payload base own) (value_rows payload base own)
+value_ordered payload payload_at tag_at = rows_ordered 0 (value_table payload payload_at tag_at) (value_rows payload payload_at tag_at)
 
-pub value_least : (payload : List ℕ) (base own : ℕ) (fault : MessageFault) → (value_fault payload base own ≡ Some fault) ↔ IsLeast (value_rules payload base own) fault
+pub value_least : (payload : List ℕ) (payload_at tag_at : ℕ) (fault : MessageFault) → (value_fault payload payload_at tag_at ≡ Some fault) ↔ IsLeast (value_rules payload payload_at tag_at) fault
 unfolding value_fault
-value_least payload base own fault =
-    (λ h. first_is_least (value_rules payload base own) fault (value_ordered payload base own) h, λ h. least_is_first (value_rules payload base own) fault (value_ordered payload base own) h)
+value_least payload payload_at tag_at fault =
+    (λ h. first_is_least (value_rules payload payload_at tag_at) fault (value_ordered payload payload_at tag_at) h, λ h. least_is_first (value_rules payload payload_at tag_at) fault (value_ordered payload payload_at tag_at) h)

@@ -28,15 +28,15 @@ walk_step payload old new done field walk step = record {
 }
 
 -- the tag of the next field stands inside the payload
-pub walk_fits : (payload : List ℕ) (old new : Parts) (done : List Entry) (field : Field) (base : ℕ) → Walk payload old done → GivesEntry old (Some (Ok field)) new → base + length payload < 2 ^ 64 → base + field.at < 2 ^ 64
-walk_fits payload old new done field base walk step small =
+pub walk_fits : (payload : List ℕ) (old new : Parts) (done : List Entry) (field : Field) (payload_at : ℕ) → Walk payload old done → GivesEntry old (Some (Ok field)) new → payload_at + length payload < 2 ^ 64 → payload_at + field.at < 2 ^ 64
+walk_fits payload old new done field payload_at walk step small =
     let inside : field.at < old.rest_at = step.1.0 in
     let place = walk.place in
     let bound = walk.bound in
     omega arith
 
-pub walk_fault_fits : (payload : List ℕ) (old new : Parts) (done : List Entry) (fault : WireFault) (base : ℕ) → Walk payload old done → GivesEntry old (Some (Err fault)) new → base + length payload < 2 ^ 64 → base + fault.at < 2 ^ 64
-walk_fault_fits payload old new done fault base walk step small =
+pub walk_fault_fits : (payload : List ℕ) (old new : Parts) (done : List Entry) (fault : WireFault) (payload_at : ℕ) → Walk payload old done → GivesEntry old (Some (Err fault)) new → payload_at + length payload < 2 ^ 64 → payload_at + fault.at < 2 ^ 64
+walk_fault_fits payload old new done fault payload_at walk step small =
     let at : fault.at ≡ old.rest_at = step.2 in
     let place = walk.place in
     let bound = walk.bound in
@@ -51,22 +51,22 @@ rest_told : (at : ℕ) (rest : List ℕ) → rest ≢ [] → first (rest_rules_a
 rest_told at [] some = absurd (some refl)
 rest_told at (b ∷ bs) some = refl
 
-pub walk_fault : (payload : List ℕ) (old new : Parts) (done : List Entry) (fault : WireFault) (base : ℕ) → Walk payload old done → GivesEntry old (Some (Err fault)) new → first (rest_rules base (split payload)) ≡ Some (fault_at (base + fault.at) (of_wire fault.cause))
+pub walk_fault : (payload : List ℕ) (old new : Parts) (done : List Entry) (fault : WireFault) (payload_at : ℕ) → Walk payload old done → GivesEntry old (Some (Err fault)) new → first (rest_rules payload_at (split payload)) ≡ Some (fault_at (payload_at + fault.at) (of_wire fault.cause))
 unfolding rest_rules
-walk_fault payload old new done fault base walk step =
+walk_fault payload old new done fault payload_at walk step =
     let at : (split payload).rest_at ≡ fault.at = sym walk.place ∙ sym step.2 in
     let cause : rest_cause (split payload).rest ≡ fault.cause = ap rest_cause (sym walk.rest) ∙ sym step.3 in
     let some : (split payload).rest ≢ [] = λ e. step.1 (walk.rest ∙ e) in
-    rest_told (base + (split payload).rest_at) (split payload).rest some ∙ ap₂ (λ n c. Some (fault_at (base + n) (of_wire c))) at cause
+    rest_told (payload_at + (split payload).rest_at) (split payload).rest some ∙ ap₂ (λ n c. Some (fault_at (payload_at + n) (of_wire c))) at cause
 
-pub rest_none : (base : ℕ) (parts : Parts) → parts.rest ≡ [] → first (rest_rules base parts) ≡ None
+pub rest_none : (payload_at : ℕ) (parts : Parts) → parts.rest ≡ [] → first (rest_rules payload_at parts) ≡ None
 unfolding rest_rules
-rest_none base parts is = rw is refl
+rest_none payload_at parts is = rw is refl
 
 nothing_left : (at : ℕ) (rest : List ℕ) → first (rest_rules_at at rest) ≡ None → rest ≡ []
 nothing_left at [] h = refl
 nothing_left at (b ∷ bs) h = cc
 
-pub none_rest : (base : ℕ) (parts : Parts) → first (rest_rules base parts) ≡ None → parts.rest ≡ []
+pub none_rest : (payload_at : ℕ) (parts : Parts) → first (rest_rules payload_at parts) ≡ None → parts.rest ≡ []
 unfolding rest_rules
-none_rest base parts h = nothing_left (base + parts.rest_at) parts.rest h
+none_rest payload_at parts h = nothing_left (payload_at + parts.rest_at) parts.rest h

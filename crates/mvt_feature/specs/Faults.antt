@@ -30,13 +30,13 @@ abbrev pub TellsMessage : MessageError → Option MessageFault → Type 0
 TellsMessage Memory fault = ⊤
 TellsMessage (Fault feature at cause) fault = fault ≡ Some (record { feature = feature; at = at; cause = cause })
 
--- a payload, whose first byte stands at base, has no bytes behind its fields
+-- a payload, whose first byte stands at `payload_at`, has no bytes behind its fields
 abbrev pub rest_rules_at : ℕ → List ℕ → Rules MessageFault
 rest_rules_at at [] = []
 rest_rules_at at (b ∷ bs) = when true (fault_at at (of_wire (rest_cause (b ∷ bs))))
 
 unfoldable pub rest_rules : ℕ → Parts → Rules MessageFault
-rest_rules base parts = rest_rules_at (base + parts.rest_at) parts.rest
+rest_rules payload_at parts = rest_rules_at (payload_at + parts.rest_at) parts.rest
 
 -- the faults of the levels below as they are told
 abbrev pub of_tag_error : TagError → MessageError

@@ -42,7 +42,7 @@ feature_form_rules number content =
     else under 0 (number_rules feature_forms number content)
 
 unfoldable pub feature_field_rules : ℕ → Entry → Rules MessageFault
-feature_field_rules base x = told (fault_at (base + x.at)) (feature_form_rules x.number x.content)
+feature_field_rules payload_at x = told (fault_at (payload_at + x.at)) (feature_form_rules x.number x.content)
 
 -- the faults of tags and of integers, which are told by their index
 abbrev pub tag_told : ℕ × TagCause → MessageFault
@@ -55,18 +55,18 @@ geometry_told fault = fault_at fault.0 (of_geometry fault.1)
 abbrev pub kind_in : List Entry → Kind
 kind_in fields = kind_of_type (number_in (last_only TYPE fields))
 
--- the rules of a feature whose payload begins at base, in a layer with these keys and values
+-- the rules of a feature whose payload begins at `payload_at`, in a layer with these keys and values
 abbrev pub feature_table : List ℕ → ℕ → List (List ℕ) → List Value → List (ℕ × Rules MessageFault)
-feature_table payload base keys values =
-    (0, rest_rules base (split payload))
-    ∷ ((1, each (λ _. feature_field_rules base) [] (split payload).fields)
+feature_table payload payload_at keys values =
+    (0, rest_rules payload_at (split payload))
+    ∷ ((1, each (λ _. feature_field_rules payload_at) [] (split payload).fields)
     ∷ ((2, told tag_told (count_rules (joined TAGS (split payload).fields)))
     ∷ ((3, told tag_told (pair_rules keys values (joined TAGS (split payload).fields)))
     ∷ ((4, told geometry_told (geometry_rules (kind_in (split payload).fields) (joined GEOMETRY (split payload).fields))) ∷ []))))
 
 unfoldable pub feature_rules : List ℕ → ℕ → List (List ℕ) → List Value → Rules MessageFault
-feature_rules payload base keys values = rows (feature_table payload base keys values)
+feature_rules payload payload_at keys values = rows (feature_table payload payload_at keys values)
 
 -- the broken rule of least rank
 unfoldable pub feature_fault : List ℕ → ℕ → List (List ℕ) → List Value → Option MessageFault
-feature_fault payload base keys values = first (feature_rules payload base keys values)
+feature_fault payload payload_at keys values = first (feature_rules payload payload_at keys values)

@@ -56,6 +56,6 @@ number_rules (known ∷ others) number content =
 abbrev pub IsFirst : List (ℕ × Form) → ℕ × Form → Type 0
 IsFirst forms known = (c : Content) → number_rules forms known.0 c ≡ form_rules known.1 c
 
--- the rules of a field, told at its place in a payload that begins at base
+-- the rules of a field, told at its place in a payload that begins at `payload_at`
 abbrev pub forms_rules : List (ℕ × Form) → ℕ → Entry → Rules MessageFault
-forms_rules forms base x = told (fault_at (base + x.at)) (number_rules forms x.number x.content)
+forms_rules forms payload_at x = told (fault_at (payload_at + x.at)) (number_rules forms x.number x.content)

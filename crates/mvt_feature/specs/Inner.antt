@@ -49,7 +49,7 @@ kinds_with (One first_number old) number meaning = if first_number == number the
 kinds_with Several number meaning = Several
 
 abbrev pub AreSoFar : ℕ → List Entry → Result Kinds MessageError → Type 0
-AreSoFar base done k = IsSoFar (value_field_rules base) AreKinds done k
+AreSoFar payload_at done k = IsSoFar (value_field_rules payload_at) AreKinds done k
 
 -- what one more field of a feature changes
 abbrev pub id_after : Option ℕ → ℕ → Content → Option ℕ
@@ -69,5 +69,5 @@ pub record IsKnown (fields : List Entry) (known : Known) (tags integers : List �
   pub integers_are : integers ≡ joined GEOMETRY fields
 
 abbrev pub IsKnownSoFar : ℕ → List Entry → Result Known MessageError → List ℕ → List ℕ → Type 0
-IsKnownSoFar base done known tags integers =
-    IsSoFar (feature_field_rules base) (λ fields k. IsKnown fields k tags integers) done known
+IsKnownSoFar payload_at done known tags integers =
+    IsSoFar (feature_field_rules payload_at) (λ fields k. IsKnown fields k tags integers) done known

@@ -13,7 +13,7 @@ use Rattle.mvt_feature.specs.Values.{value_forms}
 
 -- a field of one of the kinds has the form of its kind
 unfoldable pub value_field_rules : ℕ → Entry → Rules MessageFault
-value_field_rules base x = forms_rules value_forms base x
+value_field_rules payload_at x = forms_rules value_forms payload_at x
 
 -- the fields of the seven kinds
 abbrev pub is_kind : Entry → Bool
@@ -27,16 +27,16 @@ abbrev pub are_one_kind : List Entry → Bool
 are_one_kind [] = false
 are_one_kind (x ∷ xs) = list_all (λ (y : Entry). y.number == x.number) xs
 
--- the rules of a value whose payload begins at base, and whose tag stands at own
+-- the rules of a value whose payload begins at `payload_at`, and whose tag stands at `tag_at`
 abbrev pub value_table : List ℕ → ℕ → ℕ → List (ℕ × Rules MessageFault)
-value_table payload base own =
-    (0, rest_rules base (split payload))
-    ∷ ((1, each (λ _. value_field_rules base) [] (split payload).fields)
-    ∷ ((2, when (not (are_one_kind (kinds (split payload).fields))) (fault_at own ValueKind)) ∷ []))
+value_table payload payload_at tag_at =
+    (0, rest_rules payload_at (split payload))
+    ∷ ((1, each (λ _. value_field_rules payload_at) [] (split payload).fields)
+    ∷ ((2, when (not (are_one_kind (kinds (split payload).fields))) (fault_at tag_at ValueKind)) ∷ []))
 
 unfoldable pub value_rules : List ℕ → ℕ → ℕ → Rules MessageFault
-value_rules payload base own = rows (value_table payload base own)
+value_rules payload payload_at tag_at = rows (value_table payload payload_at tag_at)
 
 -- the broken rule of least rank
 unfoldable pub value_fault : List ℕ → ℕ → ℕ → Option MessageFault
-value_fault payload base own = first (value_rules payload base own)
+value_fault payload payload_at tag_at = first (value_rules payload payload_at tag_at)

@@ -16,7 +16,7 @@ ghost use Rattle.mvt_feature.specs.Inner.{id_after, kind_after, numbers_at, IsKn
 use crate::cause::Cause;
 use crate::message_error::MessageError;
 use crate::numbers::feature;
-use crate::room::Room;
+use crate::scratch::Scratch;
 use crate::value::varint_of;
 use crate::whole::{fault_at, rest_fault, rest_fault_or};
 use mvt_geometry::Kind;
@@ -29,29 +29,33 @@ pub(crate) struct Known {
     pub(crate) kind: Kind,
 }
 
-/// What the fields of a payload say; the tags and the integers are left in the room.
-pub(crate) fn read_known(payload: &[u8], base: u64, room: &mut Room) -> Result<Known, MessageError>
-    requires { base + length payload.now < 2 ^ 64 }
+/// What the fields of a payload say; the tags and the integers are left in the scratch.
+pub(crate) fn read_known(
+    payload: &[u8],
+    payload_at: u64,
+    scratch: &mut Scratch,
+) -> Result<Known, MessageError>
+    requires { payload_at + length payload.now < 2 ^ 64 }
     ensures whole { OnOk result ((split payload.now).rest ≡ []) }
-    ensures ok { OnOk result (first (each (λ _. feature_field_rules base) [] (split payload.now).fields) ≡ None) }
-    ensures known { IfOk result (λ known. IsKnown (split payload.now).fields known room.new.tags.items room.new.integers.items) }
+    ensures ok { OnOk result (first (each (λ _. feature_field_rules payload_at) [] (split payload.now).fields) ≡ None) }
+    ensures known { IfOk result (λ known. IsKnown (split payload.now).fields known scratch.new.tags.items scratch.new.integers.items) }
     ensures err { IfErr result (λ error. TellsMessage error (option_or
-        (first (rest_rules base (split payload.now)))
-        (first (each (λ _. feature_field_rules base) [] (split payload.now).fields)))) }
+        (first (rest_rules payload_at (split payload.now)))
+        (first (each (λ _. feature_field_rules payload_at) [] (split payload.now).fields)))) }
 {
-    room.tags.clear();
-    room.integers.clear();
+    scratch.tags.clear();
+    scratch.integers.clear();
     let mut known = Known {
         id: None,
         kind: Kind::Unknown,
     };
     for field in Fields::new(payload) {
         match field {
-            Ok(field) => match known.with(&field, base + field.at as u64, room) {
+            Ok(field) => match known.with(&field, payload_at + field.at as u64, scratch) {
                 Ok(more) => known = more,
-                Err(error) => return Err(rest_fault_or(payload, base, error)),
+                Err(error) => return Err(rest_fault_or(payload, payload_at, error)),
             },
-            Err(fault) => return Err(rest_fault(base, fault)),
+            Err(fault) => return Err(rest_fault(payload_at, fault)),
         }
     }
     Ok(known)
@@ -60,14 +64,14 @@ pub(crate) fn read_known(payload: &[u8], base: u64, room: &mut Room) -> Result<K
 impl Known {
     /// What is known with one more field, which is told to stand at this place.
     #[inline(always)]
-    fn with(self, field: &Field<'_>, at: u64, room: &mut Room) -> Result<Known, MessageError>
+    fn with(self, field: &Field<'_>, at: u64, scratch: &mut Scratch) -> Result<Known, MessageError>
         ensures ok { OnOk result (first (feature_form_rules field.now.number (content_of field.now.payload)) ≡ None) }
         ensures id { IfOk result (λ known. known.id ≡ id_after self.id field.now.number (content_of field.now.payload)) }
         ensures kind { IfOk result (λ known. known.kind ≡ kind_after self.kind field.now.number (content_of field.now.payload)) }
         ensures tags { OnOk result
-            (room.new.tags.items ≡ room.old.tags.items ++ numbers_at TAGS field.now.number (content_of field.now.payload)) }
+            (scratch.new.tags.items ≡ scratch.old.tags.items ++ numbers_at TAGS field.now.number (content_of field.now.payload)) }
         ensures integers { OnOk result
-            (room.new.integers.items ≡ room.old.integers.items ++ numbers_at GEOMETRY field.now.number (content_of field.now.payload)) }
+            (scratch.new.integers.items ≡ scratch.old.integers.items ++ numbers_at GEOMETRY field.now.number (content_of field.now.payload)) }
         ensures err { IfErr result (λ error. TellsMessage error
             (option_map (the_fault_at at) (first (feature_form_rules field.now.number (content_of field.now.payload))))) }
     {
@@ -75,9 +79,9 @@ impl Known {
         let mut known = self;
         match field.number {
             feature::ID => known.id = Some(id_of(payload, at)?),
-            feature::TAGS => append_numbers(payload, at, &mut room.tags)?,
+            feature::TAGS => append_numbers(payload, at, &mut scratch.tags)?,
             feature::TYPE => known.kind = kind_of_payload(payload, at)?,
-            feature::GEOMETRY => append_numbers(payload, at, &mut room.integers)?,
+            feature::GEOMETRY => append_numbers(payload, at, &mut scratch.integers)?,
             _ => {}
         }
         Ok(known)

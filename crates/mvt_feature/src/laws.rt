@@ -29,58 +29,43 @@ ghost use Rattle.mvt_feature.specs.Walks.{Walk};
 
 /// A payload without a fault is just one value, and a payload that is a value has no fault.
 pub fn value_or_fault()
-    ensures there { (payload : List ℕ) (base own : ℕ) → value_fault payload base own ≡ None
+    ensures there { (payload : List ℕ) (payload_at tag_at : ℕ) → value_fault payload payload_at tag_at ≡ None
         → (value : Value) × IsValueOf payload value }
-    ensures clean { (payload : List ℕ) (base own : ℕ) (value : Value) → IsValueOf payload value
-        → value_fault payload base own ≡ None }
+    ensures clean { (payload : List ℕ) (payload_at tag_at : ℕ) (value : Value) → IsValueOf payload value
+        → value_fault payload payload_at tag_at ≡ None }
     ensures once { (payload : List ℕ) (value other : Value) → IsValueOf payload value
         → IsValueOf payload other → value ≡ other }
-{
-    mvt_wire::laws::split_function();
-}
+{}
 
 /// The value of a payload that is one is `value_in` of it.
 pub fn value_function()
     ensures { (payload : List ℕ) (value : Value) → IsValueOf payload value → value_in payload ≡ Some value }
-{
-    mvt_wire::laws::split_function();
-}
+{}
 
 /// The fault of a value is that of the broken rule of least rank.
 pub fn value_fault_is_least()
-    ensures ordered { (payload : List ℕ) (base own : ℕ) → AreOrdered (value_rules payload base own) }
-    ensures least { (payload : List ℕ) (base own : ℕ) (fault : MessageFault) →
-        (value_fault payload base own ≡ Some fault) ↔ IsLeast (value_rules payload base own) fault }
+    ensures ordered { (payload : List ℕ) (payload_at tag_at : ℕ) → AreOrdered (value_rules payload payload_at tag_at) }
+    ensures least { (payload : List ℕ) (payload_at tag_at : ℕ) (fault : MessageFault) →
+        (value_fault payload payload_at tag_at ≡ Some fault) ↔ IsLeast (value_rules payload payload_at tag_at) fault }
 {}
 
 /// A payload without a fault is just one feature, and a payload that is a feature has no fault.
 pub fn feature_or_fault()
-    ensures there { (payload : List ℕ) (base : ℕ) (keys : List (List ℕ)) (values : List Value) →
-        feature_fault payload base keys values ≡ None → (feature : Feature) × IsFeatureOf payload keys values feature }
-    ensures clean { (payload : List ℕ) (base : ℕ) (keys : List (List ℕ)) (values : List Value) (feature : Feature) →
-        IsFeatureOf payload keys values feature → feature_fault payload base keys values ≡ None }
+    ensures there { (payload : List ℕ) (payload_at : ℕ) (keys : List (List ℕ)) (values : List Value) →
+        feature_fault payload payload_at keys values ≡ None → (feature : Feature) × IsFeatureOf payload keys values feature }
+    ensures clean { (payload : List ℕ) (payload_at : ℕ) (keys : List (List ℕ)) (values : List Value) (feature : Feature) →
+        IsFeatureOf payload keys values feature → feature_fault payload payload_at keys values ≡ None }
     ensures once { (payload : List ℕ) (keys : List (List ℕ)) (values : List Value) (feature other : Feature) →
         IsFeatureOf payload keys values feature → IsFeatureOf payload keys values other → feature ≡ other }
-{
-    mvt_wire::laws::split_function();
-    mvt_wire::laws::packed_function();
-    mvt_attrs::laws::attributes_or_fault();
-    mvt_geometry::laws::faultless_draws();
-    mvt_geometry::laws::drawn_is_faultless();
-    mvt_geometry::laws::one_geometry();
-}
+{}
 
 /// The fault of a feature is that of the broken rule of least rank.
 pub fn feature_fault_is_least()
-    ensures ordered { (payload : List ℕ) (base : ℕ) (keys : List (List ℕ)) (values : List Value) →
-        AreOrdered (feature_rules payload base keys values) }
-    ensures least { (payload : List ℕ) (base : ℕ) (keys : List (List ℕ)) (values : List Value) (fault : MessageFault) →
-        (feature_fault payload base keys values ≡ Some fault) ↔ IsLeast (feature_rules payload base keys values) fault }
-{
-    mvt_wire::laws::packed_is_least();
-    mvt_attrs::laws::rules_in_order();
-    mvt_geometry::laws::geometry_ordered();
-}
+    ensures ordered { (payload : List ℕ) (payload_at : ℕ) (keys : List (List ℕ)) (values : List Value) →
+        AreOrdered (feature_rules payload payload_at keys values) }
+    ensures least { (payload : List ℕ) (payload_at : ℕ) (keys : List (List ℕ)) (values : List Value) (fault : MessageFault) →
+        (feature_fault payload payload_at keys values ≡ Some fault) ↔ IsLeast (feature_rules payload payload_at keys values) fault }
+{}
 
 /// What is written for a valid value reads as that value, and what is written for a valid feature, with
 /// tags that name its attributes, reads as that feature.
@@ -91,23 +76,14 @@ pub fn canonical_reads()
         ValidFeature feature → Names keys values tags feature.attributes → AllByRecursion (λ tag. tag < 2 ^ 32) tags
         → length (spelled (feature_fields tags feature)) < 2 ^ 64
         → IsFeatureOf (spelled (feature_fields tags feature)) keys values feature }
-{
-    mvt_wire::laws::spelled_whole();
-    mvt_wire::laws::short_packed();
-    mvt_wire::laws::short_lengths();
-    mvt_geometry::laws::drawn_small();
-}
+{}
 
 /// The payload of a feature, with tags of 32 bits, takes no more bytes than its bound says.
 pub fn bound_holds()
     ensures { (keys : List (List ℕ)) (values : List Value) (feature : Feature) → IsValid feature.geometry
         → AllByRecursion (λ tag. tag < 2 ^ 32) (tags_in keys values feature.attributes)
         → length (spelled (feature_fields (tags_in keys values feature.attributes) feature)) ≤ feature_bound feature }
-{
-    mvt_wire::laws::short_lengths();
-    mvt_wire::laws::packed_lengths();
-    mvt_geometry::laws::bound_holds();
-}
+{}
 
 /// What bytes are read as is valid; a feature, where the keys and the values of its layer are.
 pub fn read_is_valid()
@@ -121,18 +97,18 @@ pub fn read_is_valid()
 
 /// Fields break no rule of their forms exactly where they have them, and these rules are in order.
 pub fn forms()
-    ensures have { (forms : List (ℕ × Form)) (base : ℕ) (fields : List Entry) → AllByRecursion (IsFirst forms) forms
-        → first (each (λ _. forms_rules forms base) [] fields) ≡ None → HaveForms forms fields }
-    ensures clean { (forms : List (ℕ × Form)) (base : ℕ) (fields : List Entry) → HaveForms forms fields
-        → first (each (λ _. forms_rules forms base) [] fields) ≡ None }
-    ensures ordered { (forms : List (ℕ × Form)) (base : ℕ) (x : Entry) → AreOrdered (forms_rules forms base x) }
+    ensures have { (forms : List (ℕ × Form)) (payload_at : ℕ) (fields : List Entry) → AllByRecursion (IsFirst forms) forms
+        → first (each (λ _. forms_rules forms payload_at) [] fields) ≡ None → HaveForms forms fields }
+    ensures clean { (forms : List (ℕ × Form)) (payload_at : ℕ) (fields : List Entry) → HaveForms forms fields
+        → first (each (λ _. forms_rules forms payload_at) [] fields) ≡ None }
+    ensures ordered { (forms : List (ℕ × Form)) (payload_at : ℕ) (x : Entry) → AreOrdered (forms_rules forms payload_at x) }
 {}
 
 /// A rest has no fault exactly where no bytes are left, and its rules are in order.
 pub fn rests()
-    ensures none { (base : ℕ) (parts : Parts) → parts.rest ≡ [] → first (rest_rules base parts) ≡ None }
-    ensures nothing { (base : ℕ) (parts : Parts) → first (rest_rules base parts) ≡ None → parts.rest ≡ [] }
-    ensures ordered { (base : ℕ) (parts : Parts) → AreOrdered (rest_rules base parts) }
+    ensures none { (payload_at : ℕ) (parts : Parts) → parts.rest ≡ [] → first (rest_rules payload_at parts) ≡ None }
+    ensures nothing { (payload_at : ℕ) (parts : Parts) → first (rest_rules payload_at parts) ≡ None → parts.rest ≡ [] }
+    ensures ordered { (payload_at : ℕ) (parts : Parts) → AreOrdered (rest_rules payload_at parts) }
 {}
 
 /// A walk begins before the first field of a payload, takes one field a step and ends behind the last or
@@ -142,15 +118,15 @@ pub fn walks()
         → it.rest_at + length it.rest ≡ length payload → Walk payload it [] }
     ensures step { (payload : List ℕ) (old new : Parts) (done : List Entry) (field : Field) → Walk payload old done
         → GivesEntry old (Some (Ok field)) new → Walk payload new (done ++ entry_of field ∷ []) }
-    ensures fits { (payload : List ℕ) (old new : Parts) (done : List Entry) (field : Field) (base : ℕ)
-        → Walk payload old done → GivesEntry old (Some (Ok field)) new → base + length payload < 2 ^ 64
-        → base + field.at < 2 ^ 64 }
+    ensures fits { (payload : List ℕ) (old new : Parts) (done : List Entry) (field : Field) (payload_at : ℕ)
+        → Walk payload old done → GivesEntry old (Some (Ok field)) new → payload_at + length payload < 2 ^ 64
+        → payload_at + field.at < 2 ^ 64 }
     ensures end { (payload : List ℕ) (old new : Parts) (done : List Entry) → Walk payload old done
         → GivesEntry old None new → ((split payload).fields ≡ done) × ((split payload).rest ≡ []) }
-    ensures fault_fits { (payload : List ℕ) (old new : Parts) (done : List Entry) (fault : WireFault) (base : ℕ)
-        → Walk payload old done → GivesEntry old (Some (Err fault)) new → base + length payload < 2 ^ 64
-        → base + fault.at < 2 ^ 64 }
-    ensures fault { (payload : List ℕ) (old new : Parts) (done : List Entry) (fault : WireFault) (base : ℕ)
+    ensures fault_fits { (payload : List ℕ) (old new : Parts) (done : List Entry) (fault : WireFault) (payload_at : ℕ)
+        → Walk payload old done → GivesEntry old (Some (Err fault)) new → payload_at + length payload < 2 ^ 64
+        → payload_at + fault.at < 2 ^ 64 }
+    ensures fault { (payload : List ℕ) (old new : Parts) (done : List Entry) (fault : WireFault) (payload_at : ℕ)
         → Walk payload old done → GivesEntry old (Some (Err fault)) new
-        → first (rest_rules base (split payload)) ≡ Some (fault_at (base + fault.at) (of_wire fault.cause)) }
+        → first (rest_rules payload_at (split payload)) ≡ Some (fault_at (payload_at + fault.at) (of_wire fault.cause)) }
 {}

@@ -8,7 +8,7 @@ ghost use Rattle.mvt_feature.specs.FeatureRules.{feature_fault};
 use crate::feature::Feature;
 use crate::known::read_known;
 use crate::message_error::MessageError;
-use crate::room::Room;
+use crate::scratch::Scratch;
 use mvt_attrs::{LayerKeys, Value, judge_tags, resolve_in};
 use mvt_base::{Items, Text};
 use mvt_geometry::{judge_geometry, read_geometry};
@@ -17,7 +17,7 @@ use std::alloc::Global;
 
 /// The feature of a payload, in a layer with these keys and values.
 ///
-/// `base` is the absolute offset of the payload.
+/// `payload_at` is the absolute offset of the payload.
 ///
 /// # Errors
 ///
@@ -26,21 +26,21 @@ use std::alloc::Global;
 pub fn read_feature(
     alloc: Global,
     payload: &[u8],
-    base: u64,
+    payload_at: u64,
     keys: &[Text],
     values: &[Value],
 ) -> Result<Feature, MessageError>
-    requires { base + length payload.now < 2 ^ 64 }
+    requires { payload_at + length payload.now < 2 ^ 64 }
     ensures feature { IfOk result (IsFeatureOf payload.now keys.now values.now) }
-    ensures ok { OnOk result (feature_fault payload.now base keys.now values.now ≡ None) }
-    ensures err { IfErr result (λ error. TellsMessage error (feature_fault payload.now base keys.now values.now)) }
+    ensures ok { OnOk result (feature_fault payload.now payload_at keys.now values.now ≡ None) }
+    ensures err { IfErr result (λ error. TellsMessage error (feature_fault payload.now payload_at keys.now values.now)) }
 {
     let mut keys = LayerKeys::new(alloc, keys);
-    let mut room = Room::new(alloc);
-    read_feature_in(alloc, payload, base, &mut keys, values, &mut room)
+    let mut scratch = Scratch::new(alloc);
+    read_feature_in(alloc, payload, payload_at, &mut keys, values, &mut scratch)
 }
 
-/// The same with the keys of a layer, which stay, and in room that is lent: a row of features looks at
+/// The same with the keys of a layer, which stay, and in scratch that is lent: a row of features looks at
 /// the keys once, and needs no new lists for tags and integers.
 ///
 /// # Errors
@@ -49,23 +49,23 @@ pub fn read_feature(
 pub fn read_feature_in(
     alloc: Global,
     payload: &[u8],
-    base: u64,
+    payload_at: u64,
     keys: &mut LayerKeys<'_>,
     values: &[Value],
-    room: &mut Room,
+    scratch: &mut Scratch,
 ) -> Result<Feature, MessageError>
-    requires { base + length payload.now < 2 ^ 64 }
+    requires { payload_at + length payload.now < 2 ^ 64 }
     ensures feature { IfOk result (IsFeatureOf payload.now keys.old values.now) }
-    ensures ok { OnOk result (feature_fault payload.now base keys.old values.now ≡ None) }
-    ensures err { IfErr result (λ error. TellsMessage error (feature_fault payload.now base keys.old values.now)) }
+    ensures ok { OnOk result (feature_fault payload.now payload_at keys.old values.now ≡ None) }
+    ensures err { IfErr result (λ error. TellsMessage error (feature_fault payload.now payload_at keys.old values.now)) }
     ensures same { keys.new ≡ keys.old }
 {
     // What the proof needs to know of splits and of packed numbers; they do nothing.
     split_function();
     packed_function();
-    let known = read_known(payload, base, room)?;
-    let attributes = resolve_in(alloc, keys, values, &room.tags)?;
-    let geometry = read_geometry(alloc, known.kind, &room.integers)?;
+    let known = read_known(payload, payload_at, scratch)?;
+    let attributes = resolve_in(alloc, keys, values, &scratch.tags)?;
+    let geometry = read_geometry(alloc, known.kind, &scratch.integers)?;
     Ok(Feature {
         id: known.id,
         attributes: Items::new(attributes),
@@ -74,7 +74,7 @@ pub fn read_feature_in(
 }
 
 /// Whether a payload is a feature, in a layer with these keys and so many values: nothing is built, and
-/// the tags and the integers stand in the room.
+/// the tags and the integers stand in the scratch.
 ///
 /// # Errors
 ///
@@ -82,20 +82,20 @@ pub fn read_feature_in(
 pub fn judge_feature(
     alloc: Global,
     payload: &[u8],
-    base: u64,
+    payload_at: u64,
     keys: &mut LayerKeys<'_>,
     values: usize,
-    room: &mut Room,
+    scratch: &mut Scratch,
 ) -> Result<(), MessageError>
-    requires { base + length payload.now < 2 ^ 64 }
+    requires { payload_at + length payload.now < 2 ^ 64 }
     ensures ok { OnOk result ((held : List Value) → length held ≡ values
-        → feature_fault payload.now base keys.old held ≡ None) }
+        → feature_fault payload.now payload_at keys.old held ≡ None) }
     ensures err { IfErr result (λ error. (held : List Value) → length held ≡ values
-        → TellsMessage error (feature_fault payload.now base keys.old held)) }
+        → TellsMessage error (feature_fault payload.now payload_at keys.old held)) }
     ensures same { keys.new ≡ keys.old }
 {
-    let known = read_known(payload, base, room)?;
-    judge_tags(alloc, keys, values, &room.tags)?;
-    judge_geometry(known.kind, &room.integers)?;
+    let known = read_known(payload, payload_at, scratch)?;
+    judge_tags(alloc, keys, values, &scratch.tags)?;
+    judge_geometry(known.kind, &scratch.integers)?;
     Ok(())
 }

@@ -23,20 +23,25 @@ use std::str;
 
 /// The value of a payload.
 ///
-/// `base` is the absolute offset of the payload, and `own` that of the tag of its field. A text is the
+/// `payload_at` is the absolute offset of the payload, and `tag_at` that of the tag of its field. A text is the
 /// only value that takes memory.
 ///
 /// # Errors
 ///
 /// The first broken rule: the payload splits into fields, each field in order has the form of its
 /// kind, and just one kind occurs.
-pub fn read_value(alloc: Global, payload: &[u8], base: u64, own: u64) -> Result<Value, MessageError>
-    requires { base + length payload.now < 2 ^ 64 }
+pub fn read_value(
+    alloc: Global,
+    payload: &[u8],
+    payload_at: u64,
+    tag_at: u64,
+) -> Result<Value, MessageError>
+    requires { payload_at + length payload.now < 2 ^ 64 }
     ensures value { IfOk result (IsValueOf payload.now) }
-    ensures ok { OnOk result (value_fault payload.now base own ≡ None) }
-    ensures err { IfErr result (λ error. TellsMessage error (value_fault payload.now base own)) }
+    ensures ok { OnOk result (value_fault payload.now payload_at tag_at ≡ None) }
+    ensures err { IfErr result (λ error. TellsMessage error (value_fault payload.now payload_at tag_at)) }
 {
-    Ok(read_meaning(payload, base, own)?.into_value(alloc)?)
+    Ok(read_meaning(payload, payload_at, tag_at)?.into_value(alloc)?)
 }
 
 /// Whether a payload is a value, without memory.
@@ -44,29 +49,29 @@ pub fn read_value(alloc: Global, payload: &[u8], base: u64, own: u64) -> Result<
 /// # Errors
 ///
 /// As `read_value`, but never want of memory.
-pub fn judge_value(payload: &[u8], base: u64, own: u64) -> Result<(), MessageError>
-    requires { base + length payload.now < 2 ^ 64 }
-    ensures ok { OnOk result (value_fault payload.now base own ≡ None) }
-    ensures err { IfErr result (λ error. TellsMessage error (value_fault payload.now base own)) }
+pub fn judge_value(payload: &[u8], payload_at: u64, tag_at: u64) -> Result<(), MessageError>
+    requires { payload_at + length payload.now < 2 ^ 64 }
+    ensures ok { OnOk result (value_fault payload.now payload_at tag_at ≡ None) }
+    ensures err { IfErr result (λ error. TellsMessage error (value_fault payload.now payload_at tag_at)) }
 {
-    read_meaning(payload, base, own)?;
+    read_meaning(payload, payload_at, tag_at)?;
     Ok(())
 }
 
 /// What the last field of the only kind says.
 #[inline(always)]
-fn read_meaning(payload: &[u8], base: u64, own: u64) -> Result<Meaning<'_>, MessageError>
-    requires { base + length payload.now < 2 ^ 64 }
+fn read_meaning(payload: &[u8], payload_at: u64, tag_at: u64) -> Result<Meaning<'_>, MessageError>
+    requires { payload_at + length payload.now < 2 ^ 64 }
     ensures value { IfOk result (λ meaning. IsValueOf payload.now (value_of meaning)) }
-    ensures ok { OnOk result (value_fault payload.now base own ≡ None) }
-    ensures err { IfErr result (λ error. TellsMessage error (value_fault payload.now base own)) }
+    ensures ok { OnOk result (value_fault payload.now payload_at tag_at ≡ None) }
+    ensures err { IfErr result (λ error. TellsMessage error (value_fault payload.now payload_at tag_at)) }
 {
     // What the proof needs to know of splits; it does nothing.
     split_function();
-    match read_kinds(payload, base)? {
+    match read_kinds(payload, payload_at)? {
         Kinds::One { meaning, .. } => Ok(meaning),
-        Kinds::Nothing => Err(fault_at(own, Cause::ValueKind)),
-        Kinds::Several => Err(fault_at(own, Cause::ValueKind)),
+        Kinds::Nothing => Err(fault_at(tag_at, Cause::ValueKind)),
+        Kinds::Several => Err(fault_at(tag_at, Cause::ValueKind)),
     }
 }
 
@@ -93,14 +98,14 @@ enum Meaning<'a> {
 
 /// The kinds that occur in a payload.
 #[inline(always)]
-fn read_kinds(payload: &[u8], base: u64) -> Result<Kinds<'_>, MessageError>
-    requires { base + length payload.now < 2 ^ 64 }
+fn read_kinds(payload: &[u8], payload_at: u64) -> Result<Kinds<'_>, MessageError>
+    requires { payload_at + length payload.now < 2 ^ 64 }
     ensures whole { OnOk result ((split payload.now).rest ≡ []) }
-    ensures ok { OnOk result (first (each (λ _. value_field_rules base) [] (split payload.now).fields) ≡ None) }
+    ensures ok { OnOk result (first (each (λ _. value_field_rules payload_at) [] (split payload.now).fields) ≡ None) }
     ensures kinds { IfOk result (AreKinds (split payload.now).fields) }
     ensures err { IfErr result (λ error. TellsMessage error (option_or
-        (first (rest_rules base (split payload.now)))
-        (first (each (λ _. value_field_rules base) [] (split payload.now).fields)))) }
+        (first (rest_rules payload_at (split payload.now)))
+        (first (each (λ _. value_field_rules payload_at) [] (split payload.now).fields)))) }
 {
     let mut kinds = Kinds::Nothing;
     for field in Fields::new(payload) {
@@ -109,11 +114,11 @@ fn read_kinds(payload: &[u8], base: u64) -> Result<Kinds<'_>, MessageError>
                 Ok(None) => {}
                 Ok(Some(meaning)) => kinds = kinds.with(field.number, meaning),
                 Err(cause) => {
-                    let error = fault_at(base + field.at as u64, cause);
-                    return Err(rest_fault_or(payload, base, error));
+                    let error = fault_at(payload_at + field.at as u64, cause);
+                    return Err(rest_fault_or(payload, payload_at, error));
                 }
             },
-            Err(fault) => return Err(rest_fault(base, fault)),
+            Err(fault) => return Err(rest_fault(payload_at, fault)),
         }
     }
     Ok(kinds)

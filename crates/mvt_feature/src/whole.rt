@@ -11,25 +11,25 @@ use crate::message_error::MessageError;
 use mvt_wire::{Fields, WireFault};
 
 /// The fault of a payload's rest, told at its absolute place.
-pub fn rest_fault(base: u64, fault: WireFault) -> MessageError
-    requires { base + fault.at < 2 ^ 64 }
-    ensures { result ≡ MessageError.Fault None (base + fault.at) (of_wire fault.cause) }
+pub fn rest_fault(payload_at: u64, fault: WireFault) -> MessageError
+    requires { payload_at + fault.at < 2 ^ 64 }
+    ensures { result ≡ MessageError.Fault None (payload_at + fault.at) (of_wire fault.cause) }
 {
-    fault_at(base + fault.at as u64, Cause::from(fault.cause))
+    fault_at(payload_at + fault.at as u64, Cause::from(fault.cause))
 }
 
 /// The error of a payload, one of whose fields has this one: that the payload doesn't split wholly into
 /// fields is told first.
 #[inline(never)]
-pub(crate) fn rest_fault_or(payload: &[u8], base: u64, error: MessageError) -> MessageError
-    requires { base + length payload.now < 2 ^ 64 }
+pub(crate) fn rest_fault_or(payload: &[u8], payload_at: u64, error: MessageError) -> MessageError
+    requires { payload_at + length payload.now < 2 ^ 64 }
     ensures { (fault : Option MessageFault) → TellsMessage error fault
-        → TellsMessage result (option_or (first (rest_rules base (split payload.now))) fault) }
+        → TellsMessage result (option_or (first (rest_rules payload_at (split payload.now))) fault) }
 {
     for field in Fields::new(payload) {
         match field {
             Ok(_) => {}
-            Err(fault) => return rest_fault(base, fault),
+            Err(fault) => return rest_fault(payload_at, fault),
         }
     }
     error

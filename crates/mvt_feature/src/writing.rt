@@ -11,7 +11,7 @@ ghost use Rattle.mvt_feature.specs.Inner.{Extends};
 
 use crate::feature::Feature;
 use crate::numbers::{feature, value};
-use crate::room::Room;
+use crate::scratch::Scratch;
 use mvt_attrs::{KeyPool, PoolError, Value, ValuePool, append_tags};
 use mvt_base::LIMIT;
 use mvt_geometry::{Kind, append_geometry, kind_of};
@@ -64,7 +64,7 @@ pub fn append_feature(
     feature: &Feature,
     keys: &mut KeyPool,
     values: &mut ValuePool,
-    room: &mut Room,
+    scratch: &mut Scratch,
 ) -> Result<(), PoolError>
     requires { IsValid feature.now.geometry }
     ensures ok { OnOk result (out.new.items ≡ out.old.items
@@ -88,23 +88,23 @@ pub fn append_feature(
         × AreTold n feature.now.attributes keys.old keys.new values.old values.new
         × ¬ (IsFullAt n feature.now.attributes keys.new values.new) }
 {
-    swap(&mut room.tags, &mut room.last);
-    room.tags.clear();
-    room.drawing.clear();
+    swap(&mut scratch.tags, &mut scratch.last);
+    scratch.tags.clear();
+    scratch.drawing.clear();
     append_tags(
         feature.attributes.as_slice(),
         keys,
         values,
-        &room.last,
-        &mut room.tags,
+        &scratch.last,
+        &mut scratch.tags,
     )?;
-    append_geometry(&feature.geometry, &mut room.drawing)?;
+    append_geometry(&feature.geometry, &mut scratch.drawing)?;
     append_fields(
         out,
         feature.id,
-        &room.tags,
+        &scratch.tags,
         kind_of(&feature.geometry),
-        &room.drawing,
+        &scratch.drawing,
     )?;
     Ok(())
 }

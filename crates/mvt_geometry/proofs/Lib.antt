@@ -1,3 +1,4 @@
+pub mod GeometryLaws
 pub mod HeaderLemmas
 pub mod StepLemmas
 pub mod WalkLemmas

@@ -46,9 +46,7 @@ pub fn drawn_small()
 /// The packed integers of a valid geometry take no more bytes than its bound says.
 pub fn bound_holds()
     ensures { (g : Geometry) → IsValid g → length (short_numbers (drawn g)) ≤ geometry_bound g }
-{
-    mvt_wire::laws::packed_lengths();
-}
+{}
 
 /// What the first profile called valid is valid.
 pub fn old_geometries_stay()

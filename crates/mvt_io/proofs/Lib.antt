@@ -1,1 +1,2 @@
+pub mod IoLaws
 pub mod Fronts

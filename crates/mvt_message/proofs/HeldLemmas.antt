@@ -38,46 +38,46 @@ held_more : {A : Type 0} (keep : Bool) (things kept new : List A) (count : ℕ) 
 held_more true things kept new count x held e = (omega (arith, length_push things x, held.0), e ∙ ap (λ xs. xs ++ x ∷ []) held.1)
 held_more false things kept new count x held e = (omega (arith, length_push things x, held.0), tt)
 
-module _ (keep : Bool) (base : ℕ) (done : List Entry) (count : ℕ) (kept : List Value) (x : Entry) (held : AreValuesHeld keep base done count kept) where
-  pub value_skipped : x.number ≢ VALUES → AreValuesHeld keep base (done ++ x ∷ []) count kept
-  value_skipped other = (held.0, values_skip base done held.0 x held.1 other, held.2)
+module _ (keep : Bool) (payload_at : ℕ) (done : List Entry) (count : ℕ) (kept : List Value) (x : Entry) (held : AreValuesHeld keep payload_at done count kept) where
+  pub value_skipped : x.number ≢ VALUES → AreValuesHeld keep payload_at (done ++ x ∷ []) count kept
+  value_skipped other = (held.0, values_skip payload_at done held.0 x held.1 other, held.2)
 
   pub values_few : SplitCount → (payload : List ℕ) (to_come : Parts) → Walk payload to_come done → length payload < 2 ^ 32 → count < 2 ^ 32
   values_few split_count payload to_come walk small =
       let few = selected_few split_count payload to_come done 4 walk small in
       omega (arith, held.2.0, length-related HoldsValue (only VALUES done) held.0 held.1.1)
 
-  pub value_stops : (more : List Entry) (e : MessageError) → x.number ≡ VALUES → TellsMessage e (value_fault (bytes_of x.content) (base + x.body) (base + x.at)) → TellsMessage e (values_fault base ((done ++ x ∷ []) ++ more))
-  value_stops more e is told_here = values_stop base done held.0 x more e held.1 is told_here
+  pub value_stops : (more : List Entry) (e : MessageError) → x.number ≡ VALUES → TellsMessage e (value_fault (bytes_of x.content) (payload_at + x.body) (payload_at + x.at)) → TellsMessage e (values_fault payload_at ((done ++ x ∷ []) ++ more))
+  value_stops more e is told_here = values_stop payload_at done held.0 x more e held.1 is told_here
 
-  pub value_held : (new : List Value) (value : Value) → x.number ≡ VALUES → IsValueOf (bytes_of x.content) value → value_fault (bytes_of x.content) (base + x.body) (base + x.at) ≡ None → OnTrue keep (new ≡ kept ++ value ∷ [])
-      → AreValuesHeld keep base (done ++ x ∷ []) (count + 1) new
+  pub value_held : (new : List Value) (value : Value) → x.number ≡ VALUES → IsValueOf (bytes_of x.content) value → value_fault (bytes_of x.content) (payload_at + x.body) (payload_at + x.at) ≡ None → OnTrue keep (new ≡ kept ++ value ∷ [])
+      → AreValuesHeld keep payload_at (done ++ x ∷ []) (count + 1) new
   value_held new value is holds clean more =
-      (held.0 ++ value ∷ [], values_take base done held.0 (held.0 ++ value ∷ []) x value held.1 is holds clean refl, held_more keep held.0 kept new count value held.2 more)
+      (held.0 ++ value ∷ [], values_take payload_at done held.0 (held.0 ++ value ∷ []) x value held.1 is holds clean refl, held_more keep held.0 kept new count value held.2 more)
 
   -- a value that was only judged
-  pub value_judged : (r : Result (Unit {0}) MessageError) → (value_fault (bytes_of x.content) (base + x.body) (base + x.at) ≡ None → (value : Value) × IsValueOf (bytes_of x.content) value)
-      → keep ≡ false → x.number ≡ VALUES → OnOk r (value_fault (bytes_of x.content) (base + x.body) (base + x.at) ≡ None) → OnOk r (AreValuesHeld keep base (done ++ x ∷ []) (count + 1) kept)
+  pub value_judged : (r : Result (Unit {0}) MessageError) → (value_fault (bytes_of x.content) (payload_at + x.body) (payload_at + x.at) ≡ None → (value : Value) × IsValueOf (bytes_of x.content) value)
+      → keep ≡ false → x.number ≡ VALUES → OnOk r (value_fault (bytes_of x.content) (payload_at + x.body) (payload_at + x.at) ≡ None) → OnOk r (AreValuesHeld keep payload_at (done ++ x ∷ []) (count + 1) kept)
   value_judged (Err e) there no_keep is clean = tt
   value_judged (Ok u) there no_keep is clean = value_held kept (there clean).0 is (there clean).1 clean (on_false keep _ no_keep)
 
-  pub value_blamed : (r : Result (Unit {0}) MessageError) (more : List Entry) → x.number ≡ VALUES → IfErr r (λ e. TellsMessage e (value_fault (bytes_of x.content) (base + x.body) (base + x.at))) → IfErr r (λ e. TellsMessage e (values_fault base ((done ++ x ∷ []) ++ more)))
+  pub value_blamed : (r : Result (Unit {0}) MessageError) (more : List Entry) → x.number ≡ VALUES → IfErr r (λ e. TellsMessage e (value_fault (bytes_of x.content) (payload_at + x.body) (payload_at + x.at))) → IfErr r (λ e. TellsMessage e (values_fault payload_at ((done ++ x ∷ []) ++ more)))
   value_blamed (Err e) more is told_here = value_stops more e is told_here
   value_blamed (Ok u) more is told_here = tt
 
-module _ (keep : Bool) (base : ℕ) (keys : List (List ℕ)) (values : List Value) (done : List Entry) (count : ℕ) (kept : List Feature) (x : Entry) (held : AreFeaturesHeld keep base keys values done count kept) where
-  pub feature_skipped : x.number ≢ FEATURES → AreFeaturesHeld keep base keys values (done ++ x ∷ []) count kept
-  feature_skipped other = (held.0, features_skip base keys values done held.0 x held.1 other, held.2)
+module _ (keep : Bool) (payload_at : ℕ) (keys : List (List ℕ)) (values : List Value) (done : List Entry) (count : ℕ) (kept : List Feature) (x : Entry) (held : AreFeaturesHeld keep payload_at keys values done count kept) where
+  pub feature_skipped : x.number ≢ FEATURES → AreFeaturesHeld keep payload_at keys values (done ++ x ∷ []) count kept
+  feature_skipped other = (held.0, features_skip payload_at keys values done held.0 x held.1 other, held.2)
 
   pub features_few : SplitCount → (payload : List ℕ) (to_come : Parts) → Walk payload to_come done → length payload < 2 ^ 32 → count < 2 ^ 32
   features_few split_count payload to_come walk small =
       let few = selected_few split_count payload to_come done 2 walk small in
       omega (arith, held.2.0, length-related (HoldsFeature keys values) (only FEATURES done) held.0 held.1.1)
 
-  pub feature_stops : (more : List Entry) (index : ℕ) (e : MessageError) → x.number ≡ FEATURES → index ≡ count → TellsMessage e (option_map (in_feature index) (feature_fault (bytes_of x.content) (base + x.body) keys values)) → TellsMessage e (features_fault base keys values ((done ++ x ∷ []) ++ more))
-  feature_stops more index e is index_is told_here = features_stop base keys values done held.0 x more index e held.1 is (index_is ∙ held.2.0) told_here
+  pub feature_stops : (more : List Entry) (index : ℕ) (e : MessageError) → x.number ≡ FEATURES → index ≡ count → TellsMessage e (option_map (in_feature index) (feature_fault (bytes_of x.content) (payload_at + x.body) keys values)) → TellsMessage e (features_fault payload_at keys values ((done ++ x ∷ []) ++ more))
+  feature_stops more index e is index_is told_here = features_stop payload_at keys values done held.0 x more index e held.1 is (index_is ∙ held.2.0) told_here
 
-  pub feature_held : (new : List Feature) (feature : Feature) → x.number ≡ FEATURES → IsFeatureOf (bytes_of x.content) keys values feature → feature_fault (bytes_of x.content) (base + x.body) keys values ≡ None → OnTrue keep (new ≡ kept ++ feature ∷ [])
-      → AreFeaturesHeld keep base keys values (done ++ x ∷ []) (count + 1) new
+  pub feature_held : (new : List Feature) (feature : Feature) → x.number ≡ FEATURES → IsFeatureOf (bytes_of x.content) keys values feature → feature_fault (bytes_of x.content) (payload_at + x.body) keys values ≡ None → OnTrue keep (new ≡ kept ++ feature ∷ [])
+      → AreFeaturesHeld keep payload_at keys values (done ++ x ∷ []) (count + 1) new
   feature_held new feature is holds clean more =
-      (held.0 ++ feature ∷ [], features_take base keys values done held.0 (held.0 ++ feature ∷ []) x feature held.1 is holds clean refl, held_more keep held.0 kept new count feature held.2 more)
+      (held.0 ++ feature ∷ [], features_take payload_at keys values done held.0 (held.0 ++ feature ∷ []) x feature held.1 is holds clean refl, held_more keep held.0 kept new count feature held.2 more)

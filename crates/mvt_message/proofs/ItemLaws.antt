@@ -40,40 +40,40 @@ abbrev pub SplitIs : Type 0
 SplitIs = (b : List ℕ) → Split b (split b).fields (split b).rest
 
 abbrev pub RestNone : Type 0
-RestNone = (base : ℕ) (parts : Parts) → parts.rest ≡ [] → first (rest_rules base parts) ≡ None
+RestNone = (payload_at : ℕ) (parts : Parts) → parts.rest ≡ [] → first (rest_rules payload_at parts) ≡ None
 
 abbrev pub NoneRest : Type 0
-NoneRest = (base : ℕ) (parts : Parts) → first (rest_rules base parts) ≡ None → parts.rest ≡ []
+NoneRest = (payload_at : ℕ) (parts : Parts) → first (rest_rules payload_at parts) ≡ None → parts.rest ≡ []
 
 abbrev pub RestOrdered : Type 0
-RestOrdered = (base : ℕ) (parts : Parts) → AreOrdered (rest_rules base parts)
+RestOrdered = (payload_at : ℕ) (parts : Parts) → AreOrdered (rest_rules payload_at parts)
 
 abbrev pub ValuesThere : Type 0
-ValuesThere = (payload : List ℕ) (base own : ℕ) → value_fault payload base own ≡ None → (value : Value) × IsValueOf payload value
+ValuesThere = (payload : List ℕ) (payload_at tag_at : ℕ) → value_fault payload payload_at tag_at ≡ None → (value : Value) × IsValueOf payload value
 
 abbrev pub ValuesClean : Type 0
-ValuesClean = (payload : List ℕ) (base own : ℕ) (value : Value) → IsValueOf payload value → value_fault payload base own ≡ None
+ValuesClean = (payload : List ℕ) (payload_at tag_at : ℕ) (value : Value) → IsValueOf payload value → value_fault payload payload_at tag_at ≡ None
 
 abbrev pub ValuesOnce : Type 0
 ValuesOnce = (payload : List ℕ) (value other : Value) → IsValueOf payload value → IsValueOf payload other → value ≡ other
 
 abbrev pub FeaturesThere : Type 0
-FeaturesThere = (payload : List ℕ) (base : ℕ) (keys : List (List ℕ)) (values : List Value) → feature_fault payload base keys values ≡ None → (feature : Feature) × IsFeatureOf payload keys values feature
+FeaturesThere = (payload : List ℕ) (payload_at : ℕ) (keys : List (List ℕ)) (values : List Value) → feature_fault payload payload_at keys values ≡ None → (feature : Feature) × IsFeatureOf payload keys values feature
 
 abbrev pub FeaturesClean : Type 0
-FeaturesClean = (payload : List ℕ) (base : ℕ) (keys : List (List ℕ)) (values : List Value) (feature : Feature) → IsFeatureOf payload keys values feature → feature_fault payload base keys values ≡ None
+FeaturesClean = (payload : List ℕ) (payload_at : ℕ) (keys : List (List ℕ)) (values : List Value) (feature : Feature) → IsFeatureOf payload keys values feature → feature_fault payload payload_at keys values ≡ None
 
 abbrev pub FeaturesOnce : Type 0
 FeaturesOnce = (payload : List ℕ) (keys : List (List ℕ)) (values : List Value) (feature other : Feature) → IsFeatureOf payload keys values feature → IsFeatureOf payload keys values other → feature ≡ other
 
 -- the faults of one value and of one feature are the first of their tables
-pub value_first : (payload : List ℕ) (base own : ℕ) → value_fault payload base own ≡ first (value_rules payload base own)
+pub value_first : (payload : List ℕ) (payload_at tag_at : ℕ) → value_fault payload payload_at tag_at ≡ first (value_rules payload payload_at tag_at)
 unfolding value_fault
-value_first payload base own = refl
+value_first payload payload_at tag_at = refl
 
-pub feature_first : (payload : List ℕ) (base : ℕ) (keys : List (List ℕ)) (values : List Value) → feature_fault payload base keys values ≡ first (feature_rules payload base keys values)
+pub feature_first : (payload : List ℕ) (payload_at : ℕ) (keys : List (List ℕ)) (values : List Value) → feature_fault payload payload_at keys values ≡ first (feature_rules payload payload_at keys values)
 unfolding feature_fault
-feature_first payload base keys values = refl
+feature_first payload payload_at keys values = refl
 
 -- options
 pub some_there : {A : Type 0} → (o : Option A) → is_none o ≡ false → (x : A) × (o ≡ Some x)
@@ -115,30 +115,30 @@ related_left R P gives (x ∷ xs) [] h = absurd h
 related_left R P gives (x ∷ xs) (y ∷ ys) h = (gives x y h.0, related_left R P gives xs ys h.1)
 
 -- the rows of values and of features
-pub values_there : ValuesThere → (base : ℕ) (xs : List Entry) → values_fault base xs ≡ None → (values : List Value) × AreRelated HoldsValue (only VALUES xs) values
-values_there there base xs clean =
-    related_there (λ (x : Entry). first (value_rules_of base x) ≡ None) HoldsValue (λ x none. there (bytes_of x.content) (base + x.body) (base + x.at) (value_first _ _ _ ∙ none)) (only VALUES xs) (none_each (value_rules_of base) [] (only VALUES xs) clean)
+pub values_there : ValuesThere → (payload_at : ℕ) (xs : List Entry) → values_fault payload_at xs ≡ None → (values : List Value) × AreRelated HoldsValue (only VALUES xs) values
+values_there there payload_at xs clean =
+    related_there (λ (x : Entry). first (value_rules_of payload_at x) ≡ None) HoldsValue (λ x none. there (bytes_of x.content) (payload_at + x.body) (payload_at + x.at) (value_first _ _ _ ∙ none)) (only VALUES xs) (none_each (value_rules_of payload_at) [] (only VALUES xs) clean)
 
-pub values_clean : ValuesClean → (base : ℕ) (xs : List Entry) (values : List Value) → AreRelated HoldsValue (only VALUES xs) values → values_fault base xs ≡ None
-values_clean clean base xs values are =
-    each_none (value_rules_of base) [] (only VALUES xs) (related_left HoldsValue (λ (x : Entry). first (value_rules_of base x) ≡ None) (λ x v is. sym (value_first _ _ _) ∙ clean (bytes_of x.content) (base + x.body) (base + x.at) v is) (only VALUES xs) values are)
+pub values_clean : ValuesClean → (payload_at : ℕ) (xs : List Entry) (values : List Value) → AreRelated HoldsValue (only VALUES xs) values → values_fault payload_at xs ≡ None
+values_clean clean payload_at xs values are =
+    each_none (value_rules_of payload_at) [] (only VALUES xs) (related_left HoldsValue (λ (x : Entry). first (value_rules_of payload_at x) ≡ None) (λ x v is. sym (value_first _ _ _) ∙ clean (bytes_of x.content) (payload_at + x.body) (payload_at + x.at) v is) (only VALUES xs) values are)
 
 abbrev feature_rules_at : ℕ → List (List ℕ) → List Value → Entry → Rules MessageFault
-feature_rules_at base keys values x = feature_rules (bytes_of x.content) (base + x.body) keys values
+feature_rules_at payload_at keys values x = feature_rules (bytes_of x.content) (payload_at + x.body) keys values
 
-pub features_there : FeaturesThere → (base : ℕ) (keys : List (List ℕ)) (values : List Value) (xs : List Entry) → features_fault base keys values xs ≡ None → (features : List Feature) × AreRelated (HoldsFeature keys values) (only FEATURES xs) features
-features_there there base keys values xs clean =
-    related_there (λ (x : Entry). first (feature_rules_at base keys values x) ≡ None) (HoldsFeature keys values) (λ x none. there (bytes_of x.content) (base + x.body) keys values (feature_first _ _ _ _ ∙ none)) (only FEATURES xs) (none_each_told (λ (earlier : List Entry). in_feature (length earlier)) (feature_rules_at base keys values) [] (only FEATURES xs) clean)
+pub features_there : FeaturesThere → (payload_at : ℕ) (keys : List (List ℕ)) (values : List Value) (xs : List Entry) → features_fault payload_at keys values xs ≡ None → (features : List Feature) × AreRelated (HoldsFeature keys values) (only FEATURES xs) features
+features_there there payload_at keys values xs clean =
+    related_there (λ (x : Entry). first (feature_rules_at payload_at keys values x) ≡ None) (HoldsFeature keys values) (λ x none. there (bytes_of x.content) (payload_at + x.body) keys values (feature_first _ _ _ _ ∙ none)) (only FEATURES xs) (none_each_told (λ (earlier : List Entry). in_feature (length earlier)) (feature_rules_at payload_at keys values) [] (only FEATURES xs) clean)
 
-pub features_clean : FeaturesClean → (base : ℕ) (keys : List (List ℕ)) (values : List Value) (xs : List Entry) (features : List Feature) → AreRelated (HoldsFeature keys values) (only FEATURES xs) features → features_fault base keys values xs ≡ None
-features_clean clean base keys values xs features are =
-    each_told_none (λ (earlier : List Entry). in_feature (length earlier)) (feature_rules_at base keys values) [] (only FEATURES xs) (related_left (HoldsFeature keys values) (λ (x : Entry). first (feature_rules_at base keys values x) ≡ None) (λ x f is. sym (feature_first _ _ _ _) ∙ clean (bytes_of x.content) (base + x.body) keys values f is) (only FEATURES xs) features are)
+pub features_clean : FeaturesClean → (payload_at : ℕ) (keys : List (List ℕ)) (values : List Value) (xs : List Entry) (features : List Feature) → AreRelated (HoldsFeature keys values) (only FEATURES xs) features → features_fault payload_at keys values xs ≡ None
+features_clean clean payload_at keys values xs features are =
+    each_told_none (λ (earlier : List Entry). in_feature (length earlier)) (feature_rules_at payload_at keys values) [] (only FEATURES xs) (related_left (HoldsFeature keys values) (λ (x : Entry). first (feature_rules_at payload_at keys values x) ≡ None) (λ x f is. sym (feature_first _ _ _ _) ∙ clean (bytes_of x.content) (payload_at + x.body) keys values f is) (only FEATURES xs) features are)
 
 -- a layer without a fault is there
-pub layer_from : FormsHave → (base own : ℕ) (xs : List Entry) (layer : ALayer) (values : List Value) → forms_fault base xs ≡ None → name_in xs ≡ Some layer.name → layer.extent ≡ extent_in xs → AreRelated HoldsValue (only VALUES xs) values → AreRelated (HoldsFeature (keys_in xs) values) (only FEATURES xs) layer.features → IsLayer xs layer
-layer_from have base own xs layer values clean name extent values_are features =
+pub layer_from : FormsHave → (payload_at tag_at : ℕ) (xs : List Entry) (layer : ALayer) (values : List Value) → forms_fault payload_at xs ≡ None → name_in xs ≡ Some layer.name → layer.extent ≡ extent_in xs → AreRelated HoldsValue (only VALUES xs) values → AreRelated (HoldsFeature (keys_in xs) values) (only FEATURES xs) layer.features → IsLayer xs layer
+layer_from have payload_at tag_at xs layer values clean name extent values_are features =
     record {
-      forms = layer_have have base xs clean;
+      forms = layer_have have payload_at xs clean;
       name = name;
       extent = extent;
       values = values;
@@ -146,18 +146,18 @@ layer_from have base own xs layer values clean name extent values_are features =
       features = features;
     }
 
-layer_there : FormsHave → ValueIs → ValuesThere → FeaturesThere → (base own : ℕ) (xs : List Entry) → layer_fault base own xs ≡ None → (layer : ALayer) × IsLayer xs layer
-layer_there have value_is values_are_there features_are_there base own xs none =
-    let parts = option_or-nones _ _ (sym (layer_chain base own xs) ∙ none) in
+layer_there : FormsHave → ValueIs → ValuesThere → FeaturesThere → (payload_at tag_at : ℕ) (xs : List Entry) → layer_fault payload_at tag_at xs ≡ None → (layer : ALayer) × IsLayer xs layer
+layer_there have value_is values_are_there features_are_there payload_at tag_at xs none =
+    let parts = option_or-nones _ _ (sym (layer_chain payload_at tag_at xs) ∙ none) in
     let later = option_or-nones _ _ parts.1 in
     let last = option_or-nones _ _ later.1 in
     let end = option_or-nones _ _ last.1 in
-    let name = some_there (last_only NAME xs) (when_none (is_none (last_only NAME xs)) (fault_at own NoName) later.0) in
-    let values = values_there values_are_there base xs last.0 in
+    let name = some_there (last_only NAME xs) (when_none (is_none (last_only NAME xs)) (fault_at tag_at NoName) later.0) in
+    let values = values_there values_are_there payload_at xs last.0 in
     let same : values_in xs ≡ values.0 = values_said value_is (only VALUES xs) values.0 values.1 in
-    let features = features_there features_are_there base (keys_in xs) values.0 xs (subst (λ vs. features_fault base (keys_in xs) vs xs ≡ None) same end.0) in
+    let features = features_there features_are_there payload_at (keys_in xs) values.0 xs (subst (λ vs. features_fault payload_at (keys_in xs) vs xs ≡ None) same end.0) in
     let layer : ALayer = record { name = bytes_of name.0.content; extent = extent_in xs; features = features.0 } in
-    (layer, layer_from have base own xs layer values.0 parts.0 (ap (option_map (λ (x : Entry). bytes_of x.content)) name.1) refl values.1 features.1)
+    (layer, layer_from have payload_at tag_at xs layer values.0 parts.0 (ap (option_map (λ (x : Entry). bytes_of x.content)) name.1) refl values.1 features.1)
 
 name_there : (xs : List Entry) (name : List ℕ) → name_in xs ≡ Some name → is_none (last_only NAME xs) ≡ false
 name_there xs name is = of_option (last_only NAME xs) is
@@ -166,26 +166,26 @@ name_there xs name is = of_option (last_only NAME xs) is
     of_option None h = cc
     of_option (Some x) h = refl
 
-pub layer_clean : (base own : ℕ) (xs : List Entry) → forms_fault base xs ≡ None → no_name_fault own xs ≡ None → values_fault base xs ≡ None → features_fault base (keys_in xs) (values_in xs) xs ≡ None → layer_fault base own xs ≡ None
-layer_clean base own xs forms name values features =
-    layer_chain base own xs ∙ option_or-none _ _ forms ∙ option_or-none _ _ name ∙ option_or-none _ _ values ∙ option_or-none _ _ features
+pub layer_clean : (payload_at tag_at : ℕ) (xs : List Entry) → forms_fault payload_at xs ≡ None → no_name_fault tag_at xs ≡ None → values_fault payload_at xs ≡ None → features_fault payload_at (keys_in xs) (values_in xs) xs ≡ None → layer_fault payload_at tag_at xs ≡ None
+layer_clean payload_at tag_at xs forms name values features =
+    layer_chain payload_at tag_at xs ∙ option_or-none _ _ forms ∙ option_or-none _ _ name ∙ option_or-none _ _ values ∙ option_or-none _ _ features
 
-layer_keeps : FormsClean → ValueIs → ValuesClean → FeaturesClean → (base own : ℕ) (xs : List Entry) (layer : ALayer) → IsLayer xs layer → layer_fault base own xs ≡ None
-layer_keeps forms_clean value_is clean_values clean_features base own xs layer is =
+layer_keeps : FormsClean → ValueIs → ValuesClean → FeaturesClean → (payload_at tag_at : ℕ) (xs : List Entry) (layer : ALayer) → IsLayer xs layer → layer_fault payload_at tag_at xs ≡ None
+layer_keeps forms_clean value_is clean_values clean_features payload_at tag_at xs layer is =
     let same : values_in xs ≡ is.values = values_said value_is (only VALUES xs) is.values is.values_are in
-    layer_clean base own xs (have_layer forms_clean base xs is.forms) (first-when_not _ _ (name_there xs layer.name is.name)) (values_clean clean_values base xs is.values is.values_are) (subst (λ vs. features_fault base (keys_in xs) vs xs ≡ None) (sym same) (features_clean clean_features base (keys_in xs) is.values xs layer.features is.features))
+    layer_clean payload_at tag_at xs (have_layer forms_clean payload_at xs is.forms) (first-when_not _ _ (name_there xs layer.name is.name)) (values_clean clean_values payload_at xs is.values is.values_are) (subst (λ vs. features_fault payload_at (keys_in xs) vs xs ≡ None) (sym same) (features_clean clean_features payload_at (keys_in xs) is.values xs layer.features is.features))
 
 -- no fault: the payload is an item
 abbrev FaultBehind : ℕ → ℕ → List Entry → Bool → Option MessageFault
-FaultBehind base own xs two = if two then layer_fault base own xs else None
+FaultBehind payload_at tag_at xs two = if two then layer_fault payload_at tag_at xs else None
 
-pub head_clean : NoneRest → FormsHave → (payload : List ℕ) (base own : ℕ) → head_fault payload base own ≡ None → ((split payload).rest ≡ []) × HaveForm VERSION (HasForm uint32) (split payload).fields × ((n : ℕ) × (version_in (split payload).fields ≡ Some n))
-head_clean none_rest have payload base own none =
+pub head_clean : NoneRest → FormsHave → (payload : List ℕ) (payload_at tag_at : ℕ) → head_fault payload payload_at tag_at ≡ None → ((split payload).rest ≡ []) × HaveForm VERSION (HasForm uint32) (split payload).fields × ((n : ℕ) × (version_in (split payload).fields ≡ Some n))
+head_clean none_rest have payload payload_at tag_at none =
     let xs = (split payload).fields in
     let parts = option_or-nones _ _ none in
     let later = option_or-nones _ _ parts.1 in
-    let forms = versions_form have base xs later.0 in
-    (none_rest base (split payload) parts.0, forms, version_there xs forms (when_none (is_none (last_only VERSION xs)) (fault_at own NoVersion) later.1))
+    let forms = versions_form have payload_at xs later.0 in
+    (none_rest payload_at (split payload) parts.0, forms, version_there xs forms (when_none (is_none (last_only VERSION xs)) (fault_at tag_at NoVersion) later.1))
 
 pub whole_of : SplitIs → (payload : List ℕ) → (split payload).rest ≡ [] → Whole payload (split payload).fields
 whole_of split_is payload rest = subst (λ r. Split payload (split payload).fields r) rest (split_is payload)
@@ -194,15 +194,15 @@ pub item_from : SplitIs → (payload : List ℕ) (item : AnItem) → (split payl
 unfolding IsItem
 item_from split_is payload item rest forms are = ((split payload).fields, whole_of split_is payload rest, forms, are)
 
-pub item_there : NoneRest → FormsHave → SplitIs → ValueIs → ValuesThere → FeaturesThere → (payload : List ℕ) (base own : ℕ) → item_fault payload base own ≡ None → (item : AnItem) × IsItem payload item
-item_there none_rest have split_is value_is values_are_there features_are_there payload base own none =
-    let parts = option_or-nones _ _ (sym (item_chain payload base own) ∙ none) in
-    let head = head_clean none_rest have payload base own parts.0 in
+pub item_there : NoneRest → FormsHave → SplitIs → ValueIs → ValuesThere → FeaturesThere → (payload : List ℕ) (payload_at tag_at : ℕ) → item_fault payload payload_at tag_at ≡ None → (item : AnItem) × IsItem payload item
+item_there none_rest have split_is value_is values_are_there features_are_there payload payload_at tag_at none =
+    let parts = option_or-nones _ _ (sym (item_chain payload payload_at tag_at) ∙ none) in
+    let head = head_clean none_rest have payload payload_at tag_at parts.0 in
     by_version (is_two (version_in (split payload).fields)) refl head.0 head.1 head.2 parts.1
   where
-    by_version : (two : Bool) → is_two (version_in (split payload).fields) ≡ two → (split payload).rest ≡ [] → HaveForm VERSION (HasForm uint32) (split payload).fields → ((n : ℕ) × (version_in (split payload).fields ≡ Some n)) → FaultBehind base own (split payload).fields two ≡ None → (item : AnItem) × IsItem payload item
+    by_version : (two : Bool) → is_two (version_in (split payload).fields) ≡ two → (split payload).rest ≡ [] → HaveForm VERSION (HasForm uint32) (split payload).fields → ((n : ℕ) × (version_in (split payload).fields ≡ Some n)) → FaultBehind payload_at tag_at (split payload).fields two ≡ None → (item : AnItem) × IsItem payload item
     by_version true is rest forms version behind =
-        let layer = layer_there have value_is values_are_there features_are_there base own (split payload).fields behind in
+        let layer = layer_there have value_is values_are_there features_are_there payload_at tag_at (split payload).fields behind in
         (Layer layer.0, item_from split_is payload (Layer layer.0) rest forms (two_there _ is, layer.1))
     by_version false is rest forms version behind =
         let other : version.0 ≢ 2 = eqb-false version.0 2 (sym (ap is_two version.1) ∙ is) in
@@ -216,29 +216,29 @@ last_there xs n is = of_option (last_only VERSION xs) is
     of_option None h = cc
     of_option (Some x) h = refl
 
-pub head_keeps : RestNone → FormsClean → (payload : List ℕ) (base own n : ℕ) → (split payload).rest ≡ [] → HaveForm VERSION (HasForm uint32) (split payload).fields → version_in (split payload).fields ≡ Some n → head_fault payload base own ≡ None
-head_keeps rest_none forms_clean payload base own n rest forms version =
-    option_or-none _ _ (rest_none base (split payload) rest) ∙ option_or-none _ _ (form_versions forms_clean base (split payload).fields forms) ∙ first-when_not _ _ (last_there (split payload).fields n version)
+pub head_keeps : RestNone → FormsClean → (payload : List ℕ) (payload_at tag_at n : ℕ) → (split payload).rest ≡ [] → HaveForm VERSION (HasForm uint32) (split payload).fields → version_in (split payload).fields ≡ Some n → head_fault payload payload_at tag_at ≡ None
+head_keeps rest_none forms_clean payload payload_at tag_at n rest forms version =
+    option_or-none _ _ (rest_none payload_at (split payload) rest) ∙ option_or-none _ _ (form_versions forms_clean payload_at (split payload).fields forms) ∙ first-when_not _ _ (last_there (split payload).fields n version)
 
-pub item_of_layer : (payload : List ℕ) (base own : ℕ) → head_fault payload base own ≡ None → version_in (split payload).fields ≡ Some 2 → item_fault payload base own ≡ layer_fault base own (split payload).fields
-item_of_layer payload base own head version =
-    item_chain payload base own ∙ option_or-none _ _ head ∙ ap (FaultBehind base own (split payload).fields) (ap is_two version)
+pub item_of_layer : (payload : List ℕ) (payload_at tag_at : ℕ) → head_fault payload payload_at tag_at ≡ None → version_in (split payload).fields ≡ Some 2 → item_fault payload payload_at tag_at ≡ layer_fault payload_at tag_at (split payload).fields
+item_of_layer payload payload_at tag_at head version =
+    item_chain payload payload_at tag_at ∙ option_or-none _ _ head ∙ ap (FaultBehind payload_at tag_at (split payload).fields) (ap is_two version)
 
-pub item_of_other : (payload : List ℕ) (base own n : ℕ) → head_fault payload base own ≡ None → version_in (split payload).fields ≡ Some n → n ≢ 2 → item_fault payload base own ≡ None
-item_of_other payload base own n head version other =
-    item_chain payload base own ∙ option_or-none _ _ head ∙ ap (FaultBehind base own (split payload).fields) (ap is_two version ∙ ne_eqb n 2 other)
+pub item_of_other : (payload : List ℕ) (payload_at tag_at n : ℕ) → head_fault payload payload_at tag_at ≡ None → version_in (split payload).fields ≡ Some n → n ≢ 2 → item_fault payload payload_at tag_at ≡ None
+item_of_other payload payload_at tag_at n head version other =
+    item_chain payload payload_at tag_at ∙ option_or-none _ _ head ∙ ap (FaultBehind payload_at tag_at (split payload).fields) (ap is_two version ∙ ne_eqb n 2 other)
 
-pub item_keeps : RestNone → FormsClean → SplitOnly → ValueIs → ValuesClean → FeaturesClean → (payload : List ℕ) (base own : ℕ) (item : AnItem) → IsItem payload item → item_fault payload base own ≡ None
+pub item_keeps : RestNone → FormsClean → SplitOnly → ValueIs → ValuesClean → FeaturesClean → (payload : List ℕ) (payload_at tag_at : ℕ) (item : AnItem) → IsItem payload item → item_fault payload payload_at tag_at ≡ None
 unfolding IsItem
-item_keeps rest_none forms_clean split_only value_is clean_values clean_features payload base own item (xs, whole, forms, are) =
+item_keeps rest_none forms_clean split_only value_is clean_values clean_features payload payload_at tag_at item (xs, whole, forms, are) =
     let only_split = split_only payload [] xs whole in
     let here : AreItem (split payload).fields payload item = subst (λ fs. AreItem fs payload item) only_split.0 are in
     by_item item (sym only_split.1) (subst (HaveForm VERSION (HasForm uint32)) only_split.0 forms) here
   where
-    by_item : (i : AnItem) → (split payload).rest ≡ [] → HaveForm VERSION (HasForm uint32) (split payload).fields → AreItem (split payload).fields payload i → item_fault payload base own ≡ None
+    by_item : (i : AnItem) → (split payload).rest ≡ [] → HaveForm VERSION (HasForm uint32) (split payload).fields → AreItem (split payload).fields payload i → item_fault payload payload_at tag_at ≡ None
     by_item (Layer layer) rest form is =
-        item_of_layer payload base own (head_keeps rest_none forms_clean payload base own 2 rest form is.0) is.0 ∙ layer_keeps forms_clean value_is clean_values clean_features base own (split payload).fields layer is.1
-    by_item (Foreign version content) rest form is = item_of_other payload base own version (head_keeps rest_none forms_clean payload base own version rest form is.0) is.0 is.1
+        item_of_layer payload payload_at tag_at (head_keeps rest_none forms_clean payload payload_at tag_at 2 rest form is.0) is.0 ∙ layer_keeps forms_clean value_is clean_values clean_features payload_at tag_at (split payload).fields layer is.1
+    by_item (Foreign version content) rest form is = item_of_other payload payload_at tag_at version (head_keeps rest_none forms_clean payload payload_at tag_at version rest form is.0) is.0 is.1
 
 -- at most one item
 same_layers : (k l : ALayer) → k.name ≡ l.name → k.extent ≡ l.extent → k.features ≡ l.features → k ≡ l
@@ -282,29 +282,29 @@ names_same split_only payload item (xs, whole, forms, are) =
 
 -- the table is in order
 abbrev pub ValuesOrdered : Type 0
-ValuesOrdered = (payload : List ℕ) (base own : ℕ) → AreOrdered (value_rules payload base own)
+ValuesOrdered = (payload : List ℕ) (payload_at tag_at : ℕ) → AreOrdered (value_rules payload payload_at tag_at)
 
 abbrev pub FeaturesOrdered : Type 0
-FeaturesOrdered = (payload : List ℕ) (base : ℕ) (keys : List (List ℕ)) (values : List Value) → AreOrdered (feature_rules payload base keys values)
+FeaturesOrdered = (payload : List ℕ) (payload_at : ℕ) (keys : List (List ℕ)) (values : List Value) → AreOrdered (feature_rules payload payload_at keys values)
 
-layer_rows : FormsOrdered → ValuesOrdered → FeaturesOrdered → (base own : ℕ) (xs : List Entry) (two : Bool) → AreRowsFrom 5 (if two then layer_table base own xs else [])
-layer_rows forms values features base own xs false = tt
-layer_rows forms values features base own xs true = (
+layer_rows : FormsOrdered → ValuesOrdered → FeaturesOrdered → (payload_at tag_at : ℕ) (xs : List Entry) (two : Bool) → AreRowsFrom 5 (if two then layer_table payload_at tag_at xs else [])
+layer_rows forms values features payload_at tag_at xs false = tt
+layer_rows forms values features payload_at tag_at xs true = (
   omega arith,
   (
-    each_ordered (λ _. layer_field_rules base) [] xs (λ seen x. layer_field_ordered forms base x),
+    each_ordered (λ _. layer_field_rules payload_at) [] xs (λ seen x. layer_field_ordered forms payload_at x),
     (
       omega arith,
       (
-        when_ordered (is_none (last_only NAME xs)) (fault_at own NoName),
+        when_ordered (is_none (last_only NAME xs)) (fault_at tag_at NoName),
         (
           omega arith,
           (
-            each_ordered (λ _. value_rules_of base) [] (only VALUES xs) (λ seen x. values (bytes_of x.content) (base + x.body) (base + x.at)),
+            each_ordered (λ _. value_rules_of payload_at) [] (only VALUES xs) (λ seen x. values (bytes_of x.content) (payload_at + x.body) (payload_at + x.at)),
             (
               omega arith,
               (
-                each_ordered (feature_rules_of base (keys_in xs) (values_in xs)) [] (only FEATURES xs) (λ seen x. told_ordered (in_feature (length seen)) _ (features (bytes_of x.content) (base + x.body) (keys_in xs) (values_in xs))),
+                each_ordered (feature_rules_of payload_at (keys_in xs) (values_in xs)) [] (only FEATURES xs) (λ seen x. told_ordered (in_feature (length seen)) _ (features (bytes_of x.content) (payload_at + x.body) (keys_in xs) (values_in xs))),
                 tt,
               ),
             ),
@@ -315,14 +315,14 @@ layer_rows forms values features base own xs true = (
   ),
 )
 
-item_rows : RestOrdered → FormsOrdered → ValuesOrdered → FeaturesOrdered → (payload : List ℕ) (base own : ℕ) → AreRowsFrom 0 (item_table payload base own)
-item_rows rest_ordered forms values features payload base own =
-    (omega arith, (rest_ordered base (split payload), (omega arith, (each_ordered (λ _. version_rules base) [] (split payload).fields (λ seen x. version_ordered forms base x), (omega arith, (when_ordered (is_none (last_only VERSION (split payload).fields)) (fault_at own NoVersion), layer_rows forms values features base own (split payload).fields (is_two (version_in (split payload).fields))))))))
+item_rows : RestOrdered → FormsOrdered → ValuesOrdered → FeaturesOrdered → (payload : List ℕ) (payload_at tag_at : ℕ) → AreRowsFrom 0 (item_table payload payload_at tag_at)
+item_rows rest_ordered forms values features payload payload_at tag_at =
+    (omega arith, (rest_ordered payload_at (split payload), (omega arith, (each_ordered (λ _. version_rules payload_at) [] (split payload).fields (λ seen x. version_ordered forms payload_at x), (omega arith, (when_ordered (is_none (last_only VERSION (split payload).fields)) (fault_at tag_at NoVersion), layer_rows forms values features payload_at tag_at (split payload).fields (is_two (version_in (split payload).fields))))))))
 
-pub item_ordered : RestOrdered → FormsOrdered → ValuesOrdered → FeaturesOrdered → (payload : List ℕ) (base own : ℕ) → AreOrdered (item_rules payload base own)
+pub item_ordered : RestOrdered → FormsOrdered → ValuesOrdered → FeaturesOrdered → (payload : List ℕ) (payload_at tag_at : ℕ) → AreOrdered (item_rules payload payload_at tag_at)
 unfolding item_rules
-item_ordered rest_ordered forms values features payload base own = rows_ordered 0 (item_table payload base own) (item_rows rest_ordered forms values features payload base own)
+item_ordered rest_ordered forms values features payload payload_at tag_at = rows_ordered 0 (item_table payload payload_at tag_at) (item_rows rest_ordered forms values features payload payload_at tag_at)
 
-pub item_first : (payload : List ℕ) (base own : ℕ) → item_fault payload base own ≡ first (item_rules payload base own)
+pub item_first : (payload : List ℕ) (payload_at tag_at : ℕ) → item_fault payload payload_at tag_at ≡ first (item_rules payload payload_at tag_at)
 unfolding item_fault
-item_first payload base own = refl
+item_first payload payload_at tag_at = refl

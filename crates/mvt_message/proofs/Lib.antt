@@ -1,3 +1,4 @@
+pub mod MessageLaws
 pub mod ChainLemmas
 pub mod SaidLemmas
 pub mod FormLemmas

@@ -67,28 +67,28 @@ number_more k done x = ap number_in (last_only-more (λ (y : Entry). y.number) k
     by_test true = refl
     by_test false = refl
 
-version_first : (base : ℕ) (x : Entry) → first (version_rules base x) ≡ option_map (fault_at (base + x.at)) (first (number_rules version_forms x.number x.content))
+version_first : (payload_at : ℕ) (x : Entry) → first (version_rules payload_at x) ≡ option_map (fault_at (payload_at + x.at)) (first (number_rules version_forms x.number x.content))
 unfolding version_rules
-version_first base x = first-told (fault_at (base + x.at)) (number_rules version_forms x.number x.content)
+version_first payload_at x = first-told (fault_at (payload_at + x.at)) (number_rules version_forms x.number x.content)
 
-pub version_skip : (base : ℕ) (done : List Entry) (v : Option ℕ) (x : Entry) → IsVersionSoFar base done (Ok v) → x.number ≢ VERSION → IsVersionSoFar base (done ++ x ∷ []) (Ok v)
-version_skip base done v x so_far other =
+pub version_skip : (payload_at : ℕ) (done : List Entry) (v : Option ℕ) (x : Entry) → IsVersionSoFar payload_at done (Ok v) → x.number ≢ VERSION → IsVersionSoFar payload_at (done ++ x ∷ []) (Ok v)
+version_skip payload_at done v x so_far other =
     let test = ne_eqb x.number VERSION other in (
-      each_more (λ _. version_rules base) done x so_far.0 ∙ version_first base x ∙ ap (λ (b : Bool). option_map (fault_at (base + x.at)) (first (if b then form_rules uint32 x.content else []))) test,
+      each_more (λ _. version_rules payload_at) done x so_far.0 ∙ version_first payload_at x ∙ ap (λ (b : Bool). option_map (fault_at (payload_at + x.at)) (first (if b then form_rules uint32 x.content else []))) test,
       so_far.1 ∙ sym (number_more VERSION done x ∙ ap (λ (b : Bool). if b then number_of x.content else version_in done) test),
     )
 
-pub version_take : (base : ℕ) (done : List Entry) (v : Option ℕ) (x : Entry) (n : ℕ) → IsVersionSoFar base done (Ok v) → x.number ≡ VERSION → number_of x.content ≡ Some n → first (form_rules uint32 x.content) ≡ None → IsVersionSoFar base (done ++ x ∷ []) (Ok (Some n))
-version_take base done v x n so_far is number clean =
+pub version_take : (payload_at : ℕ) (done : List Entry) (v : Option ℕ) (x : Entry) (n : ℕ) → IsVersionSoFar payload_at done (Ok v) → x.number ≡ VERSION → number_of x.content ≡ Some n → first (form_rules uint32 x.content) ≡ None → IsVersionSoFar payload_at (done ++ x ∷ []) (Ok (Some n))
+version_take payload_at done v x n so_far is number clean =
     let test = eq-eqb x.number VERSION is in (
-      each_more (λ _. version_rules base) done x so_far.0 ∙ version_first base x ∙ ap (λ (b : Bool). option_map (fault_at (base + x.at)) (first (if b then form_rules uint32 x.content else []))) test ∙ ap (option_map (fault_at (base + x.at))) clean,
+      each_more (λ _. version_rules payload_at) done x so_far.0 ∙ version_first payload_at x ∙ ap (λ (b : Bool). option_map (fault_at (payload_at + x.at)) (first (if b then form_rules uint32 x.content else []))) test ∙ ap (option_map (fault_at (payload_at + x.at))) clean,
       sym (number_more VERSION done x ∙ ap (λ (b : Bool). if b then number_of x.content else version_in done) test ∙ number),
     )
 
-pub version_stops : (base : ℕ) (done : List Entry) (v : Option ℕ) (x : Entry) (e : MessageError) → IsVersionSoFar base done (Ok v) → x.number ≡ VERSION → TellsMessage e (option_map (fault_at (base + x.at)) (first (form_rules uint32 x.content))) → (more : List Entry) → TellsMessage e (versions_fault base ((done ++ x ∷ []) ++ more))
-version_stops base done v x e so_far is told_here more =
+pub version_stops : (payload_at : ℕ) (done : List Entry) (v : Option ℕ) (x : Entry) (e : MessageError) → IsVersionSoFar payload_at done (Ok v) → x.number ≡ VERSION → TellsMessage e (option_map (fault_at (payload_at + x.at)) (first (form_rules uint32 x.content))) → (more : List Entry) → TellsMessage e (versions_fault payload_at ((done ++ x ∷ []) ++ more))
+version_stops payload_at done v x e so_far is told_here more =
     let test = eq-eqb x.number VERSION is in
-    tells_as e (option_map (fault_at (base + x.at)) (first (form_rules uint32 x.content))) _ (λ f broken. rw append_assoc (each_stops (λ _. version_rules base) done x more f so_far.0 (version_first base x ∙ ap (λ (b : Bool). option_map (fault_at (base + x.at)) (first (if b then form_rules uint32 x.content else []))) test ∙ broken))) told_here
+    tells_as e (option_map (fault_at (payload_at + x.at)) (first (form_rules uint32 x.content))) _ (λ f broken. rw append_assoc (each_stops (λ _. version_rules payload_at) done x more f so_far.0 (version_first payload_at x ∙ ap (λ (b : Bool). option_map (fault_at (payload_at + x.at)) (first (if b then form_rules uint32 x.content else []))) test ∙ broken))) told_here
 
 -- a fault stays
 pub fault_stays : (fault : List Entry → Option MessageFault) (done : List Entry) (x : Entry) (e : MessageError) → ((more : List Entry) → TellsMessage e (fault (done ++ more))) → (more : List Entry) → TellsMessage e (fault ((done ++ x ∷ []) ++ more))
@@ -108,22 +108,22 @@ pub or_told : (fault : List Entry → Option MessageFault) (done : List Entry) (
 or_told fault done e stays = subst (λ xs. TellsMessage e (fault xs)) (append-nil done) (stays [])
 
 -- the version so far with a field of another number, or behind a fault
-pub version_passes : (base : ℕ) (done : List Entry) (v : Result (Option ℕ) MessageError) (x : Entry) → IsVersionSoFar base done v → x.number ≢ VERSION → IsVersionSoFar base (done ++ x ∷ []) v
-version_passes base done (Ok v) x so_far other = version_skip base done v x so_far other
-version_passes base done (Err e) x stays other = fault_stays (versions_fault base) done x e stays
+pub version_passes : (payload_at : ℕ) (done : List Entry) (v : Result (Option ℕ) MessageError) (x : Entry) → IsVersionSoFar payload_at done v → x.number ≢ VERSION → IsVersionSoFar payload_at (done ++ x ∷ []) v
+version_passes payload_at done (Ok v) x so_far other = version_skip payload_at done v x so_far other
+version_passes payload_at done (Err e) x stays other = fault_stays (versions_fault payload_at) done x e stays
 
-pub version_stays : (base : ℕ) (done : List Entry) (v : Result (Option ℕ) MessageError) (x : Entry) → true ≡ is_err v → IsVersionSoFar base done v → IsVersionSoFar base (done ++ x ∷ []) v
-version_stays base done (Ok v) x broken so_far = absurd (let clash : true ≡ false = broken in cc)
-version_stays base done (Err e) x broken stays = fault_stays (versions_fault base) done x e stays
+pub version_stays : (payload_at : ℕ) (done : List Entry) (v : Result (Option ℕ) MessageError) (x : Entry) → true ≡ is_err v → IsVersionSoFar payload_at done v → IsVersionSoFar payload_at (done ++ x ∷ []) v
+version_stays payload_at done (Ok v) x broken so_far = absurd (let clash : true ≡ false = broken in cc)
+version_stays payload_at done (Err e) x broken stays = fault_stays (versions_fault payload_at) done x e stays
 
-pub version_clean : (base : ℕ) (done : List Entry) (v : Result (Option ℕ) MessageError) → false ≡ is_err v → IsVersionSoFar base done v → (o : Option ℕ) × IsVersionSoFar base done (Ok o)
-version_clean base done (Ok v) whole so_far = (v, so_far)
-version_clean base done (Err e) whole stays = absurd (let clash : false ≡ true = whole in cc)
+pub version_clean : (payload_at : ℕ) (done : List Entry) (v : Result (Option ℕ) MessageError) → false ≡ is_err v → IsVersionSoFar payload_at done v → (o : Option ℕ) × IsVersionSoFar payload_at done (Ok o)
+version_clean payload_at done (Ok v) whole so_far = (v, so_far)
+version_clean payload_at done (Err e) whole stays = absurd (let clash : false ≡ true = whole in cc)
 
 -- the head
-form_first : (base : ℕ) (x : Entry) → first (layer_field_rules base x) ≡ option_map (fault_at (base + x.at)) (first (number_rules layer_forms x.number x.content))
+form_first : (payload_at : ℕ) (x : Entry) → first (layer_field_rules payload_at x) ≡ option_map (fault_at (payload_at + x.at)) (first (number_rules layer_forms x.number x.content))
 unfolding layer_field_rules
-form_first base x = first-told (fault_at (base + x.at)) (number_rules layer_forms x.number x.content)
+form_first payload_at x = first-told (fault_at (payload_at + x.at)) (number_rules layer_forms x.number x.content)
 
 name_more : (done : List Entry) (x : Entry) → name_in (done ++ x ∷ []) ≡ name_after (name_in done) x.number x.content
 name_more done x = ap (option_map (λ (y : Entry). bytes_of y.content)) (last_only-more (λ (y : Entry). y.number) NAME done x) ∙ by_test (x.number == NAME)
@@ -147,48 +147,48 @@ keys_more done x =
     by_test true = refl
     by_test false = refl
 
-pub head_step : (base : ℕ) (done : List Entry) (x : Entry) (name new_name : Option (List ℕ)) (extent new_extent : ℕ) (keys new_keys : List (List ℕ)) → IsHead base name extent keys done → first (number_rules layer_forms x.number x.content) ≡ None → new_name ≡ name_after name x.number x.content → new_extent ≡ extent_after extent x.number x.content → new_keys ≡ keys ++ keys_at x.number x.content → IsHead base new_name new_extent new_keys (done ++ x ∷ [])
-head_step base done x name new_name extent new_extent keys new_keys so_far clean name_is extent_is keys_are = record {
-  clean = each_more (λ _. layer_field_rules base) done x so_far.clean ∙ form_first base x ∙ ap (option_map (fault_at (base + x.at))) clean;
+pub head_step : (payload_at : ℕ) (done : List Entry) (x : Entry) (name new_name : Option (List ℕ)) (extent new_extent : ℕ) (keys new_keys : List (List ℕ)) → IsHead payload_at name extent keys done → first (number_rules layer_forms x.number x.content) ≡ None → new_name ≡ name_after name x.number x.content → new_extent ≡ extent_after extent x.number x.content → new_keys ≡ keys ++ keys_at x.number x.content → IsHead payload_at new_name new_extent new_keys (done ++ x ∷ [])
+head_step payload_at done x name new_name extent new_extent keys new_keys so_far clean name_is extent_is keys_are = record {
+  clean = each_more (λ _. layer_field_rules payload_at) done x so_far.clean ∙ form_first payload_at x ∙ ap (option_map (fault_at (payload_at + x.at))) clean;
   name_is = name_is ∙ ap (λ o. name_after o x.number x.content) so_far.name_is ∙ sym (name_more done x);
   extent_is = extent_is ∙ ap (λ n. extent_after n x.number x.content) so_far.extent_is ∙ sym (extent_more done x);
   keys_are = keys_are ∙ ap (λ l. l ++ keys_at x.number x.content) so_far.keys_are ∙ sym (keys_more done x);
 }
 
-pub head_stops : (base : ℕ) (done : List Entry) (x : Entry) (e : MessageError) → forms_fault base done ≡ None → TellsMessage e (option_map (fault_at (base + x.at)) (first (number_rules layer_forms x.number x.content))) → (more : List Entry) → TellsMessage e (forms_fault base ((done ++ x ∷ []) ++ more))
-head_stops base done x e clean told_here more =
-    tells_as e (option_map (fault_at (base + x.at)) (first (number_rules layer_forms x.number x.content))) _ (λ f broken. rw append_assoc (each_stops (λ _. layer_field_rules base) done x more f clean (form_first base x ∙ broken))) told_here
+pub head_stops : (payload_at : ℕ) (done : List Entry) (x : Entry) (e : MessageError) → forms_fault payload_at done ≡ None → TellsMessage e (option_map (fault_at (payload_at + x.at)) (first (number_rules layer_forms x.number x.content))) → (more : List Entry) → TellsMessage e (forms_fault payload_at ((done ++ x ∷ []) ++ more))
+head_stops payload_at done x e clean told_here more =
+    tells_as e (option_map (fault_at (payload_at + x.at)) (first (number_rules layer_forms x.number x.content))) _ (λ f broken. rw append_assoc (each_stops (λ _. layer_field_rules payload_at) done x more f clean (form_first payload_at x ∙ broken))) told_here
 
 -- values
-pub values_skip : (base : ℕ) (done : List Entry) (values : List Value) (x : Entry) → AreValuesSoFar base done values → x.number ≢ VALUES → AreValuesSoFar base (done ++ x ∷ []) values
-values_skip base done values x so_far other =
-    subst (λ xs. (first (each (λ _. value_rules_of base) [] xs) ≡ None) × AreRelated HoldsValue xs values) (sym (only_skip VALUES done x other)) so_far
+pub values_skip : (payload_at : ℕ) (done : List Entry) (values : List Value) (x : Entry) → AreValuesSoFar payload_at done values → x.number ≢ VALUES → AreValuesSoFar payload_at (done ++ x ∷ []) values
+values_skip payload_at done values x so_far other =
+    subst (λ xs. (first (each (λ _. value_rules_of payload_at) [] xs) ≡ None) × AreRelated HoldsValue xs values) (sym (only_skip VALUES done x other)) so_far
 
-pub values_take : (base : ℕ) (done : List Entry) (values new : List Value) (x : Entry) (value : Value) → AreValuesSoFar base done values → x.number ≡ VALUES → IsValueOf (bytes_of x.content) value → value_fault (bytes_of x.content) (base + x.body) (base + x.at) ≡ None → new ≡ values ++ value ∷ [] → AreValuesSoFar base (done ++ x ∷ []) new
-values_take base done values new x value so_far is holds clean new_is =
-    subst (λ xs. (first (each (λ _. value_rules_of base) [] xs) ≡ None) × AreRelated HoldsValue xs new) (sym (only_take VALUES done x is)) (each_more (λ _. value_rules_of base) (only VALUES done) x so_far.0 ∙ sym (value_first _ _ _) ∙ clean, rw new_is (related-append HoldsValue (only VALUES done) values (x ∷ []) (value ∷ []) so_far.1 (holds, tt)))
+pub values_take : (payload_at : ℕ) (done : List Entry) (values new : List Value) (x : Entry) (value : Value) → AreValuesSoFar payload_at done values → x.number ≡ VALUES → IsValueOf (bytes_of x.content) value → value_fault (bytes_of x.content) (payload_at + x.body) (payload_at + x.at) ≡ None → new ≡ values ++ value ∷ [] → AreValuesSoFar payload_at (done ++ x ∷ []) new
+values_take payload_at done values new x value so_far is holds clean new_is =
+    subst (λ xs. (first (each (λ _. value_rules_of payload_at) [] xs) ≡ None) × AreRelated HoldsValue xs new) (sym (only_take VALUES done x is)) (each_more (λ _. value_rules_of payload_at) (only VALUES done) x so_far.0 ∙ sym (value_first _ _ _) ∙ clean, rw new_is (related-append HoldsValue (only VALUES done) values (x ∷ []) (value ∷ []) so_far.1 (holds, tt)))
 
-pub values_stop : (base : ℕ) (done : List Entry) (values : List Value) (x : Entry) (more : List Entry) (e : MessageError) → AreValuesSoFar base done values → x.number ≡ VALUES → TellsMessage e (value_fault (bytes_of x.content) (base + x.body) (base + x.at)) → TellsMessage e (values_fault base ((done ++ x ∷ []) ++ more))
-values_stop base done values x more e so_far is told_here =
-    selected_stops VALUES (λ _. value_rules_of base) e done x more is so_far.0 (subst (TellsMessage e) (value_first (bytes_of x.content) (base + x.body) (base + x.at)) told_here)
+pub values_stop : (payload_at : ℕ) (done : List Entry) (values : List Value) (x : Entry) (more : List Entry) (e : MessageError) → AreValuesSoFar payload_at done values → x.number ≡ VALUES → TellsMessage e (value_fault (bytes_of x.content) (payload_at + x.body) (payload_at + x.at)) → TellsMessage e (values_fault payload_at ((done ++ x ∷ []) ++ more))
+values_stop payload_at done values x more e so_far is told_here =
+    selected_stops VALUES (λ _. value_rules_of payload_at) e done x more is so_far.0 (subst (TellsMessage e) (value_first (bytes_of x.content) (payload_at + x.body) (payload_at + x.at)) told_here)
 
 -- features
-feature_told : (base : ℕ) (keys : List (List ℕ)) (values : List Value) (earlier : List Entry) (x : Entry) → first (feature_rules_of base keys values earlier x) ≡ option_map (in_feature (length earlier)) (feature_fault (bytes_of x.content) (base + x.body) keys values)
-feature_told base keys values earlier x =
-    first-told (in_feature (length earlier)) (feature_rules (bytes_of x.content) (base + x.body) keys values) ∙ ap (option_map (in_feature (length earlier))) (sym (feature_first (bytes_of x.content) (base + x.body) keys values))
+feature_told : (payload_at : ℕ) (keys : List (List ℕ)) (values : List Value) (earlier : List Entry) (x : Entry) → first (feature_rules_of payload_at keys values earlier x) ≡ option_map (in_feature (length earlier)) (feature_fault (bytes_of x.content) (payload_at + x.body) keys values)
+feature_told payload_at keys values earlier x =
+    first-told (in_feature (length earlier)) (feature_rules (bytes_of x.content) (payload_at + x.body) keys values) ∙ ap (option_map (in_feature (length earlier))) (sym (feature_first (bytes_of x.content) (payload_at + x.body) keys values))
 
-pub features_skip : (base : ℕ) (keys : List (List ℕ)) (values : List Value) (done : List Entry) (features : List Feature) (x : Entry) → AreFeaturesSoFar base keys values done features → x.number ≢ FEATURES → AreFeaturesSoFar base keys values (done ++ x ∷ []) features
-features_skip base keys values done features x so_far other =
-    subst (λ xs. (first (each (feature_rules_of base keys values) [] xs) ≡ None) × AreRelated (HoldsFeature keys values) xs features) (sym (only_skip FEATURES done x other)) so_far
+pub features_skip : (payload_at : ℕ) (keys : List (List ℕ)) (values : List Value) (done : List Entry) (features : List Feature) (x : Entry) → AreFeaturesSoFar payload_at keys values done features → x.number ≢ FEATURES → AreFeaturesSoFar payload_at keys values (done ++ x ∷ []) features
+features_skip payload_at keys values done features x so_far other =
+    subst (λ xs. (first (each (feature_rules_of payload_at keys values) [] xs) ≡ None) × AreRelated (HoldsFeature keys values) xs features) (sym (only_skip FEATURES done x other)) so_far
 
-pub features_take : (base : ℕ) (keys : List (List ℕ)) (values : List Value) (done : List Entry) (features new : List Feature) (x : Entry) (feature : Feature) → AreFeaturesSoFar base keys values done features → x.number ≡ FEATURES → IsFeatureOf (bytes_of x.content) keys values feature → feature_fault (bytes_of x.content) (base + x.body) keys values ≡ None → new ≡ features ++ feature ∷ [] → AreFeaturesSoFar base keys values (done ++ x ∷ []) new
-features_take base keys values done features new x feature so_far is holds clean new_is =
-    subst (λ xs. (first (each (feature_rules_of base keys values) [] xs) ≡ None) × AreRelated (HoldsFeature keys values) xs new) (sym (only_take FEATURES done x is)) (each_more (feature_rules_of base keys values) (only FEATURES done) x so_far.0 ∙ feature_told base keys values (only FEATURES done) x ∙ ap (option_map (in_feature (length (only FEATURES done)))) clean, rw new_is (related-append (HoldsFeature keys values) (only FEATURES done) features (x ∷ []) (feature ∷ []) so_far.1 (holds, tt)))
+pub features_take : (payload_at : ℕ) (keys : List (List ℕ)) (values : List Value) (done : List Entry) (features new : List Feature) (x : Entry) (feature : Feature) → AreFeaturesSoFar payload_at keys values done features → x.number ≡ FEATURES → IsFeatureOf (bytes_of x.content) keys values feature → feature_fault (bytes_of x.content) (payload_at + x.body) keys values ≡ None → new ≡ features ++ feature ∷ [] → AreFeaturesSoFar payload_at keys values (done ++ x ∷ []) new
+features_take payload_at keys values done features new x feature so_far is holds clean new_is =
+    subst (λ xs. (first (each (feature_rules_of payload_at keys values) [] xs) ≡ None) × AreRelated (HoldsFeature keys values) xs new) (sym (only_take FEATURES done x is)) (each_more (feature_rules_of payload_at keys values) (only FEATURES done) x so_far.0 ∙ feature_told payload_at keys values (only FEATURES done) x ∙ ap (option_map (in_feature (length (only FEATURES done)))) clean, rw new_is (related-append (HoldsFeature keys values) (only FEATURES done) features (x ∷ []) (feature ∷ []) so_far.1 (holds, tt)))
 
-pub features_stop : (base : ℕ) (keys : List (List ℕ)) (values : List Value) (done : List Entry) (features : List Feature) (x : Entry) (more : List Entry) (index : ℕ) (e : MessageError) → AreFeaturesSoFar base keys values done features → x.number ≡ FEATURES → index ≡ length features → TellsMessage e (option_map (in_feature index) (feature_fault (bytes_of x.content) (base + x.body) keys values)) → TellsMessage e (features_fault base keys values ((done ++ x ∷ []) ++ more))
-features_stop base keys values done features x more index e so_far is index_is told_here =
+pub features_stop : (payload_at : ℕ) (keys : List (List ℕ)) (values : List Value) (done : List Entry) (features : List Feature) (x : Entry) (more : List Entry) (index : ℕ) (e : MessageError) → AreFeaturesSoFar payload_at keys values done features → x.number ≡ FEATURES → index ≡ length features → TellsMessage e (option_map (in_feature index) (feature_fault (bytes_of x.content) (payload_at + x.body) keys values)) → TellsMessage e (features_fault payload_at keys values ((done ++ x ∷ []) ++ more))
+features_stop payload_at keys values done features x more index e so_far is index_is told_here =
     let count : index ≡ length (only FEATURES done) = index_is ∙ sym (length-related (HoldsFeature keys values) (only FEATURES done) features so_far.1) in
-    selected_stops FEATURES (feature_rules_of base keys values) e done x more is so_far.0 (subst (TellsMessage e) (ap (λ n. option_map (in_feature n) (feature_fault (bytes_of x.content) (base + x.body) keys values)) count ∙ sym (feature_told base keys values (only FEATURES done) x)) told_here)
+    selected_stops FEATURES (feature_rules_of payload_at keys values) e done x more is so_far.0 (subst (TellsMessage e) (ap (λ n. option_map (in_feature n) (feature_fault (bytes_of x.content) (payload_at + x.body) keys values)) count ∙ sym (feature_told payload_at keys values (only FEATURES done) x)) told_here)
 
 only_few : (k : ℕ) (xs : List Entry) → length (only k xs) ≤ length xs
 only_few k [] = omega arith
@@ -210,8 +210,8 @@ selected_few split_count payload to_come done k walk small =
     omega arith
 
 -- the walk over a payload that is known to split into fields
-pub walk_body_fits : (payload : List ℕ) (old new : Parts) (done : List Entry) (field : Field) (base : ℕ) → Walk payload old done → GivesEntry old (Some (Ok field)) new → base + length payload < 2 ^ 64 → base + (field.body + bytes_size (content_of field.payload)) < 2 ^ 64
-walk_body_fits payload old new done field base walk step small =
+pub walk_body_fits : (payload : List ℕ) (old new : Parts) (done : List Entry) (field : Field) (payload_at : ℕ) → Walk payload old done → GivesEntry old (Some (Ok field)) new → payload_at + length payload < 2 ^ 64 → payload_at + (field.body + bytes_size (content_of field.payload)) < 2 ^ 64
+walk_body_fits payload old new done field payload_at walk step small =
     let inside : field.body + bytes_size (content_of field.payload) ≤ old.rest_at = step.1.1 in
     let place = walk.place in
     let bound = walk.bound in
@@ -221,85 +221,85 @@ pub walk_whole : (payload : List ℕ) (old new : Parts) (done : List Entry) (fau
 walk_whole payload old new done fault walk step whole = step.1 (walk.rest ∙ whole)
 
 -- the exits of `read_version`
-pub head_some : RestNone → (payload : List ℕ) (base own n : ℕ) → (split payload).rest ≡ [] → versions_fault base (split payload).fields ≡ None → Some n ≡ version_in (split payload).fields → head_fault payload base own ≡ None
-head_some rest_none payload base own n rest clean version =
-    option_or-none _ _ (rest_none base (split payload) rest) ∙ option_or-none _ _ clean ∙ first-when_not _ _ (by_option (last_only VERSION (split payload).fields) version)
+pub head_some : RestNone → (payload : List ℕ) (payload_at tag_at n : ℕ) → (split payload).rest ≡ [] → versions_fault payload_at (split payload).fields ≡ None → Some n ≡ version_in (split payload).fields → head_fault payload payload_at tag_at ≡ None
+head_some rest_none payload payload_at tag_at n rest clean version =
+    option_or-none _ _ (rest_none payload_at (split payload) rest) ∙ option_or-none _ _ clean ∙ first-when_not _ _ (by_option (last_only VERSION (split payload).fields) version)
   where
     by_option : (o : Option Entry) → Some n ≡ number_in o → is_none o ≡ false
     by_option None h = cc
     by_option (Some x) h = refl
 
-pub head_none : RestNone → FormsHave → (payload : List ℕ) (base own : ℕ) → (split payload).rest ≡ [] → versions_fault base (split payload).fields ≡ None → None ≡ version_in (split payload).fields → head_fault payload base own ≡ Some (fault_at own NoVersion)
-head_none rest_none have payload base own rest clean version =
-    option_or-none _ _ (rest_none base (split payload) rest) ∙ option_or-none _ _ clean ∙ first-when _ _ (by_test (is_none (last_only VERSION (split payload).fields)) refl)
+pub head_none : RestNone → FormsHave → (payload : List ℕ) (payload_at tag_at : ℕ) → (split payload).rest ≡ [] → versions_fault payload_at (split payload).fields ≡ None → None ≡ version_in (split payload).fields → head_fault payload payload_at tag_at ≡ Some (fault_at tag_at NoVersion)
+head_none rest_none have payload payload_at tag_at rest clean version =
+    option_or-none _ _ (rest_none payload_at (split payload) rest) ∙ option_or-none _ _ clean ∙ first-when _ _ (by_test (is_none (last_only VERSION (split payload).fields)) refl)
   where
     by_test : (b : Bool) → is_none (last_only VERSION (split payload).fields) ≡ b → b ≡ true
     by_test true e = refl
     by_test false e =
-        let there = version_there (split payload).fields (versions_form have base (split payload).fields clean) e in
+        let there = version_there (split payload).fields (versions_form have payload_at (split payload).fields clean) e in
         let clash : None ≡ Some there.0 = version ∙ there.1 in
         cc
 
-pub head_versions : RestNone → (payload : List ℕ) (base own : ℕ) (e : MessageError) → (split payload).rest ≡ [] → ((more : List Entry) → TellsMessage e (versions_fault base ((split payload).fields ++ more))) → TellsMessage e (head_fault payload base own)
-head_versions rest_none payload base own e rest stays =
-    or_tells e (rest_fault payload base) _ (rest_none base (split payload) rest) (tells_or e (versions_fault base (split payload).fields) _ (or_told (versions_fault base) (split payload).fields e stays))
+pub head_versions : RestNone → (payload : List ℕ) (payload_at tag_at : ℕ) (e : MessageError) → (split payload).rest ≡ [] → ((more : List Entry) → TellsMessage e (versions_fault payload_at ((split payload).fields ++ more))) → TellsMessage e (head_fault payload payload_at tag_at)
+head_versions rest_none payload payload_at tag_at e rest stays =
+    or_tells e (rest_fault payload payload_at) _ (rest_none payload_at (split payload) rest) (tells_or e (versions_fault payload_at (split payload).fields) _ (or_told (versions_fault payload_at) (split payload).fields e stays))
 
 -- the exits of `read_layer`
-pub forms_told : (base own : ℕ) (xs : List Entry) (e : MessageError) → TellsMessage e (forms_fault base xs) → TellsMessage e (layer_fault base own xs)
-forms_told base own xs e h = subst (TellsMessage e) (sym (layer_chain base own xs)) (tells_or e (forms_fault base xs) _ h)
+pub forms_told : (payload_at tag_at : ℕ) (xs : List Entry) (e : MessageError) → TellsMessage e (forms_fault payload_at xs) → TellsMessage e (layer_fault payload_at tag_at xs)
+forms_told payload_at tag_at xs e h = subst (TellsMessage e) (sym (layer_chain payload_at tag_at xs)) (tells_or e (forms_fault payload_at xs) _ h)
 
-name_some : (own : ℕ) (xs : List Entry) (name : List ℕ) → Some name ≡ name_in xs → no_name_fault own xs ≡ None
-name_some own xs name is = first-when_not _ _ (by_option (last_only NAME xs) is)
+name_some : (tag_at : ℕ) (xs : List Entry) (name : List ℕ) → Some name ≡ name_in xs → no_name_fault tag_at xs ≡ None
+name_some tag_at xs name is = first-when_not _ _ (by_option (last_only NAME xs) is)
   where
     by_option : (o : Option Entry) → Some name ≡ option_map (λ (x : Entry). bytes_of x.content) o → is_none o ≡ false
     by_option None h = cc
     by_option (Some x) h = refl
 
-pub name_told : (base own : ℕ) (xs : List Entry) → forms_fault base xs ≡ None → None ≡ name_in xs → layer_fault base own xs ≡ Some (fault_at own NoName)
-name_told base own xs forms is =
-    layer_chain base own xs ∙ option_or-none _ _ forms ∙ option_or-some _ _ _ (first-when _ _ (by_option (last_only NAME xs) is))
+pub name_told : (payload_at tag_at : ℕ) (xs : List Entry) → forms_fault payload_at xs ≡ None → None ≡ name_in xs → layer_fault payload_at tag_at xs ≡ Some (fault_at tag_at NoName)
+name_told payload_at tag_at xs forms is =
+    layer_chain payload_at tag_at xs ∙ option_or-none _ _ forms ∙ option_or-some _ _ _ (first-when _ _ (by_option (last_only NAME xs) is))
   where
     by_option : (o : Option Entry) → None ≡ option_map (λ (x : Entry). bytes_of x.content) o → is_none o ≡ true
     by_option None h = refl
     by_option (Some x) h = cc
 
-pub values_told : (base own : ℕ) (xs : List Entry) (name : List ℕ) (e : MessageError) → forms_fault base xs ≡ None → Some name ≡ name_in xs → TellsMessage e (values_fault base xs) → TellsMessage e (layer_fault base own xs)
-values_told base own xs name e forms is h =
-    subst (TellsMessage e) (sym (layer_chain base own xs)) (or_tells e (forms_fault base xs) _ forms (or_tells e (no_name_fault own xs) _ (name_some own xs name is) (tells_or e (values_fault base xs) _ h)))
+pub values_told : (payload_at tag_at : ℕ) (xs : List Entry) (name : List ℕ) (e : MessageError) → forms_fault payload_at xs ≡ None → Some name ≡ name_in xs → TellsMessage e (values_fault payload_at xs) → TellsMessage e (layer_fault payload_at tag_at xs)
+values_told payload_at tag_at xs name e forms is h =
+    subst (TellsMessage e) (sym (layer_chain payload_at tag_at xs)) (or_tells e (forms_fault payload_at xs) _ forms (or_tells e (no_name_fault tag_at xs) _ (name_some tag_at xs name is) (tells_or e (values_fault payload_at xs) _ h)))
 
-pub features_told : ValueIs → (base own : ℕ) (xs : List Entry) (name : List ℕ) (keys : List (List ℕ)) (values : List Value) (e : MessageError) → forms_fault base xs ≡ None → Some name ≡ name_in xs → values_fault base xs ≡ None → keys ≡ keys_in xs → AreRelated HoldsValue (only VALUES xs) values → TellsMessage e (features_fault base keys values xs) → TellsMessage e (layer_fault base own xs)
-features_told value_is base own xs name keys values e forms is clean keys_are values_are h =
+pub features_told : ValueIs → (payload_at tag_at : ℕ) (xs : List Entry) (name : List ℕ) (keys : List (List ℕ)) (values : List Value) (e : MessageError) → forms_fault payload_at xs ≡ None → Some name ≡ name_in xs → values_fault payload_at xs ≡ None → keys ≡ keys_in xs → AreRelated HoldsValue (only VALUES xs) values → TellsMessage e (features_fault payload_at keys values xs) → TellsMessage e (layer_fault payload_at tag_at xs)
+features_told value_is payload_at tag_at xs name keys values e forms is clean keys_are values_are h =
     let same : values_in xs ≡ values = values_said value_is (only VALUES xs) values values_are in
-    let here : TellsMessage e (features_fault base (keys_in xs) (values_in xs) xs) = subst (TellsMessage e) (ap₂ (λ ks vs. features_fault base ks vs xs) keys_are (sym same)) h in
-    subst (TellsMessage e) (sym (layer_chain base own xs)) (or_tells e (forms_fault base xs) _ forms (or_tells e (no_name_fault own xs) _ (name_some own xs name is) (or_tells e (values_fault base xs) _ clean (tells_or e (features_fault base (keys_in xs) (values_in xs) xs) _ here))))
+    let here : TellsMessage e (features_fault payload_at (keys_in xs) (values_in xs) xs) = subst (TellsMessage e) (ap₂ (λ ks vs. features_fault payload_at ks vs xs) keys_are (sym same)) h in
+    subst (TellsMessage e) (sym (layer_chain payload_at tag_at xs)) (or_tells e (forms_fault payload_at xs) _ forms (or_tells e (no_name_fault tag_at xs) _ (name_some tag_at xs name is) (or_tells e (values_fault payload_at xs) _ clean (tells_or e (features_fault payload_at (keys_in xs) (values_in xs) xs) _ here))))
 
-pub layer_ok : ValueIs → (base own : ℕ) (xs : List Entry) (name : List ℕ) (keys : List (List ℕ)) (values : List Value) → forms_fault base xs ≡ None → Some name ≡ name_in xs → values_fault base xs ≡ None → keys ≡ keys_in xs → AreRelated HoldsValue (only VALUES xs) values → features_fault base keys values xs ≡ None → layer_fault base own xs ≡ None
-layer_ok value_is base own xs name keys values forms is clean keys_are values_are h =
+pub layer_ok : ValueIs → (payload_at tag_at : ℕ) (xs : List Entry) (name : List ℕ) (keys : List (List ℕ)) (values : List Value) → forms_fault payload_at xs ≡ None → Some name ≡ name_in xs → values_fault payload_at xs ≡ None → keys ≡ keys_in xs → AreRelated HoldsValue (only VALUES xs) values → features_fault payload_at keys values xs ≡ None → layer_fault payload_at tag_at xs ≡ None
+layer_ok value_is payload_at tag_at xs name keys values forms is clean keys_are values_are h =
     let same : values_in xs ≡ values = values_said value_is (only VALUES xs) values values_are in
-    layer_clean base own xs forms (name_some own xs name is) clean (sym (ap₂ (λ ks vs. features_fault base ks vs xs) keys_are (sym same)) ∙ h)
+    layer_clean payload_at tag_at xs forms (name_some tag_at xs name is) clean (sym (ap₂ (λ ks vs. features_fault payload_at ks vs xs) keys_are (sym same)) ∙ h)
 
-pub layer_read : FormsHave → (base own : ℕ) (xs : List Entry) (layer : ALayer) (name : List ℕ) (extent : ℕ) (keys : List (List ℕ)) (values : List Value) → forms_fault base xs ≡ None → Some name ≡ name_in xs → layer.name ≡ name → extent ≡ extent_in xs → layer.extent ≡ extent → keys ≡ keys_in xs → AreRelated HoldsValue (only VALUES xs) values → AreRelated (HoldsFeature keys values) (only FEATURES xs) layer.features → IsLayer xs layer
-layer_read have base own xs layer name extent keys values forms is name_is extent_is extent_same keys_are values_are features =
-    layer_from have base own xs layer values forms (sym is ∙ ap Some (sym name_is)) (extent_same ∙ extent_is) values_are (subst (λ ks. AreRelated (HoldsFeature ks values) (only FEATURES xs) layer.features) keys_are features)
+pub layer_read : FormsHave → (payload_at tag_at : ℕ) (xs : List Entry) (layer : ALayer) (name : List ℕ) (extent : ℕ) (keys : List (List ℕ)) (values : List Value) → forms_fault payload_at xs ≡ None → Some name ≡ name_in xs → layer.name ≡ name → extent ≡ extent_in xs → layer.extent ≡ extent → keys ≡ keys_in xs → AreRelated HoldsValue (only VALUES xs) values → AreRelated (HoldsFeature keys values) (only FEATURES xs) layer.features → IsLayer xs layer
+layer_read have payload_at tag_at xs layer name extent keys values forms is name_is extent_is extent_same keys_are values_are features =
+    layer_from have payload_at tag_at xs layer values forms (sym is ∙ ap Some (sym name_is)) (extent_same ∙ extent_is) values_are (subst (λ ks. AreRelated (HoldsFeature ks values) (only FEATURES xs) layer.features) keys_are features)
 
 -- the exits of `read_item`
-pub head_told : (payload : List ℕ) (base own : ℕ) (e : MessageError) → TellsMessage e (head_fault payload base own) → TellsMessage e (item_fault payload base own)
-head_told payload base own e h = subst (TellsMessage e) (sym (item_chain payload base own)) (tells_or e (head_fault payload base own) _ h)
+pub head_told : (payload : List ℕ) (payload_at tag_at : ℕ) (e : MessageError) → TellsMessage e (head_fault payload payload_at tag_at) → TellsMessage e (item_fault payload payload_at tag_at)
+head_told payload payload_at tag_at e h = subst (TellsMessage e) (sym (item_chain payload payload_at tag_at)) (tells_or e (head_fault payload payload_at tag_at) _ h)
 
-pub head_whole : NoneRest → (payload : List ℕ) (base own : ℕ) → head_fault payload base own ≡ None → (split payload).rest ≡ []
-head_whole none_rest payload base own none = none_rest base (split payload) (option_or-nones _ _ none).0
+pub head_whole : NoneRest → (payload : List ℕ) (payload_at tag_at : ℕ) → head_fault payload payload_at tag_at ≡ None → (split payload).rest ≡ []
+head_whole none_rest payload payload_at tag_at none = none_rest payload_at (split payload) (option_or-nones _ _ none).0
 
-pub layer_told : (payload : List ℕ) (base own : ℕ) (e : MessageError) → head_fault payload base own ≡ None → version_in (split payload).fields ≡ Some 2 → TellsMessage e (layer_fault base own (split payload).fields) → TellsMessage e (item_fault payload base own)
-layer_told payload base own e head version h = subst (TellsMessage e) (sym (item_of_layer payload base own head version)) h
+pub layer_told : (payload : List ℕ) (payload_at tag_at : ℕ) (e : MessageError) → head_fault payload payload_at tag_at ≡ None → version_in (split payload).fields ≡ Some 2 → TellsMessage e (layer_fault payload_at tag_at (split payload).fields) → TellsMessage e (item_fault payload payload_at tag_at)
+layer_told payload payload_at tag_at e head version h = subst (TellsMessage e) (sym (item_of_layer payload payload_at tag_at head version)) h
 
-pub layer_item : NoneRest → FormsHave → SplitIs → (payload : List ℕ) (base own : ℕ) (layer : ALayer) → head_fault payload base own ≡ None → version_in (split payload).fields ≡ Some 2 → IsLayer (split payload).fields layer → IsItem payload (Layer layer)
-layer_item none_rest have split_is payload base own layer head version is =
-    let parts = head_clean none_rest have payload base own head in
+pub layer_item : NoneRest → FormsHave → SplitIs → (payload : List ℕ) (payload_at tag_at : ℕ) (layer : ALayer) → head_fault payload payload_at tag_at ≡ None → version_in (split payload).fields ≡ Some 2 → IsLayer (split payload).fields layer → IsItem payload (Layer layer)
+layer_item none_rest have split_is payload payload_at tag_at layer head version is =
+    let parts = head_clean none_rest have payload payload_at tag_at head in
     item_from split_is payload (Layer layer) parts.0 parts.1 (version, is)
 
-pub other_item : NoneRest → FormsHave → SplitIs → (payload : List ℕ) (base own n : ℕ) (content : List ℕ) → head_fault payload base own ≡ None → version_in (split payload).fields ≡ Some n → n ≢ 2 → content ≡ payload → IsItem payload (Foreign n content)
-other_item none_rest have split_is payload base own n content head version other is =
-    let parts = head_clean none_rest have payload base own head in
+pub other_item : NoneRest → FormsHave → SplitIs → (payload : List ℕ) (payload_at tag_at n : ℕ) (content : List ℕ) → head_fault payload payload_at tag_at ≡ None → version_in (split payload).fields ≡ Some n → n ≢ 2 → content ≡ payload → IsItem payload (Foreign n content)
+other_item none_rest have split_is payload payload_at tag_at n content head version other is =
+    let parts = head_clean none_rest have payload payload_at tag_at head in
     item_from split_is payload (Foreign n content) parts.0 parts.1 (version, other, is)
 
 -- the names of a payload

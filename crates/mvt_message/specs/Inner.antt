@@ -29,37 +29,37 @@ use Rattle.mvt_message.specs.LayerFields.{bytes_of, version_in, name_in, extent_
 
 -- the parts of an item's fault, row by row
 abbrev pub rest_fault : List ℕ → ℕ → Option MessageFault
-rest_fault payload base = first (rest_rules base (split payload))
+rest_fault payload payload_at = first (rest_rules payload_at (split payload))
 
 abbrev pub versions_fault : ℕ → List Entry → Option MessageFault
-versions_fault base fields = first (each (λ _. version_rules base) [] fields)
+versions_fault payload_at fields = first (each (λ _. version_rules payload_at) [] fields)
 
 abbrev pub no_version_fault : ℕ → List Entry → Option MessageFault
-no_version_fault own fields = first (when (is_none (last_only VERSION fields)) (fault_at own NoVersion))
+no_version_fault tag_at fields = first (when (is_none (last_only VERSION fields)) (fault_at tag_at NoVersion))
 
 abbrev pub forms_fault : ℕ → List Entry → Option MessageFault
-forms_fault base fields = first (each (λ _. layer_field_rules base) [] fields)
+forms_fault payload_at fields = first (each (λ _. layer_field_rules payload_at) [] fields)
 
 abbrev pub no_name_fault : ℕ → List Entry → Option MessageFault
-no_name_fault own fields = first (when (is_none (last_only NAME fields)) (fault_at own NoName))
+no_name_fault tag_at fields = first (when (is_none (last_only NAME fields)) (fault_at tag_at NoName))
 
 abbrev pub values_fault : ℕ → List Entry → Option MessageFault
-values_fault base fields = first (each (λ _. value_rules_of base) [] (only VALUES fields))
+values_fault payload_at fields = first (each (λ _. value_rules_of payload_at) [] (only VALUES fields))
 
 abbrev pub features_fault : ℕ → List (List ℕ) → List Value → List Entry → Option MessageFault
-features_fault base keys values fields = first (each (feature_rules_of base keys values) [] (only FEATURES fields))
+features_fault payload_at keys values fields = first (each (feature_rules_of payload_at keys values) [] (only FEATURES fields))
 
 -- the fault up to the version, and that of a layer of version 2 behind it
 abbrev pub head_fault : List ℕ → ℕ → ℕ → Option MessageFault
-head_fault payload base own =
-    option_or (rest_fault payload base) (option_or (versions_fault base (split payload).fields) (no_version_fault own (split payload).fields))
+head_fault payload payload_at tag_at =
+    option_or (rest_fault payload payload_at) (option_or (versions_fault payload_at (split payload).fields) (no_version_fault tag_at (split payload).fields))
 
 unfoldable pub layer_fault : ℕ → ℕ → List Entry → Option MessageFault
-layer_fault base own fields = first (rows (layer_table base own fields))
+layer_fault payload_at tag_at fields = first (rows (layer_table payload_at tag_at fields))
 
 -- the version by the fields so far
 abbrev pub IsVersionSoFar : ℕ → List Entry → Result (Option ℕ) MessageError → Type 0
-IsVersionSoFar base done version = IsSoFar (version_rules base) (λ fields v. v ≡ version_in fields) done version
+IsVersionSoFar payload_at done version = IsSoFar (version_rules payload_at) (λ fields v. v ≡ version_in fields) done version
 
 -- what one more field changes
 abbrev pub name_after : Option (List ℕ) → ℕ → Content → Option (List ℕ)
@@ -77,44 +77,44 @@ OrFault fault Say done None = Say done
 OrFault fault Say done (Some error) = (more : List Entry) → TellsMessage error (fault (done ++ more))
 
 -- the name, the extent and the keys by fields that break no rule
-pub record IsHead (base : ℕ) (name : Option (List ℕ)) (extent : ℕ) (keys : List (List ℕ)) (fields : List Entry) : Type 0 where
-  pub clean : forms_fault base fields ≡ None
+pub record IsHead (payload_at : ℕ) (name : Option (List ℕ)) (extent : ℕ) (keys : List (List ℕ)) (fields : List Entry) : Type 0 where
+  pub clean : forms_fault payload_at fields ≡ None
   pub name_is : name ≡ name_in fields
   pub extent_is : extent ≡ extent_in fields
   pub keys_are : keys ≡ keys_in fields
 
 abbrev pub IsHeadSoFar : ℕ → List Entry → Option MessageError → Option (List ℕ) → ℕ → List (List ℕ) → Type 0
-IsHeadSoFar base done fault name extent keys = OrFault (forms_fault base) (IsHead base name extent keys) done fault
+IsHeadSoFar payload_at done fault name extent keys = OrFault (forms_fault payload_at) (IsHead payload_at name extent keys) done fault
 
 -- the values, and the features, by the fields so far
 abbrev pub AreValuesSoFar : ℕ → List Entry → List Value → Type 0
-AreValuesSoFar base done values = (values_fault base done ≡ None) × AreRelated HoldsValue (only VALUES done) values
+AreValuesSoFar payload_at done values = (values_fault payload_at done ≡ None) × AreRelated HoldsValue (only VALUES done) values
 
 abbrev pub AreFeaturesSoFar : ℕ → List (List ℕ) → List Value → List Entry → List Feature → Type 0
-AreFeaturesSoFar base keys values done features =
-    (features_fault base keys values done ≡ None) × AreRelated (HoldsFeature keys values) (only FEATURES done) features
+AreFeaturesSoFar payload_at keys values done features =
+    (features_fault payload_at keys values done ≡ None) × AreRelated (HoldsFeature keys values) (only FEATURES done) features
 
 -- things that are counted, and kept where that is wanted
 abbrev pub AreHeld : {A : Type 0} → Bool → List A → ℕ → List A → Type 0
 AreHeld keep things count kept = (count ≡ length things) × OnTrue keep (kept ≡ things)
 
 abbrev pub AreValuesHeld : Bool → ℕ → List Entry → ℕ → List Value → Type 0
-AreValuesHeld keep base done count kept =
-    (values : List Value) × AreValuesSoFar base done values × AreHeld keep values count kept
+AreValuesHeld keep payload_at done count kept =
+    (values : List Value) × AreValuesSoFar payload_at done values × AreHeld keep values count kept
 
 abbrev pub AreValuesSaid : Bool → ℕ → List Entry → Option MessageError → ℕ → List Value → Type 0
-AreValuesSaid keep base done fault count kept =
-    OrFault (values_fault base) (λ fields. AreValuesHeld keep base fields count kept) done fault
+AreValuesSaid keep payload_at done fault count kept =
+    OrFault (values_fault payload_at) (λ fields. AreValuesHeld keep payload_at fields count kept) done fault
 
 -- the head and the values of a layer with these fields
 abbrev pub IsFront : Bool → ℕ → List Entry → Front → Type 0
-IsFront keep base fields front =
-    IsHeadSoFar base fields front.head_fault (option_copied front.head.name) front.head.extent front.head.keys.items
-    × AreValuesSaid keep base fields front.values_fault front.values.count front.values.kept.items
+IsFront keep payload_at fields front =
+    IsHeadSoFar payload_at fields front.head_fault (option_copied front.head.name) front.head.extent front.head.keys.items
+    × AreValuesSaid keep payload_at fields front.values_fault front.values.count front.values.kept.items
 
 abbrev pub AreFeaturesHeld : Bool → ℕ → List (List ℕ) → List Value → List Entry → ℕ → List Feature → Type 0
-AreFeaturesHeld keep base keys values done count kept =
-    (features : List Feature) × AreFeaturesSoFar base keys values done features × AreHeld keep features count kept
+AreFeaturesHeld keep payload_at keys values done count kept =
+    (features : List Feature) × AreFeaturesSoFar payload_at keys values done features × AreHeld keep features count kept
 
 -- what was read of a layer: its name, and the rest where it is kept
 pub record AreParts (keep : Bool) (layer : ALayer) (name : List ℕ) (extent : ℕ) (features : List Feature) : Type 0 where

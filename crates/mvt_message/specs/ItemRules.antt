@@ -17,44 +17,44 @@ use Rattle.mvt_message.specs.LayerFields.{version_forms, layer_forms, bytes_of, 
 
 -- the form of a version
 unfoldable pub version_rules : ℕ → Entry → Rules MessageFault
-version_rules base x = forms_rules version_forms base x
+version_rules payload_at x = forms_rules version_forms payload_at x
 
 -- the forms of the other fields, in a layer of version 2
 unfoldable pub layer_field_rules : ℕ → Entry → Rules MessageFault
-layer_field_rules base x = forms_rules layer_forms base x
+layer_field_rules payload_at x = forms_rules layer_forms payload_at x
 
 -- the value of a field
 abbrev pub value_rules_of : ℕ → Entry → Rules MessageFault
-value_rules_of base x = value_rules (bytes_of x.content) (base + x.body) (base + x.at)
+value_rules_of payload_at x = value_rules (bytes_of x.content) (payload_at + x.body) (payload_at + x.at)
 
 -- the feature of a field behind the fields of earlier ones
 abbrev pub feature_rules_of : ℕ → List (List ℕ) → List Value → List Entry → Entry → Rules MessageFault
-feature_rules_of base keys values earlier x =
-    told (in_feature (length earlier)) (feature_rules (bytes_of x.content) (base + x.body) keys values)
+feature_rules_of payload_at keys values earlier x =
+    told (in_feature (length earlier)) (feature_rules (bytes_of x.content) (payload_at + x.body) keys values)
 
 -- the rules of a layer of version 2
 abbrev pub layer_table : ℕ → ℕ → List Entry → List (ℕ × Rules MessageFault)
-layer_table base own fields =
-    (6, each (λ _. layer_field_rules base) [] fields)
-    ∷ ((7, when (is_none (last_only NAME fields)) (fault_at own NoName))
-    ∷ ((8, each (λ _. value_rules_of base) [] (only VALUES fields))
-    ∷ ((9, each (feature_rules_of base (keys_in fields) (values_in fields)) [] (only FEATURES fields)) ∷ [])))
+layer_table payload_at tag_at fields =
+    (6, each (λ _. layer_field_rules payload_at) [] fields)
+    ∷ ((7, when (is_none (last_only NAME fields)) (fault_at tag_at NoName))
+    ∷ ((8, each (λ _. value_rules_of payload_at) [] (only VALUES fields))
+    ∷ ((9, each (feature_rules_of payload_at (keys_in fields) (values_in fields)) [] (only FEATURES fields)) ∷ [])))
 
--- the rules of a payload whose first byte stands at base, and its field's tag at own: where its version
+-- the rules of a payload whose first byte stands at `payload_at`, and its field's tag at `tag_at`: where its version
 -- isn't 2, they end with it
 abbrev pub item_table : List ℕ → ℕ → ℕ → List (ℕ × Rules MessageFault)
-item_table payload base own =
-    (2, rest_rules base (split payload))
-    ∷ ((3, each (λ _. version_rules base) [] (split payload).fields)
-    ∷ ((4, when (is_none (last_only VERSION (split payload).fields)) (fault_at own NoVersion))
-    ∷ (if is_two (version_in (split payload).fields) then layer_table base own (split payload).fields else [])))
+item_table payload payload_at tag_at =
+    (2, rest_rules payload_at (split payload))
+    ∷ ((3, each (λ _. version_rules payload_at) [] (split payload).fields)
+    ∷ ((4, when (is_none (last_only VERSION (split payload).fields)) (fault_at tag_at NoVersion))
+    ∷ (if is_two (version_in (split payload).fields) then layer_table payload_at tag_at (split payload).fields else [])))
 
 unfoldable pub item_rules : List ℕ → ℕ → ℕ → Rules MessageFault
-item_rules payload base own = rows (item_table payload base own)
+item_rules payload payload_at tag_at = rows (item_table payload payload_at tag_at)
 
 -- the broken rule of least rank
 unfoldable pub item_fault : List ℕ → ℕ → ℕ → Option MessageFault
-item_fault payload base own = first (item_rules payload base own)
+item_fault payload payload_at tag_at = first (item_rules payload payload_at tag_at)
 
 -- the name of a layer of version 2, as a list of one; also where the layer is broken; no name for others
 unfoldable pub payload_names : List ℕ → List (List ℕ)

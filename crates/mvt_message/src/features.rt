@@ -15,11 +15,11 @@ ghost use Rattle.mvt_message.specs.Inner.{features_fault, AreHeld, AreFeaturesHe
 
 use crate::numbers::layer;
 use crate::payload::bytes_of;
-use crate::pool::LayerValues;
+use crate::values::LayerValues;
 use mvt_attrs::LayerKeys;
 use mvt_base::Text;
 use mvt_feature::laws::{feature_or_fault, walks};
-use mvt_feature::{Feature, MessageError, Room, judge_feature, read_feature_in};
+use mvt_feature::{Feature, MessageError, Scratch, judge_feature, read_feature_in};
 use mvt_wire::laws::split_function;
 use mvt_wire::{Field, Fields};
 use std::alloc::Global;
@@ -36,29 +36,29 @@ struct LayerFeatures {
 pub(crate) fn read_features(
     alloc: Global,
     payload: &[u8],
-    base: u64,
+    payload_at: u64,
     keys: &[Text],
     values: &LayerValues,
     keeps: bool,
 ) -> Result<Vec<Feature>, MessageError>
     requires small { length payload.now < 2 ^ 32 }
-    requires fits { base + length payload.now < 2 ^ 64 }
+    requires fits { payload_at + length payload.now < 2 ^ 64 }
     requires whole { (split payload.now).rest ≡ [] }
     requires held { (held : List Value) × AreHeld keeps held values.now.count values.now.kept.items }
     ensures ok { (held : List Value) → AreHeld keeps held values.now.count values.now.kept.items
-        → OnOk result (features_fault base keys.now held (split payload.now).fields ≡ None) }
+        → OnOk result (features_fault payload_at keys.now held (split payload.now).fields ≡ None) }
     ensures features { (held : List Value) → AreHeld keeps held values.now.count values.now.kept.items
         → IfOk result (λ found. (features : List Feature)
         × AreRelated (HoldsFeature keys.now held) (only FEATURES (split payload.now).fields) features
         × OnTrue keeps (found.items ≡ features)) }
     ensures err { (held : List Value) → AreHeld keeps held values.now.count values.now.kept.items
-        → IfErr result (λ error. TellsMessage error (features_fault base keys.now held (split payload.now).fields)) }
+        → IfErr result (λ error. TellsMessage error (features_fault payload_at keys.now held (split payload.now).fields)) }
 {
     // What the proof needs to know of splits and of walks; they do nothing.
     split_function();
     walks();
     let mut keys = LayerKeys::new(alloc, keys);
-    let mut room = Room::new(alloc);
+    let mut scratch = Scratch::new(alloc);
     let mut features = LayerFeatures {
         count: 0,
         kept: Vec::new(alloc),
@@ -68,10 +68,10 @@ pub(crate) fn read_features(
             Ok(field) => append_feature(
                 alloc,
                 &field,
-                base,
+                payload_at,
                 &mut keys,
                 values,
-                &mut room,
+                &mut scratch,
                 keeps,
                 &mut features,
             )?,
@@ -85,22 +85,22 @@ pub(crate) fn read_features(
 fn append_feature(
     alloc: Global,
     field: &Field<'_>,
-    base: u64,
+    payload_at: u64,
     keys: &mut LayerKeys<'_>,
     values: &LayerValues,
-    room: &mut Room,
+    scratch: &mut Scratch,
     keeps: bool,
     features: &mut LayerFeatures,
 ) -> Result<(), MessageError>
     requires few { features.old.count < 2 ^ 32 }
-    requires body { base + (field.now.body + bytes_size (content_of field.now.payload)) < 2 ^ 64 }
+    requires body { payload_at + (field.now.body + bytes_size (content_of field.now.payload)) < 2 ^ 64 }
     ensures ok { (held : List Value) (done : List Entry) → AreHeld keeps held values.now.count values.now.kept.items
-        → AreFeaturesHeld keeps base keys.old held done features.old.count features.old.kept.items
-        → OnOk result (AreFeaturesHeld keeps base keys.old held (done ++ entry_of field.now ∷ []) features.new.count features.new.kept.items) }
+        → AreFeaturesHeld keeps payload_at keys.old held done features.old.count features.old.kept.items
+        → OnOk result (AreFeaturesHeld keeps payload_at keys.old held (done ++ entry_of field.now ∷ []) features.new.count features.new.kept.items) }
     ensures err { (held : List Value) (done more : List Entry) → AreHeld keeps held values.now.count values.now.kept.items
-        → AreFeaturesHeld keeps base keys.old held done features.old.count features.old.kept.items
+        → AreFeaturesHeld keeps payload_at keys.old held done features.old.count features.old.kept.items
         → IfErr result (λ error. TellsMessage error
-        (features_fault base keys.old held ((done ++ entry_of field.now ∷ []) ++ more))) }
+        (features_fault payload_at keys.old held ((done ++ entry_of field.now ∷ []) ++ more))) }
     ensures same { keys.new ≡ keys.old }
 {
     // What the proof needs to know of features; it does nothing.
@@ -111,15 +111,15 @@ fn append_feature(
     let index = features.count as u32;
     features.count += 1;
     let payload = bytes_of(&field.payload);
-    let body = base + field.body as u64;
+    let body = payload_at + field.body as u64;
     if keeps {
-        match read_feature_in(alloc, payload, body, keys, &values.kept, room) {
+        match read_feature_in(alloc, payload, body, keys, &values.kept, scratch) {
             Ok(feature) => features.kept.push(feature)?,
             Err(error) => return Err(in_feature(error, index)),
         }
         return Ok(());
     }
-    match judge_feature(alloc, payload, body, keys, values.count, room) {
+    match judge_feature(alloc, payload, body, keys, values.count, scratch) {
         Ok(()) => Ok(()),
         Err(error) => Err(in_feature(error, index)),
     }

@@ -7,7 +7,7 @@ ghost use Rattle.mvt_message.specs.LayerFields.{version_in};
 ghost use Rattle.mvt_message.specs.Inner.{head_fault, IsFront};
 
 use crate::head::{Head, take_head};
-use crate::pool::{LayerValues, take_value};
+use crate::values::{LayerValues, take_value};
 use crate::version::{take_version, version_of};
 use mvt_feature::laws::walks;
 use mvt_feature::{MessageError, rest_fault};
@@ -30,16 +30,16 @@ pub(crate) struct Front<'a> {
 pub(crate) fn read_front<'a>(
     alloc: Global,
     payload: &'a [u8],
-    base: u64,
-    own: u64,
+    payload_at: u64,
+    tag_at: u64,
     keeps: bool,
 ) -> Result<(u32, Front<'a>), MessageError>
     requires small { length payload.now < 2 ^ 32 }
-    requires fits { base + length payload.now < 2 ^ 64 }
+    requires fits { payload_at + length payload.now < 2 ^ 64 }
     ensures version { IfOk result (λ found. version_in (split payload.now).fields ≡ Some found.0) }
-    ensures front { IfOk result (λ found. IsFront keeps base (split payload.now).fields found.1) }
-    ensures ok { OnOk result (head_fault payload.now base own ≡ None) }
-    ensures err { IfErr result (λ error. TellsMessage error (head_fault payload.now base own)) }
+    ensures front { IfOk result (λ found. IsFront keeps payload_at (split payload.now).fields found.1) }
+    ensures ok { OnOk result (head_fault payload.now payload_at tag_at ≡ None) }
+    ensures err { IfErr result (λ error. TellsMessage error (head_fault payload.now payload_at tag_at)) }
 {
     // What the proof needs to know of splits and of walks; they do nothing.
     split_function();
@@ -52,14 +52,21 @@ pub(crate) fn read_front<'a>(
     for field in Fields::new(payload) {
         match field {
             Ok(field) => {
-                take_version(&mut version, &field, base);
-                take_head(alloc, &mut head, &mut head_fault, &field, base);
-                take_value(alloc, &mut values, &mut values_fault, &field, base, keeps);
+                take_version(&mut version, &field, payload_at);
+                take_head(alloc, &mut head, &mut head_fault, &field, payload_at);
+                take_value(
+                    alloc,
+                    &mut values,
+                    &mut values_fault,
+                    &field,
+                    payload_at,
+                    keeps,
+                );
             }
-            Err(fault) => return Err(rest_fault(base, fault)),
+            Err(fault) => return Err(rest_fault(payload_at, fault)),
         }
     }
-    let version = version_of(version, own)?;
+    let version = version_of(version, tag_at)?;
     let front = Front {
         head,
         head_fault,

@@ -72,17 +72,17 @@ pub(crate) fn take_head<'a>(
     head: &mut Head<'a>,
     fault: &mut Option<MessageError>,
     field: &Field<'a>,
-    base: u64,
+    payload_at: u64,
 )
-    requires { base + field.now.at < 2 ^ 64 }
+    requires { payload_at + field.now.at < 2 ^ 64 }
     ensures { (done : List Entry)
-        → IsHeadSoFar base done fault.old (option_copied head.old.name) head.old.extent head.old.keys.items
-        → IsHeadSoFar base (done ++ entry_of field.now ∷ []) fault.new (option_copied head.new.name) head.new.extent head.new.keys.items }
+        → IsHeadSoFar payload_at done fault.old (option_copied head.old.name) head.old.extent head.old.keys.items
+        → IsHeadSoFar payload_at (done ++ entry_of field.now ∷ []) fault.new (option_copied head.new.name) head.new.extent head.new.keys.items }
 {
     if fault.is_some() {
         return;
     }
-    match head.take(alloc, field, base + field.at as u64) {
+    match head.take(alloc, field, payload_at + field.at as u64) {
         Ok(()) => {}
         Err(error) => *fault = Some(error),
     }

@@ -16,55 +16,30 @@ use mvt_base::LIMIT;
 
 /// A payload without a fault is an item, and that of an item has no fault.
 pub fn item_or_fault()
-    ensures there { (b : List ℕ) (base own : ℕ) → item_fault b base own ≡ None → (item : Item) × IsItem b item }
-    ensures clean { (b : List ℕ) (base own : ℕ) (item : Item) → IsItem b item → item_fault b base own ≡ None }
-{
-    mvt_wire::laws::split_function();
-    mvt_feature::laws::rests();
-    mvt_feature::laws::forms();
-    mvt_feature::laws::value_function();
-    mvt_feature::laws::value_or_fault();
-    mvt_feature::laws::feature_or_fault();
-}
+    ensures there { (b : List ℕ) (payload_at tag_at : ℕ) → item_fault b payload_at tag_at ≡ None → (item : Item) × IsItem b item }
+    ensures clean { (b : List ℕ) (payload_at tag_at : ℕ) (item : Item) → IsItem b item → item_fault b payload_at tag_at ≡ None }
+{}
 
 /// The fault is the first of the table, which is in order.
 pub fn item_in_order()
-    ensures fault { (b : List ℕ) (base own : ℕ) → item_fault b base own ≡ first (item_rules b base own) }
-    ensures ordered { (b : List ℕ) (base own : ℕ) → AreOrdered (item_rules b base own) }
-{
-    mvt_feature::laws::rests();
-    mvt_feature::laws::forms();
-    mvt_feature::laws::value_fault_is_least();
-    mvt_feature::laws::feature_fault_is_least();
-}
+    ensures fault { (b : List ℕ) (payload_at tag_at : ℕ) → item_fault b payload_at tag_at ≡ first (item_rules b payload_at tag_at) }
+    ensures ordered { (b : List ℕ) (payload_at tag_at : ℕ) → AreOrdered (item_rules b payload_at tag_at) }
+{}
 
 /// A payload is one item at most.
 pub fn one_item()
     ensures { (b : List ℕ) (i j : Item) → IsItem b i → IsItem b j → i ≡ j }
-{
-    mvt_wire::laws::one_split();
-    mvt_feature::laws::value_or_fault();
-    mvt_feature::laws::feature_or_fault();
-}
+{}
 
 /// The names of an item are those of its payload.
 pub fn item_names()
     ensures { (b : List ℕ) (item : Item) → IsItem b item → names_in item ≡ payload_names b }
-{
-    mvt_wire::laws::split_function();
-}
+{}
 
 /// The canonical payload of a valid item is that item.
 pub fn canonical_reads()
     ensures { (item : Item) → ValidItem item → length (canonical_item item) ≤ LIMIT → IsItem (canonical_item item) item }
-{
-    mvt_wire::laws::spelled_whole();
-    mvt_wire::laws::short_lengths();
-    mvt_attrs::laws::pool_entries();
-    mvt_attrs::laws::pools_hold();
-    mvt_attrs::laws::places_name();
-    mvt_feature::laws::canonical_reads();
-}
+{}
 
 /// The keys and the values that features use: where the features are valid they can be written, and each feature has its
 /// own among them.
@@ -75,25 +50,15 @@ pub fn pools_of_features()
         → AllByRecursion ValidValue (values_of features) }
     ensures held { (features : List Feature)
         → AllByRecursion (λ (f : Feature). AllByRecursion (IsIn (keys_of features) (values_of features)) f.attributes) features }
-{
-    mvt_attrs::laws::pool_entries();
-    mvt_attrs::laws::pools_hold();
-}
+{}
 
 /// The canonical payload of an item takes no more bytes than its bound says, where that is within the limit.
 pub fn bound_holds()
     ensures { (item : Item) → ValidItem item → item_bound item ≤ LIMIT
         → length (canonical_item item) ≤ item_bound item }
-{
-    mvt_wire::laws::short_lengths();
-    mvt_attrs::laws::pools_hold();
-    mvt_attrs::laws::places_name();
-    mvt_feature::laws::bound_holds();
-}
+{}
 
 /// An item that was valid under the first range of positions is valid.
 pub fn old_items_stay()
     ensures { (item : Item) → WasValidItem item → ValidItem item }
-{
-    mvt_geometry::laws::old_geometries_stay();
-}
+{}

@@ -14,7 +14,7 @@ use crate::numbers::layer;
 use crate::put::PutError;
 use mvt_attrs::{KeyPool, ValuePool};
 use mvt_base::LIMIT;
-use mvt_feature::{Feature, Room, append_feature, value_len};
+use mvt_feature::{Feature, Scratch, append_feature, value_len};
 use mvt_wire::laws::short_lengths;
 use mvt_wire::{field_len, varint_len};
 use std::alloc::Global;
@@ -93,12 +93,12 @@ fn with_features(
 {
     // What the proof needs to know of pools; it does nothing.
     pool_laws();
-    let mut room = Room::new(alloc);
+    let mut scratch = Scratch::new(alloc);
     let mut payload = Vec::new(alloc);
     let mut len = start;
     for feature in features {
         payload.clear();
-        append_feature(&mut payload, feature, keys, values, &mut room)?;
+        append_feature(&mut payload, feature, keys, values, &mut scratch)?;
         len = with_field(len, layer::FEATURES, payload.len() as u64)?;
     }
     Ok(len)

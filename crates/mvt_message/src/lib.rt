@@ -12,11 +12,11 @@ pub mod laws;
 mod layer_len;
 pub mod numbers;
 mod payload;
-mod pool;
 mod put;
 mod put_layer;
 mod read;
 mod valid;
+mod values;
 mod version;
 
 pub use bound::room_behind_item;

@@ -11,7 +11,7 @@ use crate::numbers::layer;
 use crate::put::PutError;
 use mvt_attrs::{KeyPool, ValuePool};
 use mvt_base::LIMIT;
-use mvt_feature::{Feature, Room, append_feature, append_value, value_len};
+use mvt_feature::{Feature, Scratch, append_feature, append_value, value_len};
 use mvt_wire::{Payload, put_field, put_field_head};
 use std::alloc::{AllocError, Global};
 
@@ -45,11 +45,11 @@ pub(crate) fn put_features(
 {
     // What the proof needs to know of pools; it does nothing.
     pool_laws();
-    let mut room = Room::new(alloc);
+    let mut scratch = Scratch::new(alloc);
     let mut payload = Vec::new(alloc);
     for feature in features {
         payload.clear();
-        append_feature(&mut payload, feature, keys, values, &mut room)?;
+        append_feature(&mut payload, feature, keys, values, &mut scratch)?;
         put_field(out, layer::FEATURES, &Payload::Len(&payload))?;
         if out.len() as u64 > LIMIT {
             return Err(PutError::TooLarge);

@@ -19,29 +19,34 @@ use mvt_feature::{Cause, Feature, MessageError, fault_at};
 use mvt_wire::laws::split_function;
 use std::alloc::Global;
 
-/// The item of a payload whose first byte stands at `base`, and whose field's tag at `own`.
+/// The item of a payload whose first byte stands at `payload_at`, and whose field's tag at `tag_at`.
 ///
 /// # Errors
 ///
 /// The first broken rule: the payload splits into fields, the versions and that there is one; in a layer
 /// of version 2 the other fields in order, that there is a name, each value in order, each feature in
 /// order.
-pub fn read_item(alloc: Global, payload: &[u8], base: u64, own: u64) -> Result<Item, MessageError>
+pub fn read_item(
+    alloc: Global,
+    payload: &[u8],
+    payload_at: u64,
+    tag_at: u64,
+) -> Result<Item, MessageError>
     requires small { length payload.now ≤ LIMIT }
-    requires fits { base + length payload.now < 2 ^ 64 }
-    ensures ok { OnOk result (item_fault payload.now base own ≡ None) }
+    requires fits { payload_at + length payload.now < 2 ^ 64 }
+    ensures ok { OnOk result (item_fault payload.now payload_at tag_at ≡ None) }
     ensures item { IfOk result (λ item. IsItem payload.now item) }
     ensures valid { IfOk result (λ item. ValidItem item) }
-    ensures fault { IfErr result (λ error. TellsMessage error (item_fault payload.now base own)) }
+    ensures fault { IfErr result (λ error. TellsMessage error (item_fault payload.now payload_at tag_at)) }
 {
     // What the proof needs to know of the levels below; it does nothing.
     split_function();
     rests();
     forms();
     read_is_valid();
-    let (version, front) = read_front(alloc, payload, base, own, true)?;
+    let (version, front) = read_front(alloc, payload, payload_at, tag_at, true)?;
     if version == 2 {
-        return Ok(Item::Layer(read_layer(alloc, payload, base, own, front)?));
+        return Ok(Item::Layer(read_layer(alloc, payload, payload_at, tag_at, front)?));
     }
     let bytes = Items::new(Vec::from_slice(alloc, payload)?);
     Ok(Item::Foreign { version, bytes })
@@ -56,22 +61,22 @@ pub fn read_item(alloc: Global, payload: &[u8], base: u64, own: u64) -> Result<I
 pub fn judge_item<'a>(
     alloc: Global,
     payload: &'a [u8],
-    base: u64,
-    own: u64,
+    payload_at: u64,
+    tag_at: u64,
 ) -> Result<Option<&'a str>, MessageError>
     requires small { length payload.now ≤ LIMIT }
-    requires fits { base + length payload.now < 2 ^ 64 }
-    ensures ok { OnOk result (item_fault payload.now base own ≡ None) }
+    requires fits { payload_at + length payload.now < 2 ^ 64 }
+    ensures ok { OnOk result (item_fault payload.now payload_at tag_at ≡ None) }
     ensures names { IfOk result (λ name. option_to_list (option_copied name) ≡ payload_names payload.now) }
-    ensures fault { IfErr result (λ error. TellsMessage error (item_fault payload.now base own)) }
+    ensures fault { IfErr result (λ error. TellsMessage error (item_fault payload.now payload_at tag_at)) }
 {
     // What the proof needs to know of rests; it does nothing.
     rests();
-    let (version, front) = read_front(alloc, payload, base, own, false)?;
+    let (version, front) = read_front(alloc, payload, payload_at, tag_at, false)?;
     if version != 2 {
         return Ok(None);
     }
-    let parts = read_parts(alloc, payload, base, own, front, false)?;
+    let parts = read_parts(alloc, payload, payload_at, tag_at, front, false)?;
     Ok(Some(parts.name))
 }
 
@@ -79,19 +84,19 @@ pub fn judge_item<'a>(
 fn read_layer<'a>(
     alloc: Global,
     payload: &'a [u8],
-    base: u64,
-    own: u64,
+    payload_at: u64,
+    tag_at: u64,
     front: Front<'a>,
 ) -> Result<Layer, MessageError>
     requires small { length payload.now ≤ LIMIT }
-    requires fits { base + length payload.now < 2 ^ 64 }
+    requires fits { payload_at + length payload.now < 2 ^ 64 }
     requires whole { (split payload.now).rest ≡ [] }
-    requires front { IsFront true base (split payload.now).fields front }
-    ensures ok { OnOk result (layer_fault base own (split payload.now).fields ≡ None) }
+    requires front { IsFront true payload_at (split payload.now).fields front }
+    ensures ok { OnOk result (layer_fault payload_at tag_at (split payload.now).fields ≡ None) }
     ensures layer { IfOk result (IsLayer (split payload.now).fields) }
-    ensures fault { IfErr result (λ error. TellsMessage error (layer_fault base own (split payload.now).fields)) }
+    ensures fault { IfErr result (λ error. TellsMessage error (layer_fault payload_at tag_at (split payload.now).fields)) }
 {
-    let parts = read_parts(alloc, payload, base, own, front, true)?;
+    let parts = read_parts(alloc, payload, payload_at, tag_at, front, true)?;
     Ok(Layer {
         name: Text::from_str(alloc, parts.name)?,
         extent: parts.extent,
@@ -111,20 +116,20 @@ struct LayerParts<'a> {
 fn read_parts<'a>(
     alloc: Global,
     payload: &'a [u8],
-    base: u64,
-    own: u64,
+    payload_at: u64,
+    tag_at: u64,
     front: Front<'a>,
     keeps: bool,
 ) -> Result<LayerParts<'a>, MessageError>
     requires small { length payload.now ≤ LIMIT }
-    requires fits { base + length payload.now < 2 ^ 64 }
+    requires fits { payload_at + length payload.now < 2 ^ 64 }
     requires whole { (split payload.now).rest ≡ [] }
-    requires front { IsFront keeps base (split payload.now).fields front }
-    ensures ok { OnOk result (layer_fault base own (split payload.now).fields ≡ None) }
+    requires front { IsFront keeps payload_at (split payload.now).fields front }
+    ensures ok { OnOk result (layer_fault payload_at tag_at (split payload.now).fields ≡ None) }
     ensures name { IfOk result (λ parts. Some parts.name.now ≡ name_in (split payload.now).fields) }
     ensures layer { IfOk result (λ parts. (layer : ALayer) × IsLayer (split payload.now).fields layer
         × AreParts keeps layer parts.name.now parts.extent parts.features.items) }
-    ensures fault { IfErr result (λ error. TellsMessage error (layer_fault base own (split payload.now).fields)) }
+    ensures fault { IfErr result (λ error. TellsMessage error (layer_fault payload_at tag_at (split payload.now).fields)) }
 {
     // What the proof needs to know of values and of forms; they do nothing.
     value_function();
@@ -140,12 +145,12 @@ fn read_parts<'a>(
     }
     let name = match head.name {
         Some(name) => name,
-        None => return Err(fault_at(own, Cause::NoName)),
+        None => return Err(fault_at(tag_at, Cause::NoName)),
     };
     if let Some(error) = values_fault {
         return Err(error);
     }
-    let features = read_features(alloc, payload, base, &head.keys, &values, keeps)?;
+    let features = read_features(alloc, payload, payload_at, &head.keys, &values, keeps)?;
     Ok(LayerParts {
         name,
         extent: head.extent,

@@ -13,11 +13,15 @@ use mvt_feature::{Cause, MessageError, fault_at, rest_fault};
 use mvt_wire::{Field, Fields};
 
 /// The version of a payload, which is one item's where this is `Ok`.
-pub(crate) fn read_version(payload: &[u8], base: u64, own: u64) -> Result<u32, MessageError>
-    requires { base + length payload.now < 2 ^ 64 }
+pub(crate) fn read_version(
+    payload: &[u8],
+    payload_at: u64,
+    tag_at: u64,
+) -> Result<u32, MessageError>
+    requires { payload_at + length payload.now < 2 ^ 64 }
     ensures version { IfOk result (λ version. version_in (split payload.now).fields ≡ Some version) }
-    ensures ok { OnOk result (head_fault payload.now base own ≡ None) }
-    ensures err { IfErr result (λ error. TellsMessage error (head_fault payload.now base own)) }
+    ensures ok { OnOk result (head_fault payload.now payload_at tag_at ≡ None) }
+    ensures err { IfErr result (λ error. TellsMessage error (head_fault payload.now payload_at tag_at)) }
     ensures fault { IfErr result IsFault }
 {
     // What the proof needs to know of walks; it does nothing.
@@ -25,11 +29,11 @@ pub(crate) fn read_version(payload: &[u8], base: u64, own: u64) -> Result<u32, M
     let mut version = Ok(None);
     for field in Fields::new(payload) {
         match field {
-            Ok(field) => take_version(&mut version, &field, base),
-            Err(fault) => return Err(rest_fault(base, fault)),
+            Ok(field) => take_version(&mut version, &field, payload_at),
+            Err(fault) => return Err(rest_fault(payload_at, fault)),
         }
     }
-    version_of(version, own)
+    version_of(version, tag_at)
 }
 
 /// The last version with one more field, unless a fault was met before it.
@@ -37,11 +41,11 @@ pub(crate) fn read_version(payload: &[u8], base: u64, own: u64) -> Result<u32, M
 pub(crate) fn take_version(
     version: &mut Result<Option<u32>, MessageError>,
     field: &Field<'_>,
-    base: u64,
+    payload_at: u64,
 )
-    requires { base + field.now.at < 2 ^ 64 }
-    ensures more { (done : List Entry) → IsVersionSoFar base done version.old
-        → IsVersionSoFar base (done ++ entry_of field.now ∷ []) version.new }
+    requires { payload_at + field.now.at < 2 ^ 64 }
+    ensures more { (done : List Entry) → IsVersionSoFar payload_at done version.old
+        → IsVersionSoFar payload_at (done ++ entry_of field.now ∷ []) version.new }
     ensures fault { IfErr version.old IsFault → IfErr version.new IsFault }
 {
     if field.number != layer::VERSION {
@@ -50,7 +54,7 @@ pub(crate) fn take_version(
     if version.is_err() {
         return;
     }
-    match uint32_of(&field.payload, base + field.at as u64) {
+    match uint32_of(&field.payload, payload_at + field.at as u64) {
         Ok(number) => *version = Ok(Some(number)),
         Err(error) => *version = Err(error),
     }
@@ -59,15 +63,15 @@ pub(crate) fn take_version(
 /// The version of a payload that splits into fields, by its last version or the first fault of one.
 pub(crate) fn version_of(
     version: Result<Option<u32>, MessageError>,
-    own: u64,
+    tag_at: u64,
 ) -> Result<u32, MessageError>
-    ensures version { (base : ℕ) (fields : List Entry) → IsVersionSoFar base fields version
+    ensures version { (payload_at : ℕ) (fields : List Entry) → IsVersionSoFar payload_at fields version
         → IfOk result (λ found. version_in fields ≡ Some found) }
-    ensures ok { (payload : List ℕ) (base : ℕ) → (split payload).rest ≡ []
-        → IsVersionSoFar base (split payload).fields version → OnOk result (head_fault payload base own ≡ None) }
-    ensures err { (payload : List ℕ) (base : ℕ) → (split payload).rest ≡ []
-        → IsVersionSoFar base (split payload).fields version
-        → IfErr result (λ error. TellsMessage error (head_fault payload base own)) }
+    ensures ok { (payload : List ℕ) (payload_at : ℕ) → (split payload).rest ≡ []
+        → IsVersionSoFar payload_at (split payload).fields version → OnOk result (head_fault payload payload_at tag_at ≡ None) }
+    ensures err { (payload : List ℕ) (payload_at : ℕ) → (split payload).rest ≡ []
+        → IsVersionSoFar payload_at (split payload).fields version
+        → IfErr result (λ error. TellsMessage error (head_fault payload payload_at tag_at)) }
     ensures fault { IfErr version IsFault → IfErr result IsFault }
 {
     // What the proof needs to know of rests and of forms; they do nothing.
@@ -75,6 +79,6 @@ pub(crate) fn version_of(
     forms();
     match version? {
         Some(version) => Ok(version),
-        None => Err(fault_at(own, Cause::NoVersion)),
+        None => Err(fault_at(tag_at, Cause::NoVersion)),
     }
 }

@@ -25,7 +25,7 @@ fn refused_for(alloc: Global, payload: &[u8]) -> Result<Option<(u64, u32)>, Allo
 fn judged_for(alloc: Global, payload: &[u8]) -> Result<Option<(u64, u32)>, AllocError> {
     let keys = [Text::from_str(alloc, "k")?];
     let mut keys = LayerKeys::new(alloc, &keys);
-    match judge_feature(alloc, payload, 9, &mut keys, 1, &mut Room::new(alloc)) {
+    match judge_feature(alloc, payload, 9, &mut keys, 1, &mut Scratch::new(alloc)) {
         Ok(()) => Ok(None),
         Err(error) => Ok(Some(place_of(error)?)),
     }
@@ -97,9 +97,9 @@ fn reads_features(rt: HostRuntime) -> Result<(), Fail> {
     let alloc = rt.alloc();
     let one_point = [0x18, 0x01, 0x22, 0x03, 0x09, 0x32, 0x22];
     let mut keys = LayerKeys::new(alloc, &[]);
-    let mut room = Room::new(alloc);
+    let mut scratch = Scratch::new(alloc);
     for _turn in 0..2 {
-        let Ok(feature) = read_feature_in(alloc, &one_point, 9, &mut keys, &[], &mut room) else {
+        let Ok(feature) = read_feature_in(alloc, &one_point, 9, &mut keys, &[], &mut scratch) else {
             return Err(Fail::new("no feature"));
         };
         assert!(rt; feature == feature_with(alloc, &[])?);
@@ -162,11 +162,11 @@ fn writes(rt: HostRuntime) -> Result<(), Fail> {
     assert_eq!(rt; value_len(&Value::Text(Text::from_str(alloc, "a")?)), 3);
 
     let (mut keys, mut values) = (KeyPool::new(alloc), ValuePool::new(alloc));
-    let mut room = Room::new(alloc);
+    let mut scratch = Scratch::new(alloc);
     let feature = feature_with(alloc, &["k"])?;
     assert!(rt; is_valid_feature(&feature) && feature.copy(alloc)? == feature);
     out.clear();
-    append_feature(&mut out, &feature, &mut keys, &mut values, &mut room)?;
+    append_feature(&mut out, &feature, &mut keys, &mut values, &mut scratch)?;
     let expected = [
         0x12, 0x02, 0x00, 0x00, 0x18, 0x01, 0x22, 0x03, 0x09, 0x32, 0x22,
     ];
@@ -225,8 +225,8 @@ fn refused_writes(rt: HostRuntime) {
             Err(AllocError) => refused = refused.saturating_add(1),
         }
         let (mut keys, mut values) = (KeyPool::new(rt.alloc()), ValuePool::new(rt.alloc()));
-        let (mut out, mut room) = (Vec::new(rt.alloc()), Room::new(rt.alloc()));
-        match append_feature(&mut out, &feature, &mut keys, &mut values, &mut room) {
+        let (mut out, mut scratch) = (Vec::new(rt.alloc()), Scratch::new(rt.alloc()));
+        match append_feature(&mut out, &feature, &mut keys, &mut values, &mut scratch) {
             Ok(()) => assert_eq!(rt; out.len(), 11),
             Err(error) => {
                 assert_eq!(rt; error, PoolError::Memory);

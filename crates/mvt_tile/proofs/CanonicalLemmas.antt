@@ -23,9 +23,9 @@ HaveSmall limit items = AllByRecursion (λ i. length (canonical_item i) ≤ limi
 small_items : WritingLaws → (limit : ℕ) (items : List Item) → length (spelled (map item_field items)) ≤ limit → HaveSmall limit items
 small_items laws limit [] h = tt
 small_items laws limit (i ∷ items) h =
-    let own = short_field 3 (bytes (canonical_item i)) in
+    let field = short_field 3 (bytes (canonical_item i)) in
     let others = spelled (map item_field items) in
-    let sum : length own + length others ≤ limit = subst (λ n. n ≤ limit) (length-append own others) h in
+    let sum : length field + length others ≤ limit = subst (λ n. n ≤ limit) (length-append field others) h in
     let longer = laws.longer 3 (canonical_item i) in
     (omega arith, small_items laws limit items (omega arith))
 

@@ -51,17 +51,17 @@ tells_back e a b none h = subst (Tells e) (sym (option_or-none a b none)) h
 
 -- of a payload
 
-pub tells_payload : (e : MessageError) (n : ℕ) (names : List (List ℕ)) (d : List ℕ) (base own : ℕ) → TellsMessage e (item_fault d base own) → Tells (told_in n e) (payload_fault n names d base own)
-tells_payload message.Memory n names d base own h = tt
-tells_payload (message.Fault feature at cause) n names d base own h =
-    tells_front (told_in n (message.Fault feature at cause)) (option_map (in_layer n) (item_fault d base own)) (first (when (repeats names (payload_names d)) (repeated_at n own))) (ap (option_map (in_layer n)) h, refl)
+pub tells_payload : (e : MessageError) (n : ℕ) (names : List (List ℕ)) (d : List ℕ) (payload_at tag_at : ℕ) → TellsMessage e (item_fault d payload_at tag_at) → Tells (told_in n e) (payload_fault n names d payload_at tag_at)
+tells_payload message.Memory n names d payload_at tag_at h = tt
+tells_payload (message.Fault feature at cause) n names d payload_at tag_at h =
+    tells_front (told_in n (message.Fault feature at cause)) (option_map (in_layer n) (item_fault d payload_at tag_at)) (first (when (repeats names (payload_names d)) (repeated_at n tag_at))) (ap (option_map (in_layer n)) h, refl)
 
-pub tells_repeated : ItemLaws → (n : ℕ) (names : List (List ℕ)) (d : List ℕ) (base own : ℕ) (item : Item) (added : Bool) → item_fault d base own ≡ None → IsItem d item
-    → added ≡ not (repeats names (names_in item)) → added ≡ false → Tells (Fault (repeated_at n own)) (payload_fault n names d base own)
-tells_repeated laws n names d base own item added none is e no_more =
+pub tells_repeated : ItemLaws → (n : ℕ) (names : List (List ℕ)) (d : List ℕ) (payload_at tag_at : ℕ) (item : Item) (added : Bool) → item_fault d payload_at tag_at ≡ None → IsItem d item
+    → added ≡ not (repeats names (names_in item)) → added ≡ false → Tells (Fault (repeated_at n tag_at)) (payload_fault n names d payload_at tag_at)
+tells_repeated laws n names d payload_at tag_at item added none is e no_more =
     let repeated : repeats names (payload_names d) ≡ true = ap (repeats names) (sym (laws.names d item is)) ∙ not-false (repeats names (names_in item)) (sym e ∙ no_more) in
-    tells_back (Fault (repeated_at n own)) (option_map (in_layer n) (item_fault d base own)) (first (when (repeats names (payload_names d)) (repeated_at n own)))
-    (ap (option_map (in_layer n)) none) (first-when (repeats names (payload_names d)) (repeated_at n own) repeated, refl)
+    tells_back (Fault (repeated_at n tag_at)) (option_map (in_layer n) (item_fault d payload_at tag_at)) (first (when (repeats names (payload_names d)) (repeated_at n tag_at)))
+    (ap (option_map (in_layer n)) none) (first-when (repeats names (payload_names d)) (repeated_at n tag_at) repeated, refl)
 
 pub is_added : (names : List (List ℕ)) (item : Item) (added : Bool) → added ≡ not (repeats names (names_in item)) → added ≡ true → repeats names (names_in item) ≡ false
 is_added names item added e is_new = not-true (repeats names (names_in item)) (sym e ∙ is_new)
@@ -82,20 +82,20 @@ field_few (Err e) old new d h = tt
 field_few (Ok u) old new d h = omega (arith, ap length h.1, length-append old (h.0 ∷ []))
 
 -- where the item of a field is taken
-pub field_gives : ItemLaws → (Knows : List Item → Type 0) (r : Result (Unit {0}) DecodeError) (items : List Item) (offset : ℕ) (x : Entry) (d : List ℕ) (base own : ℕ) → IsPlaceOf offset x d base own
+pub field_gives : ItemLaws → (Knows : List Item → Type 0) (r : Result (Unit {0}) DecodeError) (items : List Item) (offset : ℕ) (x : Entry) (d : List ℕ) (payload_at tag_at : ℕ) → IsPlaceOf offset x d payload_at tag_at
     → OnOk r ((new : List Item) × Knows new × TakesItem items new d)
     → OnOk r ((new : List Item) × Knows new × (length new ≤ length items + 1) × ((front : List Entry) → AreItems front items → AreItems (front ++ shifted offset x ∷ []) new))
-field_gives laws Knows (Err e) items offset x d base own place h = tt
-field_gives laws Knows (Ok u) items offset x d base own place h =
-    (h.0, h.1, field_few (Ok u) items h.0 d h.2, field_taken laws (Ok u) items h.0 offset x d place.three place.holds h.2)
+field_gives laws Knows (Err e) items offset x d payload_at tag_at place h = tt
+field_gives laws Knows (Ok u) items offset x d payload_at tag_at place h =
+    (h.0, h.1, field_few (Ok u) items h.0 d h.2, field_taken laws (Ok u) items h.0 offset x d place.is_layer place.holds h.2)
 
-pub field_tells : ItemLaws → (r : Result (Unit {0}) DecodeError) (old : List Item) (offset : ℕ) (x : Entry) (d : List ℕ) (base own : ℕ) → IsPlaceOf offset x d base own
-    → IfErr r (λ e. Tells e (payload_fault (length old) (flat_map names_in old) d base own))
+pub field_tells : ItemLaws → (r : Result (Unit {0}) DecodeError) (old : List Item) (offset : ℕ) (x : Entry) (d : List ℕ) (payload_at tag_at : ℕ) → IsPlaceOf offset x d payload_at tag_at
+    → IfErr r (λ e. Tells e (payload_fault (length old) (flat_map names_in old) d payload_at tag_at))
     → IfErr r (λ e. (front : List Entry) → AreItems front old → Tells e (first (field_rules front (shifted offset x))))
-field_tells laws (Ok u) old offset x d base own place h = tt
-field_tells laws (Err e) old offset x d base own place h = λ front are.
-    let here : Tells e (payload_fault (length old) (flat_map names_in old) d (offset + x.body) (offset + x.at)) = subst (λ b. Tells e (payload_fault (length old) (flat_map names_in old) d b (offset + x.at))) place.base_is (subst (λ o. Tells e (payload_fault (length old) (flat_map names_in old) d base o)) place.own_is h) in
-    subst (Tells e) (sym (first-behind laws front old (shifted offset x) d are (eq-eqb x.number LAYERS place.three) place.holds))
+field_tells laws (Ok u) old offset x d payload_at tag_at place h = tt
+field_tells laws (Err e) old offset x d payload_at tag_at place h = λ front are.
+    let here : Tells e (payload_fault (length old) (flat_map names_in old) d (offset + x.body) (offset + x.at)) = subst (λ b. Tells e (payload_fault (length old) (flat_map names_in old) d b (offset + x.at))) place.payload_at_is (subst (λ o. Tells e (payload_fault (length old) (flat_map names_in old) d payload_at o)) place.tag_at_is h) in
+    subst (Tells e) (sym (first-behind laws front old (shifted offset x) d are (eq-eqb x.number LAYERS place.is_layer) place.holds))
     (subst (λ n. Tells e (payload_fault n (flat_map names_in old) d (offset + x.body) (offset + x.at))) (sym (length-related HoldsItem (layers_of front) old are.held)) here)
 
 pub field_wrong : (offset : ℕ) (x : Entry) (c : Content) → x.number ≡ LAYERS → x.content ≡ c → is_bytes c ≡ false → (front : List Entry)

@@ -37,12 +37,12 @@ repeats_by names others [] same = refl
 repeats_by names others (n ∷ given) same = ap₂ (λ a b. a || b) (same n) (repeats_by names others given same)
 
 -- a payload without a fault whose layer has these names is one item more
-module _ (laws : ItemLaws) (count : ℕ) (names : List (List ℕ)) (items : List Item) (d : List ℕ) (base own : ℕ) (are : AreNamed count names items) (none : item_fault d base own ≡ None) (given : List (List ℕ)) (names_are : given ≡ payload_names d) where
+module _ (laws : ItemLaws) (count : ℕ) (names : List (List ℕ)) (items : List Item) (d : List ℕ) (payload_at tag_at : ℕ) (are : AreNamed count names items) (none : item_fault d payload_at tag_at ≡ None) (given : List (List ℕ)) (names_are : given ≡ payload_names d) where
   abbrev item : Item
-  item = (laws.there d base own none).0
+  item = (laws.there d payload_at tag_at none).0
 
   is : IsItem d item
-  is = (laws.there d base own none).1
+  is = (laws.there d payload_at tag_at none).1
 
   same : names_in item ≡ given
   same = laws.names d item is ∙ sym names_are
@@ -62,18 +62,18 @@ module _ (laws : ItemLaws) (count : ℕ) (names : List (List ℕ)) (items : List
   pub named_foreign : given ≡ [] → (new : List Item) × AreNamed (count + 1) names new × TakesItem items new d
   named_foreign nothing = named_item names (ap (repeats names) nothing) (λ n. or_false (list_any (bytes_eq n) names) ∙ ap (λ ns. list_any (bytes_eq n) names || list_any (bytes_eq n) ns) (sym nothing))
 
-  pub named_twice : (added : Bool) → added ≡ not (repeats names given) → added ≡ false → (index : ℕ) → index ≡ count → Tells (Fault (repeated_at index own)) (payload_fault (length items) (flat_map names_in items) d base own)
+  pub named_twice : (added : Bool) → added ≡ not (repeats names given) → added ≡ false → (index : ℕ) → index ≡ count → Tells (Fault (repeated_at index tag_at)) (payload_fault (length items) (flat_map names_in items) d payload_at tag_at)
   named_twice added e no_more index is_count =
-      subst (λ n. Tells (Fault (repeated_at n own)) (payload_fault (length items) (flat_map names_in items) d base own)) (sym (is_count ∙ are.counted))
-      (tells_repeated laws (length items) (flat_map names_in items) d base own item added none is (e ∙ ap not test) no_more)
+      subst (λ n. Tells (Fault (repeated_at n tag_at)) (payload_fault (length items) (flat_map names_in items) d payload_at tag_at)) (sym (is_count ∙ are.counted))
+      (tells_repeated laws (length items) (flat_map names_in items) d payload_at tag_at item added none is (e ∙ ap not test) no_more)
 
 -- an item that is read and whose name isn't new, or is
 
-pub named_again : ItemLaws → (count : ℕ) (names : List (List ℕ)) (items : List Item) (d : List ℕ) (base own : ℕ) (item : Item) (added : Bool) → AreNamed count names items → item_fault d base own ≡ None → IsItem d item
-    → added ≡ not (repeats names (names_in item)) → added ≡ false → Tells (Fault (repeated_at count own)) (payload_fault (length items) (flat_map names_in items) d base own)
-named_again laws count names items d base own item added are none is e no_more =
-    subst (λ n. Tells (Fault (repeated_at n own)) (payload_fault (length items) (flat_map names_in items) d base own)) (sym are.counted)
-    (tells_repeated laws (length items) (flat_map names_in items) d base own item added none is (e ∙ ap not (repeats_by names (flat_map names_in items) (names_in item) are.named)) no_more)
+pub named_again : ItemLaws → (count : ℕ) (names : List (List ℕ)) (items : List Item) (d : List ℕ) (payload_at tag_at : ℕ) (item : Item) (added : Bool) → AreNamed count names items → item_fault d payload_at tag_at ≡ None → IsItem d item
+    → added ≡ not (repeats names (names_in item)) → added ≡ false → Tells (Fault (repeated_at count tag_at)) (payload_fault (length items) (flat_map names_in items) d payload_at tag_at)
+named_again laws count names items d payload_at tag_at item added are none is e no_more =
+    subst (λ n. Tells (Fault (repeated_at n tag_at)) (payload_fault (length items) (flat_map names_in items) d payload_at tag_at)) (sym are.counted)
+    (tells_repeated laws (length items) (flat_map names_in items) d payload_at tag_at item added none is (e ∙ ap not (repeats_by names (flat_map names_in items) (names_in item) are.named)) no_more)
 
 pub named_new : (count : ℕ) (names : List (List ℕ)) (items : List Item) (item : Item) (added : Bool) → AreNamed count names items → added ≡ not (repeats names (names_in item)) → added ≡ true
     → repeats (flat_map names_in items) (names_in item) ≡ false

@@ -19,10 +19,10 @@ use Rattle.mvt_wire.specs.Spelling.{Plain, IsFit, IsWholeAs, short_field, spelle
 
 -- of payloads
 pub record ItemLaws : Type 0 where
-  pub there : (b : List ℕ) (base own : ℕ) → item_fault b base own ≡ None → (item : Item) × IsItem b item
-  pub clean : (b : List ℕ) (base own : ℕ) (item : Item) → IsItem b item → item_fault b base own ≡ None
-  pub fault : (b : List ℕ) (base own : ℕ) → item_fault b base own ≡ first (item_rules b base own)
-  pub ordered : (b : List ℕ) (base own : ℕ) → AreOrdered (item_rules b base own)
+  pub there : (b : List ℕ) (payload_at tag_at : ℕ) → item_fault b payload_at tag_at ≡ None → (item : Item) × IsItem b item
+  pub clean : (b : List ℕ) (payload_at tag_at : ℕ) (item : Item) → IsItem b item → item_fault b payload_at tag_at ≡ None
+  pub fault : (b : List ℕ) (payload_at tag_at : ℕ) → item_fault b payload_at tag_at ≡ first (item_rules b payload_at tag_at)
+  pub ordered : (b : List ℕ) (payload_at tag_at : ℕ) → AreOrdered (item_rules b payload_at tag_at)
   pub one : (b : List ℕ) (i j : Item) → IsItem b i → IsItem b j → i ≡ j
   pub names : (b : List ℕ) (item : Item) → IsItem b item → names_in item ≡ payload_names b
 

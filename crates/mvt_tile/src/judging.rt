@@ -40,12 +40,12 @@ impl Taker for Names {
         &mut self,
         alloc: Global,
         payload: &[u8],
-        base: u64,
-        own: u64,
+        payload_at: u64,
+        tag_at: u64,
     ) -> Result<(), DecodeError> {
         below::item_laws();
         let index = self.count;
-        let name = match judge_item(alloc, payload, base, own) {
+        let name = match judge_item(alloc, payload, payload_at, tag_at) {
             Ok(name) => name,
             Err(error) => return Err(in_layer(index, error)),
         };
@@ -56,6 +56,6 @@ impl Taker for Names {
         if add_name(&mut self.names, Text::from_str(alloc, name)?)? {
             return Ok(());
         }
-        Err(repeated_name(index, own))
+        Err(repeated_name(index, tag_at))
     }
 }

@@ -70,12 +70,12 @@ impl<'a> Taker for Surveyor<'a> {
         &mut self,
         alloc: Global,
         payload: &[u8],
-        base: u64,
-        own: u64,
+        payload_at: u64,
+        tag_at: u64,
     ) -> Result<(), DecodeError> {
         below::item_laws();
         let index = self.names.count;
-        let item = match read_item(alloc, payload, base, own) {
+        let item = match read_item(alloc, payload, payload_at, tag_at) {
             Ok(item) => item,
             Err(error) => return Err(in_layer(index, error)),
         };
@@ -84,7 +84,7 @@ impl<'a> Taker for Surveyor<'a> {
             self.found.add(alloc, index as usize, &item)?;
             return Ok(());
         }
-        Err(repeated_name(index, own))
+        Err(repeated_name(index, tag_at))
     }
 }
 

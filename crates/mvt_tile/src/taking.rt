@@ -33,15 +33,15 @@ pub(crate) trait Taker {
         &mut self,
         alloc: Global,
         payload: &[u8],
-        base: u64,
-        own: u64,
+        payload_at: u64,
+        tag_at: u64,
     ) -> Result<(), DecodeError>
         requires few { (input : List ℕ) × (items : List Item) × has_taken input self.old items × (length items ≤ LIMIT) }
-        requires fits { base + length payload.now ≤ LIMIT }
+        requires fits { payload_at + length payload.now ≤ LIMIT }
         ensures item { (input : List ℕ) (items : List Item) → has_taken input self.old items → OnOk result
             ((new : List Item) × has_taken input self.new new × TakesItem items new payload.now) }
         ensures fault { (input : List ℕ) (items : List Item) → has_taken input self.old items → IfErr result
-            (λ error. Tells error (payload_fault (length items) (flat_map names_in items) payload.now base own)) };
+            (λ error. Tells error (payload_fault (length items) (flat_map names_in items) payload.now payload_at tag_at)) };
 }
 
 /// Takes the items of a tile: all bytes, which stand at the front of an input.
@@ -114,8 +114,8 @@ fn judge_rest(fault: WireFault, offset: u64) -> Result<usize, DecodeError>
 #[derive(Clone, Copy, Debug)]
 struct Place<'a> {
     payload: &'a [u8],
-    base: u64,
-    own: u64,
+    payload_at: u64,
+    tag_at: u64,
 }
 
 /// The payload of a field that holds a layer. Other fields hold no layer.
@@ -123,22 +123,22 @@ fn layer_in<'a>(field: &Field<'a>, offset: u64) -> Result<Option<Place<'a>>, Dec
     requires place { offset + field.now.at ≤ LIMIT }
     requires fits { offset + (field.now.body + bytes_size (entry_of field.now).content) ≤ LIMIT }
     ensures place { IfOk result (λ found. MatchOption found (field.now.number ≢ LAYERS)
-        (λ place. IsPlaceOf offset (entry_of field.now) place.payload.now place.base place.own)) }
+        (λ place. IsPlaceOf offset (entry_of field.now) place.payload.now place.payload_at place.tag_at)) }
     ensures fault { IfErr result (λ error. (front : List Entry) →
         Tells error (first (field_rules front (shifted offset (entry_of field.now))))) }
 {
     if field.number != tile::LAYERS {
         return Ok(None);
     }
-    let own = offset + field.at as u64;
+    let tag_at = offset + field.at as u64;
     match field.payload {
         Payload::Len(payload) => Ok(Some(Place {
             payload,
-            base: offset + field.body as u64,
-            own,
+            payload_at: offset + field.body as u64,
+            tag_at,
         })),
         Payload::Varint(_) | Payload::I64(_) | Payload::I32(_) => Err(DecodeError::Fault(
-            Fault::outer(own, Cause::WrongType),
+            Fault::outer(tag_at, Cause::WrongType),
         )),
     }
 }
@@ -162,7 +162,7 @@ fn take_field<T: Taker>(
     below::item_laws();
     match layer_in(field, offset)? {
         None => Ok(()),
-        Some(place) => taker.take_item(alloc, place.payload, place.base, place.own),
+        Some(place) => taker.take_item(alloc, place.payload, place.payload_at, place.tag_at),
     }
 }
 
@@ -182,13 +182,13 @@ pub(crate) fn in_layer(index: u32, error: MessageError) -> DecodeError
 }
 
 /// The fault of a layer whose name an earlier one has.
-pub(crate) fn repeated_name(index: u32, own: u64) -> DecodeError
-    ensures { result ≡ DecodeError.Fault (repeated_at index own) }
+pub(crate) fn repeated_name(index: u32, tag_at: u64) -> DecodeError
+    ensures { result ≡ DecodeError.Fault (repeated_at index tag_at) }
 {
     DecodeError::Fault(Fault {
         layer: Some(index),
         feature: None,
-        at: own,
+        at: tag_at,
         cause: Cause::RepeatedName,
     })
 }

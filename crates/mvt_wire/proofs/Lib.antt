@@ -1,3 +1,4 @@
+pub mod WireLaws
 pub mod FieldLemmas
 pub mod PackedLemmas
 pub mod PackedNumbersLemmas

@@ -47,11 +47,11 @@ abbrev pub shifted : ℕ → Entry → Entry
 shifted offset x = record { at = offset + x.at; body = offset + x.body; number = x.number; content = x.content }
 
 -- the field of a slice that stands at this place of the input holds this layer's payload
-pub record IsPlaceOf (offset : ℕ) (x : Entry) (payload : List ℕ) (base own : ℕ) : Type 0 where
-  pub three : x.number ≡ LAYERS
+pub record IsPlaceOf (offset : ℕ) (x : Entry) (payload : List ℕ) (payload_at tag_at : ℕ) : Type 0 where
+  pub is_layer : x.number ≡ LAYERS
   pub holds : x.content ≡ held_bytes payload
-  pub base_is : base ≡ offset + x.body
-  pub own_is : own ≡ offset + x.at
+  pub payload_at_is : payload_at ≡ offset + x.body
+  pub tag_at_is : tag_at ≡ offset + x.at
 
 -- one item more, which this payload is, with a name that is new
 abbrev pub TakesItem : List Item → List Item → List ℕ → Type 0

@@ -1,15 +1,5 @@
-use Rattle.std.proofs.Common.{bytes_eq}
-use Rattle.std.proofs.lemmas.Slice.Eq.{bytes_eq-Decides}
-use Rattle.mvt_attrs.specs.declared.value.Attribute.{Attribute}
-use Rattle.mvt_attrs.specs.Values.{equal_values}
-use Rattle.mvt_attrs.proofs.EqualityLemmas.{equal_values-Decides}
-use Rattle.mvt_attrs.proofs.PlaceLemmas.{pool_grows, pool_held}
+use Rattle.mvt_attrs.proofs.AttrsLaws.{pools_grow_keys, pools_grow_values, pools_grow_held_keys, pools_grow_held_values}
 use Rattle.mvt_attrs.proofs.laws.pools_grow.Goals as goal
 
 pub returns : goal.returns
-returns c = record {
-  keys = pool_grows bytes_eq bytes_eq-Decides (λ (a : Attribute). a.key);
-  values = pool_grows equal_values equal_values-Decides (λ (a : Attribute). a.value);
-  held_keys = pool_held bytes_eq bytes_eq-Decides (λ (a : Attribute). a.key);
-  held_values = pool_held equal_values equal_values-Decides (λ (a : Attribute). a.value);
-}
+returns c = record { keys = pools_grow_keys; values = pools_grow_values; held_keys = pools_grow_held_keys; held_values = pools_grow_held_values }

@@ -1,5 +1,5 @@
-use Rattle.mvt_attrs.proofs.OrderedLemmas.{count_ordered, pairs_ordered, tags_ordered}
+use Rattle.mvt_attrs.proofs.AttrsLaws.{rules_in_order_count, rules_in_order_pairs, rules_in_order_tags}
 use Rattle.mvt_attrs.proofs.laws.rules_in_order.Goals as goal
 
 pub returns : goal.returns
-returns c = record { count = count_ordered; pairs = pairs_ordered; tags = tags_ordered }
+returns c = record { count = rules_in_order_count; pairs = rules_in_order_pairs; tags = rules_in_order_tags }

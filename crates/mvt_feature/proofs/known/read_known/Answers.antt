@@ -14,13 +14,13 @@ pub loop-field-preserved : goal.loop-field-preserved
 loop-field-preserved c =
     let done = c.loop-field.invariant.0 in
     let step = c.in-Ok-with.ensures in
-    (done ++ entry_of c.in-Ok.field ∷ [], walk_step _ _ _ _ _ c.loop-field.invariant.1 (rw c.in-Ok.is at c.in-Some.ensures.steps).0, known_with c.args.base done (entry_of c.in-Ok.field) c.loop-field.known _ _ _ _ (Ok c.in-Ok-with.more) c.loop-field.invariant.2 step.ok step.id step.kind step.tags step.integers tt)
+    (done ++ entry_of c.in-Ok.field ∷ [], walk_step _ _ _ _ _ c.loop-field.invariant.1 (rw c.in-Ok.is at c.in-Some.ensures.steps).0, known_with c.args.payload_at done (entry_of c.in-Ok.field) c.loop-field.known _ _ _ _ (Ok c.in-Ok-with.more) c.loop-field.invariant.2 step.ok step.id step.kind step.tags step.integers tt)
 
 pub returns-in-Err-with-clause-err : goal.returns-in-Err-with-clause-err
 returns-in-Err-with-clause-err c =
     let done = c.loop-field.invariant.0 in
     let all = (walk_step c.args.payload.now _ c.next.new.self.to_come done c.in-Ok.field c.loop-field.invariant.1 (rw c.in-Ok.is at c.in-Some.ensures.steps).0).fields in
-    let stays = known_with c.args.base done (entry_of c.in-Ok.field) c.loop-field.known _ _ [] [] (Err c.in-Err-with.error) c.loop-field.invariant.2 tt tt tt tt tt c.in-Err-with.ensures.err in
+    let stays = known_with c.args.payload_at done (entry_of c.in-Ok.field) c.loop-field.known _ _ [] [] (Err c.in-Err-with.error) c.loop-field.invariant.2 tt tt tt tt tt c.in-Err-with.ensures.err in
     c.rest_fault_or.ensures _ (rw all (stays c.next.new.self.to_come.fields))
 
 pub returns-in-Err-clause-err : goal.returns-in-Err-clause-err

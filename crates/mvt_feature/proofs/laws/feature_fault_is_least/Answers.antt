@@ -1,8 +1,5 @@
-use Rattle.mvt_feature.proofs.FeatureLaws.{feature_ordered, feature_least}
+use Rattle.mvt_feature.proofs.FeatureLaws.{feature_fault_is_least_ordered, feature_fault_is_least_least}
 use Rattle.mvt_feature.proofs.laws.feature_fault_is_least.Goals as goal
 
 pub returns : goal.returns
-returns c = record {
-  ordered = feature_ordered c.packed_is_least.ensures.ordered c.rules_in_order.ensures.count c.rules_in_order.ensures.pairs c.geometry_ordered.ensures;
-  least = feature_least c.packed_is_least.ensures.ordered c.rules_in_order.ensures.count c.rules_in_order.ensures.pairs c.geometry_ordered.ensures;
-}
+returns c = record { ordered = feature_fault_is_least_ordered; least = feature_fault_is_least_least }

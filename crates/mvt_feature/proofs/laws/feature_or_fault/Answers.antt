@@ -1,9 +1,5 @@
-use Rattle.mvt_feature.proofs.FeatureLaws.{feature_there, feature_keeps, feature_once}
+use Rattle.mvt_feature.proofs.FeatureLaws.{feature_or_fault_there, feature_or_fault_clean, feature_or_fault_once}
 use Rattle.mvt_feature.proofs.laws.feature_or_fault.Goals as goal
 
 pub returns : goal.returns
-returns c = record {
-  there = feature_there c.split_function.ensures.is c.packed_function.ensures.clean c.attributes_or_fault.ensures.there c.faultless_draws.ensures;
-  clean = feature_keeps c.split_function.ensures.only c.packed_function.ensures.only c.attributes_or_fault.ensures.clean c.drawn_is_faultless.ensures;
-  once = feature_once c.split_function.ensures.only c.packed_function.ensures.only c.attributes_or_fault.ensures.once c.one_geometry.ensures;
-}
+returns c = record { there = feature_or_fault_there; clean = feature_or_fault_clean; once = feature_or_fault_once }

@@ -1,4 +1,4 @@
-use Rattle.mvt_feature.proofs.FormLemmas.{forms_have, forms_clean, forms_ordered}
+use Rattle.mvt_feature.proofs.FeatureLaws.{forms_have, forms_clean, forms_ordered}
 use Rattle.mvt_feature.proofs.laws.forms.Goals as goal
 
 pub returns : goal.returns

@@ -1,11 +1,11 @@
-use Rattle.mvt_feature.proofs.ValueLemmas.{value_there, value_keeps, value_once}
+use Rattle.mvt_feature.proofs.FeatureLaws.{value_or_fault_there, value_or_fault_clean, value_or_fault_once}
 use Rattle.mvt_feature.proofs.laws.value_or_fault.Goals as goal
 
 pub returns-clause-there : goal.returns-clause-there
-returns-clause-there c = λ payload base own none. value_there c.split_function.ensures.is payload base own none
+returns-clause-there c = value_or_fault_there
 
 pub returns-clause-clean : goal.returns-clause-clean
-returns-clause-clean c = λ payload base own value is. value_keeps c.split_function.ensures.only base own payload value is
+returns-clause-clean c = value_or_fault_clean
 
 pub returns-clause-once : goal.returns-clause-once
-returns-clause-once c = λ payload value other is also_is. value_once c.split_function.ensures.only payload value other is also_is
+returns-clause-once c = value_or_fault_once

@@ -13,19 +13,19 @@ loop-field-init c =
 pub loop-field-preserved-in-Ok-None : goal.loop-field-preserved-in-Ok-None
 loop-field-preserved-in-Ok-None c =
     let done = c.loop-field.invariant.0 in
-    (done ++ entry_of c.in-Ok.field ∷ [], walk_step _ _ _ _ _ c.loop-field.invariant.1 (rw c.in-Ok.is at c.in-Some.ensures.steps).0, so_far_skip c.args.base done c.loop-field.kinds (entry_of c.in-Ok.field) c.loop-field.invariant.2 c.in-Ok-None.ensures.ok (rw c.in-Ok-None.field-0-is at c.in-Ok-None.ensures.means))
+    (done ++ entry_of c.in-Ok.field ∷ [], walk_step _ _ _ _ _ c.loop-field.invariant.1 (rw c.in-Ok.is at c.in-Some.ensures.steps).0, so_far_skip c.args.payload_at done c.loop-field.kinds (entry_of c.in-Ok.field) c.loop-field.invariant.2 c.in-Ok-None.ensures.ok (rw c.in-Ok-None.field-0-is at c.in-Ok-None.ensures.means))
 
 pub loop-field-preserved : goal.loop-field-preserved
 loop-field-preserved c =
     let done = c.loop-field.invariant.0 in
     let means = rw c.in-Ok-Some.field-0-is at c.in-Ok-Some.ensures.means in
-    (done ++ entry_of c.in-Ok.field ∷ [], walk_step _ _ _ _ _ c.loop-field.invariant.1 (rw c.in-Ok.is at c.in-Some.ensures.steps).0, rw c.with-kinds.ensures (so_far_with c.args.base done c.loop-field.kinds (entry_of c.in-Ok.field) c.in-Ok-Some.meaning c.loop-field.invariant.2 c.in-Ok-Some.ensures.ok means.0 means.1))
+    (done ++ entry_of c.in-Ok.field ∷ [], walk_step _ _ _ _ _ c.loop-field.invariant.1 (rw c.in-Ok.is at c.in-Some.ensures.steps).0, rw c.with-kinds.ensures (so_far_with c.args.payload_at done c.loop-field.kinds (entry_of c.in-Ok.field) c.in-Ok-Some.meaning c.loop-field.invariant.2 c.in-Ok-Some.ensures.ok means.0 means.1))
 
 pub returns-in-Err-meaning_of-clause-err : goal.returns-in-Err-meaning_of-clause-err
 returns-in-Err-meaning_of-clause-err c =
     let done = c.loop-field.invariant.0 in
     let all = (walk_step c.args.payload.now _ c.next.new.self.to_come done c.in-Ok.field c.loop-field.invariant.1 (rw c.in-Ok.is at c.in-Some.ensures.steps).0).fields in
-    c.rest_fault_or.ensures _ (rw (c.fault_at-error.ensures, all) (so_far_stops c.args.base done c.loop-field.kinds (entry_of c.in-Ok.field) c.in-Err-meaning_of.cause c.loop-field.invariant.2 c.in-Err-meaning_of.ensures.err c.next.new.self.to_come.fields))
+    c.rest_fault_or.ensures _ (rw (c.fault_at-error.ensures, all) (so_far_stops c.args.payload_at done c.loop-field.kinds (entry_of c.in-Ok.field) c.in-Err-meaning_of.cause c.loop-field.invariant.2 c.in-Err-meaning_of.ensures.err c.next.new.self.to_come.fields))
 
 pub returns-in-Err-clause-err : goal.returns-in-Err-clause-err
 returns-in-Err-clause-err c =

@@ -5,4 +5,4 @@ use Rattle.mvt_feature.specs.Walks.{Walk}
 use Rattle.mvt_feature.proofs.value.read_kinds.Given as goal
 
 abbrev pub invariant-loop-field : goal.invariant-loop-field
-invariant-loop-field l = (done : List Entry) × Walk l.payload l.field-iterator.to_come done × AreSoFar l.base done (Ok l.kinds)
+invariant-loop-field l = (done : List Entry) × Walk l.payload l.field-iterator.to_come done × AreSoFar l.payload_at done (Ok l.kinds)

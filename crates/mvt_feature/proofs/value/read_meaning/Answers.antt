@@ -5,20 +5,20 @@ use Rattle.mvt_feature.proofs.value.read_meaning.Goals as goal
 pub returns-in_err-meaning-clause-err : goal.returns-in_err-meaning-clause-err
 returns-in_err-meaning-clause-err c =
     let p = err_from_is_err_and c.from_residual.result c.from_residual.ensures.1 in
-    rw (p.1, p.2) (tells_value c.args.payload.now c.args.base c.args.own c.in_err-meaning.field-0.0 c.in_err-meaning.ensures.err)
+    rw (p.1, p.2) (tells_value c.args.payload.now c.args.payload_at c.args.tag_at c.in_err-meaning.field-0.0 c.in_err-meaning.ensures.err)
 
 pub returns-in-One-clause-value : goal.returns-in-One-clause-value
 returns-in-One-clause-value c =
-    kinds_value c.split_function.ensures.is c.args.payload.now c.args.base _ _ c.in_ok-meaning.ensures.whole c.in_ok-meaning.ensures.ok (rw c.in-One.is at c.in_ok-meaning.ensures.kinds)
+    kinds_value c.split_function.ensures.is c.args.payload.now c.args.payload_at _ _ c.in_ok-meaning.ensures.whole c.in_ok-meaning.ensures.ok (rw c.in-One.is at c.in_ok-meaning.ensures.kinds)
 
 pub returns-in-One-clause-ok : goal.returns-in-One-clause-ok
 returns-in-One-clause-ok c =
-    kinds_clean c.args.payload.now c.args.base c.args.own _ _ c.in_ok-meaning.ensures.whole c.in_ok-meaning.ensures.ok (rw c.in-One.is at c.in_ok-meaning.ensures.kinds)
+    kinds_clean c.args.payload.now c.args.payload_at c.args.tag_at _ _ c.in_ok-meaning.ensures.whole c.in_ok-meaning.ensures.ok (rw c.in-One.is at c.in_ok-meaning.ensures.kinds)
 
 pub returns-in-Nothing-clause-err : goal.returns-in-Nothing-clause-err
 returns-in-Nothing-clause-err c =
-    rw c.fault_at.ensures (nothing_told c.args.payload.now c.args.base c.args.own c.in_ok-meaning.ensures.whole c.in_ok-meaning.ensures.ok (rw c.in-Nothing.is at c.in_ok-meaning.ensures.kinds))
+    rw c.fault_at.ensures (nothing_told c.args.payload.now c.args.payload_at c.args.tag_at c.in_ok-meaning.ensures.whole c.in_ok-meaning.ensures.ok (rw c.in-Nothing.is at c.in_ok-meaning.ensures.kinds))
 
 pub returns-in-Several-clause-err : goal.returns-in-Several-clause-err
 returns-in-Several-clause-err c =
-    rw c.fault_at-in-Several.ensures (several_told c.args.payload.now c.args.base c.args.own c.in_ok-meaning.ensures.whole c.in_ok-meaning.ensures.ok (rw c.in-Several.is at c.in_ok-meaning.ensures.kinds))
+    rw c.fault_at-in-Several.ensures (several_told c.args.payload.now c.args.payload_at c.args.tag_at c.in_ok-meaning.ensures.whole c.in_ok-meaning.ensures.ok (rw c.in-Several.is at c.in_ok-meaning.ensures.kinds))

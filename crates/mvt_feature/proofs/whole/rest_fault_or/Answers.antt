@@ -27,4 +27,4 @@ returns-in-Err c = λ fault told_here.
 pub returns : goal.returns
 returns c = λ fault told_here.
     let end = walk_end _ _ _ _ c.loop-field.invariant.1 c.in-None.ensures.steps.0 in
-    subst (λ o. TellsMessage c.args.error (option_or o fault)) (sym (rest_none c.args.base (split c.args.payload.now) end.1)) told_here
+    subst (λ o. TellsMessage c.args.error (option_or o fault)) (sym (rest_none c.args.payload_at (split c.args.payload.now) end.1)) told_here

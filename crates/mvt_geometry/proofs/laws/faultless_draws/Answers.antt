@@ -1,5 +1,5 @@
-use Rattle.mvt_geometry.proofs.WholeLemmas.{faultless_drawn}
+use Rattle.mvt_geometry.proofs.GeometryLaws.{faultless_draws}
 use Rattle.mvt_geometry.proofs.laws.faultless_draws.Goals as goal
 
 pub returns : goal.returns
-returns c = faultless_drawn
+returns c = faultless_draws

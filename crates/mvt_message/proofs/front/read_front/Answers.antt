@@ -17,7 +17,7 @@ loop-field-init c = (
 
 pub take_value-requires-clause-few : goal.take_value-requires-clause-few
 take_value-requires-clause-few c = λ none.
-    values_few c.args.keeps c.args.base c.loop-field.invariant.0 c.loop-field.values.count c.loop-field.values.kept.items (entry_of c.in-Ok.field) (rw none at c.loop-field.invariant.4) c.split_function.ensures.count c.args.payload.now c.loop-field.field-iterator.to_come c.loop-field.invariant.1 c.requires.small
+    values_few c.args.keeps c.args.payload_at c.loop-field.invariant.0 c.loop-field.values.count c.loop-field.values.kept.items (entry_of c.in-Ok.field) (rw none at c.loop-field.invariant.4) c.split_function.ensures.count c.args.payload.now c.loop-field.field-iterator.to_come c.loop-field.invariant.1 c.requires.small
 
 pub loop-field-preserved : goal.loop-field-preserved
 loop-field-preserved c =
@@ -36,4 +36,4 @@ returns-in-Err-clause-err c =
 pub returns-clause-version : goal.returns-clause-version
 returns-clause-version c =
     let end = c.walks.ensures.end _ _ _ _ c.loop-field.invariant.1 c.in-None.ensures.steps.0 in
-    c.in_ok-version.ensures.version c.args.base (split c.args.payload.now).fields (rw end.0 c.loop-field.invariant.2)
+    c.in_ok-version.ensures.version c.args.payload_at (split c.args.payload.now).fields (rw end.0 c.loop-field.invariant.2)

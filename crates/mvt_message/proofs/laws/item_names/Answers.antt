@@ -1,5 +1,5 @@
-use Rattle.mvt_message.proofs.ItemLaws.{names_same}
+use Rattle.mvt_message.proofs.MessageLaws.{item_names}
 use Rattle.mvt_message.proofs.laws.item_names.Goals as goal
 
 pub returns : goal.returns
-returns c = names_same c.split_function.ensures.only
+returns c = item_names

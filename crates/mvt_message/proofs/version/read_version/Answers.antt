@@ -16,4 +16,4 @@ returns-in-Err-clause-err c =
 pub returns-clause-version : goal.returns-clause-version
 returns-clause-version c =
     let end = c.walks.ensures.end _ _ _ _ c.loop-field.invariant.1 c.in-None.ensures.steps.0 in
-    c.version_of.ensures.version c.args.base (split c.args.payload.now).fields (rw end.0 c.loop-field.invariant.2)
+    c.version_of.ensures.version c.args.payload_at (split c.args.payload.now).fields (rw end.0 c.loop-field.invariant.2)

@@ -21,4 +21,4 @@ returns-in-Some-clause-items g c = λ input items has.
 pub returns-in-Some-clause-fault : goal.returns-in-Some-clause-fault
 returns-in-Some-clause-fault g c = λ input items has.
     let place = rw c.in-Some.is at c.in_ok-layer_in.ensures.place in
-    field_tells c.item_laws.ensures _ items c.args.offset (entry_of c.args.field.now) c.in-Some.place.payload.now c.in-Some.place.base c.in-Some.place.own place (c.take_item.ensures.fault input items has)
+    field_tells c.item_laws.ensures _ items c.args.offset (entry_of c.args.field.now) c.in-Some.place.payload.now c.in-Some.place.payload_at c.in-Some.place.tag_at place (c.take_item.ensures.fault input items has)

@@ -1,12 +1,11 @@
-use Rattle.mvt_wire.proofs.FieldLemmas.{entry_why, entry_cause}
-use Rattle.mvt_wire.proofs.SplitLemmas.{field_stays, cause_stays, rest_stays}
+use Rattle.mvt_wire.proofs.WireLaws.{front_stays_field, front_stays_cause, front_stays_rest}
 use Rattle.mvt_wire.proofs.laws.front_stays.Goals as goal
 
 pub returns-clause-field : goal.returns-clause-field
-returns-clause-field c = field_stays
+returns-clause-field c = front_stays_field
 
 pub returns-clause-cause : goal.returns-clause-cause
-returns-clause-cause c = λ at b more why other is. entry_cause at _ why (cause_stays b more why other (entry_why at b why is))
+returns-clause-cause c = front_stays_cause
 
 pub returns-clause-rest : goal.returns-clause-rest
-returns-clause-rest c = rest_stays
+returns-clause-rest c = front_stays_rest

@@ -1,11 +1,11 @@
-use Rattle.mvt_wire.proofs.SpellingLemmas.{spelled_from, field_short, whole_once}
+use Rattle.mvt_wire.proofs.WireLaws.{spelled_whole_whole, spelled_whole_field, spelled_whole_only}
 use Rattle.mvt_wire.proofs.laws.spelled_whole.Goals as goal
 
 pub returns-clause-whole : goal.returns-clause-whole
-returns-clause-whole c = λ fs fit. spelled_from 0 fs fit
+returns-clause-whole c = spelled_whole_whole
 
 pub returns-clause-field : goal.returns-clause-field
-returns-clause-field c = λ f fit. (field_short f.number f.content fit.first fit.last fit.content).0
+returns-clause-field c = spelled_whole_field
 
 pub returns-clause-only : goal.returns-clause-only
-returns-clause-only c = whole_once
+returns-clause-only c = spelled_whole_only

@@ -42,19 +42,19 @@ pub(crate) fn take_value(
     values: &mut LayerValues,
     fault: &mut Option<MessageError>,
     field: &Field<'_>,
-    base: u64,
+    payload_at: u64,
     keeps: bool,
 )
     requires few { fault.old ≡ None → values.old.count < 2 ^ 32 }
-    requires at { base + field.now.at < 2 ^ 64 }
-    requires body { base + (field.now.body + bytes_size (content_of field.now.payload)) < 2 ^ 64 }
-    ensures { (done : List Entry) → AreValuesSaid keeps base done fault.old values.old.count values.old.kept.items
-        → AreValuesSaid keeps base (done ++ entry_of field.now ∷ []) fault.new values.new.count values.new.kept.items }
+    requires at { payload_at + field.now.at < 2 ^ 64 }
+    requires body { payload_at + (field.now.body + bytes_size (content_of field.now.payload)) < 2 ^ 64 }
+    ensures { (done : List Entry) → AreValuesSaid keeps payload_at done fault.old values.old.count values.old.kept.items
+        → AreValuesSaid keeps payload_at (done ++ entry_of field.now ∷ []) fault.new values.new.count values.new.kept.items }
 {
     if fault.is_some() {
         return;
     }
-    match append_value(alloc, field, base, keeps, values) {
+    match append_value(alloc, field, payload_at, keeps, values) {
         Ok(()) => {}
         Err(error) => *fault = Some(error),
     }
@@ -65,17 +65,17 @@ pub(crate) fn take_value(
 fn append_value(
     alloc: Global,
     field: &Field<'_>,
-    base: u64,
+    payload_at: u64,
     keeps: bool,
     values: &mut LayerValues,
 ) -> Result<(), MessageError>
     requires few { values.old.count < 2 ^ 32 }
-    requires at { base + field.now.at < 2 ^ 64 }
-    requires body { base + (field.now.body + bytes_size (content_of field.now.payload)) < 2 ^ 64 }
-    ensures ok { (done : List Entry) → AreValuesHeld keeps base done values.old.count values.old.kept.items
-        → OnOk result (AreValuesHeld keeps base (done ++ entry_of field.now ∷ []) values.new.count values.new.kept.items) }
-    ensures err { (done more : List Entry) → AreValuesHeld keeps base done values.old.count values.old.kept.items
-        → IfErr result (λ error. TellsMessage error (values_fault base ((done ++ entry_of field.now ∷ []) ++ more))) }
+    requires at { payload_at + field.now.at < 2 ^ 64 }
+    requires body { payload_at + (field.now.body + bytes_size (content_of field.now.payload)) < 2 ^ 64 }
+    ensures ok { (done : List Entry) → AreValuesHeld keeps payload_at done values.old.count values.old.kept.items
+        → OnOk result (AreValuesHeld keeps payload_at (done ++ entry_of field.now ∷ []) values.new.count values.new.kept.items) }
+    ensures err { (done more : List Entry) → AreValuesHeld keeps payload_at done values.old.count values.old.kept.items
+        → IfErr result (λ error. TellsMessage error (values_fault payload_at ((done ++ entry_of field.now ∷ []) ++ more))) }
 {
     // What the proof needs to know of values; it does nothing.
     value_or_fault();
@@ -84,11 +84,11 @@ fn append_value(
     }
     values.count += 1;
     let payload = bytes_of(&field.payload);
-    let body = base + field.body as u64;
-    let own = base + field.at as u64;
+    let body = payload_at + field.body as u64;
+    let tag_at = payload_at + field.at as u64;
     if keeps {
-        values.kept.push(read_value(alloc, payload, body, own)?)?;
+        values.kept.push(read_value(alloc, payload, body, tag_at)?)?;
         return Ok(());
     }
-    judge_value(payload, body, own)
+    judge_value(payload, body, tag_at)
 }

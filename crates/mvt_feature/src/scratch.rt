@@ -2,18 +2,18 @@
 use mvt_wire::PackedNumbers;
 use std::alloc::Global;
 
-/// Room for the tags and the integers of a feature while it is read or written.
+/// Lists for the tags and the integers of a feature while it is read or written.
 ///
 /// ```text
-/// let mut room = Room::new(alloc);
+/// let mut scratch = Scratch::new(alloc);
 /// for payload in payloads {
-///     features.push(read_feature_in(alloc, payload, base, &mut keys, values, &mut room)?)?;
+///     features.push(read_feature_in(alloc, payload, payload_at, &mut keys, values, &mut scratch)?)?;
 /// }
 /// ```
 ///
 /// What it holds between two calls says nothing; after an error it can be used again.
 #[derive(Debug, Drop)]
-pub struct Room {
+pub struct Scratch {
     pub(crate) tags: Vec<u32>,
     /// The tags of the feature that was written last.
     pub(crate) last: Vec<u32>,
@@ -22,10 +22,10 @@ pub struct Room {
     pub(crate) drawing: PackedNumbers,
 }
 
-impl Room {
-    /// Room that has taken no memory yet.
+impl Scratch {
+    /// A scratch that has taken no memory yet.
     pub fn new(alloc: Global) -> Self {
-        Room {
+        Scratch {
             tags: Vec::new(alloc),
             last: Vec::new(alloc),
             integers: Vec::new(alloc),
