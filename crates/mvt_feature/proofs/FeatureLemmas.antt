@@ -22,7 +22,6 @@ use Rattle.mvt_wire.specs.Field.{Content, varint, fixed64, bytes, fixed32, Entry
 use Rattle.mvt_wire.specs.Packed.{ArePacked, packed_rules}
 use Rattle.mvt_wire.specs.Split.{split}
 use Rattle.mvt_feature.specs.declared.numbers.feature.TheConstants.{ID, TAGS, TYPE, GEOMETRY}
-use Rattle.mvt_feature.proofs.Below.{SplitIs, PackedClean, PackedOnly}
 use Rattle.mvt_feature.specs.declared.cause.Cause.TheVariants.{NumberRange}
 use Rattle.mvt_feature.specs.declared.feature.Feature.{Feature}
 use Rattle.mvt_feature.specs.declared.message_error.MessageError.{MessageError}
@@ -37,6 +36,7 @@ use Rattle.mvt_feature.proofs.ValueLemmas.{tells_front, whole_split}
 use Rattle.mvt_feature.proofs.FormLemmas.{has_form}
 use Rattle.mvt_feature.proofs.KnownLemmas.{field_first}
 use Rattle.mvt_feature.proofs.WalkLemmas.{rest_none}
+use Rattle.mvt_wire.proofs.WireLaws.{packed_function_clean, packed_function_only}
 
 -- the fault of a feature from its parts
 abbrev pub rest_fault : List ℕ → ℕ → Option MessageFault
@@ -123,22 +123,22 @@ id_form payload_at xs clean = of_number payload_at ID (HasForm any_varint) (λ c
 type_form : (payload_at : ℕ) (xs : List Entry) → first (each (λ _. feature_field_rules payload_at) [] xs) ≡ None → HaveForm TYPE (HasForm geom_type) xs
 type_form payload_at xs clean = of_number payload_at TYPE (HasForm geom_type) (λ c h. has_form geom_type c (sym (first-under 0 (form_rules geom_type c)) ∙ h)) xs clean
 
-list_numbers : PackedClean → (c : Content) → first (list_rules c) ≡ None → AreNumbers c (numbers_of c)
-list_numbers packed_clean (varint n) h =
+list_numbers : (c : Content) → first (list_rules c) ≡ None → AreNumbers c (numbers_of c)
+list_numbers (varint n) h =
     let none = sym (first-under 0 (when (not (nat_lt n (2 ^ 32))) NumberRange)) ∙ sym (first-under 1 (under 0 (when (not (nat_lt n (2 ^ 32))) NumberRange))) ∙ h in
     (refl, ltb-true n (2 ^ 32) (not-false (nat_lt n (2 ^ 32)) (when_none (not (nat_lt n (2 ^ 32))) NumberRange none)))
-list_numbers packed_clean (bytes d) h = packed_clean d (none_mapped of_packed (first (packed_rules d)) (sym (first-told of_packed (packed_rules d)) ∙ sym (first-under 1 (told of_packed (packed_rules d))) ∙ h))
-list_numbers packed_clean (fixed64 n) h = cc
-list_numbers packed_clean (fixed32 n) h = cc
+list_numbers (bytes d) h = packed_function_clean d (none_mapped of_packed (first (packed_rules d)) (sym (first-told of_packed (packed_rules d)) ∙ sym (first-under 1 (told of_packed (packed_rules d))) ∙ h))
+list_numbers (fixed64 n) h = cc
+list_numbers (fixed32 n) h = cc
 
-numbers_list : PackedOnly → (c : Content) (ns : List ℕ) → AreNumbers c ns → (first (list_rules c) ≡ None) × (ns ≡ numbers_of c)
-numbers_list packed_only (varint n) ns h =
+numbers_list : (c : Content) (ns : List ℕ) → AreNumbers c ns → (first (list_rules c) ≡ None) × (ns ≡ numbers_of c)
+numbers_list (varint n) ns h =
     (first-under 1 (under 0 (when (not (nat_lt n (2 ^ 32))) NumberRange)) ∙ first-under 0 (when (not (nat_lt n (2 ^ 32))) NumberRange) ∙ first-when_not (not (nat_lt n (2 ^ 32))) NumberRange (ap not (lt-ltb n (2 ^ 32) h.1)), h.0)
-numbers_list packed_only (bytes d) ns h =
-    let are = packed_only d ns h in
+numbers_list (bytes d) ns h =
+    let are = packed_function_only d ns h in
     (first-under 1 (told of_packed (packed_rules d)) ∙ first-told of_packed (packed_rules d) ∙ ap (option_map of_packed) are.0, sym are.1)
-numbers_list packed_only (fixed64 n) ns h = absurd h
-numbers_list packed_only (fixed32 n) ns h = absurd h
+numbers_list (fixed64 n) ns h = absurd h
+numbers_list (fixed32 n) ns h = absurd h
 
 -- joined numbers
 abbrev pub IsListOf : Entry → Type 0
@@ -152,15 +152,15 @@ only_form k P (x ∷ xs) h = by_test (x.number == k) refl (only_form k P xs h.1)
     by_test true e more = (h.0 (eqb-true x.number k e), more)
     by_test false e more = more
 
-joined_all : PackedClean → (xs : List Entry) → AllByRecursion IsListOf xs → Joined xs (flat_map (λ (x : Entry). numbers_of x.content) xs)
-joined_all packed_clean [] h = refl
-joined_all packed_clean (x ∷ xs) h = (numbers_of x.content, flat_map (λ (y : Entry). numbers_of y.content) xs, refl, list_numbers packed_clean x.content h.0, joined_all packed_clean xs h.1)
+joined_all : (xs : List Entry) → AllByRecursion IsListOf xs → Joined xs (flat_map (λ (x : Entry). numbers_of x.content) xs)
+joined_all [] h = refl
+joined_all (x ∷ xs) h = (numbers_of x.content, flat_map (λ (y : Entry). numbers_of y.content) xs, refl, list_numbers x.content h.0, joined_all xs h.1)
 
-pub all_joined_are : PackedOnly → (xs : List Entry) (ns : List ℕ) → Joined xs ns → AllByRecursion IsListOf xs × (ns ≡ flat_map (λ (x : Entry). numbers_of x.content) xs)
-all_joined_are packed_only [] ns h = (tt, h)
-all_joined_are packed_only (x ∷ xs) ns (front, back, is, numbers, more) =
-    let here = numbers_list packed_only x.content front numbers in
-    let later = all_joined_are packed_only xs back more in
+pub all_joined_are : (xs : List Entry) (ns : List ℕ) → Joined xs ns → AllByRecursion IsListOf xs × (ns ≡ flat_map (λ (x : Entry). numbers_of x.content) xs)
+all_joined_are [] ns h = (tt, h)
+all_joined_are (x ∷ xs) ns (front, back, is, numbers, more) =
+    let here = numbers_list x.content front numbers in
+    let later = all_joined_are xs back more in
     ((here.0, later.0), is ∙ ap₂ (λ f b. f ++ b) here.1 later.1)
 
 packed_small : (d ns : List ℕ) → ArePacked d ns → AllByRecursion (λ n. n < 2 ^ 32) ns
@@ -178,24 +178,24 @@ joined_small [] ns h = subst (AllByRecursion (λ m. m < 2 ^ 32)) (sym h) tt
 joined_small (x ∷ xs) ns (front, back, is, numbers, more) =
     subst (AllByRecursion (λ m. m < 2 ^ 32)) (sym is) (all_joined (λ m. m < 2 ^ 32) front back (numbers_small x.content front numbers) (joined_small xs back more))
 
-pub joined_is : PackedClean → (payload_at k : ℕ) (xs : List Entry) → ((c : Content) → first (feature_form_rules k c) ≡ None → first (list_rules c) ≡ None) → first (each (λ _. feature_field_rules payload_at) [] xs) ≡ None → Joined (only k xs) (joined k xs)
-joined_is packed_clean payload_at k xs form clean =
-    joined_all packed_clean (only k xs) (only_form k (λ c. first (list_rules c) ≡ None) xs (of_number payload_at k (λ c. first (list_rules c) ≡ None) form xs clean))
+pub joined_is : (payload_at k : ℕ) (xs : List Entry) → ((c : Content) → first (feature_form_rules k c) ≡ None → first (list_rules c) ≡ None) → first (each (λ _. feature_field_rules payload_at) [] xs) ≡ None → Joined (only k xs) (joined k xs)
+joined_is payload_at k xs form clean =
+    joined_all (only k xs) (only_form k (λ c. first (list_rules c) ≡ None) xs (of_number payload_at k (λ c. first (list_rules c) ≡ None) form xs clean))
 
 -- what was read is the feature
-pub feature_from : SplitIs → PackedClean → (payload : List ℕ) (payload_at : ℕ) (keys : List (List ℕ)) (values : List Value) (f : Feature) → (split payload).rest ≡ [] → fields_fault payload payload_at ≡ None → f.id ≡ number_in (last_only ID (split payload).fields) → Resolved keys values (joined TAGS (split payload).fields) f.attributes → Draws (kind_in (split payload).fields) (joined GEOMETRY (split payload).fields) f.geometry → IsFeatureOf payload keys values f
-feature_from split_is packed_clean payload payload_at keys values f rest clean id resolved draws =
+pub feature_from : (payload : List ℕ) (payload_at : ℕ) (keys : List (List ℕ)) (values : List Value) (f : Feature) → (split payload).rest ≡ [] → fields_fault payload payload_at ≡ None → f.id ≡ number_in (last_only ID (split payload).fields) → Resolved keys values (joined TAGS (split payload).fields) f.attributes → Draws (kind_in (split payload).fields) (joined GEOMETRY (split payload).fields) f.geometry → IsFeatureOf payload keys values f
+feature_from payload payload_at keys values f rest clean id resolved draws =
     let xs = (split payload).fields in (
       xs,
-      whole_split split_is payload rest,
+      whole_split payload rest,
       record {
         forms = (id_form payload_at xs clean, (type_form payload_at xs clean, tt));
         id = id;
         tags = joined TAGS xs;
-        tags_are = joined_is packed_clean payload_at TAGS xs (λ c h. h) clean;
+        tags_are = joined_is payload_at TAGS xs (λ c h. h) clean;
         attributes = resolved;
         integers = joined GEOMETRY xs;
-        integers_are = joined_is packed_clean payload_at GEOMETRY xs (λ c h. h) clean;
+        integers_are = joined_is payload_at GEOMETRY xs (λ c h. h) clean;
         geometry = draws;
       },
     )

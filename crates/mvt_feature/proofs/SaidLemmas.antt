@@ -11,8 +11,8 @@ use Rattle.mvt_feature.specs.Selection.{only}
 use Rattle.mvt_feature.specs.Values.{Means, IsValueOf}
 use Rattle.mvt_feature.specs.ValueIn.{unzig, said, value_in}
 use Rattle.mvt_feature.specs.ValueRules.{kinds}
-use Rattle.mvt_feature.proofs.Below.{SplitOnly}
 use Rattle.mvt_feature.proofs.ValueLemmas.{means_kind, only_kinds}
+use Rattle.mvt_wire.proofs.WireLaws.{split_function_only}
 
 unzig-zig : (z : ℤ) → unzig (zig z) ≡ z
 unzig-zig (pos n) =
@@ -35,10 +35,10 @@ said_means n (varint m) (Sint z) h = subst (λ k. said k (varint m) ≡ Some (Si
 said_means n (varint m) (Truth b) h = subst (λ k. said k (varint m) ≡ Some (Truth b)) (sym h.0) (ap (λ x. Some (Truth x)) (sym h.1))
 said_means n c v h = absurd (search rules)
 
-pub value_said : SplitOnly → (payload : List ℕ) (v : Value) → IsValueOf payload v → value_in payload ≡ Some v
+pub value_said : (payload : List ℕ) (v : Value) → IsValueOf payload v → value_in payload ≡ Some v
 unfolding value_in
-value_said split_only payload v (xs, whole, is) =
+value_said payload v (xs, whole, is) =
     let kind = means_kind is.kind is.last.content v is.means in
     let numbered : is.last.number ≡ is.kind = last_of_all (λ (x : Entry). x.number ≡ is.kind) (only is.kind xs) is.last (only_number (λ (x : Entry). x.number) is.kind xs) is.is_last in
     let last : last_or None (kinds xs) ≡ Some is.last = ap (last_or None) (sym (only_kinds is.kind xs kind is.one)) ∙ is.is_last in
-    ap (λ fields. option_and_then (λ (x : Entry). said x.number x.content) (last_or None (kinds fields))) (sym (split_only payload [] xs whole).0) ∙ ap (option_and_then (λ (x : Entry). said x.number x.content)) last ∙ ap (λ n. said n is.last.content) numbered ∙ said_means is.kind is.last.content v is.means
+    ap (λ fields. option_and_then (λ (x : Entry). said x.number x.content) (last_or None (kinds fields))) (sym (split_function_only payload [] xs whole).0) ∙ ap (option_and_then (λ (x : Entry). said x.number x.content)) last ∙ ap (λ n. said n is.last.content) numbered ∙ said_means is.kind is.last.content v is.means

@@ -12,7 +12,6 @@ use Rattle.mvt_attrs.specs.declared.value.Value.TheVariants.{Text, Float, Double
 use Rattle.mvt_wire.specs.Field.{Content, varint, fixed64, bytes, fixed32, Entry}
 use Rattle.mvt_wire.specs.Split.{Parts, Split, Whole, split}
 use Rattle.mvt_feature.specs.declared.numbers.value.TheConstants.{STRING, FLOAT, DOUBLE, INT, UINT, SINT, BOOL}
-use Rattle.mvt_feature.proofs.Below.{SplitIs, SplitOnly, split_of}
 use Rattle.mvt_wire.specs.Zigzag.{zig}
 use Rattle.mvt_feature.specs.declared.value.Meaning.{Meaning}
 use Rattle.mvt_feature.specs.declared.value.Kinds.TheVariants.{Nothing, One, Several}
@@ -31,6 +30,7 @@ use Rattle.mvt_feature.specs.Values.{value_forms, IsKind, Means, IsValue, IsValu
 use Rattle.mvt_feature.specs.ValueIn.{unzig}
 use Rattle.mvt_feature.specs.ValueRules.{is_kind, kinds, are_one_kind, value_field_rules, value_table, value_rules, value_fault}
 use Rattle.mvt_feature.proofs.FormLemmas.{has_form, clean_at, told_clean, forms_have, forms_clean, forms_ordered}
+use Rattle.mvt_wire.proofs.WireLaws.{split_function_is, split_function_only}
 
 -- the fault of a value from its parts
 pub value_chain : (payload : List ℕ) (payload_at tag_at : ℕ) → value_fault payload payload_at tag_at ≡ firsts (value_table payload payload_at tag_at)
@@ -184,13 +184,16 @@ value_from payload_at xs last v clean one is means =
     }
 
 -- a payload that splits wholly into these fields
-pub whole_split : SplitIs → (payload : List ℕ) → (split payload).rest ≡ [] → Whole payload (split payload).fields
-whole_split split_is payload rest = subst (λ r. Split payload (split payload).fields r) rest (split_is payload)
+pub whole_split : (payload : List ℕ) → (split payload).rest ≡ [] → Whole payload (split payload).fields
+whole_split payload rest = subst (λ r. Split payload (split payload).fields r) rest (split_function_is payload)
+
+pub split_of : (payload : List ℕ) (xs : List Entry) → Whole payload xs → ((split payload).fields ≡ xs) × ((split payload).rest ≡ [])
+split_of payload xs whole = let only = split_function_only payload [] xs whole in (sym only.0, sym only.1)
 
 -- the answers of `read_value`
-pub kinds_value : SplitIs → (payload : List ℕ) (payload_at number : ℕ) (m : Meaning) → (split payload).rest ≡ [] → first (each (λ _. value_field_rules payload_at) [] (split payload).fields) ≡ None → AreKinds (split payload).fields (One number m) → IsValueOf payload (value_of m)
-kinds_value split_is payload payload_at number m rest clean (one, (last, (is, (named, means)))) =
-    ((split payload).fields, whole_split split_is payload rest, value_from payload_at (split payload).fields last (value_of m) clean one is (subst (λ n. Means n last.content (value_of m)) (sym named) means))
+pub kinds_value : (payload : List ℕ) (payload_at number : ℕ) (m : Meaning) → (split payload).rest ≡ [] → first (each (λ _. value_field_rules payload_at) [] (split payload).fields) ≡ None → AreKinds (split payload).fields (One number m) → IsValueOf payload (value_of m)
+kinds_value payload payload_at number m rest clean (one, (last, (is, (named, means)))) =
+    ((split payload).fields, whole_split payload rest, value_from payload_at (split payload).fields last (value_of m) clean one is (subst (λ n. Means n last.content (value_of m)) (sym named) means))
 
 pub kinds_clean : (payload : List ℕ) (payload_at tag_at number : ℕ) (m : Meaning) → (split payload).rest ≡ [] → first (each (λ _. value_field_rules payload_at) [] (split payload).fields) ≡ None → AreKinds (split payload).fields (One number m) → value_fault payload payload_at tag_at ≡ None
 kinds_clean payload payload_at tag_at number m rest clean are = value_clean payload payload_at tag_at (rest_none payload_at (split payload) rest) clean are.0
@@ -271,15 +274,15 @@ last_kind [] h = cc
 last_kind (x ∷ xs) h = last_there x xs
 
 -- no fault: the payload is a value
-pub value_there : SplitIs → (payload : List ℕ) (payload_at tag_at : ℕ) → value_fault payload payload_at tag_at ≡ None → (v : Value) × IsValueOf payload v
-value_there split_is payload payload_at tag_at h =
+pub value_there : (payload : List ℕ) (payload_at tag_at : ℕ) → value_fault payload payload_at tag_at ≡ None → (v : Value) × IsValueOf payload v
+value_there payload payload_at tag_at h =
     let parts = option_or-nones _ _ (sym (value_chain payload payload_at tag_at) ∙ h) in
     let later = option_or-nones _ _ parts.1 in
     let one = when_none (not (are_one_kind (kinds (split payload).fields))) (fault_at tag_at ValueKind) (option_or-nones _ _ later.1).0 in
     let kind = not-false (are_one_kind (kinds (split payload).fields)) one in
     let last = last_kind (kinds (split payload).fields) kind in
     let found = value_of_last payload_at (split payload).fields last.0 later.0 kind last.1 in
-    (found.0, ((split payload).fields, whole_split split_is payload (none_rest payload_at (split payload) parts.0), found.1))
+    (found.0, ((split payload).fields, whole_split payload (none_rest payload_at (split payload) parts.0), found.1))
 
 -- the grammar keeps the rules
 all_one : (k : ℕ) (xs : List Entry) (last : Entry) → AllByRecursion (λ (y : Entry). y.number ≡ k) xs → last_or None xs ≡ Some last → are_one_kind xs ≡ true
@@ -290,9 +293,9 @@ all_one k (x ∷ xs) last h is = go xs h.1
     go [] more = refl
     go (y ∷ ys) more = and_from _ _ (eq-eqb y.number x.number (more.0 ∙ sym h.0)) (go ys more.1)
 
-pub value_keeps : SplitOnly → (payload_at tag_at : ℕ) (payload : List ℕ) (v : Value) → IsValueOf payload v → value_fault payload payload_at tag_at ≡ None
-value_keeps split_only payload_at tag_at payload v (xs, whole, is) =
-    let only = split_of split_only payload xs whole in
+pub value_keeps : (payload : List ℕ) (payload_at tag_at : ℕ) (v : Value) → IsValueOf payload v → value_fault payload payload_at tag_at ≡ None
+value_keeps payload payload_at tag_at v (xs, whole, is) =
+    let only = split_of payload xs whole in
     let clean = values_clean payload_at xs is.forms in
     let kind = means_kind is.kind is.last.content v is.means in
     let numbers = subst (λ ys. AllByRecursion (λ (y : Entry). y.number ≡ is.kind) ys) (only_kinds is.kind xs kind is.one) (only_number (λ (x : Entry). x.number) is.kind xs) in
@@ -326,10 +329,10 @@ value_same xs v w a b =
     let last : a.last ≡ b.last = cc in
     means_same b.kind b.last.content v w (subst (λ (x : Entry). Means b.kind x.content v) last (subst (λ k. Means k a.last.content v) same a.means)) b.means
 
-pub value_once : SplitOnly → (payload : List ℕ) (v w : Value) → IsValueOf payload v → IsValueOf payload w → v ≡ w
-value_once split_only payload v w (xs, whole, is) (ys, also_whole, also_is) =
-    let a = split_of split_only payload xs whole in
-    let b = split_of split_only payload ys also_whole in
+pub value_once : (payload : List ℕ) (v w : Value) → IsValueOf payload v → IsValueOf payload w → v ≡ w
+value_once payload v w (xs, whole, is) (ys, also_whole, also_is) =
+    let a = split_of payload xs whole in
+    let b = split_of payload ys also_whole in
     value_same xs v w is (subst (λ zs. IsValue zs w) (sym b.0 ∙ a.0) also_is)
 
 -- the table is in order

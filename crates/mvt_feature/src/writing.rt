@@ -15,7 +15,6 @@ use crate::scratch::Scratch;
 use mvt_attrs::{KeyPool, PoolError, Value, ValuePool, append_tags};
 use mvt_base::LIMIT;
 use mvt_geometry::{Kind, append_geometry, kind_of};
-use mvt_wire::laws::short_lengths;
 use mvt_wire::{PackedNumbers, Payload, field_len, put_field, put_packed, varint_len, zigzag64};
 use std::alloc::AllocError;
 use std::mem::swap;
@@ -40,8 +39,6 @@ pub fn append_value(out: &mut Vec<u8>, value: &Value) -> Result<(), AllocError>
 pub fn value_len(value: &Value) -> u64
     ensures { result ≡ length (spelled (value_fields value.now)) }
 {
-    // What the proof needs to know of short spellings; it does nothing.
-    short_lengths();
     match value {
         Value::Text(text) => field_len(value::STRING, text.as_str().len() as u64),
         Value::Float(_) => 5,

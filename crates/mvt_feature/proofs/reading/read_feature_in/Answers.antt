@@ -23,7 +23,7 @@ returns-in_err-geometry-clause-err c =
 pub returns-clause-feature : goal.returns-clause-feature
 returns-clause-feature c =
     let known = c.in_ok-known.ensures.known in
-    feature_from c.split_function.ensures.is c.packed_function.ensures.clean c.args.payload.now c.args.payload_at c.args.keys.now c.args.values.now _ c.in_ok-known.ensures.whole c.in_ok-known.ensures.ok known.id
+    feature_from c.args.payload.now c.args.payload_at c.args.keys.now c.args.values.now _ c.in_ok-known.ensures.whole c.in_ok-known.ensures.ok known.id
     (rw (c.new.ensures, ← (c.deref.ensures.value ∙ known.tags_are)) c.in_ok-attributes.ensures.attributes)
     (rw (← known.kind, ← (c.deref-2.ensures.value ∙ known.integers_are)) c.in_ok-geometry.ensures.drawn)
 
