@@ -6,31 +6,21 @@ use Rattle.std.proofs.lemmas.Bool.{cases_eq, ne_eqb, false≢true}
 use Rattle.std.proofs.lemmas.Int.{ints, to_z-of_z}
 use Rattle.mvt_base.specs.Rules.{Rules, first, under, each}
 use Rattle.mvt_base.proofs.RuleLemmas.{first-append, first-under, option_or-nones}
-use Rattle.mvt_wire.specs.Zigzag.{zig}
+use Rattle.mvt_wire.proofs.WireLaws.{zigzag_function_number, zigzag_function_code}
+use Rattle.mvt_wire.specs.Zigzag.{zig, unzig}
 use Rattle.mvt_geometry.specs.declared.shape.Point.{Point}
 use Rattle.mvt_geometry.specs.Shape.{InRange, IsPlace, AreSteps, Apart, last_of}
 use Rattle.mvt_geometry.specs.Drawing.{path_from}
-use Rattle.mvt_geometry.specs.Commands.{Pair, pairs_of, unzig, stepped, moved, positions}
+use Rattle.mvt_geometry.specs.Commands.{Pair, pairs_of, stepped, moved, positions}
 use Rattle.mvt_geometry.specs.Table.{IndexedCause, step_rules, pair_rules}
 use Rattle.mvt_geometry.specs.Inner.Strokes.{pair_between, pairs_between}
 use Rattle.mvt_geometry.proofs.StepLemmas.{step_right, step_gives}
 use Rattle.mvt_geometry.proofs.WalkLemmas.{moved-append, pair_rule}
 
-pub unzig-zig : (z : ℤ) → unzig (zig z) ≡ z
-unzig-zig (pos n) = let e : (2 * n) % 2 ≡ 0 = omega arith in let h : (2 * n) / 2 ≡ n = omega arith in rw (e, h) refl
-unzig-zig (negsuc n) = let e : (2 * n + 1) % 2 ≡ 1 = omega arith in let h : (2 * n + 1) / 2 ≡ n = omega arith in rw (e, h) refl
-
-pub zig-unzig : (n : ℕ) → zig (unzig n) ≡ n
-zig-unzig n = by_parity (cases_eq (n % 2) 0)
-  where
-    by_parity : (n % 2 ≡ 0) ⊎ (n % 2 ≢ 0) → zig (unzig n) ≡ n
-    by_parity (inl e) = let h : 2 * (n / 2) ≡ n = omega (arith, e) in rw e h
-    by_parity (inr o) = let t : eqb (n % 2) 0 ≡ false = ne_eqb (n % 2) 0 o in let h : 2 * (n / 2) + 1 ≡ n = omega (arith, o) in rw t h
-
 -- a coordinate moved by a parameter
 pub moved_number : (x z a b : ℤ) (n : ℕ) → a ≡ x → b ≡ z → zig z ≡ n → InRange (x +ℤ unzig n) → to_z w32 (of_z w32 (a +ℤ b)) ≡ x +ℤ unzig n
 moved_number x z a b n e f is range =
-    let sum : a +ℤ b ≡ x +ℤ unzig n = ap₂ (λ u v. u +ℤ v) e (f ∙ sym (unzig-zig z) ∙ ap unzig is) in
+    let sum : a +ℤ b ≡ x +ℤ unzig n = ap₂ (λ u v. u +ℤ v) e (f ∙ sym (zigzag_function_number z) ∙ ap unzig is) in
     let low : negsuc 2147483646 ≤ℤ (x +ℤ unzig n) = range.low in
     let high : (x +ℤ unzig n) ≤ℤ pos 2147483647 = range.high in
     rw sum (to_z-of_z w32 (x +ℤ unzig n) (omega (arith, ints, low, high)))
@@ -44,14 +34,14 @@ forth a b = omega (arith, ints)
 
 pub stepped-between : (p q : Point) → stepped p (pair_between p q) ≡ q
 stepped-between p q =
-    let x = ap (λ z. p.x +ℤ z) (unzig-zig (q.x -ℤ p.x)) ∙ back p.x q.x in
-    let y = ap (λ z. p.y +ℤ z) (unzig-zig (q.y -ℤ p.y)) ∙ back p.y q.y in
+    let x = ap (λ z. p.x +ℤ z) (zigzag_function_number (q.x -ℤ p.x)) ∙ back p.x q.x in
+    let y = ap (λ z. p.y +ℤ z) (zigzag_function_number (q.y -ℤ p.y)) ∙ back p.y q.y in
     ap₂ (λ (a b : ℤ). let r : Point = record { x = a; y = b } in r) x y
 
 pub between-stepped : (p : Point) (d : Pair) → pair_between p (stepped p d) ≡ d
 between-stepped p d =
-    let x = ap zig (forth p.x (unzig d.dx)) ∙ zig-unzig d.dx in
-    let y = ap zig (forth p.y (unzig d.dy)) ∙ zig-unzig d.dy in
+    let x = ap zig (forth p.x (unzig d.dx)) ∙ zigzag_function_code d.dx in
+    let y = ap zig (forth p.y (unzig d.dy)) ∙ zigzag_function_code d.dy in
     ap₂ (λ (a b : ℕ). let r : Pair = record { dx = a; dy = b } in r) x y
 
 pub positions-between : (c : Point) (ps : List Point) → positions c (pairs_between c ps) ≡ ps

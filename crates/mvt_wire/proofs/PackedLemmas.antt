@@ -17,6 +17,7 @@ use Rattle.mvt_wire.specs.Fronts.{number_at}
 use Rattle.mvt_wire.specs.Inner.{error_of}
 use Rattle.mvt_wire.specs.Packed.{ArePacked, SplitNumbers, Numbers, ahead, packed_within, packed, PackedCause, truncated, varint_range, number_range, number_cause, is_nil, small_rules, packed_rules, TellsPacked}
 use Rattle.mvt_wire.specs.Spelling.{short_numbers}
+use Rattle.mvt_wire.proofs.PieceLemmas.{Takes, all_step, induct}
 use Rattle.mvt_wire.proofs.VarintLemmas.{number_spelled, number_seen, number_none, number_none_from}
 use Rattle.mvt_wire.proofs.ShortLemmas.{short_spells, short_length}
 use Rattle.mvt_wire.proofs.StepLemmas.{nil_spells}
@@ -41,24 +42,9 @@ within_stop (suc k) b c e = rw (e, packed_within) refl
 found_size : (b : List ℕ) (found : ℕ × ℕ) → number_at b ≡ Ok found → (1 ≤ found.1) × (found.1 ≤ length b)
 found_size b found e = let seen = number_seen b found.0 found.1 e in (seen.0, seen.1)
 
-fuel_by : (m n : ℕ) (b : List ℕ) (r : Result (ℕ × ℕ) WireCause) → number_at b ≡ r → length b ≤ suc m → length b ≤ suc n
-    → ((b' : List ℕ) → length b' ≤ m → length b' ≤ n → packed_within m b' ≡ packed_within n b')
-    → packed_within (suc m) b ≡ packed_within (suc n) b
-fuel_by m n b (Ok found) e hm hn rec =
-    let size = found_size b found e in
-    let some : 1 ≤ found.1 = size.0 in
-    let rest : length (drop found.1 b) ≡ length b - found.1 = length-drop found.1 b in
-    within_step m b found e ∙ ap (ahead found.0) (rec (drop found.1 b) (omega arith) (omega arith)) ∙ sym (within_step n b found e)
-fuel_by m n b (Err c) e hm hn rec = within_stop (suc m) b c e ∙ sym (within_stop (suc n) b c e)
-
-nil_stops : (k : ℕ) (b : List ℕ) (r : Result (ℕ × ℕ) WireCause) → number_at b ≡ r → length b ≤ 0 → packed_within k b ≡ no_numbers b
-nil_stops k b (Ok found) e h = absurd (let size = found_size b found e in omega (arith, size.0, size.1))
-nil_stops k b (Err c) e h = within_stop k b c e
-
-packed_fuel : (m n : ℕ) (b : List ℕ) → length b ≤ m → length b ≤ n → packed_within m b ≡ packed_within n b
-packed_fuel zero n b hm hn = nil_stops zero b (number_at b) refl hm ∙ sym (nil_stops n b (number_at b) refl hm)
-packed_fuel (suc m) zero b hm hn = nil_stops (suc m) b (number_at b) refl hn ∙ sym (nil_stops zero b (number_at b) refl hn)
-packed_fuel (suc m) (suc n) b hm hn = fuel_by m n b (number_at b) refl hm hn (λ b' hm' hn'. packed_fuel m n b' hm' hn')
+-- numbers have no places
+takes_numbers : Takes (λ _. number_at) ahead (λ _. no_numbers) (λ n _. packed_within n)
+takes_numbers = record { step = λ n _. within_step n; stop = λ n _. within_stop n; size = λ _. found_size }
 
 pub packed_stop : (b : List ℕ) (c : WireCause) → number_at b ≡ Err c → packed b ≡ no_numbers b
 unfolding packed
@@ -66,34 +52,18 @@ packed_stop b c e = within_stop (length b) b c e
 
 pub packed_step : (b : List ℕ) (found : ℕ × ℕ) → number_at b ≡ Ok found → packed b ≡ ahead found.0 (packed (drop found.1 b))
 unfolding packed
-packed_step b found e =
-    let size = found_size b found e in
-    let some : 1 ≤ found.1 = size.0 in
-    let rest : length (drop found.1 b) ≡ length b - found.1 = length-drop found.1 b in
-    packed_fuel (length b) (suc (length b)) b (omega arith) (omega arith)
-    ∙ within_step (length b) b found e
-    ∙ ap (ahead found.0) (packed_fuel (length b) (length (drop found.1 b)) (drop found.1 b) (omega arith) (omega arith))
+packed_step b found e = all_step (λ _. number_at) ahead (λ _. no_numbers) (λ n _. packed_within n) takes_numbers 0 b found e
 
 -- ---- the function and the relation
 
-is_by : (b : List ℕ) (r : Result (ℕ × ℕ) WireCause) → number_at b ≡ r → ((b' : List ℕ) → length b' < length b → SplitNumbers b' (packed b').numbers (packed b').rest)
-    → SplitNumbers b (packed b).numbers (packed b).rest
-is_by b (Ok found) e rec =
-    let seen = number_seen b found.0 found.1 e in
-    let some : 1 ≤ found.1 = seen.0 in
-    let within : found.1 ≤ length b = seen.1 in
-    let left : length (drop found.1 b) ≡ length b - found.1 = length-drop found.1 b in
-    subst (λ (p : Numbers). SplitNumbers b p.numbers p.rest) (sym (packed_step b found e))
-    (take found.1 b, drop found.1 b, sym (take-append-drop found.1 b), seen.2, rec (drop found.1 b) (omega arith))
-is_by b (Err c) e rec =
-    subst (λ (p : Numbers). SplitNumbers b p.numbers p.rest) (sym (packed_stop b c e)) (refl, (number_none b c e).0)
-
-is_within : (k : ℕ) (b : List ℕ) → length b ≤ k → SplitNumbers b (packed b).numbers (packed b).rest
-is_within zero b h = is_by b (number_at b) refl (λ b' less. absurd (omega arith))
-is_within (suc k) b h = is_by b (number_at b) refl (λ b' less. is_within k b' (omega arith))
-
 pub packed_is : (b : List ℕ) → SplitNumbers b (packed b).numbers (packed b).rest
-packed_is b = is_within (length b) b (omega arith)
+unfolding packed
+packed_is b =
+    induct (λ _. number_at) ahead (λ _. no_numbers) (λ n _. packed_within n) takes_numbers
+    (λ _ b p. SplitNumbers b p.numbers p.rest)
+    (λ _ b c e. (refl, (number_none b c e).0))
+    (λ _ b found e more. (take found.1 b, drop found.1 b, sym (take-append-drop found.1 b), (number_seen b found.0 found.1 e).2, more))
+    0 b
 
 pub packed_front : (front back : List ℕ) (n : ℕ) → Spells front n → packed (front ++ back) ≡ ahead n (packed back)
 packed_front front back n s =

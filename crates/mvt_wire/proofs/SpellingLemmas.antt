@@ -1,14 +1,15 @@
 -- The shortest spellings of fields: what they spell, and how long they are.
-use Rattle.std.proofs.Common.{◌≡◌, ℕ, ◌+◌, ◌*◌, ◌^◌, ◌<◌, ◌≤◌, List, [], ◌∷◌, length, map, refl, sym, ap, ◌∙◌, arith, append-nil}
+use Rattle.std.proofs.Common.{◌≡◌, ℕ, ◌+◌, ◌*◌, ◌^◌, ◌<◌, ◌≤◌, List, [], ◌∷◌, ◌++◌, length, map, refl, sym, ap, ◌∙◌, arith, append-nil}
 use Rattle.std.specs.List.{AllByRecursion}
 use Rattle.std.proofs.lemmas.List.{length-append}
+use Rattle.std.proofs.lemmas.List.Concat.{flat_map-append}
 use Rattle.byteorder.specs.Endian.{little_number, little_bytes}
 use Rattle.byteorder.specs.Numbers.{little_number-reads_back, length-bytes_low_first}
 use Rattle.mvt_wire.specs.Varint.{short}
 use Rattle.mvt_wire.specs.Field.{Content, varint, fixed64, bytes, fixed32, wire_type, IsPayload, IsField, Entry, body_size, IsFieldAt}
 use Rattle.mvt_wire.specs.Spelling.{short_payload, short_field, short_numbers, Plain, plain_of, spelled, IsWholeAs, FitsContent, IsFit}
 use Rattle.mvt_wire.specs.Split.{SplitFrom}
-use Rattle.mvt_wire.proofs.ShortLemmas.{short_spells, short_some}
+use Rattle.mvt_wire.proofs.ShortLemmas.{short_spells, short_some, short_most, short_length_one}
 use Rattle.mvt_wire.proofs.FieldLemmas.{wire_type_small}
 use Rattle.mvt_wire.proofs.StepLemmas.{nil_none}
 use Rattle.mvt_wire.proofs.SplitLemmas.{split_only}
@@ -83,11 +84,19 @@ whole_once b fs gs p q =
     let right = split_only 0 b [] q.0 q.1 in
     sym p.2 ∙ ap (map plain_of) (sym left.0 ∙ right.0) ∙ q.2
 
+pub spelled-append : (fs gs : List Plain) → spelled (fs ++ gs) ≡ spelled fs ++ spelled gs
+spelled-append fs gs = flat_map-append (λ (f : Plain). short_field f.number f.content) fs gs
+
 -- ---- lengths
 
 pub bytes_longer : (number : ℕ) (d : List ℕ) → length d + 2 ≤ length (short_field number (bytes d))
 bytes_longer number d =
     omega (arith, length-short_field number (bytes d), length-append (short (length d)) d, short_some (8 * number + 2), short_some (length d))
+
+pub length-bytes : (number : ℕ) (d : List ℕ) → number < 16 → length (short_field number (bytes d)) ≤ 11 + length d
+length-bytes number d small =
+    let tag = short_length_one (8 * number + 2) (omega arith) in
+    omega (arith, length-short_field number (bytes d), length-append (short (length d)) d, tag, short_most (length d))
 
 pub numbers_longer : (ns : List ℕ) → length ns ≤ length (short_numbers ns)
 numbers_longer [] = omega arith

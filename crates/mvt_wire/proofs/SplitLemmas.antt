@@ -11,6 +11,7 @@ use Rattle.mvt_wire.specs.Fields.{bytes_size, EndsBy}
 use Rattle.mvt_wire.specs.Fronts.{entry_at, rest_cause}
 use Rattle.mvt_wire.specs.Rest.{IsPayloadCause, no_type, no_varint, no_length, past_end, no_eight, no_four, IsRestCause, no_tag, no_number, no_payload}
 use Rattle.mvt_wire.specs.Split.{SplitFrom, Parts, behind, no_fields, split_within, split_from, shifted, shifted_parts}
+use Rattle.mvt_wire.proofs.PieceLemmas.{Takes, all_step, induct}
 use Rattle.mvt_wire.proofs.FieldLemmas.{entry_cause, entry_found, entry_front, entry_none, entry_none_from, entry_why, rest_cause_is}
 
 -- ---- one step of the function
@@ -28,84 +29,43 @@ within_stop (suc n) at b c e = rw (e, split_within) refl
 found_size : (at : ℕ) (b : List ℕ) (found : Entry × ℕ) → entry_at at b ≡ Ok found → (1 ≤ found.1) × (found.1 ≤ length b)
 found_size at b found e = let seen = entry_found at b found e in (seen.0, seen.1)
 
--- more fuel than bytes changes nothing
-fuel_by : (m n at : ℕ) (b : List ℕ) (r : Result (Entry × ℕ) WireCause) → entry_at at b ≡ r → length b ≤ suc m → length b ≤ suc n
-    → ((at' : ℕ) (b' : List ℕ) → length b' ≤ m → length b' ≤ n → split_within m at' b' ≡ split_within n at' b')
-    → split_within (suc m) at b ≡ split_within (suc n) at b
-fuel_by m n at b (Ok found) e hm hn rec =
-    let size = found_size at b found e in
-    let some : 1 ≤ found.1 = size.0 in
-    let rest : length (drop found.1 b) ≡ length b - found.1 = length-drop found.1 b in
-    within_step m at b found e ∙ ap (behind found.0) (rec (at + found.1) (drop found.1 b) (omega arith) (omega arith)) ∙ sym (within_step n at b found e)
-fuel_by m n at b (Err c) e hm hn rec = within_stop (suc m) at b c e ∙ sym (within_stop (suc n) at b c e)
-
-nil_stops : (n at : ℕ) (b : List ℕ) (r : Result (Entry × ℕ) WireCause) → entry_at at b ≡ r → length b ≤ 0 → split_within n at b ≡ no_fields at b
-nil_stops n at b (Ok found) e h = absurd (let size = found_size at b found e in omega (arith, size.0, size.1))
-nil_stops n at b (Err c) e h = within_stop n at b c e
-
-pub split_fuel : (m n at : ℕ) (b : List ℕ) → length b ≤ m → length b ≤ n → split_within m at b ≡ split_within n at b
-split_fuel zero n at b hm hn = nil_stops zero at b (entry_at at b) refl hm ∙ sym (nil_stops n at b (entry_at at b) refl hm)
-split_fuel (suc m) zero at b hm hn = nil_stops (suc m) at b (entry_at at b) refl hn ∙ sym (nil_stops zero at b (entry_at at b) refl hn)
-split_fuel (suc m) (suc n) at b hm hn = fuel_by m n at b (entry_at at b) refl hm hn (λ at' b' hm' hn'. split_fuel m n at' b' hm' hn')
+takes_fields : Takes entry_at behind no_fields split_within
+takes_fields = record { step = within_step; stop = within_stop; size = found_size }
 
 pub split_stop : (at : ℕ) (b : List ℕ) (c : WireCause) → entry_at at b ≡ Err c → split_from at b ≡ no_fields at b
 unfolding split_from
 split_stop at b c e = within_stop (length b) at b c e
 
-pub split_step : (at : ℕ) (b : List ℕ) (found : Entry × ℕ) → entry_at at b ≡ Ok found → split_from at b ≡ behind found.0 (split_from (at + found.1) (drop found.1 b))
+pub split_step : (at : ℕ) (b : List ℕ) (found : Entry × ℕ) → entry_at at b ≡ Ok found
+    → split_from at b ≡ behind found.0 (split_from (at + found.1) (drop found.1 b))
 unfolding split_from
-split_step at b found e =
-    let size = found_size at b found e in
-    let some : 1 ≤ found.1 = size.0 in
-    let rest : length (drop found.1 b) ≡ length b - found.1 = length-drop found.1 b in
-    split_fuel (length b) (suc (length b)) at b (omega arith) (omega arith)
-    ∙ within_step (length b) at b found e
-    ∙ ap (behind found.0) (split_fuel (length b) (length (drop found.1 b)) (at + found.1) (drop found.1 b) (omega arith) (omega arith))
-
--- ---- induction over a split
-
-induct_by : (P : ℕ → List ℕ → Parts → Type 0)
-    → ((at : ℕ) (b : List ℕ) (c : WireCause) → entry_at at b ≡ Err c → P at b (no_fields at b))
-    → ((at : ℕ) (b : List ℕ) (found : Entry × ℕ) (parts : Parts) → entry_at at b ≡ Ok found → parts ≡ split_from (at + found.1) (drop found.1 b) → P (at + found.1) (drop found.1 b) parts → P at b (behind found.0 parts))
-    → (at : ℕ) (b : List ℕ) (r : Result (Entry × ℕ) WireCause) → entry_at at b ≡ r
-    → ((at' : ℕ) (b' : List ℕ) → length b' < length b → P at' b' (split_from at' b')) → P at b (split_from at b)
-induct_by P stop step at b (Ok found) e rec =
-    let size = found_size at b found e in
-    let some : 1 ≤ found.1 = size.0 in
-    let within : found.1 ≤ length b = size.1 in
-    let rest : length (drop found.1 b) ≡ length b - found.1 = length-drop found.1 b in
-    subst (P at b) (sym (split_step at b found e)) (step at b found (split_from (at + found.1) (drop found.1 b)) e refl (rec (at + found.1) (drop found.1 b) (omega arith)))
-induct_by P stop step at b (Err c) e rec = subst (P at b) (sym (split_stop at b c e)) (stop at b c e)
-
-induct_within : (P : ℕ → List ℕ → Parts → Type 0)
-    → ((at : ℕ) (b : List ℕ) (c : WireCause) → entry_at at b ≡ Err c → P at b (no_fields at b))
-    → ((at : ℕ) (b : List ℕ) (found : Entry × ℕ) (parts : Parts) → entry_at at b ≡ Ok found → parts ≡ split_from (at + found.1) (drop found.1 b) → P (at + found.1) (drop found.1 b) parts → P at b (behind found.0 parts))
-    → (n at : ℕ) (b : List ℕ) → length b ≤ n → P at b (split_from at b)
-induct_within P stop step zero at b h = induct_by P stop step at b (entry_at at b) refl (λ at' b' less. absurd (omega arith))
-induct_within P stop step (suc n) at b h = induct_by P stop step at b (entry_at at b) refl (λ at' b' less. induct_within P stop step n at' b' (omega arith))
+split_step at b found e = all_step entry_at behind no_fields split_within takes_fields at b found e
 
 pub split_induct : (P : ℕ → List ℕ → Parts → Type 0)
     → ((at : ℕ) (b : List ℕ) (c : WireCause) → entry_at at b ≡ Err c → P at b (no_fields at b))
-    → ((at : ℕ) (b : List ℕ) (found : Entry × ℕ) (parts : Parts) → entry_at at b ≡ Ok found → parts ≡ split_from (at + found.1) (drop found.1 b) → P (at + found.1) (drop found.1 b) parts → P at b (behind found.0 parts))
+    → ((at : ℕ) (b : List ℕ) (found : Entry × ℕ) (parts : Parts) → entry_at at b ≡ Ok found → P (at + found.1) (drop found.1 b) parts
+      → P at b (behind found.0 parts))
     → (at : ℕ) (b : List ℕ) → P at b (split_from at b)
-split_induct P stop step at b = induct_within P stop step (length b) at b (omega arith)
+unfolding split_from
+split_induct P stop step =
+    induct entry_at behind no_fields split_within takes_fields P stop (λ at b found e more. step at b found _ e more)
 
 -- ---- what a split is
 
 pub split_place : (at : ℕ) (b : List ℕ) → (split_from at b).rest_at + length (split_from at b).rest ≡ at + length b
 split_place =
     split_induct (λ at b parts. parts.rest_at + length parts.rest ≡ at + length b) (λ at b c e. refl)
-    (λ at b found parts e is more. let size = found_size at b found e in let rest = length-drop found.1 b in omega (arith, size.0, size.1, rest, more))
+    (λ at b found parts e more. let size = found_size at b found e in let rest = length-drop found.1 b in omega (arith, size.0, size.1, rest, more))
 
 pub split_ends : (at : ℕ) (b : List ℕ) → at ≤ (split_from at b).rest_at
 split_ends =
     split_induct (λ at b parts. at ≤ parts.rest_at) (λ at b c e. omega arith)
-    (λ at b found parts e is more. omega (arith, more))
+    (λ at b found parts e more. omega (arith, more))
 
 pub split_is : (at : ℕ) (b : List ℕ) → SplitFrom at b (split_from at b).fields (split_from at b).rest
 split_is =
     split_induct (λ at b parts. SplitFrom at b parts.fields parts.rest) (λ at b c e. (refl, entry_none at b c e))
-    (λ at b found parts e is more.
+    (λ at b found parts e more.
     let seen = entry_found at b found e in
     let size : length (take found.1 b) ≡ found.1 = length-take-le found.1 b seen.1 in (
       take found.1 b,
@@ -207,7 +167,7 @@ pub split_joined : (at : ℕ) (b more : List ℕ) → split_from at (b ++ more) 
 split_joined at b more =
     split_induct (λ at b parts. (more : List ℕ) → split_from at (b ++ more) ≡ joined_to parts.fields (split_from parts.rest_at (parts.rest ++ more)))
     (λ at b c e more. refl)
-    (λ at b found parts e is rec more.
+    (λ at b found parts e rec more.
     let seen = found_size at b found e in
     split_step at (b ++ more) found (field_stays at found.1 b more found.0 e)
     ∙ ap (λ s. behind found.0 (split_from (at + found.1) s)) (drop-append-le found.1 b more seen.1)
@@ -218,12 +178,12 @@ split_joined at b more =
 pub split_count : (at : ℕ) (b : List ℕ) → length (split_from at b).fields + length (split_from at b).rest ≤ length b
 split_count =
     split_induct (λ at b parts. length parts.fields + length parts.rest ≤ length b) (λ at b c e. omega arith)
-    (λ at b found parts e is more. let size = found_size at b found e in let rest = length-drop found.1 b in omega (arith, size.0, size.1, rest, more))
+    (λ at b found parts e more. let size = found_size at b found e in let rest = length-drop found.1 b in omega (arith, size.0, size.1, rest, more))
 
 -- no field begins at the rest
 pub split_rest : (at : ℕ) (b : List ℕ) → StartsNoField (split_from at b).rest
 split_rest =
-    split_induct (λ at b parts. StartsNoField parts.rest) (λ at b c e. entry_none at b c e) (λ at b found parts e is more. more)
+    split_induct (λ at b parts. StartsNoField parts.rest) (λ at b c e. entry_none at b c e) (λ at b found parts e more. more)
 
 pub rest_stays : (b more : List ℕ) → StartsNoField b → rest_cause b ≢ Truncated → StartsNoField (b ++ more) × (rest_cause (b ++ more) ≡ rest_cause b)
 rest_stays b more none other =
@@ -250,7 +210,7 @@ pub split_shifts : (k at : ℕ) (b : List ℕ) → split_from (k + at) b ≡ shi
 split_shifts k =
     split_induct (λ at b parts. split_from (k + at) b ≡ shifted_parts k parts)
     (λ at b c e. split_stop (k + at) b c (entry_cause (k + at) b c (entry_why at b c e)))
-    (λ at b found parts e is more.
+    (λ at b found parts e more.
     split_step (k + at) b (shifted k found.0, found.1) (found_shifts k at b found e)
     ∙ ap (λ n. behind (shifted k found.0) (split_from n (drop found.1 b))) (add_assoc k at found.1)
     ∙ ap (behind (shifted k found.0)) more)
