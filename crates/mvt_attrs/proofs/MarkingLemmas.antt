@@ -3,6 +3,7 @@ use Rattle.std.proofs.Common.{◌≡◌, ℕ, ◌+◌, ◌<◌, ◌≤◌, ◌==
 use Rattle.std.specs.Map.{update}
 use Rattle.std.specs.Option.{unwrap_or}
 use Rattle.std.proofs.Math.Seq.{get_or-append_seam}
+use Rattle.std.proofs.Math.Bool.{or-true, or-false}
 use Rattle.std.proofs.lemmas.Bool.{eq-eqb, ne_eqb, not-true, not-false, cases_lt, cases_eq, false≢true}
 use Rattle.std.proofs.lemmas.List.{get_or-set_same, get_or-set_other, get_or_past, get_or_append_left, length_push}
 use Rattle.std.proofs.lemmas.List.Folds.{list_any-append}
@@ -198,21 +199,13 @@ marked_more texts places marks turn attributes k a groups room at marked = λ i 
     (λ (e : get_or places i 0 ≡ get_or places k 0).
     let one : a.key ≡ text = groups.apart k i a.key text at at_i (sym e) in
     eq-eqb _ _ (ap (λ p. get_or (set marks (get_or places k 0) turn) p 0) e ∙ get_or-set_same marks (get_or places k 0) turn 0 lt)
-    ∙ sym (whole ∙ ap (λ b. has_key text attributes || (b || false)) ((bytes_eq-Decides a.key text).1 one) ∙ or_true (has_key text attributes)))
+    ∙ sym (whole ∙ ap (λ b. has_key text attributes || (b || false)) ((bytes_eq-Decides a.key text).1 one) ∙ or-true (has_key text attributes)))
     (λ (ne : get_or places i 0 ≡ get_or places k 0 → ⊥).
     let two : bytes_eq a.key text ≡ false = differs text i at_i ne in
     ap (λ m. m == turn) (get_or-set_other marks (get_or places k 0) (get_or places i 0) turn 0 ne) ∙ marked i text at_i
-    ∙ sym (whole ∙ ap (λ b. has_key text attributes || (b || false)) two ∙ or_false (has_key text attributes)))
+    ∙ sym (whole ∙ ap (λ b. has_key text attributes || (b || false)) two ∙ or-false (has_key text attributes)))
     (cases_eq (get_or places i 0) (get_or places k 0))
   where
-    or_true : (b : Bool) → (b || true) ≡ true
-    or_true true = refl
-    or_true false = refl
-
-    or_false : (b : Bool) → (b || false) ≡ b
-    or_false true = refl
-    or_false false = refl
-
     differs : (text : List ℕ) (i : ℕ) → slice_get texts i ≡ Some text → (get_or places i 0 ≡ get_or places k 0 → ⊥) → bytes_eq a.key text ≡ false
     differs text i at_i ne = by (bytes_eq a.key text) refl
       where

@@ -70,11 +70,6 @@ names_more keys keys_after values values_after tags attributes i a k v names wit
 pub names_none : (keys : List (List ℕ)) (values : List Value) → Names keys values [] []
 names_none keys values = record { twice = omega arith; key = λ i a at. cc; value = λ i a at. cc }
 
--- what holds at one number holds at some number
-pub on_err_at : {T E : Type 0} → (P : ℕ → Type 0) (r : Result T E) (n : ℕ) → P n → OnErr r ((m : ℕ) × P m)
-on_err_at P (Ok x) n h = tt
-on_err_at P (Err e) n h = (n, h)
-
 -- pools behind attributes placed, where each entry that is met is placed or its pool is full
 pub keys_more : (held pool after : List (List ℕ)) (attributes : List Attribute) (i : ℕ) (a : Attribute) (key : List ℕ)
     → pool ≡ key_pool held (take i attributes) → i < length attributes → a ≡ get_or attributes i a → key ≡ a.key → IsPut pool after key

@@ -9,6 +9,7 @@ use Rattle.std.proofs.lemmas.Slice.Eq.{bytes_eq-Decides}
 use Rattle.mvt_base.specs.Related.{AreRelated}
 use Rattle.mvt_base.specs.Rules.{when, under, each, first}
 use Rattle.mvt_base.proofs.RuleLemmas.{first-append, first-under, option_or-nones, option_or-none}
+use Rattle.mvt_base.proofs.TableLemmas.{when_none}
 use Rattle.mvt_base.proofs.ListLemmas.{related-append, related_once}
 use Rattle.mvt_attrs.specs.declared.value.Value.{Value}
 use Rattle.mvt_attrs.specs.declared.value.Attribute.{Attribute}
@@ -84,10 +85,6 @@ related_from_names keys values (k ∷ (v ∷ tags)) (a ∷ as') names = (
 
 -- ---- a pair without a fault
 
-when_none : {F : Type 0} (b : Bool) (f : F) → first (when b f) ≡ None → b ≡ false
-when_none false f e = refl
-when_none true f e = cc
-
 pub record IsFaultless (keys : List (List ℕ)) (values : List Value) (front : List (ℕ × ℕ)) (pair : ℕ × ℕ) : Type 0 where
   pub key : nat_le (length keys) pair.0 ≡ false
   pub value : nat_le (length values) pair.1 ≡ false
@@ -120,6 +117,10 @@ distinct_each keys values front (p ∷ ps) seen (a ∷ as') before related clean
     subst HasDistinctKeys (append_assoc seen (a ∷ []) as')
     (distinct_each keys values (front ++ p ∷ []) ps (seen ++ a ∷ []) as' (related-append (NamesOne keys values) front seen (p ∷ []) (a ∷ []) before (related.0, tt)) related.1 parts.1 wider)
 
+pub there : {X : Type 0} (xs : List X) (i : ℕ) → i < length xs → (x : X) × (slice_get xs i ≡ Some x)
+there [] i within = absurd (omega arith)
+there (x ∷ xs) i within = (get_or (x ∷ xs) i x, slice_get-get_or (x ∷ xs) i x within)
+
 there_each : (keys : List (List ℕ)) (values : List Value) (front ps : List (ℕ × ℕ)) → first (each (rules_of_pair keys values) front ps) ≡ None
     → (attributes : List Attribute) × AreRelated (NamesOne keys values) ps attributes
 there_each keys values front [] clean = ([], tt)
@@ -130,10 +131,6 @@ there_each keys values front (p ∷ ps) clean =
     let key = there keys p.0 (leb-false (length keys) p.0 here.key) in
     let value = there values p.1 (leb-false (length values) p.1 here.value) in
     (record { key = key.0; value = value.0 } ∷ rest.0, ((key.1, value.1), rest.1))
-  where
-    there : {X : Type 0} (xs : List X) (i : ℕ) → i < length xs → (x : X) × (slice_get xs i ≡ Some x)
-    there [] i within = absurd (omega arith)
-    there (x ∷ xs) i within = (get_or (x ∷ xs) i x, slice_get-get_or (x ∷ xs) i x within)
 
 clean_each : (keys : List (List ℕ)) (values : List Value) (front ps : List (ℕ × ℕ)) (seen attributes : List Attribute)
     → AreRelated (NamesOne keys values) front seen → AreRelated (NamesOne keys values) ps attributes
