@@ -22,7 +22,7 @@ use Rattle.mvt_wire.specs.Zigzag.{zig}
 use Rattle.mvt_feature.specs.declared.numbers.feature.TheConstants.{ID, TAGS, TYPE, GEOMETRY}
 use Rattle.mvt_feature.specs.declared.numbers.value.TheConstants.{STRING}
 use Rattle.mvt_feature.specs.declared.feature.Feature.{Feature}
-use Rattle.mvt_feature.specs.Canonical.{plain, value_field, value_fields, id_fields, tags_fields, type_number, drawing_fields, feature_fields}
+use Rattle.mvt_feature.specs.Canonical.{plain, field_of_value, value_fields, id_fields, tags_fields, type_number, drawing_fields, feature_fields}
 use Rattle.mvt_feature.specs.Features.{Joined, number_of, number_in, kind_numbered, kind_of_type, IsFeature, IsFeatureOf}
 use Rattle.mvt_feature.specs.Forms.{any_varint, geom_type, HasForm, number_rules}
 use Rattle.mvt_feature.specs.Selection.{only}
@@ -31,9 +31,8 @@ use Rattle.mvt_feature.specs.Values.{value_forms, Means, IsValue, IsValueOf}
 use Rattle.mvt_feature.specs.ValueRules.{kinds, are_one_kind, value_field_rules}
 use Rattle.mvt_feature.proofs.TextLemmas.{text_clean}
 use Rattle.mvt_feature.proofs.ValueLemmas.{value_from, rules_clean}
-use Rattle.mvt_feature.proofs.WritingLemmas.{spelled-append}
 use Rattle.mvt_geometry.proofs.GeometryLaws.{drawn_small}
-use Rattle.mvt_wire.proofs.WireLaws.{short_lengths_bytes, short_packed_packed, spelled_whole_whole}
+use Rattle.mvt_wire.proofs.WireLaws.{short_lengths_bytes, short_packed_packed, spelled_parts, spelled_whole_whole}
 
 -- fields that are one plain field
 pub one_of : (xs : List Entry) (p : Plain) → map plain_of xs ≡ p ∷ [] → (x : Entry) × (xs ≡ x ∷ []) × (plain_of x ≡ p)
@@ -47,7 +46,7 @@ none_of (x ∷ xs) h = cc
 
 -- ---- values
 
-value_clean : (v : Value) → ValidValue v → first (number_rules value_forms (value_field v).number (value_field v).content) ≡ None
+value_clean : (v : Value) → ValidValue v → first (number_rules value_forms (field_of_value v).number (field_of_value v).content) ≡ None
 value_clean (Text text) h = text_clean text h
 value_clean (Float bits) h = refl
 value_clean (Double bits) h = refl
@@ -60,7 +59,7 @@ truth_of : (b : Bool) → b ≡ not ((if b then 1 else 0) == 0)
 truth_of true = refl
 truth_of false = refl
 
-value_means : (v : Value) → ValidValue v → Means (value_field v).number (value_field v).content v
+value_means : (v : Value) → ValidValue v → Means (field_of_value v).number (field_of_value v).content v
 value_means (Text text) h = (refl, refl)
 value_means (Float bits) h = (refl, refl)
 value_means (Double bits) h = (refl, refl)
@@ -69,7 +68,7 @@ value_means (Uint n) h = (refl, refl)
 value_means (Sint z) h = (refl, refl)
 value_means (Truth b) h = (refl, truth_of b)
 
-value_kind : (at body : ℕ) (v : Value) → kinds (record { at = at; body = body; number = (value_field v).number; content = (value_field v).content } ∷ []) ≡ record { at = at; body = body; number = (value_field v).number; content = (value_field v).content } ∷ []
+value_kind : (at body : ℕ) (v : Value) → kinds (record { at = at; body = body; number = (field_of_value v).number; content = (field_of_value v).content } ∷ []) ≡ record { at = at; body = body; number = (field_of_value v).number; content = (field_of_value v).content } ∷ []
 value_kind at body (Text text) = refl
 value_kind at body (Float bits) = refl
 value_kind at body (Double bits) = refl
@@ -79,17 +78,17 @@ value_kind at body (Sint z) = refl
 value_kind at body (Truth b) = refl
 
 -- a value's own field is the value
-value_at : (at body : ℕ) (v : Value) → ValidValue v → IsValue (record { at = at; body = body; number = (value_field v).number; content = (value_field v).content } ∷ []) v
+value_at : (at body : ℕ) (v : Value) → ValidValue v → IsValue (record { at = at; body = body; number = (field_of_value v).number; content = (field_of_value v).content } ∷ []) v
 value_at at body v h =
-    let x : Entry = record { at = at; body = body; number = (value_field v).number; content = (value_field v).content } in
+    let x : Entry = record { at = at; body = body; number = (field_of_value v).number; content = (field_of_value v).content } in
     let kind = value_kind at body v in
     value_from 0 (x ∷ []) x v (each_none (value_field_rules 0) [] (x ∷ []) (rules_clean 0 x (value_clean v h), tt)) (ap are_one_kind kind) (ap (last_or None) kind) (value_means v h)
 
 pub value_reads : (xs : List Entry) (v : Value) → map plain_of xs ≡ value_fields v → ValidValue v → IsValue xs v
 value_reads xs v is h =
-    let one = one_of xs (value_field v) is in
+    let one = one_of xs (field_of_value v) is in
     let x = one.0 in
-    let same : x ≡ record { at = x.at; body = x.body; number = (value_field v).number; content = (value_field v).content } =
+    let same : x ≡ record { at = x.at; body = x.body; number = (field_of_value v).number; content = (field_of_value v).content } =
     ap (λ (p : Plain). record { at = x.at; body = x.body; number = p.number; content = p.content }) one.2 in
     subst (λ ys. IsValue ys v) (sym (one.1 ∙ ap (λ (y : Entry). y ∷ []) same)) (value_at x.at x.body v h)
 
@@ -104,7 +103,7 @@ truth_small false = lit< tt
 code_small : (z : ℤ) → FitsSigned w64 z → cast_unsigned w64 z < 2 ^ 64
 code_small z h = let fits = Fits-of_z h in search rules
 
-pub value_fit : (v : Value) → ValidValue v → length (spelled (value_fields v)) < 2 ^ 64 → IsFit (value_field v)
+pub value_fit : (v : Value) → ValidValue v → length (spelled (value_fields v)) < 2 ^ 64 → IsFit (field_of_value v)
 value_fit (Text text) h small =
     let longer = short_lengths_bytes STRING text in
     let all : length (short_field STRING (bytes text)) < 2 ^ 64 = subst (λ l. length l < 2 ^ 64) (append-nil (short_field STRING (bytes text))) small in
@@ -255,15 +254,15 @@ id_fit : (id : Option ℕ) → IfSome id (λ n. n < 2 ^ 64) → AllByRecursion I
 id_fit None h = tt
 id_fit (Some n) h = (record { first = lit≤ tt; last = lit< tt; content = h }, tt)
 
-spelled_parts : (fs gs : List Plain) (n : ℕ) → length (spelled (fs ++ gs)) < n → (length (spelled fs) < n) × (length (spelled gs) < n)
-spelled_parts fs gs n small =
-    let size = ap length (spelled-append fs gs) ∙ length-append (spelled fs) (spelled gs) in
+both_small : (fs gs : List Plain) (n : ℕ) → length (spelled (fs ++ gs)) < n → (length (spelled fs) < n) × (length (spelled gs) < n)
+both_small fs gs n small =
+    let size = ap length (spelled_parts fs gs) ∙ length-append (spelled fs) (spelled gs) in
     (omega (arith, size), omega (arith, size))
 
 pub feature_fit : (tags : List ℕ) (f : Feature) → IfSome f.id (λ n. n < 2 ^ 64) → length (spelled (feature_fields tags f)) < 2 ^ 64 → AllByRecursion IsFit (feature_fields tags f)
 feature_fit tags f id small =
-    let outer = spelled_parts (id_fields f.id) (tags_fields tags ++ drawing_fields (kind_of f.geometry) (drawn f.geometry)) (2 ^ 64) small in
-    let inner = spelled_parts (tags_fields tags) (drawing_fields (kind_of f.geometry) (drawn f.geometry)) (2 ^ 64) outer.1 in
+    let outer = both_small (id_fields f.id) (tags_fields tags ++ drawing_fields (kind_of f.geometry) (drawn f.geometry)) (2 ^ 64) small in
+    let inner = both_small (tags_fields tags) (drawing_fields (kind_of f.geometry) (drawn f.geometry)) (2 ^ 64) outer.1 in
     all_joined IsFit (id_fields f.id) _ (id_fit f.id id) (all_joined IsFit (tags_fields tags) _ (tags_fit tags inner.0) (drawing_fit (kind_of f.geometry) (drawn f.geometry) inner.1))
 
 pub canonical_feature : (keys : List (List ℕ)) (values : List Value) (tags : List ℕ) (f : Feature) → ValidFeature f → Names keys values tags f.attributes → AllByRecursion (λ n. n < 2 ^ 32) tags → length (spelled (feature_fields tags f)) < 2 ^ 64 → IsFeatureOf (spelled (feature_fields tags f)) keys values f

@@ -5,7 +5,7 @@ use Rattle.std.specs.Option.{option_or, option_map}
 use Rattle.std.proofs.lemmas.Bool.{eqb-true, ltb-true, lt-ltb, not-false}
 use Rattle.mvt_base.specs.Rules.{when, under, told, each, first}
 use Rattle.mvt_base.proofs.ListLemmas.{all_weaker, all_joined}
-use Rattle.mvt_base.proofs.RuleLemmas.{first-under, first-told, first-when_not, option_or-none, option_or-some}
+use Rattle.mvt_base.proofs.RuleLemmas.{first-under, first-told, first-when_not, option_or-none, option_or-right, option_or-some}
 use Rattle.mvt_base.proofs.TableLemmas.{first-rows_all, none_mapped, when_none, none_each}
 use Rattle.mvt_attrs.specs.declared.value.Value.{Value}
 use Rattle.mvt_attrs.specs.declared.resolving.TagError.{TagError}
@@ -36,6 +36,7 @@ use Rattle.mvt_feature.proofs.ValueLemmas.{tells_front, whole_split}
 use Rattle.mvt_feature.proofs.FormLemmas.{has_form}
 use Rattle.mvt_feature.proofs.KnownLemmas.{field_first}
 use Rattle.mvt_feature.proofs.WalkLemmas.{rest_none}
+use Rattle.mvt_attrs.proofs.AttrsLaws.{fault_is_least_parts}
 use Rattle.mvt_wire.proofs.WireLaws.{packed_function_clean, packed_function_only}
 
 -- the fault of a feature from its parts
@@ -56,26 +57,17 @@ mapped_or f None None o = refl
 mapped_or f None (Some x) o = refl
 mapped_or f (Some x) b o = refl
 
-or_right : {F : Type 0} → (o : Option F) → option_or o None ≡ o
-or_right None = refl
-or_right (Some x) = refl
-
-tag_parts : (keys : List (List ℕ)) (values : List Value) (tags : List ℕ) → tag_fault keys values tags ≡ option_or (first (count_rules tags)) (first (pair_rules keys values tags))
-unfolding tag_fault
-tag_parts keys values tags =
-    first-rows_all ((2, count_rules tags) ∷ ((3, pair_rules keys values tags) ∷ [])) ∙ ap (λ o. option_or (first (count_rules tags)) o) (or_right (first (pair_rules keys values tags)))
-
 geometry_first : (kind : Kind) (integers : List ℕ) → first (geometry_rules kind integers) ≡ geometry_fault kind integers
 unfolding geometry_fault
 geometry_first kind integers = refl
 
 tags_chain : (keys : List (List ℕ)) (values : List Value) (tags : List ℕ) (o : Option MessageFault) → option_or (first (told tag_told (count_rules tags))) (option_or (first (told tag_told (pair_rules keys values tags))) o) ≡ option_or (option_map tag_told (tag_fault keys values tags)) o
 tags_chain keys values tags o =
-    ap₂ (λ a b. option_or a (option_or b o)) (first-told tag_told (count_rules tags)) (first-told tag_told (pair_rules keys values tags)) ∙ mapped_or tag_told (first (count_rules tags)) (first (pair_rules keys values tags)) o ∙ ap (λ a. option_or (option_map tag_told a) o) (sym (tag_parts keys values tags))
+    ap₂ (λ a b. option_or a (option_or b o)) (first-told tag_told (count_rules tags)) (first-told tag_told (pair_rules keys values tags)) ∙ mapped_or tag_told (first (count_rules tags)) (first (pair_rules keys values tags)) o ∙ ap (λ a. option_or (option_map tag_told a) o) (sym (fault_is_least_parts keys values tags))
 
 drawing_chain : (kind : Kind) (integers : List ℕ) → option_or (first (told geometry_told (geometry_rules kind integers))) None ≡ option_map geometry_told (geometry_fault kind integers)
 drawing_chain kind integers =
-    or_right _ ∙ first-told geometry_told (geometry_rules kind integers) ∙ ap (option_map geometry_told) (geometry_first kind integers)
+    option_or-right _ ∙ first-told geometry_told (geometry_rules kind integers) ∙ ap (option_map geometry_told) (geometry_first kind integers)
 
 pub feature_chain : (payload : List ℕ) (payload_at : ℕ) (keys : List (List ℕ)) (values : List Value) → feature_fault payload payload_at keys values ≡ option_or (rest_fault payload payload_at) (option_or (fields_fault payload payload_at) (option_or (tags_fault payload keys values) (drawing_fault payload)))
 unfolding feature_fault feature_rules

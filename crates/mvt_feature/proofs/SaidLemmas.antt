@@ -6,23 +6,13 @@ use Rattle.mvt_base.proofs.SelectionLemmas.{only_number, last_of_all}
 use Rattle.mvt_attrs.specs.declared.value.Value.{Value}
 use Rattle.mvt_attrs.specs.declared.value.Value.TheVariants.{Text, Float, Double, Int, Uint, Sint, Bool as Truth}
 use Rattle.mvt_wire.specs.Field.{Content, varint, fixed64, bytes, fixed32, Entry}
-use Rattle.mvt_wire.specs.Zigzag.{zig}
+use Rattle.mvt_wire.specs.Zigzag.{unzig}
 use Rattle.mvt_feature.specs.Selection.{only}
 use Rattle.mvt_feature.specs.Values.{Means, IsValueOf}
-use Rattle.mvt_feature.specs.ValueIn.{unzig, said, value_in}
+use Rattle.mvt_feature.specs.ValueIn.{said, value_in}
 use Rattle.mvt_feature.specs.ValueRules.{kinds}
 use Rattle.mvt_feature.proofs.ValueLemmas.{means_kind, only_kinds}
-use Rattle.mvt_wire.proofs.WireLaws.{split_function_only}
-
-unzig-zig : (z : ℤ) → unzig (zig z) ≡ z
-unzig-zig (pos n) =
-    let even : (2 * n) % 2 ≡ 0 = omega arith in
-    let half : 2 * n / 2 ≡ n = omega arith in
-    rw (eq-eqb (2 * n % 2) 0 even) (ap pos half)
-unzig-zig (negsuc n) =
-    let odd : (2 * n + 1) % 2 ≡ 0 → ⊥ = omega arith in
-    let half : (2 * n + 1) / 2 ≡ n = omega arith in
-    rw (ne_eqb ((2 * n + 1) % 2) 0 odd) (ap negsuc half)
+use Rattle.mvt_wire.proofs.WireLaws.{split_function_only, zigzag_function_number}
 
 -- what means a value says it
 said_means : (n : ℕ) (c : Content) (v : Value) → Means n c v → said n c ≡ Some v
@@ -31,7 +21,7 @@ said_means n (fixed32 m) (Float b) h = rw (eq-eqb n 2 h.0) (ap (λ x. Some (Floa
 said_means n (fixed64 m) (Double b) h = rw (eq-eqb n 3 h.0) (ap (λ x. Some (Double x)) (sym h.1))
 said_means n (varint m) (Int z) h = subst (λ k. said k (varint m) ≡ Some (Int z)) (sym h.0) (ap (λ x. Some (Int x)) (sym h.1))
 said_means n (varint m) (Uint k) h = subst (λ k'. said k' (varint m) ≡ Some (Uint k)) (sym h.0) (ap (λ x. Some (Uint x)) (sym h.1))
-said_means n (varint m) (Sint z) h = subst (λ k. said k (varint m) ≡ Some (Sint z)) (sym h.0) (ap (λ x. Some (Sint x)) (ap unzig (sym h.1) ∙ unzig-zig z))
+said_means n (varint m) (Sint z) h = subst (λ k. said k (varint m) ≡ Some (Sint z)) (sym h.0) (ap (λ x. Some (Sint x)) (ap unzig (sym h.1) ∙ zigzag_function_number z))
 said_means n (varint m) (Truth b) h = subst (λ k. said k (varint m) ≡ Some (Truth b)) (sym h.0) (ap (λ x. Some (Truth x)) (sym h.1))
 said_means n c v h = absurd (search rules)
 

@@ -3,7 +3,7 @@ use Rattle.std.proofs.Common.{◌≡◌, ℕ, ◌+◌, ◌%◌, ◌≤◌, ◌==
 use Rattle.std.specs.Int.{w64, cast_signed}
 use Rattle.std.specs.List.{AllByRecursion, list_all, last_or}
 use Rattle.std.specs.Option.{option_or}
-use Rattle.std.proofs.lemmas.Bool.{eqb-true, eq-eqb, ne_eqb, cases_eq, and_parts, and_from, leb-true, le-leb, not-false, both_ways}
+use Rattle.std.proofs.lemmas.Bool.{eqb-true, eq-eqb, ne_eqb, cases_eq, and_parts, and_from, leb-true, le-leb, not-false, false_from_ne_true, both_ways}
 use Rattle.mvt_base.specs.Rules.{AreOrdered, IsLeast, when, each, first}
 use Rattle.mvt_base.proofs.RuleLemmas.{first-when, first-when_not, option_or-none, option_or-nones, option_or-right}
 use Rattle.mvt_base.proofs.ListLemmas.{all_weaker}
@@ -12,7 +12,7 @@ use Rattle.mvt_attrs.specs.declared.value.Value.TheVariants.{Text, Float, Double
 use Rattle.mvt_wire.specs.Field.{Content, varint, fixed64, bytes, fixed32, Entry}
 use Rattle.mvt_wire.specs.Split.{Parts, Split, Whole, split}
 use Rattle.mvt_feature.specs.declared.numbers.value.TheConstants.{STRING, FLOAT, DOUBLE, INT, UINT, SINT, BOOL}
-use Rattle.mvt_wire.specs.Zigzag.{zig}
+use Rattle.mvt_wire.specs.Zigzag.{zig, unzig}
 use Rattle.mvt_feature.specs.declared.value.Meaning.{Meaning}
 use Rattle.mvt_feature.specs.declared.value.Kinds.TheVariants.{Nothing, One, Several}
 use Rattle.mvt_feature.specs.Inner.{value_of, AreKinds}
@@ -27,10 +27,9 @@ use Rattle.mvt_feature.specs.declared.message_error.MessageError.TheVariants.{Me
 use Rattle.mvt_feature.specs.Selection.{only, last_only}
 use Rattle.mvt_feature.specs.Forms.{any_varint, float, double, string, HasForm, HaveForms, number_rules}
 use Rattle.mvt_feature.specs.Values.{value_forms, IsKind, Means, IsValue, IsValueOf}
-use Rattle.mvt_feature.specs.ValueIn.{unzig}
 use Rattle.mvt_feature.specs.ValueRules.{is_kind, kinds, are_one_kind, value_field_rules, value_table, value_rules, value_fault}
 use Rattle.mvt_feature.proofs.FormLemmas.{has_form, clean_at, told_clean, forms_have, forms_clean, forms_ordered}
-use Rattle.mvt_wire.proofs.WireLaws.{split_function_is, split_function_only}
+use Rattle.mvt_wire.proofs.WireLaws.{split_function_is, split_function_only, zigzag_function_number, zigzag_function_code}
 
 -- the fault of a value from its parts
 pub value_chain : (payload : List ℕ) (payload_at tag_at : ℕ) → value_fault payload payload_at tag_at ≡ firsts (value_table payload payload_at tag_at)
@@ -126,12 +125,8 @@ only_step kind false true x xs ys e f = cc
 same_test : (kind : ℕ) (x : Entry) → IsKind kind → IsOnly kind x → (x.number == kind) ≡ is_kind x
 same_test kind x is one = elim (cases_eq x.number kind) [
   | inl e ↦ eq-eqb x.number kind e ∙ sym (kind_test x (subst IsKind (sym e) is))
-  | inr d ↦ ne_eqb x.number kind d ∙ sym (refused (is_kind x) (λ t. d (one (test_kind x t))))
+  | inr d ↦ ne_eqb x.number kind d ∙ sym (false_from_ne_true (is_kind x) (λ t. d (one (test_kind x t))))
 ]
-  where
-    refused : (b : Bool) → (b ≡ true → ⊥) → b ≡ false
-    refused true h = absurd (h refl)
-    refused false h = refl
 
 pub only_kinds : (kind : ℕ) (xs : List Entry) → IsKind kind → AllByRecursion (IsOnly kind) xs → only kind xs ≡ kinds xs
 only_kinds kind [] is one = refl
@@ -229,12 +224,6 @@ varint_means k (bytes d) make means h = absurd h
 varint_means k (fixed64 n) make means h = absurd h
 varint_means k (fixed32 n) make means h = absurd h
 
-zig-unzig : (n : ℕ) → zig (unzig n) ≡ n
-zig-unzig n = elim (cases_eq (n % 2) 0) [
-  | inl e ↦ rw (eq-eqb (n % 2) 0 e) (omega arith)
-  | inr d ↦ rw (ne_eqb (n % 2) 0 d) (omega arith)
-]
-
 means_there : (n : ℕ) → IsKind n → (c : Content) → first (number_rules value_forms n c) ≡ None → (v : Value) × Means n c v
 means_there n is = for_seven (λ k. (c : Content) → first (number_rules value_forms k c) ≡ None → (v : Value) × Means k c v)
     (λ c h. text_means c (has_form string c h))
@@ -242,7 +231,7 @@ means_there n is = for_seven (λ k. (c : Content) → first (number_rules value_
     (λ c h. double_means c (has_form double c h))
     (λ c h. varint_means INT c (λ n. Int (cast_signed w64 n)) (λ n. (refl, refl)) (has_form any_varint c h))
     (λ c h. varint_means UINT c (λ n. Uint n) (λ n. (refl, refl)) (has_form any_varint c h))
-    (λ c h. varint_means SINT c (λ n. Sint (unzig n)) (λ n. (refl, zig-unzig n)) (has_form any_varint c h))
+    (λ c h. varint_means SINT c (λ n. Sint (unzig n)) (λ n. (refl, zigzag_function_code n)) (has_form any_varint c h))
     (λ c h. varint_means BOOL c (λ n. Truth (not (n == 0))) (λ n. (refl, refl)) (has_form any_varint c h))
     n is.0 is.1
 
@@ -304,10 +293,7 @@ value_keeps payload payload_at tag_at v (xs, whole, is) =
 
 -- at most one value
 zig-same : (y z : ℤ) → zig y ≡ zig z → y ≡ z
-zig-same (pos m) (pos n) h = ap pos (omega arith)
-zig-same (pos m) (negsuc n) h = absurd (omega arith)
-zig-same (negsuc m) (pos n) h = absurd (omega arith)
-zig-same (negsuc m) (negsuc n) h = ap negsuc (omega arith)
+zig-same y z h = sym (zigzag_function_number y) ∙ ap unzig h ∙ zigzag_function_number z
 
 means_same : (n : ℕ) (c : Content) (v w : Value) → Means n c v → Means n c w → v ≡ w
 means_same n (bytes d) (Text s) (Text t) h g = ap Text (h.1 ∙ sym g.1)

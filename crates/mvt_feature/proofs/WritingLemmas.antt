@@ -2,12 +2,13 @@
 use Rattle.std.proofs.Common.{◌≡◌, ℕ, ◌+◌, ◌*◌, ◌<◌, List, [], ◌∷◌, ◌++◌, length, take, Result, Ok, Err, inl, sym, ap, subst, ◌∙◌, append-nil, arith}
 use Rattle.std.proofs.lemmas.List.{take_all}
 use Rattle.std.proofs.lemmas.Option.{slice_get_within}
+use Rattle.mvt_base.specs.Related.{Extends}
+use Rattle.mvt_base.proofs.ResultLemmas.{on_err}
 use Rattle.mvt_attrs.specs.declared.value.Value.{Value}
 use Rattle.mvt_attrs.specs.declared.value.Attribute.{Attribute}
 use Rattle.mvt_attrs.specs.Placed.{ArePlaced, AreTold, IsFullAt}
 use Rattle.mvt_attrs.specs.Pools.{key_pool, value_pool}
 use Rattle.std.specs.Prelude.{OnErr}
-use Rattle.std.proofs.lemmas.Grind.{flat_map-append}
 use Rattle.mvt_wire.specs.Field.{Content, varint, fixed64, fixed32, wire_type}
 use Rattle.mvt_wire.specs.Varint.{short}
 use Rattle.mvt_wire.specs.Spelling.{Plain, short_payload, short_field, spelled}
@@ -31,17 +32,9 @@ fixed64_field_len number n small = sym (one_len number (fixed64 n) (omega arith)
 pub short_field_len : (number n : ℕ) → number < 8 → n < 128 → 2 ≡ length (spelled (plain number (varint n) ∷ []))
 short_field_len number n small low = varint_field_len number n 1 small (sym (short_lengths_one n low))
 
-pub spelled-append : (fs gs : List Plain) → spelled (fs ++ gs) ≡ spelled fs ++ spelled gs
-spelled-append fs gs = flat_map-append (λ (f : Plain). short_field f.number f.content) fs gs
-
 -- what an error leaves
-pub on_err_at : {T E : Type 0} → (P : ℕ → Type 0) (r : Result T E) (n : ℕ) → P n → OnErr r ((m : ℕ) × P m)
-on_err_at P (Ok x) n h = tt
-on_err_at P (Err e) n h = (n, h)
-
-pub kept_as_it_was : {T E : Type 0} → (r : Result T E) (l : List ℕ) → OnErr r ((more : List ℕ) × (l ≡ l ++ more))
-kept_as_it_was (Ok x) l = tt
-kept_as_it_was (Err e) l = ([], sym (append-nil l))
+pub kept_as_it_was : {T E : Type 0} → (r : Result T E) (l : List ℕ) → OnErr r (Extends l l)
+kept_as_it_was r l = on_err r ([], sym (append-nil l))
 
 -- attributes that were passed on are all placed, and none is left to find a pool full
 module _ (attributes passed : List Attribute) (is : passed ≡ attributes) (keys new_keys : List (List ℕ)) (values new_values : List Value) where

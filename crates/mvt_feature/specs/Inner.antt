@@ -19,10 +19,6 @@ use Rattle.mvt_feature.specs.Values.{Means}
 use Rattle.mvt_feature.specs.Walks.{IsSoFar}
 use Rattle.mvt_feature.specs.ValueRules.{kinds, are_one_kind, value_field_rules}
 
--- a list with more behind it
-abbrev pub Extends : List ℕ → List ℕ → Type 0
-Extends old new = (more : List ℕ) × (new ≡ old ++ more)
-
 abbrev pub value_of : Meaning → Value
 value_of (meanings.Text text) = values.Text text.now
 value_of (meanings.Float bits) = values.Float bits

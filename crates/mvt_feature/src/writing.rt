@@ -1,5 +1,6 @@
 //! Values and features in their canonical spelling.
 ghost use Rattle.std.specs.Prelude.{◌≡◌, ◌⊎◌, ℕ, ◌^◌, ◌<◌, List, ◌++◌, length, OnOk, OnErr, IsErrOf};
+ghost use Rattle.mvt_base.specs.Related.{Extends};
 ghost use Rattle.mvt_attrs.specs.Pools.{key_pool, value_pool};
 ghost use Rattle.mvt_attrs.specs.Placed.{ArePlaced, AreTold, IsFullAt};
 ghost use Rattle.mvt_attrs.specs.Tags.{Names};
@@ -7,7 +8,6 @@ ghost use Rattle.mvt_attrs.specs.TagPlaces.{tags_in};
 ghost use Rattle.mvt_geometry.specs.Valid.{IsValid};
 ghost use Rattle.mvt_wire.specs.Spelling.{spelled};
 ghost use Rattle.mvt_feature.specs.Canonical.{value_fields, id_fields, tags_fields, drawing_fields, feature_fields, type_number as the_type_number};
-ghost use Rattle.mvt_feature.specs.Inner.{Extends};
 
 use crate::feature::Feature;
 use crate::numbers::{feature, value};

@@ -12,7 +12,7 @@ use Rattle.mvt_geometry.specs.Shape.{IsPlace, origin, rings_of, last_of}
 use Rattle.mvt_geometry.specs.Valid.{IsStroke, Grouped}
 use Rattle.mvt_geometry.specs.Drawing.{path_from, Draws, strokes}
 use Rattle.mvt_geometry.specs.Commands.{pairs_of, stepped, moved, positions}
-use Rattle.mvt_geometry.specs.Inner.Building.{ArePlaces, IsFront, AreLines, AreRings}
+use Rattle.mvt_geometry.specs.Inner.Building.{ArePlaces, IsFront, SpellLines, SpellRings}
 use Rattle.mvt_geometry.proofs.PathLemmas.{pairs-path, positions-between, moved-between, length-path}
 use Rattle.mvt_geometry.proofs.StrokeLemmas.{stroke-more}
 use Rattle.mvt_geometry.proofs.GroupLemmas.{one_grouping}
@@ -66,7 +66,7 @@ front_is from ints (p ∷ ps) more f =
     record { head = p; tail = ps; line_is = refl; ints_are = f.spelled ∙ stroke-more [] from p ps more; few = omega (arith, f.is.few); places = f.is.places }
 
 -- the first of some lines
-pub lines_front : (end : List ℕ) (c : Point) (ints : List ℕ) (l : List Point) (ls : List (List Point)) → AreLines end c ints (l ∷ ls) → IsFront c ints l (end ++ strokes end (last_of c l) ls)
+pub lines_front : (end : List ℕ) (c : Point) (ints : List ℕ) (l : List Point) (ls : List (List Point)) → SpellLines end c ints (l ∷ ls) → IsFront c ints l (end ++ strokes end (last_of c l) ls)
 lines_front end c ints [] ls a = absurd (omega (arith, a.are.0.enough))
 lines_front end c ints (p ∷ ps) ls a =
     record { is = a.are.0; spelled = a.spelled ∙ stroke-more end c p ps (strokes end (last_of p ps) ls) ∙ sym (stroke-more [] c p ps (end ++ strokes end (last_of p ps) ls)) }
@@ -115,21 +115,21 @@ pub record FirstLine (end : List ℕ) (c : Point) (ints : List ℕ) (lines : Lis
   pub others : List (List Point)
   pub lines_are : lines ≡ line ∷ others
   pub front : IsFront c ints line (end ++ strokes end (last_of c line) others)
-  pub others_are : (d : Point) (rest : List ℕ) → d ≡ last_of c line → rest ≡ strokes end (last_of c line) others → AreLines end d rest others
+  pub others_are : (d : Point) (rest : List ℕ) → d ≡ last_of c line → rest ≡ strokes end (last_of c line) others → SpellLines end d rest others
 
-lines_first : (end : List ℕ) (c : Point) (ints : List ℕ) (l : List Point) (ls : List (List Point)) → AreLines end c ints (l ∷ ls) → FirstLine end c ints (l ∷ ls)
+lines_first : (end : List ℕ) (c : Point) (ints : List ℕ) (l : List Point) (ls : List (List Point)) → SpellLines end c ints (l ∷ ls) → FirstLine end c ints (l ∷ ls)
 lines_first end c ints l ls a =
     record { line = l; others = ls; lines_are = refl; front = lines_front end c ints l ls a; others_are = λ d rest e f. record { are = a.are.1; spelled = f ∙ ap (λ p. strokes end p ls) (sym e) } }
 
-pub rings_first : {ints : List ℕ} {rings : List (List Point)} → AreRings ints rings → FirstLine (15 ∷ []) origin ints rings
+pub rings_first : {ints : List ℕ} {rings : List (List Point)} → SpellRings ints rings → FirstLine (15 ∷ []) origin ints rings
 rings_first {rings = []} a = absurd (omega (arith, a.some))
 rings_first {ints = ints} {rings = l ∷ ls} a = lines_first (15 ∷ []) origin ints l ls a.lines
 
-pub more_lines : {end : List ℕ} {c : Point} {ints : List ℕ} {lines : List (List Point)} → AreLines end c ints lines → 0 < length ints → FirstLine end c ints lines
+pub more_lines : {end : List ℕ} {c : Point} {ints : List ℕ} {lines : List (List Point)} → SpellLines end c ints lines → 0 < length ints → FirstLine end c ints lines
 more_lines {lines = []} a some = absurd (omega (arith, some, ap length a.spelled))
 more_lines {end = end} {c = c} {ints = ints} {lines = l ∷ ls} a some = lines_first end c ints l ls a
 
-pub end_of_lines : {end : List ℕ} {c : Point} {ints : List ℕ} {lines : List (List Point)} → AreLines end c ints lines → length ints ≡ 0 → lines ≡ []
+pub end_of_lines : {end : List ℕ} {c : Point} {ints : List ℕ} {lines : List (List Point)} → SpellLines end c ints lines → length ints ≡ 0 → lines ≡ []
 end_of_lines {lines = []} a none = refl
 end_of_lines {lines = [] ∷ ls} a none = absurd (omega (arith, a.are.0.enough))
 end_of_lines {lines = (p ∷ ps) ∷ ls} a none = absurd (omega (arith, none, ap length a.spelled))
@@ -141,7 +141,7 @@ draws_points ints (Points ps) d = (ps, refl, d.valid.2, ap (drop 1) d.spelled)
 draws_points ints (Lines ls) d = cc d.same_kind
 draws_points ints (Polygons ps) d = cc d.same_kind
 
-pub draws_lines : (ints : List ℕ) (g : Geometry) → Draws kinds.LineString ints g → (ls : List (List Point)) × (g ≡ Lines ls) × AreLines [] origin ints ls
+pub draws_lines : (ints : List ℕ) (g : Geometry) → Draws kinds.LineString ints g → (ls : List (List Point)) × (g ≡ Lines ls) × SpellLines [] origin ints ls
 draws_lines ints (Unknown u) d = cc d.same_kind
 draws_lines ints (Points ps) d = cc d.same_kind
 draws_lines ints (Lines ls) d = (ls, refl, record { are = d.valid.1; spelled = d.spelled })
@@ -151,7 +151,7 @@ some_rings : (polygons : List Polygon) → Grouped (rings_of polygons) polygons 
 some_rings [] h = absurd h
 some_rings (p ∷ polygons) h = omega arith
 
-pub draws_polygons : (ints : List ℕ) (g : Geometry) → Draws kinds.Polygon ints g → (polygons : List Polygon) × (g ≡ Polygons polygons) × AreRings ints (rings_of polygons) × (polygons_of (rings_of polygons) ≡ polygons)
+pub draws_polygons : (ints : List ℕ) (g : Geometry) → Draws kinds.Polygon ints g → (polygons : List Polygon) × (g ≡ Polygons polygons) × SpellRings ints (rings_of polygons) × (polygons_of (rings_of polygons) ≡ polygons)
 draws_polygons ints (Unknown u) d = cc d.same_kind
 draws_polygons ints (Points ps) d = cc d.same_kind
 draws_polygons ints (Lines ls) d = cc d.same_kind

@@ -1,9 +1,11 @@
 -- A command's rules up to its count and its room: when they are kept, and which is broken first.
 use Rattle.std.proofs.Common.{ne_eqb, eq-eqb, ap₂, ◌⊎◌, inl, inr, ◌≡◌, ℕ, ◌+◌, ◌*◌, ◌/◌, ◌%◌, ◌<◌, ◌≤◌, Bool, true, false, not, ◌&&◌, ltb, eqb, List, length, get_or, Option, Some, None, refl, sym, ◌∙◌, arith}
 use Rattle.std.specs.Option.{option_or}
+use Rattle.std.proofs.Math.Bool.{and-false}
 use Rattle.std.proofs.lemmas.Bool.{cases_lt, false≢true, true_from_ne_false}
 use Rattle.std.proofs.lemmas.Bool.Decides.{nat_tests}
 use Rattle.mvt_base.specs.Rules.{first, rows, when}
+use Rattle.mvt_base.proofs.TableLemmas.{when_none}
 use Rattle.mvt_base.proofs.RuleLemmas.{first-append, first-under, first-when, first-when_not, option_or-nones}
 use Rattle.mvt_geometry.specs.declared.shape.Kind.{Kind}
 use Rattle.mvt_geometry.specs.declared.command.Command.{Command}
@@ -78,14 +80,6 @@ unfolding ends_early wrong_command wrong_count no_room
 header_over must_not kind c g s m over =
     let t : ltb s (length g) ≡ false = grind (arith, nat_tests) in
     rw (header_chain must_not kind c g s, m, t, and-false (eqb s (length g))) refl
-  where
-    and-false : (b : Bool) → (b && false) ≡ false
-    and-false true = refl
-    and-false false = refl
-
-when_none : (b : Bool) (f : IndexedCause) → first (when b f) ≡ None → b ≡ false
-when_none true f e = cc
-when_none false f e = refl
 
 -- and the other way: where no rule is broken the header is there
 pub header_there : (must_not : Bool) (kind : Kind) (c : Command) (g : List ℕ) (s : ℕ) → (s ≡ length g → must_not ≡ true) → s ≤ length g → first (rows (header_rows must_not kind (Some c) g s)) ≡ None → IsHeader kind c g s

@@ -3,6 +3,7 @@ use Rattle.std.proofs.Common.{◌≡◌, ℕ, ◌+◌, ◌<◌, List, [], ◌∷
 use Rattle.std.specs.List.{AllByRecursion}
 use Rattle.std.proofs.lemmas.Int.{ints, to_z-of_z}
 use Rattle.std.proofs.lemmas.List.{drop_more}
+use Rattle.mvt_base.specs.Related.{Extends}
 use Rattle.mvt_base.proofs.ListLemmas.{all_weaker}
 use Rattle.mvt_wire.specs.Zigzag.{zig}
 use Rattle.mvt_geometry.specs.declared.shape.Point.{Point}
@@ -10,7 +11,7 @@ use Rattle.mvt_geometry.specs.declared.shape.Polygon.{Polygon}
 use Rattle.mvt_geometry.specs.Shape.{InRange, AreSteps, joined, rings_of, last_of}
 use Rattle.mvt_geometry.specs.Valid.{IsStroke}
 use Rattle.mvt_geometry.specs.Drawing.{path_from, stroke, strokes}
-use Rattle.mvt_geometry.specs.Inner.Putting.{IsShort, AreShort, BeginsWith}
+use Rattle.mvt_geometry.specs.Inner.Putting.{IsShort, AreShort}
 use Rattle.mvt_geometry.proofs.AreaLemmas.{last_of-append}
 use Rattle.mvt_geometry.proofs.StrokeLemmas.{steps-front, steps-back}
 
@@ -71,11 +72,11 @@ pub rings_at : (polygons rest : List Polygon) (p : Polygon) → polygons ≡ p �
 rings_at polygons rest p e = ap rings_of e
 
 -- a list that grows begins with what it was
-pub begins_same : (old mid new : List ℕ) → BeginsWith old mid → new ≡ mid → BeginsWith old new
+pub begins_same : (old mid new : List ℕ) → Extends old mid → new ≡ mid → Extends old new
 begins_same old mid new b e = (b.0, e ∙ b.1)
 
-pub begins_more : (old mid new xs : List ℕ) → BeginsWith old mid → new ≡ mid ++ xs → BeginsWith old new
+pub begins_more : (old mid new xs : List ℕ) → Extends old mid → new ≡ mid ++ xs → Extends old new
 begins_more old mid new xs b e = (b.0 ++ xs, e ∙ ap (λ ys. ys ++ xs) b.1 ∙ append_assoc old b.0 xs)
 
-pub begins_on : (old mid new : List ℕ) → BeginsWith old mid → BeginsWith mid new → BeginsWith old new
+pub begins_on : (old mid new : List ℕ) → Extends old mid → Extends mid new → Extends old new
 begins_on old mid new b c = begins_more old mid new c.0 b c.1

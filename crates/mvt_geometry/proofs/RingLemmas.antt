@@ -1,5 +1,6 @@
 -- A ring is three commands, and the first one's area is judged at its ClosePath.
 use Rattle.std.proofs.Common.{◌≡◌, ◌≢◌, ℕ, zero, suc, ◌+◌, ◌*◌, ◌/◌, ◌%◌, ◌≤◌, Bool, true, false, ◌&&◌, ◌||◌, ◌==◌, eqb, List, [], ◌∷◌, ◌++◌, length, get_or, take, drop, Option, Some, None, ℤ, pos, ◌+ℤ◌, ◌≤ℤ◌, ◌<ℤ◌, refl, eq-eqb, ◌⊎◌, inl, inr, sym, ap, ap₂, subst, ◌∙◌, arith, length-drop}
+use Rattle.std.proofs.Math.Bool.{or-true, and-false}
 use Rattle.std.specs.Int.Signed.{lt_z}
 use Rattle.std.proofs.lemmas.Bool.{ne_eqb, cases_eq}
 use Rattle.std.proofs.lemmas.Int.{ints, by_lt_z}
@@ -31,15 +32,7 @@ ring_due k e =
 pub must_draw : (kind : Kind) (k : ℕ) (c : Command) → due kind k ≡ Some c → c ≢ MoveTo → may_not_end kind k ≡ true
 must_draw kind k MoveTo e other = absurd (other refl)
 must_draw kind k LineTo e other = rw e (or-true (k == 0))
-  where
-    or-true : (b : Bool) → (b || true) ≡ true
-    or-true true = refl
-    or-true false = refl
 must_draw kind k ClosePath e other = rw e (or-true (k == 0))
-  where
-    or-true : (b : Bool) → (b || true) ≡ true
-    or-true true = refl
-    or-true false = refl
 
 -- as many pairs as the count says
 pub length-pairs : (n : ℕ) (xs : List ℕ) → 2 * n ≤ length xs → length (take n (pairs_of xs)) ≡ n
@@ -72,14 +65,14 @@ module _ {g : List ℕ} {s t : ℕ} {c d : Point} (r : Reached kinds.Polygon g 0
       let m = first_move in
       ap₂ (λ xs ys. area2 (positions origin (xs ++ ys))) m.1 e ∙ ap (λ p. area2 (p ∷ positions p ds)) (sym m.2) ∙ area2-ring d (positions d ds) ∙ ap (λ p. edges d (positions d ds) +ℤ cross p d) (last_of-positions d ds)
 
+less : {z : ℤ} → z <ℤ pos 0 → lt_z z (pos 0) ≡ true
+less h = grind (arith, ints)
+
 -- the exit of a first ring, and its going on
 pub ring_fault : {g : List ℕ} {k s : ℕ} {c : Point} → (r : Reached kinds.Polygon g k s c) → k ≡ 2 → first (command_rules kinds.Polygon g k s) ≡ first (wrong_ring kinds.Polygon g k s) → area2 (first_ring g) <ℤ pos 0 → geometry_fault kinds.Polygon g ≡ Some (s, causes.FirstRing)
 unfolding wrong_ring
 ring_fault {g} {k} {s} r two left negative =
     stops (s, causes.FirstRing) (λ same. cc) r (left ∙ first-when {F = IndexedCause} ((eqb k 2) && lt_z (area2 (first_ring g)) (pos 0)) (s, causes.FirstRing) (ap₂ (λ x y. x && y) (eq-eqb k 2 two) (less negative)))
-  where
-    less : {z : ℤ} → z <ℤ pos 0 → lt_z z (pos 0) ≡ true
-    less h = grind (arith, ints)
 
 pub ring_fine : (g : List ℕ) (k s : ℕ) → (k ≡ 2 → pos 0 ≤ℤ area2 (first_ring g)) → first (wrong_ring kinds.Polygon g k s) ≡ None
 unfolding wrong_ring
@@ -87,10 +80,6 @@ ring_fine g k s fine = first-when_not {F = IndexedCause} (eqb k 2 && lt_z (area2
   where
     not_less : {z : ℤ} → pos 0 ≤ℤ z → lt_z z (pos 0) ≡ false
     not_less h = grind (arith, ints)
-
-    and-false : (b : Bool) → (b && false) ≡ false
-    and-false true = refl
-    and-false false = refl
 
     by_place : (k ≡ 2) ⊎ (k ≢ 2) → (eqb k 2 && lt_z (area2 (first_ring g)) (pos 0)) ≡ false
     by_place (inl e) = rw (not_less (fine e)) (and-false (eqb k 2))
@@ -100,9 +89,6 @@ pub fine_ring : (g : List ℕ) (s : ℕ) → first (wrong_ring kinds.Polygon g 2
 unfolding wrong_ring
 fine_ring g s none = by_lt_z (area2 (first_ring g)) (pos 0) (λ h. let yes = first-when {F = IndexedCause} (lt_z (area2 (first_ring g)) (pos 0)) (s, causes.FirstRing) (less h) in absurd (not_both none yes)) (λ h. h)
   where
-    less : {z : ℤ} → z <ℤ pos 0 → lt_z z (pos 0) ≡ true
-    less h = grind (arith, ints)
-
     not_both : {o : Option IndexedCause} {f : IndexedCause} → o ≡ None → o ≡ Some f → ⊥
     not_both e f = cc
 

@@ -5,6 +5,7 @@ use Rattle.std.proofs.lemmas.Bool.{false≢true, eqb-false}
 use Rattle.std.proofs.lemmas.Bool.Decides.{nat_tests}
 use Rattle.std.proofs.lemmas.Int.{ints, by_lt_z}
 use Rattle.mvt_base.specs.Rules.{first, when}
+use Rattle.mvt_base.proofs.TableLemmas.{when_none}
 use Rattle.mvt_base.proofs.RuleLemmas.{first-append, first-under, first-when, first-when_not, option_or-nones}
 use Rattle.mvt_geometry.specs.declared.shape.Point.{Point}
 use Rattle.mvt_geometry.specs.declared.fault.GeometryCause.TheVariants as causes
@@ -61,10 +62,6 @@ inside_is : (z : ℤ) → is_outside wide z ≡ false → InRange z
 inside_is z e =
     by_lt_z z (negsuc 2147483646) (λ low. let yes : is_outside wide z ≡ true = grind (arith, ints) in absurd (false≢true (sym e ∙ yes))) (λ low. by_lt_z (pos 2147483647) z (λ high. let yes : is_outside wide z ≡ true = grind (arith, ints) in absurd (false≢true (sym e ∙ yes))) (λ high. record { low = low; high = high }))
 
-none_false : (b : Bool) (f : IndexedCause) → first (when b f) ≡ None → b ≡ false
-none_false true f e = cc
-none_false false f e = refl
-
 -- what holds of a step that breaks no rule
 pub step_gives : (line : Bool) (at : ℕ) (d : Pair) (to : Point) → first (step_rules line at d to) ≡ None
     → (d.dx ≢ 4294967295) × (d.dy ≢ 4294967295) × ((line && (eqb d.dx 0 && eqb d.dy 0)) ≡ false) × IsPlace to
@@ -75,4 +72,4 @@ step_gives line at d to none =
     let goes = option_or-nones _ _ y.1 in
     let to_x = option_or-nones _ _ goes.1 in
     let to_y = option_or-nones _ _ to_x.1 in
-    (eqb-false d.dx 4294967295 (none_false _ _ x.0), eqb-false d.dy 4294967295 (none_false _ _ y.0), none_false _ _ goes.0, (inside_is to.x (none_false _ _ to_x.0), inside_is to.y (none_false _ _ to_y.0)))
+    (eqb-false d.dx 4294967295 (when_none _ _ x.0), eqb-false d.dy 4294967295 (when_none _ _ y.0), when_none _ _ goes.0, (inside_is to.x (when_none _ _ to_x.0), inside_is to.y (when_none _ _ to_y.0)))
