@@ -1,5 +1,5 @@
 -- Tags without a fault are resolved to just one list of attributes, and resolved tags have no fault.
-use Rattle.std.proofs.Common.{◌≡◌, ◌≢◌, ℕ, zero, suc, ◌+◌, ◌*◌, ◌%◌, ◌<◌, nat_le, Bool, true, false, List, [], ◌∷◌, ◌++◌, length, get_or, Some, None, bytes_eq, slice_get, slice_index, refl, sym, ap, subst, ◌∙◌, arith, length-append, append_assoc, append-nil}
+use Rattle.std.proofs.Common.{◌≡◌, ◌≢◌, ℕ, zero, suc, ◌+◌, ◌*◌, ◌%◌, ◌<◌, nat_le, false, List, [], ◌∷◌, ◌++◌, length, get_or, Some, None, bytes_eq, slice_get, slice_index, refl, sym, ap, subst, ◌∙◌, arith, length-append, append_assoc, append-nil}
 use Rattle.std.specs.List.{list_any}
 use Rattle.std.proofs.lemmas.Bool.{leb-false, or_parts, or_from, false_from_ne_true, both_ways}
 use Rattle.std.proofs.lemmas.List.{get_or_append_left, get_or_at}
@@ -7,7 +7,7 @@ use Rattle.std.proofs.lemmas.List.Quantifiers.{all_pairs_push}
 use Rattle.std.proofs.lemmas.Option.{slice_get-get_or}
 use Rattle.std.proofs.lemmas.Slice.Eq.{bytes_eq-Decides}
 use Rattle.mvt_base.specs.Related.{AreRelated}
-use Rattle.mvt_base.specs.Rules.{when, under, each, first}
+use Rattle.mvt_base.specs.Rules.{under, each, first}
 use Rattle.mvt_base.proofs.RuleLemmas.{first-append, first-under, option_or-nones, option_or-none}
 use Rattle.mvt_base.proofs.TableLemmas.{when_none}
 use Rattle.mvt_base.proofs.ListLemmas.{related-append, related_once}

@@ -11,7 +11,6 @@ use Rattle.mvt_geometry.specs.Shape.{kind_of}
 use Rattle.mvt_geometry.specs.Valid.{IsValid}
 use Rattle.mvt_wire.specs.Field.{varint, bytes}
 use Rattle.mvt_wire.specs.Spelling.{short_field, short_numbers, spelled}
-use Rattle.mvt_wire.specs.Varint.{short}
 use Rattle.mvt_feature.specs.declared.feature.Feature.{Feature}
 use Rattle.mvt_feature.specs.Bounds.{feature_bound}
 use Rattle.mvt_feature.specs.Canonical.{plain, id_fields, tags_fields, type_number, drawing_fields, feature_fields}

@@ -1,5 +1,5 @@
 -- Texts: the test and the fact.
-use Rattle.std.proofs.Common.{◌≡◌, ℕ, Bool, true, false, not, List, Some, None, refl, ap}
+use Rattle.std.proofs.Common.{◌≡◌, ℕ, not, List, Some, None, ap}
 use Rattle.std.specs.Prelude.{IsUtf8}
 use Rattle.std.specs.Str.{is_utf8}
 use Rattle.std.proofs.lemmas.Bool.{false_from_ne_true}

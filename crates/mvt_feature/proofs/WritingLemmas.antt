@@ -1,5 +1,5 @@
 -- Lengths of what is written, and the lists that an error leaves.
-use Rattle.std.proofs.Common.{◌≡◌, ℕ, ◌+◌, ◌*◌, ◌<◌, List, [], ◌∷◌, ◌++◌, length, take, Result, Ok, Err, inl, sym, ap, subst, ◌∙◌, append-nil, arith}
+use Rattle.std.proofs.Common.{◌≡◌, ℕ, ◌+◌, ◌*◌, ◌<◌, List, [], ◌∷◌, length, take, Result, inl, sym, ap, subst, ◌∙◌, append-nil, arith}
 use Rattle.std.proofs.lemmas.List.{take_all}
 use Rattle.std.proofs.lemmas.Option.{slice_get_within}
 use Rattle.mvt_base.specs.Related.{Extends}
@@ -11,7 +11,7 @@ use Rattle.mvt_attrs.specs.Pools.{key_pool, value_pool}
 use Rattle.std.specs.Prelude.{OnErr}
 use Rattle.mvt_wire.specs.Field.{Content, varint, fixed64, fixed32, wire_type}
 use Rattle.mvt_wire.specs.Varint.{short}
-use Rattle.mvt_wire.specs.Spelling.{Plain, short_payload, short_field, spelled}
+use Rattle.mvt_wire.specs.Spelling.{short_payload, short_field, spelled}
 use Rattle.mvt_feature.specs.Canonical.{plain}
 use Rattle.mvt_wire.proofs.WireLaws.{short_lengths_field, short_lengths_one}
 

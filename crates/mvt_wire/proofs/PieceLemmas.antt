@@ -1,5 +1,5 @@
 -- Lists taken piece by piece, with fuel: what fields and packed numbers have in common.
-use Rattle.std.proofs.Common.{◌≡◌, ℕ, zero, suc, ◌+◌, ◌-◌, ◌<◌, ◌≤◌, List, length, drop, Result, Ok, Err, refl, sym, ap, subst, ◌∙◌, arith}
+use Rattle.std.proofs.Common.{◌≡◌, ℕ, zero, suc, ◌+◌, ◌<◌, ◌≤◌, List, length, drop, Result, Ok, Err, refl, sym, ap, subst, ◌∙◌, arith}
 use Rattle.std.proofs.lemmas.List.{length-drop}
 use Rattle.mvt_wire.specs.declared.fault.WireCause.{WireCause}
 
@@ -52,7 +52,7 @@ module _ {X P : Type 0} (next : ℕ → List ℕ → Result (X × ℕ) WireCause
   -- induction over the pieces
   module _ (Q : ℕ → List ℕ → P → Type 0) (stop : (at : ℕ) (b : List ℕ) (c : WireCause) → next at b ≡ Err c → Q at b (none at b))
       (step : (at : ℕ) (b : List ℕ) (found : X × ℕ) → next at b ≡ Ok found → Q (at + found.1) (drop found.1 b) (all (at + found.1) (drop found.1 b))
-        → Q at b (ahead found.0 (all (at + found.1) (drop found.1 b)))) where
+      → Q at b (ahead found.0 (all (at + found.1) (drop found.1 b)))) where
     induct_by : (at : ℕ) (b : List ℕ) (r : Result (X × ℕ) WireCause) → next at b ≡ r
         → ((at' : ℕ) (b' : List ℕ) → length b' < length b → Q at' b' (all at' b')) → Q at b (all at b)
     induct_by at b (Ok found) e rec =

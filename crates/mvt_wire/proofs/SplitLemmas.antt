@@ -1,5 +1,5 @@
 -- Splits: that the function `split_from` is the relation `SplitFrom`, and what more bytes change.
-use Rattle.std.proofs.Common.{add_assoc, ◌≡◌, ◌≢◌, ℕ, zero, suc, ◌+◌, ◌-◌, ◌%◌, ◌<◌, ◌≤◌, inl, inr, cond, List, [], ◌∷◌, ◌++◌, length, take, drop, Result, Ok, Err, refl, sym, ap, subst, ◌∙◌, arith, append_assoc, lt-ltb, le-ltb}
+use Rattle.std.proofs.Common.{add_assoc, ◌≡◌, ◌≢◌, ℕ, zero, suc, ◌+◌, ◌%◌, ◌≤◌, inl, inr, cond, List, [], ◌∷◌, ◌++◌, length, take, drop, Result, Ok, Err, refl, sym, ap, subst, ◌∙◌, arith, append_assoc, lt-ltb, le-ltb}
 use Rattle.std.proofs.lemmas.Bool.{cases_lt}
 use Rattle.std.proofs.lemmas.List.{length-append, length-drop, length-take-le, drop-append-le, take-append-drop, take-append-le}
 use Rattle.std.proofs.Math.Seq.{take-append_seam, drop-append_seam}
@@ -44,7 +44,7 @@ split_step at b found e = all_step entry_at behind no_fields split_within takes_
 pub split_induct : (P : ℕ → List ℕ → Parts → Type 0)
     → ((at : ℕ) (b : List ℕ) (c : WireCause) → entry_at at b ≡ Err c → P at b (no_fields at b))
     → ((at : ℕ) (b : List ℕ) (found : Entry × ℕ) (parts : Parts) → entry_at at b ≡ Ok found → P (at + found.1) (drop found.1 b) parts
-      → P at b (behind found.0 parts))
+    → P at b (behind found.0 parts))
     → (at : ℕ) (b : List ℕ) → P at b (split_from at b)
 unfolding split_from
 split_induct P stop step =

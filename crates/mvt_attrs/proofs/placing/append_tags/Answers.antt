@@ -1,7 +1,6 @@
 use Rattle.std.proofs.Common.{◌≡◌, ◌+◌, ◌∙◌, ◌++◌, ◌∷◌, [], sym, append-nil, append_assoc, slice_get, Some, ap, bytes_eq, refl, inl, inr, length, Contains, subst, arith}
 use Rattle.std.proofs.lemmas.Result.{err_from_is_err_and}
 use Rattle.mvt_base.specs.declared.TheConstants.{LIMIT}
-use Rattle.mvt_attrs.specs.Placed.{ArePlaced}
 use Rattle.mvt_attrs.specs.declared.value.Attribute.{Attribute}
 use Rattle.mvt_attrs.specs.Values.{equal_values}
 use Rattle.std.proofs.lemmas.Slice.Eq.{bytes_eq-Decides}
@@ -90,11 +89,14 @@ returns-in_err-key-clause-memory c =
 pub returns-in_err-value-clause-left : goal.returns-in_err-value-clause-left
 returns-in_err-value-clause-left c =
     let key : IsPut c.loop-attribute.keys c.place_near.new.self c.attribute-item.result.key = record { kept = c.in_ok-key.ensures.kept; added = c.in_ok-key.ensures.added } in
-    on_err c.from_residual-in_err-value.result (c.loop-attribute.attribute-index, record {
-      within = omega arith;
-      keys_are = inr (keys_more c.args.keys.now c.loop-attribute.keys _ c.args.attributes.now c.loop-attribute.attribute-index c.attribute-item.result _ c.loop-attribute.invariant.keys c.loop-attribute-test.true c.attribute-item.is refl key);
-      values_are = c.in_err-value.ensures.unchanged ∙ c.loop-attribute.invariant.values;
-    })
+    on_err c.from_residual-in_err-value.result (
+      c.loop-attribute.attribute-index,
+      record {
+        within = omega arith;
+        keys_are = inr (keys_more c.args.keys.now c.loop-attribute.keys _ c.args.attributes.now c.loop-attribute.attribute-index c.attribute-item.result _ c.loop-attribute.invariant.keys c.loop-attribute-test.true c.attribute-item.is refl key);
+        values_are = c.in_err-value.ensures.unchanged ∙ c.loop-attribute.invariant.values;
+      },
+    )
 
 pub returns-in_err-value-clause-too_many : goal.returns-in_err-value-clause-too_many
 returns-in_err-value-clause-too_many c =
@@ -129,11 +131,14 @@ returns-in_err-extend_from_slice-clause-left c =
     let a = c.attribute-item.result in
     let key : IsPut c.loop-attribute.keys c.place_near.new.self c.attribute-item.result.key = record { kept = c.in_ok-key.ensures.kept; added = c.in_ok-key.ensures.added } in
     let value : IsPut c.loop-attribute.values c.place_near-in-loop-attribute.new.self a.value = record { kept = c.in_ok-value.ensures.kept; added = c.in_ok-value.ensures.added } in
-    on_err c.from_residual-in_err-extend_from_slice.result ((c.loop-attribute.attribute-index + 1), record {
-      within = omega arith;
-      keys_are = inl (keys_more c.args.keys.now c.loop-attribute.keys _ c.args.attributes.now c.loop-attribute.attribute-index a _ c.loop-attribute.invariant.keys c.loop-attribute-test.true c.attribute-item.is refl key);
-      values_are = values_more c.args.values.now c.loop-attribute.values _ c.args.attributes.now c.loop-attribute.attribute-index a c.loop-attribute.invariant.values c.loop-attribute-test.true c.attribute-item.is value;
-    })
+    on_err c.from_residual-in_err-extend_from_slice.result (
+      (c.loop-attribute.attribute-index + 1),
+      record {
+        within = omega arith;
+        keys_are = inl (keys_more c.args.keys.now c.loop-attribute.keys _ c.args.attributes.now c.loop-attribute.attribute-index a _ c.loop-attribute.invariant.keys c.loop-attribute-test.true c.attribute-item.is refl key);
+        values_are = values_more c.args.values.now c.loop-attribute.values _ c.args.attributes.now c.loop-attribute.attribute-index a c.loop-attribute.invariant.values c.loop-attribute-test.true c.attribute-item.is value;
+      },
+    )
 
 pub returns-in_err-extend_from_slice-clause-memory : goal.returns-in_err-extend_from_slice-clause-memory
 returns-in_err-extend_from_slice-clause-memory c =

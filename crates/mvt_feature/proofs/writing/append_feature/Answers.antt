@@ -1,6 +1,5 @@
 use Rattle.std.proofs.Common.{length}
 use Rattle.std.proofs.lemmas.Result.{err_from_is_err_and}
-use Rattle.mvt_attrs.specs.Placed.{ArePlaced}
 use Rattle.mvt_base.proofs.ResultLemmas.{on_err}
 use Rattle.mvt_feature.proofs.WritingLemmas.{kept_as_it_was, all_placed, all_told, none_full, told_as, full_as}
 use Rattle.mvt_feature.proofs.writing.append_feature.Goals as goal

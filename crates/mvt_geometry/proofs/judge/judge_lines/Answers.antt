@@ -1,8 +1,6 @@
-use Rattle.std.proofs.Common.{arith, refl, ◌≡◌, ◌≢◌, ◌%◌, ℕ, ◌<◌, eqb, ne_eqb, false, Some, suc, [], length, ap, subst}
+use Rattle.std.proofs.Common.{arith, refl, suc, [], length, ap, subst}
 use Rattle.mvt_geometry.proofs.LineLemmas.{line_due, lines_may_end}
 use Rattle.mvt_geometry.proofs.CountLemmas.{Left, line_parts, none_left, some_left, line_passed}
-use Rattle.mvt_geometry.specs.declared.command.Command.TheVariants.{ClosePath}
-use Rattle.mvt_geometry.specs.Commands.{due, may_not_end}
 use Rattle.mvt_geometry.specs.declared.shape.Kind.TheVariants as kinds
 use Rattle.mvt_geometry.proofs.CommandLemmas.{first_command, may_end, some_command}
 use Rattle.mvt_geometry.proofs.judge.judge_lines.Goals as goal

@@ -1,4 +1,4 @@
-use Rattle.std.proofs.Common.{arith, refl, ◌≡◌, ◌≢◌, ◌%◌, ℕ, ◌<◌, eqb, ne_eqb, false, Some, [], ◌∷◌, ap, sym, subst, ◌∙◌, ◌+◌, inl, inr, ℤ, pos, ◌<ℤ◌, ◌≤ℤ◌, true, rules, to_z, of_z}
+use Rattle.std.proofs.Common.{arith, refl, ◌≡◌, false, [], ◌∷◌, ap, sym, subst, ◌∙◌, ◌+◌, inl, inr, ℤ, pos, ◌<ℤ◌, ◌≤ℤ◌, true, rules, to_z, of_z}
 use Rattle.std.specs.Int.{w128}
 use Rattle.std.specs.Int.Signed.{lt_z}
 use Rattle.std.proofs.lemmas.Bool.{false≢true}
@@ -6,8 +6,6 @@ use Rattle.std.proofs.lemmas.Int.{ints, by_lt_z}
 use Rattle.mvt_geometry.proofs.PolygonLemmas.{rings_may_end}
 use Rattle.mvt_geometry.proofs.CountLemmas.{polygons_left, none_more, polygon_parts, none_left, rings_step, opened_one, joined_one}
 use Rattle.mvt_geometry.specs.declared.shape.Kind.TheVariants as kinds
-use Rattle.mvt_geometry.specs.declared.command.Command.TheVariants.{ClosePath}
-use Rattle.mvt_geometry.specs.Commands.{due, may_not_end}
 use Rattle.mvt_geometry.proofs.CommandLemmas.{first_command, may_end, some_command}
 use Rattle.mvt_geometry.proofs.judge.judge_polygons.Goals as goal
 use Rattle.mvt_geometry.proofs.judge.judge_polygons.Goals.{then-polygons-eq0-via-then-polygons-eq0, then-polygons-eq0-via-else-polygons-eq0+then-area-gt0}
