@@ -24,11 +24,13 @@ use Rattle.mvt_wire.specs.Split.{split}
 use Rattle.mvt_feature.specs.declared.numbers.feature.TheConstants.{ID, TAGS, TYPE, GEOMETRY}
 use Rattle.mvt_feature.specs.declared.cause.Cause.TheVariants.{NumberRange}
 use Rattle.mvt_feature.specs.declared.feature.Feature.{Feature}
+use Rattle.mvt_feature.specs.declared.known.Known.{Known}
 use Rattle.mvt_feature.specs.declared.message_error.MessageError.{MessageError}
 use Rattle.mvt_feature.specs.Causes.{of_packed}
 use Rattle.mvt_feature.specs.Faults.{MessageFault, fault_at, rest_rules, TellsMessage}
 use Rattle.mvt_feature.specs.Features.{AreNumbers, Joined, number_in, IsFeatureOf}
 use Rattle.mvt_feature.specs.FeatureRules.{numbers_of, joined, list_rules, feature_form_rules, feature_field_rules, tag_told, geometry_told, kind_in, feature_table, feature_rules, feature_fault}
+use Rattle.mvt_feature.specs.Inner.{IsKnown}
 use Rattle.mvt_feature.specs.Selection.{only, last_only, HaveForm}
 use Rattle.mvt_feature.specs.Forms.{any_varint, geom_type, HasForm, form_rules}
 use Rattle.mvt_feature.specs.Faults.{of_tag_error, of_geometry_error}
@@ -79,23 +81,41 @@ pub known_told : (payload : List ℕ) (payload_at : ℕ) (keys : List (List ℕ)
 known_told payload payload_at keys values e h =
     subst (λ o. TellsMessage e o) (sym (feature_chain payload payload_at keys values)) (tells_front e (rest_fault payload payload_at) (fields_fault payload payload_at) (option_or (tags_fault payload keys values) (drawing_fault payload)) h)
 
-behind_fields : (payload : List ℕ) (payload_at : ℕ) (keys : List (List ℕ)) (values : List Value) → (split payload).rest ≡ [] → fields_fault payload payload_at ≡ None → feature_fault payload payload_at keys values ≡ option_or (tags_fault payload keys values) (drawing_fault payload)
-behind_fields payload payload_at keys values rest clean =
-    feature_chain payload payload_at keys values ∙ option_or-none _ _ (rest_none payload_at (split payload) rest) ∙ option_or-none _ _ clean
+-- a payload that splits wholly into fields without a fault, and what these say
+pub record Says (payload : List ℕ) (payload_at : ℕ) (known : Known) (tags integers : List ℕ) : Type 0 where
+  pub whole : (split payload).rest ≡ []
+  pub clean : fields_fault payload payload_at ≡ None
+  pub known_is : IsKnown (split payload).fields known tags integers
 
-pub tags_told : (payload : List ℕ) (payload_at : ℕ) (keys : List (List ℕ)) (values : List Value) (tags : List ℕ) (e : TagError) → (split payload).rest ≡ [] → fields_fault payload payload_at ≡ None → tags ≡ joined TAGS (split payload).fields → TellsTags e (tag_fault keys values tags) → TellsMessage (of_tag_error e) (feature_fault payload payload_at keys values)
-tags_told payload payload_at keys values tags tag_errors.Memory rest clean is h = tt
-tags_told payload payload_at keys values tags (tag_errors.Fault index cause) rest clean is h =
-    behind_fields payload payload_at keys values rest clean ∙ option_or-some _ _ _ (ap (option_map tag_told) (ap (tag_fault keys values) (sym is) ∙ h))
+module _ {payload : List ℕ} {payload_at : ℕ} {known : Known} {tags integers : List ℕ}
+    (says : Says payload payload_at known tags integers) (keys : List (List ℕ)) (values : List Value) where
+  behind_fields : feature_fault payload payload_at keys values ≡ option_or (tags_fault payload keys values) (drawing_fault payload)
+  behind_fields =
+      feature_chain payload payload_at keys values ∙ option_or-none _ _ (rest_none payload_at (split payload) says.whole)
+      ∙ option_or-none _ _ says.clean
 
-pub drawing_told : (payload : List ℕ) (payload_at : ℕ) (keys : List (List ℕ)) (values : List Value) (tags integers : List ℕ) (kind : Kind) (e : GeometryError) → (split payload).rest ≡ [] → fields_fault payload payload_at ≡ None → tags ≡ joined TAGS (split payload).fields → integers ≡ joined GEOMETRY (split payload).fields → kind ≡ kind_in (split payload).fields → tag_fault keys values tags ≡ None → TellsGeometry e (geometry_fault kind integers) → TellsMessage (of_geometry_error e) (feature_fault payload payload_at keys values)
-drawing_told payload payload_at keys values tags integers kind geometry_errors.Memory rest clean tags_are is kind_is resolved h = tt
-drawing_told payload payload_at keys values tags integers kind (geometry_errors.Fault index cause) rest clean tags_are is kind_is resolved h =
-    behind_fields payload payload_at keys values rest clean ∙ option_or-none _ _ (ap (option_map tag_told) (ap (tag_fault keys values) (sym tags_are) ∙ resolved)) ∙ ap (option_map geometry_told) (ap₂ geometry_fault (sym kind_is) (sym is) ∙ h)
+  tags_are : tag_fault keys values (joined TAGS (split payload).fields) ≡ tag_fault keys values tags
+  tags_are = ap (tag_fault keys values) (sym says.known_is.tags_are)
 
-pub feature_clean : (payload : List ℕ) (payload_at : ℕ) (keys : List (List ℕ)) (values : List Value) (tags integers : List ℕ) (kind : Kind) → (split payload).rest ≡ [] → fields_fault payload payload_at ≡ None → tags ≡ joined TAGS (split payload).fields → integers ≡ joined GEOMETRY (split payload).fields → kind ≡ kind_in (split payload).fields → tag_fault keys values tags ≡ None → geometry_fault kind integers ≡ None → feature_fault payload payload_at keys values ≡ None
-feature_clean payload payload_at keys values tags integers kind rest clean tags_are is kind_is resolved drawn =
-    behind_fields payload payload_at keys values rest clean ∙ option_or-none _ _ (ap (option_map tag_told) (ap (tag_fault keys values) (sym tags_are) ∙ resolved)) ∙ ap (option_map geometry_told) (ap₂ geometry_fault (sym kind_is) (sym is) ∙ drawn)
+  behind_tags : tag_fault keys values tags ≡ None
+      → feature_fault payload payload_at keys values ≡ option_map geometry_told (geometry_fault known.kind integers)
+  behind_tags resolved =
+      behind_fields ∙ option_or-none _ _ (ap (option_map tag_told) (tags_are ∙ resolved))
+      ∙ ap (option_map geometry_told) (ap₂ geometry_fault (sym says.known_is.kind) (sym says.known_is.integers_are))
+
+  pub tags_told : (e : TagError) → TellsTags e (tag_fault keys values tags)
+      → TellsMessage (of_tag_error e) (feature_fault payload payload_at keys values)
+  tags_told tag_errors.Memory h = tt
+  tags_told (tag_errors.Fault index cause) h = behind_fields ∙ option_or-some _ _ _ (ap (option_map tag_told) (tags_are ∙ h))
+
+  pub drawing_told : (e : GeometryError) → tag_fault keys values tags ≡ None → TellsGeometry e (geometry_fault known.kind integers)
+      → TellsMessage (of_geometry_error e) (feature_fault payload payload_at keys values)
+  drawing_told geometry_errors.Memory resolved h = tt
+  drawing_told (geometry_errors.Fault index cause) resolved h = behind_tags resolved ∙ ap (option_map geometry_told) h
+
+  pub feature_clean : tag_fault keys values tags ≡ None → geometry_fault known.kind integers ≡ None
+      → feature_fault payload payload_at keys values ≡ None
+  feature_clean resolved drawn = behind_tags resolved ∙ ap (option_map geometry_told) drawn
 
 -- the form of a field and its rules
 clean_field : (payload_at : ℕ) (x : Entry) → first (feature_field_rules payload_at x) ≡ None → first (feature_form_rules x.number x.content) ≡ None
@@ -175,19 +195,22 @@ joined_is payload_at k xs form clean =
     joined_all (only k xs) (only_form k (λ c. first (list_rules c) ≡ None) xs (of_number payload_at k (λ c. first (list_rules c) ≡ None) form xs clean))
 
 -- what was read is the feature
-pub feature_from : (payload : List ℕ) (payload_at : ℕ) (keys : List (List ℕ)) (values : List Value) (f : Feature) → (split payload).rest ≡ [] → fields_fault payload payload_at ≡ None → f.id ≡ number_in (last_only ID (split payload).fields) → Resolved keys values (joined TAGS (split payload).fields) f.attributes → Draws (kind_in (split payload).fields) (joined GEOMETRY (split payload).fields) f.geometry → IsFeatureOf payload keys values f
-feature_from payload payload_at keys values f rest clean id resolved draws =
-    let xs = (split payload).fields in (
+pub feature_from : {payload : List ℕ} {payload_at : ℕ} {known : Known} {tags integers : List ℕ}
+    → Says payload payload_at known tags integers → (keys : List (List ℕ)) (values : List Value) (f : Feature) → f.id ≡ known.id
+    → Resolved keys values tags f.attributes → Draws known.kind integers f.geometry → IsFeatureOf payload keys values f
+feature_from {payload} {payload_at} {known} {tags} {integers} says keys values f id resolved draws =
+    let xs = (split payload).fields in
+    let is = says.known_is in (
       xs,
-      whole_split payload rest,
+      whole_split payload says.whole,
       record {
-        forms = (id_form payload_at xs clean, (type_form payload_at xs clean, tt));
-        id = id;
-        tags = joined TAGS xs;
-        tags_are = joined_is payload_at TAGS xs (λ c h. h) clean;
+        forms = (id_form payload_at xs says.clean, (type_form payload_at xs says.clean, tt));
+        id = id ∙ is.id;
+        tags = tags;
+        tags_are = rw is.tags_are (joined_is payload_at TAGS xs (λ c h. h) says.clean);
         attributes = resolved;
-        integers = joined GEOMETRY xs;
-        integers_are = joined_is payload_at GEOMETRY xs (λ c h. h) clean;
-        geometry = draws;
+        integers = integers;
+        integers_are = rw is.integers_are (joined_is payload_at GEOMETRY xs (λ c h. h) says.clean);
+        geometry = rw is.kind at draws;
       },
     )

@@ -15,6 +15,7 @@ use Rattle.mvt_wire.specs.Split.{split}
 use Rattle.mvt_feature.specs.declared.numbers.feature.TheConstants.{ID, TAGS, GEOMETRY}
 use Rattle.mvt_feature.specs.declared.cause.Cause.TheVariants.{WrongType, NumberRange}
 use Rattle.mvt_feature.specs.declared.feature.Feature.{Feature}
+use Rattle.mvt_feature.specs.declared.known.Known.{Known}
 use Rattle.mvt_feature.specs.Causes.{of_packed}
 use Rattle.mvt_feature.specs.Faults.{MessageFault, fault_at}
 use Rattle.mvt_feature.specs.Features.{feature_forms, Joined, number_in, IsFeature, IsFeatureOf}
@@ -23,7 +24,7 @@ use Rattle.mvt_feature.specs.Forms.{Form, HasForm, HaveForms, number_rules}
 use Rattle.mvt_feature.specs.Selection.{only, last_only, HaveForm}
 use Rattle.mvt_feature.proofs.ValueLemmas.{rest_ordered, split_of}
 use Rattle.mvt_feature.proofs.FormLemmas.{number_clean, number_ordered, forms_split}
-use Rattle.mvt_feature.proofs.FeatureLemmas.{feature_chain, fields_fault, feature_clean, feature_from, field_clean, all_joined_are, joined_small, joined_is, IsListOf}
+use Rattle.mvt_feature.proofs.FeatureLemmas.{Says, feature_chain, fields_fault, feature_clean, feature_from, field_clean, all_joined_are, joined_small, joined_is, IsListOf}
 use Rattle.mvt_feature.proofs.WalkLemmas.{none_rest}
 use Rattle.mvt_wire.proofs.WireLaws.{packed_is_least_ordered}
 use Rattle.mvt_attrs.proofs.AttrsLaws.{attributes_or_fault_clean, attributes_or_fault_once, attributes_or_fault_there, rules_in_order_count, rules_in_order_pairs}
@@ -40,8 +41,14 @@ feature_there payload payload_at keys values h =
     let attributes = attributes_or_fault_there keys values (joined TAGS xs) (none_mapped tag_told _ last.0) in
     let small = joined_small (only GEOMETRY xs) (joined GEOMETRY xs) (joined_is payload_at GEOMETRY xs (λ c e. e) later.0) in
     let geometry = faultless_draws (kind_in xs) (joined GEOMETRY xs) small (none_mapped geometry_told _ last.1) in
-    let f : Feature = record { id = number_in (last_only ID xs); attributes = attributes.0; geometry = geometry.0 } in
-    (f, feature_from payload payload_at keys values f rest later.0 refl attributes.1 geometry.1)
+    let known : Known = record { id = number_in (last_only ID xs); kind = kind_in xs } in
+    let says : Says payload payload_at known (joined TAGS xs) (joined GEOMETRY xs) = record {
+      whole = rest;
+      clean = later.0;
+      known_is = record { id = refl; kind = refl; tags_are = refl; integers_are = refl };
+    } in
+    let f : Feature = record { id = known.id; attributes = attributes.0; geometry = geometry.0 } in
+    (f, feature_from says keys values f refl attributes.1 geometry.1)
 
 -- the grammar keeps the rules
 numbers_clean : (x : Entry) → (x.number ≡ TAGS → IsListOf x) → (x.number ≡ GEOMETRY → IsListOf x) → AllByRecursion (λ (known : ℕ × Form). x.number ≡ known.0 → HasForm known.1 x.content) feature_forms → first (feature_form_rules x.number x.content) ≡ None
@@ -62,12 +69,19 @@ fields_clean payload_at xs keys values f is =
 pub feature_keeps : (payload : List ℕ) (payload_at : ℕ) (keys : List (List ℕ)) (values : List Value) (f : Feature) → IsFeatureOf payload keys values f → feature_fault payload payload_at keys values ≡ None
 feature_keeps payload payload_at keys values f (xs, whole, is) =
     let only_split = split_of payload xs whole in
-    let clean : fields_fault payload payload_at ≡ None = rw only_split.0 (fields_clean payload_at xs keys values f is) in
-    let tags_are = (all_joined_are (only TAGS xs) is.tags is.tags_are).1 in
-    let integers_are = (all_joined_are (only GEOMETRY xs) is.integers is.integers_are).1 in
-    feature_clean payload payload_at keys values is.tags is.integers (kind_in xs) only_split.1 clean
-    (tags_are ∙ ap (joined TAGS) (sym only_split.0)) (integers_are ∙ ap (joined GEOMETRY) (sym only_split.0)) (ap kind_in (sym only_split.0))
-    (attributes_or_fault_clean keys values is.tags f.attributes is.attributes) (drawn_is_faultless (kind_in xs) is.integers f.geometry is.geometry)
+    let known : Known = record { id = f.id; kind = kind_in xs } in
+    let says : Says payload payload_at known is.tags is.integers = record {
+      whole = only_split.1;
+      clean = rw only_split.0 (fields_clean payload_at xs keys values f is);
+      known_is = rw only_split.0 (record {
+        id = is.id;
+        kind = refl;
+        tags_are = (all_joined_are (only TAGS xs) is.tags is.tags_are).1;
+        integers_are = (all_joined_are (only GEOMETRY xs) is.integers is.integers_are).1;
+      });
+    } in
+    feature_clean says keys values (attributes_or_fault_clean keys values is.tags f.attributes is.attributes)
+    (drawn_is_faultless (kind_in xs) is.integers f.geometry is.geometry)
 
 -- at most one feature
 same_features : (f g : Feature) → f.id ≡ g.id → f.attributes ≡ g.attributes → f.geometry ≡ g.geometry → f ≡ g
