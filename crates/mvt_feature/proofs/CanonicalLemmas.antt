@@ -68,7 +68,11 @@ value_means (Uint n) h = (refl, refl)
 value_means (Sint z) h = (refl, refl)
 value_means (Truth b) h = (refl, truth_of b)
 
-value_kind : (at body : ℕ) (v : Value) → kinds (record { at = at; body = body; number = (field_of_value v).number; content = (field_of_value v).content } ∷ []) ≡ record { at = at; body = body; number = (field_of_value v).number; content = (field_of_value v).content } ∷ []
+-- a plain field that stands somewhere
+abbrev plain_at : ℕ → ℕ → Plain → Entry
+plain_at at body p = record { at = at; body = body; number = p.number; content = p.content }
+
+value_kind : (at body : ℕ) (v : Value) → kinds (plain_at at body (field_of_value v) ∷ []) ≡ plain_at at body (field_of_value v) ∷ []
 value_kind at body (Text text) = refl
 value_kind at body (Float bits) = refl
 value_kind at body (Double bits) = refl
@@ -78,9 +82,9 @@ value_kind at body (Sint z) = refl
 value_kind at body (Truth b) = refl
 
 -- a value's own field is the value
-value_at : (at body : ℕ) (v : Value) → ValidValue v → IsValue (record { at = at; body = body; number = (field_of_value v).number; content = (field_of_value v).content } ∷ []) v
+value_at : (at body : ℕ) (v : Value) → ValidValue v → IsValue (plain_at at body (field_of_value v) ∷ []) v
 value_at at body v h =
-    let x : Entry = record { at = at; body = body; number = (field_of_value v).number; content = (field_of_value v).content } in
+    let x : Entry = plain_at at body (field_of_value v) in
     let kind = value_kind at body v in
     value_from 0 (x ∷ []) x v (each_none (value_field_rules 0) [] (x ∷ []) (rules_clean 0 x (value_clean v h), tt)) (ap are_one_kind kind) (ap (last_or None) kind) (value_means v h)
 
@@ -88,8 +92,8 @@ pub value_reads : (xs : List Entry) (v : Value) → map plain_of xs ≡ value_fi
 value_reads xs v is h =
     let one = one_of xs (field_of_value v) is in
     let x = one.0 in
-    let same : x ≡ record { at = x.at; body = x.body; number = (field_of_value v).number; content = (field_of_value v).content } =
-    ap (λ (p : Plain). record { at = x.at; body = x.body; number = p.number; content = p.content }) one.2 in
+    let same : x ≡ plain_at x.at x.body (field_of_value v) =
+    ap (λ (p : Plain). plain_at x.at x.body p) one.2 in
     subst (λ ys. IsValue ys v) (sym (one.1 ∙ ap (λ (y : Entry). y ∷ []) same)) (value_at x.at x.body v h)
 
 zig_small : (z : ℤ) → FitsSigned w64 z → zig z < 2 ^ 64

@@ -28,10 +28,10 @@ use Rattle.mvt_feature.specs.declared.known.Known.{Known}
 use Rattle.mvt_feature.specs.declared.message_error.MessageError.{MessageError}
 use Rattle.mvt_feature.specs.Causes.{of_packed}
 use Rattle.mvt_feature.specs.Faults.{MessageFault, fault_at, rest_rules, TellsMessage}
-use Rattle.mvt_feature.specs.Features.{AreNumbers, Joined, number_in, IsFeatureOf}
+use Rattle.mvt_feature.specs.Features.{AreNumbers, Joined, IsFeatureOf}
 use Rattle.mvt_feature.specs.FeatureRules.{numbers_of, joined, list_rules, feature_form_rules, feature_field_rules, tag_told, geometry_told, kind_in, feature_table, feature_rules, feature_fault}
 use Rattle.mvt_feature.specs.Inner.{IsKnown}
-use Rattle.mvt_feature.specs.Selection.{only, last_only, HaveForm}
+use Rattle.mvt_feature.specs.Selection.{only, HaveForm}
 use Rattle.mvt_feature.specs.Forms.{any_varint, geom_type, HasForm, form_rules}
 use Rattle.mvt_feature.specs.Faults.{of_tag_error, of_geometry_error}
 use Rattle.mvt_feature.proofs.ValueLemmas.{tells_front, whole_split}
@@ -117,6 +117,10 @@ module _ {payload : List ℕ} {payload_at : ℕ} {known : Known} {tags integers 
       → feature_fault payload payload_at keys values ≡ None
   feature_clean resolved drawn = behind_tags resolved ∙ ap (option_map geometry_told) drawn
 
+-- the fields of a feature have no fault
+abbrev pub FieldsClean : ℕ → List Entry → Type 0
+FieldsClean payload_at xs = first (each (λ _. feature_field_rules payload_at) [] xs) ≡ None
+
 -- the form of a field and its rules
 clean_field : (payload_at : ℕ) (x : Entry) → first (feature_field_rules payload_at x) ≡ None → first (feature_form_rules x.number x.content) ≡ None
 clean_field payload_at x h = none_mapped (fault_at (payload_at + x.at)) (first (feature_form_rules x.number x.content)) (sym (field_first payload_at x) ∙ h)
@@ -125,14 +129,14 @@ pub field_clean : (payload_at : ℕ) (x : Entry) → first (feature_form_rules x
 field_clean payload_at x h = field_first payload_at x ∙ ap (option_map (fault_at (payload_at + x.at))) h
 
 -- the rules of the fields of one number
-of_number : (payload_at k : ℕ) (P : Content → Type 0) → ((c : Content) → first (feature_form_rules k c) ≡ None → P c) → (xs : List Entry) → first (each (λ _. feature_field_rules payload_at) [] xs) ≡ None → HaveForm k P xs
+of_number : (payload_at k : ℕ) (P : Content → Type 0) → ((c : Content) → first (feature_form_rules k c) ≡ None → P c) → (xs : List Entry) → FieldsClean payload_at xs → HaveForm k P xs
 of_number payload_at k P form xs clean =
     all_weaker (λ (x : Entry). first (feature_field_rules payload_at x) ≡ None) (λ (x : Entry). x.number ≡ k → P x.content) (λ x none is. form x.content (subst (λ n. first (feature_form_rules n x.content) ≡ None) is (clean_field payload_at x none))) xs (none_each (feature_field_rules payload_at) [] xs clean)
 
-id_form : (payload_at : ℕ) (xs : List Entry) → first (each (λ _. feature_field_rules payload_at) [] xs) ≡ None → HaveForm ID (HasForm any_varint) xs
+id_form : (payload_at : ℕ) (xs : List Entry) → FieldsClean payload_at xs → HaveForm ID (HasForm any_varint) xs
 id_form payload_at xs clean = of_number payload_at ID (HasForm any_varint) (λ c h. has_form any_varint c (sym (first-under 0 (form_rules any_varint c)) ∙ h)) xs clean
 
-type_form : (payload_at : ℕ) (xs : List Entry) → first (each (λ _. feature_field_rules payload_at) [] xs) ≡ None → HaveForm TYPE (HasForm geom_type) xs
+type_form : (payload_at : ℕ) (xs : List Entry) → FieldsClean payload_at xs → HaveForm TYPE (HasForm geom_type) xs
 type_form payload_at xs clean = of_number payload_at TYPE (HasForm geom_type) (λ c h. has_form geom_type c (sym (first-under 0 (form_rules geom_type c)) ∙ h)) xs clean
 
 list_numbers : (c : Content) → first (list_rules c) ≡ None → AreNumbers c (numbers_of c)
@@ -190,7 +194,7 @@ joined_small [] ns h = subst (AllByRecursion (λ m. m < 2 ^ 32)) (sym h) tt
 joined_small (x ∷ xs) ns (front, back, is, numbers, more) =
     subst (AllByRecursion (λ m. m < 2 ^ 32)) (sym is) (all_joined (λ m. m < 2 ^ 32) front back (numbers_small x.content front numbers) (joined_small xs back more))
 
-pub joined_is : (payload_at k : ℕ) (xs : List Entry) → ((c : Content) → first (feature_form_rules k c) ≡ None → first (list_rules c) ≡ None) → first (each (λ _. feature_field_rules payload_at) [] xs) ≡ None → Joined (only k xs) (joined k xs)
+pub joined_is : (payload_at k : ℕ) (xs : List Entry) → ((c : Content) → first (feature_form_rules k c) ≡ None → first (list_rules c) ≡ None) → FieldsClean payload_at xs → Joined (only k xs) (joined k xs)
 joined_is payload_at k xs form clean =
     joined_all (only k xs) (only_form k (λ c. first (list_rules c) ≡ None) xs (of_number payload_at k (λ c. first (list_rules c) ≡ None) form xs clean))
 

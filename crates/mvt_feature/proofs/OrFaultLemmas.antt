@@ -1,7 +1,7 @@
 -- The laws of features, from those of tags and of geometries.
-use Rattle.std.proofs.Common.{◌≡◌, ℕ, ◌+◌, ◌^◌, ◌==◌, ◌↔◌, true, not, nat_lt, List, [], ◌∷◌, Some, None, refl, sym, ap, ◌∙◌, subst, arith}
+use Rattle.std.proofs.Common.{◌≡◌, ℕ, ◌+◌, ◌^◌, ◌==◌, ◌↔◌, true, not, nat_lt, List, [], ◌∷◌, Some, None, refl, sym, ◌∙◌, subst, arith}
 use Rattle.std.specs.List.{AllByRecursion}
-use Rattle.mvt_base.specs.Rules.{AreOrdered, IsLeast, when, told, first, each}
+use Rattle.mvt_base.specs.Rules.{AreOrdered, IsLeast, when, told, first}
 use Rattle.mvt_base.proofs.OrderLemmas.{first_is_least, least_is_first, AreRowsFrom, rows_ordered, each_ordered, told_ordered, under_ordered, when_ordered}
 use Rattle.mvt_base.proofs.RuleLemmas.{first-under, option_or-nones}
 use Rattle.mvt_base.proofs.TableLemmas.{none_mapped, each_none, by_number, if_ordered}
@@ -24,7 +24,7 @@ use Rattle.mvt_feature.specs.Forms.{Form, HasForm, HaveForms, number_rules}
 use Rattle.mvt_feature.specs.Selection.{only, last_only, HaveForm}
 use Rattle.mvt_feature.proofs.ValueLemmas.{rest_ordered, split_of}
 use Rattle.mvt_feature.proofs.FormLemmas.{number_clean, number_ordered, forms_split}
-use Rattle.mvt_feature.proofs.FeatureLemmas.{Says, feature_chain, fields_fault, feature_clean, feature_from, field_clean, all_joined_are, joined_small, joined_is, IsListOf}
+use Rattle.mvt_feature.proofs.FeatureLemmas.{FieldsClean, Says, feature_chain, feature_clean, feature_from, field_clean, all_joined_are, joined_small, joined_is, IsListOf}
 use Rattle.mvt_feature.proofs.WalkLemmas.{none_rest}
 use Rattle.mvt_wire.proofs.WireLaws.{packed_is_least_ordered}
 use Rattle.mvt_attrs.proofs.AttrsLaws.{attributes_or_fault_clean, attributes_or_fault_once, attributes_or_fault_there, rules_in_order_count, rules_in_order_pairs}
@@ -61,7 +61,7 @@ all_clean payload_at (x ∷ xs) tags integers forms =
     let parts = forms_split feature_forms x xs forms in
     (field_clean payload_at x (numbers_clean x tags.0 integers.0 parts.0), all_clean payload_at xs tags.1 integers.1 parts.1)
 
-pub fields_clean : (payload_at : ℕ) (xs : List Entry) (keys : List (List ℕ)) (values : List Value) (f : Feature) → IsFeature xs keys values f → first (each (λ _. feature_field_rules payload_at) [] xs) ≡ None
+pub fields_clean : (payload_at : ℕ) (xs : List Entry) (keys : List (List ℕ)) (values : List Value) (f : Feature) → IsFeature xs keys values f → FieldsClean payload_at xs
 fields_clean payload_at xs keys values f is =
     let lists = λ (k : ℕ) (ns : List ℕ) (are : Joined (only k xs) ns). all_only (λ (x : Entry). x.number) (λ (x : Entry). first (list_rules x.content) ≡ None) k xs (all_joined_are (only k xs) ns are).0 in
     each_none (feature_field_rules payload_at) [] xs (all_clean payload_at xs (lists TAGS is.tags is.tags_are) (lists GEOMETRY is.integers is.integers_are) is.forms)

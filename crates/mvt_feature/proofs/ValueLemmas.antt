@@ -14,7 +14,7 @@ use Rattle.mvt_wire.specs.Split.{Parts, Split, Whole, split}
 use Rattle.mvt_feature.specs.declared.numbers.value.TheConstants.{STRING, FLOAT, DOUBLE, INT, UINT, SINT, BOOL}
 use Rattle.mvt_wire.specs.Zigzag.{zig, unzig}
 use Rattle.mvt_feature.specs.declared.value.Meaning.{Meaning}
-use Rattle.mvt_feature.specs.declared.value.Kinds.TheVariants.{Nothing, One, Several}
+use Rattle.mvt_feature.specs.declared.value.Kinds.TheVariants.{One}
 use Rattle.mvt_feature.specs.Inner.{value_of, AreKinds}
 use Rattle.mvt_base.proofs.OrderLemmas.{first_is_least, least_is_first, AreRowsFrom, rows_ordered, each_ordered, when_ordered}
 use Rattle.mvt_base.proofs.TableLemmas.{firsts, first-rows_all, when_none, none_each}
@@ -30,6 +30,10 @@ use Rattle.mvt_feature.specs.Values.{value_forms, IsKind, Means, IsValue, IsValu
 use Rattle.mvt_feature.specs.ValueRules.{is_kind, kinds, are_one_kind, value_field_rules, value_table, value_rules, value_fault}
 use Rattle.mvt_feature.proofs.FormLemmas.{has_form, clean_at, told_clean, forms_have, forms_clean, forms_ordered}
 use Rattle.mvt_wire.proofs.WireLaws.{split_function_is, split_function_only, zigzag_function_number, zigzag_function_code}
+
+-- the fields of a value have no fault
+abbrev pub ValuesClean : ℕ → List Entry → Type 0
+ValuesClean payload_at xs = first (each (λ _. value_field_rules payload_at) [] xs) ≡ None
 
 -- the fault of a value from its parts
 pub value_chain : (payload : List ℕ) (payload_at tag_at : ℕ) → value_fault payload payload_at tag_at ≡ firsts (value_table payload payload_at tag_at)
@@ -50,13 +54,18 @@ pub tells_value : (payload : List ℕ) (payload_at tag_at : ℕ) (e : MessageErr
 tells_value payload payload_at tag_at e h =
     subst (λ o. TellsMessage e o) (sym (value_chain payload payload_at tag_at)) (tells_front e (first (rest_rules payload_at (split payload))) (first (each (λ _. value_field_rules payload_at) [] (split payload).fields)) (option_or (first (when (not (are_one_kind (kinds (split payload).fields))) (fault_at tag_at ValueKind))) None) h)
 
-pub value_kind_told : (payload : List ℕ) (payload_at tag_at : ℕ) → first (rest_rules payload_at (split payload)) ≡ None → first (each (λ _. value_field_rules payload_at) [] (split payload).fields) ≡ None → are_one_kind (kinds (split payload).fields) ≡ false → value_fault payload payload_at tag_at ≡ Some (fault_at tag_at ValueKind)
-value_kind_told payload payload_at tag_at rest clean several =
-    value_chain payload payload_at tag_at ∙ option_or-none _ _ rest ∙ option_or-none _ _ clean ∙ option_or-right _ ∙ first-when _ _ (ap not several)
+-- a payload that splits wholly into fields without a fault
+module _ (payload : List ℕ) (payload_at tag_at : ℕ) (whole : (split payload).rest ≡ []) (clean : ValuesClean payload_at (split payload).fields) where
+  behind_fields : value_fault payload payload_at tag_at ≡ first (when (not (are_one_kind (kinds (split payload).fields))) (fault_at tag_at ValueKind))
+  behind_fields =
+      value_chain payload payload_at tag_at ∙ option_or-none _ _ (rest_none payload_at (split payload) whole) ∙ option_or-none _ _ clean
+      ∙ option_or-right _
 
-pub value_clean : (payload : List ℕ) (payload_at tag_at : ℕ) → first (rest_rules payload_at (split payload)) ≡ None → first (each (λ _. value_field_rules payload_at) [] (split payload).fields) ≡ None → are_one_kind (kinds (split payload).fields) ≡ true → value_fault payload payload_at tag_at ≡ None
-value_clean payload payload_at tag_at rest clean one =
-    value_chain payload payload_at tag_at ∙ option_or-none _ _ rest ∙ option_or-none _ _ clean ∙ option_or-right _ ∙ first-when_not _ _ (ap not one)
+  pub value_kind_told : are_one_kind (kinds (split payload).fields) ≡ false → value_fault payload payload_at tag_at ≡ Some (fault_at tag_at ValueKind)
+  value_kind_told several = behind_fields ∙ first-when _ _ (ap not several)
+
+  pub value_clean : are_one_kind (kinds (split payload).fields) ≡ true → value_fault payload payload_at tag_at ≡ None
+  value_clean one = behind_fields ∙ first-when_not _ _ (ap not one)
 
 -- a fact for each of the seven numbers
 for_seven : (P : ℕ → Type 0) → P 1 → P 2 → P 3 → P 4 → P 5 → P 6 → P 7 → (n : ℕ) → 1 ≤ n → n ≤ 7 → P n
@@ -97,12 +106,12 @@ unfolding value_field_rules
 rules_clean payload_at x h = told_clean value_forms payload_at x h
 
 -- fields without a fault have the forms of their kinds, and such fields have no fault
-values_have : (payload_at : ℕ) (xs : List Entry) → first (each (λ _. value_field_rules payload_at) [] xs) ≡ None → HaveForms value_forms xs
+values_have : (payload_at : ℕ) (xs : List Entry) → ValuesClean payload_at xs → HaveForms value_forms xs
 unfolding value_field_rules
 values_have payload_at xs clean =
     forms_have value_forms payload_at xs (λ c. refl, (λ c. refl, (λ c. refl, (λ c. refl, (λ c. refl, (λ c. refl, (λ c. refl, tt))))))) clean
 
-values_clean : (payload_at : ℕ) (xs : List Entry) → HaveForms value_forms xs → first (each (λ _. value_field_rules payload_at) [] xs) ≡ None
+values_clean : (payload_at : ℕ) (xs : List Entry) → HaveForms value_forms xs → ValuesClean payload_at xs
 unfolding value_field_rules
 values_clean payload_at xs h = forms_clean value_forms payload_at xs h
 
@@ -164,7 +173,7 @@ means_kind n (varint m) (Truth b) h = let e : n ≡ BOOL = h.0 in (omega arith, 
 means_kind n c v h = absurd (search rules)
 
 -- fields of one kind without a fault are the value that the last of them says
-pub value_from : (payload_at : ℕ) (xs : List Entry) (last : Entry) (v : Value) → first (each (λ _. value_field_rules payload_at) [] xs) ≡ None → are_one_kind (kinds xs) ≡ true → last_or None (kinds xs) ≡ Some last → Means last.number last.content v → IsValue xs v
+pub value_from : (payload_at : ℕ) (xs : List Entry) (last : Entry) (v : Value) → ValuesClean payload_at xs → are_one_kind (kinds xs) ≡ true → last_or None (kinds xs) ≡ Some last → Means last.number last.content v → IsValue xs v
 value_from payload_at xs last v clean one is means =
     let same = all_numbered (kinds xs) last one is in
     let only_one = kinds_one last.number xs same in
@@ -185,19 +194,10 @@ whole_split payload rest = subst (λ r. Split payload (split payload).fields r) 
 pub split_of : (payload : List ℕ) (xs : List Entry) → Whole payload xs → ((split payload).fields ≡ xs) × ((split payload).rest ≡ [])
 split_of payload xs whole = let only = split_function_only payload [] xs whole in (sym only.0, sym only.1)
 
--- the answers of `read_value`
-pub kinds_value : (payload : List ℕ) (payload_at number : ℕ) (m : Meaning) → (split payload).rest ≡ [] → first (each (λ _. value_field_rules payload_at) [] (split payload).fields) ≡ None → AreKinds (split payload).fields (One number m) → IsValueOf payload (value_of m)
+-- the value of `read_meaning`
+pub kinds_value : (payload : List ℕ) (payload_at number : ℕ) (m : Meaning) → (split payload).rest ≡ [] → ValuesClean payload_at (split payload).fields → AreKinds (split payload).fields (One number m) → IsValueOf payload (value_of m)
 kinds_value payload payload_at number m rest clean (one, (last, (is, (named, means)))) =
     ((split payload).fields, whole_split payload rest, value_from payload_at (split payload).fields last (value_of m) clean one is (subst (λ n. Means n last.content (value_of m)) (sym named) means))
-
-pub kinds_clean : (payload : List ℕ) (payload_at tag_at number : ℕ) (m : Meaning) → (split payload).rest ≡ [] → first (each (λ _. value_field_rules payload_at) [] (split payload).fields) ≡ None → AreKinds (split payload).fields (One number m) → value_fault payload payload_at tag_at ≡ None
-kinds_clean payload payload_at tag_at number m rest clean are = value_clean payload payload_at tag_at (rest_none payload_at (split payload) rest) clean are.0
-
-pub nothing_told : (payload : List ℕ) (payload_at tag_at : ℕ) → (split payload).rest ≡ [] → first (each (λ _. value_field_rules payload_at) [] (split payload).fields) ≡ None → AreKinds (split payload).fields Nothing → value_fault payload payload_at tag_at ≡ Some (fault_at tag_at ValueKind)
-nothing_told payload payload_at tag_at rest clean are = value_kind_told payload payload_at tag_at (rest_none payload_at (split payload) rest) clean (ap are_one_kind are)
-
-pub several_told : (payload : List ℕ) (payload_at tag_at : ℕ) → (split payload).rest ≡ [] → first (each (λ _. value_field_rules payload_at) [] (split payload).fields) ≡ None → AreKinds (split payload).fields Several → value_fault payload payload_at tag_at ≡ Some (fault_at tag_at ValueKind)
-several_told payload payload_at tag_at rest clean are = value_kind_told payload payload_at tag_at (rest_none payload_at (split payload) rest) clean are.1
 
 -- a field of a kind, of the right form, says a value
 text_means : (c : Content) → HasForm string c → (v : Value) × Means STRING c v
@@ -251,7 +251,7 @@ filter_all P (x ∷ xs) h = by_test (is_kind x) (filter_all P xs h.1)
     by_test true more = (h.0, more)
     by_test false more = more
 
-value_of_last : (payload_at : ℕ) (xs : List Entry) (last : Entry) → first (each (λ _. value_field_rules payload_at) [] xs) ≡ None → are_one_kind (kinds xs) ≡ true → last_or None (kinds xs) ≡ Some last → (v : Value) × IsValue xs v
+value_of_last : (payload_at : ℕ) (xs : List Entry) (last : Entry) → ValuesClean payload_at xs → are_one_kind (kinds xs) ≡ true → last_or None (kinds xs) ≡ Some last → (v : Value) × IsValue xs v
 value_of_last payload_at xs last clean one is =
     let kind = last_of_all (λ (x : Entry). IsKind x.number) (kinds xs) last (filter_kinds xs) is in
     let rule = last_of_all (λ (x : Entry). first (value_field_rules payload_at x) ≡ None) (kinds xs) last (filter_all (λ (x : Entry). first (value_field_rules payload_at x) ≡ None) xs (none_each (value_field_rules payload_at) [] xs clean)) is in
@@ -289,7 +289,7 @@ value_keeps payload payload_at tag_at v (xs, whole, is) =
     let kind = means_kind is.kind is.last.content v is.means in
     let numbers = subst (λ ys. AllByRecursion (λ (y : Entry). y.number ≡ is.kind) ys) (only_kinds is.kind xs kind is.one) (only_number (λ (x : Entry). x.number) is.kind xs) in
     let one = all_one is.kind (kinds xs) is.last numbers (ap (last_or None) (sym (only_kinds is.kind xs kind is.one)) ∙ is.is_last) in
-    value_clean payload payload_at tag_at (rest_none payload_at (split payload) only.1) (rw only.0 clean) (rw only.0 one)
+    value_clean payload payload_at tag_at only.1 (rw only.0 clean) (rw only.0 one)
 
 -- at most one value
 zig-same : (y z : ℤ) → zig y ≡ zig z → y ≡ z
