@@ -86,7 +86,8 @@ value_at : (at body : ℕ) (v : Value) → ValidValue v → IsValue (plain_at at
 value_at at body v h =
     let x : Entry = plain_at at body (field_of_value v) in
     let kind = value_kind at body v in
-    value_from 0 (x ∷ []) x v (each_none (value_field_rules 0) [] (x ∷ []) (rules_clean 0 x (value_clean v h), tt)) (ap are_one_kind kind) (ap (last_or None) kind) (value_means v h)
+    value_from 0 (x ∷ []) x v (each_none (value_field_rules 0) [] (x ∷ []) (rules_clean 0 x (value_clean v h), tt))
+    (ap are_one_kind kind) (ap (last_or None) kind) (value_means v h)
 
 pub value_reads : (xs : List Entry) (v : Value) → map plain_of xs ≡ value_fields v → ValidValue v → IsValue xs v
 value_reads xs v is h =
@@ -110,7 +111,8 @@ code_small z h = let fits = Fits-of_z h in search rules
 pub value_fit : (v : Value) → ValidValue v → length (spelled (value_fields v)) < 2 ^ 64 → IsFit (field_of_value v)
 value_fit (Text text) h small =
     let longer = short_lengths_bytes STRING text in
-    let all : length (short_field STRING (bytes text)) < 2 ^ 64 = subst (λ l. length l < 2 ^ 64) (append-nil (short_field STRING (bytes text))) small in
+    let all : length (short_field STRING (bytes text)) < 2 ^ 64 =
+    subst (λ l. length l < 2 ^ 64) (append-nil (short_field STRING (bytes text))) small in
     record { first = lit≤ tt; last = lit< tt; content = omega arith }
 value_fit (Float bits) h small = record { first = lit≤ tt; last = lit< tt; content = h }
 value_fit (Double bits) h small = record { first = lit≤ tt; last = lit< tt; content = h }
@@ -135,32 +137,38 @@ only_of_plain : (k : ℕ) (xs : List Entry) → map plain_of (only k xs) ≡ onl
 only_of_plain k [] = refl
 only_of_plain k (x ∷ xs) = by_test (x.number == k) (only_of_plain k xs)
   where
-    by_test : (b : Bool) → map plain_of (only k xs) ≡ only_plain k (map plain_of xs) → map plain_of (if b then x ∷ only k xs else only k xs) ≡ (if b then plain_of x ∷ only_plain k (map plain_of xs) else only_plain k (map plain_of xs))
+    by_test : (b : Bool) → map plain_of (only k xs) ≡ only_plain k (map plain_of xs)
+        → map plain_of (if b then x ∷ only k xs else only k xs)
+        ≡ (if b then plain_of x ∷ only_plain k (map plain_of xs) else only_plain k (map plain_of xs))
     by_test true h = ap (λ l. plain_of x ∷ l) h
     by_test false h = h
 
 abbrev all_fields : Option ℕ → List ℕ → Kind → List ℕ → List Plain
 all_fields id tags kind integers = id_fields id ++ (tags_fields tags ++ drawing_fields kind integers)
 
-ids_only : (id : Option ℕ) (tags : List ℕ) (kind : Kind) (integers : List ℕ) → only_plain ID (all_fields id tags kind integers) ≡ id_fields id
+ids_only : (id : Option ℕ) (tags : List ℕ) (kind : Kind) (integers : List ℕ)
+    → only_plain ID (all_fields id tags kind integers) ≡ id_fields id
 ids_only None [] kind integers = refl
 ids_only None (t ∷ ts) kind integers = refl
 ids_only (Some n) [] kind integers = refl
 ids_only (Some n) (t ∷ ts) kind integers = refl
 
-tags_only : (id : Option ℕ) (tags : List ℕ) (kind : Kind) (integers : List ℕ) → only_plain TAGS (all_fields id tags kind integers) ≡ tags_fields tags
+tags_only : (id : Option ℕ) (tags : List ℕ) (kind : Kind) (integers : List ℕ)
+    → only_plain TAGS (all_fields id tags kind integers) ≡ tags_fields tags
 tags_only None [] kind integers = refl
 tags_only None (t ∷ ts) kind integers = refl
 tags_only (Some n) [] kind integers = refl
 tags_only (Some n) (t ∷ ts) kind integers = refl
 
-type_only : (id : Option ℕ) (tags : List ℕ) (kind : Kind) (integers : List ℕ) → only_plain TYPE (all_fields id tags kind integers) ≡ plain TYPE (varint (type_number kind)) ∷ []
+type_only : (id : Option ℕ) (tags : List ℕ) (kind : Kind) (integers : List ℕ)
+    → only_plain TYPE (all_fields id tags kind integers) ≡ plain TYPE (varint (type_number kind)) ∷ []
 type_only None [] kind integers = refl
 type_only None (t ∷ ts) kind integers = refl
 type_only (Some n) [] kind integers = refl
 type_only (Some n) (t ∷ ts) kind integers = refl
 
-integers_only : (id : Option ℕ) (tags : List ℕ) (kind : Kind) (integers : List ℕ) → only_plain GEOMETRY (all_fields id tags kind integers) ≡ plain GEOMETRY (bytes (short_numbers integers)) ∷ []
+integers_only : (id : Option ℕ) (tags : List ℕ) (kind : Kind) (integers : List ℕ)
+    → only_plain GEOMETRY (all_fields id tags kind integers) ≡ plain GEOMETRY (bytes (short_numbers integers)) ∷ []
 integers_only None [] kind integers = refl
 integers_only None (t ∷ ts) kind integers = refl
 integers_only (Some n) [] kind integers = refl
@@ -173,7 +181,8 @@ id_last xs (Some n) h =
     let one = one_of xs (plain ID (varint n)) h in
     ap (λ l. number_in (last_or None l)) one.1 ∙ ap (λ (p : Plain). number_of p.content) one.2
 
-id_forms : (xs : List Entry) (id : Option ℕ) → map plain_of xs ≡ id_fields id → AllByRecursion (λ (x : Entry). HasForm any_varint x.content) xs
+id_forms : (xs : List Entry) (id : Option ℕ) → map plain_of xs ≡ id_fields id
+    → AllByRecursion (λ (x : Entry). HasForm any_varint x.content) xs
 id_forms xs None h = rw (none_of xs h) tt
 id_forms xs (Some n) h =
     let one = one_of xs (plain ID (varint n)) h in
@@ -193,66 +202,94 @@ kind_back kinds.Point = refl
 kind_back kinds.LineString = refl
 kind_back kinds.Polygon = refl
 
-type_forms : (xs : List Entry) (kind : Kind) → map plain_of xs ≡ plain TYPE (varint (type_number kind)) ∷ [] → AllByRecursion (λ (x : Entry). HasForm geom_type x.content) xs
+type_forms : (xs : List Entry) (kind : Kind) → map plain_of xs ≡ plain TYPE (varint (type_number kind)) ∷ []
+    → AllByRecursion (λ (x : Entry). HasForm geom_type x.content) xs
 type_forms xs kind h =
     let one = one_of xs (plain TYPE (varint (type_number kind))) h in
     let form : HasForm geom_type one.0.content = subst (λ (p : Plain). HasForm geom_type p.content) (sym one.2) (type_small kind) in
     let all : AllByRecursion (λ (x : Entry). HasForm geom_type x.content) (one.0 ∷ []) = (form, tt) in
     subst (AllByRecursion (λ (x : Entry). HasForm geom_type x.content)) (sym one.1) all
 
-type_last : (xs : List Entry) (kind : Kind) → map plain_of xs ≡ plain TYPE (varint (type_number kind)) ∷ [] → kind_of_type (number_in (last_or None xs)) ≡ kind
+type_last : (xs : List Entry) (kind : Kind) → map plain_of xs ≡ plain TYPE (varint (type_number kind)) ∷ []
+    → kind_of_type (number_in (last_or None xs)) ≡ kind
 type_last xs kind h =
     let one = one_of xs (plain TYPE (varint (type_number kind))) h in
-    ap (λ l. kind_of_type (number_in (last_or None l))) one.1 ∙ ap (λ (p : Plain). kind_of_type (number_of p.content)) one.2 ∙ kind_back kind
+    ap (λ l. kind_of_type (number_in (last_or None l))) one.1 ∙ ap (λ (p : Plain). kind_of_type (number_of p.content)) one.2
+    ∙ kind_back kind
 
 -- the numbers of one packed field
-packed_joined : (xs : List Entry) (k : ℕ) (ns : List ℕ) → AllByRecursion (λ n. n < 2 ^ 32) ns → map plain_of xs ≡ plain k (bytes (short_numbers ns)) ∷ [] → Joined xs ns
+packed_joined : (xs : List Entry) (k : ℕ) (ns : List ℕ) → AllByRecursion (λ n. n < 2 ^ 32) ns
+    → map plain_of xs ≡ plain k (bytes (short_numbers ns)) ∷ [] → Joined xs ns
 packed_joined xs k ns small h =
     let one = one_of xs (plain k (bytes (short_numbers ns))) h in
     let content : one.0.content ≡ bytes (short_numbers ns) = ap (λ (p : Plain). p.content) one.2 in
     let joined : Joined (one.0 ∷ []) ns = (ns, [], sym (append-nil ns), rw content (short_packed_packed ns small), refl) in
     subst (λ ys. Joined ys ns) (sym one.1) joined
 
-tags_joined : (xs : List Entry) (tags : List ℕ) → AllByRecursion (λ n. n < 2 ^ 32) tags → map plain_of xs ≡ tags_fields tags → Joined xs tags
+tags_joined : (xs : List Entry) (tags : List ℕ) → AllByRecursion (λ n. n < 2 ^ 32) tags → map plain_of xs ≡ tags_fields tags
+    → Joined xs tags
 tags_joined xs [] small h = rw (none_of xs h) refl
 tags_joined xs (t ∷ ts) small h = packed_joined xs TAGS (t ∷ ts) small h
 
-pub feature_reads : (xs : List Entry) (keys : List (List ℕ)) (values : List Value) (tags : List ℕ) (f : Feature) → map plain_of xs ≡ feature_fields tags f → Names keys values tags f.attributes → AllByRecursion (λ n. n < 2 ^ 32) tags → ValidFeature f → AllByRecursion (λ n. n < 2 ^ 32) (drawn f.geometry) → IsFeature xs keys values f
+pub feature_reads : (xs : List Entry) (keys : List (List ℕ)) (values : List Value) (tags : List ℕ) (f : Feature)
+    → map plain_of xs ≡ feature_fields tags f → Names keys values tags f.attributes → AllByRecursion (λ n. n < 2 ^ 32) tags
+    → ValidFeature f → AllByRecursion (λ n. n < 2 ^ 32) (drawn f.geometry) → IsFeature xs keys values f
 feature_reads xs keys values tags f is names small valid low =
     let kind = kind_of f.geometry in
     let integers = drawn f.geometry in
     let ids = only_of_plain ID xs ∙ ap (only_plain ID) is ∙ ids_only f.id tags kind integers in
     let types = only_of_plain TYPE xs ∙ ap (only_plain TYPE) is ∙ type_only f.id tags kind integers in
     record {
-      forms = (all_only (λ (x : Entry). x.number) (λ (x : Entry). HasForm any_varint x.content) ID xs (id_forms (only ID xs) f.id ids), (all_only (λ (x : Entry). x.number) (λ (x : Entry). HasForm geom_type x.content) TYPE xs (type_forms (only TYPE xs) kind types), tt));
+      forms = (
+        all_only (λ (x : Entry). x.number) (λ (x : Entry). HasForm any_varint x.content) ID xs
+            (id_forms (only ID xs) f.id ids),
+        (
+          all_only (λ (x : Entry). x.number) (λ (x : Entry). HasForm geom_type x.content) TYPE xs
+              (type_forms (only TYPE xs) kind types),
+          tt,
+        ),
+      );
       id = sym (id_last (only ID xs) f.id ids);
       tags = tags;
-      tags_are = tags_joined (only TAGS xs) tags small (only_of_plain TAGS xs ∙ ap (only_plain TAGS) is ∙ tags_only f.id tags kind integers);
+      tags_are =
+          tags_joined (only TAGS xs) tags small
+          (only_of_plain TAGS xs ∙ ap (only_plain TAGS) is ∙ tags_only f.id tags kind integers);
       attributes = record { named = names; distinct = valid.distinct };
       integers = integers;
-      integers_are = packed_joined (only GEOMETRY xs) GEOMETRY integers low (only_of_plain GEOMETRY xs ∙ ap (only_plain GEOMETRY) is ∙ integers_only f.id tags kind integers);
+      integers_are =
+          packed_joined (only GEOMETRY xs) GEOMETRY integers low
+          (only_of_plain GEOMETRY xs ∙ ap (only_plain GEOMETRY) is ∙ integers_only f.id tags kind integers);
       geometry = record { same_kind = type_last (only TYPE xs) kind types; valid = valid.drawn; spelled = refl };
     }
 
 -- the fields of a feature can be spelled
-bytes_fit : (k : ℕ) (d : List ℕ) (n : ℕ) → 1 ≤ k → k < 2 ^ 29 → length (short_field k (bytes d)) ≤ n → n < 2 ^ 64 → IsFit (plain k (bytes d))
+bytes_fit : (k : ℕ) (d : List ℕ) (n : ℕ) → 1 ≤ k → k < 2 ^ 29 → length (short_field k (bytes d)) ≤ n → n < 2 ^ 64
+    → IsFit (plain k (bytes d))
 bytes_fit k d n low high within small =
     let longer = short_lengths_bytes k d in
     record { first = low; last = high; content = omega arith }
 
-drawing_fit : (kind : Kind) (integers : List ℕ) → length (spelled (drawing_fields kind integers)) < 2 ^ 64 → AllByRecursion IsFit (drawing_fields kind integers)
+drawing_fit : (kind : Kind) (integers : List ℕ) → length (spelled (drawing_fields kind integers)) < 2 ^ 64
+    → AllByRecursion IsFit (drawing_fields kind integers)
 drawing_fit kind integers small =
     let low = type_small kind in
-    let size = length-append (short_field TYPE (varint (type_number kind))) (spelled (plain GEOMETRY (bytes (short_numbers integers)) ∷ [])) in
+    let size =
+    length-append (short_field TYPE (varint (type_number kind)))
+    (spelled (plain GEOMETRY (bytes (short_numbers integers)) ∷ [])) in
     let last = ap length (append-nil (short_field GEOMETRY (bytes (short_numbers integers)))) in
-    let packed = bytes_fit GEOMETRY (short_numbers integers) (length (short_field GEOMETRY (bytes (short_numbers integers)))) (lit≤ tt) (lit< tt) (omega arith) (omega (arith, size, last)) in
+    let packed =
+    bytes_fit GEOMETRY (short_numbers integers) (length (short_field GEOMETRY (bytes (short_numbers integers)))) (lit≤ tt)
+    (lit< tt) (omega arith) (omega (arith, size, last)) in
     (record { first = lit≤ tt; last = lit< tt; content = omega arith }, (packed, tt))
 
 tags_fit : (tags : List ℕ) → length (spelled (tags_fields tags)) < 2 ^ 64 → AllByRecursion IsFit (tags_fields tags)
 tags_fit [] small = tt
 tags_fit (t ∷ ts) small =
-    let last = ap length (append-nil (short_field TAGS (bytes (short_numbers (t ∷ ts))))) in
-    (bytes_fit TAGS (short_numbers (t ∷ ts)) (length (short_field TAGS (bytes (short_numbers (t ∷ ts))))) (lit≤ tt) (lit< tt) (omega arith) (omega (arith, last)), tt)
+    let last = ap length (append-nil (short_field TAGS (bytes (short_numbers (t ∷ ts))))) in (
+      bytes_fit TAGS (short_numbers (t ∷ ts)) (length (short_field TAGS (bytes (short_numbers (t ∷ ts))))) (lit≤ tt) (lit< tt)
+          (omega arith) (omega (arith, last)),
+      tt,
+    )
 
 id_fit : (id : Option ℕ) → IfSome id (λ n. n < 2 ^ 64) → AllByRecursion IsFit (id_fields id)
 id_fit None h = tt
@@ -263,13 +300,17 @@ both_small fs gs n small =
     let size = ap length (spelled_parts fs gs) ∙ length-append (spelled fs) (spelled gs) in
     (omega (arith, size), omega (arith, size))
 
-pub feature_fit : (tags : List ℕ) (f : Feature) → IfSome f.id (λ n. n < 2 ^ 64) → length (spelled (feature_fields tags f)) < 2 ^ 64 → AllByRecursion IsFit (feature_fields tags f)
+pub feature_fit : (tags : List ℕ) (f : Feature) → IfSome f.id (λ n. n < 2 ^ 64)
+    → length (spelled (feature_fields tags f)) < 2 ^ 64 → AllByRecursion IsFit (feature_fields tags f)
 feature_fit tags f id small =
     let outer = both_small (id_fields f.id) (tags_fields tags ++ drawing_fields (kind_of f.geometry) (drawn f.geometry)) (2 ^ 64) small in
     let inner = both_small (tags_fields tags) (drawing_fields (kind_of f.geometry) (drawn f.geometry)) (2 ^ 64) outer.1 in
-    all_joined IsFit (id_fields f.id) _ (id_fit f.id id) (all_joined IsFit (tags_fields tags) _ (tags_fit tags inner.0) (drawing_fit (kind_of f.geometry) (drawn f.geometry) inner.1))
+    all_joined IsFit (id_fields f.id) _ (id_fit f.id id)
+    (all_joined IsFit (tags_fields tags) _ (tags_fit tags inner.0) (drawing_fit (kind_of f.geometry) (drawn f.geometry) inner.1))
 
-pub canonical_feature : (keys : List (List ℕ)) (values : List Value) (tags : List ℕ) (f : Feature) → ValidFeature f → Names keys values tags f.attributes → AllByRecursion (λ n. n < 2 ^ 32) tags → length (spelled (feature_fields tags f)) < 2 ^ 64 → IsFeatureOf (spelled (feature_fields tags f)) keys values f
+pub canonical_feature : (keys : List (List ℕ)) (values : List Value) (tags : List ℕ) (f : Feature) → ValidFeature f
+    → Names keys values tags f.attributes → AllByRecursion (λ n. n < 2 ^ 32) tags
+    → length (spelled (feature_fields tags f)) < 2 ^ 64 → IsFeatureOf (spelled (feature_fields tags f)) keys values f
 canonical_feature keys values tags f valid names small fits =
     let found = spelled_whole_whole (feature_fields tags f) (feature_fit tags f valid.id fits) in
     (found.0, found.1, feature_reads found.0 keys values tags f found.2 names small valid (drawn_small f.geometry valid.drawn))

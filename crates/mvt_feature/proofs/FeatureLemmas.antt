@@ -54,7 +54,8 @@ tags_fault payload keys values = option_map tag_told (tag_fault keys values (joi
 abbrev pub drawing_fault : List ℕ → Option MessageFault
 drawing_fault payload = option_map geometry_told (geometry_fault (kind_in (split payload).fields) (joined GEOMETRY (split payload).fields))
 
-mapped_or : {F G : Type 0} → (f : F → G) (a b : Option F) (o : Option G) → option_or (option_map f a) (option_or (option_map f b) o) ≡ option_or (option_map f (option_or a b)) o
+mapped_or : {F G : Type 0} → (f : F → G) (a b : Option F) (o : Option G)
+    → option_or (option_map f a) (option_or (option_map f b) o) ≡ option_or (option_map f (option_or a b)) o
 mapped_or f None None o = refl
 mapped_or f None (Some x) o = refl
 mapped_or f (Some x) b o = refl
@@ -63,23 +64,42 @@ geometry_first : (kind : Kind) (integers : List ℕ) → first (geometry_rules k
 unfolding geometry_fault
 geometry_first kind integers = refl
 
-tags_chain : (keys : List (List ℕ)) (values : List Value) (tags : List ℕ) (o : Option MessageFault) → option_or (first (told tag_told (count_rules tags))) (option_or (first (told tag_told (pair_rules keys values tags))) o) ≡ option_or (option_map tag_told (tag_fault keys values tags)) o
+tags_chain : (keys : List (List ℕ)) (values : List Value) (tags : List ℕ) (o : Option MessageFault)
+    → option_or (first (told tag_told (count_rules tags))) (option_or (first (told tag_told (pair_rules keys values tags))) o)
+    ≡ option_or (option_map tag_told (tag_fault keys values tags)) o
 tags_chain keys values tags o =
-    ap₂ (λ a b. option_or a (option_or b o)) (first-told tag_told (count_rules tags)) (first-told tag_told (pair_rules keys values tags)) ∙ mapped_or tag_told (first (count_rules tags)) (first (pair_rules keys values tags)) o ∙ ap (λ a. option_or (option_map tag_told a) o) (sym (fault_is_least_parts keys values tags))
+    ap₂ (λ a b. option_or a (option_or b o)) (first-told tag_told (count_rules tags))
+    (first-told tag_told (pair_rules keys values tags))
+    ∙ mapped_or tag_told (first (count_rules tags)) (first (pair_rules keys values tags)) o
+    ∙ ap (λ a. option_or (option_map tag_told a) o) (sym (fault_is_least_parts keys values tags))
 
-drawing_chain : (kind : Kind) (integers : List ℕ) → option_or (first (told geometry_told (geometry_rules kind integers))) None ≡ option_map geometry_told (geometry_fault kind integers)
+drawing_chain : (kind : Kind) (integers : List ℕ)
+    → option_or (first (told geometry_told (geometry_rules kind integers))) None
+    ≡ option_map geometry_told (geometry_fault kind integers)
 drawing_chain kind integers =
-    option_or-right _ ∙ first-told geometry_told (geometry_rules kind integers) ∙ ap (option_map geometry_told) (geometry_first kind integers)
+    option_or-right _ ∙ first-told geometry_told (geometry_rules kind integers)
+    ∙ ap (option_map geometry_told) (geometry_first kind integers)
 
-pub feature_chain : (payload : List ℕ) (payload_at : ℕ) (keys : List (List ℕ)) (values : List Value) → feature_fault payload payload_at keys values ≡ option_or (rest_fault payload payload_at) (option_or (fields_fault payload payload_at) (option_or (tags_fault payload keys values) (drawing_fault payload)))
+pub feature_chain : (payload : List ℕ) (payload_at : ℕ) (keys : List (List ℕ)) (values : List Value)
+    → feature_fault payload payload_at keys values
+    ≡ option_or (rest_fault payload payload_at)
+    (option_or (fields_fault payload payload_at) (option_or (tags_fault payload keys values) (drawing_fault payload)))
 unfolding feature_fault feature_rules
 feature_chain payload payload_at keys values =
-    first-rows_all (feature_table payload payload_at keys values) ∙ ap (λ o. option_or (rest_fault payload payload_at) (option_or (fields_fault payload payload_at) o)) (tags_chain keys values (joined TAGS (split payload).fields) _ ∙ ap (λ o. option_or (tags_fault payload keys values) o) (drawing_chain (kind_in (split payload).fields) (joined GEOMETRY (split payload).fields)))
+    first-rows_all (feature_table payload payload_at keys values)
+    ∙ ap (λ o. option_or (rest_fault payload payload_at) (option_or (fields_fault payload payload_at) o))
+    (tags_chain keys values (joined TAGS (split payload).fields) _
+    ∙ ap (λ o. option_or (tags_fault payload keys values) o)
+    (drawing_chain (kind_in (split payload).fields) (joined GEOMETRY (split payload).fields)))
 
 -- the exits of `read_feature_in`
-pub known_told : (payload : List ℕ) (payload_at : ℕ) (keys : List (List ℕ)) (values : List Value) (e : MessageError) → TellsMessage e (option_or (rest_fault payload payload_at) (fields_fault payload payload_at)) → TellsMessage e (feature_fault payload payload_at keys values)
+pub known_told : (payload : List ℕ) (payload_at : ℕ) (keys : List (List ℕ)) (values : List Value) (e : MessageError)
+    → TellsMessage e (option_or (rest_fault payload payload_at) (fields_fault payload payload_at))
+    → TellsMessage e (feature_fault payload payload_at keys values)
 known_told payload payload_at keys values e h =
-    subst (λ o. TellsMessage e o) (sym (feature_chain payload payload_at keys values)) (tells_front e (rest_fault payload payload_at) (fields_fault payload payload_at) (option_or (tags_fault payload keys values) (drawing_fault payload)) h)
+    subst (λ o. TellsMessage e o) (sym (feature_chain payload payload_at keys values))
+    (tells_front e (rest_fault payload payload_at) (fields_fault payload payload_at)
+    (option_or (tags_fault payload keys values) (drawing_fault payload)) h)
 
 -- a payload that splits wholly into fields without a fault, and what these say
 pub record Says (payload : List ℕ) (payload_at : ℕ) (known : Known) (tags integers : List ℕ) : Type 0 where
@@ -122,34 +142,54 @@ abbrev pub FieldsClean : ℕ → List Entry → Type 0
 FieldsClean payload_at xs = first (each (λ _. feature_field_rules payload_at) [] xs) ≡ None
 
 -- the form of a field and its rules
-clean_field : (payload_at : ℕ) (x : Entry) → first (feature_field_rules payload_at x) ≡ None → first (feature_form_rules x.number x.content) ≡ None
-clean_field payload_at x h = none_mapped (fault_at (payload_at + x.at)) (first (feature_form_rules x.number x.content)) (sym (field_first payload_at x) ∙ h)
+clean_field : (payload_at : ℕ) (x : Entry) → first (feature_field_rules payload_at x) ≡ None
+    → first (feature_form_rules x.number x.content) ≡ None
+clean_field payload_at x h =
+    none_mapped (fault_at (payload_at + x.at)) (first (feature_form_rules x.number x.content))
+    (sym (field_first payload_at x) ∙ h)
 
-pub field_clean : (payload_at : ℕ) (x : Entry) → first (feature_form_rules x.number x.content) ≡ None → first (feature_field_rules payload_at x) ≡ None
+pub field_clean : (payload_at : ℕ) (x : Entry) → first (feature_form_rules x.number x.content) ≡ None
+    → first (feature_field_rules payload_at x) ≡ None
 field_clean payload_at x h = field_first payload_at x ∙ ap (option_map (fault_at (payload_at + x.at))) h
 
 -- the rules of the fields of one number
-of_number : (payload_at k : ℕ) (P : Content → Type 0) → ((c : Content) → first (feature_form_rules k c) ≡ None → P c) → (xs : List Entry) → FieldsClean payload_at xs → HaveForm k P xs
+of_number : (payload_at k : ℕ) (P : Content → Type 0) → ((c : Content) → first (feature_form_rules k c) ≡ None → P c)
+    → (xs : List Entry) → FieldsClean payload_at xs → HaveForm k P xs
 of_number payload_at k P form xs clean =
-    all_weaker (λ (x : Entry). first (feature_field_rules payload_at x) ≡ None) (λ (x : Entry). x.number ≡ k → P x.content) (λ x none is. form x.content (subst (λ n. first (feature_form_rules n x.content) ≡ None) is (clean_field payload_at x none))) xs (none_each (feature_field_rules payload_at) [] xs clean)
+    all_weaker (λ (x : Entry). first (feature_field_rules payload_at x) ≡ None) (λ (x : Entry). x.number ≡ k → P x.content)
+    (λ x none is. form x.content (subst (λ n. first (feature_form_rules n x.content) ≡ None) is (clean_field payload_at x none)))
+    xs (none_each (feature_field_rules payload_at) [] xs clean)
 
 id_form : (payload_at : ℕ) (xs : List Entry) → FieldsClean payload_at xs → HaveForm ID (HasForm any_varint) xs
-id_form payload_at xs clean = of_number payload_at ID (HasForm any_varint) (λ c h. has_form any_varint c (sym (first-under 0 (form_rules any_varint c)) ∙ h)) xs clean
+id_form payload_at xs clean =
+    of_number payload_at ID (HasForm any_varint)
+    (λ c h. has_form any_varint c (sym (first-under 0 (form_rules any_varint c)) ∙ h)) xs clean
 
 type_form : (payload_at : ℕ) (xs : List Entry) → FieldsClean payload_at xs → HaveForm TYPE (HasForm geom_type) xs
-type_form payload_at xs clean = of_number payload_at TYPE (HasForm geom_type) (λ c h. has_form geom_type c (sym (first-under 0 (form_rules geom_type c)) ∙ h)) xs clean
+type_form payload_at xs clean =
+    of_number payload_at TYPE (HasForm geom_type)
+    (λ c h. has_form geom_type c (sym (first-under 0 (form_rules geom_type c)) ∙ h)) xs clean
 
 list_numbers : (c : Content) → first (list_rules c) ≡ None → AreNumbers c (numbers_of c)
 list_numbers (varint n) h =
-    let none = sym (first-under 0 (when (not (nat_lt n (2 ^ 32))) NumberRange)) ∙ sym (first-under 1 (under 0 (when (not (nat_lt n (2 ^ 32))) NumberRange))) ∙ h in
+    let none =
+    sym (first-under 0 (when (not (nat_lt n (2 ^ 32))) NumberRange))
+    ∙ sym (first-under 1 (under 0 (when (not (nat_lt n (2 ^ 32))) NumberRange))) ∙ h in
     (refl, ltb-true n (2 ^ 32) (not-false (nat_lt n (2 ^ 32)) (when_none (not (nat_lt n (2 ^ 32))) NumberRange none)))
-list_numbers (bytes d) h = packed_function_clean d (none_mapped of_packed (first (packed_rules d)) (sym (first-told of_packed (packed_rules d)) ∙ sym (first-under 1 (told of_packed (packed_rules d))) ∙ h))
+list_numbers (bytes d) h =
+    packed_function_clean d
+    (none_mapped of_packed (first (packed_rules d))
+    (sym (first-told of_packed (packed_rules d)) ∙ sym (first-under 1 (told of_packed (packed_rules d))) ∙ h))
 list_numbers (fixed64 n) h = cc
 list_numbers (fixed32 n) h = cc
 
 numbers_list : (c : Content) (ns : List ℕ) → AreNumbers c ns → (first (list_rules c) ≡ None) × (ns ≡ numbers_of c)
-numbers_list (varint n) ns h =
-    (first-under 1 (under 0 (when (not (nat_lt n (2 ^ 32))) NumberRange)) ∙ first-under 0 (when (not (nat_lt n (2 ^ 32))) NumberRange) ∙ first-when_not (not (nat_lt n (2 ^ 32))) NumberRange (ap not (lt-ltb n (2 ^ 32) h.1)), h.0)
+numbers_list (varint n) ns h = (
+  first-under 1 (under 0 (when (not (nat_lt n (2 ^ 32))) NumberRange))
+      ∙ first-under 0 (when (not (nat_lt n (2 ^ 32))) NumberRange)
+      ∙ first-when_not (not (nat_lt n (2 ^ 32))) NumberRange (ap not (lt-ltb n (2 ^ 32) h.1)),
+  h.0,
+)
 numbers_list (bytes d) ns h =
     let are = packed_function_only d ns h in
     (first-under 1 (told of_packed (packed_rules d)) ∙ first-told of_packed (packed_rules d) ∙ ap (option_map of_packed) are.0, sym are.1)
@@ -164,15 +204,23 @@ only_form : (k : ℕ) (P : Content → Type 0) (xs : List Entry) → HaveForm k 
 only_form k P [] h = tt
 only_form k P (x ∷ xs) h = by_test (x.number == k) refl (only_form k P xs h.1)
   where
-    by_test : (b : Bool) → (x.number == k) ≡ b → AllByRecursion (λ (y : Entry). P y.content) (only k xs) → AllByRecursion (λ (y : Entry). P y.content) (if b then x ∷ only k xs else only k xs)
+    by_test : (b : Bool) → (x.number == k) ≡ b → AllByRecursion (λ (y : Entry). P y.content) (only k xs)
+        → AllByRecursion (λ (y : Entry). P y.content) (if b then x ∷ only k xs else only k xs)
     by_test true e more = (h.0 (eqb-true x.number k e), more)
     by_test false e more = more
 
 joined_all : (xs : List Entry) → AllByRecursion IsListOf xs → Joined xs (flat_map (λ (x : Entry). numbers_of x.content) xs)
 joined_all [] h = refl
-joined_all (x ∷ xs) h = (numbers_of x.content, flat_map (λ (y : Entry). numbers_of y.content) xs, refl, list_numbers x.content h.0, joined_all xs h.1)
+joined_all (x ∷ xs) h = (
+  numbers_of x.content,
+  flat_map (λ (y : Entry). numbers_of y.content) xs,
+  refl,
+  list_numbers x.content h.0,
+  joined_all xs h.1,
+)
 
-pub all_joined_are : (xs : List Entry) (ns : List ℕ) → Joined xs ns → AllByRecursion IsListOf xs × (ns ≡ flat_map (λ (x : Entry). numbers_of x.content) xs)
+pub all_joined_are : (xs : List Entry) (ns : List ℕ) → Joined xs ns
+    → AllByRecursion IsListOf xs × (ns ≡ flat_map (λ (x : Entry). numbers_of x.content) xs)
 all_joined_are [] ns h = (tt, h)
 all_joined_are (x ∷ xs) ns (front, back, is, numbers, more) =
     let here = numbers_list x.content front numbers in
@@ -192,11 +240,15 @@ numbers_small (fixed32 n) ns h = absurd h
 pub joined_small : (xs : List Entry) (ns : List ℕ) → Joined xs ns → AllByRecursion (λ n. n < 2 ^ 32) ns
 joined_small [] ns h = subst (AllByRecursion (λ m. m < 2 ^ 32)) (sym h) tt
 joined_small (x ∷ xs) ns (front, back, is, numbers, more) =
-    subst (AllByRecursion (λ m. m < 2 ^ 32)) (sym is) (all_joined (λ m. m < 2 ^ 32) front back (numbers_small x.content front numbers) (joined_small xs back more))
+    subst (AllByRecursion (λ m. m < 2 ^ 32)) (sym is)
+    (all_joined (λ m. m < 2 ^ 32) front back (numbers_small x.content front numbers) (joined_small xs back more))
 
-pub joined_is : (payload_at k : ℕ) (xs : List Entry) → ((c : Content) → first (feature_form_rules k c) ≡ None → first (list_rules c) ≡ None) → FieldsClean payload_at xs → Joined (only k xs) (joined k xs)
+pub joined_is : (payload_at k : ℕ) (xs : List Entry)
+    → ((c : Content) → first (feature_form_rules k c) ≡ None → first (list_rules c) ≡ None) → FieldsClean payload_at xs
+    → Joined (only k xs) (joined k xs)
 joined_is payload_at k xs form clean =
-    joined_all (only k xs) (only_form k (λ c. first (list_rules c) ≡ None) xs (of_number payload_at k (λ c. first (list_rules c) ≡ None) form xs clean))
+    joined_all (only k xs)
+    (only_form k (λ c. first (list_rules c) ≡ None) xs (of_number payload_at k (λ c. first (list_rules c) ≡ None) form xs clean))
 
 -- what was read is the feature
 pub feature_from : {payload : List ℕ} {payload_at : ℕ} {known : Known} {tags integers : List ℕ}

@@ -36,7 +36,8 @@ abbrev pub ValuesClean : ℕ → List Entry → Type 0
 ValuesClean payload_at xs = first (each (λ _. value_field_rules payload_at) [] xs) ≡ None
 
 -- the fault of a value from its parts
-pub value_chain : (payload : List ℕ) (payload_at tag_at : ℕ) → value_fault payload payload_at tag_at ≡ firsts (value_table payload payload_at tag_at)
+pub value_chain : (payload : List ℕ) (payload_at tag_at : ℕ)
+    → value_fault payload payload_at tag_at ≡ firsts (value_table payload payload_at tag_at)
 unfolding value_fault value_rules
 value_chain payload payload_at tag_at = first-rows_all (value_table payload payload_at tag_at)
 
@@ -46,22 +47,32 @@ front_some None (Some x) d f h = h
 front_some (Some x) b d f h = h
 
 -- a fault of the first rows
-pub tells_front : (e : MessageError) (a b d : Option MessageFault) → TellsMessage e (option_or a b) → TellsMessage e (option_or a (option_or b d))
+pub tells_front : (e : MessageError) (a b d : Option MessageFault) → TellsMessage e (option_or a b)
+    → TellsMessage e (option_or a (option_or b d))
 tells_front Memory a b d h = tt
 tells_front (Fault feature at cause) a b d h = front_some a b d _ h
 
-pub tells_value : (payload : List ℕ) (payload_at tag_at : ℕ) (e : MessageError) → TellsMessage e (option_or (first (rest_rules payload_at (split payload))) (first (each (λ _. value_field_rules payload_at) [] (split payload).fields))) → TellsMessage e (value_fault payload payload_at tag_at)
+pub tells_value : (payload : List ℕ) (payload_at tag_at : ℕ) (e : MessageError)
+    → TellsMessage e
+    (option_or (first (rest_rules payload_at (split payload)))
+    (first (each (λ _. value_field_rules payload_at) [] (split payload).fields)))
+    → TellsMessage e (value_fault payload payload_at tag_at)
 tells_value payload payload_at tag_at e h =
-    subst (λ o. TellsMessage e o) (sym (value_chain payload payload_at tag_at)) (tells_front e (first (rest_rules payload_at (split payload))) (first (each (λ _. value_field_rules payload_at) [] (split payload).fields)) (option_or (first (when (not (are_one_kind (kinds (split payload).fields))) (fault_at tag_at ValueKind))) None) h)
+    subst (λ o. TellsMessage e o) (sym (value_chain payload payload_at tag_at))
+    (tells_front e (first (rest_rules payload_at (split payload)))
+    (first (each (λ _. value_field_rules payload_at) [] (split payload).fields))
+    (option_or (first (when (not (are_one_kind (kinds (split payload).fields))) (fault_at tag_at ValueKind))) None) h)
 
 -- a payload that splits wholly into fields without a fault
 module _ (payload : List ℕ) (payload_at tag_at : ℕ) (whole : (split payload).rest ≡ []) (clean : ValuesClean payload_at (split payload).fields) where
-  behind_fields : value_fault payload payload_at tag_at ≡ first (when (not (are_one_kind (kinds (split payload).fields))) (fault_at tag_at ValueKind))
+  behind_fields : value_fault payload payload_at tag_at
+      ≡ first (when (not (are_one_kind (kinds (split payload).fields))) (fault_at tag_at ValueKind))
   behind_fields =
       value_chain payload payload_at tag_at ∙ option_or-none _ _ (rest_none payload_at (split payload) whole) ∙ option_or-none _ _ clean
       ∙ option_or-right _
 
-  pub value_kind_told : are_one_kind (kinds (split payload).fields) ≡ false → value_fault payload payload_at tag_at ≡ Some (fault_at tag_at ValueKind)
+  pub value_kind_told : are_one_kind (kinds (split payload).fields) ≡ false
+      → value_fault payload payload_at tag_at ≡ Some (fault_at tag_at ValueKind)
   value_kind_told several = behind_fields ∙ first-when _ _ (ap not several)
 
   pub value_clean : are_one_kind (kinds (split payload).fields) ≡ true → value_fault payload payload_at tag_at ≡ None
@@ -97,11 +108,13 @@ for_seven P p1 p2 p3 p4 p5 p6 p7 n low high =
     ]
 
 -- a field's rules and its form
-clean_rules : (payload_at : ℕ) (x : Entry) → first (value_field_rules payload_at x) ≡ None → first (number_rules value_forms x.number x.content) ≡ None
+clean_rules : (payload_at : ℕ) (x : Entry) → first (value_field_rules payload_at x) ≡ None
+    → first (number_rules value_forms x.number x.content) ≡ None
 unfolding value_field_rules
 clean_rules payload_at x h = clean_at value_forms payload_at x h
 
-pub rules_clean : (payload_at : ℕ) (x : Entry) → first (number_rules value_forms x.number x.content) ≡ None → first (value_field_rules payload_at x) ≡ None
+pub rules_clean : (payload_at : ℕ) (x : Entry) → first (number_rules value_forms x.number x.content) ≡ None
+    → first (value_field_rules payload_at x) ≡ None
 unfolding value_field_rules
 rules_clean payload_at x h = told_clean value_forms payload_at x h
 
@@ -125,7 +138,8 @@ test_kind x h = let parts = and_parts (nat_le STRING x.number) (nat_le x.number 
 abbrev IsOnly : ℕ → Entry → Type 0
 IsOnly kind x = IsKind x.number → x.number ≡ kind
 
-only_step : (kind : ℕ) (a b : Bool) (x : Entry) (xs ys : List Entry) → a ≡ b → xs ≡ ys → (if a then x ∷ xs else xs) ≡ (if b then x ∷ ys else ys)
+only_step : (kind : ℕ) (a b : Bool) (x : Entry) (xs ys : List Entry) → a ≡ b → xs ≡ ys
+    → (if a then x ∷ xs else xs) ≡ (if b then x ∷ ys else ys)
 only_step kind true true x xs ys e f = ap (λ l. x ∷ l) f
 only_step kind false false x xs ys e f = f
 only_step kind true false x xs ys e f = cc
@@ -139,14 +153,19 @@ same_test kind x is one = elim (cases_eq x.number kind) [
 
 pub only_kinds : (kind : ℕ) (xs : List Entry) → IsKind kind → AllByRecursion (IsOnly kind) xs → only kind xs ≡ kinds xs
 only_kinds kind [] is one = refl
-only_kinds kind (x ∷ xs) is one = only_step kind (x.number == kind) (is_kind x) x (only kind xs) (kinds xs) (same_test kind x is one.0) (only_kinds kind xs is one.1)
+only_kinds kind (x ∷ xs) is one =
+    only_step kind (x.number == kind) (is_kind x) x (only kind xs) (kinds xs) (same_test kind x is one.0)
+    (only_kinds kind xs is one.1)
 
 -- each field of a kind is of the number of all kinds
 kinds_one : (kind : ℕ) (xs : List Entry) → AllByRecursion (λ (x : Entry). x.number ≡ kind) (kinds xs) → AllByRecursion (IsOnly kind) xs
 kinds_one kind [] h = tt
 kinds_one kind (x ∷ xs) h = by_test (is_kind x) refl h (kinds_one kind xs)
   where
-    by_test : (b : Bool) → is_kind x ≡ b → AllByRecursion (λ (y : Entry). y.number ≡ kind) (if b then x ∷ kinds xs else kinds xs) → (AllByRecursion (λ (y : Entry). y.number ≡ kind) (kinds xs) → AllByRecursion (IsOnly kind) xs) → AllByRecursion (IsOnly kind) (x ∷ xs)
+    by_test : (b : Bool) → is_kind x ≡ b
+        → AllByRecursion (λ (y : Entry). y.number ≡ kind) (if b then x ∷ kinds xs else kinds xs)
+        → (AllByRecursion (λ (y : Entry). y.number ≡ kind) (kinds xs) → AllByRecursion (IsOnly kind) xs)
+        → AllByRecursion (IsOnly kind) (x ∷ xs)
     by_test true e h more = (λ _. h.0, more h.1)
     by_test false e h more = (λ is. absurd (both_ways (is_kind x) e (kind_test x is)), more h)
 
@@ -155,7 +174,8 @@ numbered : (k : ℕ) (xs : List Entry) → list_all (λ (y : Entry). y.number ==
 numbered k [] h = tt
 numbered k (x ∷ xs) h = let parts = and_parts (x.number == k) (list_all (λ (y : Entry). y.number == k) xs) h in (eqb-true x.number k parts.0, numbered k xs parts.1)
 
-all_numbered : (xs : List Entry) (last : Entry) → are_one_kind xs ≡ true → last_or None xs ≡ Some last → AllByRecursion (λ (y : Entry). y.number ≡ last.number) xs
+all_numbered : (xs : List Entry) (last : Entry) → are_one_kind xs ≡ true → last_or None xs ≡ Some last
+    → AllByRecursion (λ (y : Entry). y.number ≡ last.number) xs
 all_numbered [] last one is = cc
 all_numbered (x ∷ xs) last one is =
     let all : AllByRecursion (λ (y : Entry). y.number ≡ x.number) (x ∷ xs) = (refl, numbered x.number xs one) in
@@ -173,7 +193,8 @@ means_kind n (varint m) (Truth b) h = let e : n ≡ BOOL = h.0 in (omega arith, 
 means_kind n c v h = absurd (search rules)
 
 -- fields of one kind without a fault are the value that the last of them says
-pub value_from : (payload_at : ℕ) (xs : List Entry) (last : Entry) (v : Value) → ValuesClean payload_at xs → are_one_kind (kinds xs) ≡ true → last_or None (kinds xs) ≡ Some last → Means last.number last.content v → IsValue xs v
+pub value_from : (payload_at : ℕ) (xs : List Entry) (last : Entry) (v : Value) → ValuesClean payload_at xs
+    → are_one_kind (kinds xs) ≡ true → last_or None (kinds xs) ≡ Some last → Means last.number last.content v → IsValue xs v
 value_from payload_at xs last v clean one is means =
     let same = all_numbered (kinds xs) last one is in
     let only_one = kinds_one last.number xs same in
@@ -195,9 +216,15 @@ pub split_of : (payload : List ℕ) (xs : List Entry) → Whole payload xs → (
 split_of payload xs whole = let only = split_function_only payload [] xs whole in (sym only.0, sym only.1)
 
 -- the value of `read_meaning`
-pub kinds_value : (payload : List ℕ) (payload_at number : ℕ) (m : Meaning) → (split payload).rest ≡ [] → ValuesClean payload_at (split payload).fields → AreKinds (split payload).fields (One number m) → IsValueOf payload (value_of m)
-kinds_value payload payload_at number m rest clean (one, (last, (is, (named, means)))) =
-    ((split payload).fields, whole_split payload rest, value_from payload_at (split payload).fields last (value_of m) clean one is (subst (λ n. Means n last.content (value_of m)) (sym named) means))
+pub kinds_value : (payload : List ℕ) (payload_at number : ℕ) (m : Meaning) → (split payload).rest ≡ []
+    → ValuesClean payload_at (split payload).fields → AreKinds (split payload).fields (One number m)
+    → IsValueOf payload (value_of m)
+kinds_value payload payload_at number m rest clean (one, (last, (is, (named, means)))) = (
+  (split payload).fields,
+  whole_split payload rest,
+  value_from payload_at (split payload).fields last (value_of m) clean one is
+      (subst (λ n. Means n last.content (value_of m)) (sym named) means),
+)
 
 -- a field of a kind, of the right form, says a value
 text_means : (c : Content) → HasForm string c → (v : Value) × Means STRING c v
@@ -218,7 +245,8 @@ double_means (bytes d) h = absurd h
 double_means (varint n) h = absurd h
 double_means (fixed32 n) h = absurd h
 
-varint_means : (k : ℕ) (c : Content) (make : ℕ → Value) → ((n : ℕ) → Means k (varint n) (make n)) → HasForm any_varint c → (v : Value) × Means k c v
+varint_means : (k : ℕ) (c : Content) (make : ℕ → Value) → ((n : ℕ) → Means k (varint n) (make n)) → HasForm any_varint c
+    → (v : Value) × Means k c v
 varint_means k (varint n) make means h = (make n, means n)
 varint_means k (bytes d) make means h = absurd h
 varint_means k (fixed64 n) make means h = absurd h
@@ -239,7 +267,8 @@ filter_kinds : (xs : List Entry) → AllByRecursion (λ (x : Entry). IsKind x.nu
 filter_kinds [] = tt
 filter_kinds (x ∷ xs) = by_test (is_kind x) refl (filter_kinds xs)
   where
-    by_test : (b : Bool) → is_kind x ≡ b → AllByRecursion (λ (y : Entry). IsKind y.number) (kinds xs) → AllByRecursion (λ (y : Entry). IsKind y.number) (if b then x ∷ kinds xs else kinds xs)
+    by_test : (b : Bool) → is_kind x ≡ b → AllByRecursion (λ (y : Entry). IsKind y.number) (kinds xs)
+        → AllByRecursion (λ (y : Entry). IsKind y.number) (if b then x ∷ kinds xs else kinds xs)
     by_test true e more = (test_kind x e, more)
     by_test false e more = more
 
@@ -251,10 +280,15 @@ filter_all P (x ∷ xs) h = by_test (is_kind x) (filter_all P xs h.1)
     by_test true more = (h.0, more)
     by_test false more = more
 
-value_of_last : (payload_at : ℕ) (xs : List Entry) (last : Entry) → ValuesClean payload_at xs → are_one_kind (kinds xs) ≡ true → last_or None (kinds xs) ≡ Some last → (v : Value) × IsValue xs v
+value_of_last : (payload_at : ℕ) (xs : List Entry) (last : Entry) → ValuesClean payload_at xs
+    → are_one_kind (kinds xs) ≡ true → last_or None (kinds xs) ≡ Some last → (v : Value) × IsValue xs v
 value_of_last payload_at xs last clean one is =
     let kind = last_of_all (λ (x : Entry). IsKind x.number) (kinds xs) last (filter_kinds xs) is in
-    let rule = last_of_all (λ (x : Entry). first (value_field_rules payload_at x) ≡ None) (kinds xs) last (filter_all (λ (x : Entry). first (value_field_rules payload_at x) ≡ None) xs (none_each (value_field_rules payload_at) [] xs clean)) is in
+    let rule =
+    last_of_all (λ (x : Entry). first (value_field_rules payload_at x) ≡ None) (kinds xs) last
+    (filter_all (λ (x : Entry). first (value_field_rules payload_at x) ≡ None) xs
+    (none_each (value_field_rules payload_at) [] xs clean))
+    is in
     let found = means_there last.number kind last.content (clean_rules payload_at last rule) in
     (found.0, value_from payload_at xs last found.0 clean one is found.1)
 
@@ -263,7 +297,8 @@ last_kind [] h = cc
 last_kind (x ∷ xs) h = last_there x xs
 
 -- no fault: the payload is a value
-pub value_there : (payload : List ℕ) (payload_at tag_at : ℕ) → value_fault payload payload_at tag_at ≡ None → (v : Value) × IsValueOf payload v
+pub value_there : (payload : List ℕ) (payload_at tag_at : ℕ) → value_fault payload payload_at tag_at ≡ None
+    → (v : Value) × IsValueOf payload v
 value_there payload payload_at tag_at h =
     let parts = option_or-nones _ _ (sym (value_chain payload payload_at tag_at) ∙ h) in
     let later = option_or-nones _ _ parts.1 in
@@ -274,7 +309,8 @@ value_there payload payload_at tag_at h =
     (found.0, ((split payload).fields, whole_split payload (none_rest payload_at (split payload) parts.0), found.1))
 
 -- the grammar keeps the rules
-all_one : (k : ℕ) (xs : List Entry) (last : Entry) → AllByRecursion (λ (y : Entry). y.number ≡ k) xs → last_or None xs ≡ Some last → are_one_kind xs ≡ true
+all_one : (k : ℕ) (xs : List Entry) (last : Entry) → AllByRecursion (λ (y : Entry). y.number ≡ k) xs
+    → last_or None xs ≡ Some last → are_one_kind xs ≡ true
 all_one k [] last h is = cc
 all_one k (x ∷ xs) last h is = go xs h.1
   where
@@ -282,12 +318,15 @@ all_one k (x ∷ xs) last h is = go xs h.1
     go [] more = refl
     go (y ∷ ys) more = and_from _ _ (eq-eqb y.number x.number (more.0 ∙ sym h.0)) (go ys more.1)
 
-pub value_keeps : (payload : List ℕ) (payload_at tag_at : ℕ) (v : Value) → IsValueOf payload v → value_fault payload payload_at tag_at ≡ None
+pub value_keeps : (payload : List ℕ) (payload_at tag_at : ℕ) (v : Value) → IsValueOf payload v
+    → value_fault payload payload_at tag_at ≡ None
 value_keeps payload payload_at tag_at v (xs, whole, is) =
     let only = split_of payload xs whole in
     let clean = values_clean payload_at xs is.forms in
     let kind = means_kind is.kind is.last.content v is.means in
-    let numbers = subst (λ ys. AllByRecursion (λ (y : Entry). y.number ≡ is.kind) ys) (only_kinds is.kind xs kind is.one) (only_number (λ (x : Entry). x.number) is.kind xs) in
+    let numbers =
+    subst (λ ys. AllByRecursion (λ (y : Entry). y.number ≡ is.kind) ys) (only_kinds is.kind xs kind is.one)
+    (only_number (λ (x : Entry). x.number) is.kind xs) in
     let one = all_one is.kind (kinds xs) is.last numbers (ap (last_or None) (sym (only_kinds is.kind xs kind is.one)) ∙ is.is_last) in
     value_clean payload payload_at tag_at only.1 (rw only.0 clean) (rw only.0 one)
 
@@ -308,12 +347,17 @@ means_same n c v w h g = absurd (search rules)
 pub value_same : (xs : List Entry) (v w : Value) → IsValue xs v → IsValue xs w → v ≡ w
 value_same xs v w a b =
     let a_kind = means_kind a.kind a.last.content v a.means in
-    let named : a.last.number ≡ a.kind = last_of_all (λ (x : Entry). x.number ≡ a.kind) (only a.kind xs) a.last (only_number (λ (x : Entry). x.number) a.kind xs) a.is_last in
-    let other : IsKind a.last.number → a.last.number ≡ b.kind = last_of_all (λ (x : Entry). IsKind x.number → x.number ≡ b.kind) (only a.kind xs) a.last (only_all (λ (x : Entry). x.number) (λ (x : Entry). IsKind x.number → x.number ≡ b.kind) a.kind xs b.one) a.is_last in
+    let named : a.last.number ≡ a.kind =
+    last_of_all (λ (x : Entry). x.number ≡ a.kind) (only a.kind xs) a.last (only_number (λ (x : Entry). x.number) a.kind xs)
+    a.is_last in
+    let other : IsKind a.last.number → a.last.number ≡ b.kind =
+    last_of_all (λ (x : Entry). IsKind x.number → x.number ≡ b.kind) (only a.kind xs) a.last
+    (only_all (λ (x : Entry). x.number) (λ (x : Entry). IsKind x.number → x.number ≡ b.kind) a.kind xs b.one) a.is_last in
     let same : a.kind ≡ b.kind = sym named ∙ other (subst IsKind (sym named) a_kind) in
     let lasts : Some a.last ≡ Some b.last = sym a.is_last ∙ ap (λ k. last_only k xs) same ∙ b.is_last in
     let last : a.last ≡ b.last = cc in
-    means_same b.kind b.last.content v w (subst (λ (x : Entry). Means b.kind x.content v) last (subst (λ k. Means k a.last.content v) same a.means)) b.means
+    means_same b.kind b.last.content v w
+    (subst (λ (x : Entry). Means b.kind x.content v) last (subst (λ k. Means k a.last.content v) same a.means)) b.means
 
 pub value_once : (payload : List ℕ) (v w : Value) → IsValueOf payload v → IsValueOf payload w → v ≡ w
 value_once payload v w (xs, whole, is) (ys, also_whole, also_is) =
@@ -335,14 +379,28 @@ rest_ordered payload_at parts = of_rest parts.rest
     of_rest (b ∷ bs) = (tt, tt)
 
 value_rows : (payload : List ℕ) (payload_at tag_at : ℕ) → AreRowsFrom 0 (value_table payload payload_at tag_at)
-value_rows payload payload_at tag_at =
-    (omega arith, (rest_ordered payload_at (split payload), (omega arith, (each_ordered (λ _. value_field_rules payload_at) [] (split payload).fields (λ seen x. field_ordered payload_at x), (omega arith, (when_ordered _ (fault_at tag_at ValueKind), tt))))))
+value_rows payload payload_at tag_at = (
+  omega arith,
+  (
+    rest_ordered payload_at (split payload),
+    (
+      omega arith,
+      (
+        each_ordered (λ _. value_field_rules payload_at) [] (split payload).fields (λ seen x. field_ordered payload_at x),
+        (omega arith, (when_ordered _ (fault_at tag_at ValueKind), tt)),
+      ),
+    ),
+  ),
+)
 
 pub value_ordered : (payload : List ℕ) (payload_at tag_at : ℕ) → AreOrdered (value_rules payload payload_at tag_at)
 unfolding value_rules
 value_ordered payload payload_at tag_at = rows_ordered 0 (value_table payload payload_at tag_at) (value_rows payload payload_at tag_at)
 
-pub value_least : (payload : List ℕ) (payload_at tag_at : ℕ) (fault : MessageFault) → (value_fault payload payload_at tag_at ≡ Some fault) ↔ IsLeast (value_rules payload payload_at tag_at) fault
+pub value_least : (payload : List ℕ) (payload_at tag_at : ℕ) (fault : MessageFault)
+    → (value_fault payload payload_at tag_at ≡ Some fault) ↔ IsLeast (value_rules payload payload_at tag_at) fault
 unfolding value_fault
-value_least payload payload_at tag_at fault =
-    (λ h. first_is_least (value_rules payload payload_at tag_at) fault (value_ordered payload payload_at tag_at) h, λ h. least_is_first (value_rules payload payload_at tag_at) fault (value_ordered payload payload_at tag_at) h)
+value_least payload payload_at tag_at fault = (
+  λ h. first_is_least (value_rules payload payload_at tag_at) fault (value_ordered payload payload_at tag_at) h,
+  λ h. least_is_first (value_rules payload payload_at tag_at) fault (value_ordered payload payload_at tag_at) h,
+)
