@@ -47,14 +47,19 @@ drawing_length kind integers =
     let size = short_lengths_one (type_number kind) (type_small kind) in
     let packed = bytes_length 4 (short_numbers integers) (lit< tt) in
     let joined = ap length (spelled_parts (plain 3 (varint (type_number kind)) ∷ []) (plain 4 (bytes (short_numbers integers)) ∷ [])) in
-    let parts = length-append (spelled (plain 3 (varint (type_number kind)) ∷ [])) (spelled (plain 4 (bytes (short_numbers integers)) ∷ [])) in
+    let parts =
+    length-append (spelled (plain 3 (varint (type_number kind)) ∷ []))
+    (spelled (plain 4 (bytes (short_numbers integers)) ∷ [])) in
     omega (arith, number, size, packed, joined, parts)
 
-tags_count : (keys : List (List ℕ)) (values : List Value) (attributes : List Attribute) → length (tags_in keys values attributes) ≡ 2 * length attributes
+tags_count : (keys : List (List ℕ)) (values : List Value) (attributes : List Attribute)
+    → length (tags_in keys values attributes) ≡ 2 * length attributes
 tags_count keys values [] = refl
 tags_count keys values (a ∷ attributes) = let others = tags_count keys values attributes in omega (arith, others)
 
-pub bound_holds : (keys : List (List ℕ)) (values : List Value) (f : Feature) → IsValid f.geometry → AllByRecursion (λ tag. tag < 2 ^ 32) (tags_in keys values f.attributes) → length (spelled (feature_fields (tags_in keys values f.attributes) f)) ≤ feature_bound f
+pub bound_holds : (keys : List (List ℕ)) (values : List Value) (f : Feature) → IsValid f.geometry
+    → AllByRecursion (λ tag. tag < 2 ^ 32) (tags_in keys values f.attributes)
+    → length (spelled (feature_fields (tags_in keys values f.attributes) f)) ≤ feature_bound f
 bound_holds keys values f valid small =
     let tags = tags_in keys values f.attributes in
     let kind = kind_of f.geometry in

@@ -232,7 +232,9 @@ packed_small d [] h = tt
 packed_small d (n ∷ ns) (front, back, is, spells, small, more) = (small, packed_small back ns more)
 
 numbers_small : (c : Content) (ns : List ℕ) → AreNumbers c ns → AllByRecursion (λ n. n < 2 ^ 32) ns
-numbers_small (varint n) ns h = let one : AllByRecursion (λ m. m < 2 ^ 32) (n ∷ []) = (h.1, tt) in subst (AllByRecursion (λ m. m < 2 ^ 32)) (sym h.0) one
+numbers_small (varint n) ns h =
+    let one : AllByRecursion (λ m. m < 2 ^ 32) (n ∷ []) = (h.1, tt) in
+    subst (AllByRecursion (λ m. m < 2 ^ 32)) (sym h.0) one
 numbers_small (bytes d) ns h = packed_small d ns h
 numbers_small (fixed64 n) ns h = absurd h
 numbers_small (fixed32 n) ns h = absurd h

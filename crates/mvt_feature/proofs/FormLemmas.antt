@@ -115,4 +115,6 @@ forms_clean forms payload_at xs h = each_none (forms_rules forms payload_at) [] 
   where
     all : (ys : List Entry) → HaveForms forms ys → AllByRecursion (λ (y : Entry). first (forms_rules forms payload_at y) ≡ None) ys
     all [] g = tt
-    all (y ∷ ys) g = let parts = forms_split forms y ys g in (told_clean forms payload_at y (number_clean forms y.number y.content parts.0), all ys parts.1)
+    all (y ∷ ys) g =
+        let parts = forms_split forms y ys g in
+        (told_clean forms payload_at y (number_clean forms y.number y.content parts.0), all ys parts.1)

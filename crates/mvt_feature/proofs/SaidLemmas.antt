@@ -21,7 +21,9 @@ said_means n (fixed32 m) (Float b) h = rw (eq-eqb n 2 h.0) (ap (λ x. Some (Floa
 said_means n (fixed64 m) (Double b) h = rw (eq-eqb n 3 h.0) (ap (λ x. Some (Double x)) (sym h.1))
 said_means n (varint m) (Int z) h = subst (λ k. said k (varint m) ≡ Some (Int z)) (sym h.0) (ap (λ x. Some (Int x)) (sym h.1))
 said_means n (varint m) (Uint k) h = subst (λ k'. said k' (varint m) ≡ Some (Uint k)) (sym h.0) (ap (λ x. Some (Uint x)) (sym h.1))
-said_means n (varint m) (Sint z) h = subst (λ k. said k (varint m) ≡ Some (Sint z)) (sym h.0) (ap (λ x. Some (Sint x)) (ap unzig (sym h.1) ∙ zigzag_function_number z))
+said_means n (varint m) (Sint z) h =
+    subst (λ k. said k (varint m) ≡ Some (Sint z)) (sym h.0)
+    (ap (λ x. Some (Sint x)) (ap unzig (sym h.1) ∙ zigzag_function_number z))
 said_means n (varint m) (Truth b) h = subst (λ k. said k (varint m) ≡ Some (Truth b)) (sym h.0) (ap (λ x. Some (Truth x)) (sym h.1))
 said_means n c v h = absurd (search rules)
 
@@ -29,6 +31,11 @@ pub value_said : (payload : List ℕ) (v : Value) → IsValueOf payload v → va
 unfolding value_in
 value_said payload v (xs, whole, is) =
     let kind = means_kind is.kind is.last.content v is.means in
-    let numbered : is.last.number ≡ is.kind = last_of_all (λ (x : Entry). x.number ≡ is.kind) (only is.kind xs) is.last (only_number (λ (x : Entry). x.number) is.kind xs) is.is_last in
+    let numbered : is.last.number ≡ is.kind =
+    last_of_all (λ (x : Entry). x.number ≡ is.kind) (only is.kind xs) is.last
+    (only_number (λ (x : Entry). x.number) is.kind xs) is.is_last in
     let last : last_or None (kinds xs) ≡ Some is.last = ap (last_or None) (sym (only_kinds is.kind xs kind is.one)) ∙ is.is_last in
-    ap (λ fields. option_and_then (λ (x : Entry). said x.number x.content) (last_or None (kinds fields))) (sym (split_function_only payload [] xs whole).0) ∙ ap (option_and_then (λ (x : Entry). said x.number x.content)) last ∙ ap (λ n. said n is.last.content) numbered ∙ said_means is.kind is.last.content v is.means
+    ap (λ fields. option_and_then (λ (x : Entry). said x.number x.content) (last_or None (kinds fields)))
+    (sym (split_function_only payload [] xs whole).0)
+    ∙ ap (option_and_then (λ (x : Entry). said x.number x.content)) last ∙ ap (λ n. said n is.last.content) numbered
+    ∙ said_means is.kind is.last.content v is.means

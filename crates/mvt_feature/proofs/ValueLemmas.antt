@@ -64,7 +64,8 @@ tells_value payload payload_at tag_at e h =
     (option_or (first (when (not (are_one_kind (kinds (split payload).fields))) (fault_at tag_at ValueKind))) None) h)
 
 -- a payload that splits wholly into fields without a fault
-module _ (payload : List ℕ) (payload_at tag_at : ℕ) (whole : (split payload).rest ≡ []) (clean : ValuesClean payload_at (split payload).fields) where
+module _ (payload : List ℕ) (payload_at tag_at : ℕ) (whole : (split payload).rest ≡ [])
+    (clean : ValuesClean payload_at (split payload).fields) where
   behind_fields : value_fault payload payload_at tag_at
       ≡ first (when (not (are_one_kind (kinds (split payload).fields))) (fault_at tag_at ValueKind))
   behind_fields =
@@ -132,7 +133,9 @@ kind_test : (x : Entry) → IsKind x.number → is_kind x ≡ true
 kind_test x h = and_from _ _ (le-leb STRING x.number h.0) (le-leb x.number BOOL h.1)
 
 test_kind : (x : Entry) → is_kind x ≡ true → IsKind x.number
-test_kind x h = let parts = and_parts (nat_le STRING x.number) (nat_le x.number BOOL) h in (leb-true STRING x.number parts.0, leb-true x.number BOOL parts.1)
+test_kind x h =
+    let parts = and_parts (nat_le STRING x.number) (nat_le x.number BOOL) h in
+    (leb-true STRING x.number parts.0, leb-true x.number BOOL parts.1)
 
 -- the fields of the kinds are those of the only kind
 abbrev IsOnly : ℕ → Entry → Type 0
@@ -172,7 +175,9 @@ kinds_one kind (x ∷ xs) h = by_test (is_kind x) refl h (kinds_one kind xs)
 -- the number of fields of one kind is that of the last
 numbered : (k : ℕ) (xs : List Entry) → list_all (λ (y : Entry). y.number == k) xs ≡ true → AllByRecursion (λ (y : Entry). y.number ≡ k) xs
 numbered k [] h = tt
-numbered k (x ∷ xs) h = let parts = and_parts (x.number == k) (list_all (λ (y : Entry). y.number == k) xs) h in (eqb-true x.number k parts.0, numbered k xs parts.1)
+numbered k (x ∷ xs) h =
+    let parts = and_parts (x.number == k) (list_all (λ (y : Entry). y.number == k) xs) h in
+    (eqb-true x.number k parts.0, numbered k xs parts.1)
 
 all_numbered : (xs : List Entry) (last : Entry) → are_one_kind xs ≡ true → last_or None xs ≡ Some last
     → AllByRecursion (λ (y : Entry). y.number ≡ last.number) xs

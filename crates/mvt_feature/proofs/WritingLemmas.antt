@@ -16,9 +16,11 @@ use Rattle.mvt_feature.specs.Canonical.{plain}
 use Rattle.mvt_wire.proofs.WireLaws.{short_lengths_field, short_lengths_one}
 
 -- one field, whose tag takes a byte
-pub one_len : (number : ℕ) (c : Content) → 8 * number + wire_type c < 128 → length (spelled (plain number c ∷ [])) ≡ 1 + length (short_payload c)
+pub one_len : (number : ℕ) (c : Content) → 8 * number + wire_type c < 128
+    → length (spelled (plain number c ∷ [])) ≡ 1 + length (short_payload c)
 one_len number c small =
-    ap length (append-nil (short_field number c)) ∙ short_lengths_field number c ∙ ap (λ n. n + length (short_payload c)) (short_lengths_one (8 * number + wire_type c) small)
+    ap length (append-nil (short_field number c)) ∙ short_lengths_field number c
+    ∙ ap (λ n. n + length (short_payload c)) (short_lengths_one (8 * number + wire_type c) small)
 
 pub varint_field_len : (number n len : ℕ) → number < 8 → len ≡ length (short n) → 1 + len ≡ length (spelled (plain number (varint n) ∷ []))
 varint_field_len number n len small is = ap (λ k. 1 + k) is ∙ sym (one_len number (varint n) (omega arith))
@@ -38,15 +40,25 @@ kept_as_it_was r l = on_err r ([], sym (append-nil l))
 
 -- attributes that were passed on are all placed, and none is left to find a pool full
 module _ (attributes passed : List Attribute) (is : passed ≡ attributes) (keys new_keys : List (List ℕ)) (values new_values : List Value) where
-  pub all_placed : new_keys ≡ key_pool keys passed → new_values ≡ value_pool values passed → ArePlaced (length attributes) attributes keys new_keys values new_values
+  pub all_placed : new_keys ≡ key_pool keys passed → new_values ≡ value_pool values passed
+      → ArePlaced (length attributes) attributes keys new_keys values new_values
   all_placed keys_grown values_grown =
       let whole : passed ≡ take (length attributes) attributes = is ∙ sym (take_all (length attributes) attributes (omega arith)) in
-      record { within = omega arith; keys_are = inl (keys_grown ∙ ap (key_pool keys) whole); values_are = values_grown ∙ ap (value_pool values) whole }
+      record {
+        within = omega arith;
+        keys_are = inl (keys_grown ∙ ap (key_pool keys) whole);
+        values_are = values_grown ∙ ap (value_pool values) whole;
+      }
 
-  pub all_told : new_keys ≡ key_pool keys passed → new_values ≡ value_pool values passed → AreTold (length attributes) attributes keys new_keys values new_values
+  pub all_told : new_keys ≡ key_pool keys passed → new_values ≡ value_pool values passed
+      → AreTold (length attributes) attributes keys new_keys values new_values
   all_told keys_grown values_grown =
       let whole : passed ≡ take (length attributes) attributes = is ∙ sym (take_all (length attributes) attributes (omega arith)) in
-      record { within = omega arith; keys_are = inl (keys_grown ∙ ap (key_pool keys) whole); values_are = inl (values_grown ∙ ap (value_pool values) whole) }
+      record {
+        within = omega arith;
+        keys_are = inl (keys_grown ∙ ap (key_pool keys) whole);
+        values_are = inl (values_grown ∙ ap (value_pool values) whole);
+      }
 
   pub none_full : IsFullAt (length attributes) attributes new_keys new_values → ⊥
   none_full full = omega (arith, slice_get_within attributes (length attributes) full.0 full.1)

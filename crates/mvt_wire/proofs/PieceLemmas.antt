@@ -43,7 +43,8 @@ module _ {X P : Type 0} (next : ℕ → List ℕ → Result (X × ℕ) WireCause
   abbrev pub all : ℕ → List ℕ → P
   all at b = within (length b) at b
 
-  pub all_step : (at : ℕ) (b : List ℕ) (found : X × ℕ) → next at b ≡ Ok found → all at b ≡ ahead found.0 (all (at + found.1) (drop found.1 b))
+  pub all_step : (at : ℕ) (b : List ℕ) (found : X × ℕ) → next at b ≡ Ok found
+      → all at b ≡ ahead found.0 (all (at + found.1) (drop found.1 b))
   all_step at b found e =
       let less = left at b found e in
       fuel (length b) (suc (length b)) at b (omega arith) (omega arith) ∙ takes.step (length b) at b found e

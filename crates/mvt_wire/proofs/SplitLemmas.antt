@@ -16,7 +16,8 @@ use Rattle.mvt_wire.proofs.FieldLemmas.{entry_cause, entry_found, entry_front, e
 
 -- ---- one step of the function
 
-within_step : (n at : ℕ) (b : List ℕ) (found : Entry × ℕ) → entry_at at b ≡ Ok found → split_within (suc n) at b ≡ behind found.0 (split_within n (at + found.1) (drop found.1 b))
+within_step : (n at : ℕ) (b : List ℕ) (found : Entry × ℕ) → entry_at at b ≡ Ok found
+    → split_within (suc n) at b ≡ behind found.0 (split_within n (at + found.1) (drop found.1 b))
 unfolding split_within
 within_step n at b found e = rw (e, split_within) refl
 
@@ -75,7 +76,8 @@ split_is =
       subst (λ (k : ℕ). SplitFrom (at + k) (drop found.1 b) parts.fields parts.rest) (sym size) more,
     ))
 
-pub split_front : (at : ℕ) (front back : List ℕ) (e : Entry) → IsFieldAt at front e → split_from at (front ++ back) ≡ behind e (split_from (at + length front) back)
+pub split_front : (at : ℕ) (front back : List ℕ) (e : Entry) → IsFieldAt at front e
+    → split_from at (front ++ back) ≡ behind e (split_from (at + length front) back)
 split_front at front back e f =
     split_step at (front ++ back) (e, length front) (entry_front at front back e f)
     ∙ ap (λ s. behind e (split_from (at + length front) s)) (drop-append_seam front back)
@@ -83,7 +85,8 @@ split_front at front back e f =
 pub split_none : (at : ℕ) (b : List ℕ) → StartsNoField b → split_from at b ≡ no_fields at b
 split_none at b none = split_stop at b _ (entry_none_from at b none)
 
-pub split_only : (at : ℕ) (b rest : List ℕ) (es : List Entry) → SplitFrom at b es rest → ((split_from at b).fields ≡ es) × ((split_from at b).rest ≡ rest)
+pub split_only : (at : ℕ) (b rest : List ℕ) (es : List Entry) → SplitFrom at b es rest
+    → ((split_from at b).fields ≡ es) × ((split_from at b).rest ≡ rest)
 split_only at b rest [] s =
     let is : split_from at b ≡ no_fields at rest = ap (split_from at) s.0 ∙ split_none at rest s.1 in
     (ap (λ p. p.fields) is, ap (λ p. p.rest) is)
@@ -101,7 +104,8 @@ bytes_size-le payload (bytes d) = omega arith
 bytes_size-le payload (fixed32 n) = omega arith
 
 -- a field ends where the rest begins, or before
-pub field_ends : (at k : ℕ) (b : List ℕ) (e : Entry) (place : ℕ) → 1 ≤ k → k ≤ length b → IsFieldAt at (take k b) e → at + k ≤ place → EndsBy place e
+pub field_ends : (at k : ℕ) (b : List ℕ) (e : Entry) (place : ℕ) → 1 ≤ k → k ≤ length b → IsFieldAt at (take k b) e
+    → at + k ≤ place → EndsBy place e
 field_ends at k b e place some within f past =
     let size : length (take k b) ≡ k = length-take-le k b within in
     let begins : e.at ≡ at = f.begins in
@@ -115,7 +119,8 @@ pub field_stays : (at k : ℕ) (b more : List ℕ) (e : Entry) → entry_at at b
 field_stays at k b more e is =
     let seen = entry_found at b (e, k) is in
     let size : length (take k b) ≡ k = length-take-le k b seen.1 in
-    let joined : b ++ more ≡ take k b ++ (drop k b ++ more) = ap (λ s. s ++ more) (sym (take-append-drop k b)) ∙ append_assoc (take k b) (drop k b) more in
+    let joined : b ++ more ≡ take k b ++ (drop k b ++ more) =
+    ap (λ s. s ++ more) (sym (take-append-drop k b)) ∙ append_assoc (take k b) (drop k b) more in
     ap (entry_at at) joined ∙ entry_front at (take k b) (drop k b ++ more) e seen.2
     ∙ ap (λ (n : ℕ). let r : Result (Entry × ℕ) WireCause = Ok (e, n) in r) size
 
@@ -139,15 +144,20 @@ spell_cause_stays b more long =
     ap (λ t. cond t Truncated VarintRange) (le-ltb (length b) 10 long ∙ sym (le-ltb (length (b ++ more)) 10 (omega (arith, all))))
 
 -- a number that nothing spells stays so, where that isn't for want of bytes
-pub number_stays : (b more : List ℕ) (c : WireCause) → c ≢ Truncated → SpellsNone b → c ≡ spell_cause b → SpellsNone (b ++ more) × (c ≡ spell_cause (b ++ more))
+pub number_stays : (b more : List ℕ) (c : WireCause) → c ≢ Truncated → SpellsNone b → c ≡ spell_cause b
+    → SpellsNone (b ++ more) × (c ≡ spell_cause (b ++ more))
 number_stays b more c other none is =
     let long : 10 ≤ length b = long_cause b (λ e. other (is ∙ e)) in
     (none_stays b more long none, is ∙ spell_cause_stays b more long)
 
 pub payload_stays : (w : ℕ) (b more : List ℕ) (c : WireCause) → c ≢ Truncated → IsPayloadCause w b c → IsPayloadCause w (b ++ more) c
 payload_stays w b more c other (no_type n0 n1 n2 n5 is) = no_type n0 n1 n2 n5 is
-payload_stays w b more c other (no_varint is none cause) = let stays = number_stays b more c other none cause in no_varint is stays.0 stays.1
-payload_stays w b more c other (no_length is none cause) = let stays = number_stays b more c other none cause in no_length is stays.0 stays.1
+payload_stays w b more c other (no_varint is none cause) =
+    let stays = number_stays b more c other none cause in
+    no_varint is stays.0 stays.1
+payload_stays w b more c other (no_length is none cause) =
+    let stays = number_stays b more c other none cause in
+    no_length is stays.0 stays.1
 payload_stays w b more c other (past_end size rest n is joined spells short cause) = absurd (other cause)
 payload_stays w b more c other (no_eight is short cause) = absurd (other cause)
 payload_stays w b more c other (no_four is short cause) = absurd (other cause)
@@ -157,15 +167,19 @@ cause_stays b more c other (no_tag none is) = let stays = number_stays b more c 
 cause_stays b more c other (no_number tag after n joined spells why is) =
     no_number tag (after ++ more) n (ap (λ s. s ++ more) joined ∙ append_assoc tag after more) spells why is
 cause_stays b more c other (no_payload tag after n joined spells low high why) =
-    no_payload tag (after ++ more) n (ap (λ s. s ++ more) joined ∙ append_assoc tag after more) spells low high (payload_stays (n % 8) after more c other why)
+    no_payload tag (after ++ more) n (ap (λ s. s ++ more) joined ∙ append_assoc tag after more) spells low high
+    (payload_stays (n % 8) after more c other why)
 
 -- fields in front of a split
 abbrev pub joined_to : List Entry → Parts → Parts
 joined_to es parts = record { fields = es ++ parts.fields; rest_at = parts.rest_at; rest = parts.rest }
 
-pub split_joined : (at : ℕ) (b more : List ℕ) → split_from at (b ++ more) ≡ joined_to (split_from at b).fields (split_from (split_from at b).rest_at ((split_from at b).rest ++ more))
+pub split_joined : (at : ℕ) (b more : List ℕ)
+    → split_from at (b ++ more)
+    ≡ joined_to (split_from at b).fields (split_from (split_from at b).rest_at ((split_from at b).rest ++ more))
 split_joined at b more =
-    split_induct (λ at b parts. (more : List ℕ) → split_from at (b ++ more) ≡ joined_to parts.fields (split_from parts.rest_at (parts.rest ++ more)))
+    split_induct
+    (λ at b parts. (more : List ℕ) → split_from at (b ++ more) ≡ joined_to parts.fields (split_from parts.rest_at (parts.rest ++ more)))
     (λ at b c e more. refl)
     (λ at b found parts e rec more.
     let seen = found_size at b found e in
@@ -185,11 +199,14 @@ pub split_rest : (at : ℕ) (b : List ℕ) → StartsNoField (split_from at b).r
 split_rest =
     split_induct (λ at b parts. StartsNoField parts.rest) (λ at b c e. entry_none at b c e) (λ at b found parts e more. more)
 
-pub rest_stays : (b more : List ℕ) → StartsNoField b → rest_cause b ≢ Truncated → StartsNoField (b ++ more) × (rest_cause (b ++ more) ≡ rest_cause b)
+pub rest_stays : (b more : List ℕ) → StartsNoField b → rest_cause b ≢ Truncated
+    → StartsNoField (b ++ more) × (rest_cause (b ++ more) ≡ rest_cause b)
 rest_stays b more none other =
     let why : IsRestCause b (rest_cause b) = entry_why 0 b (rest_cause b) (entry_none_from 0 b none) in
-    let stays = cause_stays b more (rest_cause b) other why in
-    (entry_none 0 (b ++ more) (rest_cause b) (entry_cause 0 (b ++ more) (rest_cause b) stays), sym (rest_cause_is (b ++ more) (rest_cause b) stays))
+    let stays = cause_stays b more (rest_cause b) other why in (
+      entry_none 0 (b ++ more) (rest_cause b) (entry_cause 0 (b ++ more) (rest_cause b) stays),
+      sym (rest_cause_is (b ++ more) (rest_cause b) stays),
+    )
 
 -- ---- k bytes further on
 
@@ -198,7 +215,8 @@ field_shifts k at b e f =
     let ends : e.body + body_size f.field.payload e.content ≡ at + length b = f.ends in
     record { field = f.field; begins = ap (λ n. k + n) f.begins; ends = omega arith }
 
-found_shifts : (k at : ℕ) (b : List ℕ) (found : Entry × ℕ) → entry_at at b ≡ Ok found → entry_at (k + at) b ≡ Ok (shifted k found.0, found.1)
+found_shifts : (k at : ℕ) (b : List ℕ) (found : Entry × ℕ) → entry_at at b ≡ Ok found
+    → entry_at (k + at) b ≡ Ok (shifted k found.0, found.1)
 found_shifts k at b found e =
     let seen = entry_found at b found e in
     let size : length (take found.1 b) ≡ found.1 = length-take-le found.1 b seen.1 in
