@@ -71,7 +71,8 @@ module _ {A : Type 0} (same : A → A → Bool) (decides : (x y : A) → Decides
   apart_from_has : (x : A) (ys : List A) → has x ys ≡ false → (k : ℕ) (d : A) → k < length ys → get_or ys k d ≢ x
   apart_from_has x [] e k d within same_one = omega arith
   apart_from_has x (y ∷ ys) e zero d within same_one = both_ways (same y x) (or_parts (same y x) (has x ys) e).0 ((decides y x).1 same_one)
-  apart_from_has x (y ∷ ys) e (suc k) d within same_one = apart_from_has x ys (or_parts (same y x) (has x ys) e).1 k d (omega arith) same_one
+  apart_from_has x (y ∷ ys) e (suc k) d within same_one =
+      apart_from_has x ys (or_parts (same y x) (has x ys) e).1 k d (omega arith) same_one
 
   has_not_from_apart : (x : A) (ys : List A) → ((k : ℕ) (d : A) → k < length ys → get_or ys k d ≢ x) → has x ys ≡ false
   has_not_from_apart x [] apart = refl
@@ -87,19 +88,26 @@ module _ {A : Type 0} (same : A → A → Bool) (decides : (x y : A) → Decides
       keep : (x : A) → List A → List A
       keep x zs = filter (λ z. not (same x z)) zs
 
-      last : (x : A) (zs : List A) (b c : Bool) → same x y ≡ b → x ∷ filter (λ z. not (same x z)) (cond c zs (zs ++ y ∷ [])) ≡ cond (b || c) (x ∷ filter (λ z. not (same x z)) zs) (x ∷ filter (λ z. not (same x z)) zs ++ y ∷ [])
+      last : (x : A) (zs : List A) (b c : Bool) → same x y ≡ b
+          → x ∷ filter (λ z. not (same x z)) (cond c zs (zs ++ y ∷ []))
+          ≡ cond (b || c) (x ∷ filter (λ z. not (same x z)) zs) (x ∷ filter (λ z. not (same x z)) zs ++ y ∷ [])
       last x zs true true e = refl
       last x zs false true e = refl
       last x zs true false e =
-          ap (λ w. x ∷ w) (filter-append (λ z. not (same x z)) zs (y ∷ []) ∙ ap (λ b. filter (λ z. not (same x z)) zs ++ cond (not b) (y ∷ []) []) e ∙ append-nil _)
+          ap (λ w. x ∷ w)
+          (filter-append (λ z. not (same x z)) zs (y ∷ [])
+          ∙ ap (λ b. filter (λ z. not (same x z)) zs ++ cond (not b) (y ∷ []) []) e ∙ append-nil _)
       last x zs false false e =
-          ap (λ w. x ∷ w) (filter-append (λ z. not (same x z)) zs (y ∷ []) ∙ ap (λ b. filter (λ z. not (same x z)) zs ++ cond (not b) (y ∷ []) []) e)
+          ap (λ w. x ∷ w)
+          (filter-append (λ z. not (same x z)) zs (y ∷ [])
+          ∙ ap (λ b. filter (λ z. not (same x z)) zs ++ cond (not b) (y ∷ []) []) e)
 
       pushed : (xs : List A) → first_use same (xs ++ y ∷ []) ≡ cond (has y xs) (first_use same xs) (first_use same xs ++ y ∷ [])
       pushed [] = refl
       pushed (x ∷ xs) = ap (λ w. x ∷ filter (λ z. not (same x z)) w) (pushed xs) ∙ last x (first_use same xs) (same x y) (has y xs) refl
 
-  pub put_cases : (P : List A → Type 0) (pool : List A) (x : A) → (has x pool ≡ true → P pool) → (has x pool ≡ false → P (pool ++ x ∷ [])) → P (put pool x)
+  pub put_cases : (P : List A → Type 0) (pool : List A) (x : A) → (has x pool ≡ true → P pool)
+      → (has x pool ≡ false → P (pool ++ x ∷ [])) → P (put pool x)
   put_cases P pool x old new = by (has x pool) refl
     where
       by : (b : Bool) → has x pool ≡ b → P (cond b pool (pool ++ x ∷ []))
@@ -107,8 +115,11 @@ module _ {A : Type 0} (same : A → A → Bool) (decides : (x y : A) → Decides
       by false e = new e
 
   -- what placing an entry leaves
-  pub put_is : (pool after : List A) (x : A) → (Contains pool x → after ≡ pool) → ((Contains pool x → ⊥) → after ≡ pool ++ x ∷ []) → after ≡ put pool x
-  put_is pool after x kept added = put_cases (λ p. after ≡ p) pool x (λ e. kept (Contains_from_has x pool e)) (λ e. added (λ h. both_ways (has x pool) e (has_from_Contains x pool h)))
+  pub put_is : (pool after : List A) (x : A) → (Contains pool x → after ≡ pool)
+      → ((Contains pool x → ⊥) → after ≡ pool ++ x ∷ []) → after ≡ put pool x
+  put_is pool after x kept added =
+      put_cases (λ p. after ≡ p) pool x (λ e. kept (Contains_from_has x pool e))
+      (λ e. added (λ h. both_ways (has x pool) e (has_from_Contains x pool h)))
 
   -- ---- first uses have no repeats, and a list without repeats is its own
 
@@ -127,7 +138,8 @@ module _ {A : Type 0} (same : A → A → Bool) (decides : (x y : A) → Decides
       has_not_from_apart y front (λ k d within e.
       distinct k (length front) d within (omega (arith, length-append front (y ∷ back))) (get_or_append_left front (y ∷ back) d k within ∙ e ∙ sym (get_or_at front y back d (length front) refl)))
 
-  own_from : (front back : List A) → first_use same front ≡ front → AreDistinct (front ++ back) → first_use same (front ++ back) ≡ front ++ back
+  own_from : (front back : List A) → first_use same front ≡ front → AreDistinct (front ++ back)
+      → first_use same (front ++ back) ≡ front ++ back
   own_from front [] e distinct = ap (first_use same) (append-nil front) ∙ e ∙ sym (append-nil front)
   own_from front (y ∷ ys) e distinct =
       let joined = append_assoc front (y ∷ []) ys in
@@ -160,7 +172,8 @@ module _ {A : Type 0} (same : A → A → Bool) (decides : (x y : A) → Decides
       let step : (more : List A) × (put (first_use same xs) y ≡ first_use same xs ++ more) =
       put_cases (λ p. (more : List A) × (p ≡ first_use same xs ++ more)) (first_use same xs) y (λ e. ([], sym (append-nil (first_use same xs)))) (λ e. (y ∷ [], refl)) in (
         step.0 ++ rest.0,
-        sym (ap (first_use same) (append_assoc xs (y ∷ []) ys)) ∙ rest.1 ∙ ap (λ p. p ++ rest.0) (first_use-push xs y ∙ step.1) ∙ append_assoc (first_use same xs) step.0 rest.0,
+        sym (ap (first_use same) (append_assoc xs (y ∷ []) ys)) ∙ rest.1 ∙ ap (λ p. p ++ rest.0) (first_use-push xs y ∙ step.1)
+            ∙ append_assoc (first_use same xs) step.0 rest.0,
       )
 
   -- ---- places
@@ -183,6 +196,8 @@ module _ {A : Type 0} (same : A → A → Bool) (decides : (x y : A) → Decides
       ap (λ b. cond b 0 (suc (place_in same (ys ++ more) x))) ((decides y x).1 one)
   place_in-distinct (y ∷ ys) more (suc i) x distinct at =
       let within = slice_get_within ys i x at in
-      let other : same y x ≡ false = false_from_ne_true (same y x) (λ e. distinct 0 (suc i) y (omega arith) (omega arith) ((decides y x).0 e ∙ sym (get_or_from_slice_get ys i x y at))) in
+      let other : same y x ≡ false =
+      false_from_ne_true (same y x)
+      (λ e. distinct 0 (suc i) y (omega arith) (omega arith) ((decides y x).0 e ∙ sym (get_or_from_slice_get ys i x y at))) in
       ap (λ b. cond b 0 (suc (place_in same (ys ++ more) x))) other
       ∙ ap suc (place_in-distinct ys more i x (λ j k d before small. distinct (suc j) (suc k) d (omega arith) (omega arith)) at)

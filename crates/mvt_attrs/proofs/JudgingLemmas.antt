@@ -1,6 +1,6 @@
 -- Judging tags by the marks of their keys' places, whatever the values are.
-use Rattle.std.proofs.Common.{◌≡◌, ℕ, zero, suc, ◌+◌, ◌-◌, ◌%◌, ◌<◌, ◌≤◌, ◌==◌, Bool, true, false, not, List, [], ◌∷◌, ◌++◌, length, get_or, set, drop, Some, None, slice_get, refl, sym, ap, ◌∙◌, arith}
-use Rattle.std.proofs.lemmas.Option.{slice_get-get_or, slice_get_within}
+use Rattle.std.proofs.Common.{◌≡◌, ℕ, ◌+◌, ◌-◌, ◌%◌, ◌<◌, ◌≤◌, ◌==◌, Bool, true, false, not, List, [], ◌∷◌, ◌++◌, length, get_or, set, drop, Some, None, slice_get, refl, sym, ap, ◌∙◌, arith}
+use Rattle.std.proofs.lemmas.Option.{slice_get-get_or, slice_get_past, slice_get_within}
 use Rattle.mvt_base.specs.Related.{AreRelated}
 use Rattle.mvt_attrs.specs.declared.value.Value.{Value}
 use Rattle.mvt_attrs.specs.declared.value.Attribute.{Attribute}
@@ -8,40 +8,39 @@ use Rattle.mvt_attrs.specs.declared.resolving.TagCause.TheVariants.{KeyIndex, Va
 use Rattle.mvt_attrs.specs.TagRules.{pairs_of, tag_fault}
 use Rattle.mvt_attrs.specs.Inner.Marking.{IsGrouped, IsMarked, AreBelow}
 use Rattle.mvt_attrs.proofs.MarkingLemmas.{marked_none, marked_more, repeated_before, new_before, below_marked}
-use Rattle.mvt_attrs.proofs.ResolvedLemmas.{read_faultless}
+use Rattle.mvt_attrs.proofs.ResolvedLemmas.{read_faultless, there}
 use Rattle.mvt_attrs.proofs.TagLemmas.{NamesOne, Progress, progress_none, progress_more, stops_without_key, stops_without_value, stops_at_repeat}
-
-pub there : {X : Type 0} (xs : List X) (i : ℕ) → i < length xs → (x : X) × (slice_get xs i ≡ Some x)
-there [] i within = absurd (omega arith)
-there (x ∷ xs) i within = (get_or (x ∷ xs) i x, slice_get-get_or (x ∷ xs) i x within)
-
-pub not_there : {X : Type 0} (xs : List X) (i : ℕ) → length xs ≤ i → slice_get xs i ≡ None
-not_there [] i past = refl
-not_there (x ∷ xs) zero past = absurd (omega arith)
-not_there (x ∷ xs) (suc i) past = not_there xs i (omega arith)
 
 -- whatever so many values there are, the pairs so far name attributes, and the places of their keys are marked
 abbrev pub MarkedSoFar : List (List ℕ) → List ℕ → List ℕ → ℕ → ℕ → List ℕ → List ℕ → Type 0
 MarkedSoFar keys places marks turn count tags rest =
-    (values : List Value) → length values ≡ count → (attributes : List Attribute) × Progress keys values tags rest attributes × IsMarked keys places marks turn attributes
+    (values : List Value) → length values ≡ count
+    → (attributes : List Attribute) × Progress keys values tags rest attributes × IsMarked keys places marks turn attributes
 
-pub so_far_none : (keys : List (List ℕ)) (places marks : List ℕ) (turn count : ℕ) (tags : List ℕ) → AreBelow marks turn → MarkedSoFar keys places marks turn count tags tags
-so_far_none keys places marks turn count tags below = λ values e. ([], progress_none keys values tags, marked_none keys places marks turn below)
+pub so_far_none : (keys : List (List ℕ)) (places marks : List ℕ) (turn count : ℕ) (tags : List ℕ) → AreBelow marks turn
+    → MarkedSoFar keys places marks turn count tags tags
+so_far_none keys places marks turn count tags below =
+    λ values e. ([], progress_none keys values tags, marked_none keys places marks turn below)
 
 module _ (keys : List (List ℕ)) (places marks : List ℕ) (turn count : ℕ) (tags rest : List ℕ) (so_far : MarkedSoFar keys places marks turn count tags rest) (even : length tags % 2 ≡ 1 → ⊥) where
   module _ (more : 2 ≤ length rest) where
-    pub key_stops : length keys ≤ get_or rest 0 0 → (values : List Value) → length values ≡ count → tag_fault keys values tags ≡ Some (length tags - length rest, KeyIndex)
+    pub key_stops : length keys ≤ get_or rest 0 0 → (values : List Value) → length values ≡ count
+        → tag_fault keys values tags ≡ Some (length tags - length rest, KeyIndex)
     key_stops past = λ values e.
-        stops_without_key keys values tags rest (so_far values e).0 (so_far values e).1 even more (sym (not_there keys (get_or rest 0 0) past))
+        stops_without_key keys values tags rest (so_far values e).0 (so_far values e).1 even more
+        (sym (slice_get_past keys (get_or rest 0 0) past))
 
     module _ (within : get_or rest 0 0 < length keys) where
-      pub value_stops : count ≤ get_or rest 1 0 → (values : List Value) → length values ≡ count → tag_fault keys values tags ≡ Some (length tags - length rest + 1, ValueIndex)
+      pub value_stops : count ≤ get_or rest 1 0 → (values : List Value) → length values ≡ count
+          → tag_fault keys values tags ≡ Some (length tags - length rest + 1, ValueIndex)
       value_stops past = λ values e.
           let key = there keys (get_or rest 0 0) within in
-          stops_without_value keys values tags rest (so_far values e).0 (so_far values e).1 even more key.0 (sym key.1) (sym (not_there values (get_or rest 1 0) (omega arith)))
+          stops_without_value keys values tags rest (so_far values e).0 (so_far values e).1 even more key.0 (sym key.1)
+          (sym (slice_get_past values (get_or rest 1 0) (omega arith)))
 
       module _ (value_within : get_or rest 1 0 < count) (new : Bool) (is : new ≡ not (get_or marks (get_or places (get_or rest 0 0) 0) 0 == turn)) where
-        pub repeat_stops : new ≡ false → (values : List Value) → length values ≡ count → tag_fault keys values tags ≡ Some (length tags - length rest, RepeatedKey)
+        pub repeat_stops : new ≡ false → (values : List Value) → length values ≡ count
+            → tag_fault keys values tags ≡ Some (length tags - length rest, RepeatedKey)
         repeat_stops no_new = λ values e.
             let key = there keys (get_or rest 0 0) within in
             let value = there values (get_or rest 1 0) (omega arith) in
@@ -58,11 +57,13 @@ module _ (keys : List (List ℕ)) (places marks : List ℕ) (turn count : ℕ) (
             let unused = new_before keys places marks turn attributes (get_or rest 0 0) key.0 new (so_far values e).2 key.1 is is_new in
             let one : Attribute = record { key = key.0; value = value.0 } in (
               attributes ++ one ∷ [],
-              progress_more keys values tags rest attributes (so_far values e).1 even more key.0 (sym key.1) value.0 (sym value.1) after left unused,
+              progress_more keys values tags rest attributes (so_far values e).1 even more key.0 (sym key.1) value.0
+                  (sym value.1) after left unused,
               marked_more keys places marks turn attributes (get_or rest 0 0) one groups room key.1 (so_far values e).2,
             )
 
-        pub below_more : IsGrouped keys places → length marks ≡ length keys → AreBelow marks (turn + 1) → AreBelow (set marks (get_or places (get_or rest 0 0) 0) turn) (turn + 1)
+        pub below_more : IsGrouped keys places → length marks ≡ length keys → AreBelow marks (turn + 1)
+            → AreBelow (set marks (get_or places (get_or rest 0 0) 0) turn) (turn + 1)
         below_more groups room below =
             let key = there keys (get_or rest 0 0) within in
             below_marked keys places marks turn (get_or rest 0 0) key.0 groups room key.1 below
@@ -72,14 +73,18 @@ module _ (keys : List (List ℕ)) (places marks : List ℕ) (turn count : ℕ) (
 
 -- ---- what the pair in front names
 
-pub named_front : (keys : List (List ℕ)) (values : List Value) (rest : List ℕ) (to_come : List Attribute) → 2 ≤ length rest → AreRelated (NamesOne keys values) (pairs_of rest) to_come
-    → (a : Attribute) × (more : List Attribute) × (to_come ≡ a ∷ more) × NamesOne keys values (get_or rest 0 0, get_or rest 1 0) a × AreRelated (NamesOne keys values) (pairs_of (drop 2 rest)) more
+pub named_front : (keys : List (List ℕ)) (values : List Value) (rest : List ℕ) (to_come : List Attribute) → 2 ≤ length rest
+    → AreRelated (NamesOne keys values) (pairs_of rest) to_come
+    → (a : Attribute) × (more : List Attribute) × (to_come ≡ a ∷ more)
+    × NamesOne keys values (get_or rest 0 0, get_or rest 1 0) a
+    × AreRelated (NamesOne keys values) (pairs_of (drop 2 rest)) more
 named_front keys values [] to_come h related = absurd (omega arith)
 named_front keys values (k ∷ []) to_come h related = absurd (omega arith)
 named_front keys values (k ∷ (v ∷ tags)) [] h related = absurd related
 named_front keys values (k ∷ (v ∷ tags)) (a ∷ more) h related = (a, more, refl, related.0, related.1)
 
-pub named_none : (keys : List (List ℕ)) (values : List Value) (rest : List ℕ) (to_come : List Attribute) → length rest < 2 → AreRelated (NamesOne keys values) (pairs_of rest) to_come → to_come ≡ []
+pub named_none : (keys : List (List ℕ)) (values : List Value) (rest : List ℕ) (to_come : List Attribute) → length rest < 2
+    → AreRelated (NamesOne keys values) (pairs_of rest) to_come → to_come ≡ []
 named_none keys values [] [] h related = refl
 named_none keys values [] (a ∷ more) h related = absurd related
 named_none keys values (k ∷ []) [] h related = refl

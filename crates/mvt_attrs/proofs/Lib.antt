@@ -1,12 +1,12 @@
 pub mod AttrsLaws
-pub mod EqualityLemmas
-pub mod FirstUseLemmas
-pub mod PoolLemmas
-pub mod MarkingLemmas
-pub mod TagLemmas
-pub mod ResolvedLemmas
-pub mod PlaceLemmas
-pub mod PlacingLemmas
-pub mod SpreadLemmas
-pub mod OrderedLemmas
-pub mod JudgingLemmas
+mod EqualityLemmas
+mod FirstUseLemmas
+mod PoolLemmas
+mod MarkingLemmas
+mod TagLemmas
+mod ResolvedLemmas
+mod PlaceLemmas
+mod PlacingLemmas
+mod SpreadLemmas
+mod OrderedLemmas
+mod JudgingLemmas

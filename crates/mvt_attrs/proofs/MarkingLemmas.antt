@@ -3,6 +3,7 @@ use Rattle.std.proofs.Common.{◌≡◌, ℕ, ◌+◌, ◌<◌, ◌≤◌, ◌==
 use Rattle.std.specs.Map.{update}
 use Rattle.std.specs.Option.{unwrap_or}
 use Rattle.std.proofs.Math.Seq.{get_or-append_seam}
+use Rattle.std.proofs.Math.Bool.{or-true, or-false}
 use Rattle.std.proofs.lemmas.Bool.{eq-eqb, ne_eqb, not-true, not-false, cases_lt, cases_eq, false≢true}
 use Rattle.std.proofs.lemmas.List.{get_or-set_same, get_or-set_other, get_or_past, get_or_append_left, length_push}
 use Rattle.std.proofs.lemmas.List.Folds.{list_any-append}
@@ -18,7 +19,8 @@ pub record Found (texts : List (List ℕ)) (n : ℕ) (places : List ℕ) (find :
   pub found : (j : ℕ) (a : List ℕ) → j < n → slice_get texts j ≡ Some a → find a ≡ Some (get_or places j 0)
   pub first : (a : List ℕ) (v : ℕ) → find a ≡ Some v → slice_get texts v ≡ Some a
 
-pub found_none : (texts : List (List ℕ)) (places : List ℕ) (find : List ℕ → Option ℕ) → places ≡ [] → ((q : List ℕ) → find q ≡ None) → Found texts 0 places find
+pub found_none : (texts : List (List ℕ)) (places : List ℕ) (find : List ℕ → Option ℕ) → places ≡ []
+    → ((q : List ℕ) → find q ≡ None) → Found texts 0 places find
 found_none texts places find e nothing = record {
   count = ap length e;
   found = λ j a lt at. absurd (omega arith);
@@ -54,7 +56,8 @@ module _ (texts : List (List ℕ)) (n : ℕ) (places : List ℕ) (find after : L
       by false e =
           let other : j ≡ n → ⊥ = λ is_last. false≢true (sym e ∙ (bytes_eq-Decides text a).1 (last is_last)) in
           let before : j < n = omega arith in
-          known a ∙ update_other bytes_eq find text (Some place) a e ∙ so_far.found j a before at_j ∙ ap Some (sym (front_of places place j (omega (arith, so_far.count))))
+          known a ∙ update_other bytes_eq find text (Some place) a e ∙ so_far.found j a before at_j
+          ∙ ap Some (sym (front_of places place j (omega (arith, so_far.count))))
 
   place_is : slice_get texts place ≡ Some text
   place_is = by (find text) refl
@@ -106,7 +109,8 @@ module _ (texts : List (List ℕ)) (places : List ℕ) (find : List ℕ → Opti
           let small = low text v e in
           omega arith
 
-  few_low : (place : ℕ) → place < length places + 1 → (q : List ℕ) (v : ℕ) → update bytes_eq find text (Some place) q ≡ Some v → v < length places + 1
+  few_low : (place : ℕ) → place < length places + 1 → (q : List ℕ) (v : ℕ)
+      → update bytes_eq find text (Some place) q ≡ Some v → v < length places + 1
   few_low place small q v e = by (bytes_eq text q) refl
     where
       by : (b : Bool) → bytes_eq text q ≡ b → v < length places + 1
@@ -124,15 +128,20 @@ module _ (texts : List (List ℕ)) (places : List ℕ) (find : List ℕ → Opti
       let after = update bytes_eq find text (Some place) in
       let len : length places + 1 ≡ length longer = omega (arith, ap length e, length_push places place) in (
         after,
-        subst (λ n. Found texts n longer after) len (found_more texts (length places) places find after text place so_far at is (λ q. refl) longer e),
+        subst (λ n. Found texts n longer after) len
+            (found_more texts (length places) places find after text place so_far at is (λ q. refl) longer e),
         subst (λ n. (q : List ℕ) (v : ℕ) → after q ≡ Some v → v < n) len (few_low place (place_low place is)),
       )
 
 pub few_none : (texts : List (List ℕ)) (places : List ℕ) → places ≡ [] → FoundFew texts places
-few_none texts places e =
-    (λ q. None, subst (λ n. Found texts n places (λ q. None)) (sym (ap length e)) (found_none texts places (λ q. None) e (λ q. refl)), λ q v is. cc)
+few_none texts places e = (
+  λ q. None,
+  subst (λ n. Found texts n places (λ q. None)) (sym (ap length e)) (found_none texts places (λ q. None) e (λ q. refl)),
+  λ q v is. cc,
+)
 
-pub grouped : (texts : List (List ℕ)) (n : ℕ) (places : List ℕ) (find : List ℕ → Option ℕ) → n ≡ length texts → Found texts n places find → IsGrouped texts places
+pub grouped : (texts : List (List ℕ)) (n : ℕ) (places : List ℕ) (find : List ℕ → Option ℕ) → n ≡ length texts
+    → Found texts n places find → IsGrouped texts places
 grouped texts n places find all done = record {
   len = done.count ∙ all;
   within = λ i lt.
@@ -180,7 +189,8 @@ module _ (texts : List (List ℕ)) (places marks : List ℕ) (turn : ℕ) (attri
   pub new_before : new ≡ true → has_key key attributes ≡ false
   new_before is_new = not-true (has_key key attributes) (ap not (sym (marked k key at)) ∙ sym is ∙ is_new)
 
-pub below_marked : (texts : List (List ℕ)) (places marks : List ℕ) (turn k : ℕ) (key : List ℕ) → IsGrouped texts places → length marks ≡ length texts → slice_get texts k ≡ Some key
+pub below_marked : (texts : List (List ℕ)) (places marks : List ℕ) (turn k : ℕ) (key : List ℕ) → IsGrouped texts places
+    → length marks ≡ length texts → slice_get texts k ≡ Some key
     → AreBelow marks (turn + 1) → AreBelow (set marks (get_or places k 0) turn) (turn + 1)
 below_marked texts places marks turn k key groups room at below =
     let lt : k < length texts = slice_get_within texts k key at in
@@ -193,27 +203,21 @@ pub marked_more : (texts : List (List ℕ)) (places marks : List ℕ) (turn : �
 marked_more texts places marks turn attributes k a groups room at marked = λ i text at_i.
     let lt_k : k < length texts = slice_get_within texts k a.key at in
     let lt : get_or places k 0 < length marks = omega (arith, groups.within k lt_k) in
-    let whole : has_key text (attributes ++ a ∷ []) ≡ (has_key text attributes || (bytes_eq a.key text || false)) = list_any-append (λ (b : Attribute). bytes_eq b.key text) attributes (a ∷ []) in
+    let whole : has_key text (attributes ++ a ∷ []) ≡ (has_key text attributes || (bytes_eq a.key text || false)) =
+    list_any-append (λ (b : Attribute). bytes_eq b.key text) attributes (a ∷ []) in
     ⊎_elim
     (λ (e : get_or places i 0 ≡ get_or places k 0).
     let one : a.key ≡ text = groups.apart k i a.key text at at_i (sym e) in
     eq-eqb _ _ (ap (λ p. get_or (set marks (get_or places k 0) turn) p 0) e ∙ get_or-set_same marks (get_or places k 0) turn 0 lt)
-    ∙ sym (whole ∙ ap (λ b. has_key text attributes || (b || false)) ((bytes_eq-Decides a.key text).1 one) ∙ or_true (has_key text attributes)))
+    ∙ sym (whole ∙ ap (λ b. has_key text attributes || (b || false)) ((bytes_eq-Decides a.key text).1 one) ∙ or-true (has_key text attributes)))
     (λ (ne : get_or places i 0 ≡ get_or places k 0 → ⊥).
     let two : bytes_eq a.key text ≡ false = differs text i at_i ne in
     ap (λ m. m == turn) (get_or-set_other marks (get_or places k 0) (get_or places i 0) turn 0 ne) ∙ marked i text at_i
-    ∙ sym (whole ∙ ap (λ b. has_key text attributes || (b || false)) two ∙ or_false (has_key text attributes)))
+    ∙ sym (whole ∙ ap (λ b. has_key text attributes || (b || false)) two ∙ or-false (has_key text attributes)))
     (cases_eq (get_or places i 0) (get_or places k 0))
   where
-    or_true : (b : Bool) → (b || true) ≡ true
-    or_true true = refl
-    or_true false = refl
-
-    or_false : (b : Bool) → (b || false) ≡ b
-    or_false true = refl
-    or_false false = refl
-
-    differs : (text : List ℕ) (i : ℕ) → slice_get texts i ≡ Some text → (get_or places i 0 ≡ get_or places k 0 → ⊥) → bytes_eq a.key text ≡ false
+    differs : (text : List ℕ) (i : ℕ) → slice_get texts i ≡ Some text → (get_or places i 0 ≡ get_or places k 0 → ⊥)
+        → bytes_eq a.key text ≡ false
     differs text i at_i ne = by (bytes_eq a.key text) refl
       where
         by : (b : Bool) → bytes_eq a.key text ≡ b → b ≡ false

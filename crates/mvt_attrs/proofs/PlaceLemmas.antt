@@ -25,11 +25,13 @@ slice_get-front [] ys i x e = cc
 slice_get-front (w ∷ xs) ys zero x e = e
 slice_get-front (w ∷ xs) ys (suc i) x e = slice_get-front xs ys i x e
 
-even_from_names : (keys : List (List ℕ)) (values : List Value) (tags : List ℕ) (attributes : List Attribute) → Names keys values tags attributes → length tags % 2 ≡ 1 → ⊥
+even_from_names : (keys : List (List ℕ)) (values : List Value) (tags : List ℕ) (attributes : List Attribute)
+    → Names keys values tags attributes → length tags % 2 ≡ 1 → ⊥
 even_from_names keys values tags attributes names odd = omega (arith, odd, names.twice)
 
 -- tags name the same attributes in longer pools
-pub names_longer : (keys more : List (List ℕ)) (values further : List Value) (tags : List ℕ) (attributes : List Attribute) → Names keys values tags attributes → Names (keys ++ more) (values ++ further) tags attributes
+pub names_longer : (keys more : List (List ℕ)) (values further : List Value) (tags : List ℕ) (attributes : List Attribute)
+    → Names keys values tags attributes → Names (keys ++ more) (values ++ further) tags attributes
 names_longer keys more values further tags attributes names = record {
   twice = names.twice;
   key = λ i a at. slice_get-front keys more _ _ (names.key i a at);
@@ -43,20 +45,25 @@ pairs_of-append (k ∷ (v ∷ tags)) more even = ap (λ ps. (k, v) ∷ ps) (pair
 
 -- a pair of tags more, which names an attribute
 pub names_push : (keys : List (List ℕ)) (values : List Value) (tags : List ℕ) (attributes : List Attribute) (k v : ℕ) (a : Attribute)
-    → Names keys values tags attributes → slice_get keys k ≡ Some a.key → slice_get values v ≡ Some a.value → Names keys values (tags ++ k ∷ (v ∷ [])) (attributes ++ a ∷ [])
+    → Names keys values tags attributes → slice_get keys k ≡ Some a.key → slice_get values v ≡ Some a.value
+    → Names keys values (tags ++ k ∷ (v ∷ [])) (attributes ++ a ∷ [])
 names_push keys values tags attributes k v a names of_key of_value =
     let even = even_from_names keys values tags attributes names in
-    names_from_related keys values (tags ++ k ∷ (v ∷ [])) (attributes ++ a ∷ []) (λ odd. even (omega (arith, odd, length-append tags (k ∷ (v ∷ [])))))
+    names_from_related keys values (tags ++ k ∷ (v ∷ [])) (attributes ++ a ∷ [])
+    (λ odd. even (omega (arith, odd, length-append tags (k ∷ (v ∷ [])))))
     (subst (λ ps. AreRelated (NamesOne keys values) ps (attributes ++ a ∷ [])) (sym (pairs_of-append tags (k ∷ (v ∷ [])) even))
     (related-append (NamesOne keys values) (pairs_of tags) attributes ((k, v) ∷ []) (a ∷ []) (related_from_names keys values tags attributes names) ((of_key, of_value), tt)))
 
 -- tags that name attributes in pools without repeats are the places in these pools, and in all longer ones
 pub names_places : (keys more : List (List ℕ)) (values further : List Value) (tags : List ℕ) (attributes : List Attribute)
-    → AreDistinct keys → AreDistinct values → Names keys values tags attributes → tags ≡ tags_in (keys ++ more) (values ++ further) attributes
+    → AreDistinct keys → AreDistinct values → Names keys values tags attributes
+    → tags ≡ tags_in (keys ++ more) (values ++ further) attributes
 names_places keys more values further tags attributes distinct_keys distinct_values names =
     by tags attributes (even_from_names keys values tags attributes names) (related_from_names keys values tags attributes names)
   where
-    by : (tags : List ℕ) (attributes : List Attribute) → (length tags % 2 ≡ 1 → ⊥) → AreRelated (NamesOne keys values) (pairs_of tags) attributes → tags ≡ tags_in (keys ++ more) (values ++ further) attributes
+    by : (tags : List ℕ) (attributes : List Attribute) → (length tags % 2 ≡ 1 → ⊥)
+        → AreRelated (NamesOne keys values) (pairs_of tags) attributes
+        → tags ≡ tags_in (keys ++ more) (values ++ further) attributes
     by [] [] even related = refl
     by [] (a ∷ as') even related = absurd related
     by (k ∷ []) attributes even related = absurd (even (omega arith))
@@ -67,28 +74,49 @@ names_places keys more values further tags attributes distinct_keys distinct_val
         λ j. sym key j ∷ (sym value j ∷ by tags as' (λ odd. even (omega (arith, odd))) related.1 j)
 
 -- places in pools name the attributes that are there
-pub places_name : (keys : List (List ℕ)) (values : List Value) (attributes : List Attribute) → AllByRecursion (IsIn keys values) attributes → Names keys values (tags_in keys values attributes) attributes
+pub places_name : (keys : List (List ℕ)) (values : List Value) (attributes : List Attribute)
+    → AllByRecursion (IsIn keys values) attributes → Names keys values (tags_in keys values attributes) attributes
 places_name keys values attributes all =
-    names_from_related keys values (tags_in keys values attributes) attributes (λ odd. omega (arith, odd, twice attributes)) (related attributes all)
+    names_from_related keys values (tags_in keys values attributes) attributes (λ odd. omega (arith, odd, twice attributes))
+    (related attributes all)
   where
     twice : (as' : List Attribute) → length (tags_in keys values as') ≡ 2 * length as'
     twice [] = omega arith
     twice (a ∷ as') = omega (arith, twice as')
 
-    related : (as' : List Attribute) → AllByRecursion (IsIn keys values) as' → AreRelated (NamesOne keys values) (pairs_of (tags_in keys values as')) as'
+    related : (as' : List Attribute) → AllByRecursion (IsIn keys values) as'
+        → AreRelated (NamesOne keys values) (pairs_of (tags_in keys values as')) as'
     related [] h = tt
-    related (a ∷ as') h =
-        ((stands_at_place bytes_eq bytes_eq-Decides a.key keys (has_from_Contains bytes_eq bytes_eq-Decides a.key keys h.0.0), stands_at_place equal_values equal_values-Decides a.value values (has_from_Contains equal_values equal_values-Decides a.value values h.0.1)), related as' h.1)
+    related (a ∷ as') h = (
+      (
+        stands_at_place bytes_eq bytes_eq-Decides a.key keys (has_from_Contains bytes_eq bytes_eq-Decides a.key keys h.0.0),
+        stands_at_place equal_values equal_values-Decides a.value values
+            (has_from_Contains equal_values equal_values-Decides a.value values h.0.1),
+      ),
+      related as' h.1,
+    )
 
-place_small : {A : Type 0} → (same : A → A → Bool) (decides : (x y : A) → Decides (same x y) (x ≡ y)) (ys : List A) (x : A) (bound : ℕ) → Contains ys x → length ys ≤ bound → place_in same ys x < bound
+place_small : {A : Type 0}
+    → (same : A → A → Bool) (decides : (x y : A) → Decides (same x y) (x ≡ y)) (ys : List A) (x : A) (bound : ℕ) → Contains ys x
+    → length ys ≤ bound → place_in same ys x < bound
 place_small same decides ys x bound h le =
-    omega (arith, le, slice_get_within ys (place_in same ys x) x (stands_at_place same decides x ys (has_from_Contains same decides x ys h)))
+    omega (
+      arith,
+      le,
+      slice_get_within ys (place_in same ys x) x (stands_at_place same decides x ys (has_from_Contains same decides x ys h)),
+    )
 
 pub places_small : (keys : List (List ℕ)) (values : List Value) (attributes : List Attribute) (bound : ℕ)
-    → AllByRecursion (IsIn keys values) attributes → length keys ≤ bound → length values ≤ bound → AllByRecursion (λ tag. tag < bound) (tags_in keys values attributes)
+    → AllByRecursion (IsIn keys values) attributes → length keys ≤ bound → length values ≤ bound
+    → AllByRecursion (λ tag. tag < bound) (tags_in keys values attributes)
 places_small keys values [] bound h few_keys few_values = tt
-places_small keys values (a ∷ as') bound h few_keys few_values =
-    (place_small bytes_eq bytes_eq-Decides keys a.key bound h.0.0 few_keys, (place_small equal_values equal_values-Decides values a.value bound h.0.1 few_values, places_small keys values as' bound h.1 few_keys few_values))
+places_small keys values (a ∷ as') bound h few_keys few_values = (
+  place_small bytes_eq bytes_eq-Decides keys a.key bound h.0.0 few_keys,
+  (
+    place_small equal_values equal_values-Decides values a.value bound h.0.1 few_values,
+    places_small keys values as' bound h.1 few_keys few_values,
+  ),
+)
 
 -- ---- what pools hold
 
@@ -97,7 +125,8 @@ module _ {A : Type 0} (same : A → A → Bool) (decides : (x y : A) → Decides
   pool attributes = first_use same (held ++ map part attributes)
 
   mapped : (attributes more : List Attribute) → held ++ map part (attributes ++ more) ≡ (held ++ map part attributes) ++ map part more
-  mapped attributes more = ap (λ xs. held ++ xs) (map-append part attributes more) ∙ sym (append_assoc held (map part attributes) (map part more))
+  mapped attributes more =
+      ap (λ xs. held ++ xs) (map-append part attributes more) ∙ sym (append_assoc held (map part attributes) (map part more))
 
   pub pool_from : (attributes : List Attribute) (x : A) → Contains (pool attributes) x → Contains (held ++ map part attributes) x
   pool_from attributes x h =
@@ -107,7 +136,9 @@ module _ {A : Type 0} (same : A → A → Bool) (decides : (x y : A) → Decides
   pub pool_has : (attributes : List Attribute) (x : A) → Contains (map part attributes) x → Contains (pool attributes) x
   pool_has attributes x h =
       let all = held ++ map part attributes in
-      Contains_from_has same decides x (pool attributes) (has-first_use same decides x all ∙ has_from_Contains same decides x all (Contains-append_right held (map part attributes) x h))
+      Contains_from_has same decides x (pool attributes)
+      (has-first_use same decides x all
+      ∙ has_from_Contains same decides x all (Contains-append_right held (map part attributes) x h))
 
   pub pool_by_parts : (attributes more : List Attribute) → first_use same (pool attributes ++ map part more) ≡ pool (attributes ++ more)
   pool_by_parts attributes more =
@@ -125,12 +156,19 @@ module _ {A : Type 0} (same : A → A → Bool) (decides : (x y : A) → Decides
 
 -- attributes that were placed are in the pools
 pub all_held : (held_keys : List (List ℕ)) (held_values : List Value) (front attributes back : List Attribute)
-    → AllByRecursion (IsIn (key_pool held_keys (front ++ (attributes ++ back))) (value_pool held_values (front ++ (attributes ++ back)))) attributes
+    → AllByRecursion
+    (IsIn (key_pool held_keys (front ++ (attributes ++ back))) (value_pool held_values (front ++ (attributes ++ back))))
+    attributes
 all_held held_keys held_values front [] back = tt
 all_held held_keys held_values front (a ∷ as') back =
     let all = front ++ (a ∷ (as' ++ back)) in (
-      (pool_has bytes_eq bytes_eq-Decides (λ (b : Attribute). b.key) held_keys all a.key (there (λ (b : Attribute). b.key)), pool_has equal_values equal_values-Decides (λ (b : Attribute). b.value) held_values all a.value (there (λ (b : Attribute). b.value))),
-      subst (λ xs. AllByRecursion (IsIn (key_pool held_keys xs) (value_pool held_values xs)) as') (append_assoc front (a ∷ []) (as' ++ back)) (all_held held_keys held_values (front ++ a ∷ []) as' back),
+      (
+        pool_has bytes_eq bytes_eq-Decides (λ (b : Attribute). b.key) held_keys all a.key (there (λ (b : Attribute). b.key)),
+        pool_has equal_values equal_values-Decides (λ (b : Attribute). b.value) held_values all a.value
+            (there (λ (b : Attribute). b.value)),
+      ),
+      subst (λ xs. AllByRecursion (IsIn (key_pool held_keys xs) (value_pool held_values xs)) as')
+          (append_assoc front (a ∷ []) (as' ++ back)) (all_held held_keys held_values (front ++ a ∷ []) as' back),
     )
   where
     there : {A : Type 0} (part : Attribute → A) → Contains (map part (front ++ (a ∷ (as' ++ back)))) (part a)

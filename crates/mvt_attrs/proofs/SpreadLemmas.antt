@@ -7,7 +7,8 @@ use Rattle.mvt_attrs.proofs.PoolLemmas.{last_there, front_there}
 use Rattle.mvt_attrs.proofs.PlacingLemmas.{contains_at}
 
 -- what stands at an index of a longer list
-at_index : {A : Type 0} → (xs : List A) (y : A) (i : ℕ) (x : A) → slice_get (xs ++ y ∷ []) i ≡ Some x → (slice_get xs i ≡ Some x) ⊎ ((length xs ≡ i) × (y ≡ x))
+at_index : {A : Type 0} → (xs : List A) (y : A) (i : ℕ) (x : A) → slice_get (xs ++ y ∷ []) i ≡ Some x
+    → (slice_get xs i ≡ Some x) ⊎ ((length xs ≡ i) × (y ≡ x))
 at_index [] y zero x e = inr (omega arith, cc)
 at_index [] y (suc i) x e = cc
 at_index (w ∷ xs) y zero x e = inl e
@@ -87,10 +88,12 @@ module _ {A : Type 0} (entries : List A) (new : A) (first second : A → ℕ) (s
         (λ there. at_other x (λ e. absent (subst (Contains entries) (sym e) (contains_at entries i x at))) ∙ there)) (known i x at))
         (inr (first_taken, inr (second_taken, at_new)))
 
-    pub sound_in_order : ((i : ℕ) (x : A) → old x ≡ Some i → slice_get entries i ≡ Some x) → (i : ℕ) (x : A) → after x ≡ Some i → slice_get (entries ++ new ∷ []) i ≡ Some x
+    pub sound_in_order : ((i : ℕ) (x : A) → old x ≡ Some i → slice_get entries i ≡ Some x) → (i : ℕ) (x : A)
+        → after x ≡ Some i → slice_get (entries ++ new ∷ []) i ≡ Some x
     sound_in_order sound i x e =
         cond_both (here x) (Some (length entries)) (old x) (λ o. o ≡ Some i → slice_get (entries ++ new ∷ []) i ≡ Some x)
-        (λ same at. subst (λ o. o ≡ Some x) (ap (slice_get (entries ++ new ∷ [])) (some_once at)) (last_there entries new ∙ ap Some ((decides x).0 same)))
+        (λ same at. subst (λ o. o ≡ Some x) (ap (slice_get (entries ++ new ∷ [])) (some_once at))
+        (last_there entries new ∙ ap Some ((decides x).0 same)))
         (λ other at. front_there entries new i x (sound i x at)) (sym (updated x) ∙ e)
       where
         some_once : {m n : ℕ} → Some m ≡ Some n → m ≡ n

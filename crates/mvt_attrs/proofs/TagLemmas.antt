@@ -79,24 +79,36 @@ module _ (keys : List (List ℕ)) (values : List Value) (front : List (ℕ × �
   new_row = when repeated (2 * length front, RepeatedKey)
 
   -- the three rules of a pair, one after the other
-  pub chain : first (rules_of_pair keys values front (k, v)) ≡ option_or (first (when (nat_le (length keys) k) (2 * length front, KeyIndex))) (option_or (first value_row) (option_or (first new_row) None))
+  pub chain : first (rules_of_pair keys values front (k, v))
+      ≡ option_or (first (when (nat_le (length keys) k) (2 * length front, KeyIndex)))
+      (option_or (first value_row) (option_or (first new_row) None))
   chain =
       first-rows 0 (when (nat_le (length keys) k) (2 * length front, KeyIndex)) ((1, value_row) ∷ ((2, new_row) ∷ []))
-      ∙ ap (λ o. option_or (first (when (nat_le (length keys) k) (2 * length front, KeyIndex))) o) (first-rows 1 value_row ((2, new_row) ∷ []) ∙ ap (λ o. option_or (first value_row) o) (first-rows 2 new_row []))
+      ∙ ap (λ o. option_or (first (when (nat_le (length keys) k) (2 * length front, KeyIndex))) o)
+      (first-rows 1 value_row ((2, new_row) ∷ []) ∙ ap (λ o. option_or (first value_row) o) (first-rows 2 new_row []))
 
   pub no_key : slice_get keys k ≡ None → first (rules_of_pair keys values front (k, v)) ≡ Some (2 * length front, KeyIndex)
   no_key e = chain ∙ option_or-some _ _ _ (first-when (nat_le (length keys) k) _ (le-leb (length keys) k (past_from_none keys k e)))
 
   module _ (key : List ℕ) (there : slice_get keys k ≡ Some key) where
     behind_key : first (rules_of_pair keys values front (k, v)) ≡ option_or (first value_row) (option_or (first new_row) None)
-    behind_key = chain ∙ option_or-none _ _ (first-when_not (nat_le (length keys) k) _ (lt-leb (length keys) k (slice_get_within keys k key there)))
+    behind_key =
+        chain
+        ∙ option_or-none _ _
+        (first-when_not (nat_le (length keys) k) _ (lt-leb (length keys) k (slice_get_within keys k key there)))
 
     pub no_value : slice_get values v ≡ None → first (rules_of_pair keys values front (k, v)) ≡ Some (2 * length front + 1, ValueIndex)
-    no_value e = behind_key ∙ option_or-some _ _ _ (first-when (nat_le (length values) v) _ (le-leb (length values) v (past_from_none values v e)))
+    no_value e =
+        behind_key
+        ∙ option_or-some _ _ _ (first-when (nat_le (length values) v) _ (le-leb (length values) v (past_from_none values v e)))
 
     module _ (value : Value) (value_there : slice_get values v ≡ Some value) where
       behind_value : first (rules_of_pair keys values front (k, v)) ≡ option_or (first new_row) None
-      behind_value = behind_key ∙ option_or-none _ _ (first-when_not (nat_le (length values) v) _ (lt-leb (length values) v (slice_get_within values v value value_there)))
+      behind_value =
+          behind_key
+          ∙ option_or-none _ _
+          (first-when_not (nat_le (length values) v) _
+          (lt-leb (length values) v (slice_get_within values v value value_there)))
 
       pub old_key : repeated ≡ true → first (rules_of_pair keys values front (k, v)) ≡ Some (2 * length front, RepeatedKey)
       old_key e = behind_value ∙ option_or-some _ _ _ (first-when repeated _ e)
@@ -105,7 +117,8 @@ module _ (keys : List (List ℕ)) (values : List Value) (front : List (ℕ × �
       faultless_pair e = behind_value ∙ option_or-none _ _ (first-when_not repeated _ e)
 
 -- the fault of an even number of tags is that of their pairs
-pub tag_fault-even : (keys : List (List ℕ)) (values : List Value) (tags : List ℕ) → (length tags % 2 ≡ 1 → ⊥) → tag_fault keys values tags ≡ first (each (rules_of_pair keys values) [] (pairs_of tags))
+pub tag_fault-even : (keys : List (List ℕ)) (values : List Value) (tags : List ℕ) → (length tags % 2 ≡ 1 → ⊥)
+    → tag_fault keys values tags ≡ first (each (rules_of_pair keys values) [] (pairs_of tags))
 unfolding tag_fault count_rules pair_rules
 tag_fault-even keys values tags even =
     first-rows 2 (count_rules tags) ((3, pair_rules keys values tags) ∷ [])
@@ -113,7 +126,8 @@ tag_fault-even keys values tags even =
     ∙ first-rows 3 (pair_rules keys values tags) []
     ∙ option_or-right (first (pair_rules keys values tags))
 
-pub tag_fault-odd : (keys : List (List ℕ)) (values : List Value) (tags : List ℕ) → length tags % 2 ≡ 1 → tag_fault keys values tags ≡ Some (length tags, OddTags)
+pub tag_fault-odd : (keys : List (List ℕ)) (values : List Value) (tags : List ℕ) → length tags % 2 ≡ 1
+    → tag_fault keys values tags ≡ Some (length tags, OddTags)
 unfolding tag_fault count_rules pair_rules
 tag_fault-odd keys values tags odd =
     first-rows 2 (count_rules tags) ((3, pair_rules keys values tags) ∷ [])
@@ -128,7 +142,8 @@ module _ (keys : List (List ℕ)) (values : List Value) (tags rest : List ℕ) (
   here more = so_far.pairs ∙ ap (λ ps. so_far.done ++ ps) (pair_in_front rest more)
 
   module _ (even : length tags % 2 ≡ 1 → ⊥) (more : 2 ≤ length rest) where
-    stops : (fault : ℕ × TagCause) → first (rules_of_pair keys values so_far.done pair_here) ≡ Some fault → tag_fault keys values tags ≡ Some fault
+    stops : (fault : ℕ × TagCause) → first (rules_of_pair keys values so_far.done pair_here) ≡ Some fault
+        → tag_fault keys values tags ≡ Some fault
     stops fault told_here =
         tag_fault-even keys values tags even ∙ ap (λ ps. first (each (rules_of_pair keys values) [] ps)) (here more)
         ∙ each_stops (rules_of_pair keys values) so_far.done pair_here (pairs_of (drop 2 rest)) fault so_far.clean told_here
@@ -136,28 +151,45 @@ module _ (keys : List (List ℕ)) (values : List Value) (tags rest : List ℕ) (
     place : (n : ℕ) → length tags - length rest ≡ 2 * length so_far.done
     place n = omega (arith, so_far.count)
 
-    pub stops_without_key : None ≡ slice_get keys (get_or rest 0 0) → tag_fault keys values tags ≡ Some (length tags - length rest, KeyIndex)
+    pub stops_without_key : None ≡ slice_get keys (get_or rest 0 0)
+        → tag_fault keys values tags ≡ Some (length tags - length rest, KeyIndex)
     stops_without_key e =
         stops _ (no_key keys values so_far.done (get_or rest 0 0) (get_or rest 1 0) (sym e)) ∙ ap (λ n. Some (n, KeyIndex)) (sym (place 0))
 
     module _ (key : List ℕ) (there : Some key ≡ slice_get keys (get_or rest 0 0)) where
-      pub stops_without_value : None ≡ slice_get values (get_or rest 1 0) → tag_fault keys values tags ≡ Some (length tags - length rest + 1, ValueIndex)
+      pub stops_without_value : None ≡ slice_get values (get_or rest 1 0)
+          → tag_fault keys values tags ≡ Some (length tags - length rest + 1, ValueIndex)
       stops_without_value e =
-          stops _ (no_value keys values so_far.done (get_or rest 0 0) (get_or rest 1 0) key (sym there) (sym e)) ∙ ap (λ n. Some (n + 1, ValueIndex)) (sym (place 0))
+          stops _ (no_value keys values so_far.done (get_or rest 0 0) (get_or rest 1 0) key (sym there) (sym e))
+          ∙ ap (λ n. Some (n + 1, ValueIndex)) (sym (place 0))
 
       module _ (value : Value) (value_there : Some value ≡ slice_get values (get_or rest 1 0)) where
-        same_test : list_any (λ (earlier : ℕ × ℕ). name_one_key keys earlier.0 (get_or rest 0 0)) so_far.done ≡ list_any (λ (a : Attribute). bytes_eq a.key key) attributes
+        same_test : list_any (λ (earlier : ℕ × ℕ). name_one_key keys earlier.0 (get_or rest 0 0)) so_far.done
+            ≡ list_any (λ (a : Attribute). bytes_eq a.key key) attributes
         same_test = repeats-related keys values so_far.done attributes (get_or rest 0 0) key so_far.entries (sym there)
 
-        pub stops_at_repeat : list_any (λ (a : Attribute). bytes_eq a.key key) attributes ≡ true → tag_fault keys values tags ≡ Some (length tags - length rest, RepeatedKey)
+        pub stops_at_repeat : list_any (λ (a : Attribute). bytes_eq a.key key) attributes ≡ true
+            → tag_fault keys values tags ≡ Some (length tags - length rest, RepeatedKey)
         stops_at_repeat e =
-            stops _ (old_key keys values so_far.done (get_or rest 0 0) (get_or rest 1 0) key (sym there) value (sym value_there) (same_test ∙ e)) ∙ ap (λ n. Some (n, RepeatedKey)) (sym (place 0))
+            stops _
+            (old_key keys values so_far.done (get_or rest 0 0) (get_or rest 1 0) key (sym there) value (sym value_there)
+            (same_test ∙ e))
+            ∙ ap (λ n. Some (n, RepeatedKey)) (sym (place 0))
 
-        pub progress_more : (after : List ℕ) → after ≡ drop 2 rest → list_any (λ (a : Attribute). bytes_eq a.key key) attributes ≡ false → Progress keys values tags after (attributes ++ record { key = key; value = value } ∷ [])
+        pub progress_more : (after : List ℕ) → after ≡ drop 2 rest
+            → list_any (λ (a : Attribute). bytes_eq a.key key) attributes ≡ false
+            → Progress keys values tags after (attributes ++ record { key = key; value = value } ∷ [])
         progress_more after e new = record {
           done = so_far.done ++ pair_here ∷ [];
-          pairs = here more ∙ sym (append_assoc so_far.done (pair_here ∷ []) (pairs_of (drop 2 rest))) ∙ ap (λ r. (so_far.done ++ pair_here ∷ []) ++ pairs_of r) (sym e);
+          pairs =
+              here more ∙ sym (append_assoc so_far.done (pair_here ∷ []) (pairs_of (drop 2 rest)))
+              ∙ ap (λ r. (so_far.done ++ pair_here ∷ []) ++ pairs_of r) (sym e);
           count = omega (arith, so_far.count, length_push so_far.done pair_here, ap length e, length-drop 2 rest);
-          entries = related-append (NamesOne keys values) so_far.done attributes (pair_here ∷ []) _ so_far.entries ((sym there, sym value_there), tt);
-          clean = each_more (rules_of_pair keys values) so_far.done pair_here so_far.clean ∙ faultless_pair keys values so_far.done (get_or rest 0 0) (get_or rest 1 0) key (sym there) value (sym value_there) (same_test ∙ new);
+          entries =
+              related-append (NamesOne keys values) so_far.done attributes (pair_here ∷ []) _ so_far.entries
+              ((sym there, sym value_there), tt);
+          clean =
+              each_more (rules_of_pair keys values) so_far.done pair_here so_far.clean
+              ∙ faultless_pair keys values so_far.done (get_or rest 0 0) (get_or rest 1 0) key (sym there) value
+              (sym value_there) (same_test ∙ new);
         }

@@ -1,9 +1,9 @@
 //! Places of many entries, found by their hashes. Texts can be chosen that have one hash, so an entry
 //! has a second slot by another hash, and an entry that finds both taken is kept in order.
-ghost use Rattle.std.specs.Prelude.{◌≡◌, ◌≢◌, ◌<◌, ◌↔◌, ◌+◌, ◌-◌, ◌^◌, ◌++◌, ◌∷◌, [], Some, None, length, slice_get, slice_index, bit_and, Contains, IsTrue, IfOk, OnOk, OnErr};
+ghost use Rattle.std.specs.Prelude.{◌≡◌, ◌≢◌, ◌<◌, ◌↔◌, ◌+◌, ◌-◌, ◌^◌, ◌++◌, ◌∷◌, [], Some, None, length, slice_get, slice_index, Contains, IsTrue, IfOk, OnOk, OnErr};
 ghost use Rattle.mvt_attrs.specs.FirstUse.{AreDistinct};
 ghost use Rattle.mvt_attrs.specs.Inner.Found.{IsSpotOf, IsToldBy};
-ghost use Rattle.mvt_attrs.specs.Inner.Spreading.{first_slot, second_slot, IsSpread, IsFreeFor};
+ghost use Rattle.mvt_attrs.specs.Inner.Spreading.{first_slot, slot_by, IsSpread, IsFreeFor};
 
 use crate::entry::Entry;
 use crate::spot::Spot;
@@ -22,21 +22,22 @@ pub struct Spread<T: Entry> {
     pub(crate) crowded: BTreeMap<T, u32>,
 }
 
-/// Where an entry stands, or the slot that it can take.
+/// Where an entry stands, or the slot that it can take. Its first slot is by a cheap hash.
 #[inline(always)]
 pub(crate) fn find_spread<T: Entry>(spread: &Spread<T>, entries: &[T], entry: &T) -> Spot
     requires { IsSpread T.cmp T.hash_input spread.now entries.now }
     ensures { IsSpotOf entries.now entry.now (IsFreeFor T.hash_input spread.now entry.now) result }
 {
     let slots = spread.slots.as_slice();
-    let first = first_slot(entry, slots.len());
+    let mut state = FoldHasher::default();
+    let first = slot_of(entry, &mut state, slots.len());
     match told_by(slots, first, entries, entry) {
         Some(spot) => spot,
         None => find_second(spread, entries, entry),
     }
 }
 
-/// The same of an entry whose first slot is another's.
+/// The same of an entry whose first slot is another's: its second is by a hash that costs more.
 #[inline(never)]
 fn find_second<T: Entry>(spread: &Spread<T>, entries: &[T], entry: &T) -> Spot
     requires known { IsSpread T.cmp T.hash_input spread.now entries.now }
@@ -44,7 +45,8 @@ fn find_second<T: Entry>(spread: &Spread<T>, entries: &[T], entry: &T) -> Spot
     ensures { IsSpotOf entries.now entry.now (IsFreeFor T.hash_input spread.now entry.now) result }
 {
     let slots = spread.slots.as_slice();
-    let second = second_slot(entry, slots.len());
+    let mut state = DefaultHasher::new();
+    let second = slot_of(entry, &mut state, slots.len());
     if let Some(spot) = told_by(slots, second, entries, entry) {
         return spot;
     }
@@ -160,33 +162,13 @@ fn note_in_order<T: Entry>(
     Ok(())
 }
 
-/// The slot of an entry by its cheap hash.
-fn first_slot<T: Entry>(entry: &T, room: usize) -> usize
+/// The slot that the hash of an entry names. The room is a power of two, so that all its slots are
+/// named.
+fn slot_of<T: Entry, H: Hasher>(entry: &T, state: &mut H, room: usize) -> usize
     requires { 0 < room }
-    ensures value { result ≡ first_slot T.hash_input room entry.now }
+    ensures value { result ≡ slot_by H.write H.finish state.old T.hash_input room entry.now }
     ensures within { result < room }
 {
-    let mut state = FoldHasher::default();
-    entry.hash(&mut state);
-    slot_of(state.finish(), room)
-}
-
-/// The slot of an entry by another hash, which is wanted where the first slot is another's.
-fn second_slot<T: Entry>(entry: &T, room: usize) -> usize
-    requires { 0 < room }
-    ensures value { result ≡ second_slot T.hash_input room entry.now }
-    ensures within { result < room }
-{
-    let mut state = DefaultHasher::new();
-    entry.hash(&mut state);
-    slot_of(state.finish(), room)
-}
-
-/// The slot that a hash names. The room is a power of two, so that all its slots are named.
-fn slot_of(hash: u64, room: usize) -> usize
-    requires { 0 < room }
-    ensures value { result ≡ bit_and hash (room - 1) }
-    ensures within { result < room }
-{
-    hash as usize & (room - 1)
+    entry.hash(state);
+    state.finish() as usize & (room - 1)
 }

@@ -3,7 +3,7 @@ use Rattle.std.proofs.Common.{◌≡◌, ℕ, suc, ◌+◌, ◌<◌, ◌≤◌, 
 use Rattle.std.specs.Prelude.{⊤}
 use Rattle.std.proofs.lemmas.List.{length-append}
 use Rattle.mvt_base.specs.Rules.{Rules, PrecedesAll, AreOrdered, under, each}
-use Rattle.mvt_base.proofs.OrderLemmas.{AllFrom, all_later, under_from, from-append, under_ordered, under_then}
+use Rattle.mvt_base.proofs.OrderLemmas.{AllFrom, all_later, under_from, from-append, under_ordered, precedes-append, under_then}
 
 -- the number that a rank begins with is below n
 abbrev pub BeginsBelow : ℕ → List ℕ → Type 0
@@ -35,15 +35,11 @@ below_precedes n rank [] h = tt
 below_precedes n [] (r ∷ rs) h = absurd h
 below_precedes n (m ∷ ms) (r ∷ rs) h = (inl h, below_precedes n (m ∷ ms) rs h)
 
-precedes_both : {F : Type 0} → (rank : List ℕ) (xs ys : Rules F) → PrecedesAll rank xs → PrecedesAll rank ys → PrecedesAll rank (xs ++ ys)
-precedes_both rank [] ys h k = k
-precedes_both rank (x ∷ xs) ys h k = (h.0, precedes_both rank xs ys h.1 k)
-
 -- a table in order whose ranks begin below n, and then rules under n
 pub then_under : {F : Type 0} → (n : ℕ) (rules later : Rules F) → AreOrdered rules → AllBelow n rules → AreOrdered later → AreOrdered (rules ++ under n later)
 then_under n [] later h below k = under_ordered n later k
 then_under n (r ∷ rs) later h below k =
-    (precedes_both r.0 rs (under n later) h.0 (below_precedes n r.0 later below.0), then_under n rs later h.1 below.1 k)
+    (precedes-append r.0 rs (under n later) h.0 (below_precedes n r.0 later below.0), then_under n rs later h.1 below.1 k)
 
 -- rules of each element, and then those that begin after the last, are in order
 each_from : {X F : Type 0} → (rules : List X → X → Rules F) (front xs : List X) (later : Rules F) → AllFrom (length front + length xs) later → AllFrom (length front) (each rules front xs ++ later)

@@ -4,3 +4,4 @@ pub mod ListLemmas
 pub mod GrowingLemmas
 pub mod TableLemmas
 pub mod SelectionLemmas
+pub mod ResultLemmas

@@ -82,7 +82,7 @@ precedes_later : {F : Type 0} → (m n : ℕ) (ms : List ℕ) (rules : Rules F) 
 precedes_later m n ms [] lt h = tt
 precedes_later m n ms (r ∷ rs) lt h = (one_precedes_later m n ms r.0 lt h.0, precedes_later m n ms rs lt h.1)
 
-precedes-append : {F : Type 0} → (rank : List ℕ) (xs ys : Rules F) → PrecedesAll rank xs → PrecedesAll rank ys → PrecedesAll rank (xs ++ ys)
+pub precedes-append : {F : Type 0} → (rank : List ℕ) (xs ys : Rules F) → PrecedesAll rank xs → PrecedesAll rank ys → PrecedesAll rank (xs ++ ys)
 precedes-append rank [] ys h k = k
 precedes-append rank (x ∷ xs) ys h k = (h.0, precedes-append rank xs ys h.1 k)
 

@@ -14,18 +14,15 @@ use Rattle.mvt_attrs.specs.declared.value.Value.TheVariants.{Text, Float, Double
 use Rattle.mvt_attrs.specs.Tags.{Names}
 use Rattle.mvt_geometry.specs.declared.shape.Kind.{Kind}
 use Rattle.mvt_geometry.specs.declared.shape.Kind.TheVariants as kinds
-use Rattle.mvt_geometry.specs.declared.shape.Geometry.{Geometry}
 use Rattle.mvt_geometry.specs.Drawing.{drawn}
 use Rattle.mvt_geometry.specs.Shape.{kind_of}
-use Rattle.mvt_geometry.specs.Valid.{IsValid}
 use Rattle.mvt_wire.specs.Field.{varint, bytes, Entry}
 use Rattle.mvt_wire.specs.Spelling.{Plain, plain_of, short_field, short_numbers, spelled, IsFit}
 use Rattle.mvt_wire.specs.Zigzag.{zig}
 use Rattle.mvt_feature.specs.declared.numbers.feature.TheConstants.{ID, TAGS, TYPE, GEOMETRY}
 use Rattle.mvt_feature.specs.declared.numbers.value.TheConstants.{STRING}
-use Rattle.mvt_feature.proofs.Below.{ShortPacked, SpelledWhole, BytesLonger}
 use Rattle.mvt_feature.specs.declared.feature.Feature.{Feature}
-use Rattle.mvt_feature.specs.Canonical.{plain, value_field, value_fields, id_fields, tags_fields, type_number, drawing_fields, feature_fields}
+use Rattle.mvt_feature.specs.Canonical.{plain, field_of_value, value_fields, id_fields, tags_fields, type_number, drawing_fields, feature_fields}
 use Rattle.mvt_feature.specs.Features.{Joined, number_of, number_in, kind_numbered, kind_of_type, IsFeature, IsFeatureOf}
 use Rattle.mvt_feature.specs.Forms.{any_varint, geom_type, HasForm, number_rules}
 use Rattle.mvt_feature.specs.Selection.{only}
@@ -34,7 +31,8 @@ use Rattle.mvt_feature.specs.Values.{value_forms, Means, IsValue, IsValueOf}
 use Rattle.mvt_feature.specs.ValueRules.{kinds, are_one_kind, value_field_rules}
 use Rattle.mvt_feature.proofs.TextLemmas.{text_clean}
 use Rattle.mvt_feature.proofs.ValueLemmas.{value_from, rules_clean}
-use Rattle.mvt_feature.proofs.WritingLemmas.{spelled-append}
+use Rattle.mvt_geometry.proofs.GeometryLaws.{drawn_small}
+use Rattle.mvt_wire.proofs.WireLaws.{short_lengths_bytes, short_packed_packed, spelled_parts, spelled_whole_whole}
 
 -- fields that are one plain field
 pub one_of : (xs : List Entry) (p : Plain) → map plain_of xs ≡ p ∷ [] → (x : Entry) × (xs ≡ x ∷ []) × (plain_of x ≡ p)
@@ -48,7 +46,7 @@ none_of (x ∷ xs) h = cc
 
 -- ---- values
 
-value_clean : (v : Value) → ValidValue v → first (number_rules value_forms (value_field v).number (value_field v).content) ≡ None
+value_clean : (v : Value) → ValidValue v → first (number_rules value_forms (field_of_value v).number (field_of_value v).content) ≡ None
 value_clean (Text text) h = text_clean text h
 value_clean (Float bits) h = refl
 value_clean (Double bits) h = refl
@@ -61,7 +59,7 @@ truth_of : (b : Bool) → b ≡ not ((if b then 1 else 0) == 0)
 truth_of true = refl
 truth_of false = refl
 
-value_means : (v : Value) → ValidValue v → Means (value_field v).number (value_field v).content v
+value_means : (v : Value) → ValidValue v → Means (field_of_value v).number (field_of_value v).content v
 value_means (Text text) h = (refl, refl)
 value_means (Float bits) h = (refl, refl)
 value_means (Double bits) h = (refl, refl)
@@ -70,7 +68,11 @@ value_means (Uint n) h = (refl, refl)
 value_means (Sint z) h = (refl, refl)
 value_means (Truth b) h = (refl, truth_of b)
 
-value_kind : (at body : ℕ) (v : Value) → kinds (record { at = at; body = body; number = (value_field v).number; content = (value_field v).content } ∷ []) ≡ record { at = at; body = body; number = (value_field v).number; content = (value_field v).content } ∷ []
+-- a plain field that stands somewhere
+abbrev plain_at : ℕ → ℕ → Plain → Entry
+plain_at at body p = record { at = at; body = body; number = p.number; content = p.content }
+
+value_kind : (at body : ℕ) (v : Value) → kinds (plain_at at body (field_of_value v) ∷ []) ≡ plain_at at body (field_of_value v) ∷ []
 value_kind at body (Text text) = refl
 value_kind at body (Float bits) = refl
 value_kind at body (Double bits) = refl
@@ -80,18 +82,19 @@ value_kind at body (Sint z) = refl
 value_kind at body (Truth b) = refl
 
 -- a value's own field is the value
-value_at : (at body : ℕ) (v : Value) → ValidValue v → IsValue (record { at = at; body = body; number = (value_field v).number; content = (value_field v).content } ∷ []) v
+value_at : (at body : ℕ) (v : Value) → ValidValue v → IsValue (plain_at at body (field_of_value v) ∷ []) v
 value_at at body v h =
-    let x : Entry = record { at = at; body = body; number = (value_field v).number; content = (value_field v).content } in
+    let x : Entry = plain_at at body (field_of_value v) in
     let kind = value_kind at body v in
-    value_from 0 (x ∷ []) x v (each_none (value_field_rules 0) [] (x ∷ []) (rules_clean 0 x (value_clean v h), tt)) (ap are_one_kind kind) (ap (last_or None) kind) (value_means v h)
+    value_from 0 (x ∷ []) x v (each_none (value_field_rules 0) [] (x ∷ []) (rules_clean 0 x (value_clean v h), tt))
+    (ap are_one_kind kind) (ap (last_or None) kind) (value_means v h)
 
 pub value_reads : (xs : List Entry) (v : Value) → map plain_of xs ≡ value_fields v → ValidValue v → IsValue xs v
 value_reads xs v is h =
-    let one = one_of xs (value_field v) is in
+    let one = one_of xs (field_of_value v) is in
     let x = one.0 in
-    let same : x ≡ record { at = x.at; body = x.body; number = (value_field v).number; content = (value_field v).content } =
-    ap (λ (p : Plain). record { at = x.at; body = x.body; number = p.number; content = p.content }) one.2 in
+    let same : x ≡ plain_at x.at x.body (field_of_value v) =
+    ap (λ (p : Plain). plain_at x.at x.body p) one.2 in
     subst (λ ys. IsValue ys v) (sym (one.1 ∙ ap (λ (y : Entry). y ∷ []) same)) (value_at x.at x.body v h)
 
 zig_small : (z : ℤ) → FitsSigned w64 z → zig z < 2 ^ 64
@@ -105,21 +108,22 @@ truth_small false = lit< tt
 code_small : (z : ℤ) → FitsSigned w64 z → cast_unsigned w64 z < 2 ^ 64
 code_small z h = let fits = Fits-of_z h in search rules
 
-pub value_fit : BytesLonger → (v : Value) → ValidValue v → length (spelled (value_fields v)) < 2 ^ 64 → IsFit (value_field v)
-value_fit bytes_longer (Text text) h small =
-    let longer = bytes_longer STRING text in
-    let all : length (short_field STRING (bytes text)) < 2 ^ 64 = subst (λ l. length l < 2 ^ 64) (append-nil (short_field STRING (bytes text))) small in
+pub value_fit : (v : Value) → ValidValue v → length (spelled (value_fields v)) < 2 ^ 64 → IsFit (field_of_value v)
+value_fit (Text text) h small =
+    let longer = short_lengths_bytes STRING text in
+    let all : length (short_field STRING (bytes text)) < 2 ^ 64 =
+    subst (λ l. length l < 2 ^ 64) (append-nil (short_field STRING (bytes text))) small in
     record { first = lit≤ tt; last = lit< tt; content = omega arith }
-value_fit bytes_longer (Float bits) h small = record { first = lit≤ tt; last = lit< tt; content = h }
-value_fit bytes_longer (Double bits) h small = record { first = lit≤ tt; last = lit< tt; content = h }
-value_fit bytes_longer (Int z) h small = record { first = lit≤ tt; last = lit< tt; content = code_small z h }
-value_fit bytes_longer (Uint n) h small = record { first = lit≤ tt; last = lit< tt; content = h }
-value_fit bytes_longer (Sint z) h small = record { first = lit≤ tt; last = lit< tt; content = zig_small z h }
-value_fit bytes_longer (Truth b) h small = record { first = lit≤ tt; last = lit< tt; content = truth_small b }
+value_fit (Float bits) h small = record { first = lit≤ tt; last = lit< tt; content = h }
+value_fit (Double bits) h small = record { first = lit≤ tt; last = lit< tt; content = h }
+value_fit (Int z) h small = record { first = lit≤ tt; last = lit< tt; content = code_small z h }
+value_fit (Uint n) h small = record { first = lit≤ tt; last = lit< tt; content = h }
+value_fit (Sint z) h small = record { first = lit≤ tt; last = lit< tt; content = zig_small z h }
+value_fit (Truth b) h small = record { first = lit≤ tt; last = lit< tt; content = truth_small b }
 
-pub canonical_value : SpelledWhole → BytesLonger → (v : Value) → ValidValue v → length (spelled (value_fields v)) < 2 ^ 64 → IsValueOf (spelled (value_fields v)) v
-canonical_value spelled_whole bytes_longer v h small =
-    let found = spelled_whole (value_fields v) (value_fit bytes_longer v h small, tt) in
+pub canonical_value : (v : Value) → ValidValue v → length (spelled (value_fields v)) < 2 ^ 64 → IsValueOf (spelled (value_fields v)) v
+canonical_value v h small =
+    let found = spelled_whole_whole (value_fields v) (value_fit v h small, tt) in
     (found.0, found.1, value_reads found.0 v found.2 h)
 
 -- ---- features
@@ -133,32 +137,38 @@ only_of_plain : (k : ℕ) (xs : List Entry) → map plain_of (only k xs) ≡ onl
 only_of_plain k [] = refl
 only_of_plain k (x ∷ xs) = by_test (x.number == k) (only_of_plain k xs)
   where
-    by_test : (b : Bool) → map plain_of (only k xs) ≡ only_plain k (map plain_of xs) → map plain_of (if b then x ∷ only k xs else only k xs) ≡ (if b then plain_of x ∷ only_plain k (map plain_of xs) else only_plain k (map plain_of xs))
+    by_test : (b : Bool) → map plain_of (only k xs) ≡ only_plain k (map plain_of xs)
+        → map plain_of (if b then x ∷ only k xs else only k xs)
+        ≡ (if b then plain_of x ∷ only_plain k (map plain_of xs) else only_plain k (map plain_of xs))
     by_test true h = ap (λ l. plain_of x ∷ l) h
     by_test false h = h
 
 abbrev all_fields : Option ℕ → List ℕ → Kind → List ℕ → List Plain
 all_fields id tags kind integers = id_fields id ++ (tags_fields tags ++ drawing_fields kind integers)
 
-ids_only : (id : Option ℕ) (tags : List ℕ) (kind : Kind) (integers : List ℕ) → only_plain ID (all_fields id tags kind integers) ≡ id_fields id
+ids_only : (id : Option ℕ) (tags : List ℕ) (kind : Kind) (integers : List ℕ)
+    → only_plain ID (all_fields id tags kind integers) ≡ id_fields id
 ids_only None [] kind integers = refl
 ids_only None (t ∷ ts) kind integers = refl
 ids_only (Some n) [] kind integers = refl
 ids_only (Some n) (t ∷ ts) kind integers = refl
 
-tags_only : (id : Option ℕ) (tags : List ℕ) (kind : Kind) (integers : List ℕ) → only_plain TAGS (all_fields id tags kind integers) ≡ tags_fields tags
+tags_only : (id : Option ℕ) (tags : List ℕ) (kind : Kind) (integers : List ℕ)
+    → only_plain TAGS (all_fields id tags kind integers) ≡ tags_fields tags
 tags_only None [] kind integers = refl
 tags_only None (t ∷ ts) kind integers = refl
 tags_only (Some n) [] kind integers = refl
 tags_only (Some n) (t ∷ ts) kind integers = refl
 
-type_only : (id : Option ℕ) (tags : List ℕ) (kind : Kind) (integers : List ℕ) → only_plain TYPE (all_fields id tags kind integers) ≡ plain TYPE (varint (type_number kind)) ∷ []
+type_only : (id : Option ℕ) (tags : List ℕ) (kind : Kind) (integers : List ℕ)
+    → only_plain TYPE (all_fields id tags kind integers) ≡ plain TYPE (varint (type_number kind)) ∷ []
 type_only None [] kind integers = refl
 type_only None (t ∷ ts) kind integers = refl
 type_only (Some n) [] kind integers = refl
 type_only (Some n) (t ∷ ts) kind integers = refl
 
-integers_only : (id : Option ℕ) (tags : List ℕ) (kind : Kind) (integers : List ℕ) → only_plain GEOMETRY (all_fields id tags kind integers) ≡ plain GEOMETRY (bytes (short_numbers integers)) ∷ []
+integers_only : (id : Option ℕ) (tags : List ℕ) (kind : Kind) (integers : List ℕ)
+    → only_plain GEOMETRY (all_fields id tags kind integers) ≡ plain GEOMETRY (bytes (short_numbers integers)) ∷ []
 integers_only None [] kind integers = refl
 integers_only None (t ∷ ts) kind integers = refl
 integers_only (Some n) [] kind integers = refl
@@ -171,7 +181,8 @@ id_last xs (Some n) h =
     let one = one_of xs (plain ID (varint n)) h in
     ap (λ l. number_in (last_or None l)) one.1 ∙ ap (λ (p : Plain). number_of p.content) one.2
 
-id_forms : (xs : List Entry) (id : Option ℕ) → map plain_of xs ≡ id_fields id → AllByRecursion (λ (x : Entry). HasForm any_varint x.content) xs
+id_forms : (xs : List Entry) (id : Option ℕ) → map plain_of xs ≡ id_fields id
+    → AllByRecursion (λ (x : Entry). HasForm any_varint x.content) xs
 id_forms xs None h = rw (none_of xs h) tt
 id_forms xs (Some n) h =
     let one = one_of xs (plain ID (varint n)) h in
@@ -191,83 +202,115 @@ kind_back kinds.Point = refl
 kind_back kinds.LineString = refl
 kind_back kinds.Polygon = refl
 
-type_forms : (xs : List Entry) (kind : Kind) → map plain_of xs ≡ plain TYPE (varint (type_number kind)) ∷ [] → AllByRecursion (λ (x : Entry). HasForm geom_type x.content) xs
+type_forms : (xs : List Entry) (kind : Kind) → map plain_of xs ≡ plain TYPE (varint (type_number kind)) ∷ []
+    → AllByRecursion (λ (x : Entry). HasForm geom_type x.content) xs
 type_forms xs kind h =
     let one = one_of xs (plain TYPE (varint (type_number kind))) h in
     let form : HasForm geom_type one.0.content = subst (λ (p : Plain). HasForm geom_type p.content) (sym one.2) (type_small kind) in
     let all : AllByRecursion (λ (x : Entry). HasForm geom_type x.content) (one.0 ∷ []) = (form, tt) in
     subst (AllByRecursion (λ (x : Entry). HasForm geom_type x.content)) (sym one.1) all
 
-type_last : (xs : List Entry) (kind : Kind) → map plain_of xs ≡ plain TYPE (varint (type_number kind)) ∷ [] → kind_of_type (number_in (last_or None xs)) ≡ kind
+type_last : (xs : List Entry) (kind : Kind) → map plain_of xs ≡ plain TYPE (varint (type_number kind)) ∷ []
+    → kind_of_type (number_in (last_or None xs)) ≡ kind
 type_last xs kind h =
     let one = one_of xs (plain TYPE (varint (type_number kind))) h in
-    ap (λ l. kind_of_type (number_in (last_or None l))) one.1 ∙ ap (λ (p : Plain). kind_of_type (number_of p.content)) one.2 ∙ kind_back kind
+    ap (λ l. kind_of_type (number_in (last_or None l))) one.1 ∙ ap (λ (p : Plain). kind_of_type (number_of p.content)) one.2
+    ∙ kind_back kind
 
 -- the numbers of one packed field
-packed_joined : ShortPacked → (xs : List Entry) (k : ℕ) (ns : List ℕ) → AllByRecursion (λ n. n < 2 ^ 32) ns → map plain_of xs ≡ plain k (bytes (short_numbers ns)) ∷ [] → Joined xs ns
-packed_joined short_packed xs k ns small h =
+packed_joined : (xs : List Entry) (k : ℕ) (ns : List ℕ) → AllByRecursion (λ n. n < 2 ^ 32) ns
+    → map plain_of xs ≡ plain k (bytes (short_numbers ns)) ∷ [] → Joined xs ns
+packed_joined xs k ns small h =
     let one = one_of xs (plain k (bytes (short_numbers ns))) h in
     let content : one.0.content ≡ bytes (short_numbers ns) = ap (λ (p : Plain). p.content) one.2 in
-    let joined : Joined (one.0 ∷ []) ns = (ns, [], sym (append-nil ns), rw content (short_packed ns small), refl) in
+    let joined : Joined (one.0 ∷ []) ns = (ns, [], sym (append-nil ns), rw content (short_packed_packed ns small), refl) in
     subst (λ ys. Joined ys ns) (sym one.1) joined
 
-tags_joined : ShortPacked → (xs : List Entry) (tags : List ℕ) → AllByRecursion (λ n. n < 2 ^ 32) tags → map plain_of xs ≡ tags_fields tags → Joined xs tags
-tags_joined short_packed xs [] small h = rw (none_of xs h) refl
-tags_joined short_packed xs (t ∷ ts) small h = packed_joined short_packed xs TAGS (t ∷ ts) small h
+tags_joined : (xs : List Entry) (tags : List ℕ) → AllByRecursion (λ n. n < 2 ^ 32) tags → map plain_of xs ≡ tags_fields tags
+    → Joined xs tags
+tags_joined xs [] small h = rw (none_of xs h) refl
+tags_joined xs (t ∷ ts) small h = packed_joined xs TAGS (t ∷ ts) small h
 
-pub feature_reads : ShortPacked → (xs : List Entry) (keys : List (List ℕ)) (values : List Value) (tags : List ℕ) (f : Feature) → map plain_of xs ≡ feature_fields tags f → Names keys values tags f.attributes → AllByRecursion (λ n. n < 2 ^ 32) tags → ValidFeature f → AllByRecursion (λ n. n < 2 ^ 32) (drawn f.geometry) → IsFeature xs keys values f
-feature_reads short_packed xs keys values tags f is names small valid drawn_small =
+pub feature_reads : (xs : List Entry) (keys : List (List ℕ)) (values : List Value) (tags : List ℕ) (f : Feature)
+    → map plain_of xs ≡ feature_fields tags f → Names keys values tags f.attributes → AllByRecursion (λ n. n < 2 ^ 32) tags
+    → ValidFeature f → AllByRecursion (λ n. n < 2 ^ 32) (drawn f.geometry) → IsFeature xs keys values f
+feature_reads xs keys values tags f is names small valid low =
     let kind = kind_of f.geometry in
     let integers = drawn f.geometry in
     let ids = only_of_plain ID xs ∙ ap (only_plain ID) is ∙ ids_only f.id tags kind integers in
     let types = only_of_plain TYPE xs ∙ ap (only_plain TYPE) is ∙ type_only f.id tags kind integers in
     record {
-      forms = (all_only (λ (x : Entry). x.number) (λ (x : Entry). HasForm any_varint x.content) ID xs (id_forms (only ID xs) f.id ids), (all_only (λ (x : Entry). x.number) (λ (x : Entry). HasForm geom_type x.content) TYPE xs (type_forms (only TYPE xs) kind types), tt));
+      forms = (
+        all_only (λ (x : Entry). x.number) (λ (x : Entry). HasForm any_varint x.content) ID xs
+            (id_forms (only ID xs) f.id ids),
+        (
+          all_only (λ (x : Entry). x.number) (λ (x : Entry). HasForm geom_type x.content) TYPE xs
+              (type_forms (only TYPE xs) kind types),
+          tt,
+        ),
+      );
       id = sym (id_last (only ID xs) f.id ids);
       tags = tags;
-      tags_are = tags_joined short_packed (only TAGS xs) tags small (only_of_plain TAGS xs ∙ ap (only_plain TAGS) is ∙ tags_only f.id tags kind integers);
+      tags_are =
+          tags_joined (only TAGS xs) tags small
+          (only_of_plain TAGS xs ∙ ap (only_plain TAGS) is ∙ tags_only f.id tags kind integers);
       attributes = record { named = names; distinct = valid.distinct };
       integers = integers;
-      integers_are = packed_joined short_packed (only GEOMETRY xs) GEOMETRY integers drawn_small (only_of_plain GEOMETRY xs ∙ ap (only_plain GEOMETRY) is ∙ integers_only f.id tags kind integers);
+      integers_are =
+          packed_joined (only GEOMETRY xs) GEOMETRY integers low
+          (only_of_plain GEOMETRY xs ∙ ap (only_plain GEOMETRY) is ∙ integers_only f.id tags kind integers);
       geometry = record { same_kind = type_last (only TYPE xs) kind types; valid = valid.drawn; spelled = refl };
     }
 
 -- the fields of a feature can be spelled
-bytes_fit : BytesLonger → (k : ℕ) (d : List ℕ) (n : ℕ) → 1 ≤ k → k < 2 ^ 29 → length (short_field k (bytes d)) ≤ n → n < 2 ^ 64 → IsFit (plain k (bytes d))
-bytes_fit bytes_longer k d n low high within small =
-    let longer = bytes_longer k d in
+bytes_fit : (k : ℕ) (d : List ℕ) (n : ℕ) → 1 ≤ k → k < 2 ^ 29 → length (short_field k (bytes d)) ≤ n → n < 2 ^ 64
+    → IsFit (plain k (bytes d))
+bytes_fit k d n low high within small =
+    let longer = short_lengths_bytes k d in
     record { first = low; last = high; content = omega arith }
 
-drawing_fit : BytesLonger → (kind : Kind) (integers : List ℕ) → length (spelled (drawing_fields kind integers)) < 2 ^ 64 → AllByRecursion IsFit (drawing_fields kind integers)
-drawing_fit bytes_longer kind integers small =
+drawing_fit : (kind : Kind) (integers : List ℕ) → length (spelled (drawing_fields kind integers)) < 2 ^ 64
+    → AllByRecursion IsFit (drawing_fields kind integers)
+drawing_fit kind integers small =
     let low = type_small kind in
-    let size = length-append (short_field TYPE (varint (type_number kind))) (spelled (plain GEOMETRY (bytes (short_numbers integers)) ∷ [])) in
+    let size =
+    length-append (short_field TYPE (varint (type_number kind)))
+    (spelled (plain GEOMETRY (bytes (short_numbers integers)) ∷ [])) in
     let last = ap length (append-nil (short_field GEOMETRY (bytes (short_numbers integers)))) in
-    let packed = bytes_fit bytes_longer GEOMETRY (short_numbers integers) (length (short_field GEOMETRY (bytes (short_numbers integers)))) (lit≤ tt) (lit< tt) (omega arith) (omega (arith, size, last)) in
+    let packed =
+    bytes_fit GEOMETRY (short_numbers integers) (length (short_field GEOMETRY (bytes (short_numbers integers)))) (lit≤ tt)
+    (lit< tt) (omega arith) (omega (arith, size, last)) in
     (record { first = lit≤ tt; last = lit< tt; content = omega arith }, (packed, tt))
 
-tags_fit : BytesLonger → (tags : List ℕ) → length (spelled (tags_fields tags)) < 2 ^ 64 → AllByRecursion IsFit (tags_fields tags)
-tags_fit bytes_longer [] small = tt
-tags_fit bytes_longer (t ∷ ts) small =
-    let last = ap length (append-nil (short_field TAGS (bytes (short_numbers (t ∷ ts))))) in
-    (bytes_fit bytes_longer TAGS (short_numbers (t ∷ ts)) (length (short_field TAGS (bytes (short_numbers (t ∷ ts))))) (lit≤ tt) (lit< tt) (omega arith) (omega (arith, last)), tt)
+tags_fit : (tags : List ℕ) → length (spelled (tags_fields tags)) < 2 ^ 64 → AllByRecursion IsFit (tags_fields tags)
+tags_fit [] small = tt
+tags_fit (t ∷ ts) small =
+    let last = ap length (append-nil (short_field TAGS (bytes (short_numbers (t ∷ ts))))) in (
+      bytes_fit TAGS (short_numbers (t ∷ ts)) (length (short_field TAGS (bytes (short_numbers (t ∷ ts))))) (lit≤ tt) (lit< tt)
+          (omega arith) (omega (arith, last)),
+      tt,
+    )
 
 id_fit : (id : Option ℕ) → IfSome id (λ n. n < 2 ^ 64) → AllByRecursion IsFit (id_fields id)
 id_fit None h = tt
 id_fit (Some n) h = (record { first = lit≤ tt; last = lit< tt; content = h }, tt)
 
-spelled_parts : (fs gs : List Plain) (n : ℕ) → length (spelled (fs ++ gs)) < n → (length (spelled fs) < n) × (length (spelled gs) < n)
-spelled_parts fs gs n small =
-    let size = ap length (spelled-append fs gs) ∙ length-append (spelled fs) (spelled gs) in
+both_small : (fs gs : List Plain) (n : ℕ) → length (spelled (fs ++ gs)) < n → (length (spelled fs) < n) × (length (spelled gs) < n)
+both_small fs gs n small =
+    let size = ap length (spelled_parts fs gs) ∙ length-append (spelled fs) (spelled gs) in
     (omega (arith, size), omega (arith, size))
 
-pub feature_fit : BytesLonger → (tags : List ℕ) (f : Feature) → IfSome f.id (λ n. n < 2 ^ 64) → length (spelled (feature_fields tags f)) < 2 ^ 64 → AllByRecursion IsFit (feature_fields tags f)
-feature_fit bytes_longer tags f id small =
-    let outer = spelled_parts (id_fields f.id) (tags_fields tags ++ drawing_fields (kind_of f.geometry) (drawn f.geometry)) (2 ^ 64) small in
-    let inner = spelled_parts (tags_fields tags) (drawing_fields (kind_of f.geometry) (drawn f.geometry)) (2 ^ 64) outer.1 in
-    all_joined IsFit (id_fields f.id) _ (id_fit f.id id) (all_joined IsFit (tags_fields tags) _ (tags_fit bytes_longer tags inner.0) (drawing_fit bytes_longer (kind_of f.geometry) (drawn f.geometry) inner.1))
+pub feature_fit : (tags : List ℕ) (f : Feature) → IfSome f.id (λ n. n < 2 ^ 64)
+    → length (spelled (feature_fields tags f)) < 2 ^ 64 → AllByRecursion IsFit (feature_fields tags f)
+feature_fit tags f id small =
+    let outer = both_small (id_fields f.id) (tags_fields tags ++ drawing_fields (kind_of f.geometry) (drawn f.geometry)) (2 ^ 64) small in
+    let inner = both_small (tags_fields tags) (drawing_fields (kind_of f.geometry) (drawn f.geometry)) (2 ^ 64) outer.1 in
+    all_joined IsFit (id_fields f.id) _ (id_fit f.id id)
+    (all_joined IsFit (tags_fields tags) _ (tags_fit tags inner.0) (drawing_fit (kind_of f.geometry) (drawn f.geometry) inner.1))
 
-pub canonical_feature : SpelledWhole → BytesLonger → ShortPacked → ((g : Geometry) → IsValid g → AllByRecursion (λ n. n < 2 ^ 32) (drawn g)) → (keys : List (List ℕ)) (values : List Value) (tags : List ℕ) (f : Feature) → ValidFeature f → Names keys values tags f.attributes → AllByRecursion (λ n. n < 2 ^ 32) tags → length (spelled (feature_fields tags f)) < 2 ^ 64 → IsFeatureOf (spelled (feature_fields tags f)) keys values f
-canonical_feature spelled_whole bytes_longer short_packed drawn_small keys values tags f valid names small fits =
-    let found = spelled_whole (feature_fields tags f) (feature_fit bytes_longer tags f valid.id fits) in
-    (found.0, found.1, feature_reads short_packed found.0 keys values tags f found.2 names small valid (drawn_small f.geometry valid.drawn))
+pub canonical_feature : (keys : List (List ℕ)) (values : List Value) (tags : List ℕ) (f : Feature) → ValidFeature f
+    → Names keys values tags f.attributes → AllByRecursion (λ n. n < 2 ^ 32) tags
+    → length (spelled (feature_fields tags f)) < 2 ^ 64 → IsFeatureOf (spelled (feature_fields tags f)) keys values f
+canonical_feature keys values tags f valid names small fits =
+    let found = spelled_whole_whole (feature_fields tags f) (feature_fit tags f valid.id fits) in
+    (found.0, found.1, feature_reads found.0 keys values tags f found.2 names small valid (drawn_small f.geometry valid.drawn))

@@ -56,40 +56,65 @@ pub number_ordered : (forms : List (ℕ × Form)) (number : ℕ) (c : Content) �
 number_ordered [] number c = tt
 number_ordered (known ∷ others) number c = if_ordered (number == known.0) _ _ (form_ordered known.1 c) (number_ordered others number c)
 
-pub number_clean : (forms : List (ℕ × Form)) (number : ℕ) (c : Content) → AllByRecursion (λ (known : ℕ × Form). number ≡ known.0 → HasForm known.1 c) forms → first (number_rules forms number c) ≡ None
+pub number_clean : (forms : List (ℕ × Form)) (number : ℕ) (c : Content)
+    → AllByRecursion (λ (known : ℕ × Form). number ≡ known.0 → HasForm known.1 c) forms
+    → first (number_rules forms number c) ≡ None
 number_clean [] number c h = refl
-number_clean (known ∷ others) number c h = by_number number _ _ known.0 (λ e. form_clean known.1 c (h.0 e)) (number_clean others number c h.1)
+number_clean (known ∷ others) number c h =
+    by_number number _ _ known.0 (λ e. form_clean known.1 c (h.0 e)) (number_clean others number c h.1)
 
 -- what holds of the first field, and of the others
-pub forms_split : (forms : List (ℕ × Form)) (x : Entry) (xs : List Entry) → HaveForms forms (x ∷ xs) → AllByRecursion (λ (known : ℕ × Form). x.number ≡ known.0 → HasForm known.1 x.content) forms × HaveForms forms xs
+pub forms_split : (forms : List (ℕ × Form)) (x : Entry) (xs : List Entry) → HaveForms forms (x ∷ xs)
+    → AllByRecursion (λ (known : ℕ × Form). x.number ≡ known.0 → HasForm known.1 x.content) forms × HaveForms forms xs
 forms_split [] x xs h = (tt, tt)
 forms_split (known ∷ others) x xs h = let more = forms_split others x xs h.1 in ((h.0.0, more.0), (h.0.1, more.1))
 
-pub number_form : (forms : List (ℕ × Form)) (known : ℕ × Form) → IsFirst forms known → (xs : List Entry) → AllByRecursion (λ (x : Entry). first (number_rules forms x.number x.content) ≡ None) xs → HaveForm known.0 (HasForm known.1) xs
+pub number_form : (forms : List (ℕ × Form)) (known : ℕ × Form) → IsFirst forms known → (xs : List Entry)
+    → AllByRecursion (λ (x : Entry). first (number_rules forms x.number x.content) ≡ None) xs
+    → HaveForm known.0 (HasForm known.1) xs
 number_form forms known is xs clean =
-    all_weaker (λ (x : Entry). first (number_rules forms x.number x.content) ≡ None) (λ (x : Entry). x.number ≡ known.0 → HasForm known.1 x.content)
-    (λ x none same. has_form known.1 x.content (ap first (sym (is x.content)) ∙ subst (λ n. first (number_rules forms n x.content) ≡ None) same none)) xs clean
+    all_weaker (λ (x : Entry). first (number_rules forms x.number x.content) ≡ None)
+    (λ (x : Entry). x.number ≡ known.0 → HasForm known.1 x.content)
+    (λ x none same. has_form known.1 x.content
+    (ap first (sym (is x.content)) ∙ subst (λ n. first (number_rules forms n x.content) ≡ None) same none))
+    xs clean
 
 -- the rules of fields, told at their places
-pub clean_at : (forms : List (ℕ × Form)) (payload_at : ℕ) (x : Entry) → first (forms_rules forms payload_at x) ≡ None → first (number_rules forms x.number x.content) ≡ None
-clean_at forms payload_at x h = none_mapped (fault_at (payload_at + x.at)) _ (sym (first-told (fault_at (payload_at + x.at)) (number_rules forms x.number x.content)) ∙ h)
+pub clean_at : (forms : List (ℕ × Form)) (payload_at : ℕ) (x : Entry) → first (forms_rules forms payload_at x) ≡ None
+    → first (number_rules forms x.number x.content) ≡ None
+clean_at forms payload_at x h =
+    none_mapped (fault_at (payload_at + x.at)) _
+    (sym (first-told (fault_at (payload_at + x.at)) (number_rules forms x.number x.content)) ∙ h)
 
-pub told_clean : (forms : List (ℕ × Form)) (payload_at : ℕ) (x : Entry) → first (number_rules forms x.number x.content) ≡ None → first (forms_rules forms payload_at x) ≡ None
-told_clean forms payload_at x h = first-told (fault_at (payload_at + x.at)) (number_rules forms x.number x.content) ∙ ap (option_map (fault_at (payload_at + x.at))) h
+pub told_clean : (forms : List (ℕ × Form)) (payload_at : ℕ) (x : Entry)
+    → first (number_rules forms x.number x.content) ≡ None → first (forms_rules forms payload_at x) ≡ None
+told_clean forms payload_at x h =
+    first-told (fault_at (payload_at + x.at)) (number_rules forms x.number x.content)
+    ∙ ap (option_map (fault_at (payload_at + x.at))) h
 
 pub forms_ordered : (forms : List (ℕ × Form)) (payload_at : ℕ) (x : Entry) → AreOrdered (forms_rules forms payload_at x)
-forms_ordered forms payload_at x = told_ordered (fault_at (payload_at + x.at)) (number_rules forms x.number x.content) (number_ordered forms x.number x.content)
+forms_ordered forms payload_at x =
+    told_ordered (fault_at (payload_at + x.at)) (number_rules forms x.number x.content)
+    (number_ordered forms x.number x.content)
 
-pub forms_have : (forms : List (ℕ × Form)) (payload_at : ℕ) (xs : List Entry) → AllByRecursion (IsFirst forms) forms → first (each (λ _. forms_rules forms payload_at) [] xs) ≡ None → HaveForms forms xs
+pub forms_have : (forms : List (ℕ × Form)) (payload_at : ℕ) (xs : List Entry) → AllByRecursion (IsFirst forms) forms
+    → first (each (λ _. forms_rules forms payload_at) [] xs) ≡ None → HaveForms forms xs
 forms_have forms payload_at xs firsts clean =
-    all_weaker (IsFirst forms) (λ (known : ℕ × Form). HaveForm known.0 (HasForm known.1) xs) (λ known is. number_form forms known is xs all) forms firsts
+    all_weaker (IsFirst forms) (λ (known : ℕ × Form). HaveForm known.0 (HasForm known.1) xs)
+    (λ known is. number_form forms known is xs all) forms firsts
   where
     all : AllByRecursion (λ (x : Entry). first (number_rules forms x.number x.content) ≡ None) xs
-    all = all_weaker (λ (x : Entry). first (forms_rules forms payload_at x) ≡ None) (λ (x : Entry). first (number_rules forms x.number x.content) ≡ None) (λ x h. clean_at forms payload_at x h) xs (none_each (forms_rules forms payload_at) [] xs clean)
+    all =
+        all_weaker (λ (x : Entry). first (forms_rules forms payload_at x) ≡ None)
+        (λ (x : Entry). first (number_rules forms x.number x.content) ≡ None) (λ x h. clean_at forms payload_at x h) xs
+        (none_each (forms_rules forms payload_at) [] xs clean)
 
-pub forms_clean : (forms : List (ℕ × Form)) (payload_at : ℕ) (xs : List Entry) → HaveForms forms xs → first (each (λ _. forms_rules forms payload_at) [] xs) ≡ None
+pub forms_clean : (forms : List (ℕ × Form)) (payload_at : ℕ) (xs : List Entry) → HaveForms forms xs
+    → first (each (λ _. forms_rules forms payload_at) [] xs) ≡ None
 forms_clean forms payload_at xs h = each_none (forms_rules forms payload_at) [] xs (all xs h)
   where
     all : (ys : List Entry) → HaveForms forms ys → AllByRecursion (λ (y : Entry). first (forms_rules forms payload_at y) ≡ None) ys
     all [] g = tt
-    all (y ∷ ys) g = let parts = forms_split forms y ys g in (told_clean forms payload_at y (number_clean forms y.number y.content parts.0), all ys parts.1)
+    all (y ∷ ys) g =
+        let parts = forms_split forms y ys g in
+        (told_clean forms payload_at y (number_clean forms y.number y.content parts.0), all ys parts.1)

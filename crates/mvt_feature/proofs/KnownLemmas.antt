@@ -21,27 +21,35 @@ use Rattle.mvt_feature.specs.Inner.{id_after, kind_after, numbers_at, IsKnown, I
 
 joined_more : (k : ℕ) (xs : List Entry) (x : Entry) → joined k (xs ++ x ∷ []) ≡ joined k xs ++ numbers_at k x.number x.content
 joined_more k xs x =
-    ap (flat_map (λ (y : Entry). numbers_of y.content)) (filter-append (λ (y : Entry). y.number == k) xs (x ∷ [])) ∙ flat_map-append (λ (y : Entry). numbers_of y.content) (only k xs) (only k (x ∷ [])) ∙ ap (λ l. joined k xs ++ l) (by_test (x.number == k))
+    ap (flat_map (λ (y : Entry). numbers_of y.content)) (filter-append (λ (y : Entry). y.number == k) xs (x ∷ []))
+    ∙ flat_map-append (λ (y : Entry). numbers_of y.content) (only k xs) (only k (x ∷ []))
+    ∙ ap (λ l. joined k xs ++ l) (by_test (x.number == k))
   where
-    by_test : (b : Bool) → flat_map (λ (y : Entry). numbers_of y.content) (if b then x ∷ [] else []) ≡ (if b then numbers_of x.content else [])
+    by_test : (b : Bool)
+        → flat_map (λ (y : Entry). numbers_of y.content) (if b then x ∷ [] else []) ≡ (if b then numbers_of x.content else [])
     by_test true = append-nil (numbers_of x.content)
     by_test false = refl
 
-number_more : (k : ℕ) (xs : List Entry) (x : Entry) → number_in (last_only k (xs ++ x ∷ [])) ≡ (if x.number == k then number_of x.content else number_in (last_only k xs))
+number_more : (k : ℕ) (xs : List Entry) (x : Entry)
+    → number_in (last_only k (xs ++ x ∷ [])) ≡ (if x.number == k then number_of x.content else number_in (last_only k xs))
 number_more k xs x = ap number_in (last_only-more (λ (y : Entry). y.number) k xs x) ∙ by_test (x.number == k)
   where
-    by_test : (b : Bool) → number_in (if b then Some x else last_only k xs) ≡ (if b then number_of x.content else number_in (last_only k xs))
+    by_test : (b : Bool)
+        → number_in (if b then Some x else last_only k xs) ≡ (if b then number_of x.content else number_in (last_only k xs))
     by_test true = refl
     by_test false = refl
 
 kind_more : (xs : List Entry) (x : Entry) → kind_in (xs ++ x ∷ []) ≡ kind_after (kind_in xs) x.number x.content
 kind_more xs x = ap kind_of_type (number_more TYPE xs x) ∙ by_test (x.number == TYPE)
   where
-    by_test : (b : Bool) → kind_of_type (if b then number_of x.content else number_in (last_only TYPE xs)) ≡ (if b then kind_of_type (number_of x.content) else kind_in xs)
+    by_test : (b : Bool)
+        → kind_of_type (if b then number_of x.content else number_in (last_only TYPE xs))
+        ≡ (if b then kind_of_type (number_of x.content) else kind_in xs)
     by_test true = refl
     by_test false = refl
 
-known_more : (done : List Entry) (x : Entry) (old new : Known) (tags integers new_tags new_integers : List ℕ) → IsKnown done old tags integers
+known_more : (done : List Entry) (x : Entry) (old new : Known) (tags integers new_tags new_integers : List ℕ)
+    → IsKnown done old tags integers
     → new.id ≡ id_after old.id x.number x.content → new.kind ≡ kind_after old.kind x.number x.content
     → new_tags ≡ tags ++ numbers_at TAGS x.number x.content → new_integers ≡ integers ++ numbers_at GEOMETRY x.number x.content
     → IsKnown (done ++ x ∷ []) new new_tags new_integers
@@ -49,30 +57,47 @@ known_more done x old new tags integers new_tags new_integers known id kind tags
   id = id ∙ ap (λ o. id_after o x.number x.content) known.id ∙ sym (number_more ID done x);
   kind = kind ∙ ap (λ k. kind_after k x.number x.content) known.kind ∙ sym (kind_more done x);
   tags_are = tags_are ∙ ap (λ l. l ++ numbers_at TAGS x.number x.content) known.tags_are ∙ sym (joined_more TAGS done x);
-  integers_are = integers_are ∙ ap (λ l. l ++ numbers_at GEOMETRY x.number x.content) known.integers_are ∙ sym (joined_more GEOMETRY done x);
+  integers_are =
+      integers_are ∙ ap (λ l. l ++ numbers_at GEOMETRY x.number x.content) known.integers_are
+      ∙ sym (joined_more GEOMETRY done x);
 }
 
-pub field_first : (payload_at : ℕ) (x : Entry) → first (feature_field_rules payload_at x) ≡ option_map (fault_at (payload_at + x.at)) (first (feature_form_rules x.number x.content))
+pub field_first : (payload_at : ℕ) (x : Entry)
+    → first (feature_field_rules payload_at x)
+    ≡ option_map (fault_at (payload_at + x.at)) (first (feature_form_rules x.number x.content))
 unfolding feature_field_rules
 field_first payload_at x = first-told (fault_at (payload_at + x.at)) (feature_form_rules x.number x.content)
 
 -- a fault stays before the rules of later fields
-tells_first : (e : MessageError) (o : Option MessageFault) (p : Option MessageFault) → ((f : MessageFault) → o ≡ Some f → p ≡ Some f) → TellsMessage e o → TellsMessage e p
+tells_first : (e : MessageError) (o : Option MessageFault) (p : Option MessageFault)
+    → ((f : MessageFault) → o ≡ Some f → p ≡ Some f) → TellsMessage e o → TellsMessage e p
 tells_first Memory o p keep h = tt
 tells_first (Fault feature at cause) o p keep h = keep _ h
 
-one_more : (payload_at : ℕ) (done : List Entry) (x : Entry) (more : List Entry) (f : MessageFault) → first (each (λ _. feature_field_rules payload_at) [] done) ≡ None → option_map (fault_at (payload_at + x.at)) (first (feature_form_rules x.number x.content)) ≡ Some f → first (each (λ _. feature_field_rules payload_at) [] ((done ++ x ∷ []) ++ more)) ≡ Some f
+one_more : (payload_at : ℕ) (done : List Entry) (x : Entry) (more : List Entry) (f : MessageFault)
+    → first (each (λ _. feature_field_rules payload_at) [] done) ≡ None
+    → option_map (fault_at (payload_at + x.at)) (first (feature_form_rules x.number x.content)) ≡ Some f
+    → first (each (λ _. feature_field_rules payload_at) [] ((done ++ x ∷ []) ++ more)) ≡ Some f
 one_more payload_at done x more f clean broken =
     rw append_assoc (each_stops (λ _. feature_field_rules payload_at) done x more f clean (field_first payload_at x ∙ broken))
 
 -- the step of the walk
-pub known_with : (payload_at : ℕ) (done : List Entry) (x : Entry) (old : Known) (tags integers new_tags new_integers : List ℕ) (r : Result Known MessageError) → IsKnownSoFar payload_at done (Ok old) tags integers
+pub known_with : (payload_at : ℕ) (done : List Entry) (x : Entry) (old : Known)
+    (tags integers new_tags new_integers : List ℕ) (r : Result Known MessageError)
+    → IsKnownSoFar payload_at done (Ok old) tags integers
     → OnOk r (first (feature_form_rules x.number x.content) ≡ None)
-    → IfOk r (λ (k : Known). k.id ≡ id_after old.id x.number x.content) → IfOk r (λ (k : Known). k.kind ≡ kind_after old.kind x.number x.content)
-    → OnOk r (new_tags ≡ tags ++ numbers_at TAGS x.number x.content) → OnOk r (new_integers ≡ integers ++ numbers_at GEOMETRY x.number x.content)
+    → IfOk r (λ (k : Known). k.id ≡ id_after old.id x.number x.content)
+    → IfOk r (λ (k : Known). k.kind ≡ kind_after old.kind x.number x.content)
+    → OnOk r (new_tags ≡ tags ++ numbers_at TAGS x.number x.content)
+    → OnOk r (new_integers ≡ integers ++ numbers_at GEOMETRY x.number x.content)
     → IfErr r (λ e. TellsMessage e (option_map (fault_at (payload_at + x.at)) (first (feature_form_rules x.number x.content))))
     → IsKnownSoFar payload_at (done ++ x ∷ []) r new_tags new_integers
-known_with payload_at done x old tags integers new_tags new_integers (Ok new) so_far clean id kind tags_are integers_are told_here =
-    (each_more (λ _. feature_field_rules payload_at) done x so_far.0 ∙ field_first payload_at x ∙ ap (option_map (fault_at (payload_at + x.at))) clean, known_more done x old new tags integers new_tags new_integers so_far.1 id kind tags_are integers_are)
+known_with payload_at done x old tags integers new_tags new_integers (Ok new) so_far clean id kind tags_are integers_are told_here = (
+  each_more (λ _. feature_field_rules payload_at) done x so_far.0 ∙ field_first payload_at x
+      ∙ ap (option_map (fault_at (payload_at + x.at))) clean,
+  known_more done x old new tags integers new_tags new_integers so_far.1 id kind tags_are integers_are,
+)
 known_with payload_at done x old tags integers new_tags new_integers (Err e) so_far clean id kind tags_are integers_are told_here =
-    λ more. tells_first e (option_map (fault_at (payload_at + x.at)) (first (feature_form_rules x.number x.content))) (first (each (λ _. feature_field_rules payload_at) [] ((done ++ x ∷ []) ++ more))) (λ f broken. one_more payload_at done x more f so_far.0 broken) told_here
+    λ more. tells_first e (option_map (fault_at (payload_at + x.at)) (first (feature_form_rules x.number x.content)))
+    (first (each (λ _. feature_field_rules payload_at) [] ((done ++ x ∷ []) ++ more)))
+    (λ f broken. one_more payload_at done x more f so_far.0 broken) told_here

@@ -1,16 +1,15 @@
 pub mod FeatureLaws
-pub mod Below
-pub mod TextLemmas
-pub mod FormLemmas
-pub mod WalkLemmas
-pub mod KindLemmas
-pub mod ValueLemmas
-pub mod SaidLemmas
-pub mod KnownLemmas
-pub mod FeatureLemmas
-pub mod OrFaultLemmas
-pub mod WritingLemmas
-pub mod CanonicalLemmas
-pub mod ValidLemmas
-pub mod RangeLemmas
-pub mod BoundLemmas
+mod TextLemmas
+mod FormLemmas
+mod WalkLemmas
+mod KindLemmas
+mod ValueLemmas
+mod SaidLemmas
+mod KnownLemmas
+mod FeatureLemmas
+mod OrFaultLemmas
+mod WritingLemmas
+mod CanonicalLemmas
+mod ValidLemmas
+mod RangeLemmas
+mod BoundLemmas

@@ -38,11 +38,14 @@ payload_range b (fixed32 n) h is = omega (arith, is.1, h 0, h 1, h 2, h 3)
 field_range : (b : List ℕ) (number : ℕ) (c : Content) → AreBytes b → IsField b number c → IsInRange c
 field_range b number c h is = payload_range is.payload c (bytes_back is.tag is.payload (subst AreBytes is.joined h)) is.carries
 
-pub fields_range : (at : ℕ) (b : List ℕ) (xs : List Entry) (rest : List ℕ) → AreBytes b → SplitFrom at b xs rest → AllByRecursion (λ (x : Entry). IsInRange x.content) xs
+pub fields_range : (at : ℕ) (b : List ℕ) (xs : List Entry) (rest : List ℕ) → AreBytes b → SplitFrom at b xs rest
+    → AllByRecursion (λ (x : Entry). IsInRange x.content) xs
 fields_range at b [] rest h s = tt
 fields_range at b (x ∷ xs) rest h (front, back, is, here, more) =
-    let whole = subst AreBytes is h in
-    (field_range front x.number x.content (bytes_front front back whole) here.field, fields_range (at + length front) back xs rest (bytes_back front back whole) more)
+    let whole = subst AreBytes is h in (
+      field_range front x.number x.content (bytes_front front back whole) here.field,
+      fields_range (at + length front) back xs rest (bytes_back front back whole) more,
+    )
 
 -- values
 signed_range : (z : ℤ) → zig z < 2 ^ 64 → FitsSigned w64 z
@@ -64,10 +67,17 @@ means_range n c v h text m = absurd (search rules)
 
 pub value_valid : (payload : List ℕ) (v : Value) → AreBytes payload → IsValueOf payload v → ValidValue v
 value_valid payload v h (xs, whole, is) =
-    let ranges = only_all (λ (x : Entry). x.number) (λ (x : Entry). IsInRange x.content) is.kind xs (fields_range 0 payload xs [] h whole) in
+    let ranges =
+    only_all (λ (x : Entry). x.number) (λ (x : Entry). IsInRange x.content) is.kind xs
+    (fields_range 0 payload xs [] h whole) in
     let range = last_of_all (λ (x : Entry). IsInRange x.content) (only is.kind xs) is.last ranges is.is_last in
-    let named = last_of_all (λ (x : Entry). x.number ≡ is.kind) (only is.kind xs) is.last (only_number (λ (x : Entry). x.number) is.kind xs) is.is_last in
-    let texts = last_of_all (λ (x : Entry). x.number ≡ STRING → HasForm string x.content) (only is.kind xs) is.last (only_all (λ (x : Entry). x.number) (λ (x : Entry). x.number ≡ STRING → HasForm string x.content) is.kind xs is.forms.0) is.is_last in
+    let named =
+    last_of_all (λ (x : Entry). x.number ≡ is.kind) (only is.kind xs) is.last
+    (only_number (λ (x : Entry). x.number) is.kind xs) is.is_last in
+    let texts =
+    last_of_all (λ (x : Entry). x.number ≡ STRING → HasForm string x.content) (only is.kind xs) is.last
+    (only_all (λ (x : Entry). x.number) (λ (x : Entry). x.number ≡ STRING → HasForm string x.content) is.kind xs is.forms.0)
+    is.is_last in
     means_range is.kind is.last.content v range (λ one. texts (named ∙ one)) is.means
 
 -- features
@@ -94,12 +104,21 @@ if_some : (o : Option ℕ) (P : ℕ → Type 0) → ((n : ℕ) → o ≡ Some n 
 if_some None P h = tt
 if_some (Some n) P h = h n refl
 
-pub feature_valid : (payload : List ℕ) (keys : List (List ℕ)) (values : List Value) (f : Feature) → AreBytes payload → AllByRecursion IsUtf8 keys → AllByRecursion ValidValue values → IsFeatureOf payload keys values f → ValidFeature f
+pub feature_valid : (payload : List ℕ) (keys : List (List ℕ)) (values : List Value) (f : Feature) → AreBytes payload
+    → AllByRecursion IsUtf8 keys → AllByRecursion ValidValue values → IsFeatureOf payload keys values f → ValidFeature f
 feature_valid payload keys values f h utf8 valid (xs, whole, is) =
     let ranges = only_all (λ (x : Entry). x.number) (λ (x : Entry). IsInRange x.content) 1 xs (fields_range 0 payload xs [] h whole) in
     record {
-      id = if_some f.id (λ n. n < 2 ^ 64) (λ n e. number_range (last_only ID xs) n (λ x at. last_of_all (λ (y : Entry). IsInRange y.content) (only ID xs) x ranges at) (sym is.id ∙ e));
-      attributes = all_from ValidAttribute f.attributes (λ i a at. (all_at IsUtf8 keys _ a.key utf8 (is.attributes.named.key i a at), all_at ValidValue values _ a.value valid (is.attributes.named.value i a at)));
+      id =
+          if_some f.id (λ n. n < 2 ^ 64)
+          (λ n e. number_range (last_only ID xs) n (λ x at. last_of_all (λ (y : Entry). IsInRange y.content) (only ID xs) x ranges at)
+          (sym is.id ∙ e));
+      attributes =
+          all_from ValidAttribute f.attributes
+          (λ i a at. (
+            all_at IsUtf8 keys _ a.key utf8 (is.attributes.named.key i a at),
+            all_at ValidValue values _ a.value valid (is.attributes.named.value i a at),
+          ));
       distinct = is.attributes.distinct;
       drawn = is.geometry.valid;
     }

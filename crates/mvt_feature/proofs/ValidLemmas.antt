@@ -19,20 +19,26 @@ has_key key attributes = list_any (λ (a : Attribute). bytes_eq a.key key) attri
 
 distinct_push : (xs : List Attribute) (a : Attribute) → HasDistinctKeys xs → has_key a.key xs ≡ false → HasDistinctKeys (xs ++ a ∷ [])
 distinct_push xs a h new =
-    all_pairs_push (λ (x y : Attribute). x.key ≢ y.key) xs a h (λ k d inside same. both_ways (has_key a.key xs) new (list_any_at (λ (x : Attribute). bytes_eq x.key a.key) xs k d inside ((bytes_eq-Decides _ a.key).1 same)))
+    all_pairs_push (λ (x y : Attribute). x.key ≢ y.key) xs a h
+    (λ k d inside same. both_ways (has_key a.key xs) new
+    (list_any_at (λ (x : Attribute). bytes_eq x.key a.key) xs k d inside ((bytes_eq-Decides _ a.key).1 same)))
 
 -- one more attribute with a new key
-pub distinct_more : (xs : List Attribute) (i : ℕ) (a : Attribute) → i < length xs → a ≡ get_or xs i a → HasDistinctKeys (take i xs) → has_key a.key (take i xs) ≡ false → HasDistinctKeys (take (i + 1) xs)
+pub distinct_more : (xs : List Attribute) (i : ℕ) (a : Attribute) → i < length xs → a ≡ get_or xs i a
+    → HasDistinctKeys (take i xs) → has_key a.key (take i xs) ≡ false → HasDistinctKeys (take (i + 1) xs)
 distinct_more xs i a inside at h new =
-    subst HasDistinctKeys (sym (take_more xs i a inside)) (distinct_push (take i xs) (get_or xs i a) h (ap (λ (x : Attribute). has_key x.key (take i xs)) (sym at) ∙ new))
+    subst HasDistinctKeys (sym (take_more xs i a inside))
+    (distinct_push (take i xs) (get_or xs i a) h (ap (λ (x : Attribute). has_key x.key (take i xs)) (sym at) ∙ new))
 
-pub valid_more : (xs : List Attribute) (i : ℕ) (a : Attribute) → i < length xs → a ≡ get_or xs i a → AllByRecursion ValidAttribute (take i xs) → ValidAttribute a → AllByRecursion ValidAttribute (take (i + 1) xs)
+pub valid_more : (xs : List Attribute) (i : ℕ) (a : Attribute) → i < length xs → a ≡ get_or xs i a
+    → AllByRecursion ValidAttribute (take i xs) → ValidAttribute a → AllByRecursion ValidAttribute (take (i + 1) xs)
 valid_more xs i a inside at h valid =
     let one : AllByRecursion ValidAttribute (get_or xs i a ∷ []) = (subst ValidAttribute at valid, tt) in
     subst (AllByRecursion ValidAttribute) (sym (take_more xs i a inside)) (all_joined ValidAttribute (take i xs) (get_or xs i a ∷ []) h one)
 
 -- an attribute whose key stood before
-pub distinct_breaks : (xs : List Attribute) (i : ℕ) (a : Attribute) → i < length xs → a ≡ get_or xs i a → has_key a.key (take i xs) ≡ true → HasDistinctKeys xs → ⊥
+pub distinct_breaks : (xs : List Attribute) (i : ℕ) (a : Attribute) → i < length xs → a ≡ get_or xs i a
+    → has_key a.key (take i xs) ≡ true → HasDistinctKeys xs → ⊥
 distinct_breaks xs i a inside at seen h =
     let found = Any-from_list_any (λ (x : Attribute). bytes_eq x.key a.key) (take i xs) seen in
     let k = found.0 in
@@ -44,7 +50,8 @@ distinct_breaks xs i a inside at seen h =
     h k i a before inside (ap (λ (y : Attribute). y.key) place ∙ same ∙ ap (λ (y : Attribute). y.key) at)
 
 -- the answer of `has_key`, over the attributes before a place
-pub seen_from : (r b : Bool) (given xs : List Attribute) (key text : List ℕ) → r ≡ has_key text given → given ≡ xs → text ≡ key → r ≡ b → has_key key xs ≡ b
+pub seen_from : (r b : Bool) (given xs : List Attribute) (key text : List ℕ) → r ≡ has_key text given → given ≡ xs
+    → text ≡ key → r ≡ b → has_key key xs ≡ b
 seen_from r b given xs key text is list same told =
     ap (λ l. has_key key l) (sym list) ∙ ap (λ k. has_key k given) (sym same) ∙ sym is ∙ told
 
@@ -66,8 +73,11 @@ cond_or false true = refl
 cond_or false false = refl
 
 -- the set with one more key
-pub known_more : (old new : List (Bor (List ℕ))) (xs : List Attribute) (i : ℕ) (a : Attribute) (key : List ℕ) → i < length xs → a ≡ get_or xs i a → key ≡ a.key
-    → ((text : List ℕ) → holds_key old text ≡ has_key text (take i xs)) → (text : List ℕ) → finds_key new text ≡ cond (is_eq (slice_cmp nat_cmp key text)) true (finds_key old text) → holds_key new text ≡ has_key text (take (i + 1) xs)
+pub known_more : (old new : List (Bor (List ℕ))) (xs : List Attribute) (i : ℕ) (a : Attribute) (key : List ℕ)
+    → i < length xs → a ≡ get_or xs i a → key ≡ a.key
+    → ((text : List ℕ) → holds_key old text ≡ has_key text (take i xs)) → (text : List ℕ)
+    → finds_key new text ≡ cond (is_eq (slice_cmp nat_cmp key text)) true (finds_key old text)
+    → holds_key new text ≡ has_key text (take (i + 1) xs)
 known_more old new xs i a key inside at same known text updated =
     sym (finds_holds text new) ∙ updated ∙ ap₂ (λ b held. cond b true held) (is_eq-slice_cmp key text) (finds_holds text old ∙ known text)
     ∙ cond_or (bytes_eq key text) (has_key text (take i xs))
@@ -81,7 +91,9 @@ not_same false true e = refl
 not_same false false e = cc
 
 -- whether a key was there, from the answer of `insert`
-pub key_seen : (added b : Bool) (keys : List (Bor (List ℕ))) (xs : List Attribute) (key text : List ℕ) → added ≡ not (finds_key keys text) → text ≡ key
+pub key_seen : (added b : Bool) (keys : List (Bor (List ℕ))) (xs : List Attribute) (key text : List ℕ)
+    → added ≡ not (finds_key keys text) → text ≡ key
     → ((t : List ℕ) → holds_key keys t ≡ has_key t xs) → added ≡ b → has_key key xs ≡ not b
 key_seen added b keys xs key text is same known told =
-    ap (λ k. has_key k xs) (sym same) ∙ sym (known text) ∙ sym (finds_holds text keys) ∙ not_same added (finds_key keys text) is ∙ ap not told
+    ap (λ k. has_key k xs) (sym same) ∙ sym (known text) ∙ sym (finds_holds text keys) ∙ not_same added (finds_key keys text) is
+    ∙ ap not told

@@ -1,9 +1,9 @@
 -- Values: the rules and the grammar say the same.
-use Rattle.std.proofs.Common.{◌≡◌, ℕ, ◌+◌, ◌%◌, ◌≤◌, ◌==◌, ◌↔◌, inl, inr, Bool, true, false, not, nat_le, ℤ, pos, negsuc, List, [], ◌∷◌, Option, Some, None, refl, sym, ap, ◌∙◌, subst, arith, rules, if◌then◌else◌}
+use Rattle.std.proofs.Common.{◌≡◌, ℕ, ◌+◌, ◌≤◌, ◌==◌, ◌↔◌, inl, inr, Bool, true, false, not, nat_le, ℤ, List, [], ◌∷◌, Option, Some, None, refl, sym, ap, ◌∙◌, subst, arith, rules, if◌then◌else◌}
 use Rattle.std.specs.Int.{w64, cast_signed}
 use Rattle.std.specs.List.{AllByRecursion, list_all, last_or}
 use Rattle.std.specs.Option.{option_or}
-use Rattle.std.proofs.lemmas.Bool.{eqb-true, eq-eqb, ne_eqb, cases_eq, and_parts, and_from, leb-true, le-leb, not-false, both_ways}
+use Rattle.std.proofs.lemmas.Bool.{eqb-true, eq-eqb, ne_eqb, cases_eq, and_parts, and_from, leb-true, le-leb, not-false, false_from_ne_true, both_ways}
 use Rattle.mvt_base.specs.Rules.{AreOrdered, IsLeast, when, each, first}
 use Rattle.mvt_base.proofs.RuleLemmas.{first-when, first-when_not, option_or-none, option_or-nones, option_or-right}
 use Rattle.mvt_base.proofs.ListLemmas.{all_weaker}
@@ -12,10 +12,9 @@ use Rattle.mvt_attrs.specs.declared.value.Value.TheVariants.{Text, Float, Double
 use Rattle.mvt_wire.specs.Field.{Content, varint, fixed64, bytes, fixed32, Entry}
 use Rattle.mvt_wire.specs.Split.{Parts, Split, Whole, split}
 use Rattle.mvt_feature.specs.declared.numbers.value.TheConstants.{STRING, FLOAT, DOUBLE, INT, UINT, SINT, BOOL}
-use Rattle.mvt_feature.proofs.Below.{SplitIs, SplitOnly, split_of}
-use Rattle.mvt_wire.specs.Zigzag.{zig}
+use Rattle.mvt_wire.specs.Zigzag.{zig, unzig}
 use Rattle.mvt_feature.specs.declared.value.Meaning.{Meaning}
-use Rattle.mvt_feature.specs.declared.value.Kinds.TheVariants.{Nothing, One, Several}
+use Rattle.mvt_feature.specs.declared.value.Kinds.TheVariants.{One}
 use Rattle.mvt_feature.specs.Inner.{value_of, AreKinds}
 use Rattle.mvt_base.proofs.OrderLemmas.{first_is_least, least_is_first, AreRowsFrom, rows_ordered, each_ordered, when_ordered}
 use Rattle.mvt_base.proofs.TableLemmas.{firsts, first-rows_all, when_none, none_each}
@@ -28,12 +27,17 @@ use Rattle.mvt_feature.specs.declared.message_error.MessageError.TheVariants.{Me
 use Rattle.mvt_feature.specs.Selection.{only, last_only}
 use Rattle.mvt_feature.specs.Forms.{any_varint, float, double, string, HasForm, HaveForms, number_rules}
 use Rattle.mvt_feature.specs.Values.{value_forms, IsKind, Means, IsValue, IsValueOf}
-use Rattle.mvt_feature.specs.ValueIn.{unzig}
 use Rattle.mvt_feature.specs.ValueRules.{is_kind, kinds, are_one_kind, value_field_rules, value_table, value_rules, value_fault}
 use Rattle.mvt_feature.proofs.FormLemmas.{has_form, clean_at, told_clean, forms_have, forms_clean, forms_ordered}
+use Rattle.mvt_wire.proofs.WireLaws.{split_function_is, split_function_only, zigzag_function_number, zigzag_function_code}
+
+-- the fields of a value have no fault
+abbrev pub ValuesClean : ℕ → List Entry → Type 0
+ValuesClean payload_at xs = first (each (λ _. value_field_rules payload_at) [] xs) ≡ None
 
 -- the fault of a value from its parts
-pub value_chain : (payload : List ℕ) (payload_at tag_at : ℕ) → value_fault payload payload_at tag_at ≡ firsts (value_table payload payload_at tag_at)
+pub value_chain : (payload : List ℕ) (payload_at tag_at : ℕ)
+    → value_fault payload payload_at tag_at ≡ firsts (value_table payload payload_at tag_at)
 unfolding value_fault value_rules
 value_chain payload payload_at tag_at = first-rows_all (value_table payload payload_at tag_at)
 
@@ -43,21 +47,37 @@ front_some None (Some x) d f h = h
 front_some (Some x) b d f h = h
 
 -- a fault of the first rows
-pub tells_front : (e : MessageError) (a b d : Option MessageFault) → TellsMessage e (option_or a b) → TellsMessage e (option_or a (option_or b d))
+pub tells_front : (e : MessageError) (a b d : Option MessageFault) → TellsMessage e (option_or a b)
+    → TellsMessage e (option_or a (option_or b d))
 tells_front Memory a b d h = tt
 tells_front (Fault feature at cause) a b d h = front_some a b d _ h
 
-pub tells_value : (payload : List ℕ) (payload_at tag_at : ℕ) (e : MessageError) → TellsMessage e (option_or (first (rest_rules payload_at (split payload))) (first (each (λ _. value_field_rules payload_at) [] (split payload).fields))) → TellsMessage e (value_fault payload payload_at tag_at)
+pub tells_value : (payload : List ℕ) (payload_at tag_at : ℕ) (e : MessageError)
+    → TellsMessage e
+    (option_or (first (rest_rules payload_at (split payload)))
+    (first (each (λ _. value_field_rules payload_at) [] (split payload).fields)))
+    → TellsMessage e (value_fault payload payload_at tag_at)
 tells_value payload payload_at tag_at e h =
-    subst (λ o. TellsMessage e o) (sym (value_chain payload payload_at tag_at)) (tells_front e (first (rest_rules payload_at (split payload))) (first (each (λ _. value_field_rules payload_at) [] (split payload).fields)) (option_or (first (when (not (are_one_kind (kinds (split payload).fields))) (fault_at tag_at ValueKind))) None) h)
+    subst (λ o. TellsMessage e o) (sym (value_chain payload payload_at tag_at))
+    (tells_front e (first (rest_rules payload_at (split payload)))
+    (first (each (λ _. value_field_rules payload_at) [] (split payload).fields))
+    (option_or (first (when (not (are_one_kind (kinds (split payload).fields))) (fault_at tag_at ValueKind))) None) h)
 
-pub value_kind_told : (payload : List ℕ) (payload_at tag_at : ℕ) → first (rest_rules payload_at (split payload)) ≡ None → first (each (λ _. value_field_rules payload_at) [] (split payload).fields) ≡ None → are_one_kind (kinds (split payload).fields) ≡ false → value_fault payload payload_at tag_at ≡ Some (fault_at tag_at ValueKind)
-value_kind_told payload payload_at tag_at rest clean several =
-    value_chain payload payload_at tag_at ∙ option_or-none _ _ rest ∙ option_or-none _ _ clean ∙ option_or-right _ ∙ first-when _ _ (ap not several)
+-- a payload that splits wholly into fields without a fault
+module _ (payload : List ℕ) (payload_at tag_at : ℕ) (whole : (split payload).rest ≡ [])
+    (clean : ValuesClean payload_at (split payload).fields) where
+  behind_fields : value_fault payload payload_at tag_at
+      ≡ first (when (not (are_one_kind (kinds (split payload).fields))) (fault_at tag_at ValueKind))
+  behind_fields =
+      value_chain payload payload_at tag_at ∙ option_or-none _ _ (rest_none payload_at (split payload) whole) ∙ option_or-none _ _ clean
+      ∙ option_or-right _
 
-pub value_clean : (payload : List ℕ) (payload_at tag_at : ℕ) → first (rest_rules payload_at (split payload)) ≡ None → first (each (λ _. value_field_rules payload_at) [] (split payload).fields) ≡ None → are_one_kind (kinds (split payload).fields) ≡ true → value_fault payload payload_at tag_at ≡ None
-value_clean payload payload_at tag_at rest clean one =
-    value_chain payload payload_at tag_at ∙ option_or-none _ _ rest ∙ option_or-none _ _ clean ∙ option_or-right _ ∙ first-when_not _ _ (ap not one)
+  pub value_kind_told : are_one_kind (kinds (split payload).fields) ≡ false
+      → value_fault payload payload_at tag_at ≡ Some (fault_at tag_at ValueKind)
+  value_kind_told several = behind_fields ∙ first-when _ _ (ap not several)
+
+  pub value_clean : are_one_kind (kinds (split payload).fields) ≡ true → value_fault payload payload_at tag_at ≡ None
+  value_clean one = behind_fields ∙ first-when_not _ _ (ap not one)
 
 -- a fact for each of the seven numbers
 for_seven : (P : ℕ → Type 0) → P 1 → P 2 → P 3 → P 4 → P 5 → P 6 → P 7 → (n : ℕ) → 1 ≤ n → n ≤ 7 → P n
@@ -89,21 +109,23 @@ for_seven P p1 p2 p3 p4 p5 p6 p7 n low high =
     ]
 
 -- a field's rules and its form
-clean_rules : (payload_at : ℕ) (x : Entry) → first (value_field_rules payload_at x) ≡ None → first (number_rules value_forms x.number x.content) ≡ None
+clean_rules : (payload_at : ℕ) (x : Entry) → first (value_field_rules payload_at x) ≡ None
+    → first (number_rules value_forms x.number x.content) ≡ None
 unfolding value_field_rules
 clean_rules payload_at x h = clean_at value_forms payload_at x h
 
-pub rules_clean : (payload_at : ℕ) (x : Entry) → first (number_rules value_forms x.number x.content) ≡ None → first (value_field_rules payload_at x) ≡ None
+pub rules_clean : (payload_at : ℕ) (x : Entry) → first (number_rules value_forms x.number x.content) ≡ None
+    → first (value_field_rules payload_at x) ≡ None
 unfolding value_field_rules
 rules_clean payload_at x h = told_clean value_forms payload_at x h
 
 -- fields without a fault have the forms of their kinds, and such fields have no fault
-values_have : (payload_at : ℕ) (xs : List Entry) → first (each (λ _. value_field_rules payload_at) [] xs) ≡ None → HaveForms value_forms xs
+values_have : (payload_at : ℕ) (xs : List Entry) → ValuesClean payload_at xs → HaveForms value_forms xs
 unfolding value_field_rules
 values_have payload_at xs clean =
     forms_have value_forms payload_at xs (λ c. refl, (λ c. refl, (λ c. refl, (λ c. refl, (λ c. refl, (λ c. refl, (λ c. refl, tt))))))) clean
 
-values_clean : (payload_at : ℕ) (xs : List Entry) → HaveForms value_forms xs → first (each (λ _. value_field_rules payload_at) [] xs) ≡ None
+values_clean : (payload_at : ℕ) (xs : List Entry) → HaveForms value_forms xs → ValuesClean payload_at xs
 unfolding value_field_rules
 values_clean payload_at xs h = forms_clean value_forms payload_at xs h
 
@@ -111,13 +133,16 @@ kind_test : (x : Entry) → IsKind x.number → is_kind x ≡ true
 kind_test x h = and_from _ _ (le-leb STRING x.number h.0) (le-leb x.number BOOL h.1)
 
 test_kind : (x : Entry) → is_kind x ≡ true → IsKind x.number
-test_kind x h = let parts = and_parts (nat_le STRING x.number) (nat_le x.number BOOL) h in (leb-true STRING x.number parts.0, leb-true x.number BOOL parts.1)
+test_kind x h =
+    let parts = and_parts (nat_le STRING x.number) (nat_le x.number BOOL) h in
+    (leb-true STRING x.number parts.0, leb-true x.number BOOL parts.1)
 
 -- the fields of the kinds are those of the only kind
 abbrev IsOnly : ℕ → Entry → Type 0
 IsOnly kind x = IsKind x.number → x.number ≡ kind
 
-only_step : (kind : ℕ) (a b : Bool) (x : Entry) (xs ys : List Entry) → a ≡ b → xs ≡ ys → (if a then x ∷ xs else xs) ≡ (if b then x ∷ ys else ys)
+only_step : (kind : ℕ) (a b : Bool) (x : Entry) (xs ys : List Entry) → a ≡ b → xs ≡ ys
+    → (if a then x ∷ xs else xs) ≡ (if b then x ∷ ys else ys)
 only_step kind true true x xs ys e f = ap (λ l. x ∷ l) f
 only_step kind false false x xs ys e f = f
 only_step kind true false x xs ys e f = cc
@@ -126,32 +151,36 @@ only_step kind false true x xs ys e f = cc
 same_test : (kind : ℕ) (x : Entry) → IsKind kind → IsOnly kind x → (x.number == kind) ≡ is_kind x
 same_test kind x is one = elim (cases_eq x.number kind) [
   | inl e ↦ eq-eqb x.number kind e ∙ sym (kind_test x (subst IsKind (sym e) is))
-  | inr d ↦ ne_eqb x.number kind d ∙ sym (refused (is_kind x) (λ t. d (one (test_kind x t))))
+  | inr d ↦ ne_eqb x.number kind d ∙ sym (false_from_ne_true (is_kind x) (λ t. d (one (test_kind x t))))
 ]
-  where
-    refused : (b : Bool) → (b ≡ true → ⊥) → b ≡ false
-    refused true h = absurd (h refl)
-    refused false h = refl
 
 pub only_kinds : (kind : ℕ) (xs : List Entry) → IsKind kind → AllByRecursion (IsOnly kind) xs → only kind xs ≡ kinds xs
 only_kinds kind [] is one = refl
-only_kinds kind (x ∷ xs) is one = only_step kind (x.number == kind) (is_kind x) x (only kind xs) (kinds xs) (same_test kind x is one.0) (only_kinds kind xs is one.1)
+only_kinds kind (x ∷ xs) is one =
+    only_step kind (x.number == kind) (is_kind x) x (only kind xs) (kinds xs) (same_test kind x is one.0)
+    (only_kinds kind xs is one.1)
 
 -- each field of a kind is of the number of all kinds
 kinds_one : (kind : ℕ) (xs : List Entry) → AllByRecursion (λ (x : Entry). x.number ≡ kind) (kinds xs) → AllByRecursion (IsOnly kind) xs
 kinds_one kind [] h = tt
 kinds_one kind (x ∷ xs) h = by_test (is_kind x) refl h (kinds_one kind xs)
   where
-    by_test : (b : Bool) → is_kind x ≡ b → AllByRecursion (λ (y : Entry). y.number ≡ kind) (if b then x ∷ kinds xs else kinds xs) → (AllByRecursion (λ (y : Entry). y.number ≡ kind) (kinds xs) → AllByRecursion (IsOnly kind) xs) → AllByRecursion (IsOnly kind) (x ∷ xs)
+    by_test : (b : Bool) → is_kind x ≡ b
+        → AllByRecursion (λ (y : Entry). y.number ≡ kind) (if b then x ∷ kinds xs else kinds xs)
+        → (AllByRecursion (λ (y : Entry). y.number ≡ kind) (kinds xs) → AllByRecursion (IsOnly kind) xs)
+        → AllByRecursion (IsOnly kind) (x ∷ xs)
     by_test true e h more = (λ _. h.0, more h.1)
     by_test false e h more = (λ is. absurd (both_ways (is_kind x) e (kind_test x is)), more h)
 
 -- the number of fields of one kind is that of the last
 numbered : (k : ℕ) (xs : List Entry) → list_all (λ (y : Entry). y.number == k) xs ≡ true → AllByRecursion (λ (y : Entry). y.number ≡ k) xs
 numbered k [] h = tt
-numbered k (x ∷ xs) h = let parts = and_parts (x.number == k) (list_all (λ (y : Entry). y.number == k) xs) h in (eqb-true x.number k parts.0, numbered k xs parts.1)
+numbered k (x ∷ xs) h =
+    let parts = and_parts (x.number == k) (list_all (λ (y : Entry). y.number == k) xs) h in
+    (eqb-true x.number k parts.0, numbered k xs parts.1)
 
-all_numbered : (xs : List Entry) (last : Entry) → are_one_kind xs ≡ true → last_or None xs ≡ Some last → AllByRecursion (λ (y : Entry). y.number ≡ last.number) xs
+all_numbered : (xs : List Entry) (last : Entry) → are_one_kind xs ≡ true → last_or None xs ≡ Some last
+    → AllByRecursion (λ (y : Entry). y.number ≡ last.number) xs
 all_numbered [] last one is = cc
 all_numbered (x ∷ xs) last one is =
     let all : AllByRecursion (λ (y : Entry). y.number ≡ x.number) (x ∷ xs) = (refl, numbered x.number xs one) in
@@ -169,7 +198,8 @@ means_kind n (varint m) (Truth b) h = let e : n ≡ BOOL = h.0 in (omega arith, 
 means_kind n c v h = absurd (search rules)
 
 -- fields of one kind without a fault are the value that the last of them says
-pub value_from : (payload_at : ℕ) (xs : List Entry) (last : Entry) (v : Value) → first (each (λ _. value_field_rules payload_at) [] xs) ≡ None → are_one_kind (kinds xs) ≡ true → last_or None (kinds xs) ≡ Some last → Means last.number last.content v → IsValue xs v
+pub value_from : (payload_at : ℕ) (xs : List Entry) (last : Entry) (v : Value) → ValuesClean payload_at xs
+    → are_one_kind (kinds xs) ≡ true → last_or None (kinds xs) ≡ Some last → Means last.number last.content v → IsValue xs v
 value_from payload_at xs last v clean one is means =
     let same = all_numbered (kinds xs) last one is in
     let only_one = kinds_one last.number xs same in
@@ -184,22 +214,22 @@ value_from payload_at xs last v clean one is means =
     }
 
 -- a payload that splits wholly into these fields
-pub whole_split : SplitIs → (payload : List ℕ) → (split payload).rest ≡ [] → Whole payload (split payload).fields
-whole_split split_is payload rest = subst (λ r. Split payload (split payload).fields r) rest (split_is payload)
+pub whole_split : (payload : List ℕ) → (split payload).rest ≡ [] → Whole payload (split payload).fields
+whole_split payload rest = subst (λ r. Split payload (split payload).fields r) rest (split_function_is payload)
 
--- the answers of `read_value`
-pub kinds_value : SplitIs → (payload : List ℕ) (payload_at number : ℕ) (m : Meaning) → (split payload).rest ≡ [] → first (each (λ _. value_field_rules payload_at) [] (split payload).fields) ≡ None → AreKinds (split payload).fields (One number m) → IsValueOf payload (value_of m)
-kinds_value split_is payload payload_at number m rest clean (one, (last, (is, (named, means)))) =
-    ((split payload).fields, whole_split split_is payload rest, value_from payload_at (split payload).fields last (value_of m) clean one is (subst (λ n. Means n last.content (value_of m)) (sym named) means))
+pub split_of : (payload : List ℕ) (xs : List Entry) → Whole payload xs → ((split payload).fields ≡ xs) × ((split payload).rest ≡ [])
+split_of payload xs whole = let only = split_function_only payload [] xs whole in (sym only.0, sym only.1)
 
-pub kinds_clean : (payload : List ℕ) (payload_at tag_at number : ℕ) (m : Meaning) → (split payload).rest ≡ [] → first (each (λ _. value_field_rules payload_at) [] (split payload).fields) ≡ None → AreKinds (split payload).fields (One number m) → value_fault payload payload_at tag_at ≡ None
-kinds_clean payload payload_at tag_at number m rest clean are = value_clean payload payload_at tag_at (rest_none payload_at (split payload) rest) clean are.0
-
-pub nothing_told : (payload : List ℕ) (payload_at tag_at : ℕ) → (split payload).rest ≡ [] → first (each (λ _. value_field_rules payload_at) [] (split payload).fields) ≡ None → AreKinds (split payload).fields Nothing → value_fault payload payload_at tag_at ≡ Some (fault_at tag_at ValueKind)
-nothing_told payload payload_at tag_at rest clean are = value_kind_told payload payload_at tag_at (rest_none payload_at (split payload) rest) clean (ap are_one_kind are)
-
-pub several_told : (payload : List ℕ) (payload_at tag_at : ℕ) → (split payload).rest ≡ [] → first (each (λ _. value_field_rules payload_at) [] (split payload).fields) ≡ None → AreKinds (split payload).fields Several → value_fault payload payload_at tag_at ≡ Some (fault_at tag_at ValueKind)
-several_told payload payload_at tag_at rest clean are = value_kind_told payload payload_at tag_at (rest_none payload_at (split payload) rest) clean are.1
+-- the value of `read_meaning`
+pub kinds_value : (payload : List ℕ) (payload_at number : ℕ) (m : Meaning) → (split payload).rest ≡ []
+    → ValuesClean payload_at (split payload).fields → AreKinds (split payload).fields (One number m)
+    → IsValueOf payload (value_of m)
+kinds_value payload payload_at number m rest clean (one, (last, (is, (named, means)))) = (
+  (split payload).fields,
+  whole_split payload rest,
+  value_from payload_at (split payload).fields last (value_of m) clean one is
+      (subst (λ n. Means n last.content (value_of m)) (sym named) means),
+)
 
 -- a field of a kind, of the right form, says a value
 text_means : (c : Content) → HasForm string c → (v : Value) × Means STRING c v
@@ -220,17 +250,12 @@ double_means (bytes d) h = absurd h
 double_means (varint n) h = absurd h
 double_means (fixed32 n) h = absurd h
 
-varint_means : (k : ℕ) (c : Content) (make : ℕ → Value) → ((n : ℕ) → Means k (varint n) (make n)) → HasForm any_varint c → (v : Value) × Means k c v
+varint_means : (k : ℕ) (c : Content) (make : ℕ → Value) → ((n : ℕ) → Means k (varint n) (make n)) → HasForm any_varint c
+    → (v : Value) × Means k c v
 varint_means k (varint n) make means h = (make n, means n)
 varint_means k (bytes d) make means h = absurd h
 varint_means k (fixed64 n) make means h = absurd h
 varint_means k (fixed32 n) make means h = absurd h
-
-zig-unzig : (n : ℕ) → zig (unzig n) ≡ n
-zig-unzig n = elim (cases_eq (n % 2) 0) [
-  | inl e ↦ rw (eq-eqb (n % 2) 0 e) (omega arith)
-  | inr d ↦ rw (ne_eqb (n % 2) 0 d) (omega arith)
-]
 
 means_there : (n : ℕ) → IsKind n → (c : Content) → first (number_rules value_forms n c) ≡ None → (v : Value) × Means n c v
 means_there n is = for_seven (λ k. (c : Content) → first (number_rules value_forms k c) ≡ None → (v : Value) × Means k c v)
@@ -239,7 +264,7 @@ means_there n is = for_seven (λ k. (c : Content) → first (number_rules value_
     (λ c h. double_means c (has_form double c h))
     (λ c h. varint_means INT c (λ n. Int (cast_signed w64 n)) (λ n. (refl, refl)) (has_form any_varint c h))
     (λ c h. varint_means UINT c (λ n. Uint n) (λ n. (refl, refl)) (has_form any_varint c h))
-    (λ c h. varint_means SINT c (λ n. Sint (unzig n)) (λ n. (refl, zig-unzig n)) (has_form any_varint c h))
+    (λ c h. varint_means SINT c (λ n. Sint (unzig n)) (λ n. (refl, zigzag_function_code n)) (has_form any_varint c h))
     (λ c h. varint_means BOOL c (λ n. Truth (not (n == 0))) (λ n. (refl, refl)) (has_form any_varint c h))
     n is.0 is.1
 
@@ -247,7 +272,8 @@ filter_kinds : (xs : List Entry) → AllByRecursion (λ (x : Entry). IsKind x.nu
 filter_kinds [] = tt
 filter_kinds (x ∷ xs) = by_test (is_kind x) refl (filter_kinds xs)
   where
-    by_test : (b : Bool) → is_kind x ≡ b → AllByRecursion (λ (y : Entry). IsKind y.number) (kinds xs) → AllByRecursion (λ (y : Entry). IsKind y.number) (if b then x ∷ kinds xs else kinds xs)
+    by_test : (b : Bool) → is_kind x ≡ b → AllByRecursion (λ (y : Entry). IsKind y.number) (kinds xs)
+        → AllByRecursion (λ (y : Entry). IsKind y.number) (if b then x ∷ kinds xs else kinds xs)
     by_test true e more = (test_kind x e, more)
     by_test false e more = more
 
@@ -259,10 +285,15 @@ filter_all P (x ∷ xs) h = by_test (is_kind x) (filter_all P xs h.1)
     by_test true more = (h.0, more)
     by_test false more = more
 
-value_of_last : (payload_at : ℕ) (xs : List Entry) (last : Entry) → first (each (λ _. value_field_rules payload_at) [] xs) ≡ None → are_one_kind (kinds xs) ≡ true → last_or None (kinds xs) ≡ Some last → (v : Value) × IsValue xs v
+value_of_last : (payload_at : ℕ) (xs : List Entry) (last : Entry) → ValuesClean payload_at xs
+    → are_one_kind (kinds xs) ≡ true → last_or None (kinds xs) ≡ Some last → (v : Value) × IsValue xs v
 value_of_last payload_at xs last clean one is =
     let kind = last_of_all (λ (x : Entry). IsKind x.number) (kinds xs) last (filter_kinds xs) is in
-    let rule = last_of_all (λ (x : Entry). first (value_field_rules payload_at x) ≡ None) (kinds xs) last (filter_all (λ (x : Entry). first (value_field_rules payload_at x) ≡ None) xs (none_each (value_field_rules payload_at) [] xs clean)) is in
+    let rule =
+    last_of_all (λ (x : Entry). first (value_field_rules payload_at x) ≡ None) (kinds xs) last
+    (filter_all (λ (x : Entry). first (value_field_rules payload_at x) ≡ None) xs
+    (none_each (value_field_rules payload_at) [] xs clean))
+    is in
     let found = means_there last.number kind last.content (clean_rules payload_at last rule) in
     (found.0, value_from payload_at xs last found.0 clean one is found.1)
 
@@ -271,18 +302,20 @@ last_kind [] h = cc
 last_kind (x ∷ xs) h = last_there x xs
 
 -- no fault: the payload is a value
-pub value_there : SplitIs → (payload : List ℕ) (payload_at tag_at : ℕ) → value_fault payload payload_at tag_at ≡ None → (v : Value) × IsValueOf payload v
-value_there split_is payload payload_at tag_at h =
+pub value_there : (payload : List ℕ) (payload_at tag_at : ℕ) → value_fault payload payload_at tag_at ≡ None
+    → (v : Value) × IsValueOf payload v
+value_there payload payload_at tag_at h =
     let parts = option_or-nones _ _ (sym (value_chain payload payload_at tag_at) ∙ h) in
     let later = option_or-nones _ _ parts.1 in
     let one = when_none (not (are_one_kind (kinds (split payload).fields))) (fault_at tag_at ValueKind) (option_or-nones _ _ later.1).0 in
     let kind = not-false (are_one_kind (kinds (split payload).fields)) one in
     let last = last_kind (kinds (split payload).fields) kind in
     let found = value_of_last payload_at (split payload).fields last.0 later.0 kind last.1 in
-    (found.0, ((split payload).fields, whole_split split_is payload (none_rest payload_at (split payload) parts.0), found.1))
+    (found.0, ((split payload).fields, whole_split payload (none_rest payload_at (split payload) parts.0), found.1))
 
 -- the grammar keeps the rules
-all_one : (k : ℕ) (xs : List Entry) (last : Entry) → AllByRecursion (λ (y : Entry). y.number ≡ k) xs → last_or None xs ≡ Some last → are_one_kind xs ≡ true
+all_one : (k : ℕ) (xs : List Entry) (last : Entry) → AllByRecursion (λ (y : Entry). y.number ≡ k) xs
+    → last_or None xs ≡ Some last → are_one_kind xs ≡ true
 all_one k [] last h is = cc
 all_one k (x ∷ xs) last h is = go xs h.1
   where
@@ -290,21 +323,21 @@ all_one k (x ∷ xs) last h is = go xs h.1
     go [] more = refl
     go (y ∷ ys) more = and_from _ _ (eq-eqb y.number x.number (more.0 ∙ sym h.0)) (go ys more.1)
 
-pub value_keeps : SplitOnly → (payload_at tag_at : ℕ) (payload : List ℕ) (v : Value) → IsValueOf payload v → value_fault payload payload_at tag_at ≡ None
-value_keeps split_only payload_at tag_at payload v (xs, whole, is) =
-    let only = split_of split_only payload xs whole in
+pub value_keeps : (payload : List ℕ) (payload_at tag_at : ℕ) (v : Value) → IsValueOf payload v
+    → value_fault payload payload_at tag_at ≡ None
+value_keeps payload payload_at tag_at v (xs, whole, is) =
+    let only = split_of payload xs whole in
     let clean = values_clean payload_at xs is.forms in
     let kind = means_kind is.kind is.last.content v is.means in
-    let numbers = subst (λ ys. AllByRecursion (λ (y : Entry). y.number ≡ is.kind) ys) (only_kinds is.kind xs kind is.one) (only_number (λ (x : Entry). x.number) is.kind xs) in
+    let numbers =
+    subst (λ ys. AllByRecursion (λ (y : Entry). y.number ≡ is.kind) ys) (only_kinds is.kind xs kind is.one)
+    (only_number (λ (x : Entry). x.number) is.kind xs) in
     let one = all_one is.kind (kinds xs) is.last numbers (ap (last_or None) (sym (only_kinds is.kind xs kind is.one)) ∙ is.is_last) in
-    value_clean payload payload_at tag_at (rest_none payload_at (split payload) only.1) (rw only.0 clean) (rw only.0 one)
+    value_clean payload payload_at tag_at only.1 (rw only.0 clean) (rw only.0 one)
 
 -- at most one value
 zig-same : (y z : ℤ) → zig y ≡ zig z → y ≡ z
-zig-same (pos m) (pos n) h = ap pos (omega arith)
-zig-same (pos m) (negsuc n) h = absurd (omega arith)
-zig-same (negsuc m) (pos n) h = absurd (omega arith)
-zig-same (negsuc m) (negsuc n) h = ap negsuc (omega arith)
+zig-same y z h = sym (zigzag_function_number y) ∙ ap unzig h ∙ zigzag_function_number z
 
 means_same : (n : ℕ) (c : Content) (v w : Value) → Means n c v → Means n c w → v ≡ w
 means_same n (bytes d) (Text s) (Text t) h g = ap Text (h.1 ∙ sym g.1)
@@ -319,17 +352,22 @@ means_same n c v w h g = absurd (search rules)
 pub value_same : (xs : List Entry) (v w : Value) → IsValue xs v → IsValue xs w → v ≡ w
 value_same xs v w a b =
     let a_kind = means_kind a.kind a.last.content v a.means in
-    let named : a.last.number ≡ a.kind = last_of_all (λ (x : Entry). x.number ≡ a.kind) (only a.kind xs) a.last (only_number (λ (x : Entry). x.number) a.kind xs) a.is_last in
-    let other : IsKind a.last.number → a.last.number ≡ b.kind = last_of_all (λ (x : Entry). IsKind x.number → x.number ≡ b.kind) (only a.kind xs) a.last (only_all (λ (x : Entry). x.number) (λ (x : Entry). IsKind x.number → x.number ≡ b.kind) a.kind xs b.one) a.is_last in
+    let named : a.last.number ≡ a.kind =
+    last_of_all (λ (x : Entry). x.number ≡ a.kind) (only a.kind xs) a.last (only_number (λ (x : Entry). x.number) a.kind xs)
+    a.is_last in
+    let other : IsKind a.last.number → a.last.number ≡ b.kind =
+    last_of_all (λ (x : Entry). IsKind x.number → x.number ≡ b.kind) (only a.kind xs) a.last
+    (only_all (λ (x : Entry). x.number) (λ (x : Entry). IsKind x.number → x.number ≡ b.kind) a.kind xs b.one) a.is_last in
     let same : a.kind ≡ b.kind = sym named ∙ other (subst IsKind (sym named) a_kind) in
     let lasts : Some a.last ≡ Some b.last = sym a.is_last ∙ ap (λ k. last_only k xs) same ∙ b.is_last in
     let last : a.last ≡ b.last = cc in
-    means_same b.kind b.last.content v w (subst (λ (x : Entry). Means b.kind x.content v) last (subst (λ k. Means k a.last.content v) same a.means)) b.means
+    means_same b.kind b.last.content v w
+    (subst (λ (x : Entry). Means b.kind x.content v) last (subst (λ k. Means k a.last.content v) same a.means)) b.means
 
-pub value_once : SplitOnly → (payload : List ℕ) (v w : Value) → IsValueOf payload v → IsValueOf payload w → v ≡ w
-value_once split_only payload v w (xs, whole, is) (ys, also_whole, also_is) =
-    let a = split_of split_only payload xs whole in
-    let b = split_of split_only payload ys also_whole in
+pub value_once : (payload : List ℕ) (v w : Value) → IsValueOf payload v → IsValueOf payload w → v ≡ w
+value_once payload v w (xs, whole, is) (ys, also_whole, also_is) =
+    let a = split_of payload xs whole in
+    let b = split_of payload ys also_whole in
     value_same xs v w is (subst (λ zs. IsValue zs w) (sym b.0 ∙ a.0) also_is)
 
 -- the table is in order
@@ -346,14 +384,28 @@ rest_ordered payload_at parts = of_rest parts.rest
     of_rest (b ∷ bs) = (tt, tt)
 
 value_rows : (payload : List ℕ) (payload_at tag_at : ℕ) → AreRowsFrom 0 (value_table payload payload_at tag_at)
-value_rows payload payload_at tag_at =
-    (omega arith, (rest_ordered payload_at (split payload), (omega arith, (each_ordered (λ _. value_field_rules payload_at) [] (split payload).fields (λ seen x. field_ordered payload_at x), (omega arith, (when_ordered _ (fault_at tag_at ValueKind), tt))))))
+value_rows payload payload_at tag_at = (
+  omega arith,
+  (
+    rest_ordered payload_at (split payload),
+    (
+      omega arith,
+      (
+        each_ordered (λ _. value_field_rules payload_at) [] (split payload).fields (λ seen x. field_ordered payload_at x),
+        (omega arith, (when_ordered _ (fault_at tag_at ValueKind), tt)),
+      ),
+    ),
+  ),
+)
 
 pub value_ordered : (payload : List ℕ) (payload_at tag_at : ℕ) → AreOrdered (value_rules payload payload_at tag_at)
 unfolding value_rules
 value_ordered payload payload_at tag_at = rows_ordered 0 (value_table payload payload_at tag_at) (value_rows payload payload_at tag_at)
 
-pub value_least : (payload : List ℕ) (payload_at tag_at : ℕ) (fault : MessageFault) → (value_fault payload payload_at tag_at ≡ Some fault) ↔ IsLeast (value_rules payload payload_at tag_at) fault
+pub value_least : (payload : List ℕ) (payload_at tag_at : ℕ) (fault : MessageFault)
+    → (value_fault payload payload_at tag_at ≡ Some fault) ↔ IsLeast (value_rules payload payload_at tag_at) fault
 unfolding value_fault
-value_least payload payload_at tag_at fault =
-    (λ h. first_is_least (value_rules payload payload_at tag_at) fault (value_ordered payload payload_at tag_at) h, λ h. least_is_first (value_rules payload payload_at tag_at) fault (value_ordered payload payload_at tag_at) h)
+value_least payload payload_at tag_at fault = (
+  λ h. first_is_least (value_rules payload payload_at tag_at) fault (value_ordered payload payload_at tag_at) h,
+  λ h. least_is_first (value_rules payload payload_at tag_at) fault (value_ordered payload payload_at tag_at) h,
+)

@@ -19,7 +19,8 @@ walk_start payload it is bound = record {
   bound = rw is at bound;
 }
 
-pub walk_step : (payload : List ℕ) (old new : Parts) (done : List Entry) (field : Field) → Walk payload old done → GivesEntry old (Some (Ok field)) new → Walk payload new (done ++ entry_of field ∷ [])
+pub walk_step : (payload : List ℕ) (old new : Parts) (done : List Entry) (field : Field) → Walk payload old done
+    → GivesEntry old (Some (Ok field)) new → Walk payload new (done ++ entry_of field ∷ [])
 walk_step payload old new done field walk step = record {
   fields = walk.fields ∙ ap (λ (p : Parts). done ++ p.fields) step.0 ∙ sym (append_assoc done (entry_of field ∷ []) new.fields);
   rest = sym (ap (λ (p : Parts). p.rest) step.0) ∙ walk.rest;
@@ -28,14 +29,18 @@ walk_step payload old new done field walk step = record {
 }
 
 -- the tag of the next field stands inside the payload
-pub walk_fits : (payload : List ℕ) (old new : Parts) (done : List Entry) (field : Field) (payload_at : ℕ) → Walk payload old done → GivesEntry old (Some (Ok field)) new → payload_at + length payload < 2 ^ 64 → payload_at + field.at < 2 ^ 64
+pub walk_fits : (payload : List ℕ) (old new : Parts) (done : List Entry) (field : Field) (payload_at : ℕ)
+    → Walk payload old done → GivesEntry old (Some (Ok field)) new → payload_at + length payload < 2 ^ 64
+    → payload_at + field.at < 2 ^ 64
 walk_fits payload old new done field payload_at walk step small =
     let inside : field.at < old.rest_at = step.1.0 in
     let place = walk.place in
     let bound = walk.bound in
     omega arith
 
-pub walk_fault_fits : (payload : List ℕ) (old new : Parts) (done : List Entry) (fault : WireFault) (payload_at : ℕ) → Walk payload old done → GivesEntry old (Some (Err fault)) new → payload_at + length payload < 2 ^ 64 → payload_at + fault.at < 2 ^ 64
+pub walk_fault_fits : (payload : List ℕ) (old new : Parts) (done : List Entry) (fault : WireFault) (payload_at : ℕ)
+    → Walk payload old done → GivesEntry old (Some (Err fault)) new → payload_at + length payload < 2 ^ 64
+    → payload_at + fault.at < 2 ^ 64
 walk_fault_fits payload old new done fault payload_at walk step small =
     let at : fault.at ≡ old.rest_at = step.2 in
     let place = walk.place in
@@ -43,7 +48,8 @@ walk_fault_fits payload old new done fault payload_at walk step small =
     omega arith
 
 -- at the end these were all fields
-pub walk_end : (payload : List ℕ) (old new : Parts) (done : List Entry) → Walk payload old done → GivesEntry old None new → ((split payload).fields ≡ done) × ((split payload).rest ≡ [])
+pub walk_end : (payload : List ℕ) (old new : Parts) (done : List Entry) → Walk payload old done → GivesEntry old None new
+    → ((split payload).fields ≡ done) × ((split payload).rest ≡ [])
 walk_end payload old new done walk step =
     (walk.fields ∙ ap (λ l. done ++ l) step.0 ∙ append-nil done, sym walk.rest ∙ step.1)
 
@@ -51,13 +57,16 @@ rest_told : (at : ℕ) (rest : List ℕ) → rest ≢ [] → first (rest_rules_a
 rest_told at [] some = absurd (some refl)
 rest_told at (b ∷ bs) some = refl
 
-pub walk_fault : (payload : List ℕ) (old new : Parts) (done : List Entry) (fault : WireFault) (payload_at : ℕ) → Walk payload old done → GivesEntry old (Some (Err fault)) new → first (rest_rules payload_at (split payload)) ≡ Some (fault_at (payload_at + fault.at) (of_wire fault.cause))
+pub walk_fault : (payload : List ℕ) (old new : Parts) (done : List Entry) (fault : WireFault) (payload_at : ℕ)
+    → Walk payload old done → GivesEntry old (Some (Err fault)) new
+    → first (rest_rules payload_at (split payload)) ≡ Some (fault_at (payload_at + fault.at) (of_wire fault.cause))
 unfolding rest_rules
 walk_fault payload old new done fault payload_at walk step =
     let at : (split payload).rest_at ≡ fault.at = sym walk.place ∙ sym step.2 in
     let cause : rest_cause (split payload).rest ≡ fault.cause = ap rest_cause (sym walk.rest) ∙ sym step.3 in
     let some : (split payload).rest ≢ [] = λ e. step.1 (walk.rest ∙ e) in
-    rest_told (payload_at + (split payload).rest_at) (split payload).rest some ∙ ap₂ (λ n c. Some (fault_at (payload_at + n) (of_wire c))) at cause
+    rest_told (payload_at + (split payload).rest_at) (split payload).rest some
+    ∙ ap₂ (λ n c. Some (fault_at (payload_at + n) (of_wire c))) at cause
 
 pub rest_none : (payload_at : ℕ) (parts : Parts) → parts.rest ≡ [] → first (rest_rules payload_at parts) ≡ None
 unfolding rest_rules

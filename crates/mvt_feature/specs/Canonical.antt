@@ -20,17 +20,17 @@ abbrev pub plain : ℕ → Content → Plain
 plain number content = record { number = number; content = content }
 
 -- the one field of a value
-abbrev pub value_field : Value → Plain
-value_field (Text text) = plain STRING (bytes text)
-value_field (Float bits) = plain FLOAT (fixed32 bits)
-value_field (Double bits) = plain DOUBLE (fixed64 bits)
-value_field (Int z) = plain INT (varint (cast_unsigned w64 z))
-value_field (Uint n) = plain UINT (varint n)
-value_field (Sint z) = plain SINT (varint (zig z))
-value_field (Truth b) = plain BOOL (varint (if b then 1 else 0))
+abbrev pub field_of_value : Value → Plain
+field_of_value (Text text) = plain STRING (bytes text)
+field_of_value (Float bits) = plain FLOAT (fixed32 bits)
+field_of_value (Double bits) = plain DOUBLE (fixed64 bits)
+field_of_value (Int z) = plain INT (varint (cast_unsigned w64 z))
+field_of_value (Uint n) = plain UINT (varint n)
+field_of_value (Sint z) = plain SINT (varint (zig z))
+field_of_value (Truth b) = plain BOOL (varint (if b then 1 else 0))
 
 abbrev pub value_fields : Value → List Plain
-value_fields value = value_field value ∷ []
+value_fields value = field_of_value value ∷ []
 
 -- the id, where there is one
 abbrev pub id_fields : Option ℕ → List Plain

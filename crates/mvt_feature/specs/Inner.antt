@@ -1,5 +1,5 @@
 -- Definitions between private functions, which no public contract cites.
-use Rattle.std.specs.Prelude.{◌≡◌, ◌≢◌, ℕ, ◌==◌, true, false, List, [], ◌++◌, Option, Some, None, Result, if◌then◌else◌}
+use Rattle.std.specs.Prelude.{◌≡◌, ◌≢◌, ℕ, ◌==◌, true, false, List, [], Option, Some, None, Result, if◌then◌else◌}
 use Rattle.std.specs.List.{last_or}
 use Rattle.mvt_attrs.specs.declared.value.Value.{Value}
 use Rattle.mvt_attrs.specs.declared.value.Value.TheVariants as values
@@ -18,10 +18,6 @@ use Rattle.mvt_feature.specs.Selection.{last_only}
 use Rattle.mvt_feature.specs.Values.{Means}
 use Rattle.mvt_feature.specs.Walks.{IsSoFar}
 use Rattle.mvt_feature.specs.ValueRules.{kinds, are_one_kind, value_field_rules}
-
--- a list with more behind it
-abbrev pub Extends : List ℕ → List ℕ → Type 0
-Extends old new = (more : List ℕ) × (new ≡ old ++ more)
 
 abbrev pub value_of : Meaning → Value
 value_of (meanings.Text text) = values.Text text.now

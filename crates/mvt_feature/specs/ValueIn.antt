@@ -1,17 +1,14 @@
 -- The value of a payload as a function (Mapbox Vector Tile Specification 2.1, 4.1, message Value).
-use Rattle.std.specs.Prelude.{ℕ, ◌/◌, ◌%◌, ◌==◌, not, ℤ, pos, negsuc, List, Option, Some, None, option_and_then, if◌then◌else◌}
+use Rattle.std.specs.Prelude.{ℕ, ◌==◌, not, List, Option, Some, None, option_and_then, if◌then◌else◌}
 use Rattle.std.specs.Int.{w64, cast_signed}
 use Rattle.std.specs.List.{last_or}
 use Rattle.mvt_attrs.specs.declared.value.Value.{Value}
 use Rattle.mvt_attrs.specs.declared.value.Value.TheVariants.{Text, Float, Double, Int, Uint, Sint, Bool as Truth}
 use Rattle.mvt_wire.specs.Field.{Content, varint, fixed64, bytes, fixed32, Entry}
 use Rattle.mvt_wire.specs.Split.{split}
+use Rattle.mvt_wire.specs.Zigzag.{unzig}
 use Rattle.mvt_feature.specs.declared.numbers.value.TheConstants.{STRING, FLOAT, DOUBLE, INT, UINT, SINT, BOOL}
 use Rattle.mvt_feature.specs.ValueRules.{kinds}
-
--- the number that has this zigzag code
-abbrev pub unzig : ℕ → ℤ
-unzig n = if n % 2 == 0 then pos (n / 2) else negsuc (n / 2)
 
 -- what a field of this number and content says, where it is one of the kinds of value
 abbrev pub said : ℕ → Content → Option Value

@@ -12,7 +12,6 @@ use crate::scratch::Scratch;
 use mvt_attrs::{LayerKeys, Value, judge_tags, resolve_in};
 use mvt_base::{Items, Text};
 use mvt_geometry::{judge_geometry, read_geometry};
-use mvt_wire::laws::{packed_function, split_function};
 use std::alloc::Global;
 
 /// The feature of a payload, in a layer with these keys and values.
@@ -60,9 +59,6 @@ pub fn read_feature_in(
     ensures err { IfErr result (λ error. TellsMessage error (feature_fault payload.now payload_at keys.old values.now)) }
     ensures same { keys.new ≡ keys.old }
 {
-    // What the proof needs to know of splits and of packed numbers; they do nothing.
-    split_function();
-    packed_function();
     let known = read_known(payload, payload_at, scratch)?;
     let attributes = resolve_in(alloc, keys, values, &scratch.tags)?;
     let geometry = read_geometry(alloc, known.kind, &scratch.integers)?;

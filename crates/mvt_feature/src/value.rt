@@ -16,7 +16,6 @@ use crate::numbers::value;
 use crate::whole::{fault_at, rest_fault, rest_fault_or};
 use mvt_attrs::Value;
 use mvt_base::Text;
-use mvt_wire::laws::split_function;
 use mvt_wire::{Field, Fields, Payload, unzigzag64};
 use std::alloc::{AllocError, Global};
 use std::str;
@@ -66,8 +65,6 @@ fn read_meaning(payload: &[u8], payload_at: u64, tag_at: u64) -> Result<Meaning<
     ensures ok { OnOk result (value_fault payload.now payload_at tag_at ≡ None) }
     ensures err { IfErr result (λ error. TellsMessage error (value_fault payload.now payload_at tag_at)) }
 {
-    // What the proof needs to know of splits; it does nothing.
-    split_function();
     match read_kinds(payload, payload_at)? {
         Kinds::One { meaning, .. } => Ok(meaning),
         Kinds::Nothing => Err(fault_at(tag_at, Cause::ValueKind)),

@@ -1,5 +1,6 @@
 //! Values and features in their canonical spelling.
 ghost use Rattle.std.specs.Prelude.{◌≡◌, ◌⊎◌, ℕ, ◌^◌, ◌<◌, List, ◌++◌, length, OnOk, OnErr, IsErrOf};
+ghost use Rattle.mvt_base.specs.Related.{Extends};
 ghost use Rattle.mvt_attrs.specs.Pools.{key_pool, value_pool};
 ghost use Rattle.mvt_attrs.specs.Placed.{ArePlaced, AreTold, IsFullAt};
 ghost use Rattle.mvt_attrs.specs.Tags.{Names};
@@ -7,7 +8,6 @@ ghost use Rattle.mvt_attrs.specs.TagPlaces.{tags_in};
 ghost use Rattle.mvt_geometry.specs.Valid.{IsValid};
 ghost use Rattle.mvt_wire.specs.Spelling.{spelled};
 ghost use Rattle.mvt_feature.specs.Canonical.{value_fields, id_fields, tags_fields, drawing_fields, feature_fields, type_number as the_type_number};
-ghost use Rattle.mvt_feature.specs.Inner.{Extends};
 
 use crate::feature::Feature;
 use crate::numbers::{feature, value};
@@ -15,7 +15,6 @@ use crate::scratch::Scratch;
 use mvt_attrs::{KeyPool, PoolError, Value, ValuePool, append_tags};
 use mvt_base::LIMIT;
 use mvt_geometry::{Kind, append_geometry, kind_of};
-use mvt_wire::laws::short_lengths;
 use mvt_wire::{PackedNumbers, Payload, field_len, put_field, put_packed, varint_len, zigzag64};
 use std::alloc::AllocError;
 use std::mem::swap;
@@ -40,8 +39,6 @@ pub fn append_value(out: &mut Vec<u8>, value: &Value) -> Result<(), AllocError>
 pub fn value_len(value: &Value) -> u64
     ensures { result ≡ length (spelled (value_fields value.now)) }
 {
-    // What the proof needs to know of short spellings; it does nothing.
-    short_lengths();
     match value {
         Value::Text(text) => field_len(value::STRING, text.as_str().len() as u64),
         Value::Float(_) => 5,

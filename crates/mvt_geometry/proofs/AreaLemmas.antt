@@ -56,7 +56,8 @@ summed a b r n small edge few e =
     let is : to_z w128 (of_z w128 (a +ℤ r)) ≡ a +ℤ b = rw e (to_z-of_z w128 (a +ℤ b) (sum_fits a b n small edge few)) in
     (is, rw is (omega (arith, ints)))
 
-pub difference_fits : (p q : ℤ) → unsigned_abs p ≤ 2 ^ 62 → unsigned_abs q ≤ 2 ^ 62 → FitsSigned w128 (p -ℤ q) × (unsigned_abs (p -ℤ q) ≤ 2 ^ 63)
+pub difference_fits : (p q : ℤ) → unsigned_abs p ≤ 2 ^ 62 → unsigned_abs q ≤ 2 ^ 62
+    → FitsSigned w128 (p -ℤ q) × (unsigned_abs (p -ℤ q) ≤ 2 ^ 63)
 difference_fits p q small_p small_q =
     let small : unsigned_abs (p -ℤ q) ≤ 2 ^ 63 = omega (arith, ints) in
     (fits_signed_from_abs w128 (p -ℤ q) (omega (arith, small)), small)

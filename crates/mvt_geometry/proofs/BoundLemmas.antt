@@ -1,7 +1,8 @@
 -- The packed integers of a geometry take no more bytes than its bound says.
-use Rattle.std.proofs.Common.{◌≡◌, ℕ, ◌*◌, ◌^◌, ◌<◌, ◌≤◌, List, [], ◌∷◌, ◌++◌, length, refl, ap, arith, length-append}
-use Rattle.std.specs.List.{AllByRecursion, sum_by}
+use Rattle.std.proofs.Common.{◌≡◌, ℕ, ◌*◌, ◌≤◌, List, [], ◌∷◌, ◌++◌, length, refl, arith, length-append}
+use Rattle.std.specs.List.{sum_by}
 use Rattle.std.proofs.lemmas.List.Sums.{sum_by-cons, sum_by-append}
+use Rattle.mvt_wire.proofs.WireLaws.{packed_lengths}
 use Rattle.mvt_wire.specs.Spelling.{short_numbers}
 use Rattle.mvt_geometry.specs.declared.shape.Point.{Point}
 use Rattle.mvt_geometry.specs.declared.shape.Polygon.{Polygon}
@@ -13,10 +14,6 @@ use Rattle.mvt_geometry.specs.Valid.{IsValid}
 use Rattle.mvt_geometry.specs.Drawing.{drawn, path_from, stroke, strokes}
 use Rattle.mvt_geometry.proofs.LawLemmas.{drawn_small_lem}
 use Rattle.mvt_geometry.proofs.PathLemmas.{length-path}
-
--- what the level below gives
-abbrev pub FiveEach : Type 0
-FiveEach = (ns : List ℕ) → AllByRecursion (λ n. n < 2 ^ 32) ns → length (short_numbers ns) ≤ 5 * length ns
 
 stroke_length : (end : List ℕ) (c : Point) (l : List Point) → length end ≤ 1 → 5 * length (stroke end c l) ≤ line_bound l
 stroke_length end c [] h = omega arith
@@ -53,8 +50,8 @@ few_integers (Polygons ps) valid =
     let sums = rings_bound ps in
     omega (arith, few, sums)
 
-pub bound_holds_lem : FiveEach → (g : Geometry) → IsValid g → length (short_numbers (drawn g)) ≤ geometry_bound g
-bound_holds_lem five g valid =
-    let bytes = five (drawn g) (drawn_small_lem g valid) in
+pub bound_holds : (g : Geometry) → IsValid g → length (short_numbers (drawn g)) ≤ geometry_bound g
+bound_holds g valid =
+    let bytes = packed_lengths (drawn g) (drawn_small_lem g valid) in
     let integers = few_integers g valid in
     omega (arith, bytes, integers)

@@ -22,7 +22,9 @@ rows-append : {F : Type 0} → (xs ys : List (ℕ × Rules F)) → first (rows (
 rows-append [] ys = refl
 rows-append (x ∷ xs) ys =
     let more = rows-append xs ys in
-    first-append (under x.0 x.1) (rows (xs ++ ys)) ∙ ap (λ o. option_or (first (under x.0 x.1)) o) more ∙ option_or-assoc (first (under x.0 x.1)) (first (rows xs)) (first (rows ys)) ∙ sym (ap (λ o. option_or o (first (rows ys))) (first-append (under x.0 x.1) (rows xs)))
+    first-append (under x.0 x.1) (rows (xs ++ ys)) ∙ ap (λ o. option_or (first (under x.0 x.1)) o) more
+    ∙ option_or-assoc (first (under x.0 x.1)) (first (rows xs)) (first (rows ys))
+    ∙ sym (ap (λ o. option_or o (first (rows ys))) (first-append (under x.0 x.1) (rows xs)))
   where
     option_or-assoc : {F : Type 0} → (a b c : Option F) → option_or a (option_or b c) ≡ option_or (option_or a b) c
     option_or-assoc None b c = refl
@@ -30,23 +32,33 @@ rows-append (x ∷ xs) ys =
 
 -- the rules of a command: those of its header, then those of its pairs and of a first ring
 pub command_chain : (kind : Kind) (g : List ℕ) (k s : ℕ)
-    → first (command_rules kind g k s) ≡ option_or (first (rows (header_rows (may_not_end kind k) kind (due kind k) g s))) (option_or (first (wrong_pairs (due kind k) (cursor kind g k) g s)) (first (wrong_ring kind g k s)))
+    → first (command_rules kind g k s)
+    ≡ option_or (first (rows (header_rows (may_not_end kind k) kind (due kind k) g s)))
+    (option_or (first (wrong_pairs (due kind k) (cursor kind g k) g s)) (first (wrong_ring kind g k s)))
 unfolding command_rules
 command_chain kind g k s =
-    rows-append (header_rows (may_not_end kind k) kind (due kind k) g s) ((4, wrong_pairs (due kind k) (cursor kind g k) g s) ∷ (5, wrong_ring kind g k s) ∷ []) ∙ ap (λ o. option_or (first (rows (header_rows (may_not_end kind k) kind (due kind k) g s))) o) (simp (first-append, first-under, option_or-right) refl)
+    rows-append (header_rows (may_not_end kind k) kind (due kind k) g s)
+    ((4, wrong_pairs (due kind k) (cursor kind g k) g s) ∷ (5, wrong_ring kind g k s) ∷ [])
+    ∙ ap (λ o. option_or (first (rows (header_rows (may_not_end kind k) kind (due kind k) g s))) o)
+    (simp (first-append, first-under, option_or-right) refl)
 
 -- the fault of the first commands, one more, and all
-pub at_command : (kind : Kind) (g : List ℕ) (k : ℕ) (o : Option ℕ) → first (rules_of_first kind g k) ≡ None → start kind g k ≡ o → first (rules_of_first kind g (suc k)) ≡ first (rules_at kind g k o)
+pub at_command : (kind : Kind) (g : List ℕ) (k : ℕ) (o : Option ℕ) → first (rules_of_first kind g k) ≡ None
+    → start kind g k ≡ o → first (rules_of_first kind g (suc k)) ≡ first (rules_at kind g k o)
 unfolding rules_of_first
 at_command kind g k o none e =
-    first_back (rules_of_first kind g k) (under k (rules_at kind g k (start kind g k))) none ∙ first-under k (rules_at kind g k (start kind g k)) ∙ ap (λ p. first (rules_at kind g k p)) e
+    first_back (rules_of_first kind g k) (under k (rules_at kind g k (start kind g k))) none
+    ∙ first-under k (rules_at kind g k (start kind g k)) ∙ ap (λ p. first (rules_at kind g k p)) e
 
-pub more_commands : (kind : Kind) (g : List ℕ) (k : ℕ) (f : IndexedCause) → first (rules_of_first kind g k) ≡ Some f → (j : ℕ) → first (rules_of_first kind g (j + k)) ≡ Some f
+pub more_commands : (kind : Kind) (g : List ℕ) (k : ℕ) (f : IndexedCause) → first (rules_of_first kind g k) ≡ Some f
+    → (j : ℕ) → first (rules_of_first kind g (j + k)) ≡ Some f
 unfolding rules_of_first
 more_commands kind g k f e zero = let n : 0 + k ≡ k = omega arith in rw n e
 more_commands kind g k f e (suc j) =
     let n : suc j + k ≡ suc (j + k) = omega arith in
-    rw n (first_front (rules_of_first kind g (j + k)) (under (j + k) (rules_at kind g (j + k) (start kind g (j + k)))) f (more_commands kind g k f e j))
+    rw n
+    (first_front (rules_of_first kind g (j + k)) (under (j + k) (rules_at kind g (j + k) (start kind g (j + k)))) f
+    (more_commands kind g k f e j))
 
 pub fault_is : (kind : Kind) (g : List ℕ) → kind ≢ kinds.Unknown → geometry_fault kind g ≡ first (rules_of_first kind g (suc (length g)))
 unfolding geometry_fault geometry_rules
@@ -62,7 +74,10 @@ start-least kind g zero s e = omega arith
 start-least kind g (suc k) s e = more (start kind g k) (λ t. start-least kind g k t) e
   where
     more : (o : Option ℕ) → ((t : ℕ) → o ≡ Some t → k ≤ t)
-        → option_and_then (λ t. if ltb t (length g) then Some (t + 1 + 2 * pair_count (due kind k) (get_or g t 0 / 8)) else None) o ≡ Some s → suc k ≤ s
+        → option_and_then
+        (λ t. if ltb t (length g) then Some (t + 1 + 2 * pair_count (due kind k) (get_or g t 0 / 8)) else None) o
+        ≡ Some s
+        → suc k ≤ s
     more None least e = cc
     more (Some t) least e = here (ltb t (length g)) (least t refl) e
       where
@@ -74,7 +89,8 @@ pub first_start : (kind : Kind) (g : List ℕ) (s : ℕ) → start kind g 0 ≡ 
 unfolding start
 first_start kind g s e = cc
 
-pub start-next : (kind : Kind) (g : List ℕ) (k s : ℕ) → start kind g k ≡ Some s → s < length g → start kind g (suc k) ≡ Some (s + 1 + 2 * pair_count (due kind k) (get_or g s 0 / 8))
+pub start-next : (kind : Kind) (g : List ℕ) (k s : ℕ) → start kind g k ≡ Some s → s < length g
+    → start kind g (suc k) ≡ Some (s + 1 + 2 * pair_count (due kind k) (get_or g s 0 / 8))
 unfolding start
 start-next kind g k s e h = let t : ltb s (length g) ≡ true = grind (arith, nat_tests) in rw (e, t) refl
 
@@ -110,7 +126,8 @@ is_known kinds.LineString k c e = λ same. cc
 is_known kinds.Polygon k c e = λ same. cc
 
 -- every fault goes through here
-pub stops : {kind : Kind} {g : List ℕ} {k s : ℕ} {c : Point} → (f : IndexedCause) → kind ≢ kinds.Unknown → Reached kind g k s c → first (command_rules kind g k s) ≡ Some f → geometry_fault kind g ≡ Some f
+pub stops : {kind : Kind} {g : List ℕ} {k s : ℕ} {c : Point} → (f : IndexedCause) → kind ≢ kinds.Unknown
+    → Reached kind g k s c → first (command_rules kind g k s) ≡ Some f → geometry_fault kind g ≡ Some f
 stops {kind} {g} {k} {s} f known r e =
     let least = start-least kind g k s r.stands.begins in
     let here : first (rules_of_first kind g (suc k)) ≡ Some f = at_command kind g k (Some s) r.before r.stands.begins ∙ e in
@@ -118,7 +135,8 @@ stops {kind} {g} {k} {s} f known r e =
     fault_is kind g known ∙ ap (λ m. first (rules_of_first kind g m)) (sym n) ∙ more_commands kind g (suc k) f here (length g - k)
 
 -- nothing is behind the end
-calm_behind : (kind : Kind) (g : List ℕ) (k : ℕ) → first (rules_of_first kind g k) ≡ None → start kind g k ≡ None → (j : ℕ) → (first (rules_of_first kind g (j + k)) ≡ None) × (start kind g (j + k) ≡ None)
+calm_behind : (kind : Kind) (g : List ℕ) (k : ℕ) → first (rules_of_first kind g k) ≡ None → start kind g k ≡ None → (j : ℕ)
+    → (first (rules_of_first kind g (j + k)) ≡ None) × (start kind g (j + k) ≡ None)
 calm_behind kind g k none e zero = let n : 0 + k ≡ k = omega arith in rw n (none, e)
 calm_behind kind g k none e (suc j) =
     let before = calm_behind kind g k none e j in
@@ -126,12 +144,14 @@ calm_behind kind g k none e (suc j) =
     rw n (at_command kind g (j + k) None before.0 before.1, start-none kind g (j + k) before.1)
 
 -- the commands are over where another need not come
-pub ends_well : {kind : Kind} {g : List ℕ} {k s : ℕ} {c : Point} → kind ≢ kinds.Unknown → Reached kind g k s c → first (command_rules kind g k s) ≡ None → length g ≤ s → geometry_fault kind g ≡ None
+pub ends_well : {kind : Kind} {g : List ℕ} {k s : ℕ} {c : Point} → kind ≢ kinds.Unknown → Reached kind g k s c
+    → first (command_rules kind g k s) ≡ None → length g ≤ s → geometry_fault kind g ≡ None
 ends_well {kind} {g} {k} {s} known r none over =
     let least = start-least kind g k s r.stands.begins in
     let here : first (rules_of_first kind g (suc k)) ≡ None = at_command kind g k (Some s) r.before r.stands.begins ∙ none in
     let n : (length g - k) + suc k ≡ suc (length g) = omega (arith, r.stands.within) in
-    fault_is kind g known ∙ ap (λ m. first (rules_of_first kind g m)) (sym n) ∙ (calm_behind kind g (suc k) here (start-over kind g k s r.stands.begins over) (length g - k)).0
+    fault_is kind g known ∙ ap (λ m. first (rules_of_first kind g m)) (sym n)
+    ∙ (calm_behind kind g (suc k) here (start-over kind g k s r.stands.begins over) (length g - k)).0
 
 -- the parameters of n pairs
 pub pairs-take : (n m : ℕ) (xs : List ℕ) → m ≡ 2 * n → pairs_of (take m xs) ≡ take n (pairs_of xs)
@@ -156,30 +176,46 @@ no_ring kinds.Polygon g k s other = by_two (cases_eq k 2)
     by_two (inr e) = let t : eqb k 2 ≡ false = ne_eqb k 2 e in rw t refl
 
 pub chain_at : (kind : Kind) (g : List ℕ) (k s : ℕ) (o : Option Command) (c : Point) → due kind k ≡ o → cursor kind g k ≡ c
-    → first (command_rules kind g k s) ≡ option_or (first (rows (header_rows (may_not_end kind k) kind o g s))) (option_or (first (wrong_pairs o c g s)) (first (wrong_ring kind g k s)))
+    → first (command_rules kind g k s)
+    ≡ option_or (first (rows (header_rows (may_not_end kind k) kind o g s)))
+    (option_or (first (wrong_pairs o c g s)) (first (wrong_ring kind g k s)))
 chain_at kind g k s o c e f =
-    command_chain kind g k s ∙ ap₂ (λ (d : Option Command) (p : Point). option_or (first (rows (header_rows (may_not_end kind k) kind d g s))) (option_or (first (wrong_pairs d p g s)) (first (wrong_ring kind g k s)))) e f
+    command_chain kind g k s
+    ∙ ap₂
+    (λ (d : Option Command) (p : Point). option_or (first (rows (header_rows (may_not_end kind k) kind d g s)))
+    (option_or (first (wrong_pairs d p g s)) (first (wrong_ring kind g k s))))
+    e f
 
 module _ {kind : Kind} {g : List ℕ} {k s : ℕ} {c : Point} (r : Reached kind g k s c) (command : Command) (is_due : due kind k ≡ Some command) where
-  pub header_stops : (f : IndexedCause) → first (rows (header_rows (may_not_end kind k) kind (Some command) g s)) ≡ Some f → geometry_fault kind g ≡ Some f
+  pub header_stops : (f : IndexedCause) → first (rows (header_rows (may_not_end kind k) kind (Some command) g s)) ≡ Some f
+      → geometry_fault kind g ≡ Some f
   header_stops f e =
-      stops f (is_known kind k command is_due) r (chain_at kind g k s (Some command) c is_due r.stands.cursor_is ∙ ap (λ o. option_or o (option_or (first (wrong_pairs (Some command) c g s)) (first (wrong_ring kind g k s)))) e)
+      stops f (is_known kind k command is_due) r
+      (chain_at kind g k s (Some command) c is_due r.stands.cursor_is
+      ∙ ap (λ o. option_or o (option_or (first (wrong_pairs (Some command) c g s)) (first (wrong_ring kind g k s)))) e)
 
-  pub behind_header : IsHeader kind command g s → first (command_rules kind g k s) ≡ option_or (first (wrong_pairs (Some command) c g s)) (first (wrong_ring kind g k s))
+  pub behind_header : IsHeader kind command g s
+      → first (command_rules kind g k s) ≡ option_or (first (wrong_pairs (Some command) c g s)) (first (wrong_ring kind g k s))
   behind_header h =
-      chain_at kind g k s (Some command) c is_due r.stands.cursor_is ∙ ap (λ o. option_or o (option_or (first (wrong_pairs (Some command) c g s)) (first (wrong_ring kind g k s)))) (header_right (may_not_end kind k) kind command g s h)
+      chain_at kind g k s (Some command) c is_due r.stands.cursor_is
+      ∙ ap (λ o. option_or o (option_or (first (wrong_pairs (Some command) c g s)) (first (wrong_ring kind g k s))))
+      (header_right (may_not_end kind k) kind command g s h)
 
   module _ (h : IsHeader kind command g s) (n : ℕ) (count : n ≡ pair_count (Some command) (get_or g s 0 / 8)) (parameters : List ℕ) (behind : parameters ≡ take (2 * n) (drop (s + 1) g)) where
     pub pairs_behind : pairs_of parameters ≡ pairs_at (Some command) g s
     pairs_behind = ap pairs_of behind ∙ pairs-take n (2 * n) (drop (s + 1) g) refl ∙ ap (λ m. take m (pairs_of (drop (s + 1) g))) count
 
-    rules_behind : first (wrong_pairs (Some command) c g s) ≡ first (each (pair_rules (is_line_to (Some command)) (s + 1) c) [] (pairs_of parameters))
+    rules_behind : first (wrong_pairs (Some command) c g s)
+        ≡ first (each (pair_rules (is_line_to (Some command)) (s + 1) c) [] (pairs_of parameters))
     unfolding wrong_pairs
     rules_behind = ap (λ ds. first (each (pair_rules (is_line_to (Some command)) (s + 1) c) [] ds)) (sym pairs_behind)
 
-    pub pairs_stop : (f : IndexedCause) → first (each (pair_rules (is_line_to (Some command)) (s + 1) c) [] (pairs_of parameters)) ≡ Some f → geometry_fault kind g ≡ Some f
+    pub pairs_stop : (f : IndexedCause)
+        → first (each (pair_rules (is_line_to (Some command)) (s + 1) c) [] (pairs_of parameters)) ≡ Some f
+        → geometry_fault kind g ≡ Some f
     pairs_stop f e =
-        stops f (is_known kind k command is_due) r (behind_header h ∙ ap (λ o. option_or o (first (wrong_ring kind g k s))) (rules_behind ∙ e))
+        stops f (is_known kind k command is_due) r
+        (behind_header h ∙ ap (λ o. option_or o (first (wrong_ring kind g k s))) (rules_behind ∙ e))
 
     pub stands_next : (to : Point) → to ≡ moved c (pairs_of parameters) → Stands kind g (suc k) (s + 1 + 2 * n) to
     stands_next to e =
@@ -187,14 +223,21 @@ module _ {kind : Kind} {g : List ℕ} {k s : ℕ} {c : Point} (r : Reached kind 
         let due_count = ap (λ (o : Option Command). s + 1 + 2 * pair_count o (get_or g s 0 / 8)) is_due in
         record {
           begins = next ∙ ap Some (due_count ∙ ap (λ m. s + 1 + 2 * m) (sym count));
-          cursor_is = cursor-next kind g k ∙ ap₂ moved r.stands.cursor_is (moves-are kind g k s r.stands.begins ∙ ap (λ (o : Option Command). pairs_at o g s) is_due ∙ sym pairs_behind) ∙ sym e;
+          cursor_is =
+              cursor-next kind g k
+              ∙ ap₂ moved r.stands.cursor_is
+              (moves-are kind g k s r.stands.begins ∙ ap (λ (o : Option Command). pairs_at o g s) is_due ∙ sym pairs_behind)
+              ∙ sym e;
           within = omega (arith, h.room, count);
         }
 
-    pub rules_left : first (each (pair_rules (is_line_to (Some command)) (s + 1) c) [] (pairs_of parameters)) ≡ None → first (command_rules kind g k s) ≡ first (wrong_ring kind g k s)
+    pub rules_left : first (each (pair_rules (is_line_to (Some command)) (s + 1) c) [] (pairs_of parameters)) ≡ None
+        → first (command_rules kind g k s) ≡ first (wrong_ring kind g k s)
     rules_left e = behind_header h ∙ ap (λ o. option_or o (first (wrong_ring kind g k s))) (rules_behind ∙ e)
 
-    pub goes_on : (to : Point) → to ≡ moved c (pairs_of parameters) → first (each (pair_rules (is_line_to (Some command)) (s + 1) c) [] (pairs_of parameters)) ≡ None → first (wrong_ring kind g k s) ≡ None → Reached kind g (suc k) (s + 1 + 2 * n) to
+    pub goes_on : (to : Point) → to ≡ moved c (pairs_of parameters)
+        → first (each (pair_rules (is_line_to (Some command)) (s + 1) c) [] (pairs_of parameters)) ≡ None
+        → first (wrong_ring kind g k s) ≡ None → Reached kind g (suc k) (s + 1 + 2 * n) to
     goes_on to e none ring =
         record { stands = stands_next to e; before = at_command kind g k (Some s) r.before r.stands.begins ∙ rules_left none ∙ ring }
 
@@ -209,17 +252,25 @@ pairs_over o g s over = let zero_there : get_or g s 0 ≡ 0 = get_or_past g s 0 
     none (Some ClosePath) ds = refl
 
 -- the commands are over where the next one may be left out
-pub may_end : {kind : Kind} {g : List ℕ} {k s : ℕ} {c : Point} → kind ≢ kinds.Unknown → Reached kind g k s c → length g ≤ s → may_not_end kind k ≡ false → due kind k ≢ Some ClosePath → geometry_fault kind g ≡ None
+pub may_end : {kind : Kind} {g : List ℕ} {k s : ℕ} {c : Point} → kind ≢ kinds.Unknown → Reached kind g k s c → length g ≤ s
+    → may_not_end kind k ≡ false → due kind k ≢ Some ClosePath → geometry_fault kind g ≡ None
 unfolding wrong_pairs
 may_end {kind} {g} {k} {s} known r over may other =
-    ends_well known r (command_chain kind g k s ∙ ap₂ option_or (header_over (may_not_end kind k) kind (due kind k) g s may over) refl ∙ ap₂ option_or pairs (no_ring kind g k s other)) over
+    ends_well known r
+    (command_chain kind g k s ∙ ap₂ option_or (header_over (may_not_end kind k) kind (due kind k) g s may over) refl
+    ∙ ap₂ option_or pairs (no_ring kind g k s other))
+    over
   where
     pairs : first (wrong_pairs (due kind k) (cursor kind g k) g s) ≡ None
-    pairs = ap (λ ds. first (each (pair_rules (is_line_to (due kind k)) (s + 1) (cursor kind g k)) [] ds)) (pairs_over (due kind k) g s over)
+    pairs =
+        ap (λ ds. first (each (pair_rules (is_line_to (due kind k)) (s + 1) (cursor kind g k)) [] ds))
+        (pairs_over (due kind k) g s over)
 
 -- an empty list
 pub empty_ends : (kind : Kind) (g : List ℕ) → kind ≢ kinds.Unknown → length g ≡ 0 → geometry_fault kind g ≡ Some (0, causes.EndsEarly)
-empty_ends kind g known e = header_stops (first_command kind g) MoveTo (first_due kind known) (0, causes.EndsEarly) (ends (may_not_end kind 0) kind (Some MoveTo) g 0 (sym e) refl)
+empty_ends kind g known e =
+    header_stops (first_command kind g) MoveTo (first_due kind known) (0, causes.EndsEarly)
+    (ends (may_not_end kind 0) kind (Some MoveTo) g 0 (sym e) refl)
   where
     first_due : (kind : Kind) → kind ≢ kinds.Unknown → due kind 0 ≡ Some MoveTo
     first_due kinds.Unknown known = absurd (known refl)
@@ -228,9 +279,13 @@ empty_ends kind g known e = header_stops (first_command kind g) MoveTo (first_du
     first_due kinds.Polygon known = refl
 
 -- points have one command
-pub one_command : {g : List ℕ} {s : ℕ} {c : Point} → Reached kinds.Point g 1 s c → s < length g → geometry_fault kinds.Point g ≡ Some (s, causes.Command)
+pub one_command : {g : List ℕ} {s : ℕ} {c : Point} → Reached kinds.Point g 1 s c → s < length g
+    → geometry_fault kinds.Point g ≡ Some (s, causes.Command)
 one_command {g} {s} {c} r h =
-    stops (s, causes.Command) (λ same. cc) r (chain_at kinds.Point g 1 s None c refl r.stands.cursor_is ∙ ap (λ o. option_or o (option_or (first (wrong_pairs None c g s)) (first (wrong_ring kinds.Point g 1 s)))) (other_command (may_not_end kinds.Point 1) kinds.Point None g s h refl))
+    stops (s, causes.Command) (λ same. cc) r
+    (chain_at kinds.Point g 1 s None c refl r.stands.cursor_is
+    ∙ ap (λ o. option_or o (option_or (first (wrong_pairs None c g s)) (first (wrong_ring kinds.Point g 1 s))))
+    (other_command (may_not_end kinds.Point 1) kinds.Point None g s h refl))
 
 pub unknown_calm : (g : List ℕ) → geometry_fault kinds.Unknown g ≡ None
 unfolding geometry_fault geometry_rules
@@ -249,10 +304,13 @@ some_command {kind} {g} {k} {s} r h = begins_at_none kind g s k r.stands.begins 
 
 -- what holds of a command that breaks no rule
 module _ (kind : Kind) (g : List ℕ) (k s : ℕ) (c : Point) (stands : Stands kind g k s c) (command : Command) (is_due : due kind k ≡ Some command) (none : first (command_rules kind g k s) ≡ None) where
-  parts : (first (rows (header_rows (may_not_end kind k) kind (Some command) g s)) ≡ None) × (first (wrong_pairs (Some command) c g s) ≡ None) × (first (wrong_ring kind g k s) ≡ None)
+  parts : (first (rows (header_rows (may_not_end kind k) kind (Some command) g s)) ≡ None)
+      × (first (wrong_pairs (Some command) c g s) ≡ None) × (first (wrong_ring kind g k s) ≡ None)
   parts =
       let e = sym (chain_at kind g k s (Some command) c is_due stands.cursor_is) ∙ none in
-      let front = option_or-nones (first (rows (header_rows (may_not_end kind k) kind (Some command) g s))) (option_or (first (wrong_pairs (Some command) c g s)) (first (wrong_ring kind g k s))) e in
+      let front =
+      option_or-nones (first (rows (header_rows (may_not_end kind k) kind (Some command) g s)))
+      (option_or (first (wrong_pairs (Some command) c g s)) (first (wrong_ring kind g k s))) e in
       let back = option_or-nones (first (wrong_pairs (Some command) c g s)) (first (wrong_ring kind g k s)) front.1 in
       (front.0, back.0, back.1)
 
@@ -266,7 +324,8 @@ module _ (kind : Kind) (g : List ℕ) (k s : ℕ) (c : Point) (stands : Stands k
   ring_kept = parts.2
 
 -- a command before one that is reached breaks no rule
-pub kept_before : {kind : Kind} {g : List ℕ} {k s t : ℕ} {c d : Point} → Reached kind g k s c → Reached kind g (suc k) t d → first (command_rules kind g k s) ≡ None
+pub kept_before : {kind : Kind} {g : List ℕ} {k s t : ℕ} {c d : Point} → Reached kind g k s c → Reached kind g (suc k) t d
+    → first (command_rules kind g k s) ≡ None
 kept_before {kind} {g} {k} {s} r next = sym (at_command kind g k (Some s) r.before r.stands.begins) ∙ next.before
 
 -- where the whole list has no fault, no command that is reached breaks a rule
@@ -276,9 +335,11 @@ front_calm kind g k zero none = let n : 0 + k ≡ k = omega arith in rw n at non
 front_calm kind g k (suc j) none =
     let n : suc j + k ≡ suc (j + k) = omega arith in
     let more = subst (λ m. first (rules_of_first kind g m) ≡ None) n none in
-    front_calm kind g k j (option_or-nones _ _ (sym (first-append (rules_of_first kind g (j + k)) (under (j + k) (rules_at kind g (j + k) (start kind g (j + k))))) ∙ more)).0
+    front_calm kind g k j
+    (option_or-nones _ _ (sym (first-append (rules_of_first kind g (j + k)) (under (j + k) (rules_at kind g (j + k) (start kind g (j + k))))) ∙ more)).0
 
-pub reached_calm : {kind : Kind} {g : List ℕ} {k s : ℕ} {c : Point} → kind ≢ kinds.Unknown → geometry_fault kind g ≡ None → Reached kind g k s c → first (command_rules kind g k s) ≡ None
+pub reached_calm : {kind : Kind} {g : List ℕ} {k s : ℕ} {c : Point} → kind ≢ kinds.Unknown → geometry_fault kind g ≡ None
+    → Reached kind g k s c → first (command_rules kind g k s) ≡ None
 reached_calm {kind} {g} {k} {s} known none r =
     let least = start-least kind g k s r.stands.begins in
     let n : (length g - k) + suc k ≡ suc (length g) = omega (arith, r.stands.within) in

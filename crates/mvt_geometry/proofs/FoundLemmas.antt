@@ -49,7 +49,9 @@ module _ {kind : Kind} {g : List ℕ} {k s : ℕ} {c : Point} (r : Reached kind 
 
   header : IsHeader kind command g s
   header =
-      let total : length g - (s + 1) ≡ 2 * length ps + length more = sym (length-drop (s + 1) g) ∙ ap length there.2 ∙ length-append (path_from c ps) more ∙ ap (λ n. n + length more) (length-path c ps) in
+      let total : length g - (s + 1) ≡ 2 * length ps + length more =
+      sym (length-drop (s + 1) g) ∙ ap length there.2 ∙ length-append (path_from c ps) more
+      ∙ ap (λ n. n + length more) (length-path c ps) in
       record {
         within = there.0;
         id = ap (λ n. n % 8) there.1 ∙ (id_in command count).0;
@@ -61,13 +63,19 @@ module _ {kind : Kind} {g : List ℕ} {k s : ℕ} {c : Point} (r : Reached kind 
   pub command_drawn : first (wrong_ring kind g k s) ≡ None → Reached kind g (suc k) (s + 1 + 2 * length ps) (last_of c ps)
   command_drawn ring =
       let calm = path_calm (is_line_to (Some command)) (s + 1) c [] c ps refl may.places may.small_steps may.apart in
-      goes_on r command is_due header (length ps) pair_count_is (path_from c ps) behind (last_of c ps) (sym (ap (moved c) (pairs-path c ps) ∙ moved-between c ps)) (ap (λ ds. first (each (pair_rules (is_line_to (Some command)) (s + 1) c) [] ds)) (pairs-path c ps) ∙ calm) ring
+      goes_on r command is_due header (length ps) pair_count_is (path_from c ps) behind (last_of c ps)
+      (sym (ap (moved c) (pairs-path c ps) ∙ moved-between c ps))
+      (ap (λ ds. first (each (pair_rules (is_line_to (Some command)) (s + 1) c) [] ds)) (pairs-path c ps) ∙ calm) ring
 
   pub rest_drawn : drop (s + 1 + 2 * length ps) g ≡ more
-  rest_drawn = sym (drop-drop (2 * length ps) (s + 1) g) ∙ ap (drop (2 * length ps)) there.2 ∙ drop_at (path_from c ps) more (2 * length ps) (length-path c ps)
+  rest_drawn =
+      sym (drop-drop (2 * length ps) (s + 1) g) ∙ ap (drop (2 * length ps)) there.2
+      ∙ drop_at (path_from c ps) more (2 * length ps) (length-path c ps)
 
   pub moves_drawn : moves kind g k ≡ pairs_between c ps
-  moves_drawn = moves-are kind g k s r.stands.begins ∙ ap (λ (o : Option Command). pairs_at o g s) is_due ∙ sym (pairs_behind r command is_due header (length ps) pair_count_is (path_from c ps) behind) ∙ pairs-path c ps
+  moves_drawn =
+      moves-are kind g k s r.stands.begins ∙ ap (λ (o : Option Command). pairs_at o g s) is_due
+      ∙ sym (pairs_behind r command is_due header (length ps) pair_count_is (path_from c ps) behind) ∙ pairs-path c ps
 
 -- lists of integers of 32 bits
 pub small-drop : (n : ℕ) (xs : List ℕ) → AreSmall xs → AreSmall (drop n xs)
@@ -93,7 +101,8 @@ small_at (x ∷ xs) (suc n) h = small_at xs n h.1
 integer_is : (command : Command) (x : ℕ) → x % 8 ≡ id_of command → x ≡ id_of command + 8 * (x / 8)
 integer_is command x e = omega (arith, e)
 
-pub command_found : {kind : Kind} {g : List ℕ} {k s : ℕ} {c : Point} (r : Reached kind g k s c) (command : Command) → due kind k ≡ Some command → kind ≢ kinds.Unknown → geometry_fault kind g ≡ None
+pub command_found : {kind : Kind} {g : List ℕ} {k s : ℕ} {c : Point} (r : Reached kind g k s c) (command : Command)
+    → due kind k ≡ Some command → kind ≢ kinds.Unknown → geometry_fault kind g ≡ None
     → (s ≡ length g → may_not_end kind k ≡ true) → AreSmall g → Found kind command g k s c
 unfolding wrong_pairs
 command_found {kind} {g} {k} {s} {c} r command is_due known none must small =
@@ -104,23 +113,33 @@ command_found {kind} {g} {k} {s} {c} r command is_due known none must small =
     let parameters = take (2 * n) (drop (s + 1) g) in
     let ds = pairs_of parameters in
     let same : ds ≡ pairs_at (Some command) g s = pairs_behind r command is_due h n refl parameters refl in
-    let pairs_calm : first (each (pair_rules (is_line_to (Some command)) (s + 1) c) [] ds) ≡ None = ap (λ es. first (each (pair_rules (is_line_to (Some command)) (s + 1) c) [] es)) same ∙ pairs_kept kind g k s c r.stands command is_due calm in
-    let small_ds : AllByRecursion SmallPair ds = subst (AllByRecursion SmallPair) (sym same) (small-take n (pairs_of (drop (s + 1) g)) (small-pairs (drop (s + 1) g) (small-drop (s + 1) g small))) in
+    let pairs_calm : first (each (pair_rules (is_line_to (Some command)) (s + 1) c) [] ds) ≡ None =
+    ap (λ es. first (each (pair_rules (is_line_to (Some command)) (s + 1) c) [] es)) same
+    ∙ pairs_kept kind g k s c r.stands command is_due calm in
+    let small_ds : AllByRecursion SmallPair ds =
+    subst (AllByRecursion SmallPair) (sym same)
+    (small-take n (pairs_of (drop (s + 1) g)) (small-pairs (drop (s + 1) g) (small-drop (s + 1) g small))) in
     let path = calm_path (is_line_to (Some command)) (s + 1) c [] c ds refl small_ds pairs_calm in
     let ps = positions c ds in
     let size : length parameters ≡ 2 * n = length-take-le (2 * n) (drop (s + 1) g) (omega (arith, h.room, length-drop (s + 1) g)) in
     let long : length ps ≡ n = length-positions c ds ∙ ap length same ∙ header_pairs h in
-    let may : MayDraw kind command count c ps = record { allowed = h.allowed; pairs = long; places = path.0; small_steps = path.1; apart = path.2 } in
+    let may : MayDraw kind command count c ps =
+    record { allowed = h.allowed; pairs = long; places = path.0; small_steps = path.1; apart = path.2 } in
     let whole : drop (s + 1) g ≡ parameters ++ drop (2 * n) (drop (s + 1) g) = sym (take-append-drop (2 * n) (drop (s + 1) g)) in
-    let rest : drop (2 * n) (drop (s + 1) g) ≡ drop (s + 1 + 2 * length ps) g = drop-drop (2 * n) (s + 1) g ∙ ap (λ m. drop (s + 1 + 2 * m) g) (sym long) in
+    let rest : drop (2 * n) (drop (s + 1) g) ≡ drop (s + 1 + 2 * length ps) g =
+    drop-drop (2 * n) (s + 1) g ∙ ap (λ m. drop (s + 1 + 2 * m) g) (sym long) in
     let spelled : drop s g ≡ (id_of command + 8 * count) ∷ (path_from c ps ++ drop (s + 1 + 2 * length ps) g) =
-    drop_more g s 0 h.within ∙ ap₂ (λ x xs. x ∷ xs) (integer_is command (get_or g s 0) h.id) (whole ∙ ap₂ (λ xs ys. xs ++ ys) (sym (path-pairs c n parameters size)) rest) in
+    drop_more g s 0 h.within
+    ∙ ap₂ (λ x xs. x ∷ xs) (integer_is command (get_or g s 0) h.id)
+    (whole ∙ ap₂ (λ xs ys. xs ++ ys) (sym (path-pairs c n parameters size)) rest) in
     record {
       count = count;
       points = ps;
       may = may;
       few = let x = small_at g s small in omega (arith, x);
       spelled = spelled;
-      next = command_drawn r command is_due count ps may (drop (s + 1 + 2 * length ps) g) spelled (ring_kept kind g k s c r.stands command is_due calm);
+      next =
+          command_drawn r command is_due count ps may (drop (s + 1 + 2 * length ps) g) spelled
+          (ring_kept kind g k s c r.stands command is_due calm);
       moves_are = moves_drawn r command is_due count ps may (drop (s + 1 + 2 * length ps) g) spelled;
     }

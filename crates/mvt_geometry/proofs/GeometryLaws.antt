@@ -2,14 +2,4 @@
 pub use Rattle.mvt_geometry.proofs.LawLemmas.{one_geometry_lem as one_geometry, drawn_small_lem as drawn_small, first_profile_valid as old_geometries_stay, narrow_draws as narrow_is_wide}
 pub use Rattle.mvt_geometry.proofs.WholeLemmas.{drawn_faultless as drawn_is_faultless, faultless_drawn as faultless_draws}
 pub use Rattle.mvt_geometry.proofs.OrderedLemmas.{least_fault as fault_is_least, table_ordered as geometry_ordered}
-use Rattle.std.specs.Prelude.{length, ◌≤◌}
-use Rattle.mvt_geometry.proofs.BoundLemmas.{bound_holds_lem}
-use Rattle.mvt_geometry.specs.Bounds.{geometry_bound}
-use Rattle.mvt_geometry.specs.Drawing.{drawn}
-use Rattle.mvt_geometry.specs.Valid.{IsValid}
-use Rattle.mvt_geometry.specs.declared.shape.Geometry.{Geometry}
-use Rattle.mvt_wire.proofs.WireLaws.{packed_lengths}
-use Rattle.mvt_wire.specs.Spelling.{short_numbers}
-
-pub bound_holds : (g : Geometry) → IsValid g → length (short_numbers (drawn g)) ≤ geometry_bound g
-bound_holds = bound_holds_lem packed_lengths
+pub use Rattle.mvt_geometry.proofs.BoundLemmas.{bound_holds}

@@ -14,10 +14,12 @@ use Rattle.mvt_geometry.specs.Inner.Grouping.{Groups, with_ring, groups_of, poly
 abbrev pub AreOpened : List Polygon → Type 0
 AreOpened polygons = AllByRecursion (λ q. (pos 0 <ℤ area2 q.outer) × AreInner q.rest) polygons
 
-pub opens : (ring : List Point) (groups : Groups) → pos 0 <ℤ area2 ring → with_ring ring groups ≡ record { inner = []; polygons = record { outer = ring; rest = groups.inner } ∷ groups.polygons }
+pub opens : (ring : List Point) (groups : Groups) → pos 0 <ℤ area2 ring
+    → with_ring ring groups ≡ record { inner = []; polygons = record { outer = ring; rest = groups.inner } ∷ groups.polygons }
 opens ring groups h = let t : lt_z (pos 0) (area2 ring) ≡ true = grind (arith, ints) in rw t refl
 
-pub joins : (ring : List Point) (groups : Groups) → area2 ring ≤ℤ pos 0 → with_ring ring groups ≡ record { inner = ring ∷ groups.inner; polygons = groups.polygons }
+pub joins : (ring : List Point) (groups : Groups) → area2 ring ≤ℤ pos 0
+    → with_ring ring groups ≡ record { inner = ring ∷ groups.inner; polygons = groups.polygons }
 joins ring groups h = let t : lt_z (pos 0) (area2 ring) ≡ false = grind (arith, ints) in rw t refl
 
 -- the groups are groups of these rings
@@ -31,18 +33,22 @@ grouped_from [] = record { whole = refl; inner = tt; exterior = tt }
 grouped_from (ring ∷ rings) =
     let more = grouped_from rings in
     let open_one : pos 0 <ℤ area2 ring → AreGroups (ring ∷ rings) (groups_of (ring ∷ rings)) =
-    λ h. rw (opens ring (groups_of rings) h) (record { whole = ap (λ rs. ring ∷ rs) more.whole; inner = tt; exterior = ((h, more.inner), more.exterior) }) in
+    λ h. rw (opens ring (groups_of rings) h)
+    (record { whole = ap (λ rs. ring ∷ rs) more.whole; inner = tt; exterior = ((h, more.inner), more.exterior) }) in
     let join_one : area2 ring ≤ℤ pos 0 → AreGroups (ring ∷ rings) (groups_of (ring ∷ rings)) =
-    λ h. rw (joins ring (groups_of rings) h) (record { whole = ap (λ rs. ring ∷ rs) more.whole; inner = (h, more.inner); exterior = more.exterior }) in
+    λ h. rw (joins ring (groups_of rings) h)
+    (record { whole = ap (λ rs. ring ∷ rs) more.whole; inner = (h, more.inner); exterior = more.exterior }) in
     by_lt_z (pos 0) (area2 ring) open_one join_one
 
 -- rings of which the first has no negative area are grouped
-pub rings_grouped : (ring : List Point) (rings : List (List Point)) → pos 0 ≤ℤ area2 ring → Grouped (ring ∷ rings) (polygons_of (ring ∷ rings))
+pub rings_grouped : (ring : List Point) (rings : List (List Point)) → pos 0 ≤ℤ area2 ring
+    → Grouped (ring ∷ rings) (polygons_of (ring ∷ rings))
 rings_grouped ring rings h =
     let more = grouped_from rings in
     (ap (λ rs. ring ∷ rs) (sym more.whole), h, more.inner, more.exterior)
 
-inner_front : (inner rings : List (List Point)) → AreInner inner → groups_of (inner ++ rings) ≡ record { inner = inner ++ (groups_of rings).inner; polygons = (groups_of rings).polygons }
+inner_front : (inner rings : List (List Point)) → AreInner inner
+    → groups_of (inner ++ rings) ≡ record { inner = inner ++ (groups_of rings).inner; polygons = (groups_of rings).polygons }
 inner_front [] rings h = refl
 inner_front (ring ∷ inner) rings h = ap (with_ring ring) (inner_front inner rings h.1) ∙ joins ring _ h.0
 
@@ -57,5 +63,9 @@ groups_same (q ∷ polygons) h =
 pub one_grouping : (rings : List (List Point)) (polygons : List Polygon) → Grouped rings polygons → polygons_of rings ≡ polygons
 one_grouping rings [] h = absurd h
 one_grouping rings (p ∷ polygons) h =
-    let inner = inner_front p.rest (rings_of polygons) h.2 ∙ ap (λ (groups : Groups). let r : Groups = record { inner = p.rest ++ groups.inner; polygons = groups.polygons } in r) (groups_same polygons h.3) in
-    ap polygons_of h.0 ∙ ap (λ (groups : Groups). record { outer = p.outer; rest = groups.inner } ∷ groups.polygons) inner ∙ ap (λ rest. record { outer = p.outer; rest = rest } ∷ polygons) (append-nil p.rest)
+    let inner =
+    inner_front p.rest (rings_of polygons) h.2
+    ∙ ap (λ (groups : Groups). let r : Groups = record { inner = p.rest ++ groups.inner; polygons = groups.polygons } in r)
+    (groups_same polygons h.3) in
+    ap polygons_of h.0 ∙ ap (λ (groups : Groups). record { outer = p.outer; rest = groups.inner } ∷ groups.polygons) inner
+    ∙ ap (λ rest. record { outer = p.outer; rest = rest } ∷ polygons) (append-nil p.rest)

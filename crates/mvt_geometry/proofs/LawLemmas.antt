@@ -28,18 +28,26 @@ one_path c ps qs e = sym (positions-path c ps) ∙ ap (λ xs. positions c (pairs
 tail_same : {x y z a b d : ℕ} {xs ys : List ℕ} → 9 ∷ x ∷ y ∷ z ∷ xs ≡ 9 ∷ a ∷ b ∷ d ∷ ys → (x ∷ y ∷ [] ≡ a ∷ b ∷ []) × (z ≡ d) × (xs ≡ ys)
 tail_same {x = x} {y = y} {a = a} {b = b} e = let p : x ≡ a = cc in let q : y ≡ b = cc in (ap₂ (λ m n. m ∷ n ∷ []) p q, cc, cc)
 
-one_stroke : (end : List ℕ) (c p q : Point) (ps qs : List Point) (more others : List ℕ) → stroke end c (p ∷ ps) ++ more ≡ stroke end c (q ∷ qs) ++ others → (p ∷ ps ≡ q ∷ qs) × (more ≡ others)
+one_stroke : (end : List ℕ) (c p q : Point) (ps qs : List Point) (more others : List ℕ)
+    → stroke end c (p ∷ ps) ++ more ≡ stroke end c (q ∷ qs) ++ others → (p ∷ ps ≡ q ∷ qs) × (more ≡ others)
 one_stroke end c p q ps qs more others e =
     let parts = tail_same (sym (stroke-more end c p ps more) ∙ e ∙ stroke-more end c q qs others) in
     let head : p ∷ [] ≡ q ∷ [] = one_path c (p ∷ []) (q ∷ []) parts.0 in
     let same : p ≡ q = cc in
     let counts : 2 + 8 * length ps ≡ 2 + 8 * length qs = parts.1 in
     let long : length ps ≡ length qs = omega (arith, counts) in
-    let front : path_from p ps ≡ path_from p qs = sym (take_at (path_from p ps) (end ++ more) (2 * length ps) (length-path p ps)) ∙ ap₂ (λ n xs. take (2 * n) xs) long parts.2 ∙ take_at (path_from q qs) (end ++ others) (2 * length qs) (length-path q qs) ∙ ap (λ r. path_from r qs) (sym same) in
-    let back : end ++ more ≡ end ++ others = sym (drop_at (path_from p ps) (end ++ more) (2 * length ps) (length-path p ps)) ∙ ap₂ (λ n xs. drop (2 * n) xs) long parts.2 ∙ drop_at (path_from q qs) (end ++ others) (2 * length qs) (length-path q qs) in
+    let front : path_from p ps ≡ path_from p qs =
+    sym (take_at (path_from p ps) (end ++ more) (2 * length ps) (length-path p ps))
+    ∙ ap₂ (λ n xs. take (2 * n) xs) long parts.2
+    ∙ take_at (path_from q qs) (end ++ others) (2 * length qs) (length-path q qs) ∙ ap (λ r. path_from r qs) (sym same) in
+    let back : end ++ more ≡ end ++ others =
+    sym (drop_at (path_from p ps) (end ++ more) (2 * length ps) (length-path p ps))
+    ∙ ap₂ (λ n xs. drop (2 * n) xs) long parts.2
+    ∙ drop_at (path_from q qs) (end ++ others) (2 * length qs) (length-path q qs) in
     (ap₂ (λ (r : Point) rs. r ∷ rs) same (one_path p ps qs front), append_cancel_left end more others back)
 
-one_list : (end : List ℕ) (c : Point) (ls ms : List (List Point)) → AllByRecursion (λ l. 0 < length l) ls → AllByRecursion (λ l. 0 < length l) ms → strokes end c ls ≡ strokes end c ms → ls ≡ ms
+one_list : (end : List ℕ) (c : Point) (ls ms : List (List Point)) → AllByRecursion (λ l. 0 < length l) ls
+    → AllByRecursion (λ l. 0 < length l) ms → strokes end c ls ≡ strokes end c ms → ls ≡ ms
 one_list end c [] [] some others e = refl
 one_list end c [] ([] ∷ ms) some others e = absurd (omega (arith, others.0))
 one_list end c [] ((q ∷ qs) ∷ ms) some others e = absurd (omega (arith, ap length e))
@@ -51,10 +59,12 @@ one_list end c ((p ∷ ps) ∷ ls) ((q ∷ qs) ∷ ms) some others e =
     let more = one_list end (last_of c (p ∷ ps)) ls ms some.1 others.1 (parts.1 ∙ ap (λ l. strokes end (last_of c l) ms) (sym parts.0)) in
     ap₂ (λ (l : List Point) rs. l ∷ rs) parts.0 more
 
-some_of_strokes : (least : ℕ) (ls : List (List Point)) → 0 < least → AllByRecursion (IsStroke least) ls → AllByRecursion (λ l. 0 < length l) ls
+some_of_strokes : (least : ℕ) (ls : List (List Point)) → 0 < least → AllByRecursion (IsStroke least) ls
+    → AllByRecursion (λ l. 0 < length l) ls
 some_of_strokes least ls h are = all_weaker (IsStroke least) (λ l. 0 < length l) (λ l is. omega (arith, is.enough)) ls are
 
-one_strokes : (least : ℕ) (end : List ℕ) (ls ms : List (List Point)) → 0 < least → AllByRecursion (IsStroke least) ls → AllByRecursion (IsStroke least) ms → strokes end origin ls ≡ strokes end origin ms → ls ≡ ms
+one_strokes : (least : ℕ) (end : List ℕ) (ls ms : List (List Point)) → 0 < least → AllByRecursion (IsStroke least) ls
+    → AllByRecursion (IsStroke least) ms → strokes end origin ls ≡ strokes end origin ms → ls ≡ ms
 one_strokes least end ls ms h are others e =
     one_list end origin ls ms (some_of_strokes least ls h are) (some_of_strokes least ms h others) e
 
@@ -90,15 +100,20 @@ small_path : (c : Point) (ps : List Point) → AreSteps c ps → AreSmall (path_
 small_path c [] steps = tt
 small_path c (p ∷ ps) steps = (small_zig (p.x -ℤ c.x) steps.0.0, (small_zig (p.y -ℤ c.y) steps.0.1, small_path p ps steps.1))
 
-small_strokes : (least : ℕ) (end : List ℕ) (c : Point) (ls : List (List Point)) → AreSmall end → AllByRecursion (IsStroke least) ls → AreSteps c (joined ls) → AreSmall (strokes end c ls)
+small_strokes : (least : ℕ) (end : List ℕ) (c : Point) (ls : List (List Point)) → AreSmall end
+    → AllByRecursion (IsStroke least) ls → AreSteps c (joined ls) → AreSmall (strokes end c ls)
 small_strokes least end c [] small are steps = tt
-small_strokes least end c ([] ∷ ls) small are steps = all_joined (λ n. n < 2 ^ 32) end (strokes end c ls) small (small_strokes least end c ls small are.1 steps)
+small_strokes least end c ([] ∷ ls) small are steps =
+    all_joined (λ n. n < 2 ^ 32) end (strokes end c ls) small (small_strokes least end c ls small are.1 steps)
 small_strokes least end c ((p ∷ ps) ∷ ls) small are steps =
     let here = steps-front c (p ∷ ps) (joined ls) steps in
     let first = small_path c (p ∷ []) (here.0, tt) in
     let more = small_strokes least end (last_of p ps) ls small are.1 (steps-back c (p ∷ ps) (joined ls) steps) in
-    let behind = all_joined (λ n. n < 2 ^ 32) (path_from p ps) (end ++ strokes end (last_of p ps) ls) (small_path p ps here.1) (all_joined (λ n. n < 2 ^ 32) end (strokes end (last_of p ps) ls) small more) in
-    subst AreSmall (sym (stroke-more end c p ps (strokes end (last_of p ps) ls))) (omega arith, (first.0, (first.1.0, (omega (arith, are.0.few), behind))))
+    let behind =
+    all_joined (λ n. n < 2 ^ 32) (path_from p ps) (end ++ strokes end (last_of p ps) ls) (small_path p ps here.1)
+    (all_joined (λ n. n < 2 ^ 32) end (strokes end (last_of p ps) ls) small more) in
+    subst AreSmall (sym (stroke-more end c p ps (strokes end (last_of p ps) ls)))
+    (omega arith, (first.0, (first.1.0, (omega (arith, are.0.few), behind))))
 
 pub drawn_small_lem : (g : Geometry) → IsValid g → AreSmall (drawn g)
 drawn_small_lem (Unknown u) v = v
@@ -108,7 +123,10 @@ drawn_small_lem (Polygons ps) v = small_strokes 3 (15 ∷ []) origin (rings_of p
 
 -- the first profile's positions are in the wide range, and so are their differences
 widened : (z : ℤ) → InRangeOf narrow z → InRange z
-widened z h = let low : negsuc 1073741823 ≤ℤ z = h.low in let high : z ≤ℤ pos 1073741823 = h.high in record { low = omega (arith, ints, low, high); high = omega (arith, ints, low, high) }
+widened z h =
+    let low : negsuc 1073741823 ≤ℤ z = h.low in
+    let high : z ≤ℤ pos 1073741823 = h.high in
+    record { low = omega (arith, ints, low, high); high = omega (arith, ints, low, high) }
 
 near : (a b : ℤ) → InRangeOf narrow a → InRangeOf narrow b → InRange (b -ℤ a)
 near a b h k =
@@ -121,18 +139,23 @@ wide_places ps h = all_weaker (IsPlaceOf narrow) IsPlace (λ p k. (widened p.x k
 
 wide_strokes : (least : ℕ) (ls : List (List Point)) → AllByRecursion (IsStrokeOf narrow least) ls → AllByRecursion (IsStroke least) ls
 wide_strokes least ls are =
-    all_weaker (IsStrokeOf narrow least) (IsStroke least) (λ l is. record { enough = is.enough; few = is.few; apart = is.apart; places = wide_places l is.places }) ls are
+    all_weaker (IsStrokeOf narrow least) (IsStroke least)
+    (λ l is. record { enough = is.enough; few = is.few; apart = is.apart; places = wide_places l is.places }) ls are
 
 near_steps : (c : Point) (ps : List Point) → IsPlaceOf narrow c → AllByRecursion (IsPlaceOf narrow) ps → AreSteps c ps
 near_steps c [] here places = tt
 near_steps c (p ∷ ps) here places = ((near c.x p.x here.0 places.0.0, near c.y p.y here.1 places.0.1), near_steps p ps places.0 places.1)
 
-joined_places : (least : ℕ) (ls : List (List Point)) → AllByRecursion (IsStrokeOf narrow least) ls → AllByRecursion (IsPlaceOf narrow) (joined ls)
+joined_places : (least : ℕ) (ls : List (List Point)) → AllByRecursion (IsStrokeOf narrow least) ls
+    → AllByRecursion (IsPlaceOf narrow) (joined ls)
 joined_places least [] are = tt
 joined_places least (l ∷ ls) are = all_joined (IsPlaceOf narrow) l (joined ls) are.0.places (joined_places least ls are.1)
 
 origin_narrow : IsPlaceOf narrow origin
-origin_narrow = (record { low = omega (arith, ints); high = omega (arith, ints) }, record { low = omega (arith, ints); high = omega (arith, ints) })
+origin_narrow = (
+  record { low = omega (arith, ints); high = omega (arith, ints) },
+  record { low = omega (arith, ints); high = omega (arith, ints) },
+)
 
 pub first_profile_valid : (g : Geometry) → IsOfFirstProfile g → IsValid g
 first_profile_valid (Unknown u) v = v

@@ -1,21 +1,21 @@
 pub mod GeometryLaws
-pub mod HeaderLemmas
-pub mod StepLemmas
-pub mod WalkLemmas
-pub mod CommandLemmas
-pub mod AreaLemmas
-pub mod RingLemmas
-pub mod PathLemmas
-pub mod FoundLemmas
-pub mod StrokeLemmas
-pub mod LineLemmas
-pub mod PolygonLemmas
-pub mod GroupLemmas
-pub mod WholeLemmas
-pub mod BuildLemmas
-pub mod PutLemmas
-pub mod ValidLemmas
-pub mod OrderedLemmas
-pub mod LawLemmas
-pub mod CountLemmas
-pub mod BoundLemmas
+mod HeaderLemmas
+mod StepLemmas
+mod WalkLemmas
+mod CommandLemmas
+mod AreaLemmas
+mod RingLemmas
+mod PathLemmas
+mod FoundLemmas
+mod StrokeLemmas
+mod LineLemmas
+mod PolygonLemmas
+mod GroupLemmas
+mod WholeLemmas
+mod BuildLemmas
+mod PutLemmas
+mod ValidLemmas
+mod OrderedLemmas
+mod LawLemmas
+mod CountLemmas
+mod BoundLemmas

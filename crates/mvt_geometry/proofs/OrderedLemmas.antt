@@ -13,7 +13,19 @@ use Rattle.mvt_base.proofs.GrowingLemmas.{AllBelow, all_below_more, under_below,
 step_ordered : (line : Bool) (at : ℕ) (d : Pair) (to : Point) → AreOrdered (step_rules line at d to)
 unfolding step_rules
 step_ordered line at d to =
-    rows_ordered 0 (step_rows line at d to) (omega arith, (when_ordered _ _, (omega arith, (when_ordered _ _, (omega arith, (when_ordered _ _, (omega arith, (when_ordered _ _, (omega arith, (when_ordered _ _, tt))))))))))
+    rows_ordered 0 (step_rows line at d to) (
+      omega arith,
+      (
+        when_ordered _ _,
+        (
+          omega arith,
+          (
+            when_ordered _ _,
+            (omega arith, (when_ordered _ _, (omega arith, (when_ordered _ _, (omega arith, (when_ordered _ _, tt)))))),
+          ),
+        ),
+      ),
+    )
 
 pairs_ordered : (c : Option Command) (from : Point) (g : List ℕ) (s : ℕ) → AreOrdered (wrong_pairs c from g s)
 unfolding wrong_pairs pair_rules
@@ -22,7 +34,25 @@ pairs_ordered c from g s = each_ordered _ [] _ (λ seen d. step_ordered _ _ d _)
 command_ordered : (kind : Kind) (g : List ℕ) (k s : ℕ) → AreOrdered (command_rules kind g k s)
 unfolding command_rules ends_early wrong_command wrong_count no_room wrong_ring
 command_ordered kind g k s =
-    rows_ordered 0 (command_rows kind g k s) (omega arith, (when_ordered _ _, (omega arith, (when_ordered _ _, (omega arith, (when_ordered _ _, (omega arith, (when_ordered _ _, (omega arith, (pairs_ordered _ _ g s, (omega arith, (when_ordered _ _, tt))))))))))))
+    rows_ordered 0 (command_rows kind g k s) (
+      omega arith,
+      (
+        when_ordered _ _,
+        (
+          omega arith,
+          (
+            when_ordered _ _,
+            (
+              omega arith,
+              (
+                when_ordered _ _,
+                (omega arith, (when_ordered _ _, (omega arith, (pairs_ordered _ _ g s, (omega arith, (when_ordered _ _, tt)))))),
+              ),
+            ),
+          ),
+        ),
+      ),
+    )
 
 at_ordered : (kind : Kind) (g : List ℕ) (k : ℕ) (o : Option ℕ) → AreOrdered (rules_at kind g k o)
 at_ordered kind g k None = tt
@@ -33,8 +63,10 @@ unfolding rules_of_first
 first_ordered kind g zero = (tt, tt)
 first_ordered kind g (suc k) =
     let before = first_ordered kind g k in
-    let here = at_ordered kind g k (start kind g k) in
-    (then_under k _ _ before.0 before.1 here, below-append (suc k) _ _ (all_below_more k (suc k) _ (omega arith) before.1) (under_below k _))
+    let here = at_ordered kind g k (start kind g k) in (
+      then_under k _ _ before.0 before.1 here,
+      below-append (suc k) _ _ (all_below_more k (suc k) _ (omega arith) before.1) (under_below k _),
+    )
 
 pub table_ordered : (kind : Kind) (g : List ℕ) → AreOrdered (geometry_rules kind g)
 unfolding geometry_rules
@@ -45,4 +77,7 @@ table_ordered kinds.Polygon g = (first_ordered kinds.Polygon g (suc (length g)))
 
 pub least_fault : (kind : Kind) (g : List ℕ) (f : IndexedCause) → (geometry_fault kind g ≡ Some f) ↔ IsLeast (geometry_rules kind g) f
 unfolding geometry_fault
-least_fault kind g f = (first_is_least (geometry_rules kind g) f (table_ordered kind g), least_is_first (geometry_rules kind g) f (table_ordered kind g))
+least_fault kind g f = (
+  first_is_least (geometry_rules kind g) f (table_ordered kind g),
+  least_is_first (geometry_rules kind g) f (table_ordered kind g),
+)

@@ -6,31 +6,21 @@ use Rattle.std.proofs.lemmas.Bool.{cases_eq, ne_eqb, false≢true}
 use Rattle.std.proofs.lemmas.Int.{ints, to_z-of_z}
 use Rattle.mvt_base.specs.Rules.{Rules, first, under, each}
 use Rattle.mvt_base.proofs.RuleLemmas.{first-append, first-under, option_or-nones}
-use Rattle.mvt_wire.specs.Zigzag.{zig}
+use Rattle.mvt_wire.proofs.WireLaws.{zigzag_function_number, zigzag_function_code}
+use Rattle.mvt_wire.specs.Zigzag.{zig, unzig}
 use Rattle.mvt_geometry.specs.declared.shape.Point.{Point}
 use Rattle.mvt_geometry.specs.Shape.{InRange, IsPlace, AreSteps, Apart, last_of}
 use Rattle.mvt_geometry.specs.Drawing.{path_from}
-use Rattle.mvt_geometry.specs.Commands.{Pair, pairs_of, unzig, stepped, moved, positions}
+use Rattle.mvt_geometry.specs.Commands.{Pair, pairs_of, stepped, moved, positions}
 use Rattle.mvt_geometry.specs.Table.{IndexedCause, step_rules, pair_rules}
 use Rattle.mvt_geometry.specs.Inner.Strokes.{pair_between, pairs_between}
 use Rattle.mvt_geometry.proofs.StepLemmas.{step_right, step_gives}
 use Rattle.mvt_geometry.proofs.WalkLemmas.{moved-append, pair_rule}
 
-pub unzig-zig : (z : ℤ) → unzig (zig z) ≡ z
-unzig-zig (pos n) = let e : (2 * n) % 2 ≡ 0 = omega arith in let h : (2 * n) / 2 ≡ n = omega arith in rw (e, h) refl
-unzig-zig (negsuc n) = let e : (2 * n + 1) % 2 ≡ 1 = omega arith in let h : (2 * n + 1) / 2 ≡ n = omega arith in rw (e, h) refl
-
-pub zig-unzig : (n : ℕ) → zig (unzig n) ≡ n
-zig-unzig n = by_parity (cases_eq (n % 2) 0)
-  where
-    by_parity : (n % 2 ≡ 0) ⊎ (n % 2 ≢ 0) → zig (unzig n) ≡ n
-    by_parity (inl e) = let h : 2 * (n / 2) ≡ n = omega (arith, e) in rw e h
-    by_parity (inr o) = let t : eqb (n % 2) 0 ≡ false = ne_eqb (n % 2) 0 o in let h : 2 * (n / 2) + 1 ≡ n = omega (arith, o) in rw t h
-
 -- a coordinate moved by a parameter
 pub moved_number : (x z a b : ℤ) (n : ℕ) → a ≡ x → b ≡ z → zig z ≡ n → InRange (x +ℤ unzig n) → to_z w32 (of_z w32 (a +ℤ b)) ≡ x +ℤ unzig n
 moved_number x z a b n e f is range =
-    let sum : a +ℤ b ≡ x +ℤ unzig n = ap₂ (λ u v. u +ℤ v) e (f ∙ sym (unzig-zig z) ∙ ap unzig is) in
+    let sum : a +ℤ b ≡ x +ℤ unzig n = ap₂ (λ u v. u +ℤ v) e (f ∙ sym (zigzag_function_number z) ∙ ap unzig is) in
     let low : negsuc 2147483646 ≤ℤ (x +ℤ unzig n) = range.low in
     let high : (x +ℤ unzig n) ≤ℤ pos 2147483647 = range.high in
     rw sum (to_z-of_z w32 (x +ℤ unzig n) (omega (arith, ints, low, high)))
@@ -44,14 +34,14 @@ forth a b = omega (arith, ints)
 
 pub stepped-between : (p q : Point) → stepped p (pair_between p q) ≡ q
 stepped-between p q =
-    let x = ap (λ z. p.x +ℤ z) (unzig-zig (q.x -ℤ p.x)) ∙ back p.x q.x in
-    let y = ap (λ z. p.y +ℤ z) (unzig-zig (q.y -ℤ p.y)) ∙ back p.y q.y in
+    let x = ap (λ z. p.x +ℤ z) (zigzag_function_number (q.x -ℤ p.x)) ∙ back p.x q.x in
+    let y = ap (λ z. p.y +ℤ z) (zigzag_function_number (q.y -ℤ p.y)) ∙ back p.y q.y in
     ap₂ (λ (a b : ℤ). let r : Point = record { x = a; y = b } in r) x y
 
 pub between-stepped : (p : Point) (d : Pair) → pair_between p (stepped p d) ≡ d
 between-stepped p d =
-    let x = ap zig (forth p.x (unzig d.dx)) ∙ zig-unzig d.dx in
-    let y = ap zig (forth p.y (unzig d.dy)) ∙ zig-unzig d.dy in
+    let x = ap zig (forth p.x (unzig d.dx)) ∙ zigzag_function_code d.dx in
+    let y = ap zig (forth p.y (unzig d.dy)) ∙ zigzag_function_code d.dy in
     ap₂ (λ (a b : ℕ). let r : Pair = record { dx = a; dy = b } in r) x y
 
 pub positions-between : (c : Point) (ps : List Point) → positions c (pairs_between c ps) ≡ ps
@@ -98,7 +88,10 @@ path-pairs c (suc n) (x ∷ y ∷ xs) e =
 -- steps in range are parameters that aren't refused
 step_accepted : (z : ℤ) → InRange z → zig z ≢ 4294967295
 step_accepted (pos n) h e = let high : pos n ≤ℤ pos 2147483647 = h.high in let is : 2 * n ≡ 4294967295 = e in omega (arith, ints, high, is)
-step_accepted (negsuc n) h e = let low : negsuc 2147483646 ≤ℤ negsuc n = h.low in let is : 2 * n + 1 ≡ 4294967295 = e in omega (arith, ints, low, is)
+step_accepted (negsuc n) h e =
+    let low : negsuc 2147483646 ≤ℤ negsuc n = h.low in
+    let is : 2 * n + 1 ≡ 4294967295 = e in
+    omega (arith, ints, low, is)
 
 zig_zero : (z : ℤ) → zig z ≡ 0 → z ≡ pos 0
 zig_zero (pos n) e = let zero_is : n ≡ 0 = omega (arith, e) in ap pos zero_is
@@ -112,7 +105,8 @@ goes_away : (line : Bool) (p q : Point) → (line ≡ true → p ≢ q) → (lin
 goes_away false p q apart = refl
 goes_away true p q apart = by_x (cases_eq (zig (q.x -ℤ p.x)) 0)
   where
-    by_y : zig (q.x -ℤ p.x) ≡ 0 → (zig (q.y -ℤ p.y) ≡ 0) ⊎ (zig (q.y -ℤ p.y) ≢ 0) → (eqb (zig (q.x -ℤ p.x)) 0 && eqb (zig (q.y -ℤ p.y)) 0) ≡ false
+    by_y : zig (q.x -ℤ p.x) ≡ 0 → (zig (q.y -ℤ p.y) ≡ 0) ⊎ (zig (q.y -ℤ p.y) ≢ 0)
+        → (eqb (zig (q.x -ℤ p.x)) 0 && eqb (zig (q.y -ℤ p.y)) 0) ≡ false
     by_y x (inl y) =
         absurd (apart refl (ap₂ (λ (a b : ℤ). let r : Point = record { x = a; y = b } in r) (same_number p.x q.x (zig_zero _ x)) (same_number p.y q.y (zig_zero _ y))))
     by_y x (inr y) = rw (x, ne_eqb (zig (q.y -ℤ p.y)) 0 y) refl
@@ -121,29 +115,41 @@ goes_away true p q apart = by_x (cases_eq (zig (q.x -ℤ p.x)) 0)
     by_x (inl x) = by_y x (cases_eq (zig (q.y -ℤ p.y)) 0)
     by_x (inr x) = rw (ne_eqb (zig (q.x -ℤ p.x)) 0 x) refl
 
-each_chain : (rules : List Pair → Pair → Rules IndexedCause) (front : List Pair) (d : Pair) (ds : List Pair) → first (each rules front (d ∷ ds)) ≡ option_or (first (rules front d)) (first (each rules (front ++ d ∷ []) ds))
-each_chain rules front d ds = first-append (under (length front) (rules front d)) (each rules (front ++ d ∷ []) ds) ∙ ap (λ o. option_or o (first (each rules (front ++ d ∷ []) ds))) (first-under (length front) (rules front d))
+each_chain : (rules : List Pair → Pair → Rules IndexedCause) (front : List Pair) (d : Pair) (ds : List Pair)
+    → first (each rules front (d ∷ ds)) ≡ option_or (first (rules front d)) (first (each rules (front ++ d ∷ []) ds))
+each_chain rules front d ds =
+    first-append (under (length front) (rules front d)) (each rules (front ++ d ∷ []) ds)
+    ∙ ap (λ o. option_or o (first (each rules (front ++ d ∷ []) ds))) (first-under (length front) (rules front d))
 
 moved-push : (from : Point) (front : List Pair) (c : Point) (d : Pair) → moved from front ≡ c → moved from (front ++ d ∷ []) ≡ stepped c d
 moved-push from front c d e = moved-append from front (d ∷ []) ∙ ap (λ p. stepped p d) e
 
 -- the pairs of a path break no rule
 pub path_calm : (line : Bool) (at : ℕ) (from : Point) (front : List Pair) (c : Point) (ps : List Point) → moved from front ≡ c
-    → AllByRecursion IsPlace ps → AreSteps c ps → (line ≡ true → Apart (c ∷ ps)) → first (each (pair_rules line at from) front (pairs_between c ps)) ≡ None
+    → AllByRecursion IsPlace ps → AreSteps c ps → (line ≡ true → Apart (c ∷ ps))
+    → first (each (pair_rules line at from) front (pairs_between c ps)) ≡ None
 path_calm line at from front c [] e places small apart = refl
 path_calm line at from front c (p ∷ ps) e places small apart =
     let d = pair_between c p in
     let here = moved-push from front c d e ∙ stepped-between c p in
-    let rule = pair_rule line at from front d ∙ ap (step_rules line (at + 2 * length front) d) (ap (λ q. stepped q d) e ∙ stepped-between c p) in
-    let calm = step_right line (at + 2 * length front) d p (step_accepted (p.x -ℤ c.x) small.0.0) (step_accepted (p.y -ℤ c.y) small.0.1) (goes_away line c p (λ is. (apart is).0)) places.0 in
-    each_chain (pair_rules line at from) front d (pairs_between p ps) ∙ ap₂ option_or (ap first rule ∙ calm) (path_calm line at from (front ++ d ∷ []) p ps here places.1 small.1 (λ is. (apart is).1))
+    let rule =
+    pair_rule line at from front d
+    ∙ ap (step_rules line (at + 2 * length front) d) (ap (λ q. stepped q d) e ∙ stepped-between c p) in
+    let calm =
+    step_right line (at + 2 * length front) d p (step_accepted (p.x -ℤ c.x) small.0.0)
+    (step_accepted (p.y -ℤ c.y) small.0.1) (goes_away line c p (λ is. (apart is).0)) places.0 in
+    each_chain (pair_rules line at from) front d (pairs_between p ps)
+    ∙ ap₂ option_or (ap first rule ∙ calm)
+    (path_calm line at from (front ++ d ∷ []) p ps here places.1 small.1 (λ is. (apart is).1))
 
 -- parameters of 32 bits that aren't refused move by what they can say
 moves_by : (n : ℕ) → n < 2 ^ 32 → n ≢ 4294967295 → InRange (unzig n)
 moves_by n small other = by_parity (cases_eq (n % 2) 0)
   where
     by_parity : (n % 2 ≡ 0) ⊎ (n % 2 ≢ 0) → InRange (unzig n)
-    by_parity (inl e) = let h : n / 2 < 2147483648 = omega (arith, small) in rw e (record { low = omega (arith, ints); high = omega (arith, ints) })
+    by_parity (inl e) =
+        let h : n / 2 < 2147483648 = omega (arith, small) in
+        rw e (record { low = omega (arith, ints); high = omega (arith, ints) })
     by_parity (inr o) =
         let t : eqb (n % 2) 0 ≡ false = ne_eqb (n % 2) 0 o in
         let h : n / 2 < 2147483647 = odd_half n small other o in

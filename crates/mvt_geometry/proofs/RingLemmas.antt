@@ -1,5 +1,6 @@
 -- A ring is three commands, and the first one's area is judged at its ClosePath.
-use Rattle.std.proofs.Common.{◌≡◌, ◌≢◌, ℕ, zero, suc, ◌+◌, ◌*◌, ◌/◌, ◌%◌, ◌≤◌, Bool, true, false, ◌&&◌, ◌||◌, ◌==◌, eqb, List, [], ◌∷◌, ◌++◌, length, get_or, take, drop, Option, Some, None, ℤ, pos, ◌+ℤ◌, ◌≤ℤ◌, ◌<ℤ◌, refl, eq-eqb, ◌⊎◌, inl, inr, sym, ap, ap₂, subst, ◌∙◌, arith, length-drop}
+use Rattle.std.proofs.Common.{◌≡◌, ◌≢◌, ℕ, zero, suc, ◌+◌, ◌*◌, ◌/◌, ◌%◌, ◌≤◌, true, false, ◌&&◌, ◌==◌, eqb, List, [], ◌∷◌, ◌++◌, length, get_or, take, drop, Option, Some, None, ℤ, pos, ◌+ℤ◌, ◌≤ℤ◌, ◌<ℤ◌, refl, eq-eqb, ◌⊎◌, inl, inr, sym, ap, ap₂, subst, ◌∙◌, arith, length-drop}
+use Rattle.std.proofs.Math.Bool.{or-true, and-false}
 use Rattle.std.specs.Int.Signed.{lt_z}
 use Rattle.std.proofs.lemmas.Bool.{ne_eqb, cases_eq}
 use Rattle.std.proofs.lemmas.Int.{ints, by_lt_z}
@@ -21,7 +22,9 @@ use Rattle.mvt_geometry.proofs.AreaLemmas.{area2-ring, last_of-positions}
 use Rattle.mvt_geometry.proofs.CommandLemmas.{moves-are, cursor-next, stops, rules_left, goes_on, no_ring, pairs_behind, at_first, header_kept, kept_before, first_cursor}
 
 -- which command is due in polygons
-pub ring_due : (k : ℕ) → k % 3 ≡ 0 → (due kinds.Polygon k ≡ Some MoveTo) × (due kinds.Polygon (suc k) ≡ Some LineTo) × (due kinds.Polygon (suc (suc k)) ≡ Some ClosePath)
+pub ring_due : (k : ℕ) → k % 3 ≡ 0
+    → (due kinds.Polygon k ≡ Some MoveTo) × (due kinds.Polygon (suc k) ≡ Some LineTo)
+    × (due kinds.Polygon (suc (suc k)) ≡ Some ClosePath)
 ring_due k e =
     let one : suc k % 3 ≡ 1 = omega (arith, e) in
     let two : suc (suc k) % 3 ≡ 2 = omega (arith, e) in
@@ -31,15 +34,7 @@ ring_due k e =
 pub must_draw : (kind : Kind) (k : ℕ) (c : Command) → due kind k ≡ Some c → c ≢ MoveTo → may_not_end kind k ≡ true
 must_draw kind k MoveTo e other = absurd (other refl)
 must_draw kind k LineTo e other = rw e (or-true (k == 0))
-  where
-    or-true : (b : Bool) → (b || true) ≡ true
-    or-true true = refl
-    or-true false = refl
 must_draw kind k ClosePath e other = rw e (or-true (k == 0))
-  where
-    or-true : (b : Bool) → (b || true) ≡ true
-    or-true true = refl
-    or-true false = refl
 
 -- as many pairs as the count says
 pub length-pairs : (n : ℕ) (xs : List ℕ) → 2 * n ≤ length xs → length (take n (pairs_of xs)) ≡ n
@@ -48,7 +43,8 @@ length-pairs (suc n) [] h = absurd (omega (arith, h))
 length-pairs (suc n) (x ∷ []) h = absurd (omega (arith, h))
 length-pairs (suc n) (x ∷ y ∷ xs) h = ap suc (length-pairs n xs (omega (arith, h)))
 
-pub header_pairs : {kind : Kind} {c : Command} {g : List ℕ} {s : ℕ} → IsHeader kind c g s → length (pairs_at (Some c) g s) ≡ pair_count (Some c) (get_or g s 0 / 8)
+pub header_pairs : {kind : Kind} {c : Command} {g : List ℕ} {s : ℕ} → IsHeader kind c g s
+    → length (pairs_at (Some c) g s) ≡ pair_count (Some c) (get_or g s 0 / 8)
 header_pairs {kind} {c} {g} {s} h = length-pairs _ (drop (s + 1) g) (omega (arith, h.room, length-drop (s + 1) g))
 
 one_pair : (ds : List Pair) → length ds ≡ 1 → (d : Pair) × (ds ≡ d ∷ [])
@@ -63,34 +59,41 @@ module _ {g : List ℕ} {s t : ℕ} {c d : Point} (r : Reached kinds.Polygon g 0
       let h = header_kept kinds.Polygon g 0 s c r.stands MoveTo refl (kept_before r next) (λ e. refl) in
       let one : get_or g s 0 / 8 ≡ 1 = exact_unsigned_eq (get_or g s 0 / 8) 1 h.allowed in
       let here = moves-are kinds.Polygon g 0 s r.stands.begins in
-      let pair = one_pair (pairs_at (Some MoveTo) g s) (header_pairs h ∙ one) in
-      (pair.0, here ∙ pair.1, sym next.stands.cursor_is ∙ cursor-next kinds.Polygon g 0 ∙ ap₂ moved (first_cursor kinds.Polygon g) (here ∙ pair.1))
+      let pair = one_pair (pairs_at (Some MoveTo) g s) (header_pairs h ∙ one) in (
+        pair.0,
+        here ∙ pair.1,
+        sym next.stands.cursor_is ∙ cursor-next kinds.Polygon g 0 ∙ ap₂ moved (first_cursor kinds.Polygon g) (here ∙ pair.1),
+      )
 
   pub first_area : (ds : List Pair) → moves kinds.Polygon g 1 ≡ ds → area2 (first_ring g) ≡ edges d (positions d ds) +ℤ cross (moved d ds) d
   unfolding first_ring
   first_area ds e =
       let m = first_move in
-      ap₂ (λ xs ys. area2 (positions origin (xs ++ ys))) m.1 e ∙ ap (λ p. area2 (p ∷ positions p ds)) (sym m.2) ∙ area2-ring d (positions d ds) ∙ ap (λ p. edges d (positions d ds) +ℤ cross p d) (last_of-positions d ds)
+      ap₂ (λ xs ys. area2 (positions origin (xs ++ ys))) m.1 e ∙ ap (λ p. area2 (p ∷ positions p ds)) (sym m.2)
+      ∙ area2-ring d (positions d ds) ∙ ap (λ p. edges d (positions d ds) +ℤ cross p d) (last_of-positions d ds)
+
+less : {z : ℤ} → z <ℤ pos 0 → lt_z z (pos 0) ≡ true
+less h = grind (arith, ints)
 
 -- the exit of a first ring, and its going on
-pub ring_fault : {g : List ℕ} {k s : ℕ} {c : Point} → (r : Reached kinds.Polygon g k s c) → k ≡ 2 → first (command_rules kinds.Polygon g k s) ≡ first (wrong_ring kinds.Polygon g k s) → area2 (first_ring g) <ℤ pos 0 → geometry_fault kinds.Polygon g ≡ Some (s, causes.FirstRing)
+pub ring_fault : {g : List ℕ} {k s : ℕ} {c : Point} → (r : Reached kinds.Polygon g k s c) → k ≡ 2
+    → first (command_rules kinds.Polygon g k s) ≡ first (wrong_ring kinds.Polygon g k s) → area2 (first_ring g) <ℤ pos 0
+    → geometry_fault kinds.Polygon g ≡ Some (s, causes.FirstRing)
 unfolding wrong_ring
 ring_fault {g} {k} {s} r two left negative =
-    stops (s, causes.FirstRing) (λ same. cc) r (left ∙ first-when {F = IndexedCause} ((eqb k 2) && lt_z (area2 (first_ring g)) (pos 0)) (s, causes.FirstRing) (ap₂ (λ x y. x && y) (eq-eqb k 2 two) (less negative)))
-  where
-    less : {z : ℤ} → z <ℤ pos 0 → lt_z z (pos 0) ≡ true
-    less h = grind (arith, ints)
+    stops (s, causes.FirstRing) (λ same. cc) r
+    (left
+    ∙ first-when {F = IndexedCause} ((eqb k 2) && lt_z (area2 (first_ring g)) (pos 0)) (s, causes.FirstRing)
+    (ap₂ (λ x y. x && y) (eq-eqb k 2 two) (less negative)))
 
 pub ring_fine : (g : List ℕ) (k s : ℕ) → (k ≡ 2 → pos 0 ≤ℤ area2 (first_ring g)) → first (wrong_ring kinds.Polygon g k s) ≡ None
 unfolding wrong_ring
-ring_fine g k s fine = first-when_not {F = IndexedCause} (eqb k 2 && lt_z (area2 (first_ring g)) (pos 0)) (s, causes.FirstRing) (by_place (cases_eq k 2))
+ring_fine g k s fine =
+    first-when_not {F = IndexedCause} (eqb k 2 && lt_z (area2 (first_ring g)) (pos 0)) (s, causes.FirstRing)
+    (by_place (cases_eq k 2))
   where
     not_less : {z : ℤ} → pos 0 ≤ℤ z → lt_z z (pos 0) ≡ false
     not_less h = grind (arith, ints)
-
-    and-false : (b : Bool) → (b && false) ≡ false
-    and-false true = refl
-    and-false false = refl
 
     by_place : (k ≡ 2) ⊎ (k ≢ 2) → (eqb k 2 && lt_z (area2 (first_ring g)) (pos 0)) ≡ false
     by_place (inl e) = rw (not_less (fine e)) (and-false (eqb k 2))
@@ -100,9 +103,6 @@ pub fine_ring : (g : List ℕ) (s : ℕ) → first (wrong_ring kinds.Polygon g 2
 unfolding wrong_ring
 fine_ring g s none = by_lt_z (area2 (first_ring g)) (pos 0) (λ h. let yes = first-when {F = IndexedCause} (lt_z (area2 (first_ring g)) (pos 0)) (s, causes.FirstRing) (less h) in absurd (not_both none yes)) (λ h. h)
   where
-    less : {z : ℤ} → z <ℤ pos 0 → lt_z z (pos 0) ≡ true
-    less h = grind (arith, ints)
-
     not_both : {o : Option IndexedCause} {f : IndexedCause} → o ≡ None → o ≡ Some f → ⊥
     not_both e f = cc
 
@@ -115,21 +115,30 @@ module _ {g : List ℕ} {k s t : ℕ} {c d : Point} (e : k % 3 ≡ 0) (r : Reach
 
   ring_is : k ≡ 0 → area2 (first_ring g) ≡ edges d (positions d (pairs_of parameters)) +ℤ cross last d
   ring_is z =
-      let start_is : moves kinds.Polygon g 1 ≡ pairs_of parameters = moves-are kinds.Polygon g 1 t (subst (λ m. start kinds.Polygon g (suc m) ≡ Some t) z next.stands.begins) ∙ sym (pairs_behind next LineTo (ring_due k e).1 line n count parameters behind) in
-      first_area (subst (λ m. Reached kinds.Polygon g m s c) z r) (subst (λ m. Reached kinds.Polygon g (suc m) t d) z next) (pairs_of parameters) start_is ∙ ap (λ p. edges d (positions d (pairs_of parameters)) +ℤ cross p d) (sym last_is)
+      let start_is : moves kinds.Polygon g 1 ≡ pairs_of parameters =
+      moves-are kinds.Polygon g 1 t (subst (λ m. start kinds.Polygon g (suc m) ≡ Some t) z next.stands.begins)
+      ∙ sym (pairs_behind next LineTo (ring_due k e).1 line n count parameters behind) in
+      first_area (subst (λ m. Reached kinds.Polygon g m s c) z r) (subst (λ m. Reached kinds.Polygon g (suc m) t d) z next)
+      (pairs_of parameters) start_is
+      ∙ ap (λ p. edges d (positions d (pairs_of parameters)) +ℤ cross p d) (sym last_is)
 
   module _ (close : IsHeader kinds.Polygon ClosePath g (t + 1 + 2 * n)) (area : ℤ) (area_is : area ≡ edges d (positions d (pairs_of parameters)) +ℤ cross last d) where
-    left : first (command_rules kinds.Polygon g (suc (suc k)) (t + 1 + 2 * n)) ≡ first (wrong_ring kinds.Polygon g (suc (suc k)) (t + 1 + 2 * n))
+    left : first (command_rules kinds.Polygon g (suc (suc k)) (t + 1 + 2 * n))
+        ≡ first (wrong_ring kinds.Polygon g (suc (suc k)) (t + 1 + 2 * n))
     left = rules_left reached_close ClosePath (ring_due k e).2 close 0 refl [] refl refl
 
     pub ring_stops : s ≡ 0 → area <ℤ pos 0 → geometry_fault kinds.Polygon g ≡ Some (t + 1 + 2 * n, causes.FirstRing)
     ring_stops z negative =
         let first_one = (at_first r).1 z in
-        ring_fault reached_close (ap (λ m. suc (suc m)) first_one) left (subst (λ a. a <ℤ pos 0) (area_is ∙ sym (ring_is first_one)) negative)
+        ring_fault reached_close (ap (λ m. suc (suc m)) first_one) left
+        (subst (λ a. a <ℤ pos 0) (area_is ∙ sym (ring_is first_one)) negative)
 
     pub ring_goes : (s ≡ 0 → pos 0 ≤ℤ area) → Reached kinds.Polygon g (k + 3) (t + 1 + 2 * n + 1) last
     ring_goes fine =
         let fine_two : suc (suc k) ≡ 2 → pos 0 ≤ℤ area2 (first_ring g) = λ two. let first_one : k ≡ 0 = omega arith in subst (λ a. pos 0 ≤ℤ a) (area_is ∙ sym (ring_is first_one)) (fine ((at_first r).0 first_one)) in
         let three : suc (suc (suc k)) ≡ k + 3 = omega arith in
         let place : t + 1 + 2 * n + 1 + 2 * 0 ≡ t + 1 + 2 * n + 1 = omega arith in
-        subst (λ m. Reached kinds.Polygon g m (t + 1 + 2 * n + 1) last) three (subst (λ m. Reached kinds.Polygon g (suc (suc (suc k))) m last) place (goes_on reached_close ClosePath (ring_due k e).2 close 0 refl [] refl last refl refl (ring_fine g (suc (suc k)) (t + 1 + 2 * n) fine_two)))
+        subst (λ m. Reached kinds.Polygon g m (t + 1 + 2 * n + 1) last) three
+        (subst (λ m. Reached kinds.Polygon g (suc (suc (suc k))) m last) place
+        (goes_on reached_close ClosePath (ring_due k e).2 close 0 refl [] refl last refl refl
+        (ring_fine g (suc (suc k)) (t + 1 + 2 * n) fine_two)))

@@ -1,14 +1,13 @@
 -- Lines and rings against their commands.
-use Rattle.std.proofs.Common.{◌≡◌, ◌≢◌, ℕ, suc, ◌+◌, ◌-◌, ◌*◌, ◌<◌, ◌≤◌, true, List, [], ◌∷◌, ◌++◌, length, take, drop, Some, None, refl, sym, ap, ap₂, subst, ◌∙◌, arith, append_assoc}
+use Rattle.std.proofs.Common.{◌≡◌, ◌≢◌, ℕ, suc, ◌+◌, ◌*◌, ◌<◌, ◌≤◌, true, List, [], ◌∷◌, ◌++◌, length, drop, Some, None, refl, sym, ap, ap₂, subst, ◌∙◌, arith, append_assoc}
 use Rattle.std.specs.List.{AllByRecursion}
 use Rattle.std.proofs.lemmas.Map.Views.{exact_unsigned_eq}
 use Rattle.std.proofs.lemmas.Bool.Decides.{nat_tests}
-use Rattle.std.proofs.lemmas.List.{take_at, drop_at}
 use Rattle.mvt_geometry.specs.declared.shape.Point.{Point}
 use Rattle.mvt_geometry.specs.declared.shape.Kind.{Kind}
 use Rattle.mvt_geometry.specs.declared.shape.Kind.TheVariants as kinds
 use Rattle.mvt_geometry.specs.declared.command.Command.TheVariants.{MoveTo, LineTo, ClosePath}
-use Rattle.mvt_geometry.specs.Shape.{IsPlace, AreSteps, joined, last_of}
+use Rattle.mvt_geometry.specs.Shape.{IsPlace, AreSteps, last_of}
 use Rattle.mvt_geometry.specs.Valid.{IsStroke}
 use Rattle.mvt_geometry.specs.Drawing.{path_from, stroke}
 use Rattle.mvt_geometry.specs.Commands.{is_allowed, due, moves}
@@ -33,7 +32,8 @@ steps-back c [] qs h = h
 steps-back c (p ∷ ps) qs h = steps-back p ps qs h.1
 
 -- the commands of one line, with more behind them
-pub stroke-more : (end : List ℕ) (c p : Point) (ps : List Point) (more : List ℕ) → stroke end c (p ∷ ps) ++ more ≡ 9 ∷ (path_from c (p ∷ []) ++ ((2 + 8 * length ps) ∷ (path_from p ps ++ (end ++ more))))
+pub stroke-more : (end : List ℕ) (c p : Point) (ps : List Point) (more : List ℕ)
+    → stroke end c (p ∷ ps) ++ more ≡ 9 ∷ (path_from c (p ∷ []) ++ ((2 + 8 * length ps) ∷ (path_from p ps ++ (end ++ more))))
 stroke-more end c p ps more = ap (λ xs. 9 ∷ (path_from c (p ∷ []) ++ ((2 + 8 * length ps) ∷ xs))) (append_assoc (path_from p ps) end more)
 
 one_point : (ps : List Point) → length ps ≡ 1 → (p : Point) × (ps ≡ p ∷ [])
@@ -96,7 +96,9 @@ module _ {kind : Kind} {least : ℕ} (has : HasStrokes kind least) {g : List ℕ
           places = ((subst (AllByRecursion IsPlace) one.1 first_found.may.places).0, found.may.places);
         };
         small_steps = ((subst (AreSteps c) one.1 first_found.may.small_steps).0, found.may.small_steps);
-        spelled = spelled_first ∙ ap (λ xs. 9 ∷ (path_from c (p ∷ []) ++ xs)) spelled_other ∙ sym (stroke-more [] c p ps (drop (s + 1 + 2 * 1 + 1 + 2 * length ps) g));
+        spelled =
+            spelled_first ∙ ap (λ xs. 9 ∷ (path_from c (p ∷ []) ++ xs)) spelled_other
+            ∙ sym (stroke-more [] c p ps (drop (s + 1 + 2 * 1 + 1 + 2 * length ps) g));
         next = found.next;
         first_moves = first_found.moves_are ∙ ap (pairs_between c) one.1;
         other_moves = found.moves_are;
@@ -104,14 +106,40 @@ module _ {kind : Kind} {least : ℕ} (has : HasStrokes kind least) {g : List ℕ
       }
 
   -- a line is drawn by commands that break no rule
-  pub stroke_drawn : (p : Point) (ps : List Point) (more : List ℕ) → IsStroke least (p ∷ ps) → AreSteps c (p ∷ ps) → drop s g ≡ stroke [] c (p ∷ ps) ++ more
-      → (end : ℕ) × Reached kind g (suc (suc k)) end (last_of p ps) × (drop end g ≡ more) × (moves kind g k ≡ pair_between c p ∷ []) × (moves kind g (suc k) ≡ pairs_between p ps) × (s < end)
+  pub stroke_drawn : (p : Point) (ps : List Point) (more : List ℕ) → IsStroke least (p ∷ ps) → AreSteps c (p ∷ ps)
+      → drop s g ≡ stroke [] c (p ∷ ps) ++ more
+      → (end : ℕ) × Reached kind g (suc (suc k)) end (last_of p ps) × (drop end g ≡ more)
+      × (moves kind g k ≡ pair_between c p ∷ []) × (moves kind g (suc k) ≡ pairs_between p ps) × (s < end)
   stroke_drawn p ps more is small spelled =
-      let may : MayDraw kind MoveTo 1 c (p ∷ []) = record { allowed = has.may_move; pairs = refl; places = (is.places.0, tt); small_steps = (small.0, tt); apart = λ e. cc } in
+      let may : MayDraw kind MoveTo 1 c (p ∷ []) =
+      record {
+        allowed = has.may_move;
+        pairs = refl;
+        places = (is.places.0, tt);
+        small_steps = (small.0, tt);
+        apart = λ e. cc;
+      } in
       let spelled_first = spelled ∙ stroke-more [] c p ps more in
       let behind = (2 + 8 * length ps) ∷ (path_from p ps ++ more) in
-      let next = command_drawn r MoveTo move 1 (p ∷ []) may behind spelled_first (no_ring kind g k s (λ same. let two : Some MoveTo ≡ Some ClosePath = sym move ∙ same in cc)) in
+      let next =
+      command_drawn r MoveTo move 1 (p ∷ []) may behind spelled_first
+      (no_ring kind g k s (λ same. let two : Some MoveTo ≡ Some ClosePath = sym move ∙ same in cc)) in
       let rest = rest_drawn r MoveTo move 1 (p ∷ []) may behind spelled_first in
-      let may_line : MayDraw kind LineTo (length ps) p ps = record { allowed = has.may_draw (length ps) is.enough; pairs = refl; places = is.places.1; small_steps = small.1; apart = λ e. is.apart } in
-      let line_next = command_drawn next LineTo line (length ps) ps may_line more rest (no_ring kind g (suc k) _ (λ same. let two : Some LineTo ≡ Some ClosePath = sym line ∙ same in cc)) in
-      (_, line_next, rest_drawn next LineTo line (length ps) ps may_line more rest, moves_drawn r MoveTo move 1 (p ∷ []) may behind spelled_first, moves_drawn next LineTo line (length ps) ps may_line more rest, omega arith)
+      let may_line : MayDraw kind LineTo (length ps) p ps =
+      record {
+        allowed = has.may_draw (length ps) is.enough;
+        pairs = refl;
+        places = is.places.1;
+        small_steps = small.1;
+        apart = λ e. is.apart;
+      } in
+      let line_next =
+      command_drawn next LineTo line (length ps) ps may_line more rest
+      (no_ring kind g (suc k) _ (λ same. let two : Some LineTo ≡ Some ClosePath = sym line ∙ same in cc)) in (
+        _,
+        line_next,
+        rest_drawn next LineTo line (length ps) ps may_line more rest,
+        moves_drawn r MoveTo move 1 (p ∷ []) may behind spelled_first,
+        moves_drawn next LineTo line (length ps) ps may_line more rest,
+        omega arith,
+      )

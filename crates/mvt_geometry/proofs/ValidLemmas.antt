@@ -13,7 +13,8 @@ use Rattle.mvt_geometry.specs.Drawing.{drawn, Draws}
 use Rattle.mvt_geometry.specs.Inner.Validity.{IsStepTo, IsPath, IsLineFrom, AreLinesFrom, end_of_lines, end_of_polygon, ArePolygonsFrom, CanBeDrawn}
 use Rattle.mvt_geometry.proofs.StrokeLemmas.{steps-append, steps-front, steps-back}
 
-pub to_step : (is_line : Bool) (p q : Point) → ((is_line ≡ true) × (p ≢ q)) ⊎ (is_line ≡ false) → IsPlace q → IsStep p q → IsStepTo is_line p q
+pub to_step : (is_line : Bool) (p q : Point) → ((is_line ≡ true) × (p ≢ q)) ⊎ (is_line ≡ false) → IsPlace q → IsStep p q
+    → IsStepTo is_line p q
 to_step true p q apart place step = (away apart, place, step)
   where
     away : ((true ≡ true) × (p ≢ q)) ⊎ (true ≡ false) → p ≢ q
@@ -53,33 +54,42 @@ stroke_of least c (p ∷ ps) h =
     let path = parts_of_path p ps h.3 in
     (record { enough = h.0; few = h.1; apart = path.2; places = (h.2.0, path.0) }, (h.2.1, path.1))
 
-pub lines_of : (least : ℕ) (c : Point) (ls : List (List Point)) → 0 < least → AllByRecursion (IsStroke least) ls → AreSteps c (joined ls) → AreLinesFrom least c ls
+pub lines_of : (least : ℕ) (c : Point) (ls : List (List Point)) → 0 < least → AllByRecursion (IsStroke least) ls
+    → AreSteps c (joined ls) → AreLinesFrom least c ls
 lines_of least c [] some are steps = tt
-lines_of least c (l ∷ ls) some are steps = (line_of least c l some are.0 (steps-front c l (joined ls) steps), lines_of least (last_of c l) ls some are.1 (steps-back c l (joined ls) steps))
+lines_of least c (l ∷ ls) some are steps = (
+  line_of least c l some are.0 (steps-front c l (joined ls) steps),
+  lines_of least (last_of c l) ls some are.1 (steps-back c l (joined ls) steps),
+)
 
-pub strokes_of : (least : ℕ) (c : Point) (ls : List (List Point)) → AreLinesFrom least c ls → AllByRecursion (IsStroke least) ls × AreSteps c (joined ls)
+pub strokes_of : (least : ℕ) (c : Point) (ls : List (List Point)) → AreLinesFrom least c ls
+    → AllByRecursion (IsStroke least) ls × AreSteps c (joined ls)
 strokes_of least c [] h = (tt, tt)
 strokes_of least c (l ∷ ls) h =
     let here = stroke_of least c l h.0 in
     let more = strokes_of least (last_of c l) ls h.1 in
     ((here.0, more.0), steps-append c l (joined ls) here.1 more.1)
 
-lines_joined : (least : ℕ) (c : Point) (ls ms : List (List Point)) → AreLinesFrom least c ls → AreLinesFrom least (end_of_lines c ls) ms → AreLinesFrom least c (ls ++ ms)
+lines_joined : (least : ℕ) (c : Point) (ls ms : List (List Point)) → AreLinesFrom least c ls
+    → AreLinesFrom least (end_of_lines c ls) ms → AreLinesFrom least c (ls ++ ms)
 lines_joined least c [] ms h k = k
 lines_joined least c (l ∷ ls) ms h k = (h.0, lines_joined least (last_of c l) ls ms h.1 k)
 
-lines_split : (least : ℕ) (c : Point) (ls ms : List (List Point)) → AreLinesFrom least c (ls ++ ms) → AreLinesFrom least c ls × AreLinesFrom least (end_of_lines c ls) ms
+lines_split : (least : ℕ) (c : Point) (ls ms : List (List Point)) → AreLinesFrom least c (ls ++ ms)
+    → AreLinesFrom least c ls × AreLinesFrom least (end_of_lines c ls) ms
 lines_split least c [] ms h = (tt, h)
 lines_split least c (l ∷ ls) ms h = let more = lines_split least (last_of c l) ls ms h.1 in ((h.0, more.0), more.1)
 
 -- polygons
-polygons_of_rings : (c : Point) (ps : List Polygon) → AllByRecursion (λ q. (pos 0 <ℤ area2 q.outer) × AreInner q.rest) ps → AreLinesFrom 3 c (rings_of ps) → ArePolygonsFrom false c ps
+polygons_of_rings : (c : Point) (ps : List Polygon) → AllByRecursion (λ q. (pos 0 <ℤ area2 q.outer) × AreInner q.rest) ps
+    → AreLinesFrom 3 c (rings_of ps) → ArePolygonsFrom false c ps
 polygons_of_rings c [] are lines = tt
 polygons_of_rings c (p ∷ ps) are lines =
     let more = lines_split 3 (last_of c p.outer) p.rest (rings_of ps) lines.1 in
     ((are.0.0, are.0.1, lines.0, more.0), polygons_of_rings (end_of_polygon c p) ps are.1 more.1)
 
-rings_of_polygons : (c : Point) (ps : List Polygon) → ArePolygonsFrom false c ps → AllByRecursion (λ q. (pos 0 <ℤ area2 q.outer) × AreInner q.rest) ps × AreLinesFrom 3 c (rings_of ps)
+rings_of_polygons : (c : Point) (ps : List Polygon) → ArePolygonsFrom false c ps
+    → AllByRecursion (λ q. (pos 0 <ℤ area2 q.outer) × AreInner q.rest) ps × AreLinesFrom 3 c (rings_of ps)
 rings_of_polygons c [] h = (tt, tt)
 rings_of_polygons c (p ∷ ps) h =
     let more = rings_of_polygons (end_of_polygon c p) ps h.1 in
@@ -104,7 +114,9 @@ drawn_valid (Polygons []) d = absurd (omega (arith, d.0))
 drawn_valid (Polygons (p ∷ ps)) d =
     let polygon = d.1.0 in
     let more = rings_of_polygons (end_of_polygon origin p) ps d.1.1 in
-    let lines = strokes_of 3 origin (rings_of (p ∷ ps)) (polygon.2, lines_joined 3 (last_of origin p.outer) p.rest (rings_of ps) polygon.3 more.1) in
+    let lines =
+    strokes_of 3 origin (rings_of (p ∷ ps))
+    (polygon.2, lines_joined 3 (last_of origin p.outer) p.rest (rings_of ps) polygon.3 more.1) in
     ((refl, polygon.0, polygon.1, more.0), lines.0, lines.1)
 
 -- some integers draw what is valid

@@ -4,7 +4,6 @@ use Rattle.std.specs.List.{AllByRecursion}
 use Rattle.std.proofs.lemmas.Bool.{cases_lt}
 use Rattle.std.proofs.lemmas.Bool.Decides.{nat_tests}
 use Rattle.std.proofs.lemmas.List.{drop_all}
-use Rattle.mvt_base.proofs.ListLemmas.{all_weaker}
 use Rattle.mvt_geometry.specs.declared.shape.Point.{Point}
 use Rattle.mvt_geometry.specs.declared.shape.Polygon.{Polygon}
 use Rattle.mvt_geometry.specs.declared.shape.Geometry.{Geometry}
@@ -29,26 +28,38 @@ use Rattle.mvt_geometry.proofs.GroupLemmas.{rings_grouped}
 -- integers that draw a geometry have no fault
 points_faultless : (g : List ℕ) (ps : List Point) → IsValid (Points ps) → g ≡ drawn (Points ps) → geometry_fault kinds.Point g ≡ None
 points_faultless g ps valid spelled =
-    let may : MayDraw kinds.Point MoveTo (length ps) origin ps = record { allowed = grind (arith, nat_tests, valid.0); pairs = refl; places = valid.2; small_steps = valid.3; apart = λ e. cc } in
+    let may : MayDraw kinds.Point MoveTo (length ps) origin ps =
+    record {
+      allowed = grind (arith, nat_tests, valid.0);
+      pairs = refl;
+      places = valid.2;
+      small_steps = valid.3;
+      apart = λ e. cc;
+    } in
     let r = first_command kinds.Point g in
-    let whole : drop 0 g ≡ (1 + 8 * length ps) ∷ (path_from origin ps ++ []) = spelled ∙ ap (λ xs. (1 + 8 * length ps) ∷ xs) (sym (append-nil (path_from origin ps))) in
+    let whole : drop 0 g ≡ (1 + 8 * length ps) ∷ (path_from origin ps ++ []) =
+    spelled ∙ ap (λ xs. (1 + 8 * length ps) ∷ xs) (sym (append-nil (path_from origin ps))) in
     let next = command_drawn r MoveTo refl (length ps) ps may [] whole (no_ring kinds.Point g 0 0 (λ same. cc)) in
     let rest = rest_drawn r MoveTo refl (length ps) ps may [] whole in
     may_end (λ same. cc) next (omega (arith, length-drop (0 + 1 + 2 * length ps) g, ap length rest)) refl (λ same. cc)
 
-lines_faultless : (g : List ℕ) (ls : List (List Point)) → IsValid (Lines ls) → g ≡ drawn (Lines ls) → geometry_fault kinds.LineString g ≡ None
+lines_faultless : (g : List ℕ) (ls : List (List Point)) → IsValid (Lines ls) → g ≡ drawn (Lines ls)
+    → geometry_fault kinds.LineString g ≡ None
 lines_faultless g ls valid spelled =
     lines_drawn g ls 0 0 origin (first_command kinds.LineString g) refl (omega (arith, valid.0)) valid.1 valid.2 (spelled)
 
-fine_first : (polygons : List Polygon) → Grouped (rings_of polygons) polygons → (0 < length (rings_of polygons)) × HasFineFirst (rings_of polygons)
+fine_first : (polygons : List Polygon) → Grouped (rings_of polygons) polygons
+    → (0 < length (rings_of polygons)) × HasFineFirst (rings_of polygons)
 fine_first [] h = absurd h
 fine_first (p ∷ polygons) h = (omega arith, h.1)
 
-polygons_faultless : (g : List ℕ) (polygons : List Polygon) → IsValid (Polygons polygons) → g ≡ drawn (Polygons polygons) → geometry_fault kinds.Polygon g ≡ None
+polygons_faultless : (g : List ℕ) (polygons : List Polygon) → IsValid (Polygons polygons) → g ≡ drawn (Polygons polygons)
+    → geometry_fault kinds.Polygon g ≡ None
 polygons_faultless g polygons valid spelled =
     let rings = rings_of polygons in
     let fine = fine_first polygons valid.0 in
-    rings_drawn g rings 0 0 origin (first_command kinds.Polygon g) refl (omega (arith, fine.0)) (λ z. (refl, fine.1)) valid.1 valid.2 (spelled)
+    rings_drawn g rings 0 0 origin (first_command kinds.Polygon g) refl (omega (arith, fine.0)) (λ z. (refl, fine.1)) valid.1
+    valid.2 (spelled)
 
 pub drawn_faultless : (kind : Kind) (g : List ℕ) (geometry : Geometry) → Draws kind g geometry → geometry_fault kind g ≡ None
 drawn_faultless kind g (Unknown integers) d = rw d.same_kind (unknown_calm g)
@@ -75,24 +86,42 @@ points_there g small none =
     let over : length g ≤ end = by_place end found.next (cases_lt end (length g)) in
     let long : length ps ≡ found.count = found.may.pairs in
     let some : 0 < found.count = let allowed = found.may.allowed in grind (arith, nat_tests) in
-    let spelled : g ≡ (1 + 8 * length ps) ∷ path ps = found.spelled ∙ ap₂ (λ n xs. (1 + 8 * n) ∷ (path_from origin ps ++ xs)) (sym long) (drop_all end g over) ∙ ap (λ xs. (1 + 8 * length ps) ∷ xs) (append-nil (path_from origin ps)) in
-    (Points ps, record { same_kind = refl; valid = (omega (arith, long, some), omega (arith, long, found.few), found.may.places, found.may.small_steps); spelled = spelled })
+    let spelled : g ≡ (1 + 8 * length ps) ∷ path ps =
+    found.spelled ∙ ap₂ (λ n xs. (1 + 8 * n) ∷ (path_from origin ps ++ xs)) (sym long) (drop_all end g over)
+    ∙ ap (λ xs. (1 + 8 * length ps) ∷ xs) (append-nil (path_from origin ps)) in (
+      Points ps,
+      record {
+        same_kind = refl;
+        valid = (omega (arith, long, some), omega (arith, long, found.few), found.may.places, found.may.small_steps);
+        spelled = spelled;
+      },
+    )
   where
     by_place : (s : ℕ) {c : Point} → Reached kinds.Point g 1 s c → (s < length g) ⊎ (length g ≤ s) → length g ≤ s
     by_place s r (inl h) = absurd (some_none (s, causes.Command) (sym (one_command r h) ∙ none))
     by_place s r (inr h) = h
 
-lines_there : (g : List ℕ) → AreSmall g → geometry_fault kinds.LineString g ≡ None → (geometry : Geometry) × Draws kinds.LineString g geometry
+lines_there : (g : List ℕ) → AreSmall g → geometry_fault kinds.LineString g ≡ None
+    → (geometry : Geometry) × Draws kinds.LineString g geometry
 lines_there g small none =
-    let found = lines_found g none small (length g) 0 0 origin (omega arith) (first_command kinds.LineString g) refl in
-    (Lines found.lines, record { same_kind = refl; valid = (found.some (not_empty kinds.LineString g (λ same. cc) none), found.are, found.small_steps); spelled = found.spelled })
+    let found = lines_found g none small (length g) 0 0 origin (omega arith) (first_command kinds.LineString g) refl in (
+      Lines found.lines,
+      record {
+        same_kind = refl;
+        valid = (found.some (not_empty kinds.LineString g (λ same. cc) none), found.are, found.small_steps);
+        spelled = found.spelled;
+      },
+    )
 
 polygons_there : (g : List ℕ) → AreSmall g → geometry_fault kinds.Polygon g ≡ None → (geometry : Geometry) × Draws kinds.Polygon g geometry
 polygons_there g small none =
     let found = rings_found g none small (length g) 0 0 origin (omega arith) (first_command kinds.Polygon g) refl in
-    by_rings found.rings found.are found.small_steps found.spelled (found.some (not_empty kinds.Polygon g (λ same. cc) none)) (found.fine refl refl)
+    by_rings found.rings found.are found.small_steps found.spelled (found.some (not_empty kinds.Polygon g (λ same. cc) none))
+    (found.fine refl refl)
   where
-    by_rings : (rings : List (List Point)) → AllByRecursion (IsStroke 3) rings → AreSteps origin (joined rings) → g ≡ strokes (15 ∷ []) origin rings → 0 < length rings → HasFineFirst rings → (geometry : Geometry) × Draws kinds.Polygon g geometry
+    by_rings : (rings : List (List Point)) → AllByRecursion (IsStroke 3) rings → AreSteps origin (joined rings)
+        → g ≡ strokes (15 ∷ []) origin rings → 0 < length rings → HasFineFirst rings
+        → (geometry : Geometry) × Draws kinds.Polygon g geometry
     by_rings [] are small spelled some fine = absurd (omega (arith, some))
     by_rings (ring ∷ rings) are small spelled some fine =
         let grouped = rings_grouped ring rings fine in
@@ -101,7 +130,11 @@ polygons_there g small none =
           Polygons polygons,
           record {
             same_kind = refl;
-            valid = (subst (λ rs. Grouped rs polygons) whole grouped, subst (AllByRecursion (IsStroke 3)) whole are, subst (λ rs. AreSteps origin (joined rs)) whole small);
+            valid = (
+              subst (λ rs. Grouped rs polygons) whole grouped,
+              subst (AllByRecursion (IsStroke 3)) whole are,
+              subst (λ rs. AreSteps origin (joined rs)) whole small,
+            );
             spelled = spelled ∙ ap (strokes (15 ∷ []) origin) whole;
           },
         )

@@ -1,7 +1,8 @@
 -- Commands and their parameters (Mapbox Vector Tile Specification 2.1, 4.3.1 to 4.3.4), as places in a
 -- list of integers.
-use Rattle.std.specs.Prelude.{ℕ, zero, suc, ◌+◌, ◌*◌, ◌/◌, ◌%◌, ◌==◌, ◌||◌, nat_lt, Bool, true, false, if◌then◌else◌, ℤ, pos, negsuc, ◌+ℤ◌, List, [], ◌∷◌, ◌++◌, length, take, drop, slice_index, Option, Some, None, option_and_then}
+use Rattle.std.specs.Prelude.{ℕ, zero, suc, ◌+◌, ◌*◌, ◌/◌, ◌%◌, ◌==◌, ◌||◌, nat_lt, Bool, true, false, if◌then◌else◌, ◌+ℤ◌, List, [], ◌∷◌, ◌++◌, length, take, drop, slice_index, Option, Some, None, option_and_then}
 use Rattle.std.specs.Option.{option_map_or}
+use Rattle.mvt_wire.specs.Zigzag.{unzig}
 use Rattle.mvt_geometry.specs.declared.shape.Point.{Point}
 use Rattle.mvt_geometry.specs.declared.shape.Kind.{Kind}
 use Rattle.mvt_geometry.specs.declared.shape.Kind.TheVariants as kinds
@@ -68,11 +69,7 @@ start kind g (suc k) =
 unfoldable pub moves : Kind → List ℕ → ℕ → List Pair
 moves kind g k = option_map_or (λ s. pairs_at (due kind k) g s) (start kind g k) []
 
--- 4.3.2: the number that a parameter stands for
-abbrev pub unzig : ℕ → ℤ
-unzig n = if n % 2 == 0 then pos (n / 2) else negsuc (n / 2)
-
--- the cursor after one pair
+-- 4.3.2: the cursor after one pair, whose parameters are zigzag codes
 abbrev pub stepped : Point → Pair → Point
 stepped c d = record { x = c.x +ℤ unzig d.dx; y = c.y +ℤ unzig d.dy }
 

@@ -1,10 +1,11 @@
 //! The integers that draw a geometry (sections 4.3.1 to 4.3.4).
 ghost use Rattle.std.specs.Prelude.{◌≡◌, ◌<◌, ◌+◌, ◌*◌, ◌≤◌, ◌^◌, Bool, if◌then◌else◌, List, [], ◌∷◌, ◌++◌, length, ℕ, IfOk, OnOk, OnErr};
 ghost use Rattle.std.specs.List.{AllByRecursion};
+ghost use Rattle.mvt_base.specs.Related.{Extends};
 ghost use Rattle.mvt_geometry.specs.Shape.{kind_of, AreSteps, origin, joined, rings_of, last_of};
 ghost use Rattle.mvt_geometry.specs.Valid.{IsValid};
 ghost use Rattle.mvt_geometry.specs.Drawing.{path_from, drawn, Draws, stroke, strokes};
-ghost use Rattle.mvt_geometry.specs.Inner.Putting.{ending, AreShort, IsShort, BeginsWith};
+ghost use Rattle.mvt_geometry.specs.Inner.Putting.{ending, AreShort, IsShort};
 
 use crate::judge::ORIGIN;
 use crate::shape::{Geometry, Point, Polygon};
@@ -59,7 +60,7 @@ pub fn append_geometry<N: NumberList>(
 /// Appends integers as they are.
 fn put_kept<N: NumberList>(integers: &mut N, kept: &[u32]) -> Result<(), AllocError>
     ensures integers { OnOk result (N.numbers integers.new ≡ N.numbers integers.old ++ kept.now) }
-    ensures left { OnErr result (BeginsWith (N.numbers integers.old) (N.numbers integers.new)) }
+    ensures left { OnErr result (Extends (N.numbers integers.old) (N.numbers integers.new)) }
 {
     integers.reserve_numbers(kept.len())?;
     for integer in kept {
@@ -73,7 +74,7 @@ fn put_polygons<N: NumberList>(integers: &mut N, polygons: &[Polygon]) -> Result
     requires short { AreShort (rings_of polygons.now) }
     ensures integers { OnOk result (N.numbers integers.new
         ≡ N.numbers integers.old ++ strokes (15 ∷ []) origin (rings_of polygons.now)) }
-    ensures left { OnErr result (BeginsWith (N.numbers integers.old) (N.numbers integers.new)) }
+    ensures left { OnErr result (Extends (N.numbers integers.old) (N.numbers integers.new)) }
 {
     let mut cursor = ORIGIN;
     for polygon in polygons {
@@ -94,7 +95,7 @@ fn put_lines<N: NumberList>(
     requires short { AreShort lines.now }
     ensures integers { OnOk result (N.numbers integers.new
         ≡ N.numbers integers.old ++ strokes (ending are_rings) from lines.now) }
-    ensures left { OnErr result (BeginsWith (N.numbers integers.old) (N.numbers integers.new)) }
+    ensures left { OnErr result (Extends (N.numbers integers.old) (N.numbers integers.new)) }
     ensures last { IfOk result (λ last. last ≡ last_of from (joined lines.now)) }
 {
     let mut cursor = from;
@@ -114,7 +115,7 @@ fn put_line<N: NumberList>(
     requires steps { AreSteps from line.now }
     requires short { IsShort line.now }
     ensures integers { OnOk result (N.numbers integers.new ≡ N.numbers integers.old ++ stroke (ending is_ring) from line.now) }
-    ensures left { OnErr result (BeginsWith (N.numbers integers.old) (N.numbers integers.new)) }
+    ensures left { OnErr result (Extends (N.numbers integers.old) (N.numbers integers.new)) }
     ensures last { IfOk result (λ last. last ≡ last_of from line.now) }
 {
     let (first, others) = line.split_at(1);
@@ -137,7 +138,7 @@ fn put_path<N: NumberList>(
 ) -> Result<Point, AllocError>
     requires { AreSteps from points.now }
     ensures integers { OnOk result (N.numbers integers.new ≡ N.numbers integers.old ++ path_from from points.now) }
-    ensures left { OnErr result (BeginsWith (N.numbers integers.old) (N.numbers integers.new)) }
+    ensures left { OnErr result (Extends (N.numbers integers.old) (N.numbers integers.new)) }
     ensures last { IfOk result (λ last. last ≡ last_of from points.now) }
 {
     let mut cursor = from;

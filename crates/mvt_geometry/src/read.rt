@@ -6,7 +6,7 @@ ghost use Rattle.mvt_geometry.specs.Commands.{pairs_of, moved, positions};
 ghost use Rattle.mvt_geometry.specs.Table.{geometry_fault};
 ghost use Rattle.mvt_geometry.specs.Tells.{Tells};
 ghost use Rattle.mvt_geometry.specs.Inner.Judging.{part_count};
-ghost use Rattle.mvt_geometry.specs.Inner.Building.{ArePlaces, IsFront, AreLines, AreRings};
+ghost use Rattle.mvt_geometry.specs.Inner.Building.{ArePlaces, IsFront, SpellLines, SpellRings};
 ghost use Rattle.mvt_geometry.specs.Inner.Grouping.{opened, polygons_of};
 
 use crate::area::twice_area;
@@ -69,8 +69,8 @@ fn build_lines(
     integers: &[u32],
     count: usize,
 ) -> Result<Vec<Items<Point>>, AllocError>
-    requires { (ls : List (List Point)) × AreLines [] origin integers.now ls × (count ≡ length ls) }
-    ensures { (ls : List (List Point)) → AreLines [] origin integers.now ls → IfOk result (λ r. r.items ≡ ls) }
+    requires { (ls : List (List Point)) × SpellLines [] origin integers.now ls × (count ≡ length ls) }
+    ensures { (ls : List (List Point)) → SpellLines [] origin integers.now ls → IfOk result (λ r. r.items ≡ ls) }
 {
     let mut lines = Vec::with_capacity(alloc, count)?;
     let mut cursor = ORIGIN;
@@ -85,8 +85,8 @@ fn build_lines(
 }
 
 fn build_polygons(alloc: Global, integers: &[u32], count: usize) -> Result<Vec<Polygon>, AllocError>
-    requires { (rings : List (List Point)) × AreRings integers.now rings × (count ≡ length (polygons_of rings)) }
-    ensures { (rings : List (List Point)) → AreRings integers.now rings
+    requires { (rings : List (List Point)) × SpellRings integers.now rings × (count ≡ length (polygons_of rings)) }
+    ensures { (rings : List (List Point)) → SpellRings integers.now rings
         → IfOk result (λ r. r.items ≡ polygons_of rings) }
 {
     let first = build_ring(alloc, ORIGIN, integers)?;

@@ -1,2 +1,2 @@
 pub mod IoLaws
-pub mod Fronts
+mod Fronts

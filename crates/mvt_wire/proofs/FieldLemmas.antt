@@ -34,16 +34,21 @@ front_number n b long =
 -- ---- the payload, from the function to the relation
 
 abbrev pub LoadMeans : ℕ → List ℕ → Result Load WireCause → Type 0
-LoadMeans w b (Ok l) = (w ≡ wire_type l.content) × (l.size ≤ length b) × IsPayload (take l.size b) l.content × (l.start + body_size (take l.size b) l.content ≡ l.size)
+LoadMeans w b (Ok l) =
+    (w ≡ wire_type l.content) × (l.size ≤ length b) × IsPayload (take l.size b) l.content
+    × (l.start + body_size (take l.size b) l.content ≡ l.size)
 LoadMeans w b (Err c) = IsPayloadCause w b c
 
-pub load_varint : (w : ℕ) (b : List ℕ) → w ≡ 0 → LoadMeans w b (number_at b >>= λ n. Ok (record { content = varint n.0; start = 0; size = n.1 }))
+pub load_varint : (w : ℕ) (b : List ℕ) → w ≡ 0
+    → LoadMeans w b (number_at b >>= λ n. Ok (record { content = varint n.0; start = 0; size = n.1 }))
 load_varint w b is =
     then_holds (LoadMeans w b) (number_at b) _
     (λ n e. let seen = number_seen b n.0 n.1 e in (is, seen.1, seen.2, zero-add _ ∙ length-take-le n.1 b seen.1))
     (λ c e. let none = number_none b c e in no_varint is none.0 none.1)
 
-pub load_eight : (w : ℕ) (b : List ℕ) → w ≡ 1 → LoadMeans w b (cond (ltb (length b) 8) (Err Truncated) (Ok (record { content = fixed64 (little_number 8 b); start = 0; size = 8 })))
+pub load_eight : (w : ℕ) (b : List ℕ) → w ≡ 1
+    → LoadMeans w b
+    (cond (ltb (length b) 8) (Err Truncated) (Ok (record { content = fixed64 (little_number 8 b); start = 0; size = 8 })))
 load_eight w b is =
     cond_both (ltb (length b) 8) _ _ (LoadMeans w b)
     (λ e. no_eight is (ltb-true _ _ e) refl)
@@ -51,7 +56,9 @@ load_eight w b is =
     let size : length (take 8 b) ≡ 8 = length-take-le 8 b long in
     (is, long, (size, front_number 8 b long), zero-add _ ∙ size))
 
-pub load_four : (w : ℕ) (b : List ℕ) → w ≡ 5 → LoadMeans w b (cond (ltb (length b) 4) (Err Truncated) (Ok (record { content = fixed32 (little_number 4 b); start = 0; size = 4 })))
+pub load_four : (w : ℕ) (b : List ℕ) → w ≡ 5
+    → LoadMeans w b
+    (cond (ltb (length b) 4) (Err Truncated) (Ok (record { content = fixed32 (little_number 4 b); start = 0; size = 4 })))
 load_four w b is =
     cond_both (ltb (length b) 4) _ _ (LoadMeans w b)
     (λ e. no_four is (ltb-true _ _ e) refl)
@@ -135,7 +142,9 @@ entry_means at b =
 
 -- ---- the payload, from the relation to the function
 
-pub bytes_there : (b size d back : List ℕ) → b ≡ size ++ (d ++ back) → bytes_at b (pair_of (length d) (length size)) ≡ Ok (record { content = bytes d; start = length size; size = length size + length d })
+pub bytes_there : (b size d back : List ℕ) → b ≡ size ++ (d ++ back)
+    → bytes_at b (pair_of (length d) (length size))
+    ≡ Ok (record { content = bytes d; start = length size; size = length size + length d })
 bytes_there b size d back joined =
     let rest : drop (length size) b ≡ d ++ back = ap (drop (length size)) joined ∙ drop-append_seam size (d ++ back) in
     let room : length (drop (length size) b) ≡ length d + length back = ap length rest ∙ length-append d back in
@@ -173,7 +182,8 @@ load_front payload back (fixed64 n) p =
     }
 load_front payload back (bytes d) p =
     let joined : payload ++ back ≡ p.0 ++ (d ++ back) = ap (λ s. s ++ back) p.2 ∙ append_assoc p.0 d back in
-    let number : number_at (payload ++ back) ≡ Ok (length d, length p.0) = ap number_at joined ∙ number_spelled p.0 (d ++ back) (length d) p.1 in
+    let number : number_at (payload ++ back) ≡ Ok (length d, length p.0) =
+    ap number_at joined ∙ number_spelled p.0 (d ++ back) (length d) p.1 in
     let size : length payload ≡ length p.0 + length d = ap length p.2 ∙ length-append p.0 d in
     record {
       load = record { content = bytes d; start = length p.0; size = length p.0 + length d };
@@ -197,7 +207,8 @@ load_front payload back (fixed32 n) p =
 pub load_cause : (w : ℕ) (b : List ℕ) (c : WireCause) → IsPayloadCause w b c → load_at w b ≡ Err c
 unfolding load_at
 load_cause w b c (no_type n0 n1 n2 n5 is) =
-    cond-false _ _ _ (ne_eqb w 0 n0) ∙ cond-false _ _ _ (ne_eqb w 1 n1) ∙ cond-false _ _ _ (ne_eqb w 2 n2) ∙ cond-false _ _ _ (ne_eqb w 5 n5) ∙ ap Err (sym is)
+    cond-false _ _ _ (ne_eqb w 0 n0) ∙ cond-false _ _ _ (ne_eqb w 1 n1) ∙ cond-false _ _ _ (ne_eqb w 2 n2)
+    ∙ cond-false _ _ _ (ne_eqb w 5 n5) ∙ ap Err (sym is)
 load_cause w b c (no_varint is none cause) =
     ap (λ k. load_at k b) is
     ∙ ap (λ (r : Result (ℕ × ℕ) WireCause). r >>= λ (k : ℕ × ℕ). let l : Result Load WireCause = Ok (record { content = varint k.0; start = 0; size = k.1 }) in l) (number_none_from b none)
@@ -208,19 +219,22 @@ load_cause w b c (past_end size rest n is joined spells short cause) =
     let number : number_at b ≡ Ok (n, length size) = ap number_at joined ∙ number_spelled size rest n spells in
     let left : drop (length size) b ≡ rest = ap (drop (length size)) joined ∙ drop-append_seam size rest in
     let few : length (drop (length size) b) < n = subst (λ (s : List ℕ). length s < n) (sym left) short in
-    ap (λ k. load_at k b) is ∙ ap (λ (r : Result (ℕ × ℕ) WireCause). r >>= bytes_at b) number ∙ cond-true _ _ _ (lt-ltb _ _ few) ∙ ap Err (sym cause)
+    ap (λ k. load_at k b) is ∙ ap (λ (r : Result (ℕ × ℕ) WireCause). r >>= bytes_at b) number ∙ cond-true _ _ _ (lt-ltb _ _ few)
+    ∙ ap Err (sym cause)
 load_cause w b c (no_eight is short cause) = ap (λ k. load_at k b) is ∙ cond-true _ _ _ (lt-ltb _ _ short) ∙ ap Err (sym cause)
 load_cause w b c (no_four is short cause) = ap (λ k. load_at k b) is ∙ cond-true _ _ _ (lt-ltb _ _ short) ∙ ap Err (sym cause)
 
 -- ---- the field, from the relation to the function
 
-pub tag_there : (at : ℕ) (b : List ℕ) (n k : ℕ) → 8 ≤ n → n < 2 ^ 32 → field_with_tag at b (pair_of n k) ≡ (load_at (n % 8) (drop k b) >>= λ load. Ok (entry_with at (pair_of n k) load))
+pub tag_there : (at : ℕ) (b : List ℕ) (n k : ℕ) → 8 ≤ n → n < 2 ^ 32
+    → field_with_tag at b (pair_of n k) ≡ (load_at (n % 8) (drop k b) >>= λ load. Ok (entry_with at (pair_of n k) load))
 tag_there at b n k low high = cond-false _ _ _ (le-ltb _ _ low) ∙ cond-false _ _ _ (lt-leb _ _ high)
 
 abbrev pub found_with : ℕ → ℕ → ℕ → Content → ℕ → Entry × ℕ
 found_with at body number content size = (record { at = at; body = body; number = number; content = content }, size)
 
-pub same_entry : {a a' b b' n n' k k' : ℕ} {c c' : Content} → a ≡ a' → b ≡ b' → n ≡ n' → c ≡ c' → k ≡ k' → found_with a b n c k ≡ found_with a' b' n' c' k'
+pub same_entry : {a a' b b' n n' k k' : ℕ} {c c' : Content} → a ≡ a' → b ≡ b' → n ≡ n' → c ≡ c' → k ≡ k'
+    → found_with a b n c k ≡ found_with a' b' n' c' k'
 same_entry {a = a} {a' = a'} {b = b} {b' = b'} {n = n} {n' = n'} {k = k} {c = c} {c' = c'} ea eb en ec ek =
     ap (λ x. found_with x b n c k) ea ∙ ap (λ x. found_with a' x n c k) eb ∙ ap (λ x. found_with a' b' x c k) en
     ∙ ap (λ x. found_with a' b' n' x k) ec ∙ ap (λ x. found_with a' b' n' c' x) ek
@@ -233,13 +247,16 @@ entry_front at front back e f =
     let payload : List ℕ = field.payload in
     let n : ℕ = 8 * e.number + wire_type e.content in
     let joined : front ++ back ≡ tag ++ (payload ++ back) = ap (λ s. s ++ back) field.joined ∙ append_assoc tag payload back in
-    let number : number_at (front ++ back) ≡ Ok (pair_of n (length tag)) = ap number_at joined ∙ number_spelled tag (payload ++ back) n field.tagged in
-    let left : drop (length tag) (front ++ back) ≡ payload ++ back = ap (drop (length tag)) joined ∙ drop-append_seam tag (payload ++ back) in
+    let number : number_at (front ++ back) ≡ Ok (pair_of n (length tag)) =
+    ap number_at joined ∙ number_spelled tag (payload ++ back) n field.tagged in
+    let left : drop (length tag) (front ++ back) ≡ payload ++ back =
+    ap (drop (length tag)) joined ∙ drop-append_seam tag (payload ++ back) in
     let small : wire_type e.content < 8 = wire_type_small e.content in
     let kind : n % 8 ≡ wire_type e.content = omega arith in
     let one : 1 ≤ e.number = field.numbered in
     let loaded = load_front payload back e.content field.carries in
-    let load : load_at (n % 8) (drop (length tag) (front ++ back)) ≡ Ok loaded.load = ap (λ k. load_at k (drop (length tag) (front ++ back))) kind ∙ ap (load_at (wire_type e.content)) left ∙ loaded.is in
+    let load : load_at (n % 8) (drop (length tag) (front ++ back)) ≡ Ok loaded.load =
+    ap (λ k. load_at k (drop (length tag) (front ++ back))) kind ∙ ap (load_at (wire_type e.content)) left ∙ loaded.is in
     let size : length front ≡ length tag + length payload = ap length field.joined ∙ length-append tag payload in
     let loads : loaded.load.size ≡ length payload = loaded.size in
     let starts : loaded.load.start + body_size payload e.content ≡ length payload = loaded.ends in
@@ -251,7 +268,8 @@ entry_front at front back e f =
 
 pub entry_cause : (at : ℕ) (b : List ℕ) (c : WireCause) → IsRestCause b c → entry_at at b ≡ Err c
 unfolding entry_at
-entry_cause at b c (no_tag none is) = ap (λ (r : Result (ℕ × ℕ) WireCause). r >>= field_with_tag at b) (number_none_from b none) ∙ ap Err (sym is)
+entry_cause at b c (no_tag none is) =
+    ap (λ (r : Result (ℕ × ℕ) WireCause). r >>= field_with_tag at b) (number_none_from b none) ∙ ap Err (sym is)
 entry_cause at b c (no_number tag after n joined spells why is) =
     ap (λ (r : Result (ℕ × ℕ) WireCause). r >>= field_with_tag at b) (ap number_at joined ∙ number_spelled tag after n spells)
     ∙ (elim why [
@@ -277,8 +295,10 @@ body_size-le payload (fixed32 n) p = omega arith
 pub placed : (at : ℕ) (b : List ℕ) (number : ℕ) (c : Content) → IsField b number c → (e : Entry) × IsFieldAt at b e
 placed at b number c f =
     let least : body_size f.payload c ≤ length f.payload = body_size-le f.payload c f.carries in
-    let size : length b ≡ length f.tag + length f.payload = ap length f.joined ∙ length-append f.tag f.payload in
-    (record { at = at; body = (at + length b) - body_size f.payload c; number = number; content = c }, record { field = f; begins = refl; ends = omega arith })
+    let size : length b ≡ length f.tag + length f.payload = ap length f.joined ∙ length-append f.tag f.payload in (
+      record { at = at; body = (at + length b) - body_size f.payload c; number = number; content = c },
+      record { field = f; begins = refl; ends = omega arith },
+    )
 
 pub entry_none : (at : ℕ) (b : List ℕ) (c : WireCause) → entry_at at b ≡ Err c → StartsNoField b
 entry_none at b c e front back number content joined f =

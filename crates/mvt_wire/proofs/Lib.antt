@@ -1,9 +1,11 @@
 pub mod WireLaws
-pub mod FieldLemmas
-pub mod PackedLemmas
-pub mod PackedNumbersLemmas
-pub mod ShortLemmas
-pub mod SpellingLemmas
-pub mod SplitLemmas
-pub mod StepLemmas
-pub mod VarintLemmas
+mod FieldLemmas
+mod PackedLemmas
+mod PackedNumbersLemmas
+mod PieceLemmas
+mod ShortLemmas
+mod SpellingLemmas
+mod SplitLemmas
+mod StepLemmas
+mod VarintLemmas
+mod ZigzagLemmas

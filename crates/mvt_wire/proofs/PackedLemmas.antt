@@ -1,5 +1,5 @@
 -- Packed numbers: that the function `packed` is the relation `SplitNumbers`, and what their rules say.
-use Rattle.std.proofs.Common.{◌≡◌, ◌≢◌, ℕ, zero, suc, ◌+◌, ◌-◌, ◌*◌, ◌^◌, ◌<◌, ◌≤◌, ◌⊎◌, inl, inr, Bool, true, false, not, cond, ltb, eqb, get_or, List, [], ◌∷◌, ◌++◌, length, take, drop, Option, None, Some, Result, Ok, Err, refl, sym, ap, subst, ◌∙◌, arith, append_assoc, append-nil, lt-ltb, le-ltb, eqb-true}
+use Rattle.std.proofs.Common.{◌≡◌, ◌≢◌, ℕ, zero, suc, ◌+◌, ◌-◌, ◌*◌, ◌^◌, ◌<◌, ◌≤◌, ◌⊎◌, inl, inr, Bool, true, false, not, cond, ltb, eqb, get_or, List, [], ◌∷◌, ◌++◌, length, take, drop, Option, None, Some, Ok, Err, refl, sym, ap, subst, ◌∙◌, arith, append_assoc, append-nil, lt-ltb, le-ltb, eqb-true}
 use Rattle.std.specs.List.{AllByRecursion, flat_map}
 use Rattle.std.proofs.lemmas.Bool.{cases_lt, eqb-false}
 use Rattle.std.proofs.lemmas.List.{length-append, length-drop, take-append-drop, take_rest, take_more, nil_from_length}
@@ -17,6 +17,7 @@ use Rattle.mvt_wire.specs.Fronts.{number_at}
 use Rattle.mvt_wire.specs.Inner.{error_of}
 use Rattle.mvt_wire.specs.Packed.{ArePacked, SplitNumbers, Numbers, ahead, packed_within, packed, PackedCause, truncated, varint_range, number_range, number_cause, is_nil, small_rules, packed_rules, TellsPacked}
 use Rattle.mvt_wire.specs.Spelling.{short_numbers}
+use Rattle.mvt_wire.proofs.PieceLemmas.{Takes, all_step, induct}
 use Rattle.mvt_wire.proofs.VarintLemmas.{number_spelled, number_seen, number_none, number_none_from}
 use Rattle.mvt_wire.proofs.ShortLemmas.{short_spells, short_length}
 use Rattle.mvt_wire.proofs.StepLemmas.{nil_spells}
@@ -29,7 +30,8 @@ no_numbers b = record { numbers = []; rest = b }
 
 -- ---- one step of the function
 
-within_step : (k : ℕ) (b : List ℕ) (found : ℕ × ℕ) → number_at b ≡ Ok found → packed_within (suc k) b ≡ ahead found.0 (packed_within k (drop found.1 b))
+within_step : (k : ℕ) (b : List ℕ) (found : ℕ × ℕ) → number_at b ≡ Ok found
+    → packed_within (suc k) b ≡ ahead found.0 (packed_within k (drop found.1 b))
 unfolding packed_within
 within_step k b found e = rw (e, packed_within) refl
 
@@ -41,24 +43,9 @@ within_stop (suc k) b c e = rw (e, packed_within) refl
 found_size : (b : List ℕ) (found : ℕ × ℕ) → number_at b ≡ Ok found → (1 ≤ found.1) × (found.1 ≤ length b)
 found_size b found e = let seen = number_seen b found.0 found.1 e in (seen.0, seen.1)
 
-fuel_by : (m n : ℕ) (b : List ℕ) (r : Result (ℕ × ℕ) WireCause) → number_at b ≡ r → length b ≤ suc m → length b ≤ suc n
-    → ((b' : List ℕ) → length b' ≤ m → length b' ≤ n → packed_within m b' ≡ packed_within n b')
-    → packed_within (suc m) b ≡ packed_within (suc n) b
-fuel_by m n b (Ok found) e hm hn rec =
-    let size = found_size b found e in
-    let some : 1 ≤ found.1 = size.0 in
-    let rest : length (drop found.1 b) ≡ length b - found.1 = length-drop found.1 b in
-    within_step m b found e ∙ ap (ahead found.0) (rec (drop found.1 b) (omega arith) (omega arith)) ∙ sym (within_step n b found e)
-fuel_by m n b (Err c) e hm hn rec = within_stop (suc m) b c e ∙ sym (within_stop (suc n) b c e)
-
-nil_stops : (k : ℕ) (b : List ℕ) (r : Result (ℕ × ℕ) WireCause) → number_at b ≡ r → length b ≤ 0 → packed_within k b ≡ no_numbers b
-nil_stops k b (Ok found) e h = absurd (let size = found_size b found e in omega (arith, size.0, size.1))
-nil_stops k b (Err c) e h = within_stop k b c e
-
-packed_fuel : (m n : ℕ) (b : List ℕ) → length b ≤ m → length b ≤ n → packed_within m b ≡ packed_within n b
-packed_fuel zero n b hm hn = nil_stops zero b (number_at b) refl hm ∙ sym (nil_stops n b (number_at b) refl hm)
-packed_fuel (suc m) zero b hm hn = nil_stops (suc m) b (number_at b) refl hn ∙ sym (nil_stops zero b (number_at b) refl hn)
-packed_fuel (suc m) (suc n) b hm hn = fuel_by m n b (number_at b) refl hm hn (λ b' hm' hn'. packed_fuel m n b' hm' hn')
+-- numbers have no places
+takes_numbers : Takes (λ _. number_at) ahead (λ _. no_numbers) (λ n _. packed_within n)
+takes_numbers = record { step = λ n _. within_step n; stop = λ n _. within_stop n; size = λ _. found_size }
 
 pub packed_stop : (b : List ℕ) (c : WireCause) → number_at b ≡ Err c → packed b ≡ no_numbers b
 unfolding packed
@@ -66,38 +53,23 @@ packed_stop b c e = within_stop (length b) b c e
 
 pub packed_step : (b : List ℕ) (found : ℕ × ℕ) → number_at b ≡ Ok found → packed b ≡ ahead found.0 (packed (drop found.1 b))
 unfolding packed
-packed_step b found e =
-    let size = found_size b found e in
-    let some : 1 ≤ found.1 = size.0 in
-    let rest : length (drop found.1 b) ≡ length b - found.1 = length-drop found.1 b in
-    packed_fuel (length b) (suc (length b)) b (omega arith) (omega arith)
-    ∙ within_step (length b) b found e
-    ∙ ap (ahead found.0) (packed_fuel (length b) (length (drop found.1 b)) (drop found.1 b) (omega arith) (omega arith))
+packed_step b found e = all_step (λ _. number_at) ahead (λ _. no_numbers) (λ n _. packed_within n) takes_numbers 0 b found e
 
 -- ---- the function and the relation
 
-is_by : (b : List ℕ) (r : Result (ℕ × ℕ) WireCause) → number_at b ≡ r → ((b' : List ℕ) → length b' < length b → SplitNumbers b' (packed b').numbers (packed b').rest)
-    → SplitNumbers b (packed b).numbers (packed b).rest
-is_by b (Ok found) e rec =
-    let seen = number_seen b found.0 found.1 e in
-    let some : 1 ≤ found.1 = seen.0 in
-    let within : found.1 ≤ length b = seen.1 in
-    let left : length (drop found.1 b) ≡ length b - found.1 = length-drop found.1 b in
-    subst (λ (p : Numbers). SplitNumbers b p.numbers p.rest) (sym (packed_step b found e))
-    (take found.1 b, drop found.1 b, sym (take-append-drop found.1 b), seen.2, rec (drop found.1 b) (omega arith))
-is_by b (Err c) e rec =
-    subst (λ (p : Numbers). SplitNumbers b p.numbers p.rest) (sym (packed_stop b c e)) (refl, (number_none b c e).0)
-
-is_within : (k : ℕ) (b : List ℕ) → length b ≤ k → SplitNumbers b (packed b).numbers (packed b).rest
-is_within zero b h = is_by b (number_at b) refl (λ b' less. absurd (omega arith))
-is_within (suc k) b h = is_by b (number_at b) refl (λ b' less. is_within k b' (omega arith))
-
 pub packed_is : (b : List ℕ) → SplitNumbers b (packed b).numbers (packed b).rest
-packed_is b = is_within (length b) b (omega arith)
+unfolding packed
+packed_is b =
+    induct (λ _. number_at) ahead (λ _. no_numbers) (λ n _. packed_within n) takes_numbers
+    (λ _ b p. SplitNumbers b p.numbers p.rest)
+    (λ _ b c e. (refl, (number_none b c e).0))
+    (λ _ b found e more. (take found.1 b, drop found.1 b, sym (take-append-drop found.1 b), (number_seen b found.0 found.1 e).2, more))
+    0 b
 
 pub packed_front : (front back : List ℕ) (n : ℕ) → Spells front n → packed (front ++ back) ≡ ahead n (packed back)
 packed_front front back n s =
-    packed_step (front ++ back) (n, length front) (number_spelled front back n s) ∙ ap (λ r. ahead n (packed r)) (drop-append_seam front back)
+    packed_step (front ++ back) (n, length front) (number_spelled front back n s)
+    ∙ ap (λ r. ahead n (packed r)) (drop-append_seam front back)
 
 pub packed_only : (b ns rest : List ℕ) → SplitNumbers b ns rest → packed b ≡ record { numbers = ns; rest = rest }
 packed_only b [] rest s = ap packed s.0 ∙ packed_stop rest _ (number_none_from rest s.1)
@@ -127,7 +99,8 @@ small_broken front n large = first-when _ _ (ap not (le-ltb n (2 ^ 32) large))
 pub each_clean : (front ns : List ℕ) → AllByRecursion IsSmall ns → first (each small_rules front ns) ≡ None
 each_clean front [] small = refl
 each_clean front (n ∷ ns) small =
-    first_back (under (length front) (small_rules front n)) _ (first-under (length front) (small_rules front n) ∙ small_clean front n small.0)
+    first_back (under (length front) (small_rules front n)) _
+    (first-under (length front) (small_rules front n) ∙ small_clean front n small.0)
     ∙ each_clean (front ++ n ∷ []) ns small.1
 
 small_by : (front : List ℕ) (n : ℕ) → (n < 2 ^ 32) ⊎ (2 ^ 32 ≤ n) → first (small_rules front n) ≡ None → IsSmall n
@@ -137,8 +110,12 @@ small_by front n (inr large) none = let broken = small_broken front n large in c
 pub clean_each : (front ns : List ℕ) → first (each small_rules front ns) ≡ None → AllByRecursion IsSmall ns
 clean_each front [] none = tt
 clean_each front (n ∷ ns) none =
-    let parts = option_or-nones _ _ (sym (first-append (under (length front) (small_rules front n)) (each small_rules (front ++ n ∷ []) ns)) ∙ none) in
-    (small_by front n (cases_lt n (2 ^ 32)) (sym (first-under (length front) (small_rules front n)) ∙ parts.0), clean_each (front ++ n ∷ []) ns parts.1)
+    let parts =
+    option_or-nones _ _
+    (sym (first-append (under (length front) (small_rules front n)) (each small_rules (front ++ n ∷ []) ns)) ∙ none) in (
+      small_by front n (cases_lt n (2 ^ 32)) (sym (first-under (length front) (small_rules front n)) ∙ parts.0),
+      clean_each (front ++ n ∷ []) ns parts.1,
+    )
 
 -- the rules of what `packed` gives
 abbrev pub rules_of : Numbers → Rules PackedCause
@@ -154,8 +131,15 @@ nil_by (b ∷ bs) none = cc
 
 pub clean_rules : (p : Numbers) → first (rules_of p) ≡ None → AllByRecursion IsSmall p.numbers × (p.rest ≡ [])
 clean_rules p none =
-    let parts = option_or-nones _ _ (sym (first-append (each small_rules [] p.numbers) (under (length p.numbers) (when (not (is_nil p.rest)) (number_cause p.rest)))) ∙ none) in
-    (clean_each [] p.numbers parts.0, nil_by p.rest (sym (first-under (length p.numbers) (when (not (is_nil p.rest)) (number_cause p.rest))) ∙ parts.1))
+    let parts =
+    option_or-nones _ _
+    (sym
+    (first-append (each small_rules [] p.numbers)
+    (under (length p.numbers) (when (not (is_nil p.rest)) (number_cause p.rest))))
+    ∙ none) in (
+      clean_each [] p.numbers parts.0,
+      nil_by p.rest (sym (first-under (length p.numbers) (when (not (is_nil p.rest)) (number_cause p.rest))) ∙ parts.1),
+    )
 
 pub rules_clean : (ns : List ℕ) → AllByRecursion IsSmall ns → first (rules_of (record { numbers = ns; rest = [] })) ≡ None
 rules_clean ns small = first_back (each small_rules [] ns) _ (each_clean [] ns small)
@@ -174,7 +158,8 @@ packed_are b ns p =
 pub packed_ordered : (b : List ℕ) → AreOrdered (packed_rules b)
 packed_ordered b =
     subst AreOrdered (sym (rules_is b))
-    (each_then small_rules [] (packed b).numbers _ (λ front n. when_ordered _ _) (under_ordered _ _ (when_ordered _ _)) (all_later _ (length (packed b).numbers) _ (omega arith) (under_from _ _)))
+    (each_then small_rules [] (packed b).numbers _ (λ front n. when_ordered _ _) (under_ordered _ _ (when_ordered _ _))
+    (all_later _ (length (packed b).numbers) _ (omega arith) (under_from _ _)))
 
 -- ---- short spellings are packed, and only so
 
@@ -192,42 +177,57 @@ packed_once b ns ms p q = sym (packed_are b ns p).1 ∙ (packed_are b ms q).1
 abbrev pub all_ahead : List ℕ → Numbers → Numbers
 all_ahead ns p = record { numbers = ns ++ p.numbers; rest = p.rest }
 
-pub read_more : (b rest read : List ℕ) (n k : ℕ) → packed b ≡ all_ahead read (packed rest) → number_at rest ≡ Ok (n, k) → packed b ≡ all_ahead (read ++ n ∷ []) (packed (drop k rest))
+pub read_more : (b rest read : List ℕ) (n k : ℕ) → packed b ≡ all_ahead read (packed rest) → number_at rest ≡ Ok (n, k)
+    → packed b ≡ all_ahead (read ++ n ∷ []) (packed (drop k rest))
 read_more b rest read n k is e =
     is ∙ ap (all_ahead read) (packed_step rest (n, k) e) ∙ ap (λ ns. let p : Numbers = record { numbers = ns; rest = (packed (drop k rest)).rest } in p) (sym (append_assoc read (n ∷ []) (packed (drop k rest)).numbers))
 
-pub read_clean : (read : List ℕ) (n : ℕ) → first (each small_rules [] read) ≡ None → IsSmall n → first (each small_rules [] (read ++ n ∷ [])) ≡ None
+pub read_clean : (read : List ℕ) (n : ℕ) → first (each small_rules [] read) ≡ None → IsSmall n
+    → first (each small_rules [] (read ++ n ∷ [])) ≡ None
 read_clean read n clean small = each_more small_rules read n clean ∙ small_clean read n small
 
-pub read_large : (b rest read : List ℕ) (n k : ℕ) → packed b ≡ all_ahead read (packed rest) → first (each small_rules [] read) ≡ None → number_at rest ≡ Ok (n, k) → 2 ^ 32 ≤ n → first (packed_rules b) ≡ Some number_range
+pub read_large : (b rest read : List ℕ) (n k : ℕ) → packed b ≡ all_ahead read (packed rest)
+    → first (each small_rules [] read) ≡ None → number_at rest ≡ Ok (n, k) → 2 ^ 32 ≤ n
+    → first (packed_rules b) ≡ Some number_range
 read_large b rest read n k is clean e large =
     let whole : packed b ≡ all_ahead read (ahead n (packed (drop k rest))) = is ∙ ap (all_ahead read) (packed_step rest (n, k) e) in
     ap first (rules_is b) ∙ ap (λ q. first (rules_of q)) whole
-    ∙ first_front (each small_rules [] (read ++ n ∷ (packed (drop k rest)).numbers)) _ number_range (each_stops small_rules read n (packed (drop k rest)).numbers number_range clean (small_broken read n large))
+    ∙ first_front (each small_rules [] (read ++ n ∷ (packed (drop k rest)).numbers)) _ number_range
+    (each_stops small_rules read n (packed (drop k rest)).numbers number_range clean (small_broken read n large))
 
 rest_broken : (rest : List ℕ) → rest ≢ [] → first (when (not (is_nil rest)) (number_cause rest)) ≡ Some (number_cause rest)
 rest_broken [] some = absurd (some refl)
 rest_broken (b ∷ bs) some = refl
 
-pub read_stops : (b rest read : List ℕ) (c : WireCause) → packed b ≡ all_ahead read (packed rest) → first (each small_rules [] read) ≡ None → number_at rest ≡ Err c → rest ≢ [] → first (packed_rules b) ≡ Some (number_cause rest)
+pub read_stops : (b rest read : List ℕ) (c : WireCause) → packed b ≡ all_ahead read (packed rest)
+    → first (each small_rules [] read) ≡ None → number_at rest ≡ Err c → rest ≢ []
+    → first (packed_rules b) ≡ Some (number_cause rest)
 read_stops b rest read c is clean e some =
-    let whole : packed b ≡ record { numbers = read; rest = rest } = is ∙ ap (all_ahead read) (packed_stop rest c e) ∙ ap (λ ns. let p : Numbers = record { numbers = ns; rest = rest } in p) (append-nil read) in
+    let whole : packed b ≡ record { numbers = read; rest = rest } =
+    is ∙ ap (all_ahead read) (packed_stop rest c e)
+    ∙ ap (λ ns. let p : Numbers = record { numbers = ns; rest = rest } in p) (append-nil read) in
     ap first (rules_is b) ∙ ap (λ q. first (rules_of q)) whole
-    ∙ first_back (each small_rules [] read) _ clean ∙ first-under (length read) (when (not (is_nil rest)) (number_cause rest)) ∙ rest_broken rest some
+    ∙ first_back (each small_rules [] read) _ clean ∙ first-under (length read) (when (not (is_nil rest)) (number_cause rest))
+    ∙ rest_broken rest some
 
-tells_by : (t : Bool) (o : Option PackedCause) → o ≡ Some (cond t truncated varint_range) → TellsPacked (error_of (cond t Truncated VarintRange)) o
+tells_by : (t : Bool) (o : Option PackedCause) → o ≡ Some (cond t truncated varint_range)
+    → TellsPacked (error_of (cond t Truncated VarintRange)) o
 tells_by true o e = e
 tells_by false o e = e
 
-pub read_tells : (b rest read : List ℕ) (c : WireCause) → packed b ≡ all_ahead read (packed rest) → first (each small_rules [] read) ≡ None → number_at rest ≡ Err c → rest ≢ [] → TellsPacked (error_of c) (first (packed_rules b))
+pub read_tells : (b rest read : List ℕ) (c : WireCause) → packed b ≡ all_ahead read (packed rest)
+    → first (each small_rules [] read) ≡ None → number_at rest ≡ Err c → rest ≢ []
+    → TellsPacked (error_of c) (first (packed_rules b))
 read_tells b rest read c is clean e some =
     subst (λ (k : WireCause). TellsPacked (error_of k) (first (packed_rules b))) (sym (number_none rest c e).1)
     (tells_by (ltb (length rest) 10) _ (read_stops b rest read c is clean e some))
 
-pub read_all : (b rest read : List ℕ) → packed b ≡ all_ahead read (packed rest) → first (each small_rules [] read) ≡ None → rest ≡ [] → (first (packed_rules b) ≡ None) × ((packed b).numbers ≡ read)
+pub read_all : (b rest read : List ℕ) → packed b ≡ all_ahead read (packed rest) → first (each small_rules [] read) ≡ None
+    → rest ≡ [] → (first (packed_rules b) ≡ None) × ((packed b).numbers ≡ read)
 read_all b rest read is clean end =
     let none : packed rest ≡ no_numbers [] = ap packed end ∙ packed_stop [] _ (number_none_from [] nil_spells) in
-    let whole : packed b ≡ record { numbers = read; rest = [] } = is ∙ ap (all_ahead read) none ∙ ap (λ ns. let p : Numbers = record { numbers = ns; rest = [] } in p) (append-nil read) in
+    let whole : packed b ≡ record { numbers = read; rest = [] } =
+    is ∙ ap (all_ahead read) none ∙ ap (λ ns. let p : Numbers = record { numbers = ns; rest = [] } in p) (append-nil read) in
     (ap first (rules_is b) ∙ ap (λ q. first (rules_of q)) whole ∙ first_back (each small_rules [] read) _ clean, ap (λ q. q.numbers) whole)
 
 -- the same of what a slice of the rest holds
@@ -238,7 +238,8 @@ read_smaller rest n k e =
     let within : k ≤ length rest = seen.1 in
     omega (arith, ap length (take_rest rest k), length-drop k rest)
 
-pub read_on : (b rest read : List ℕ) (n k : ℕ) → packed b ≡ all_ahead read (packed rest) → number_at rest ≡ Ok (n, k) → packed b ≡ all_ahead (read ++ n ∷ []) (packed (take (length rest - k) (drop k rest)))
+pub read_on : (b rest read : List ℕ) (n k : ℕ) → packed b ≡ all_ahead read (packed rest) → number_at rest ≡ Ok (n, k)
+    → packed b ≡ all_ahead (read ++ n ∷ []) (packed (take (length rest - k) (drop k rest)))
 read_on b rest read n k is e = read_more b rest read n k is e ∙ ap (λ r. all_ahead (read ++ n ∷ []) (packed r)) (sym (take_rest rest k))
 
 pub nil_from_test : (rest : List ℕ) (r : Bool) → r ≡ eqb (length rest) 0 → r ≡ true → rest ≡ []
@@ -257,32 +258,42 @@ pub five_each : (ns : List ℕ) → AllByRecursion IsSmall ns → length (short_
 five_each [] small = omega arith
 five_each (n ∷ ns) small = omega (arith, length-append (short n) (short_numbers ns), short_most_small n small.0, five_each ns small.1)
 
-pub short_numbers_more : (ns : List ℕ) (i : ℕ) → i < length ns → short_numbers (take (i + 1) ns) ≡ short_numbers (take i ns) ++ short (get_or ns i 0)
+pub short_numbers_more : (ns : List ℕ) (i : ℕ) → i < length ns
+    → short_numbers (take (i + 1) ns) ≡ short_numbers (take i ns) ++ short (get_or ns i 0)
 short_numbers_more ns i within =
-    ap (flat_map short) (take_more ns i 0 within) ∙ flat_map-append short (take i ns) (get_or ns i 0 ∷ []) ∙ ap (λ s. short_numbers (take i ns) ++ s) (append-nil (short (get_or ns i 0)))
+    ap (flat_map short) (take_more ns i 0 within) ∙ flat_map-append short (take i ns) (get_or ns i 0 ∷ [])
+    ∙ ap (λ s. short_numbers (take i ns) ++ s) (append-nil (short (get_or ns i 0)))
 
-pub length_step : (ns : List ℕ) (i len more n : ℕ) → i < length ns → n ≡ get_or ns i 0 → IsSmall n → len ≡ length (short_numbers (take i ns)) → len ≤ 5 * i → more ≡ length (short n)
+pub length_step : (ns : List ℕ) (i len more n : ℕ) → i < length ns → n ≡ get_or ns i 0 → IsSmall n
+    → len ≡ length (short_numbers (take i ns)) → len ≤ 5 * i → more ≡ length (short n)
     → (len + more ≡ length (short_numbers (take (i + 1) ns))) × (len + more ≤ 5 * (i + 1))
 length_step ns i len more n within at small sum fits own =
-    let step : length (short_numbers (take (i + 1) ns)) ≡ length (short_numbers (take i ns)) + length (short (get_or ns i 0)) = ap length (short_numbers_more ns i within) ∙ length-append _ _ in
+    let step : length (short_numbers (take (i + 1) ns)) ≡ length (short_numbers (take i ns)) + length (short (get_or ns i 0)) =
+    ap length (short_numbers_more ns i within) ∙ length-append _ _ in
     let here : length (short n) ≡ length (short (get_or ns i 0)) = ap (λ k. length (short k)) at in
     let most : length (short n) ≤ 5 = short_most_small n small in
     (omega arith, omega arith)
 
 -- a number of the list, behind those before it, is within the whole
-pub room_left : (ns : List ℕ) (i n : ℕ) → i < length ns → n ≡ get_or ns i 0 → length (short_numbers (take i ns)) + length (short n) ≤ length (short_numbers ns)
+pub room_left : (ns : List ℕ) (i n : ℕ) → i < length ns → n ≡ get_or ns i 0
+    → length (short_numbers (take i ns)) + length (short n) ≤ length (short_numbers ns)
 room_left ns i n within at =
     let here : length (short n) ≡ length (short (get_or ns i 0)) = ap (λ k. length (short k)) at in
     omega (arith, length-flat_map-take short ns i 0 within, here)
 
 -- in a list with room for all numbers there is room for the next
-pub never_full : (old out ns : List ℕ) (i n cap0 cap total old_len out_len : ℕ) → i < length ns → n ≡ get_or ns i 0 → out ≡ old ++ short_numbers (take i ns)
-    → old_len ≡ length old → out_len ≡ length out → total ≡ length (short_numbers ns) → old_len + total ≤ cap0 → cap0 ≤ cap → out_len + length (short n) ≤ cap
+pub never_full : (old out ns : List ℕ) (i n cap0 cap total old_len out_len : ℕ) → i < length ns → n ≡ get_or ns i 0
+    → out ≡ old ++ short_numbers (take i ns)
+    → old_len ≡ length old → out_len ≡ length out → total ≡ length (short_numbers ns) → old_len + total ≤ cap0 → cap0 ≤ cap
+    → out_len + length (short n) ≤ cap
 never_full old out ns i n cap0 cap total old_len out_len within at is old_is out_is all room more =
-    let size : length out ≡ length old + length (short_numbers (take i ns)) = ap length is ∙ length-append old (short_numbers (take i ns)) in
+    let size : length out ≡ length old + length (short_numbers (take i ns)) =
+    ap length is ∙ length-append old (short_numbers (take i ns)) in
     omega (arith, size, room_left ns i n within at)
 
 -- a number has a byte at least
 pub split_count : (b ns rest : List ℕ) → SplitNumbers b ns rest → length ns + length rest ≤ length b
 split_count b [] rest s = omega (arith, ap length s.0)
-split_count b (n ∷ ns) rest s = let some = s.3.some in omega (arith, ap length s.2, length-append s.0 s.1, some, split_count s.1 ns rest s.4)
+split_count b (n ∷ ns) rest s =
+    let some = s.3.some in
+    omega (arith, ap length s.2, length-append s.0 s.1, some, split_count s.1 ns rest s.4)

@@ -33,11 +33,17 @@ longer old new n kept is =
     is ∙ ap (λ b. b ++ short n) kept.1
     ∙ sym (flat_map-append short (packed old).numbers (n ∷ []) ∙ ap (λ s. short_numbers (packed old).numbers ++ s) (append-nil (short n)))
 
-pub more_short : {T E : Type 0} → (r : Result T E) (old new : List ℕ) (n : ℕ) → IsSmall n → AreShort old → OnOk r (new ≡ old ++ short n) → OnErr r (new ≡ old) → AreShort new
-more_short (Ok x) old new n small kept ok err = are_short new ((packed old).numbers ++ n ∷ []) (all_joined IsSmall (packed old).numbers (n ∷ []) kept.0 (small, tt)) (longer old new n kept ok)
+pub more_short : {T E : Type 0} → (r : Result T E) (old new : List ℕ) (n : ℕ) → IsSmall n → AreShort old
+    → OnOk r (new ≡ old ++ short n) → OnErr r (new ≡ old) → AreShort new
+more_short (Ok x) old new n small kept ok err =
+    are_short new ((packed old).numbers ++ n ∷ []) (all_joined IsSmall (packed old).numbers (n ∷ []) kept.0 (small, tt))
+    (longer old new n kept ok)
 more_short (Err e) old new n small kept ok err = subst AreShort (sym err) kept
 
-pub more_seen : {T E : Type 0} → (r : Result T E) (old new seen : List ℕ) (n : ℕ) → IsSmall n → AreShort old → (packed old).numbers ≡ seen → OnOk r (new ≡ old ++ short n) → OnOk r ((packed new).numbers ≡ seen ++ n ∷ [])
+pub more_seen : {T E : Type 0} → (r : Result T E) (old new seen : List ℕ) (n : ℕ) → IsSmall n → AreShort old
+    → (packed old).numbers ≡ seen → OnOk r (new ≡ old ++ short n) → OnOk r ((packed new).numbers ≡ seen ++ n ∷ [])
 more_seen (Ok x) old new seen n small kept is ok =
-    seen_as new ((packed old).numbers ++ n ∷ []) (all_joined IsSmall (packed old).numbers (n ∷ []) kept.0 (small, tt)) (longer old new n kept ok) ∙ ap (λ ns. ns ++ n ∷ []) is
+    seen_as new ((packed old).numbers ++ n ∷ []) (all_joined IsSmall (packed old).numbers (n ∷ []) kept.0 (small, tt))
+    (longer old new n kept ok)
+    ∙ ap (λ ns. ns ++ n ∷ []) is
 more_seen (Err e) old new seen n small kept is ok = tt

@@ -77,13 +77,17 @@ pub groups_first : (x : ℕ) (xs : List ℕ) → groups_from 0 (x ∷ xs) ≡ x 
 groups_first x xs = omega (arith, groups_from-suc 0 xs)
 
 pub short_sum : (k n : ℕ) → n < 128 ^ suc k → groups_from 0 (short_within k n) ≡ n
-short_sum zero n h = ap (groups_from 0) (short_one zero n (omega arith)) ∙ omega (arith, groups_first n [], mod-eq_of_lt {n = n} {m = 128} (omega arith))
+short_sum zero n h =
+    ap (groups_from 0) (short_one zero n (omega arith))
+    ∙ omega (arith, groups_first n [], mod-eq_of_lt {n = n} {m = 128} (omega arith))
 short_sum (suc k) n h =
     elim (cases_lt n 128) [
       | inl small ↦ ap (groups_from 0) (short_one (suc k) n small) ∙ omega (arith, groups_first n [], mod-eq_of_lt small)
       | inr large ↦
           (let more : groups_from 0 (short_within k (n / 128)) ≡ n / 128 = short_sum k (n / 128) (quotient n (suc k) h) in
-          let first : groups_from 0 ((n % 128 + 128) ∷ short_within k (n / 128)) ≡ (n % 128 + 128) % 128 + 128 * groups_from 0 (short_within k (n / 128)) = groups_first (n % 128 + 128) (short_within k (n / 128)) in
+          let first : groups_from 0 ((n % 128 + 128) ∷ short_within k (n / 128))
+          ≡ (n % 128 + 128) % 128 + 128 * groups_from 0 (short_within k (n / 128)) =
+          groups_first (n % 128 + 128) (short_within k (n / 128)) in
           ap (groups_from 0) (short_more k n large) ∙ omega (arith, more, first))
     ]
 
@@ -105,7 +109,14 @@ pub short_within_spells : (n : ℕ) → n < 2 ^ 64 → Spells (short_within 9 n)
 short_within_spells n fits =
     let small : n < 128 ^ 10 = omega arith in
     let s = short_spelling 9 n small in
-    record { some = s.some; at_most_ten = short_length 9 9 n small; goes_on = s.goes_on; ends = s.ends; sum = sym (short_sum 9 n small); fits = fits }
+    record {
+      some = s.some;
+      at_most_ten = short_length 9 9 n small;
+      goes_on = s.goes_on;
+      ends = s.ends;
+      sum = sym (short_sum 9 n small);
+      fits = fits;
+    }
 
 pub short_spells : (n : ℕ) → n < 2 ^ 64 → Spells (short n) n
 unfolding short
@@ -168,7 +179,8 @@ unfolding short
 short_only b n bytes s size =
     let fits : n < 2 ^ 64 = s.fits in
     let small : n < 128 ^ 10 = omega arith in
-    same_spelling b (short_within 9 n) size (record { some = s.some; goes_on = s.goes_on; ends = s.ends; bytes = bytes }) (short_spelling 9 n small) (sym s.sum ∙ sym (short_sum 9 n small))
+    same_spelling b (short_within 9 n) size (record { some = s.some; goes_on = s.goes_on; ends = s.ends; bytes = bytes })
+    (short_spelling 9 n small) (sym s.sum ∙ sym (short_sum 9 n small))
 
 -- ---- lengths
 
@@ -237,8 +249,10 @@ short_len n j fits least most =
 
 -- ---- the loop that spells: what is spelled, and what is left
 
-pub spell_step : (bytes number : List ℕ) (len rest : ℕ) → length bytes ≡ 10 → len ≤ 9 → 128 ≤ rest → rest < 128 ^ (10 - len) → take len bytes ++ short_within (9 - len) rest ≡ number
-    → (len + 1 ≤ 9) × (rest / 128 < 128 ^ (10 - (len + 1))) × (take (len + 1) (set bytes len (rest % 128 + 128)) ++ short_within (9 - (len + 1)) (rest / 128) ≡ number)
+pub spell_step : (bytes number : List ℕ) (len rest : ℕ) → length bytes ≡ 10 → len ≤ 9 → 128 ≤ rest → rest < 128 ^ (10 - len)
+    → take len bytes ++ short_within (9 - len) rest ≡ number
+    → (len + 1 ≤ 9) × (rest / 128 < 128 ^ (10 - (len + 1)))
+    × (take (len + 1) (set bytes len (rest % 128 + 128)) ++ short_within (9 - (len + 1)) (rest / 128) ≡ number)
 spell_step bytes number len rest size within large small is =
     elim (cases_lt len 9) [
       | inl more ↦
@@ -246,7 +260,8 @@ spell_step bytes number len rest size within large small is =
           let left' : 9 - len ≡ suc (9 - (len + 1)) = omega arith in
           let left'' : 10 - (len + 1) ≡ 9 - len = omega arith in
           let fits : rest / 128 < 128 ^ (9 - len) = quotient rest (9 - len) (subst (λ (k : ℕ). rest < 128 ^ k) left small) in
-          let spelled : short_within (9 - len) rest ≡ (rest % 128 + 128) ∷ short_within (9 - (len + 1)) (rest / 128) = ap (λ k. short_within k rest) left' ∙ short_more (9 - (len + 1)) rest large in (
+          let spelled : short_within (9 - len) rest ≡ (rest % 128 + 128) ∷ short_within (9 - (len + 1)) (rest / 128) =
+          ap (λ k. short_within k rest) left' ∙ short_more (9 - (len + 1)) rest large in (
             omega arith,
             subst (λ (k : ℕ). rest / 128 < 128 ^ k) (sym left'') fits,
             ap (λ s. s ++ short_within (9 - (len + 1)) (rest / 128)) (take_more_set bytes len (rest % 128 + 128) (omega arith))
@@ -256,7 +271,8 @@ spell_step bytes number len rest size within large small is =
       | inr last ↦ absurd (let left : 10 - len ≡ 1 = omega arith in let few = subst (λ (k : ℕ). rest < 128 ^ k) left small in omega arith)
     ]
 
-pub spell_end : (bytes number : List ℕ) (len rest : ℕ) → length bytes ≡ 10 → len ≤ 9 → rest < 128 → take len bytes ++ short_within (9 - len) rest ≡ number → take (len + 1) (set bytes len rest) ≡ number
+pub spell_end : (bytes number : List ℕ) (len rest : ℕ) → length bytes ≡ 10 → len ≤ 9 → rest < 128
+    → take len bytes ++ short_within (9 - len) rest ≡ number → take (len + 1) (set bytes len rest) ≡ number
 spell_end bytes number len rest size within small is =
     take_more_set bytes len rest (omega arith) ∙ ap (λ s. take len bytes ++ s) (sym (short_one (9 - len) rest small)) ∙ is
 

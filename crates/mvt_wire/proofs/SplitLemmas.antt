@@ -1,5 +1,5 @@
 -- Splits: that the function `split_from` is the relation `SplitFrom`, and what more bytes change.
-use Rattle.std.proofs.Common.{add_assoc, ◌≡◌, ◌≢◌, ℕ, zero, suc, ◌+◌, ◌-◌, ◌%◌, ◌<◌, ◌≤◌, inl, inr, cond, List, [], ◌∷◌, ◌++◌, length, take, drop, Result, Ok, Err, refl, sym, ap, subst, ◌∙◌, arith, append_assoc, lt-ltb, le-ltb}
+use Rattle.std.proofs.Common.{add_assoc, ◌≡◌, ◌≢◌, ℕ, zero, suc, ◌+◌, ◌%◌, ◌≤◌, inl, inr, cond, List, [], ◌∷◌, ◌++◌, length, take, drop, Result, Ok, Err, refl, sym, ap, subst, ◌∙◌, arith, append_assoc, lt-ltb, le-ltb}
 use Rattle.std.proofs.lemmas.Bool.{cases_lt}
 use Rattle.std.proofs.lemmas.List.{length-append, length-drop, length-take-le, drop-append-le, take-append-drop, take-append-le}
 use Rattle.std.proofs.Math.Seq.{take-append_seam, drop-append_seam}
@@ -11,11 +11,13 @@ use Rattle.mvt_wire.specs.Fields.{bytes_size, EndsBy}
 use Rattle.mvt_wire.specs.Fronts.{entry_at, rest_cause}
 use Rattle.mvt_wire.specs.Rest.{IsPayloadCause, no_type, no_varint, no_length, past_end, no_eight, no_four, IsRestCause, no_tag, no_number, no_payload}
 use Rattle.mvt_wire.specs.Split.{SplitFrom, Parts, behind, no_fields, split_within, split_from, shifted, shifted_parts}
+use Rattle.mvt_wire.proofs.PieceLemmas.{Takes, all_step, induct}
 use Rattle.mvt_wire.proofs.FieldLemmas.{entry_cause, entry_found, entry_front, entry_none, entry_none_from, entry_why, rest_cause_is}
 
 -- ---- one step of the function
 
-within_step : (n at : ℕ) (b : List ℕ) (found : Entry × ℕ) → entry_at at b ≡ Ok found → split_within (suc n) at b ≡ behind found.0 (split_within n (at + found.1) (drop found.1 b))
+within_step : (n at : ℕ) (b : List ℕ) (found : Entry × ℕ) → entry_at at b ≡ Ok found
+    → split_within (suc n) at b ≡ behind found.0 (split_within n (at + found.1) (drop found.1 b))
 unfolding split_within
 within_step n at b found e = rw (e, split_within) refl
 
@@ -28,84 +30,43 @@ within_stop (suc n) at b c e = rw (e, split_within) refl
 found_size : (at : ℕ) (b : List ℕ) (found : Entry × ℕ) → entry_at at b ≡ Ok found → (1 ≤ found.1) × (found.1 ≤ length b)
 found_size at b found e = let seen = entry_found at b found e in (seen.0, seen.1)
 
--- more fuel than bytes changes nothing
-fuel_by : (m n at : ℕ) (b : List ℕ) (r : Result (Entry × ℕ) WireCause) → entry_at at b ≡ r → length b ≤ suc m → length b ≤ suc n
-    → ((at' : ℕ) (b' : List ℕ) → length b' ≤ m → length b' ≤ n → split_within m at' b' ≡ split_within n at' b')
-    → split_within (suc m) at b ≡ split_within (suc n) at b
-fuel_by m n at b (Ok found) e hm hn rec =
-    let size = found_size at b found e in
-    let some : 1 ≤ found.1 = size.0 in
-    let rest : length (drop found.1 b) ≡ length b - found.1 = length-drop found.1 b in
-    within_step m at b found e ∙ ap (behind found.0) (rec (at + found.1) (drop found.1 b) (omega arith) (omega arith)) ∙ sym (within_step n at b found e)
-fuel_by m n at b (Err c) e hm hn rec = within_stop (suc m) at b c e ∙ sym (within_stop (suc n) at b c e)
-
-nil_stops : (n at : ℕ) (b : List ℕ) (r : Result (Entry × ℕ) WireCause) → entry_at at b ≡ r → length b ≤ 0 → split_within n at b ≡ no_fields at b
-nil_stops n at b (Ok found) e h = absurd (let size = found_size at b found e in omega (arith, size.0, size.1))
-nil_stops n at b (Err c) e h = within_stop n at b c e
-
-pub split_fuel : (m n at : ℕ) (b : List ℕ) → length b ≤ m → length b ≤ n → split_within m at b ≡ split_within n at b
-split_fuel zero n at b hm hn = nil_stops zero at b (entry_at at b) refl hm ∙ sym (nil_stops n at b (entry_at at b) refl hm)
-split_fuel (suc m) zero at b hm hn = nil_stops (suc m) at b (entry_at at b) refl hn ∙ sym (nil_stops zero at b (entry_at at b) refl hn)
-split_fuel (suc m) (suc n) at b hm hn = fuel_by m n at b (entry_at at b) refl hm hn (λ at' b' hm' hn'. split_fuel m n at' b' hm' hn')
+takes_fields : Takes entry_at behind no_fields split_within
+takes_fields = record { step = within_step; stop = within_stop; size = found_size }
 
 pub split_stop : (at : ℕ) (b : List ℕ) (c : WireCause) → entry_at at b ≡ Err c → split_from at b ≡ no_fields at b
 unfolding split_from
 split_stop at b c e = within_stop (length b) at b c e
 
-pub split_step : (at : ℕ) (b : List ℕ) (found : Entry × ℕ) → entry_at at b ≡ Ok found → split_from at b ≡ behind found.0 (split_from (at + found.1) (drop found.1 b))
+pub split_step : (at : ℕ) (b : List ℕ) (found : Entry × ℕ) → entry_at at b ≡ Ok found
+    → split_from at b ≡ behind found.0 (split_from (at + found.1) (drop found.1 b))
 unfolding split_from
-split_step at b found e =
-    let size = found_size at b found e in
-    let some : 1 ≤ found.1 = size.0 in
-    let rest : length (drop found.1 b) ≡ length b - found.1 = length-drop found.1 b in
-    split_fuel (length b) (suc (length b)) at b (omega arith) (omega arith)
-    ∙ within_step (length b) at b found e
-    ∙ ap (behind found.0) (split_fuel (length b) (length (drop found.1 b)) (at + found.1) (drop found.1 b) (omega arith) (omega arith))
-
--- ---- induction over a split
-
-induct_by : (P : ℕ → List ℕ → Parts → Type 0)
-    → ((at : ℕ) (b : List ℕ) (c : WireCause) → entry_at at b ≡ Err c → P at b (no_fields at b))
-    → ((at : ℕ) (b : List ℕ) (found : Entry × ℕ) (parts : Parts) → entry_at at b ≡ Ok found → parts ≡ split_from (at + found.1) (drop found.1 b) → P (at + found.1) (drop found.1 b) parts → P at b (behind found.0 parts))
-    → (at : ℕ) (b : List ℕ) (r : Result (Entry × ℕ) WireCause) → entry_at at b ≡ r
-    → ((at' : ℕ) (b' : List ℕ) → length b' < length b → P at' b' (split_from at' b')) → P at b (split_from at b)
-induct_by P stop step at b (Ok found) e rec =
-    let size = found_size at b found e in
-    let some : 1 ≤ found.1 = size.0 in
-    let within : found.1 ≤ length b = size.1 in
-    let rest : length (drop found.1 b) ≡ length b - found.1 = length-drop found.1 b in
-    subst (P at b) (sym (split_step at b found e)) (step at b found (split_from (at + found.1) (drop found.1 b)) e refl (rec (at + found.1) (drop found.1 b) (omega arith)))
-induct_by P stop step at b (Err c) e rec = subst (P at b) (sym (split_stop at b c e)) (stop at b c e)
-
-induct_within : (P : ℕ → List ℕ → Parts → Type 0)
-    → ((at : ℕ) (b : List ℕ) (c : WireCause) → entry_at at b ≡ Err c → P at b (no_fields at b))
-    → ((at : ℕ) (b : List ℕ) (found : Entry × ℕ) (parts : Parts) → entry_at at b ≡ Ok found → parts ≡ split_from (at + found.1) (drop found.1 b) → P (at + found.1) (drop found.1 b) parts → P at b (behind found.0 parts))
-    → (n at : ℕ) (b : List ℕ) → length b ≤ n → P at b (split_from at b)
-induct_within P stop step zero at b h = induct_by P stop step at b (entry_at at b) refl (λ at' b' less. absurd (omega arith))
-induct_within P stop step (suc n) at b h = induct_by P stop step at b (entry_at at b) refl (λ at' b' less. induct_within P stop step n at' b' (omega arith))
+split_step at b found e = all_step entry_at behind no_fields split_within takes_fields at b found e
 
 pub split_induct : (P : ℕ → List ℕ → Parts → Type 0)
     → ((at : ℕ) (b : List ℕ) (c : WireCause) → entry_at at b ≡ Err c → P at b (no_fields at b))
-    → ((at : ℕ) (b : List ℕ) (found : Entry × ℕ) (parts : Parts) → entry_at at b ≡ Ok found → parts ≡ split_from (at + found.1) (drop found.1 b) → P (at + found.1) (drop found.1 b) parts → P at b (behind found.0 parts))
+    → ((at : ℕ) (b : List ℕ) (found : Entry × ℕ) (parts : Parts) → entry_at at b ≡ Ok found → P (at + found.1) (drop found.1 b) parts
+    → P at b (behind found.0 parts))
     → (at : ℕ) (b : List ℕ) → P at b (split_from at b)
-split_induct P stop step at b = induct_within P stop step (length b) at b (omega arith)
+unfolding split_from
+split_induct P stop step =
+    induct entry_at behind no_fields split_within takes_fields P stop (λ at b found e more. step at b found _ e more)
 
 -- ---- what a split is
 
 pub split_place : (at : ℕ) (b : List ℕ) → (split_from at b).rest_at + length (split_from at b).rest ≡ at + length b
 split_place =
     split_induct (λ at b parts. parts.rest_at + length parts.rest ≡ at + length b) (λ at b c e. refl)
-    (λ at b found parts e is more. let size = found_size at b found e in let rest = length-drop found.1 b in omega (arith, size.0, size.1, rest, more))
+    (λ at b found parts e more. let size = found_size at b found e in let rest = length-drop found.1 b in omega (arith, size.0, size.1, rest, more))
 
 pub split_ends : (at : ℕ) (b : List ℕ) → at ≤ (split_from at b).rest_at
 split_ends =
     split_induct (λ at b parts. at ≤ parts.rest_at) (λ at b c e. omega arith)
-    (λ at b found parts e is more. omega (arith, more))
+    (λ at b found parts e more. omega (arith, more))
 
 pub split_is : (at : ℕ) (b : List ℕ) → SplitFrom at b (split_from at b).fields (split_from at b).rest
 split_is =
     split_induct (λ at b parts. SplitFrom at b parts.fields parts.rest) (λ at b c e. (refl, entry_none at b c e))
-    (λ at b found parts e is more.
+    (λ at b found parts e more.
     let seen = entry_found at b found e in
     let size : length (take found.1 b) ≡ found.1 = length-take-le found.1 b seen.1 in (
       take found.1 b,
@@ -115,7 +76,8 @@ split_is =
       subst (λ (k : ℕ). SplitFrom (at + k) (drop found.1 b) parts.fields parts.rest) (sym size) more,
     ))
 
-pub split_front : (at : ℕ) (front back : List ℕ) (e : Entry) → IsFieldAt at front e → split_from at (front ++ back) ≡ behind e (split_from (at + length front) back)
+pub split_front : (at : ℕ) (front back : List ℕ) (e : Entry) → IsFieldAt at front e
+    → split_from at (front ++ back) ≡ behind e (split_from (at + length front) back)
 split_front at front back e f =
     split_step at (front ++ back) (e, length front) (entry_front at front back e f)
     ∙ ap (λ s. behind e (split_from (at + length front) s)) (drop-append_seam front back)
@@ -123,7 +85,8 @@ split_front at front back e f =
 pub split_none : (at : ℕ) (b : List ℕ) → StartsNoField b → split_from at b ≡ no_fields at b
 split_none at b none = split_stop at b _ (entry_none_from at b none)
 
-pub split_only : (at : ℕ) (b rest : List ℕ) (es : List Entry) → SplitFrom at b es rest → ((split_from at b).fields ≡ es) × ((split_from at b).rest ≡ rest)
+pub split_only : (at : ℕ) (b rest : List ℕ) (es : List Entry) → SplitFrom at b es rest
+    → ((split_from at b).fields ≡ es) × ((split_from at b).rest ≡ rest)
 split_only at b rest [] s =
     let is : split_from at b ≡ no_fields at rest = ap (split_from at) s.0 ∙ split_none at rest s.1 in
     (ap (λ p. p.fields) is, ap (λ p. p.rest) is)
@@ -141,7 +104,8 @@ bytes_size-le payload (bytes d) = omega arith
 bytes_size-le payload (fixed32 n) = omega arith
 
 -- a field ends where the rest begins, or before
-pub field_ends : (at k : ℕ) (b : List ℕ) (e : Entry) (place : ℕ) → 1 ≤ k → k ≤ length b → IsFieldAt at (take k b) e → at + k ≤ place → EndsBy place e
+pub field_ends : (at k : ℕ) (b : List ℕ) (e : Entry) (place : ℕ) → 1 ≤ k → k ≤ length b → IsFieldAt at (take k b) e
+    → at + k ≤ place → EndsBy place e
 field_ends at k b e place some within f past =
     let size : length (take k b) ≡ k = length-take-le k b within in
     let begins : e.at ≡ at = f.begins in
@@ -155,7 +119,8 @@ pub field_stays : (at k : ℕ) (b more : List ℕ) (e : Entry) → entry_at at b
 field_stays at k b more e is =
     let seen = entry_found at b (e, k) is in
     let size : length (take k b) ≡ k = length-take-le k b seen.1 in
-    let joined : b ++ more ≡ take k b ++ (drop k b ++ more) = ap (λ s. s ++ more) (sym (take-append-drop k b)) ∙ append_assoc (take k b) (drop k b) more in
+    let joined : b ++ more ≡ take k b ++ (drop k b ++ more) =
+    ap (λ s. s ++ more) (sym (take-append-drop k b)) ∙ append_assoc (take k b) (drop k b) more in
     ap (entry_at at) joined ∙ entry_front at (take k b) (drop k b ++ more) e seen.2
     ∙ ap (λ (n : ℕ). let r : Result (Entry × ℕ) WireCause = Ok (e, n) in r) size
 
@@ -179,15 +144,20 @@ spell_cause_stays b more long =
     ap (λ t. cond t Truncated VarintRange) (le-ltb (length b) 10 long ∙ sym (le-ltb (length (b ++ more)) 10 (omega (arith, all))))
 
 -- a number that nothing spells stays so, where that isn't for want of bytes
-pub number_stays : (b more : List ℕ) (c : WireCause) → c ≢ Truncated → SpellsNone b → c ≡ spell_cause b → SpellsNone (b ++ more) × (c ≡ spell_cause (b ++ more))
+pub number_stays : (b more : List ℕ) (c : WireCause) → c ≢ Truncated → SpellsNone b → c ≡ spell_cause b
+    → SpellsNone (b ++ more) × (c ≡ spell_cause (b ++ more))
 number_stays b more c other none is =
     let long : 10 ≤ length b = long_cause b (λ e. other (is ∙ e)) in
     (none_stays b more long none, is ∙ spell_cause_stays b more long)
 
 pub payload_stays : (w : ℕ) (b more : List ℕ) (c : WireCause) → c ≢ Truncated → IsPayloadCause w b c → IsPayloadCause w (b ++ more) c
 payload_stays w b more c other (no_type n0 n1 n2 n5 is) = no_type n0 n1 n2 n5 is
-payload_stays w b more c other (no_varint is none cause) = let stays = number_stays b more c other none cause in no_varint is stays.0 stays.1
-payload_stays w b more c other (no_length is none cause) = let stays = number_stays b more c other none cause in no_length is stays.0 stays.1
+payload_stays w b more c other (no_varint is none cause) =
+    let stays = number_stays b more c other none cause in
+    no_varint is stays.0 stays.1
+payload_stays w b more c other (no_length is none cause) =
+    let stays = number_stays b more c other none cause in
+    no_length is stays.0 stays.1
 payload_stays w b more c other (past_end size rest n is joined spells short cause) = absurd (other cause)
 payload_stays w b more c other (no_eight is short cause) = absurd (other cause)
 payload_stays w b more c other (no_four is short cause) = absurd (other cause)
@@ -197,17 +167,21 @@ cause_stays b more c other (no_tag none is) = let stays = number_stays b more c 
 cause_stays b more c other (no_number tag after n joined spells why is) =
     no_number tag (after ++ more) n (ap (λ s. s ++ more) joined ∙ append_assoc tag after more) spells why is
 cause_stays b more c other (no_payload tag after n joined spells low high why) =
-    no_payload tag (after ++ more) n (ap (λ s. s ++ more) joined ∙ append_assoc tag after more) spells low high (payload_stays (n % 8) after more c other why)
+    no_payload tag (after ++ more) n (ap (λ s. s ++ more) joined ∙ append_assoc tag after more) spells low high
+    (payload_stays (n % 8) after more c other why)
 
 -- fields in front of a split
 abbrev pub joined_to : List Entry → Parts → Parts
 joined_to es parts = record { fields = es ++ parts.fields; rest_at = parts.rest_at; rest = parts.rest }
 
-pub split_joined : (at : ℕ) (b more : List ℕ) → split_from at (b ++ more) ≡ joined_to (split_from at b).fields (split_from (split_from at b).rest_at ((split_from at b).rest ++ more))
+pub split_joined : (at : ℕ) (b more : List ℕ)
+    → split_from at (b ++ more)
+    ≡ joined_to (split_from at b).fields (split_from (split_from at b).rest_at ((split_from at b).rest ++ more))
 split_joined at b more =
-    split_induct (λ at b parts. (more : List ℕ) → split_from at (b ++ more) ≡ joined_to parts.fields (split_from parts.rest_at (parts.rest ++ more)))
+    split_induct
+    (λ at b parts. (more : List ℕ) → split_from at (b ++ more) ≡ joined_to parts.fields (split_from parts.rest_at (parts.rest ++ more)))
     (λ at b c e more. refl)
-    (λ at b found parts e is rec more.
+    (λ at b found parts e rec more.
     let seen = found_size at b found e in
     split_step at (b ++ more) found (field_stays at found.1 b more found.0 e)
     ∙ ap (λ s. behind found.0 (split_from (at + found.1) s)) (drop-append-le found.1 b more seen.1)
@@ -218,18 +192,21 @@ split_joined at b more =
 pub split_count : (at : ℕ) (b : List ℕ) → length (split_from at b).fields + length (split_from at b).rest ≤ length b
 split_count =
     split_induct (λ at b parts. length parts.fields + length parts.rest ≤ length b) (λ at b c e. omega arith)
-    (λ at b found parts e is more. let size = found_size at b found e in let rest = length-drop found.1 b in omega (arith, size.0, size.1, rest, more))
+    (λ at b found parts e more. let size = found_size at b found e in let rest = length-drop found.1 b in omega (arith, size.0, size.1, rest, more))
 
 -- no field begins at the rest
 pub split_rest : (at : ℕ) (b : List ℕ) → StartsNoField (split_from at b).rest
 split_rest =
-    split_induct (λ at b parts. StartsNoField parts.rest) (λ at b c e. entry_none at b c e) (λ at b found parts e is more. more)
+    split_induct (λ at b parts. StartsNoField parts.rest) (λ at b c e. entry_none at b c e) (λ at b found parts e more. more)
 
-pub rest_stays : (b more : List ℕ) → StartsNoField b → rest_cause b ≢ Truncated → StartsNoField (b ++ more) × (rest_cause (b ++ more) ≡ rest_cause b)
+pub rest_stays : (b more : List ℕ) → StartsNoField b → rest_cause b ≢ Truncated
+    → StartsNoField (b ++ more) × (rest_cause (b ++ more) ≡ rest_cause b)
 rest_stays b more none other =
     let why : IsRestCause b (rest_cause b) = entry_why 0 b (rest_cause b) (entry_none_from 0 b none) in
-    let stays = cause_stays b more (rest_cause b) other why in
-    (entry_none 0 (b ++ more) (rest_cause b) (entry_cause 0 (b ++ more) (rest_cause b) stays), sym (rest_cause_is (b ++ more) (rest_cause b) stays))
+    let stays = cause_stays b more (rest_cause b) other why in (
+      entry_none 0 (b ++ more) (rest_cause b) (entry_cause 0 (b ++ more) (rest_cause b) stays),
+      sym (rest_cause_is (b ++ more) (rest_cause b) stays),
+    )
 
 -- ---- k bytes further on
 
@@ -238,7 +215,8 @@ field_shifts k at b e f =
     let ends : e.body + body_size f.field.payload e.content ≡ at + length b = f.ends in
     record { field = f.field; begins = ap (λ n. k + n) f.begins; ends = omega arith }
 
-found_shifts : (k at : ℕ) (b : List ℕ) (found : Entry × ℕ) → entry_at at b ≡ Ok found → entry_at (k + at) b ≡ Ok (shifted k found.0, found.1)
+found_shifts : (k at : ℕ) (b : List ℕ) (found : Entry × ℕ) → entry_at at b ≡ Ok found
+    → entry_at (k + at) b ≡ Ok (shifted k found.0, found.1)
 found_shifts k at b found e =
     let seen = entry_found at b found e in
     let size : length (take found.1 b) ≡ found.1 = length-take-le found.1 b seen.1 in
@@ -250,7 +228,7 @@ pub split_shifts : (k at : ℕ) (b : List ℕ) → split_from (k + at) b ≡ shi
 split_shifts k =
     split_induct (λ at b parts. split_from (k + at) b ≡ shifted_parts k parts)
     (λ at b c e. split_stop (k + at) b c (entry_cause (k + at) b c (entry_why at b c e)))
-    (λ at b found parts e is more.
+    (λ at b found parts e more.
     split_step (k + at) b (shifted k found.0, found.1) (found_shifts k at b found e)
     ∙ ap (λ n. behind (shifted k found.0) (split_from n (drop found.1 b))) (add_assoc k at found.1)
     ∙ ap (behind (shifted k found.0)) more)

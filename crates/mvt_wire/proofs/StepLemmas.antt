@@ -32,7 +32,8 @@ nil_none front back number content joined f =
 
 -- ---- `next_field`
 
-pub next_found : (source : List ℕ) (at k : ℕ) (e : Entry) → at ≤ length source → entry_at at (take (length source - at) (drop at source)) ≡ Ok (e, k)
+pub next_found : (source : List ℕ) (at k : ℕ) (e : Entry) → at ≤ length source
+    → entry_at at (take (length source - at) (drop at source)) ≡ Ok (e, k)
     → (at < at + k) × (at + k ≤ length source) × IsFieldAt at (slice_range source at (at + k)) e
 next_found source at k e within is =
     let seen = entry_found at (drop at source) (e, k) (ap (entry_at at) (sym (take_rest source at)) ∙ is) in
@@ -52,7 +53,8 @@ slice_of source tag payload rest at body (fixed64 n) within carries joined ends 
 slice_of source tag payload rest at body (bytes d) within carries joined ends =
     let size : List ℕ = carries.0 in
     let front : List ℕ = tag ++ size in
-    let whole : drop at source ≡ front ++ (d ++ rest) = joined ∙ ap (λ (p : List ℕ). (tag ++ p) ++ rest) carries.2 ∙ regroup tag size d rest in
+    let whole : drop at source ≡ front ++ (d ++ rest) =
+    joined ∙ ap (λ (p : List ℕ). (tag ++ p) ++ rest) carries.2 ∙ regroup tag size d rest in
     let left : length (drop at source) ≡ length source - at = length-drop at source in
     let parts : length (front ++ (d ++ rest)) ≡ length front + length (d ++ rest) = length-append front (d ++ rest) in
     let all : length (drop at source) ≡ length (front ++ (d ++ rest)) = ap length whole in
@@ -60,20 +62,26 @@ slice_of source tag payload rest at body (bytes d) within carries joined ends =
     let own : length payload ≡ length size + length d = ap length carries.2 ∙ length-append size d in
     let lead : length front ≡ length tag + length size = length-append tag size in
     let place : at + length front ≡ body = omega arith in
-    let from_body : drop body source ≡ d ++ rest = ap (λ k. drop k source) (sym place) ∙ sym (drop-drop (length front) at source) ∙ ap (drop (length front)) whole ∙ drop-append_seam front (d ++ rest) in
+    let from_body : drop body source ≡ d ++ rest =
+    ap (λ k. drop k source) (sym place) ∙ sym (drop-drop (length front) at source) ∙ ap (drop (length front)) whole
+    ∙ drop-append_seam front (d ++ rest) in
     (omega arith, sym (ap (take (length d)) from_body ∙ take-append_seam d rest))
 slice_of source tag payload rest at body (fixed32 n) within carries joined ends = tt
 
-pub next_slice : (source : List ℕ) (at k : ℕ) (e : Entry) → at ≤ length source → entry_at at (take (length source - at) (drop at source)) ≡ Ok (e, k) → IsSliceAt source e.body e.content
+pub next_slice : (source : List ℕ) (at k : ℕ) (e : Entry) → at ≤ length source
+    → entry_at at (take (length source - at) (drop at source)) ≡ Ok (e, k) → IsSliceAt source e.body e.content
 next_slice source at k e within is =
     let seen = entry_found at (drop at source) (e, k) (ap (entry_at at) (sym (take_rest source at)) ∙ is) in
     let f = seen.2 in
-    let joined : drop at source ≡ (f.field.tag ++ f.field.payload) ++ drop k (drop at source) = sym (take-append-drop k (drop at source)) ∙ ap (λ s. s ++ drop k (drop at source)) f.field.joined in
-    let size : length (take k (drop at source)) ≡ length f.field.tag + length f.field.payload = ap length f.field.joined ∙ length-append f.field.tag f.field.payload in
+    let joined : drop at source ≡ (f.field.tag ++ f.field.payload) ++ drop k (drop at source) =
+    sym (take-append-drop k (drop at source)) ∙ ap (λ s. s ++ drop k (drop at source)) f.field.joined in
+    let size : length (take k (drop at source)) ≡ length f.field.tag + length f.field.payload =
+    ap length f.field.joined ∙ length-append f.field.tag f.field.payload in
     let ends : e.body + body_size f.field.payload e.content ≡ at + length (take k (drop at source)) = f.ends in
     slice_of source f.field.tag f.field.payload (drop k (drop at source)) at e.body e.content within f.field.carries joined (omega arith)
 
-pub next_none : (source : List ℕ) (at : ℕ) (c : WireCause) → at ≤ length source → at ≢ length source → entry_at at (take (length source - at) (drop at source)) ≡ Err c
+pub next_none : (source : List ℕ) (at : ℕ) (c : WireCause) → at ≤ length source → at ≢ length source
+    → entry_at at (take (length source - at) (drop at source)) ≡ Err c
     → (at < length source) × StartsNoField (drop at source) × (at ≡ at) × (c ≡ rest_cause (drop at source))
 next_none source at c within other is =
     let none : entry_at at (drop at source) ≡ Err c = ap (entry_at at) (sym (take_rest source at)) ∙ is in
@@ -96,7 +104,8 @@ fault_step source at none = split_none at (drop at source) none
 pub some_left : (source : List ℕ) (at : ℕ) → at < length source → drop at source ≢ []
 some_left source at less none = let left = length-drop at source in let nil = ap length none in omega (arith, left, nil)
 
-pub field_step : (source : List ℕ) (at after : ℕ) (e : Entry) → (at < after) × (after ≤ length source) × IsFieldAt at (slice_range source at after) e
+pub field_step : (source : List ℕ) (at after : ℕ) (e : Entry)
+    → (at < after) × (after ≤ length source) × IsFieldAt at (slice_range source at after) e
     → (to_come source at ≡ behind e (to_come source after)) × EndsBy (to_come source at).rest_at e
 field_step source at after e step =
     let less : at < after = step.0 in
@@ -105,9 +114,13 @@ field_step source at after e step =
     let left : length (drop at source) ≡ length source - at = length-drop at source in
     let size : length front ≡ after - at = length-take-le (after - at) (drop at source) (omega arith) in
     let place : at + length front ≡ after = omega arith in
-    let back : drop (after - at) (drop at source) ≡ drop after source = drop-drop (after - at) at source ∙ ap (λ k. drop k source) (omega arith) in
-    let joined : drop at source ≡ front ++ drop after source = sym (take-append-drop (after - at) (drop at source)) ∙ ap (λ s. front ++ s) back in
-    let whole : to_come source at ≡ behind e (to_come source after) = ap (split_from at) joined ∙ split_front at front (drop after source) e step.2 ∙ ap (λ k. behind e (split_from k (drop after source))) place in
+    let back : drop (after - at) (drop at source) ≡ drop after source =
+    drop-drop (after - at) at source ∙ ap (λ k. drop k source) (omega arith) in
+    let joined : drop at source ≡ front ++ drop after source =
+    sym (take-append-drop (after - at) (drop at source)) ∙ ap (λ s. front ++ s) back in
+    let whole : to_come source at ≡ behind e (to_come source after) =
+    ap (split_from at) joined ∙ split_front at front (drop after source) e step.2
+    ∙ ap (λ k. behind e (split_from k (drop after source))) place in
     let rest : (to_come source at).rest_at ≡ (to_come source after).rest_at = ap (λ p. p.rest_at) whole in
     let past : after ≤ (to_come source after).rest_at = split_ends after (drop after source) in
     let f = step.2 in
@@ -119,11 +132,13 @@ field_step source at after e step =
 pub gives_none : (source : List ℕ) (at : ℕ) → at ≡ length source → GivesEntry (to_come source at) None (to_come source at)
 gives_none source at is = let end = end_step source at is in (ap (λ p. p.fields) end, ap (λ p. p.rest) end, refl)
 
-pub gives_field : (source : List ℕ) (at after : ℕ) (f : Field) → (at < after) × (after ≤ length source) × IsFieldAt at (slice_range source at after) (entry_of f)
+pub gives_field : (source : List ℕ) (at after : ℕ) (f : Field)
+    → (at < after) × (after ≤ length source) × IsFieldAt at (slice_range source at after) (entry_of f)
     → GivesEntry (to_come source at) (Some (Ok f)) (to_come source after)
 gives_field source at after f step = field_step source at after (entry_of f) step
 
-pub gives_fault : (source : List ℕ) (at : ℕ) (fault : WireFault) → (at < length source) × StartsNoField (drop at source) × (fault.at ≡ at) × (fault.cause ≡ rest_cause (drop at source))
+pub gives_fault : (source : List ℕ) (at : ℕ) (fault : WireFault)
+    → (at < length source) × StartsNoField (drop at source) × (fault.at ≡ at) × (fault.cause ≡ rest_cause (drop at source))
     → GivesEntry (to_come source at) (Some (Err fault)) (to_come source (length source))
 gives_fault source at fault why =
     let old = fault_step source at why.1 in
@@ -137,7 +152,8 @@ gives_fault source at fault why =
     )
 
 -- what is to come grows shorter
-pub less_after_field : (old new : Parts) (e : Entry) → old ≡ behind e new → length new.fields + length new.rest < length old.fields + length old.rest
+pub less_after_field : (old new : Parts) (e : Entry) → old ≡ behind e new
+    → length new.fields + length new.rest < length old.fields + length old.rest
 less_after_field old new e is =
     let fields : length old.fields ≡ suc (length new.fields) = ap (λ p. length p.fields) is in
     let rest : length old.rest ≡ length new.rest = ap (λ p. length p.rest) is in
@@ -147,7 +163,8 @@ some_less : (rest : List ℕ) (m n k : ℕ) → rest ≢ [] → m ≡ 0 → n �
 some_less [] m n k some fields left = absurd (some refl)
 some_less (x ∷ xs) m n k some fields left = omega arith
 
-pub less_after_fault : (old new : Parts) (fault : WireFault) → GivesEntry old (Some (Err fault)) new → length new.fields + length new.rest < length old.fields + length old.rest
+pub less_after_fault : (old new : Parts) (fault : WireFault) → GivesEntry old (Some (Err fault)) new
+    → length new.fields + length new.rest < length old.fields + length old.rest
 less_after_fault old new fault g = some_less old.rest _ _ _ g.1 (ap length g.4) (ap length g.5)
 
 -- ---- `field_span`

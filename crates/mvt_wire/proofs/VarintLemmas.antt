@@ -12,7 +12,8 @@ use Rattle.mvt_wire.specs.Fronts.{going_on, number_of, has_number, number_at}
 pub groups_from-append : (i : ℕ) (xs ys : List ℕ) → groups_from i (xs ++ ys) ≡ groups_from i xs + groups_from (i + length xs) ys
 groups_from-append i [] ys = ap (λ k. groups_from k ys) (sym (add-zero i)) ∙ sym (zero-add _)
 groups_from-append i (x ∷ xs) ys =
-    let step : groups_from (suc i) (xs ++ ys) ≡ groups_from (suc i) xs + groups_from (suc i + length xs) ys = groups_from-append (suc i) xs ys in
+    let step : groups_from (suc i) (xs ++ ys) ≡ groups_from (suc i) xs + groups_from (suc i + length xs) ys =
+    groups_from-append (suc i) xs ys in
     let place : suc i + length xs ≡ i + suc (length xs) = omega arith in
     let moved : groups_from (suc i + length xs) ys ≡ groups_from (i + suc (length xs)) ys = ap (λ k. groups_from k ys) place in
     omega arith
@@ -25,7 +26,8 @@ groups_from-lt i (x ∷ xs) =
     let place : suc i + length xs ≡ i + suc (length xs) = omega arith in
     let moved : 128 ^ (suc i + length xs) ≡ 128 ^ (i + suc (length xs)) = ap (λ k. 128 ^ k) place in
     let power : 128 ^ suc i ≡ 128 ^ i * 128 = pow-suc 128 i in
-    let group : (x % 128) * 128 ^ i + 128 ^ i ≤ 128 * 128 ^ i = row_fits (x % 128) (128 ^ i) 128 (128 ^ i) (mod_below x 128 (omega arith)) (omega arith) in
+    let group : (x % 128) * 128 ^ i + 128 ^ i ≤ 128 * 128 ^ i =
+    row_fits (x % 128) (128 ^ i) 128 (128 ^ i) (mod_below x 128 (omega arith)) (omega arith) in
     omega arith
 
 pub pow-128 : (i : ℕ) → 128 ^ i ≡ 2 ^ (7 * i)
@@ -53,11 +55,13 @@ or_group v c i j below small within =
 -- going on at a place
 pub going_on-more : (b : List ℕ) (i : ℕ) → i < length b → 128 ≤ get_or b i 0 → going_on (drop i b) ≡ suc (going_on (drop (i + 1) b))
 unfolding going_on
-going_on-more b i within large = ap going_on (drop_more b i 0 within) ∙ ap (λ t. cond t 0 (suc (going_on (drop (i + 1) b)))) (le-ltb _ _ large)
+going_on-more b i within large =
+    ap going_on (drop_more b i 0 within) ∙ ap (λ t. cond t 0 (suc (going_on (drop (i + 1) b)))) (le-ltb _ _ large)
 
 pub going_on-stop : (b : List ℕ) (i : ℕ) → i < length b → get_or b i 0 < 128 → going_on (drop i b) ≡ 0
 unfolding going_on
-going_on-stop b i within small = ap going_on (drop_more b i 0 within) ∙ ap (λ t. cond t 0 (suc (going_on (drop (i + 1) b)))) (lt-ltb _ _ small)
+going_on-stop b i within small =
+    ap going_on (drop_more b i 0 within) ∙ ap (λ t. cond t 0 (suc (going_on (drop (i + 1) b)))) (lt-ltb _ _ small)
 
 pub going_on-le : (b : List ℕ) → going_on b ≤ length b
 unfolding going_on
@@ -66,7 +70,8 @@ going_on-le (x ∷ xs) =
     let more : going_on xs ≤ length xs = going_on-le xs in
     elim (cases_lt x 128) [ inl h ↦ rw (lt-ltb x 128 h) (omega arith) | inr h ↦ rw (le-ltb x 128 h) (omega arith) ]
 
-before_here : (xs : List ℕ) (x i : ℕ) → 128 ≤ x → i < suc (going_on xs) → ((k : ℕ) → k < going_on xs → 128 ≤ get_or xs k 0) → 128 ≤ get_or (x ∷ xs) i 0
+before_here : (xs : List ℕ) (x i : ℕ) → 128 ≤ x → i < suc (going_on xs) → ((k : ℕ) → k < going_on xs → 128 ≤ get_or xs k 0)
+    → 128 ≤ get_or (x ∷ xs) i 0
 before_here xs x zero large h before = large
 before_here xs x (suc i) large h before = before i (omega arith)
 
@@ -85,7 +90,8 @@ going_on-at (x ∷ xs) h =
     elim (cases_lt x 128) [ inl small ↦ rw (lt-ltb x 128 small) small | inr large ↦ rw (le-ltb x 128 large) (going_on-at xs (let more = rw (le-ltb x 128 large) at h in omega arith)) ]
 
 -- of a spelling with bytes behind it, all but one go on
-pub going_on_front : (front back : List ℕ) → 1 ≤ length front → ((i : ℕ) → i + 1 < length front → 128 ≤ get_or front i 0) → get_or front (length front - 1) 0 < 128 → going_on (front ++ back) + 1 ≡ length front
+pub going_on_front : (front back : List ℕ) → 1 ≤ length front → ((i : ℕ) → i + 1 < length front → 128 ≤ get_or front i 0)
+    → get_or front (length front - 1) 0 < 128 → going_on (front ++ back) + 1 ≡ length front
 unfolding going_on
 going_on_front [] back some goes_on ends = absurd (omega arith)
 going_on_front (x ∷ []) back some goes_on ends = rw (lt-ltb x 128 ends) refl
@@ -93,7 +99,8 @@ going_on_front (x ∷ (y ∷ ys)) back some goes_on ends =
     let large : 128 ≤ x = goes_on 0 (omega arith) in
     let place : length (x ∷ (y ∷ ys)) - 1 ≡ suc (length (y ∷ ys) - 1) = omega arith in
     let last : get_or (y ∷ ys) (length (y ∷ ys) - 1) 0 < 128 = subst (λ (k : ℕ). get_or (x ∷ (y ∷ ys)) k 0 < 128) place ends in
-    let more : going_on ((y ∷ ys) ++ back) + 1 ≡ length (y ∷ ys) = going_on_front (y ∷ ys) back (omega arith) (λ i h. goes_on (suc i) (omega arith)) last in
+    let more : going_on ((y ∷ ys) ++ back) + 1 ≡ length (y ∷ ys) =
+    going_on_front (y ∷ ys) back (omega arith) (λ i h. goes_on (suc i) (omega arith)) last in
     rw (le-ltb x 128 large) (omega arith)
 
 -- what the test of `number_at` tells
@@ -149,7 +156,8 @@ number_spelled front back n s =
     let all : length (front ++ back) ≡ length front + length back = length-append front back in
     let ten : length front ≤ 10 = s.at_most_ten in
     let fits : n < 2 ^ 64 = s.fits in
-    let there : IsReady (front ++ back) = record { whole = omega arith; at_most_ten = omega arith; fits = subst (λ (k : ℕ). k < 2 ^ 64) (sym number) fits } in
+    let there : IsReady (front ++ back) =
+    record { whole = omega arith; at_most_ten = omega arith; fits = subst (λ (k : ℕ). k < 2 ^ 64) (sym number) fits } in
     number_there (front ++ back) (has_number_from (front ++ back) there) ∙ ap Ok (same_pair number size)
 
 -- the number at the front is spelled there
@@ -165,18 +173,24 @@ ready_spells b r =
           subst (λ (k : ℕ). 128 ≤ k) (sym at) (going_on-before b i (omega arith));
       ends =
           let place : length (take (going_on b + 1) b) - 1 ≡ going_on b = omega arith in
-          let at : get_or (take (going_on b + 1) b) (going_on b) 0 ≡ get_or b (going_on b) 0 = get_or-take (going_on b + 1) b (going_on b) 0 (omega arith) in
-          subst (λ (k : ℕ). get_or (take (going_on b + 1) b) k 0 < 128) (sym place) (subst (λ (k : ℕ). k < 128) (sym at) (going_on-at b whole));
+          let at : get_or (take (going_on b + 1) b) (going_on b) 0 ≡ get_or b (going_on b) 0 =
+          get_or-take (going_on b + 1) b (going_on b) 0 (omega arith) in
+          subst (λ (k : ℕ). get_or (take (going_on b + 1) b) k 0 < 128) (sym place)
+          (subst (λ (k : ℕ). k < 128) (sym at) (going_on-at b whole));
       sum = refl;
       fits = r.fits;
     }
 
-by_parts : (b : List ℕ) (n k : ℕ) → IsReady b → pair_of (number_of b) (going_on b + 1) ≡ pair_of n k → (1 ≤ k) × (k ≤ length b) × Spells (take k b) n
+by_parts : (b : List ℕ) (n k : ℕ) → IsReady b → pair_of (number_of b) (going_on b + 1) ≡ pair_of n k
+    → (1 ≤ k) × (k ≤ length b) × Spells (take k b) n
 by_parts b n k r e =
     let number : number_of b ≡ n = ap (λ p. p.0) e in
     let size : going_on b + 1 ≡ k = ap (λ p. p.1) e in
-    let whole : going_on b < length b = r.whole in
-    (omega arith, omega arith, subst (λ (m : ℕ). Spells (take k b) m) number (subst (λ (m : ℕ). Spells (take m b) (number_of b)) size (ready_spells b r)))
+    let whole : going_on b < length b = r.whole in (
+      omega arith,
+      omega arith,
+      subst (λ (m : ℕ). Spells (take k b) m) number (subst (λ (m : ℕ). Spells (take m b) (number_of b)) size (ready_spells b r)),
+    )
 
 pub number_seen : (b : List ℕ) (n k : ℕ) → number_at b ≡ Ok (n, k) → (1 ≤ k) × (k ≤ length b) × Spells (take k b) n
 number_seen b n k e =
@@ -204,13 +218,18 @@ number_none_from b none =
 
 -- ---- the loop over the bytes: v is the sum of the i groups before
 
-pub group_step : (b : List ℕ) (i : ℕ) → i < length b → groups_from 0 (take (i + 1) b) ≡ groups_from 0 (take i b) + (get_or b i 0 % 128) * 128 ^ i
+pub group_step : (b : List ℕ) (i : ℕ) → i < length b
+    → groups_from 0 (take (i + 1) b) ≡ groups_from 0 (take i b) + (get_or b i 0 % 128) * 128 ^ i
 group_step b i within =
     let size : length (take i b) ≡ i = length-take-le i b (omega arith) in
     let place : 0 + length (take i b) ≡ i = zero-add _ ∙ size in
-    let joined : groups_from 0 (take (i + 1) b) ≡ groups_from 0 (take i b ++ get_or b i 0 ∷ []) = ap (groups_from 0) (take_more b i 0 within) in
-    let parts : groups_from 0 (take i b ++ get_or b i 0 ∷ []) ≡ groups_from 0 (take i b) + groups_from (0 + length (take i b)) (get_or b i 0 ∷ []) = groups_from-append 0 (take i b) (get_or b i 0 ∷ []) in
-    let last : groups_from (0 + length (take i b)) (get_or b i 0 ∷ []) ≡ (get_or b i 0 % 128) * 128 ^ i + 0 = ap (λ k. (get_or b i 0 % 128) * 128 ^ k + 0) place in
+    let joined : groups_from 0 (take (i + 1) b) ≡ groups_from 0 (take i b ++ get_or b i 0 ∷ []) =
+    ap (groups_from 0) (take_more b i 0 within) in
+    let parts : groups_from 0 (take i b ++ get_or b i 0 ∷ [])
+    ≡ groups_from 0 (take i b) + groups_from (0 + length (take i b)) (get_or b i 0 ∷ []) =
+    groups_from-append 0 (take i b) (get_or b i 0 ∷ []) in
+    let last : groups_from (0 + length (take i b)) (get_or b i 0 ∷ []) ≡ (get_or b i 0 % 128) * 128 ^ i + 0 =
+    ap (λ k. (get_or b i 0 % 128) * 128 ^ k + 0) place in
     omega (arith, joined, parts, last)
 
 pub groups_below : (b : List ℕ) (i : ℕ) → i ≤ length b → groups_from 0 (take i b) < 128 ^ i
@@ -240,13 +259,16 @@ group_width i x g =
       | inr h ↦ (1, (let nine : i ≡ 9 = omega arith in let last : x ≤ 1 = g.last nine in omega (arith, mod-eq_of_lt {n = x} {m = 128} (omega arith))), omega arith)
     ]
 
-pub group_set : (b : List ℕ) (i v x : ℕ) → i < length b → x ≡ get_or b i 0 → IsGroup i x → v ≡ groups_from 0 (take i b) → bit_or v (bit_and x 127 * 2 ^ (7 * i) % 2 ^ 64) ≡ groups_from 0 (take (i + 1) b)
+pub group_set : (b : List ℕ) (i v x : ℕ) → i < length b → x ≡ get_or b i 0 → IsGroup i x → v ≡ groups_from 0 (take i b)
+    → bit_or v (bit_and x 127 * 2 ^ (7 * i) % 2 ^ 64) ≡ groups_from 0 (take (i + 1) b)
 group_set b i v x within is g sum =
     let width = group_width i x g in
     let mask : bit_and x 127 ≡ x % 128 = and_mask x 7 in
     let below : v < 128 ^ i = subst (λ (k : ℕ). k < 128 ^ i) (sym sum) (groups_below b i (omega arith)) in
-    let set : bit_or v ((x % 128) * 2 ^ (7 * i) % 2 ^ 64) ≡ v + (x % 128) * 128 ^ i = or_group v (x % 128) i width.0 below width.1 width.2 in
-    let masked : bit_or v (bit_and x 127 * 2 ^ (7 * i) % 2 ^ 64) ≡ bit_or v ((x % 128) * 2 ^ (7 * i) % 2 ^ 64) = ap (λ k. bit_or v (k * 2 ^ (7 * i) % 2 ^ 64)) mask in
+    let set : bit_or v ((x % 128) * 2 ^ (7 * i) % 2 ^ 64) ≡ v + (x % 128) * 128 ^ i =
+    or_group v (x % 128) i width.0 below width.1 width.2 in
+    let masked : bit_or v (bit_and x 127 * 2 ^ (7 * i) % 2 ^ 64) ≡ bit_or v ((x % 128) * 2 ^ (7 * i) % 2 ^ 64) =
+    ap (λ k. bit_or v (k * 2 ^ (7 * i) % 2 ^ 64)) mask in
     let step : groups_from 0 (take (i + 1) b) ≡ groups_from 0 (take i b) + (get_or b i 0 % 128) * 128 ^ i = group_step b i within in
     let here : (get_or b i 0 % 128) * 128 ^ i ≡ (x % 128) * 128 ^ i = ap (λ k. (k % 128) * 128 ^ i) (sym is) in
     omega (arith, masked, set, step, here, sum)
@@ -254,30 +276,37 @@ group_set b i v x within is g sum =
 pub groups_fit : (b : List ℕ) (i x : ℕ) → i < length b → x ≡ get_or b i 0 → IsGroup i x → groups_from 0 (take (i + 1) b) < 2 ^ 64
 groups_fit b i x within is g =
     let width = group_width i x g in
-    let fits : groups_from 0 (take i b) + (x % 128) * 128 ^ i < 2 ^ 64 = group_fits _ (x % 128) i width.0 (groups_below b i (omega arith)) width.1 width.2 in
+    let fits : groups_from 0 (take i b) + (x % 128) * 128 ^ i < 2 ^ 64 =
+    group_fits _ (x % 128) i width.0 (groups_below b i (omega arith)) width.1 width.2 in
     let step : groups_from 0 (take (i + 1) b) ≡ groups_from 0 (take i b) + (get_or b i 0 % 128) * 128 ^ i = group_step b i within in
     let here : (get_or b i 0 % 128) * 128 ^ i ≡ (x % 128) * 128 ^ i = ap (λ k. (k % 128) * 128 ^ i) (sym is) in
     omega (arith, fits, step, here)
 
 -- the byte at i ends the number v
-pub number_ends : (b : List ℕ) (i v : ℕ) → i ≤ 9 → i < length b → get_or b i 0 < 128 → going_on b ≡ i + going_on (drop i b) → groups_from 0 (take (i + 1) b) ≡ v → v < 2 ^ 64 → number_at b ≡ Ok (v, i + 1)
+pub number_ends : (b : List ℕ) (i v : ℕ) → i ≤ 9 → i < length b → get_or b i 0 < 128 → going_on b ≡ i + going_on (drop i b)
+    → groups_from 0 (take (i + 1) b) ≡ v → v < 2 ^ 64 → number_at b ≡ Ok (v, i + 1)
 number_ends b i v place within small goes sum fits =
     let stops : going_on (drop i b) ≡ 0 = going_on-stop b i within small in
     let size : going_on b + 1 ≡ i + 1 = omega arith in
     let number : number_of b ≡ v = ap (λ k. groups_from 0 (take k b)) size ∙ sum in
-    let there : IsReady b = record { whole = omega arith; at_most_ten = omega arith; fits = subst (λ (k : ℕ). k < 2 ^ 64) (sym number) fits } in
+    let there : IsReady b =
+    record { whole = omega arith; at_most_ten = omega arith; fits = subst (λ (k : ℕ). k < 2 ^ 64) (sym number) fits } in
     number_there b (has_number_from b there) ∙ ap Ok (same_pair number size)
 
-pub varint_ends : (b : List ℕ) (i v x : ℕ) → i < length b → x ≡ get_or b i 0 → x < 128 → IsGroup i x → going_on b ≡ i + going_on (drop i b) → v ≡ groups_from 0 (take i b) → number_at b ≡ Ok (bit_or v (bit_and x 127 * 2 ^ (7 * i) % 2 ^ 64), i + 1)
+pub varint_ends : (b : List ℕ) (i v x : ℕ) → i < length b → x ≡ get_or b i 0 → x < 128 → IsGroup i x
+    → going_on b ≡ i + going_on (drop i b) → v ≡ groups_from 0 (take i b)
+    → number_at b ≡ Ok (bit_or v (bit_and x 127 * 2 ^ (7 * i) % 2 ^ 64), i + 1)
 varint_ends b i v x within is small g goes sum =
     let set : groups_from 0 (take (i + 1) b) ≡ bit_or v (bit_and x 127 * 2 ^ (7 * i) % 2 ^ 64) = sym (group_set b i v x within is g sum) in
-    number_ends b i _ g.place within (subst (λ (k : ℕ). k < 128) is small) goes set (subst (λ (k : ℕ). k < 2 ^ 64) set (groups_fit b i x within is g))
+    number_ends b i _ g.place within (subst (λ (k : ℕ). k < 128) is small) goes set
+    (subst (λ (k : ℕ). k < 2 ^ 64) set (groups_fit b i x within is g))
 
 past_ten : (b : List ℕ) → 10 ≤ length b → (let r : Result (ℕ × ℕ) WireCause = Err (spell_cause b) in r) ≡ Err VarintRange
 past_ten b h = ap Err (ap (λ t. cond t Truncated VarintRange) (le-ltb (length b) 10 h))
 
 -- the tenth byte is too large
-pub varint_past : (b : List ℕ) (i x : ℕ) → i ≡ 9 → i < length b → x ≡ get_or b i 0 → 1 < x → going_on b ≡ i + going_on (drop i b) → number_at b ≡ Err VarintRange
+pub varint_past : (b : List ℕ) (i x : ℕ) → i ≡ 9 → i < length b → x ≡ get_or b i 0 → 1 < x
+    → going_on b ≡ i + going_on (drop i b) → number_at b ≡ Err VarintRange
 varint_past b i x nine within is large goes =
     elim (cases_lt x 128) [
       | inl small ↦
@@ -285,7 +314,8 @@ varint_past b i x nine within is large goes =
           let size : going_on b + 1 ≡ i + 1 = omega arith in
           let number : number_of b ≡ groups_from 0 (take (i + 1) b) = ap (λ k. groups_from 0 (take k b)) size in
           let step : groups_from 0 (take (i + 1) b) ≡ groups_from 0 (take i b) + (get_or b i 0 % 128) * 128 ^ i = group_step b i within in
-          let here : (get_or b i 0 % 128) * 128 ^ i ≡ (x % 128) * 128 ^ 9 = ap (λ k. (k % 128) * 128 ^ i) (sym is) ∙ ap (λ k. (x % 128) * 128 ^ k) nine in
+          let here : (get_or b i 0 % 128) * 128 ^ i ≡ (x % 128) * 128 ^ 9 =
+          ap (λ k. (k % 128) * 128 ^ i) (sym is) ∙ ap (λ k. (x % 128) * 128 ^ k) nine in
           let whole : x % 128 ≡ x = mod-eq_of_lt small in
           number_large b (omega (arith, number, step, here, whole)) ∙ past_ten b (omega arith))
       | inr big ↦
@@ -295,7 +325,8 @@ varint_past b i x nine within is large goes =
 
 -- the bytes end
 pub varint_cut : (b : List ℕ) (i : ℕ) → i ≤ 9 → length b ≤ i → going_on b ≡ i + going_on (drop i b) → number_at b ≡ Err Truncated
-varint_cut b i place over goes = number_short b (omega arith) ∙ ap Err (ap (λ t. cond t Truncated VarintRange) (lt-ltb (length b) 10 (omega arith)))
+varint_cut b i place over goes =
+    number_short b (omega arith) ∙ ap Err (ap (λ t. cond t Truncated VarintRange) (lt-ltb (length b) 10 (omega arith)))
 
 -- a byte that goes on isn't the tenth
 pub varint_goes_on : (i x : ℕ) → IsGroup i x → 128 ≤ x → i + 1 ≤ 9
@@ -310,7 +341,8 @@ one_byte b some small =
     let whole : get_or b 0 0 % 128 ≡ get_or b 0 0 = mod-eq_of_lt small in
     number_ends b 0 (get_or b 0 0) (omega arith) some small (sym (zero-add _)) (omega (arith, step, whole)) (omega arith)
 
-pub two_bytes : (b : List ℕ) → 1 < length b → 128 ≤ get_or b 0 0 → get_or b 1 0 < 128 → number_at b ≡ Ok (bit_or (bit_and (get_or b 0 0) 127) (get_or b 1 0 * 2 ^ 7 % 2 ^ 64), 2)
+pub two_bytes : (b : List ℕ) → 1 < length b → 128 ≤ get_or b 0 0 → get_or b 1 0 < 128
+    → number_at b ≡ Ok (bit_or (bit_and (get_or b 0 0) 127) (get_or b 1 0 * 2 ^ 7 % 2 ^ 64), 2)
 two_bytes b some large small =
     let x = get_or b 0 0 in
     let y = get_or b 1 0 in
@@ -319,12 +351,16 @@ two_bytes b some large small =
     let mask : bit_and (get_or b 0 0) 127 ≡ get_or b 0 0 % 128 = and_mask (get_or b 0 0) 7 in
     let below : get_or b 0 0 % 128 < 128 = mod_below (get_or b 0 0) 128 (omega arith) in
     let whole : get_or b 1 0 % 128 ≡ get_or b 1 0 = mod-eq_of_lt small in
-    let set : bit_or (bit_and (get_or b 0 0) 127) (get_or b 1 0 * 2 ^ 7 % 2 ^ 64) ≡ bit_and (get_or b 0 0) 127 + get_or b 1 0 * 128 ^ 1 = or_group (bit_and (get_or b 0 0) 127) (get_or b 1 0) 1 7 (omega arith) small (omega arith) in
+    let set : bit_or (bit_and (get_or b 0 0) 127) (get_or b 1 0 * 2 ^ 7 % 2 ^ 64)
+    ≡ bit_and (get_or b 0 0) 127 + get_or b 1 0 * 128 ^ 1 =
+    or_group (bit_and (get_or b 0 0) 127) (get_or b 1 0) 1 7 (omega arith) small (omega arith) in
     let more : going_on (drop 0 b) ≡ suc (going_on (drop 1 b)) = going_on-more b 0 (omega arith) large in
-    number_ends b 1 _ (omega arith) some small (omega (arith, more)) (omega (arith, first, second, mask, whole, set)) (omega (arith, mask, below, set))
+    number_ends b 1 _ (omega arith) some small (omega (arith, more)) (omega (arith, first, second, mask, whole, set))
+    (omega (arith, mask, below, set))
 
 -- what the public call answers
-pub same_found : (b front back : List ℕ) (found : ℕ × ℕ) (n : ℕ) → number_at b ≡ Ok found → b ≡ front ++ back → Spells front n → found ≡ pair_of n (length front)
+pub same_found : (b front back : List ℕ) (found : ℕ × ℕ) (n : ℕ) → number_at b ≡ Ok found → b ≡ front ++ back
+    → Spells front n → found ≡ pair_of n (length front)
 same_found b front back found n e joined s = same_ok _ _ _ e (ap number_at joined ∙ number_spelled front back n s)
 
 pub none_found : (b front back : List ℕ) (c : WireCause) (n : ℕ) → number_at b ≡ Err c → b ≡ front ++ back → Spells front n → ⊥
@@ -333,7 +369,8 @@ none_found b front back c n e joined s = let there = sym e ∙ ap number_at join
 -- two spellings at the front of one list are one
 pub varint_once : (a b x y : List ℕ) (m n : ℕ) → Spells a m → Spells b n → a ++ x ≡ b ++ y → (a ≡ b) × (x ≡ y) × (m ≡ n)
 varint_once a b x y m n left right joined =
-    let same : pair_of m (length a) ≡ pair_of n (length b) = same_ok _ _ (number_at (a ++ x)) (number_spelled a x m left) (ap number_at joined ∙ number_spelled b y n right) in
+    let same : pair_of m (length a) ≡ pair_of n (length b) =
+    same_ok _ _ (number_at (a ++ x)) (number_spelled a x m left) (ap number_at joined ∙ number_spelled b y n right) in
     let number : m ≡ n = ap (λ p. p.0) same in
     let size : length a ≡ length b = ap (λ p. p.1) same in
     let front : a ≡ b = sym (take_at a x (length b) size) ∙ ap (take (length b)) joined ∙ take_at b y (length b) refl in

@@ -1,5 +1,5 @@
 -- What the contracts of private functions cite.
-use Rattle.std.specs.Prelude.{◌≡◌, ◌++◌, ℕ, List, Result, Ok, Err}
+use Rattle.std.specs.Prelude.{ℕ, Result, Ok, Err}
 use Rattle.mvt_wire.specs.declared.fault.WireCause.{WireCause}
 use Rattle.mvt_wire.specs.declared.fault.WireCause.TheVariants.{Truncated, VarintRange, FieldNumber, WireType}
 use Rattle.mvt_wire.specs.declared.packed.PackedError.{PackedError}
@@ -8,10 +8,6 @@ use Rattle.mvt_wire.specs.declared.field.Field.{Field}
 use Rattle.mvt_wire.specs.declared.field.Loaded.{Loaded}
 use Rattle.mvt_wire.specs.Field.{Entry, content_of, entry_of}
 use Rattle.mvt_wire.specs.Fronts.{Load}
-
--- a list with more behind it
-abbrev pub Extends : List ℕ → List ℕ → Type 0
-Extends old new = (more : List ℕ) × (new ≡ old ++ more)
 
 -- the program's values by what they hold
 abbrev pub load_of : Result Loaded WireCause → Result Load WireCause

@@ -1,5 +1,5 @@
 //! Laws about the definitions alone: functions without effect, whose contract is the law.
-ghost use Rattle.std.specs.Prelude.{◌≡◌, ◌≢◌, ◌↔◌, ℕ, ◌+◌, ◌*◌, ◌^◌, ◌<◌, ◌≤◌, List, [], ◌++◌, length, take, slice_index, None, Some, Ok, Err};
+ghost use Rattle.std.specs.Prelude.{◌≡◌, ◌≢◌, ◌↔◌, ℕ, ℤ, ◌+◌, ◌*◌, ◌^◌, ◌<◌, ◌≤◌, List, [], ◌++◌, length, take, slice_index, None, Some, Ok, Err};
 ghost use Rattle.std.specs.List.{AllByRecursion};
 ghost use Rattle.mvt_base.specs.Rules.{AreOrdered, IsLeast, first};
 ghost use Rattle.mvt_wire.specs.declared.fault.WireCause.{WireCause};
@@ -10,6 +10,7 @@ ghost use Rattle.mvt_wire.specs.Fronts.{number_at, entry_at, rest_cause};
 ghost use Rattle.mvt_wire.specs.Packed.{ArePacked, PackedCause, SplitNumbers, packed, packed_rules};
 ghost use Rattle.mvt_wire.specs.Rest.{IsRestCause};
 ghost use Rattle.mvt_wire.specs.Spelling.{IsFit, IsWholeAs, Plain, short_field, short_numbers, short_payload, spelled};
+ghost use Rattle.mvt_wire.specs.Zigzag.{zig, unzig};
 ghost use Rattle.mvt_wire.specs.Split.{Split, split, split_from, behind, no_fields, shifted, shifted_parts};
 
 /// At most one prefix of a list spells a number, and it spells one number.
@@ -167,4 +168,20 @@ pub fn short_lengths()
 /// Packed numbers of 32 bits take five bytes each at most.
 pub fn packed_lengths()
     ensures { (ns : List ℕ) → AllByRecursion (λ n. n < 2 ^ 32) ns → length (short_numbers ns) ≤ 5 * length ns }
+{}
+
+/// Fields behind others are spelled behind them.
+pub fn spelled_parts()
+    ensures { (fs gs : List Plain) → spelled (fs ++ gs) ≡ spelled fs ++ spelled gs }
+{}
+
+/// A field of bytes whose tag takes one byte takes at most eleven bytes more than they are.
+pub fn bytes_lengths()
+    ensures { (number : ℕ) (d : List ℕ) → number < 16 → length (short_field number (bytes d)) ≤ 11 + length d }
+{}
+
+/// `unzig` gives the number of a zigzag code, and `zig` the code of a number.
+pub fn zigzag_function()
+    ensures number { (z : ℤ) → unzig (zig z) ≡ z }
+    ensures code { (n : ℕ) → zig (unzig n) ≡ n }
 {}

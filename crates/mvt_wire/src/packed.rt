@@ -4,7 +4,8 @@ ghost use Rattle.mvt_base.specs.Rules.{first};
 ghost use Rattle.mvt_wire.specs.Field.{bytes};
 ghost use Rattle.mvt_wire.specs.Packed.{ArePacked, packed, packed_rules, TellsPacked};
 ghost use Rattle.mvt_wire.specs.Spelling.{short_field, short_numbers};
-ghost use Rattle.mvt_wire.specs.Inner.{Extends, error_of};
+ghost use Rattle.mvt_base.specs.Related.{Extends};
+ghost use Rattle.mvt_wire.specs.Inner.{error_of};
 
 use crate::fault::WireCause;
 use crate::varint::{put_varint, varint_at, varint_len};

@@ -2,7 +2,7 @@
 ghost use Rattle.std.specs.Prelude.{◌≡◌, ℕ, ◌+◌, ◌*◌, ◌^◌, ◌<◌, ◌≤◌, List, ◌++◌, length, IsOk, OnOk, OnErr, vec_len, vec_capacity};
 ghost use Rattle.mvt_wire.specs.Field.{bytes, content_of, wire_type};
 ghost use Rattle.mvt_wire.specs.Spelling.{short_field, short_payload};
-ghost use Rattle.mvt_wire.specs.Inner.{Extends};
+ghost use Rattle.mvt_base.specs.Related.{Extends};
 
 use crate::field::Payload;
 use crate::varint::{put_varint, varint_len};

@@ -6,12 +6,16 @@ use Rattle.std.specs.Hash.DefaultHasher as sip
 use Rattle.std.specs.BTreeMap.{get}
 use Rattle.mvt_attrs.specs.declared.spread.Spread.{Spread}
 
--- the two slots of an entry, among so many
+-- the slot of an entry by a hash, among so many
+abbrev pub slot_by : {T S : Type 0} → (S → List ℕ → S) → (S → ℕ) → S → (T → List (List ℕ)) → ℕ → T → ℕ
+slot_by write finish state input room x = bit_and (finish (fold write state (input x))) (room - 1)
+
+-- its two slots
 abbrev pub first_slot : {T : Type 0} → (T → List (List ℕ)) → ℕ → T → ℕ
-first_slot input room x = bit_and (folding.finish (fold folding.write folding.initial (input x))) (room - 1)
+first_slot = slot_by folding.write folding.finish folding.initial
 
 abbrev pub second_slot : {T : Type 0} → (T → List (List ℕ)) → ℕ → T → ℕ
-second_slot input room x = bit_and (sip.finish (fold sip.write sip.initial (input x))) (room - 1)
+second_slot = slot_by sip.write sip.finish sip.initial
 
 -- a slot is place i's, or it is another's and the rest holds
 abbrev pub IsOfOr : ℕ → ℕ → Type 0 → Type 0

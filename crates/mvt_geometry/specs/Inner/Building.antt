@@ -14,12 +14,12 @@ pub record IsFront (from : Point) (ints : List ℕ) (line : List Point) (more : 
   pub is : IsStroke 2 line
   pub spelled : ints ≡ stroke [] from line ++ more
 
--- the integers are lines, each ended in the same way
-pub record AreLines (end : List ℕ) (from : Point) (ints : List ℕ) (lines : List (List Point)) : Type 0 where
+-- the integers spell lines, each ended in the same way
+pub record SpellLines (end : List ℕ) (from : Point) (ints : List ℕ) (lines : List (List Point)) : Type 0 where
   pub are : AllByRecursion (IsStroke 2) lines
   pub spelled : ints ≡ strokes end from lines
 
--- the integers are rings, one at least
-pub record AreRings (ints : List ℕ) (rings : List (List Point)) : Type 0 where
-  pub lines : AreLines (15 ∷ []) origin ints rings
+-- the integers spell rings, one at least
+pub record SpellRings (ints : List ℕ) (rings : List (List Point)) : Type 0 where
+  pub lines : SpellLines (15 ∷ []) origin ints rings
   pub some : 0 < length rings

@@ -1,5 +1,5 @@
 -- What the writer is given.
-use Rattle.std.specs.Prelude.{◌≡◌, ◌++◌, ℕ, ◌<◌, ◌≤◌, ◌^◌, Bool, if◌then◌else◌, List, [], ◌∷◌, length}
+use Rattle.std.specs.Prelude.{ℕ, ◌<◌, ◌≤◌, ◌^◌, Bool, if◌then◌else◌, List, [], ◌∷◌, length}
 use Rattle.std.specs.List.{AllByRecursion}
 use Rattle.mvt_geometry.specs.declared.shape.Point.{Point}
 
@@ -14,7 +14,3 @@ pub record IsShort (points : List Point) : Type 0 where
 
 abbrev pub AreShort : List (List Point) → Type 0
 AreShort lines = AllByRecursion IsShort lines
-
--- a list that is as it was, or a longer one
-abbrev pub BeginsWith : List ℕ → List ℕ → Type 0
-BeginsWith old new = (more : List ℕ) × (new ≡ old ++ more)

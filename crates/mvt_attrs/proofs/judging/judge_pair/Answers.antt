@@ -1,6 +1,7 @@
 use Rattle.std.proofs.Common.{◌≡◌, ◌+◌, ◌-◌, ◌%◌, ◌<◌, [], length, drop, get_or, Some, sym, refl, ap, ◌∙◌, arith, length-drop}
 use Rattle.mvt_attrs.specs.declared.resolving.TagCause.TheVariants.{KeyIndex, ValueIndex}
-use Rattle.mvt_attrs.proofs.JudgingLemmas.{there, not_there}
+use Rattle.std.proofs.lemmas.Option.{slice_get_past}
+use Rattle.mvt_attrs.proofs.ResolvedLemmas.{there}
 use Rattle.mvt_attrs.proofs.ResolvedLemmas.{read_faultless}
 use Rattle.mvt_attrs.proofs.TagLemmas.{progress_none, tag_fault-odd, stops_without_key, stops_without_value, progress_more}
 use Rattle.mvt_attrs.proofs.judging.judge_pair.Goals as goal
@@ -11,7 +12,7 @@ returns-then-key-texts-clause-err c =
     let tags = c.args.tags.now in
     let first : length tags - length tags ≡ 0 = omega arith in
     rw c.fault-then-key-texts.ensures (λ held e.
-    stops_without_key texts held tags tags [] (progress_none texts held tags) (λ odd. omega arith) (omega arith) (sym (not_there texts _ c.if-key-texts.true))
+    stops_without_key texts held tags tags [] (progress_none texts held tags) (λ odd. omega arith) (omega arith) (sym (slice_get_past texts _ c.if-key-texts.true))
     ∙ ap (λ n. Some (n, KeyIndex)) first)
 
 pub returns-then-value-values-clause-err : goal.returns-then-value-values-clause-err
@@ -21,7 +22,7 @@ returns-then-value-values-clause-err c =
     let first : length tags - length tags + 1 ≡ 1 = omega arith in
     let key = there texts _ c.if-key-texts.false in
     rw c.fault-then-value-values.ensures (λ held e.
-    stops_without_value texts held tags tags [] (progress_none texts held tags) (λ odd. omega arith) (omega arith) key.0 (sym key.1) (sym (not_there held _ (rw e c.if-value-values.true)))
+    stops_without_value texts held tags tags [] (progress_none texts held tags) (λ odd. omega arith) (omega arith) key.0 (sym key.1) (sym (slice_get_past held _ (rw e c.if-value-values.true)))
     ∙ ap (λ n. Some (n, ValueIndex)) first)
 
 pub returns-in-empty-clause-ok : goal.returns-in-empty-clause-ok

@@ -1,12 +1,12 @@
 use Rattle.std.proofs.Common.{◌≡◌, ◌+◌, ◌∙◌, ◌++◌, ◌∷◌, [], sym, append-nil, append_assoc, slice_get, Some, ap, bytes_eq, refl, inl, inr, length, Contains, subst, arith}
 use Rattle.std.proofs.lemmas.Result.{err_from_is_err_and}
 use Rattle.mvt_base.specs.declared.TheConstants.{LIMIT}
-use Rattle.mvt_attrs.specs.Placed.{ArePlaced}
 use Rattle.mvt_attrs.specs.declared.value.Attribute.{Attribute}
 use Rattle.mvt_attrs.specs.Values.{equal_values}
 use Rattle.std.proofs.lemmas.Slice.Eq.{bytes_eq-Decides}
 use Rattle.mvt_attrs.proofs.EqualityLemmas.{equal_values-Decides}
-use Rattle.mvt_attrs.proofs.PlacingLemmas.{IsPut, pool_none, pool_more, pool_longer, names_more, names_none, pool_passes, on_err_at, keys_more, values_more, not_full_at, contains_at, told_tags, not_longer, all_places, all_named, tags_left_at}
+use Rattle.mvt_base.proofs.ResultLemmas.{on_err}
+use Rattle.mvt_attrs.proofs.PlacingLemmas.{IsPut, pool_none, pool_more, pool_longer, names_more, names_none, pool_passes, keys_more, values_more, not_full_at, contains_at, told_tags, not_longer, all_places, all_named, tags_left_at}
 use Rattle.mvt_attrs.proofs.placing.append_tags.Goals as goal
 
 pub loop-attribute-init : goal.loop-attribute-init
@@ -62,8 +62,7 @@ returns-in_err-extend_from_slice-clause-tags_left c =
 
 pub returns-in_err-key-clause-left : goal.returns-in_err-key-clause-left
 returns-in_err-key-clause-left c =
-    on_err_at (λ n. ArePlaced n c.args.attributes.now c.args.keys.now c.place_near.new.self c.args.values.now c.loop-attribute.values) c.from_residual.result c.loop-attribute.attribute-index
-    (record { within = omega arith; keys_are = inl (c.in_err-key.ensures.unchanged ∙ c.loop-attribute.invariant.keys); values_are = c.loop-attribute.invariant.values })
+    on_err c.from_residual.result (c.loop-attribute.attribute-index, record { within = omega arith; keys_are = inl (c.in_err-key.ensures.unchanged ∙ c.loop-attribute.invariant.keys); values_are = c.loop-attribute.invariant.values })
 
 pub returns-in_err-key-clause-too_many : goal.returns-in_err-key-clause-too_many
 returns-in_err-key-clause-too_many c =
@@ -90,12 +89,14 @@ returns-in_err-key-clause-memory c =
 pub returns-in_err-value-clause-left : goal.returns-in_err-value-clause-left
 returns-in_err-value-clause-left c =
     let key : IsPut c.loop-attribute.keys c.place_near.new.self c.attribute-item.result.key = record { kept = c.in_ok-key.ensures.kept; added = c.in_ok-key.ensures.added } in
-    on_err_at (λ n. ArePlaced n c.args.attributes.now c.args.keys.now c.place_near.new.self c.args.values.now c.place_near-in-loop-attribute.new.self) c.from_residual-in_err-value.result c.loop-attribute.attribute-index
-    (record {
-      within = omega arith;
-      keys_are = inr (keys_more c.args.keys.now c.loop-attribute.keys _ c.args.attributes.now c.loop-attribute.attribute-index c.attribute-item.result _ c.loop-attribute.invariant.keys c.loop-attribute-test.true c.attribute-item.is refl key);
-      values_are = c.in_err-value.ensures.unchanged ∙ c.loop-attribute.invariant.values;
-    })
+    on_err c.from_residual-in_err-value.result (
+      c.loop-attribute.attribute-index,
+      record {
+        within = omega arith;
+        keys_are = inr (keys_more c.args.keys.now c.loop-attribute.keys _ c.args.attributes.now c.loop-attribute.attribute-index c.attribute-item.result _ c.loop-attribute.invariant.keys c.loop-attribute-test.true c.attribute-item.is refl key);
+        values_are = c.in_err-value.ensures.unchanged ∙ c.loop-attribute.invariant.values;
+      },
+    )
 
 pub returns-in_err-value-clause-too_many : goal.returns-in_err-value-clause-too_many
 returns-in_err-value-clause-too_many c =
@@ -130,12 +131,14 @@ returns-in_err-extend_from_slice-clause-left c =
     let a = c.attribute-item.result in
     let key : IsPut c.loop-attribute.keys c.place_near.new.self c.attribute-item.result.key = record { kept = c.in_ok-key.ensures.kept; added = c.in_ok-key.ensures.added } in
     let value : IsPut c.loop-attribute.values c.place_near-in-loop-attribute.new.self a.value = record { kept = c.in_ok-value.ensures.kept; added = c.in_ok-value.ensures.added } in
-    on_err_at (λ n. ArePlaced n c.args.attributes.now c.args.keys.now c.place_near.new.self c.args.values.now c.place_near-in-loop-attribute.new.self) c.from_residual-in_err-extend_from_slice.result (c.loop-attribute.attribute-index + 1)
-    (record {
-      within = omega arith;
-      keys_are = inl (keys_more c.args.keys.now c.loop-attribute.keys _ c.args.attributes.now c.loop-attribute.attribute-index a _ c.loop-attribute.invariant.keys c.loop-attribute-test.true c.attribute-item.is refl key);
-      values_are = values_more c.args.values.now c.loop-attribute.values _ c.args.attributes.now c.loop-attribute.attribute-index a c.loop-attribute.invariant.values c.loop-attribute-test.true c.attribute-item.is value;
-    })
+    on_err c.from_residual-in_err-extend_from_slice.result (
+      (c.loop-attribute.attribute-index + 1),
+      record {
+        within = omega arith;
+        keys_are = inl (keys_more c.args.keys.now c.loop-attribute.keys _ c.args.attributes.now c.loop-attribute.attribute-index a _ c.loop-attribute.invariant.keys c.loop-attribute-test.true c.attribute-item.is refl key);
+        values_are = values_more c.args.values.now c.loop-attribute.values _ c.args.attributes.now c.loop-attribute.attribute-index a c.loop-attribute.invariant.values c.loop-attribute-test.true c.attribute-item.is value;
+      },
+    )
 
 pub returns-in_err-extend_from_slice-clause-memory : goal.returns-in_err-extend_from_slice-clause-memory
 returns-in_err-extend_from_slice-clause-memory c =

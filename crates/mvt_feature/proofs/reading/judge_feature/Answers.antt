@@ -1,6 +1,5 @@
-use Rattle.std.proofs.Common.{◌∙◌}
 use Rattle.std.proofs.lemmas.Result.{err_from_is_err_and}
-use Rattle.mvt_feature.proofs.FeatureLemmas.{known_told, tags_told, drawing_told, feature_clean}
+use Rattle.mvt_feature.proofs.FeatureLemmas.{Says, known_told, tags_told, drawing_told, feature_clean}
 use Rattle.mvt_feature.proofs.reading.judge_feature.Goals as goal
 
 pub returns-in_err-known-clause-err : goal.returns-in_err-known-clause-err
@@ -11,16 +10,24 @@ returns-in_err-known-clause-err c =
 pub returns-in_err-judge_tags-clause-err : goal.returns-in_err-judge_tags-clause-err
 returns-in_err-judge_tags-clause-err c =
     let p = err_from_is_err_and c.from_residual-in_err-judge_tags.result c.from_residual-in_err-judge_tags.ensures.1 in
-    let known = c.in_ok-known.ensures.known in
-    rw (p.1, p.2) (λ held e. tags_told c.args.payload.now c.args.payload_at c.args.keys.now held c.deref.result.now c.in_err-judge_tags.field-0.0 c.in_ok-known.ensures.whole c.in_ok-known.ensures.ok (c.deref.ensures.value ∙ known.tags_are) (c.in_err-judge_tags.ensures.err held e))
+    let known = c.in_ok-known.ensures in
+    let says : Says c.args.payload.now c.args.payload_at _ _ _ = record { whole = known.whole; clean = known.ok; known_is = known.known } in
+    rw (p.1, p.2) (λ held e. tags_told says c.args.keys.now held c.in_err-judge_tags.field-0.0
+    (rw c.deref.ensures.value at (c.in_err-judge_tags.ensures.err held e)))
 
 pub returns-in_err-judge_geometry-clause-err : goal.returns-in_err-judge_geometry-clause-err
 returns-in_err-judge_geometry-clause-err c =
     let p = err_from_is_err_and c.from_residual-in_err-judge_geometry.result c.from_residual-in_err-judge_geometry.ensures.1 in
-    let known = c.in_ok-known.ensures.known in
-    rw (p.1, p.2) (λ held e. drawing_told c.args.payload.now c.args.payload_at c.args.keys.now held c.deref.result.now c.deref-2.result.now c.in_ok-known.known.kind c.in_err-judge_geometry.field-0.0 c.in_ok-known.ensures.whole c.in_ok-known.ensures.ok (c.deref.ensures.value ∙ known.tags_are) (c.deref-2.ensures.value ∙ known.integers_are) known.kind (c.in_ok-judge_tags.ensures.ok held e) c.in_err-judge_geometry.ensures.err)
+    let known = c.in_ok-known.ensures in
+    let says : Says c.args.payload.now c.args.payload_at _ _ _ = record { whole = known.whole; clean = known.ok; known_is = known.known } in
+    rw (p.1, p.2) (λ held e. drawing_told says c.args.keys.now held c.in_err-judge_geometry.field-0.0
+    (rw c.deref.ensures.value at (c.in_ok-judge_tags.ensures.ok held e))
+    (rw c.deref-2.ensures.value at c.in_err-judge_geometry.ensures.err))
 
 pub returns-clause-ok : goal.returns-clause-ok
 returns-clause-ok c =
-    let known = c.in_ok-known.ensures.known in
-    λ held e. feature_clean c.args.payload.now c.args.payload_at c.args.keys.now held c.deref.result.now c.deref-2.result.now c.in_ok-known.known.kind c.in_ok-known.ensures.whole c.in_ok-known.ensures.ok (c.deref.ensures.value ∙ known.tags_are) (c.deref-2.ensures.value ∙ known.integers_are) known.kind (c.in_ok-judge_tags.ensures.ok held e) c.in_ok-judge_geometry.ensures.ok
+    let known = c.in_ok-known.ensures in
+    let says : Says c.args.payload.now c.args.payload_at _ _ _ = record { whole = known.whole; clean = known.ok; known_is = known.known } in
+    λ held e. feature_clean says c.args.keys.now held
+    (rw c.deref.ensures.value at (c.in_ok-judge_tags.ensures.ok held e))
+    (rw c.deref-2.ensures.value at c.in_ok-judge_geometry.ensures.ok)

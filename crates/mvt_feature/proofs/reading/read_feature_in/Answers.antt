@@ -1,6 +1,6 @@
-use Rattle.std.proofs.Common.{◌∙◌}
+use Rattle.std.proofs.Common.{refl}
 use Rattle.std.proofs.lemmas.Result.{err_from_is_err_and}
-use Rattle.mvt_feature.proofs.FeatureLemmas.{known_told, tags_told, drawing_told, feature_clean, feature_from}
+use Rattle.mvt_feature.proofs.FeatureLemmas.{Says, known_told, tags_told, drawing_told, feature_clean, feature_from}
 use Rattle.mvt_feature.proofs.reading.read_feature_in.Goals as goal
 
 pub returns-in_err-known-clause-err : goal.returns-in_err-known-clause-err
@@ -11,23 +11,32 @@ returns-in_err-known-clause-err c =
 pub returns-in_err-attributes-clause-err : goal.returns-in_err-attributes-clause-err
 returns-in_err-attributes-clause-err c =
     let p = err_from_is_err_and c.from_residual-in_err-attributes.result c.from_residual-in_err-attributes.ensures.1 in
-    let known = c.in_ok-known.ensures.known in
-    rw (p.1, p.2) (tags_told c.args.payload.now c.args.payload_at c.args.keys.now c.args.values.now c.deref.result.now c.in_err-attributes.field-0.0 c.in_ok-known.ensures.whole c.in_ok-known.ensures.ok (c.deref.ensures.value ∙ known.tags_are) c.in_err-attributes.ensures.err)
+    let known = c.in_ok-known.ensures in
+    let says : Says c.args.payload.now c.args.payload_at _ _ _ = record { whole = known.whole; clean = known.ok; known_is = known.known } in
+    rw (p.1, p.2) (tags_told says c.args.keys.now c.args.values.now c.in_err-attributes.field-0.0
+    (rw c.deref.ensures.value at c.in_err-attributes.ensures.err))
 
 pub returns-in_err-geometry-clause-err : goal.returns-in_err-geometry-clause-err
 returns-in_err-geometry-clause-err c =
     let p = err_from_is_err_and c.from_residual-in_err-geometry.result c.from_residual-in_err-geometry.ensures.1 in
-    let known = c.in_ok-known.ensures.known in
-    rw (p.1, p.2) (drawing_told c.args.payload.now c.args.payload_at c.args.keys.now c.args.values.now c.deref.result.now c.deref-2.result.now c.in_ok-known.known.kind c.in_err-geometry.field-0.0 c.in_ok-known.ensures.whole c.in_ok-known.ensures.ok (c.deref.ensures.value ∙ known.tags_are) (c.deref-2.ensures.value ∙ known.integers_are) known.kind c.in_ok-attributes.ensures.ok c.in_err-geometry.ensures.err)
+    let known = c.in_ok-known.ensures in
+    let says : Says c.args.payload.now c.args.payload_at _ _ _ = record { whole = known.whole; clean = known.ok; known_is = known.known } in
+    rw (p.1, p.2) (drawing_told says c.args.keys.now c.args.values.now c.in_err-geometry.field-0.0
+    (rw c.deref.ensures.value at c.in_ok-attributes.ensures.ok)
+    (rw c.deref-2.ensures.value at c.in_err-geometry.ensures.err))
 
 pub returns-clause-feature : goal.returns-clause-feature
 returns-clause-feature c =
-    let known = c.in_ok-known.ensures.known in
-    feature_from c.split_function.ensures.is c.packed_function.ensures.clean c.args.payload.now c.args.payload_at c.args.keys.now c.args.values.now _ c.in_ok-known.ensures.whole c.in_ok-known.ensures.ok known.id
-    (rw (c.new.ensures, ← (c.deref.ensures.value ∙ known.tags_are)) c.in_ok-attributes.ensures.attributes)
-    (rw (← known.kind, ← (c.deref-2.ensures.value ∙ known.integers_are)) c.in_ok-geometry.ensures.drawn)
+    let known = c.in_ok-known.ensures in
+    let says : Says c.args.payload.now c.args.payload_at _ _ _ = record { whole = known.whole; clean = known.ok; known_is = known.known } in
+    feature_from says c.args.keys.now c.args.values.now _ refl
+    (rw (c.new.ensures, ← c.deref.ensures.value) c.in_ok-attributes.ensures.attributes)
+    (rw (← c.deref-2.ensures.value) c.in_ok-geometry.ensures.drawn)
 
 pub returns-clause-ok : goal.returns-clause-ok
 returns-clause-ok c =
-    let known = c.in_ok-known.ensures.known in
-    feature_clean c.args.payload.now c.args.payload_at c.args.keys.now c.args.values.now c.deref.result.now c.deref-2.result.now c.in_ok-known.known.kind c.in_ok-known.ensures.whole c.in_ok-known.ensures.ok (c.deref.ensures.value ∙ known.tags_are) (c.deref-2.ensures.value ∙ known.integers_are) known.kind c.in_ok-attributes.ensures.ok c.in_ok-geometry.ensures.ok
+    let known = c.in_ok-known.ensures in
+    let says : Says c.args.payload.now c.args.payload_at _ _ _ = record { whole = known.whole; clean = known.ok; known_is = known.known } in
+    feature_clean says c.args.keys.now c.args.values.now
+    (rw c.deref.ensures.value at c.in_ok-attributes.ensures.ok)
+    (rw c.deref-2.ensures.value at c.in_ok-geometry.ensures.ok)

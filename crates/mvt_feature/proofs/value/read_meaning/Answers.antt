@@ -1,5 +1,7 @@
+use Rattle.std.proofs.Common.{ap}
 use Rattle.std.proofs.lemmas.Result.{err_from_is_err_and}
-use Rattle.mvt_feature.proofs.ValueLemmas.{tells_value, kinds_value, kinds_clean, nothing_told, several_told}
+use Rattle.mvt_feature.proofs.ValueLemmas.{tells_value, kinds_value, value_clean, value_kind_told}
+use Rattle.mvt_feature.specs.ValueRules.{are_one_kind}
 use Rattle.mvt_feature.proofs.value.read_meaning.Goals as goal
 
 pub returns-in_err-meaning-clause-err : goal.returns-in_err-meaning-clause-err
@@ -9,16 +11,21 @@ returns-in_err-meaning-clause-err c =
 
 pub returns-in-One-clause-value : goal.returns-in-One-clause-value
 returns-in-One-clause-value c =
-    kinds_value c.split_function.ensures.is c.args.payload.now c.args.payload_at _ _ c.in_ok-meaning.ensures.whole c.in_ok-meaning.ensures.ok (rw c.in-One.is at c.in_ok-meaning.ensures.kinds)
+    kinds_value c.args.payload.now c.args.payload_at _ _ c.in_ok-meaning.ensures.whole c.in_ok-meaning.ensures.ok (rw c.in-One.is at c.in_ok-meaning.ensures.kinds)
 
 pub returns-in-One-clause-ok : goal.returns-in-One-clause-ok
 returns-in-One-clause-ok c =
-    kinds_clean c.args.payload.now c.args.payload_at c.args.tag_at _ _ c.in_ok-meaning.ensures.whole c.in_ok-meaning.ensures.ok (rw c.in-One.is at c.in_ok-meaning.ensures.kinds)
+    let read = c.in_ok-meaning.ensures in
+    value_clean c.args.payload.now c.args.payload_at c.args.tag_at read.whole read.ok (rw c.in-One.is at read.kinds).0
 
 pub returns-in-Nothing-clause-err : goal.returns-in-Nothing-clause-err
 returns-in-Nothing-clause-err c =
-    rw c.fault_at.ensures (nothing_told c.args.payload.now c.args.payload_at c.args.tag_at c.in_ok-meaning.ensures.whole c.in_ok-meaning.ensures.ok (rw c.in-Nothing.is at c.in_ok-meaning.ensures.kinds))
+    let read = c.in_ok-meaning.ensures in
+    rw c.fault_at.ensures (value_kind_told c.args.payload.now c.args.payload_at c.args.tag_at read.whole read.ok
+    (ap are_one_kind (rw c.in-Nothing.is at read.kinds)))
 
 pub returns-in-Several-clause-err : goal.returns-in-Several-clause-err
 returns-in-Several-clause-err c =
-    rw c.fault_at-in-Several.ensures (several_told c.args.payload.now c.args.payload_at c.args.tag_at c.in_ok-meaning.ensures.whole c.in_ok-meaning.ensures.ok (rw c.in-Several.is at c.in_ok-meaning.ensures.kinds))
+    let read = c.in_ok-meaning.ensures in
+    rw c.fault_at-in-Several.ensures (value_kind_told c.args.payload.now c.args.payload_at c.args.tag_at read.whole read.ok
+    (rw c.in-Several.is at read.kinds).1)

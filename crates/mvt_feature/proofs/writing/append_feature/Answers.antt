@@ -1,7 +1,7 @@
 use Rattle.std.proofs.Common.{length}
 use Rattle.std.proofs.lemmas.Result.{err_from_is_err_and}
-use Rattle.mvt_attrs.specs.Placed.{ArePlaced}
-use Rattle.mvt_feature.proofs.WritingLemmas.{on_err_at, kept_as_it_was, all_placed, all_told, none_full, told_as, full_as}
+use Rattle.mvt_base.proofs.ResultLemmas.{on_err}
+use Rattle.mvt_feature.proofs.WritingLemmas.{kept_as_it_was, all_placed, all_told, none_full, told_as, full_as}
 use Rattle.mvt_feature.proofs.writing.append_feature.Goals as goal
 
 pub returns-in_err-append_tags-clause-out_left : goal.returns-in_err-append_tags-clause-out_left
@@ -15,7 +15,7 @@ returns-in_err-append_tags-clause-memory c =
 pub returns-in_err-append_geometry-clause-left : goal.returns-in_err-append_geometry-clause-left
 returns-in_err-append_geometry-clause-left c =
     let e = c.in_ok-append_tags.ensures in
-    on_err_at (λ n. ArePlaced n c.args.feature.now.attributes c.args.keys.now c.append_tags.new.keys c.args.values.now c.append_tags.new.values) c.from_residual-in_err-append_geometry.result (length c.args.feature.now.attributes) (all_placed _ _ c.as_slice.ensures _ _ _ _ e.keys e.values)
+    on_err c.from_residual-in_err-append_geometry.result (length c.args.feature.now.attributes, all_placed _ _ c.as_slice.ensures _ _ _ _ e.keys e.values)
 
 pub returns-in_err-append_geometry-clause-memory : goal.returns-in_err-append_geometry-clause-memory
 returns-in_err-append_geometry-clause-memory c = λ h.
@@ -25,7 +25,7 @@ returns-in_err-append_geometry-clause-memory c = λ h.
 pub returns-in_err-append_fields-clause-left : goal.returns-in_err-append_fields-clause-left
 returns-in_err-append_fields-clause-left c =
     let e = c.in_ok-append_tags.ensures in
-    on_err_at (λ n. ArePlaced n c.args.feature.now.attributes c.args.keys.now c.append_tags.new.keys c.args.values.now c.append_tags.new.values) c.from_residual-in_err-append_fields.result (length c.args.feature.now.attributes) (all_placed _ _ c.as_slice.ensures _ _ _ _ e.keys e.values)
+    on_err c.from_residual-in_err-append_fields.result (length c.args.feature.now.attributes, all_placed _ _ c.as_slice.ensures _ _ _ _ e.keys e.values)
 
 pub returns-in_err-append_fields-clause-memory : goal.returns-in_err-append_fields-clause-memory
 returns-in_err-append_fields-clause-memory c = λ h.

@@ -1,8 +1,6 @@
-use Rattle.std.proofs.Common.{arith, refl, ◌≡◌, ◌≢◌, ◌%◌, ℕ, ◌<◌, eqb, ne_eqb, false, Some, suc, [], length, ap, subst}
-use Rattle.mvt_geometry.proofs.LineLemmas.{line_due}
+use Rattle.std.proofs.Common.{arith, refl, suc, [], length, ap, subst}
+use Rattle.mvt_geometry.proofs.LineLemmas.{line_due, lines_may_end}
 use Rattle.mvt_geometry.proofs.CountLemmas.{Left, line_parts, none_left, some_left, line_passed}
-use Rattle.mvt_geometry.specs.declared.command.Command.TheVariants.{ClosePath}
-use Rattle.mvt_geometry.specs.Commands.{due, may_not_end}
 use Rattle.mvt_geometry.specs.declared.shape.Kind.TheVariants as kinds
 use Rattle.mvt_geometry.proofs.CommandLemmas.{first_command, may_end, some_command}
 use Rattle.mvt_geometry.proofs.judge.judge_lines.Goals as goal
@@ -10,13 +8,10 @@ use Rattle.mvt_geometry.proofs.judge.judge_lines.Goals as goal
 pub loop-pen-init : goal.loop-pen-init
 loop-pen-init c = ((0, refl, first_command kinds.LineString c.args.integers.now), omega arith, λ ls left. (ls, left, omega arith))
 
-even : (k : ℕ) → k % 2 ≡ 0 → 0 < k → (may_not_end kinds.LineString k ≡ false) × (due kinds.LineString k ≢ Some ClosePath)
-even k e some = let n : eqb k 0 ≡ false = ne_eqb k 0 (omega arith) in rw (e, n) (refl, λ same. cc)
-
 pub returns-clause-ok : goal.returns-clause-ok
 returns-clause-ok c =
     let inv = c.loop-pen.invariant.0 in
-    let may = even inv.0 inv.1 (some_command inv.2 (omega arith)) in
+    let may = lines_may_end inv.0 inv.1 (some_command inv.2 (omega arith)) in
     may_end (λ same. cc) inv.2 c.loop-pen-test.false may.0 may.1
 
 pub returns-clause-count : goal.returns-clause-count

@@ -1,4 +1,4 @@
-use Rattle.std.proofs.Common.{arith, ◌++◌, [], ◌∷◌, sym, ap, subst, ◌∙◌}
+use Rattle.std.proofs.Common.{◌++◌, [], ◌∷◌, sym, ap, ◌∙◌}
 use Rattle.mvt_geometry.specs.Shape.{origin, rings_of}
 use Rattle.mvt_geometry.specs.Drawing.{drawn, strokes}
 use Rattle.mvt_geometry.proofs.put.append_geometry.Goals as goal

@@ -1,6 +1,7 @@
 use Rattle.std.proofs.Common.{◌≡◌, ◌++◌, drop}
+use Rattle.mvt_base.specs.Related.{Extends}
 use Rattle.mvt_geometry.specs.Shape.{AreSteps, joined, last_of}
-use Rattle.mvt_geometry.specs.Inner.Putting.{BeginsWith, ending, AreShort}
+use Rattle.mvt_geometry.specs.Inner.Putting.{ending, AreShort}
 use Rattle.mvt_geometry.proofs.put.put_lines.Given as goal
 use Rattle.mvt_geometry.specs.Drawing.{strokes}
 
@@ -10,4 +11,4 @@ invariant-loop-line g l =
     ≡ (g.N.NumberList.numbers l.initial.integers) ++ strokes (ending l.are_rings) l.initial.cursor l.lines)
     × (last_of l.cursor (joined (drop l.line-index l.lines)) ≡ last_of l.initial.cursor (joined l.lines))
     × AreSteps l.cursor (joined (drop l.line-index l.lines)) × AreShort (drop l.line-index l.lines)
-    × BeginsWith (g.N.NumberList.numbers l.initial.integers) (g.N.NumberList.numbers l.integers)
+    × Extends (g.N.NumberList.numbers l.initial.integers) (g.N.NumberList.numbers l.integers)
