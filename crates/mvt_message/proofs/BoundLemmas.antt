@@ -19,19 +19,18 @@ use Rattle.mvt_feature.specs.declared.feature.Feature.{Feature}
 use Rattle.mvt_feature.specs.Bounds.{feature_bound}
 use Rattle.mvt_feature.specs.Canonical.{feature_fields, value_fields}
 use Rattle.mvt_feature.specs.Valid.{ValidFeature}
+use Rattle.mvt_attrs.proofs.AttrsLaws.{places_name_small}
+use Rattle.mvt_wire.proofs.WireLaws.{short_lengths_field, short_lengths_most, short_lengths_one}
+use Rattle.mvt_feature.proofs.FeatureLaws.{bound_holds as feature_bound_holds}
 use Rattle.mvt_message.specs.declared.item.Item.{Item as AnItem}
 use Rattle.mvt_message.specs.declared.item.Layer.{Layer as ALayer}
 use Rattle.mvt_message.specs.declared.item.Item.TheVariants.{Layer, Foreign}
 use Rattle.mvt_message.specs.Bounds.{attribute_bound, entries_bound, layer_bound, item_bound}
 use Rattle.mvt_message.specs.CanonicalItems.{attributes_of, keys_of, values_of, head_fields, feature_field, key_field, value_field, extent_fields, layer_fields, canonical_item}
 use Rattle.mvt_message.specs.ValidItems.{ValidLayer, ValidItem}
-use Rattle.mvt_message.proofs.CanonicalLemmas.{BytesLonger, PoolsHold, PlacesSmall, count_bytes, features_held}
-use Rattle.mvt_message.proofs.LenLemmas.{ShortOne, ShortMost, FieldLength, head_len, extent_len}
+use Rattle.mvt_message.proofs.CanonicalLemmas.{count_bytes, features_held}
+use Rattle.mvt_message.proofs.LenLemmas.{head_len, extent_len}
 use Rattle.mvt_message.proofs.PutLemmas.{layer_parts}
-
--- what the level below gives
-abbrev pub FeatureBound : Type 0
-FeatureBound = (keys : List (List ℕ)) (values : List Value) (f : Feature) → IsValid f.geometry → AllByRecursion (λ tag. tag < 2 ^ 32) (tags_in keys values f.attributes) → length (spelled (feature_fields (tags_in keys values f.attributes) f)) ≤ feature_bound f
 
 -- first uses are a part of all
 filtered : {A : Type 0} → (p : A → Bool) (size : A → ℕ) (xs : List A) → sum_by size (filter p xs) ≤ sum_by size xs
@@ -95,64 +94,63 @@ features_sum (f ∷ features) =
 abbrev IsFineIn : List (List ℕ) → List Value → Feature → Type 0
 IsFineIn keys values f = ValidFeature f × AllByRecursion (λ tag. tag < 2 ^ 32) (tags_in keys values f.attributes)
 
-module _ (short_one : ShortOne) (most : ShortMost) (field_length : FieldLength) where
-  bytes_length : (number : ℕ) (d : List ℕ) → 8 * number + 2 < 128 → length (short_field number (bytes d)) ≤ 11 + length d
-  bytes_length number d small =
-      let whole = field_length number (bytes d) in
-      let tag = short_one (8 * number + 2) small in
-      let size = most (length d) in
-      let parts = length-append (short (length d)) d in
-      omega (arith, whole, tag, size, parts)
+bytes_length : (number : ℕ) (d : List ℕ) → 8 * number + 2 < 128 → length (short_field number (bytes d)) ≤ 11 + length d
+bytes_length number d small =
+    let whole = short_lengths_field number (bytes d) in
+    let tag = short_lengths_one (8 * number + 2) small in
+    let size = short_lengths_most (length d) in
+    let parts = length-append (short (length d)) d in
+    omega (arith, whole, tag, size, parts)
 
-  features_length : FeatureBound → (keys : List (List ℕ)) (values : List Value) (features : List Feature) → AllByRecursion (IsFineIn keys values) features → length (spelled (map (feature_field keys values) features)) ≤ sum_by (λ f. 11 + feature_bound f) features
-  features_length bound keys values [] fine = omega arith
-  features_length bound keys values (f ∷ features) fine =
-      let payload = spelled (feature_fields (tags_in keys values f.attributes) f) in
-      let parts = length-append (short_field 2 (bytes payload)) (spelled (map (feature_field keys values) features)) in
-      let one = bytes_length 2 payload (lit< tt) in
-      let few = bound keys values f fine.0.0.drawn fine.0.1 in
-      let others = features_length bound keys values features fine.1 in
-      let sums = sum_by-cons (λ g. 11 + feature_bound g) f features in
-      omega (arith, parts, one, few, others, sums)
+features_length : (keys : List (List ℕ)) (values : List Value) (features : List Feature) → AllByRecursion (IsFineIn keys values) features → length (spelled (map (feature_field keys values) features)) ≤ sum_by (λ f. 11 + feature_bound f) features
+features_length keys values [] fine = omega arith
+features_length keys values (f ∷ features) fine =
+    let payload = spelled (feature_fields (tags_in keys values f.attributes) f) in
+    let parts = length-append (short_field 2 (bytes payload)) (spelled (map (feature_field keys values) features)) in
+    let one = bytes_length 2 payload (lit< tt) in
+    let few = feature_bound_holds keys values f fine.0.0.drawn fine.0.1 in
+    let others = features_length keys values features fine.1 in
+    let sums = sum_by-cons (λ g. 11 + feature_bound g) f features in
+    omega (arith, parts, one, few, others, sums)
 
-  layer_length : FeatureBound → (layer : ALayer) → AllByRecursion (IsFineIn (keys_of layer.features) (values_of layer.features)) layer.features → length (spelled (layer_fields layer)) ≤ layer_bound layer
-  layer_length bound layer fine =
-      let features = layer.features in
-      let H = spelled (head_fields layer.name) in
-      let F = spelled (map (feature_field (keys_of features) (values_of features)) features) in
-      let K = spelled (map key_field (keys_of features)) in
-      let V = spelled (map value_field (values_of features)) in
-      let E = spelled (extent_fields layer.extent) in
-      let whole = ap length (layer_parts layer) ∙ length-append H (F ++ (K ++ (V ++ E))) in
-      let behind = length-append F (K ++ (V ++ E)) in
-      let pools = length-append K (V ++ E) in
-      let last = length-append V E in
-      let head = head_len short_one field_length layer.name in
-      let name = bytes_length 1 layer.name (lit< tt) in
-      let payloads = features_length bound (keys_of features) (values_of features) features fine in
-      let entries = pools_length features in
-      let sums = features_sum features in
-      let extent = extent_len short_one field_length layer.extent in
-      let number = most layer.extent in
-      omega (arith, whole, behind, pools, last, head, name, payloads, entries, sums, extent, number)
+layer_length : (layer : ALayer) → AllByRecursion (IsFineIn (keys_of layer.features) (values_of layer.features)) layer.features → length (spelled (layer_fields layer)) ≤ layer_bound layer
+layer_length layer fine =
+    let features = layer.features in
+    let H = spelled (head_fields layer.name) in
+    let F = spelled (map (feature_field (keys_of features) (values_of features)) features) in
+    let K = spelled (map key_field (keys_of features)) in
+    let V = spelled (map value_field (values_of features)) in
+    let E = spelled (extent_fields layer.extent) in
+    let whole = ap length (layer_parts layer) ∙ length-append H (F ++ (K ++ (V ++ E))) in
+    let behind = length-append F (K ++ (V ++ E)) in
+    let pools = length-append K (V ++ E) in
+    let last = length-append V E in
+    let head = head_len layer.name in
+    let name = bytes_length 1 layer.name (lit< tt) in
+    let payloads = features_length (keys_of features) (values_of features) features fine in
+    let entries = pools_length features in
+    let sums = features_sum features in
+    let extent = extent_len layer.extent in
+    let number = short_lengths_most layer.extent in
+    omega (arith, whole, behind, pools, last, head, name, payloads, entries, sums, extent, number)
 
-  -- within the limit the pools have few entries, and tags have 32 bits
-  all_fine : BytesLonger → PoolsHold → PlacesSmall → (layer : ALayer) → AllByRecursion ValidFeature layer.features → layer_bound layer ≤ LIMIT → AllByRecursion (IsFineIn (keys_of layer.features) (values_of layer.features)) layer.features
-  all_fine longer hold places layer valid small =
-      let features = layer.features in
-      let keys = keys_of features in
-      let values = values_of features in
-      let entries = pools_length features in
-      let sums = features_sum features in
-      let key_count = count_bytes longer 3 (λ key. key) keys in
-      let value_count = count_bytes longer 4 (λ value. spelled (value_fields value)) values in
-      let few_keys : length keys ≤ 2 ^ 32 = omega (arith, entries, sums, key_count, small) in
-      let few_values : length values ≤ 2 ^ 32 = omega (arith, entries, sums, value_count, small) in
-      all_both ValidFeature (λ (f : Feature). AllByRecursion (λ tag. tag < 2 ^ 32) (tags_in keys values f.attributes)) features valid
-      (all_weaker (λ (f : Feature). AllByRecursion (IsIn keys values) f.attributes) (λ (f : Feature). AllByRecursion (λ tag. tag < 2 ^ 32) (tags_in keys values f.attributes)) (λ f is. places keys values f.attributes (2 ^ 32) is few_keys few_values) features (features_held hold features))
+-- within the limit the pools have few entries, and tags have 32 bits
+all_fine : (layer : ALayer) → AllByRecursion ValidFeature layer.features → layer_bound layer ≤ LIMIT → AllByRecursion (IsFineIn (keys_of layer.features) (values_of layer.features)) layer.features
+all_fine layer valid small =
+    let features = layer.features in
+    let keys = keys_of features in
+    let values = values_of features in
+    let entries = pools_length features in
+    let sums = features_sum features in
+    let key_count = count_bytes 3 (λ key. key) keys in
+    let value_count = count_bytes 4 (λ value. spelled (value_fields value)) values in
+    let few_keys : length keys ≤ 2 ^ 32 = omega (arith, entries, sums, key_count, small) in
+    let few_values : length values ≤ 2 ^ 32 = omega (arith, entries, sums, value_count, small) in
+    all_both ValidFeature (λ (f : Feature). AllByRecursion (λ tag. tag < 2 ^ 32) (tags_in keys values f.attributes)) features valid
+    (all_weaker (λ (f : Feature). AllByRecursion (IsIn keys values) f.attributes) (λ (f : Feature). AllByRecursion (λ tag. tag < 2 ^ 32) (tags_in keys values f.attributes)) (λ f is. places_name_small keys values f.attributes (2 ^ 32) is few_keys few_values) features (features_held features))
 
-  pub bound_holds_lem : BytesLonger → PoolsHold → PlacesSmall → FeatureBound → (item : AnItem) → ValidItem item → item_bound item ≤ LIMIT → length (canonical_item item) ≤ item_bound item
-  unfolding canonical_item ValidItem ValidLayer
-  bound_holds_lem longer hold places bound (Layer layer) valid small =
-      layer_length bound layer (all_fine longer hold places layer valid.2 small)
-  bound_holds_lem longer hold places bound (Foreign version content) valid small = omega arith
+pub bound_holds_lem : (item : AnItem) → ValidItem item → item_bound item ≤ LIMIT → length (canonical_item item) ≤ item_bound item
+unfolding canonical_item ValidItem ValidLayer
+bound_holds_lem (Layer layer) valid small =
+    layer_length layer (all_fine layer valid.2 small)
+bound_holds_lem (Foreign version content) valid small = omega arith

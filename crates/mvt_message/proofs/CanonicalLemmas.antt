@@ -5,6 +5,7 @@ use Rattle.std.specs.List.{AllByRecursion, last_or}
 use Rattle.std.specs.Option.{option_map}
 use Rattle.std.proofs.lemmas.Bool.{eq-eqb}
 use Rattle.std.proofs.lemmas.Grind.{flat_map-append}
+use Rattle.mvt_base.specs.declared.TheConstants.{LIMIT}
 use Rattle.mvt_base.specs.Related.{AreRelated}
 use Rattle.mvt_base.proofs.ListLemmas.{all_weaker, all_joined, all_left, all_right, all_mapped, all_unmapped, all_both}
 use Rattle.mvt_base.proofs.SelectionLemmas.{all_only}
@@ -22,6 +23,9 @@ use Rattle.mvt_feature.specs.Forms.{uint32, string, message, HasForm}
 use Rattle.mvt_feature.specs.Selection.{only, HaveForm}
 use Rattle.mvt_feature.specs.Valid.{ValidValue, ValidAttribute, ValidFeature}
 use Rattle.mvt_feature.specs.Values.{IsValueOf}
+use Rattle.mvt_attrs.proofs.AttrsLaws.{places_name_names, places_name_small, pool_entries_from_keys, pool_entries_from_values, pools_hold}
+use Rattle.mvt_wire.proofs.WireLaws.{short_lengths_bytes, spelled_whole_whole}
+use Rattle.mvt_feature.proofs.FeatureLaws.{canonical_reads_feature, canonical_reads_value}
 use Rattle.mvt_message.specs.declared.numbers.layer.TheConstants.{NAME, FEATURES, KEYS, VALUES, EXTENT, VERSION}
 use Rattle.mvt_message.specs.declared.item.Item.{Item as AnItem}
 use Rattle.mvt_message.specs.declared.item.Layer.{Layer as ALayer}
@@ -176,23 +180,20 @@ record IsFine (p : Plain) : Type 0 where
   last : p.number < 2 ^ 29
   content : FineContent p.content
 
-abbrev pub BytesLonger : Type 0
-BytesLonger = (number : ℕ) (d : List ℕ) → length d + 2 ≤ length (short_field number (bytes d))
-
-fit : BytesLonger → (p : Plain) (n : ℕ) → IsFine p → length (short_field p.number p.content) ≤ n → n < 2 ^ 64 → IsFit p
-fit longer p n fine within small = record { first = fine.first; last = fine.last; content = of_content p.content fine.content within }
+fit : (p : Plain) (n : ℕ) → IsFine p → length (short_field p.number p.content) ≤ n → n < 2 ^ 64 → IsFit p
+fit p n fine within small = record { first = fine.first; last = fine.last; content = of_content p.content fine.content within }
   where
     of_content : (c : Content) → FineContent c → length (short_field p.number c) ≤ n → FitsContent c
     of_content (varint m) h le = h
     of_content (fixed64 m) h le = h
-    of_content (bytes d) h le = let more = longer p.number d in omega arith
+    of_content (bytes d) h le = let more = short_lengths_bytes p.number d in omega arith
     of_content (fixed32 m) h le = h
 
-all_fit : BytesLonger → (ps : List Plain) → AllByRecursion IsFine ps → length (spelled ps) < 2 ^ 64 → AllByRecursion IsFit ps
-all_fit longer [] fine small = tt
-all_fit longer (p ∷ ps) fine small =
+all_fit : (ps : List Plain) → AllByRecursion IsFine ps → length (spelled ps) < 2 ^ 64 → AllByRecursion IsFit ps
+all_fit [] fine small = tt
+all_fit (p ∷ ps) fine small =
     let size = length-append (short_field p.number p.content) (spelled ps) in
-    (fit longer p (length (short_field p.number p.content)) fine.0 (omega arith) (omega (arith, size)), all_fit longer ps fine.1 (omega (arith, size)))
+    (fit p (length (short_field p.number p.content)) fine.0 (omega arith) (omega (arith, size)), all_fit ps fine.1 (omega (arith, size)))
 
 fine_bytes : {Y : Type 0} → (k : ℕ) (g : Y → List ℕ) (ys : List Y) → 1 ≤ k → k < 2 ^ 29 → AllByRecursion IsFine (all_of k g ys)
 fine_bytes k g [] low high = tt
@@ -208,12 +209,12 @@ sizes : {Y : Type 0} → (k : ℕ) (g : Y → List ℕ) (ys : List Y) → AllByR
 sizes k g [] h = tt
 sizes k g (y ∷ ys) h = (h.0.content, sizes k g ys h.1)
 
-pub count_bytes : {Y : Type 0} → BytesLonger → (k : ℕ) (g : Y → List ℕ) (ys : List Y) → 2 * length ys ≤ length (spelled (all_of k g ys))
-count_bytes longer k g [] = omega arith
-count_bytes longer k g (y ∷ ys) =
+pub count_bytes : {Y : Type 0} → (k : ℕ) (g : Y → List ℕ) (ys : List Y) → 2 * length ys ≤ length (spelled (all_of k g ys))
+count_bytes k g [] = omega arith
+count_bytes k g (y ∷ ys) =
     let size = length-append (short_field k (bytes (g y))) (spelled (all_of k g ys)) in
-    let more = longer k (g y) in
-    let rest = count_bytes longer k g ys in
+    let more = short_lengths_bytes k (g y) in
+    let rest = count_bytes k g ys in
     omega (arith, size)
 
 pub spelled-append : (ps qs : List Plain) → spelled (ps ++ qs) ≡ spelled ps ++ spelled qs
@@ -223,14 +224,14 @@ pub spelled_length : (ps qs : List Plain) → length (spelled (ps ++ qs)) ≡ le
 spelled_length ps qs = ap length (spelled-append ps qs) ∙ length-append (spelled ps) (spelled qs)
 
 -- each entry of the pools takes two bytes
-pub pools_within : BytesLonger → (keys : List (List ℕ)) (values : List Value) (layer : ALayer) → (2 * length keys ≤ length (spelled (fields_with keys values layer))) × (2 * length values ≤ length (spelled (fields_with keys values layer)))
-pools_within longer keys values layer =
+pub pools_within : (keys : List (List ℕ)) (values : List Value) (layer : ALayer) → (2 * length keys ≤ length (spelled (fields_with keys values layer))) × (2 * length values ≤ length (spelled (fields_with keys values layer)))
+pools_within keys values layer =
     let a = spelled_length (head_fields layer.name) (tail keys values layer.features layer.extent) in
     let b = spelled_length (all_of FEATURES (feature_bytes keys values) layer.features) (all_of KEYS same_bytes keys ++ (all_of VALUES value_bytes values ++ extent_fields layer.extent)) in
     let c = spelled_length (all_of KEYS same_bytes keys) (all_of VALUES value_bytes values ++ extent_fields layer.extent) in
     let d = spelled_length (all_of VALUES value_bytes values) (extent_fields layer.extent) in
-    let k = count_bytes longer KEYS same_bytes keys in
-    let v = count_bytes longer VALUES value_bytes values in
+    let k = count_bytes KEYS same_bytes keys in
+    let v = count_bytes VALUES value_bytes values in
     (omega (arith, a, b, c, d, k, v), omega (arith, a, b, c, d, k, v))
 
 -- entries of a list
@@ -243,83 +244,57 @@ all_from : {X : Type 0} → (P : X → Type 0) (xs : List X) → ((x : X) → Co
 all_from P [] h = tt
 all_from P (x ∷ xs) h = (h x (0, omega arith, refl), all_from P xs (λ y is. h y (suc is.0, omega (arith, is.1), is.2)))
 
--- what the levels below give
-abbrev pub SpelledWhole : Type 0
-SpelledWhole = (ps : List Plain) → AllByRecursion IsFit ps → IsWholeAs (spelled ps) ps
-
-abbrev pub FromKeys : Type 0
-FromKeys = (held : List (List ℕ)) (attributes : List Attribute) (key : List ℕ) → Contains (key_pool held attributes) key → Contains (held ++ map (λ (a : Attribute). a.key) attributes) key
-
-abbrev pub FromValues : Type 0
-FromValues = (held : List Value) (attributes : List Attribute) (value : Value) → Contains (value_pool held attributes) value → Contains (held ++ map (λ (a : Attribute). a.value) attributes) value
-
-abbrev pub PoolsHold : Type 0
-PoolsHold = (held_keys : List (List ℕ)) (held_values : List Value) (front attributes back : List Attribute) → AllByRecursion (IsIn (key_pool held_keys (front ++ (attributes ++ back))) (value_pool held_values (front ++ (attributes ++ back)))) attributes
-
-abbrev pub PlacesName : Type 0
-PlacesName = (keys : List (List ℕ)) (values : List Value) (attributes : List Attribute) → AllByRecursion (IsIn keys values) attributes → Names keys values (tags_in keys values attributes) attributes
-
-abbrev pub PlacesSmall : Type 0
-PlacesSmall = (keys : List (List ℕ)) (values : List Value) (attributes : List Attribute) (bound : ℕ) → AllByRecursion (IsIn keys values) attributes → length keys ≤ bound → length values ≤ bound → AllByRecursion (λ tag. tag < bound) (tags_in keys values attributes)
-
-abbrev pub ValueReads : Type 0
-ValueReads = (value : Value) → ValidValue value → length (spelled (value_fields value)) < 2 ^ 64 → IsValueOf (spelled (value_fields value)) value
-
-abbrev pub FeatureReads : Type 0
-FeatureReads = (keys : List (List ℕ)) (values : List Value) (tags : List ℕ) (feature : Feature) → ValidFeature feature → Names keys values tags feature.attributes → AllByRecursion (λ tag. tag < 2 ^ 32) tags → length (spelled (feature_fields tags feature)) < 2 ^ 64 → IsFeatureOf (spelled (feature_fields tags feature)) keys values feature
-
 -- the pools of valid features
 attributes_valid : (features : List Feature) → AllByRecursion ValidFeature features → AllByRecursion ValidAttribute (attributes_of features)
 attributes_valid [] h = tt
 attributes_valid (f ∷ fs) h = all_joined ValidAttribute f.attributes (attributes_of fs) h.0.attributes (attributes_valid fs h.1)
 
-pub keys_valid : FromKeys → (features : List Feature) → AllByRecursion ValidFeature features → AllByRecursion IsUtf8 (keys_of features)
+pub keys_valid : (features : List Feature) → AllByRecursion ValidFeature features → AllByRecursion IsUtf8 (keys_of features)
 unfolding keys_of
-keys_valid from features valid =
+keys_valid features valid =
     let attributes = attributes_of features in
     let texts : AllByRecursion IsUtf8 (map (λ (a : Attribute). a.key) attributes) = all_mapped (λ (a : Attribute). a.key) IsUtf8 attributes (all_weaker ValidAttribute (λ (a : Attribute). IsUtf8 a.key) (λ a h. h.0) attributes (attributes_valid features valid)) in
-    all_from IsUtf8 (key_pool [] attributes) (λ key is. contained IsUtf8 (map (λ (a : Attribute). a.key) attributes) key texts (from [] attributes key is))
+    all_from IsUtf8 (key_pool [] attributes) (λ key is. contained IsUtf8 (map (λ (a : Attribute). a.key) attributes) key texts (pool_entries_from_keys [] attributes key is))
 
-pub values_valid : FromValues → (features : List Feature) → AllByRecursion ValidFeature features → AllByRecursion ValidValue (values_of features)
+pub values_valid : (features : List Feature) → AllByRecursion ValidFeature features → AllByRecursion ValidValue (values_of features)
 unfolding values_of
-values_valid from features valid =
+values_valid features valid =
     let attributes = attributes_of features in
     let texts : AllByRecursion ValidValue (map (λ (a : Attribute). a.value) attributes) = all_mapped (λ (a : Attribute). a.value) ValidValue attributes (all_weaker ValidAttribute (λ (a : Attribute). ValidValue a.value) (λ a h. h.1) attributes (attributes_valid features valid)) in
-    all_from ValidValue (value_pool [] attributes) (λ value is. contained ValidValue (map (λ (a : Attribute). a.value) attributes) value texts (from [] attributes value is))
+    all_from ValidValue (value_pool [] attributes) (λ value is. contained ValidValue (map (λ (a : Attribute). a.value) attributes) value texts (pool_entries_from_values [] attributes value is))
 
-held_from : PoolsHold → (front : List Attribute) (features : List Feature) → AllByRecursion (λ (f : Feature). AllByRecursion (IsIn (key_pool [] (front ++ attributes_of features)) (value_pool [] (front ++ attributes_of features))) f.attributes) features
-held_from hold front [] = tt
-held_from hold front (f ∷ fs) =
-    (hold [] [] front f.attributes (attributes_of fs), subst (λ all. AllByRecursion (λ (g : Feature). AllByRecursion (IsIn (key_pool [] all) (value_pool [] all)) g.attributes) fs) (append_assoc front f.attributes (attributes_of fs)) (held_from hold (front ++ f.attributes) fs))
+held_from : (front : List Attribute) (features : List Feature) → AllByRecursion (λ (f : Feature). AllByRecursion (IsIn (key_pool [] (front ++ attributes_of features)) (value_pool [] (front ++ attributes_of features))) f.attributes) features
+held_from front [] = tt
+held_from front (f ∷ fs) =
+    (pools_hold [] [] front f.attributes (attributes_of fs), subst (λ all. AllByRecursion (λ (g : Feature). AllByRecursion (IsIn (key_pool [] all) (value_pool [] all)) g.attributes) fs) (append_assoc front f.attributes (attributes_of fs)) (held_from (front ++ f.attributes) fs))
 
-pub features_held : PoolsHold → (features : List Feature) → AllByRecursion (λ (f : Feature). AllByRecursion (IsIn (keys_of features) (values_of features)) f.attributes) features
+pub features_held : (features : List Feature) → AllByRecursion (λ (f : Feature). AllByRecursion (IsIn (keys_of features) (values_of features)) f.attributes) features
 unfolding keys_of values_of
-features_held hold features = held_from hold [] features
+features_held features = held_from [] features
 
-pub layer_canonical : SpelledWhole → BytesLonger → FromKeys → FromValues → PoolsHold → PlacesName → PlacesSmall → ValueReads → FeatureReads → (layer : ALayer) → ValidLayer layer → length (spelled (layer_fields layer)) < 2 ^ 32 → IsItem (spelled (layer_fields layer)) (Layer layer)
+pub layer_canonical : (layer : ALayer) → ValidLayer layer → length (spelled (layer_fields layer)) < 2 ^ 32 → IsItem (spelled (layer_fields layer)) (Layer layer)
 unfolding IsItem ValidLayer
-layer_canonical spelled_whole longer from_keys from_values hold names small value_reads feature_reads layer valid within =
+layer_canonical layer valid within =
     let features = layer.features in
     let keys = keys_of features in
     let values = values_of features in
-    let fits = all_fit longer (layer_fields layer) (layer_fine keys values layer valid.1) (omega arith) in
+    let fits = all_fit (layer_fields layer) (layer_fine keys values layer valid.1) (omega arith) in
     let behind = fits.1.1 in
-    let whole = spelled_whole (layer_fields layer) fits in
-    let pools = pools_within longer keys values layer in
+    let whole = spelled_whole_whole (layer_fields layer) fits in
+    let pools = pools_within keys values layer in
     let feature_sizes = sizes FEATURES (feature_bytes keys values) features (all_left IsFit (all_of FEATURES (feature_bytes keys values) features) _ behind) in
     let pool_fits = all_right IsFit (all_of FEATURES (feature_bytes keys values) features) _ behind in
     let value_sizes = sizes VALUES value_bytes values (all_left IsFit (all_of VALUES value_bytes values) (extent_fields layer.extent) (all_right IsFit (all_of KEYS same_bytes keys) _ pool_fits)) in
-    let hold_values = all_weaker (λ v. ValidValue v × (length (value_bytes v) < 2 ^ 64)) (λ v. IsValueOf (value_bytes v) v) (λ v h. value_reads v h.0 h.1) values (all_both ValidValue (λ v. length (value_bytes v) < 2 ^ 64) values (values_valid from_values features valid.2) value_sizes) in
-    let hold_features = all_weaker (λ (f : Feature). (ValidFeature f × AllByRecursion (IsIn keys values) f.attributes) × (length (feature_bytes keys values f) < 2 ^ 64)) (λ f. IsFeatureOf (feature_bytes keys values f) keys values f) (λ f h. feature_reads keys values (tags_in keys values f.attributes) f h.0.0 (names keys values f.attributes h.0.1) (small keys values f.attributes (2 ^ 32) h.0.1 (omega (arith, pools.0)) (omega (arith, pools.1))) h.1) features (all_both (λ (f : Feature). ValidFeature f × AllByRecursion (IsIn keys values) f.attributes) (λ f. length (feature_bytes keys values f) < 2 ^ 64) features (all_both ValidFeature (λ (f : Feature). AllByRecursion (IsIn keys values) f.attributes) features valid.2 (features_held hold features)) feature_sizes) in
-    let is = layer_is whole.0 keys values layer whole.2 valid.0 valid.1 (keys_valid from_keys features valid.2) hold_values hold_features in
+    let hold_values = all_weaker (λ v. ValidValue v × (length (value_bytes v) < 2 ^ 64)) (λ v. IsValueOf (value_bytes v) v) (λ v h. canonical_reads_value v h.0 h.1) values (all_both ValidValue (λ v. length (value_bytes v) < 2 ^ 64) values (values_valid features valid.2) value_sizes) in
+    let hold_features = all_weaker (λ (f : Feature). (ValidFeature f × AllByRecursion (IsIn keys values) f.attributes) × (length (feature_bytes keys values f) < 2 ^ 64)) (λ f. IsFeatureOf (feature_bytes keys values f) keys values f) (λ f h. canonical_reads_feature keys values (tags_in keys values f.attributes) f h.0.0 (places_name_names keys values f.attributes h.0.1) (places_name_small keys values f.attributes (2 ^ 32) h.0.1 (omega (arith, pools.0)) (omega (arith, pools.1))) h.1) features (all_both (λ (f : Feature). ValidFeature f × AllByRecursion (IsIn keys values) f.attributes) (λ f. length (feature_bytes keys values f) < 2 ^ 64) features (all_both ValidFeature (λ (f : Feature). AllByRecursion (IsIn keys values) f.attributes) features valid.2 (features_held features)) feature_sizes) in
+    let is = layer_is whole.0 keys values layer whole.2 valid.0 valid.1 (keys_valid features valid.2) hold_values hold_features in
     (whole.0, whole.1, is.0, (is.1, is.2))
 
 foreign_canonical : (version : ℕ) (content : List ℕ) → AreOfVersion version content → IsItem content (Foreign version content)
 unfolding IsItem
 foreign_canonical version content (xs, whole, forms, is, other) = (xs, whole, forms, (is, other, refl))
 
-pub item_canonical : SpelledWhole → BytesLonger → FromKeys → FromValues → PoolsHold → PlacesName → PlacesSmall → ValueReads → FeatureReads → (item : AnItem) → ValidItem item → length (canonical_item item) < 2 ^ 32 → IsItem (canonical_item item) item
+pub item_canonical : (item : AnItem) → ValidItem item → length (canonical_item item) ≤ LIMIT → IsItem (canonical_item item) item
 unfolding canonical_item ValidItem
-item_canonical spelled_whole longer from_keys from_values hold names small value_reads feature_reads (Layer layer) valid within =
-    layer_canonical spelled_whole longer from_keys from_values hold names small value_reads feature_reads layer valid within
-item_canonical spelled_whole longer from_keys from_values hold names small value_reads feature_reads (Foreign version content) valid within = foreign_canonical version content valid
+item_canonical (Layer layer) valid within = layer_canonical layer valid (omega arith)
+item_canonical (Foreign version content) valid within = foreign_canonical version content valid

@@ -7,6 +7,7 @@ use Rattle.mvt_base.proofs.ListLemmas.{length-related}
 use Rattle.mvt_attrs.specs.declared.value.Value.{Value}
 use Rattle.mvt_wire.specs.Field.{Entry}
 use Rattle.mvt_wire.specs.Split.{Parts}
+use Rattle.mvt_feature.proofs.FeatureLaws.{value_or_fault_there}
 use Rattle.mvt_feature.specs.declared.message_error.MessageError.{MessageError}
 use Rattle.mvt_feature.specs.Faults.{TellsMessage, in_feature}
 use Rattle.mvt_feature.specs.Selection.{only}
@@ -20,7 +21,7 @@ use Rattle.mvt_message.specs.declared.numbers.layer.TheConstants.{FEATURES, VALU
 use Rattle.mvt_message.specs.LayerFields.{bytes_of}
 use Rattle.mvt_message.specs.Inner.{values_fault, features_fault, AreHeld, AreValuesHeld, AreFeaturesHeld}
 use Rattle.mvt_message.specs.Items.{HoldsValue, HoldsFeature}
-use Rattle.mvt_message.proofs.ReadLemmas.{SplitCount, selected_few, values_skip, values_take, values_stop, features_skip, features_take, features_stop}
+use Rattle.mvt_message.proofs.ReadLemmas.{selected_few, values_skip, values_take, values_stop, features_skip, features_take, features_stop}
 
 pub on_true : (b : Bool) (P : Type 0) → P → OnTrue b P
 on_true true P h = h
@@ -42,9 +43,9 @@ module _ (keep : Bool) (payload_at : ℕ) (done : List Entry) (count : ℕ) (kep
   pub value_skipped : x.number ≢ VALUES → AreValuesHeld keep payload_at (done ++ x ∷ []) count kept
   value_skipped other = (held.0, values_skip payload_at done held.0 x held.1 other, held.2)
 
-  pub values_few : SplitCount → (payload : List ℕ) (to_come : Parts) → Walk payload to_come done → length payload < 2 ^ 32 → count < 2 ^ 32
-  values_few split_count payload to_come walk small =
-      let few = selected_few split_count payload to_come done 4 walk small in
+  pub values_few : (payload : List ℕ) (to_come : Parts) → Walk payload to_come done → length payload < 2 ^ 32 → count < 2 ^ 32
+  values_few payload to_come walk small =
+      let few = selected_few payload to_come done 4 walk small in
       omega (arith, held.2.0, length-related HoldsValue (only VALUES done) held.0 held.1.1)
 
   pub value_stops : (more : List Entry) (e : MessageError) → x.number ≡ VALUES → TellsMessage e (value_fault (bytes_of x.content) (payload_at + x.body) (payload_at + x.at)) → TellsMessage e (values_fault payload_at ((done ++ x ∷ []) ++ more))
@@ -56,10 +57,12 @@ module _ (keep : Bool) (payload_at : ℕ) (done : List Entry) (count : ℕ) (kep
       (held.0 ++ value ∷ [], values_take payload_at done held.0 (held.0 ++ value ∷ []) x value held.1 is holds clean refl, held_more keep held.0 kept new count value held.2 more)
 
   -- a value that was only judged
-  pub value_judged : (r : Result (Unit {0}) MessageError) → (value_fault (bytes_of x.content) (payload_at + x.body) (payload_at + x.at) ≡ None → (value : Value) × IsValueOf (bytes_of x.content) value)
+  pub value_judged : (r : Result (Unit {0}) MessageError)
       → keep ≡ false → x.number ≡ VALUES → OnOk r (value_fault (bytes_of x.content) (payload_at + x.body) (payload_at + x.at) ≡ None) → OnOk r (AreValuesHeld keep payload_at (done ++ x ∷ []) (count + 1) kept)
-  value_judged (Err e) there no_keep is clean = tt
-  value_judged (Ok u) there no_keep is clean = value_held kept (there clean).0 is (there clean).1 clean (on_false keep _ no_keep)
+  value_judged (Err e) no_keep is clean = tt
+  value_judged (Ok u) no_keep is clean =
+      let there = value_or_fault_there (bytes_of x.content) (payload_at + x.body) (payload_at + x.at) clean in
+      value_held kept there.0 is there.1 clean (on_false keep _ no_keep)
 
   pub value_blamed : (r : Result (Unit {0}) MessageError) (more : List Entry) → x.number ≡ VALUES → IfErr r (λ e. TellsMessage e (value_fault (bytes_of x.content) (payload_at + x.body) (payload_at + x.at))) → IfErr r (λ e. TellsMessage e (values_fault payload_at ((done ++ x ∷ []) ++ more)))
   value_blamed (Err e) more is told_here = value_stops more e is told_here
@@ -69,9 +72,9 @@ module _ (keep : Bool) (payload_at : ℕ) (keys : List (List ℕ)) (values : Lis
   pub feature_skipped : x.number ≢ FEATURES → AreFeaturesHeld keep payload_at keys values (done ++ x ∷ []) count kept
   feature_skipped other = (held.0, features_skip payload_at keys values done held.0 x held.1 other, held.2)
 
-  pub features_few : SplitCount → (payload : List ℕ) (to_come : Parts) → Walk payload to_come done → length payload < 2 ^ 32 → count < 2 ^ 32
-  features_few split_count payload to_come walk small =
-      let few = selected_few split_count payload to_come done 2 walk small in
+  pub features_few : (payload : List ℕ) (to_come : Parts) → Walk payload to_come done → length payload < 2 ^ 32 → count < 2 ^ 32
+  features_few payload to_come walk small =
+      let few = selected_few payload to_come done 2 walk small in
       omega (arith, held.2.0, length-related (HoldsFeature keys values) (only FEATURES done) held.0 held.1.1)
 
   pub feature_stops : (more : List Entry) (index : ℕ) (e : MessageError) → x.number ≡ FEATURES → index ≡ count → TellsMessage e (option_map (in_feature index) (feature_fault (bytes_of x.content) (payload_at + x.body) keys values)) → TellsMessage e (features_fault payload_at keys values ((done ++ x ∷ []) ++ more))

@@ -11,31 +11,21 @@ use Rattle.mvt_wire.specs.Spelling.{Plain, short_payload, short_field, spelled}
 use Rattle.mvt_wire.specs.Varint.{short}
 use Rattle.mvt_feature.specs.declared.feature.Feature.{Feature}
 use Rattle.mvt_feature.specs.Canonical.{feature_fields}
+use Rattle.mvt_wire.proofs.WireLaws.{short_lengths_field, short_lengths_most, short_lengths_one}
 use Rattle.mvt_message.specs.declared.item.Layer.{Layer as ALayer}
 use Rattle.mvt_message.specs.CanonicalItems.{keys_of, values_of, head_fields, feature_field, key_field, value_field, extent_fields, layer_fields}
-use Rattle.mvt_message.specs.Inner.{PoolLaws}
 use Rattle.mvt_message.proofs.PutLemmas.{FeaturesSoFar, features_step, front_long, layer_parts, list_step}
 
--- what the level below gives
-abbrev pub ShortOne : Type 0
-ShortOne = (n : ℕ) → n < 128 → length (short n) ≡ 1
-
-abbrev pub ShortMost : Type 0
-ShortMost = (n : ℕ) → length (short n) ≤ 10
-
-abbrev pub FieldLength : Type 0
-FieldLength = (number : ℕ) (c : Content) → length (short_field number c) ≡ length (short (8 * number + wire_type c)) + length (short_payload c)
-
 -- a field within the limit is not much longer
-pub field_fits : ShortMost → FieldLength → (number size len result : ℕ) → ((d : List ℕ) → length d ≡ size → result ≡ length (short_field number (bytes d))) → size ≤ LIMIT → len ≤ LIMIT → len + result < 2 ^ 64
-field_fits most field_length number size len result is small start =
+pub field_fits : (number size len result : ℕ) → ((d : List ℕ) → length d ≡ size → result ≡ length (short_field number (bytes d))) → size ≤ LIMIT → len ≤ LIMIT → len + result < 2 ^ 64
+field_fits number size len result is small start =
     let d : List ℕ = replicate size 0 in
     let count : length d ≡ size = length-replicate size 0 in
     let here = is d count in
-    let whole = field_length number (bytes d) in
+    let whole = short_lengths_field number (bytes d) in
     let parts = length-append (short (length d)) d in
-    let tag = most (8 * number + 2) in
-    let head = most (length d) in
+    let tag = short_lengths_most (8 * number + 2) in
+    let head = short_lengths_most (length d) in
     omega (arith, whole, parts)
 
 -- what isn't there stands past the end
@@ -60,12 +50,11 @@ len_long g ys i y start old bound within here is long =
     front_long g ys (i + 1) start bound (omega (arith, step))
 
 -- one more feature
-pub features_len_step : PoolLaws → (features : List Feature) (i : ℕ) (f : Feature) (keys new_keys : List (List ℕ)) (values new_values : List Value) (start len : ℕ) (out payload : List ℕ) → FeaturesSoFar features i keys values [] out → i < length features → f ≡ get_or features i f → new_keys ≡ key_pool keys f.attributes → new_values ≡ value_pool values f.attributes → Names new_keys new_values (tags_in new_keys new_values f.attributes) f.attributes → payload ≡ spelled (feature_fields (tags_in new_keys new_values f.attributes) f) → len ≡ start + length out
-    → (new : List ℕ) × FeaturesSoFar features (i + 1) new_keys new_values [] new × (len + length (short_field 2 (bytes payload)) ≡ start + length new)
-features_len_step laws features i f keys new_keys values new_values start len out payload so_far within here keys_grow values_grow names is count =
+pub features_len_step : (features : List Feature) (i : ℕ) (f : Feature) (keys new_keys : List (List ℕ)) (values new_values : List Value) (start len : ℕ) (out payload : List ℕ) → FeaturesSoFar features i keys values [] out → i < length features → f ≡ get_or features i f → new_keys ≡ key_pool keys f.attributes → new_values ≡ value_pool values f.attributes → Names new_keys new_values (tags_in new_keys new_values f.attributes) f.attributes → payload ≡ spelled (feature_fields (tags_in new_keys new_values f.attributes) f) → len ≡ start + length out → (new : List ℕ) × FeaturesSoFar features (i + 1) new_keys new_values [] new × (len + length (short_field 2 (bytes payload)) ≡ start + length new)
+features_len_step features i f keys new_keys values new_values start len out payload so_far within here keys_grow values_grow names is count =
     let one = short_field 2 (bytes payload) in
     let size = length-append out one in
-    (out ++ one, features_step laws features i f keys new_keys values new_values [] out payload (out ++ one) so_far within here keys_grow values_grow names is refl, omega (arith, size, count))
+    (out ++ one, features_step features i f keys new_keys values new_values [] out payload (out ++ one) so_far within here keys_grow values_grow names is refl, omega (arith, size, count))
 
 pub features_len_long : (features : List Feature) (i : ℕ) (keys : List (List ℕ)) (values : List Value) (start : ℕ) (out : List ℕ) (bound : ℕ) → FeaturesSoFar features i keys values [] out → bound < start + length out → bound < start + length (spelled (map (feature_field (keys_of features) (values_of features)) features))
 features_len_long features i keys values start out bound so_far long =
@@ -73,29 +62,29 @@ features_len_long features i keys values start out bound so_far long =
     front_long (feature_field (keys_of features) (values_of features)) features i start bound (omega (arith, same))
 
 -- the whole layer
-pub head_len : ShortOne → FieldLength → (name : List ℕ) → 2 + length (short_field 1 (bytes name)) ≡ length (spelled (head_fields name))
-head_len short_one field_length name =
-    let version = field_length 15 (varint 2) in
-    let tag = short_one 120 (omega arith) in
-    let two = short_one 2 (omega arith) in
+pub head_len : (name : List ℕ) → 2 + length (short_field 1 (bytes name)) ≡ length (spelled (head_fields name))
+head_len name =
+    let version = short_lengths_field 15 (varint 2) in
+    let tag = short_lengths_one 120 (omega arith) in
+    let two = short_lengths_one 2 (omega arith) in
     let parts = length-append (short_field 15 (varint 2)) (short_field 1 (bytes name) ++ []) in
     let last = ap length (append-nil (short_field 1 (bytes name))) in
     omega (arith, version, tag, two, parts, last)
 
-pub head_is : ShortOne → FieldLength → (name text : List ℕ) (len : ℕ) → text ≡ name → len ≡ 2 + length (short_field 1 (bytes text)) → len ≡ length (spelled (head_fields name))
-head_is short_one field_length name text len same is =
-    is ∙ ap (λ d. 2 + length (short_field 1 (bytes d))) same ∙ head_len short_one field_length name
+pub head_is : (name text : List ℕ) (len : ℕ) → text ≡ name → len ≡ 2 + length (short_field 1 (bytes text)) → len ≡ length (spelled (head_fields name))
+head_is name text len same is =
+    is ∙ ap (λ d. 2 + length (short_field 1 (bytes d))) same ∙ head_len name
 
-pub extent_len : ShortOne → FieldLength → (extent : ℕ) → length (spelled (extent_fields extent)) ≡ 1 + length (short extent)
-extent_len short_one field_length extent =
-    let field = field_length 5 (varint extent) in
-    let tag = short_one 40 (omega arith) in
+pub extent_len : (extent : ℕ) → length (spelled (extent_fields extent)) ≡ 1 + length (short extent)
+extent_len extent =
+    let field = short_lengths_field 5 (varint extent) in
+    let tag = short_lengths_one 40 (omega arith) in
     let last = ap length (append-nil (short_field 5 (varint extent))) in
     omega (arith, field, tag, last)
 
-pub extent_is : ShortOne → FieldLength → (extent number len : ℕ) → number ≡ extent → len ≡ length (short number) → length (spelled (extent_fields extent)) ≡ 1 + len
-extent_is short_one field_length extent number len same is =
-    extent_len short_one field_length extent ∙ ap (λ n. 1 + length (short n)) (sym same) ∙ ap (λ n. 1 + n) (sym is)
+pub extent_is : (extent number len : ℕ) → number ≡ extent → len ≡ length (short number) → length (spelled (extent_fields extent)) ≡ 1 + len
+extent_is extent number len same is =
+    extent_len extent ∙ ap (λ n. 1 + length (short n)) (sym same) ∙ ap (λ n. 1 + n) (sym is)
 
 pub layer_sum : (layer : ALayer) (features : List Feature) (keys : List (List ℕ)) (values : List Value) (a b : ℕ) → features ≡ layer.features → keys ≡ keys_of features → values ≡ values_of features → a ≡ length (spelled (head_fields layer.name)) → b ≡ a + length (spelled (map (feature_field (keys_of features) (values_of features)) features)) → length (spelled (layer_fields layer)) ≡ b + (length (spelled (map key_field keys)) + (length (spelled (map value_field values)) + length (spelled (extent_fields layer.extent))))
 layer_sum layer features keys values a b is keys_are values_are head more =

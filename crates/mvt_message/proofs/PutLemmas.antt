@@ -18,13 +18,13 @@ use Rattle.mvt_wire.specs.Spelling.{Plain, short_field, spelled}
 use Rattle.mvt_feature.specs.declared.feature.Feature.{Feature}
 use Rattle.mvt_feature.specs.Canonical.{feature_fields}
 use Rattle.mvt_feature.specs.Valid.{ValidFeature}
+use Rattle.mvt_attrs.proofs.AttrsLaws.{pool_entries_distinct_keys, pool_entries_distinct_values, pools_by_parts_keys, pools_by_parts_values, pools_grow_keys, pools_grow_values, tags_stay}
 use Rattle.mvt_message.specs.declared.item.Layer.{Layer as ALayer}
 use Rattle.mvt_message.specs.declared.put.PutError.TheVariants.{TooLarge}
 use Rattle.mvt_message.specs.CanonicalItems.{attributes_of, keys_of, values_of, head_fields, feature_field, key_field, value_field, extent_fields, layer_fields}
 use Rattle.mvt_message.specs.PutErrors.{of_pool}
-use Rattle.mvt_message.specs.Inner.{PoolLaws}
 use Rattle.mvt_message.specs.ValidItems.{ValidLayer}
-use Rattle.mvt_message.proofs.CanonicalLemmas.{BytesLonger, pools_within, spelled-append}
+use Rattle.mvt_message.proofs.CanonicalLemmas.{pools_within, spelled-append}
 
 pub pool_full : (e : PoolError) → of_pool e ≡ TooLarge → e ≡ pools.Full
 pool_full pools.Memory h = cc
@@ -51,44 +51,44 @@ attributes-append fs gs = flat_map-append (λ (f : Feature). f.attributes) fs gs
 attributes_more : (done : List Feature) (f : Feature) → attributes_of (done ++ f ∷ []) ≡ attributes_of done ++ f.attributes
 attributes_more done f = attributes-append done (f ∷ []) ∙ ap (λ l. attributes_of done ++ l) (append-nil f.attributes)
 
-keys_more : PoolLaws → (done : List Feature) (f : Feature) (keys new : List (List ℕ)) → keys ≡ keys_of done → new ≡ key_pool keys f.attributes → new ≡ keys_of (done ++ f ∷ [])
+keys_more : (done : List Feature) (f : Feature) (keys new : List (List ℕ)) → keys ≡ keys_of done → new ≡ key_pool keys f.attributes → new ≡ keys_of (done ++ f ∷ [])
 unfolding keys_of
-keys_more laws done f keys new is more =
-    more ∙ ap (λ k. key_pool k f.attributes) is ∙ laws.keys_by_parts [] (attributes_of done) f.attributes ∙ ap (key_pool []) (sym (attributes_more done f))
+keys_more done f keys new is more =
+    more ∙ ap (λ k. key_pool k f.attributes) is ∙ pools_by_parts_keys [] (attributes_of done) f.attributes ∙ ap (key_pool []) (sym (attributes_more done f))
 
-values_more : PoolLaws → (done : List Feature) (f : Feature) (values new : List Value) → values ≡ values_of done → new ≡ value_pool values f.attributes → new ≡ values_of (done ++ f ∷ [])
+values_more : (done : List Feature) (f : Feature) (values new : List Value) → values ≡ values_of done → new ≡ value_pool values f.attributes → new ≡ values_of (done ++ f ∷ [])
 unfolding values_of
-values_more laws done f values new is more =
-    more ∙ ap (λ k. value_pool k f.attributes) is ∙ laws.values_by_parts [] (attributes_of done) f.attributes ∙ ap (value_pool []) (sym (attributes_more done f))
+values_more done f values new is more =
+    more ∙ ap (λ k. value_pool k f.attributes) is ∙ pools_by_parts_values [] (attributes_of done) f.attributes ∙ ap (value_pool []) (sym (attributes_more done f))
 
-keys_front : PoolLaws → (done rest : List Feature) → (added : List (List ℕ)) × (keys_of (done ++ rest) ≡ keys_of done ++ added)
+keys_front : (done rest : List Feature) → (added : List (List ℕ)) × (keys_of (done ++ rest) ≡ keys_of done ++ added)
 unfolding keys_of
-keys_front laws done rest =
-    let grown = laws.keys_grow [] (attributes_of done) (attributes_of rest) in
+keys_front done rest =
+    let grown = pools_grow_keys [] (attributes_of done) (attributes_of rest) in
     (grown.0, ap (key_pool []) (attributes-append done rest) ∙ grown.1)
 
-values_front : PoolLaws → (done rest : List Feature) → (added : List Value) × (values_of (done ++ rest) ≡ values_of done ++ added)
+values_front : (done rest : List Feature) → (added : List Value) × (values_of (done ++ rest) ≡ values_of done ++ added)
 unfolding values_of
-values_front laws done rest =
-    let grown = laws.values_grow [] (attributes_of done) (attributes_of rest) in
+values_front done rest =
+    let grown = pools_grow_values [] (attributes_of done) (attributes_of rest) in
     (grown.0, ap (value_pool []) (attributes-append done rest) ∙ grown.1)
 
-keys_distinct : PoolLaws → (done : List Feature) → AreDistinct (keys_of done)
+keys_distinct : (done : List Feature) → AreDistinct (keys_of done)
 unfolding keys_of
-keys_distinct laws done = laws.distinct_keys [] (attributes_of done)
+keys_distinct done = pool_entries_distinct_keys [] (attributes_of done)
 
-values_distinct : PoolLaws → (done : List Feature) → AreDistinct (values_of done)
+values_distinct : (done : List Feature) → AreDistinct (values_of done)
 unfolding values_of
-values_distinct laws done = laws.distinct_values [] (attributes_of done)
+values_distinct done = pool_entries_distinct_values [] (attributes_of done)
 
 -- the tags of a feature name the same entries in the pools of all features
-tags_last : PoolLaws → (features done rest : List Feature) (f : Feature) (keys : List (List ℕ)) (values : List Value) → features ≡ done ++ rest → keys ≡ keys_of done → values ≡ values_of done → Names keys values (tags_in keys values f.attributes) f.attributes → tags_in keys values f.attributes ≡ tags_in (keys_of features) (values_of features) f.attributes
-tags_last laws features done rest f keys values parts keys_are values_are names =
-    let all_keys = keys_front laws done rest in
-    let all_values = values_front laws done rest in
+tags_last : (features done rest : List Feature) (f : Feature) (keys : List (List ℕ)) (values : List Value) → features ≡ done ++ rest → keys ≡ keys_of done → values ≡ values_of done → Names keys values (tags_in keys values f.attributes) f.attributes → tags_in keys values f.attributes ≡ tags_in (keys_of features) (values_of features) f.attributes
+tags_last features done rest f keys values parts keys_are values_are names =
+    let all_keys = keys_front done rest in
+    let all_values = values_front done rest in
     let keys_grow : keys_of features ≡ keys ++ all_keys.0 = ap keys_of parts ∙ all_keys.1 ∙ ap (λ k. k ++ all_keys.0) (sym keys_are) in
     let values_grow : values_of features ≡ values ++ all_values.0 = ap values_of parts ∙ all_values.1 ∙ ap (λ k. k ++ all_values.0) (sym values_are) in
-    laws.tags_stay keys all_keys.0 values all_values.0 (tags_in keys values f.attributes) f.attributes (subst AreDistinct (sym keys_are) (keys_distinct laws done)) (subst AreDistinct (sym values_are) (values_distinct laws done)) names ∙ ap₂ (λ ks vs. tags_in ks vs f.attributes) (sym keys_grow) (sym values_grow)
+    tags_stay keys all_keys.0 values all_values.0 (tags_in keys values f.attributes) f.attributes (subst AreDistinct (sym keys_are) (keys_distinct done)) (subst AreDistinct (sym values_are) (values_distinct done)) names ∙ ap₂ (λ ks vs. tags_in ks vs f.attributes) (sym keys_grow) (sym values_grow)
 
 -- the features below a place are written, with tags that name entries of the pools of all features
 pub record FeaturesSoFar (features : List Feature) (i : ℕ) (keys : List (List ℕ)) (values : List Value) (start out : List ℕ) : Type 0 where
@@ -104,14 +104,13 @@ features_start features keys values start no_keys no_values =
 front_more : (features : List Feature) (i : ℕ) (f : Feature) → i < length features → f ≡ get_or features i f → take (i + 1) features ≡ take i features ++ f ∷ []
 front_more features i f within here = take_more features i f within ∙ ap (λ x. take i features ++ x ∷ []) (sym here)
 
-pub features_step : PoolLaws → (features : List Feature) (i : ℕ) (f : Feature) (keys new_keys : List (List ℕ)) (values new_values : List Value) (start out payload new_out : List ℕ) → FeaturesSoFar features i keys values start out → i < length features → f ≡ get_or features i f → new_keys ≡ key_pool keys f.attributes → new_values ≡ value_pool values f.attributes
-    → Names new_keys new_values (tags_in new_keys new_values f.attributes) f.attributes → payload ≡ spelled (feature_fields (tags_in new_keys new_values f.attributes) f) → new_out ≡ out ++ short_field 2 (bytes payload) → FeaturesSoFar features (i + 1) new_keys new_values start new_out
-features_step laws features i f keys new_keys values new_values start out payload new_out so_far within here keys_grow values_grow names payload_is out_grows =
+pub features_step : (features : List Feature) (i : ℕ) (f : Feature) (keys new_keys : List (List ℕ)) (values new_values : List Value) (start out payload new_out : List ℕ) → FeaturesSoFar features i keys values start out → i < length features → f ≡ get_or features i f → new_keys ≡ key_pool keys f.attributes → new_values ≡ value_pool values f.attributes → Names new_keys new_values (tags_in new_keys new_values f.attributes) f.attributes → payload ≡ spelled (feature_fields (tags_in new_keys new_values f.attributes) f) → new_out ≡ out ++ short_field 2 (bytes payload) → FeaturesSoFar features (i + 1) new_keys new_values start new_out
+features_step features i f keys new_keys values new_values start out payload new_out so_far within here keys_grow values_grow names payload_is out_grows =
     let done = take i features in
     let more = front_more features i f within here in
-    let keys_are : new_keys ≡ keys_of (take (i + 1) features) = keys_more laws done f keys new_keys so_far.keys_are keys_grow ∙ ap keys_of (sym more) in
-    let values_are : new_values ≡ values_of (take (i + 1) features) = values_more laws done f values new_values so_far.values_are values_grow ∙ ap values_of (sym more) in
-    let tags = tags_last laws features (take (i + 1) features) (drop (i + 1) features) f new_keys new_values (sym (take-append-drop (i + 1) features)) keys_are values_are names in
+    let keys_are : new_keys ≡ keys_of (take (i + 1) features) = keys_more done f keys new_keys so_far.keys_are keys_grow ∙ ap keys_of (sym more) in
+    let values_are : new_values ≡ values_of (take (i + 1) features) = values_more done f values new_values so_far.values_are values_grow ∙ ap values_of (sym more) in
+    let tags = tags_last features (take (i + 1) features) (drop (i + 1) features) f new_keys new_values (sym (take-append-drop (i + 1) features)) keys_are values_are names in
     let put : new_out ≡ out ++ short_field 2 (bytes (spelled (feature_fields (tags_in (keys_of features) (values_of features) f.attributes) f))) = out_grows ∙ ap (λ b. out ++ short_field 2 (bytes b)) (payload_is ∙ ap (λ t. spelled (feature_fields t f)) tags) in
     record {
       keys_are = keys_are;
@@ -134,27 +133,27 @@ features_long features i keys values start out bound so_far long =
     front_long field features i (length start) bound (omega (arith, size))
 
 -- pools that a feature takes past a bound are fronts of the pools of all features
-keys_pass : PoolLaws → (features : List Feature) (i : ℕ) (f : Feature) (keys : List (List ℕ)) (bound : ℕ) → keys ≡ keys_of (take i features) → i < length features → f ≡ get_or features i f → bound < length (key_pool keys f.attributes) → bound < length (keys_of features)
-keys_pass laws features i f keys bound is within here more =
-    let now : key_pool keys f.attributes ≡ keys_of (take (i + 1) features) = keys_more laws (take i features) f keys _ is refl ∙ ap keys_of (sym (front_more features i f within here)) in
-    let later = keys_front laws (take (i + 1) features) (drop (i + 1) features) in
+keys_pass : (features : List Feature) (i : ℕ) (f : Feature) (keys : List (List ℕ)) (bound : ℕ) → keys ≡ keys_of (take i features) → i < length features → f ≡ get_or features i f → bound < length (key_pool keys f.attributes) → bound < length (keys_of features)
+keys_pass features i f keys bound is within here more =
+    let now : key_pool keys f.attributes ≡ keys_of (take (i + 1) features) = keys_more (take i features) f keys _ is refl ∙ ap keys_of (sym (front_more features i f within here)) in
+    let later = keys_front (take (i + 1) features) (drop (i + 1) features) in
     let all : keys_of features ≡ key_pool keys f.attributes ++ later.0 = ap keys_of (sym (take-append-drop (i + 1) features)) ∙ later.1 ∙ ap (λ k. k ++ later.0) (sym now) in
     let size = ap length all ∙ length-append (key_pool keys f.attributes) later.0 in
     omega (arith, size)
 
-values_pass : PoolLaws → (features : List Feature) (i : ℕ) (f : Feature) (values : List Value) (bound : ℕ) → values ≡ values_of (take i features) → i < length features → f ≡ get_or features i f → bound < length (value_pool values f.attributes) → bound < length (values_of features)
-values_pass laws features i f values bound is within here more =
-    let now : value_pool values f.attributes ≡ values_of (take (i + 1) features) = values_more laws (take i features) f values _ is refl ∙ ap values_of (sym (front_more features i f within here)) in
-    let later = values_front laws (take (i + 1) features) (drop (i + 1) features) in
+values_pass : (features : List Feature) (i : ℕ) (f : Feature) (values : List Value) (bound : ℕ) → values ≡ values_of (take i features) → i < length features → f ≡ get_or features i f → bound < length (value_pool values f.attributes) → bound < length (values_of features)
+values_pass features i f values bound is within here more =
+    let now : value_pool values f.attributes ≡ values_of (take (i + 1) features) = values_more (take i features) f values _ is refl ∙ ap values_of (sym (front_more features i f within here)) in
+    let later = values_front (take (i + 1) features) (drop (i + 1) features) in
     let all : values_of features ≡ value_pool values f.attributes ++ later.0 = ap values_of (sym (take-append-drop (i + 1) features)) ∙ later.1 ∙ ap (λ k. k ++ later.0) (sym now) in
     let size = ap length all ∙ length-append (value_pool values f.attributes) later.0 in
     omega (arith, size)
 
-pub features_full : PoolLaws → (features : List Feature) (i : ℕ) (f : Feature) (keys : List (List ℕ)) (values : List Value) (bound : ℕ) → keys ≡ keys_of (take i features) → values ≡ values_of (take i features) → i < length features → f ≡ get_or features i f → (bound < length (key_pool keys f.attributes)) ⊎ (bound < length (value_pool values f.attributes)) → (bound ≤ length (keys_of features)) ⊎ (bound ≤ length (values_of features))
-features_full laws features i f keys values bound keys_are values_are within here (inl more) =
-    let all = keys_pass laws features i f keys bound keys_are within here more in inl (omega arith)
-features_full laws features i f keys values bound keys_are values_are within here (inr more) =
-    let all = values_pass laws features i f values bound values_are within here more in inr (omega arith)
+pub features_full : (features : List Feature) (i : ℕ) (f : Feature) (keys : List (List ℕ)) (values : List Value) (bound : ℕ) → keys ≡ keys_of (take i features) → values ≡ values_of (take i features) → i < length features → f ≡ get_or features i f → (bound < length (key_pool keys f.attributes)) ⊎ (bound < length (value_pool values f.attributes)) → (bound ≤ length (keys_of features)) ⊎ (bound ≤ length (values_of features))
+features_full features i f keys values bound keys_are values_are within here (inl more) =
+    let all = keys_pass features i f keys bound keys_are within here more in inl (omega arith)
+features_full features i f keys values bound keys_are values_are within here (inr more) =
+    let all = values_pass features i f values bound values_are within here more in inr (omega arith)
 
 -- the whole layer
 abbrev pub IsLong : ℕ → ℕ → List Feature → Type 0
@@ -170,16 +169,16 @@ layer_parts layer =
     let extent = extent_fields layer.extent in
     spelled-append (head_fields layer.name) (features ++ (keys ++ (values ++ extent))) ∙ ap (λ l. spelled (head_fields layer.name) ++ l) (spelled-append features (keys ++ (values ++ extent)) ∙ ap (λ l. spelled features ++ l) (spelled-append keys (values ++ extent) ∙ ap (λ l. spelled keys ++ l) (spelled-append values extent)))
 
-pub layer_long : BytesLonger → (layer : ALayer) (features : List Feature) (start : ℕ) → features ≡ layer.features → start ≡ length (spelled (head_fields layer.name)) → IsLong LIMIT start features → LIMIT < length (spelled (layer_fields layer))
-layer_long bytes_longer layer features start is start_is long = by_cause (subst (IsLong LIMIT start) is long)
+pub layer_long : (layer : ALayer) (features : List Feature) (start : ℕ) → features ≡ layer.features → start ≡ length (spelled (head_fields layer.name)) → IsLong LIMIT start features → LIMIT < length (spelled (layer_fields layer))
+layer_long layer features start is start_is long = by_cause (subst (IsLong LIMIT start) is long)
   where
     by_cause : IsLong LIMIT start layer.features → LIMIT < length (spelled (layer_fields layer))
     by_cause (inl h) =
         let parts = ap length (layer_parts layer) ∙ length-append (spelled (head_fields layer.name)) _ in
         let more = length-append (spelled (map (feature_field (keys_of layer.features) (values_of layer.features)) layer.features)) (spelled (map key_field (keys_of layer.features)) ++ (spelled (map value_field (values_of layer.features)) ++ spelled (extent_fields layer.extent))) in
         omega (arith, parts, more)
-    by_cause (inr (inl h)) = let two = pools_within bytes_longer (keys_of layer.features) (values_of layer.features) layer in omega (arith, two.0)
-    by_cause (inr (inr h)) = let two = pools_within bytes_longer (keys_of layer.features) (values_of layer.features) layer in omega (arith, two.1)
+    by_cause (inr (inl h)) = let two = pools_within (keys_of layer.features) (values_of layer.features) layer in omega (arith, two.0)
+    by_cause (inr (inr h)) = let two = pools_within (keys_of layer.features) (values_of layer.features) layer in omega (arith, two.1)
 
 pub layer_put : (layer : ALayer) (features : List Feature) (keys : List (List ℕ)) (values : List Value) (a b c d e : List ℕ) → features ≡ layer.features → keys ≡ keys_of features → values ≡ values_of features → a ≡ spelled (head_fields layer.name) → b ≡ a ++ spelled (map (feature_field (keys_of features) (values_of features)) features) → c ≡ b ++ spelled (map key_field keys) → d ≡ c ++ spelled (map value_field values) → e ≡ d ++ spelled (extent_fields layer.extent) → e ≡ spelled (layer_fields layer)
 layer_put layer features keys values a b c d e is keys_are values_are ha hb hc hd he =

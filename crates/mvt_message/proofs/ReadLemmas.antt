@@ -29,6 +29,8 @@ use Rattle.mvt_feature.specs.Selection.{only, last_only}
 use Rattle.mvt_feature.specs.Values.{IsValueOf}
 use Rattle.mvt_feature.specs.ValueRules.{value_fault}
 use Rattle.mvt_feature.specs.Walks.{Walk}
+use Rattle.mvt_wire.proofs.WireLaws.{split_function_count}
+use Rattle.mvt_feature.proofs.FeatureLaws.{rests_none, rests_nothing}
 use Rattle.mvt_message.specs.declared.numbers.layer.TheConstants.{NAME, FEATURES, KEYS, VALUES, EXTENT, VERSION}
 use Rattle.mvt_message.specs.declared.item.Layer.{Layer as ALayer}
 use Rattle.mvt_message.specs.declared.item.Item.TheVariants.{Layer, Foreign}
@@ -37,9 +39,9 @@ use Rattle.mvt_message.specs.ItemRules.{version_rules, layer_field_rules, value_
 use Rattle.mvt_message.specs.Items.{HoldsValue, HoldsFeature, IsLayer, IsItem}
 use Rattle.mvt_message.specs.Inner.{rest_fault, versions_fault, forms_fault, no_name_fault, values_fault, features_fault, head_fault, layer_fault, IsVersionSoFar, OrFault, IsHead, name_after, extent_after, keys_at, AreValuesSoFar, AreFeaturesSoFar}
 use Rattle.mvt_message.proofs.ChainLemmas.{item_chain, layer_chain, tells_or, or_tells}
-use Rattle.mvt_message.proofs.FormLemmas.{FormsHave, versions_form}
-use Rattle.mvt_message.proofs.SaidLemmas.{ValueIs, values_said}
-use Rattle.mvt_message.proofs.ItemLaws.{RestNone, NoneRest, SplitIs, value_first, feature_first, version_there, head_clean, layer_from, layer_clean, item_of_layer, item_from}
+use Rattle.mvt_message.proofs.FormLemmas.{versions_form}
+use Rattle.mvt_message.proofs.SaidLemmas.{values_said}
+use Rattle.mvt_message.proofs.OrFaultLemmas.{value_first, feature_first, version_there, head_clean, layer_from, layer_clean, item_of_layer, item_from}
 
 -- a fault is told of whatever has it
 pub tells_as : (e : MessageError) (o p : Option MessageFault) → ((f : MessageFault) → o ≡ Some f → p ≡ Some f) → TellsMessage e o → TellsMessage e p
@@ -198,15 +200,11 @@ only_few k (x ∷ xs) = by_test (x.number == k) (only_few k xs)
     by_test true h = omega arith
     by_test false h = omega arith
 
--- what the level below gives
-abbrev pub SplitCount : Type 0
-SplitCount = (b : List ℕ) → length (split b).fields + length (split b).rest ≤ length b
-
-pub selected_few : SplitCount → (payload : List ℕ) (to_come : Parts) (done : List Entry) (k : ℕ) → Walk payload to_come done → length payload < 2 ^ 32 → length (only k done) < 2 ^ 32
-selected_few split_count payload to_come done k walk small =
+pub selected_few : (payload : List ℕ) (to_come : Parts) (done : List Entry) (k : ℕ) → Walk payload to_come done → length payload < 2 ^ 32 → length (only k done) < 2 ^ 32
+selected_few payload to_come done k walk small =
     let few = only_few k done in
     let all : length (split payload).fields ≡ length done + length to_come.fields = ap length walk.fields ∙ length-append done to_come.fields in
-    let count = split_count payload in
+    let count = split_function_count payload in
     omega arith
 
 -- the walk over a payload that is known to split into fields
@@ -221,28 +219,28 @@ pub walk_whole : (payload : List ℕ) (old new : Parts) (done : List Entry) (fau
 walk_whole payload old new done fault walk step whole = step.1 (walk.rest ∙ whole)
 
 -- the exits of `read_version`
-pub head_some : RestNone → (payload : List ℕ) (payload_at tag_at n : ℕ) → (split payload).rest ≡ [] → versions_fault payload_at (split payload).fields ≡ None → Some n ≡ version_in (split payload).fields → head_fault payload payload_at tag_at ≡ None
-head_some rest_none payload payload_at tag_at n rest clean version =
-    option_or-none _ _ (rest_none payload_at (split payload) rest) ∙ option_or-none _ _ clean ∙ first-when_not _ _ (by_option (last_only VERSION (split payload).fields) version)
+pub head_some : (payload : List ℕ) (payload_at tag_at n : ℕ) → (split payload).rest ≡ [] → versions_fault payload_at (split payload).fields ≡ None → Some n ≡ version_in (split payload).fields → head_fault payload payload_at tag_at ≡ None
+head_some payload payload_at tag_at n rest clean version =
+    option_or-none _ _ (rests_none payload_at (split payload) rest) ∙ option_or-none _ _ clean ∙ first-when_not _ _ (by_option (last_only VERSION (split payload).fields) version)
   where
     by_option : (o : Option Entry) → Some n ≡ number_in o → is_none o ≡ false
     by_option None h = cc
     by_option (Some x) h = refl
 
-pub head_none : RestNone → FormsHave → (payload : List ℕ) (payload_at tag_at : ℕ) → (split payload).rest ≡ [] → versions_fault payload_at (split payload).fields ≡ None → None ≡ version_in (split payload).fields → head_fault payload payload_at tag_at ≡ Some (fault_at tag_at NoVersion)
-head_none rest_none have payload payload_at tag_at rest clean version =
-    option_or-none _ _ (rest_none payload_at (split payload) rest) ∙ option_or-none _ _ clean ∙ first-when _ _ (by_test (is_none (last_only VERSION (split payload).fields)) refl)
+pub head_none : (payload : List ℕ) (payload_at tag_at : ℕ) → (split payload).rest ≡ [] → versions_fault payload_at (split payload).fields ≡ None → None ≡ version_in (split payload).fields → head_fault payload payload_at tag_at ≡ Some (fault_at tag_at NoVersion)
+head_none payload payload_at tag_at rest clean version =
+    option_or-none _ _ (rests_none payload_at (split payload) rest) ∙ option_or-none _ _ clean ∙ first-when _ _ (by_test (is_none (last_only VERSION (split payload).fields)) refl)
   where
     by_test : (b : Bool) → is_none (last_only VERSION (split payload).fields) ≡ b → b ≡ true
     by_test true e = refl
     by_test false e =
-        let there = version_there (split payload).fields (versions_form have payload_at (split payload).fields clean) e in
+        let there = version_there (split payload).fields (versions_form payload_at (split payload).fields clean) e in
         let clash : None ≡ Some there.0 = version ∙ there.1 in
         cc
 
-pub head_versions : RestNone → (payload : List ℕ) (payload_at tag_at : ℕ) (e : MessageError) → (split payload).rest ≡ [] → ((more : List Entry) → TellsMessage e (versions_fault payload_at ((split payload).fields ++ more))) → TellsMessage e (head_fault payload payload_at tag_at)
-head_versions rest_none payload payload_at tag_at e rest stays =
-    or_tells e (rest_fault payload payload_at) _ (rest_none payload_at (split payload) rest) (tells_or e (versions_fault payload_at (split payload).fields) _ (or_told (versions_fault payload_at) (split payload).fields e stays))
+pub head_versions : (payload : List ℕ) (payload_at tag_at : ℕ) (e : MessageError) → (split payload).rest ≡ [] → ((more : List Entry) → TellsMessage e (versions_fault payload_at ((split payload).fields ++ more))) → TellsMessage e (head_fault payload payload_at tag_at)
+head_versions payload payload_at tag_at e rest stays =
+    or_tells e (rest_fault payload payload_at) _ (rests_none payload_at (split payload) rest) (tells_or e (versions_fault payload_at (split payload).fields) _ (or_told (versions_fault payload_at) (split payload).fields e stays))
 
 -- the exits of `read_layer`
 pub forms_told : (payload_at tag_at : ℕ) (xs : List Entry) (e : MessageError) → TellsMessage e (forms_fault payload_at xs) → TellsMessage e (layer_fault payload_at tag_at xs)
@@ -267,40 +265,40 @@ pub values_told : (payload_at tag_at : ℕ) (xs : List Entry) (name : List ℕ) 
 values_told payload_at tag_at xs name e forms is h =
     subst (TellsMessage e) (sym (layer_chain payload_at tag_at xs)) (or_tells e (forms_fault payload_at xs) _ forms (or_tells e (no_name_fault tag_at xs) _ (name_some tag_at xs name is) (tells_or e (values_fault payload_at xs) _ h)))
 
-pub features_told : ValueIs → (payload_at tag_at : ℕ) (xs : List Entry) (name : List ℕ) (keys : List (List ℕ)) (values : List Value) (e : MessageError) → forms_fault payload_at xs ≡ None → Some name ≡ name_in xs → values_fault payload_at xs ≡ None → keys ≡ keys_in xs → AreRelated HoldsValue (only VALUES xs) values → TellsMessage e (features_fault payload_at keys values xs) → TellsMessage e (layer_fault payload_at tag_at xs)
-features_told value_is payload_at tag_at xs name keys values e forms is clean keys_are values_are h =
-    let same : values_in xs ≡ values = values_said value_is (only VALUES xs) values values_are in
+pub features_told : (payload_at tag_at : ℕ) (xs : List Entry) (name : List ℕ) (keys : List (List ℕ)) (values : List Value) (e : MessageError) → forms_fault payload_at xs ≡ None → Some name ≡ name_in xs → values_fault payload_at xs ≡ None → keys ≡ keys_in xs → AreRelated HoldsValue (only VALUES xs) values → TellsMessage e (features_fault payload_at keys values xs) → TellsMessage e (layer_fault payload_at tag_at xs)
+features_told payload_at tag_at xs name keys values e forms is clean keys_are values_are h =
+    let same : values_in xs ≡ values = values_said (only VALUES xs) values values_are in
     let here : TellsMessage e (features_fault payload_at (keys_in xs) (values_in xs) xs) = subst (TellsMessage e) (ap₂ (λ ks vs. features_fault payload_at ks vs xs) keys_are (sym same)) h in
     subst (TellsMessage e) (sym (layer_chain payload_at tag_at xs)) (or_tells e (forms_fault payload_at xs) _ forms (or_tells e (no_name_fault tag_at xs) _ (name_some tag_at xs name is) (or_tells e (values_fault payload_at xs) _ clean (tells_or e (features_fault payload_at (keys_in xs) (values_in xs) xs) _ here))))
 
-pub layer_ok : ValueIs → (payload_at tag_at : ℕ) (xs : List Entry) (name : List ℕ) (keys : List (List ℕ)) (values : List Value) → forms_fault payload_at xs ≡ None → Some name ≡ name_in xs → values_fault payload_at xs ≡ None → keys ≡ keys_in xs → AreRelated HoldsValue (only VALUES xs) values → features_fault payload_at keys values xs ≡ None → layer_fault payload_at tag_at xs ≡ None
-layer_ok value_is payload_at tag_at xs name keys values forms is clean keys_are values_are h =
-    let same : values_in xs ≡ values = values_said value_is (only VALUES xs) values values_are in
+pub layer_ok : (payload_at tag_at : ℕ) (xs : List Entry) (name : List ℕ) (keys : List (List ℕ)) (values : List Value) → forms_fault payload_at xs ≡ None → Some name ≡ name_in xs → values_fault payload_at xs ≡ None → keys ≡ keys_in xs → AreRelated HoldsValue (only VALUES xs) values → features_fault payload_at keys values xs ≡ None → layer_fault payload_at tag_at xs ≡ None
+layer_ok payload_at tag_at xs name keys values forms is clean keys_are values_are h =
+    let same : values_in xs ≡ values = values_said (only VALUES xs) values values_are in
     layer_clean payload_at tag_at xs forms (name_some tag_at xs name is) clean (sym (ap₂ (λ ks vs. features_fault payload_at ks vs xs) keys_are (sym same)) ∙ h)
 
-pub layer_read : FormsHave → (payload_at tag_at : ℕ) (xs : List Entry) (layer : ALayer) (name : List ℕ) (extent : ℕ) (keys : List (List ℕ)) (values : List Value) → forms_fault payload_at xs ≡ None → Some name ≡ name_in xs → layer.name ≡ name → extent ≡ extent_in xs → layer.extent ≡ extent → keys ≡ keys_in xs → AreRelated HoldsValue (only VALUES xs) values → AreRelated (HoldsFeature keys values) (only FEATURES xs) layer.features → IsLayer xs layer
-layer_read have payload_at tag_at xs layer name extent keys values forms is name_is extent_is extent_same keys_are values_are features =
-    layer_from have payload_at tag_at xs layer values forms (sym is ∙ ap Some (sym name_is)) (extent_same ∙ extent_is) values_are (subst (λ ks. AreRelated (HoldsFeature ks values) (only FEATURES xs) layer.features) keys_are features)
+pub layer_read : (payload_at tag_at : ℕ) (xs : List Entry) (layer : ALayer) (name : List ℕ) (extent : ℕ) (keys : List (List ℕ)) (values : List Value) → forms_fault payload_at xs ≡ None → Some name ≡ name_in xs → layer.name ≡ name → extent ≡ extent_in xs → layer.extent ≡ extent → keys ≡ keys_in xs → AreRelated HoldsValue (only VALUES xs) values → AreRelated (HoldsFeature keys values) (only FEATURES xs) layer.features → IsLayer xs layer
+layer_read payload_at tag_at xs layer name extent keys values forms is name_is extent_is extent_same keys_are values_are features =
+    layer_from payload_at tag_at xs layer values forms (sym is ∙ ap Some (sym name_is)) (extent_same ∙ extent_is) values_are (subst (λ ks. AreRelated (HoldsFeature ks values) (only FEATURES xs) layer.features) keys_are features)
 
 -- the exits of `read_item`
 pub head_told : (payload : List ℕ) (payload_at tag_at : ℕ) (e : MessageError) → TellsMessage e (head_fault payload payload_at tag_at) → TellsMessage e (item_fault payload payload_at tag_at)
 head_told payload payload_at tag_at e h = subst (TellsMessage e) (sym (item_chain payload payload_at tag_at)) (tells_or e (head_fault payload payload_at tag_at) _ h)
 
-pub head_whole : NoneRest → (payload : List ℕ) (payload_at tag_at : ℕ) → head_fault payload payload_at tag_at ≡ None → (split payload).rest ≡ []
-head_whole none_rest payload payload_at tag_at none = none_rest payload_at (split payload) (option_or-nones _ _ none).0
+pub head_whole : (payload : List ℕ) (payload_at tag_at : ℕ) → head_fault payload payload_at tag_at ≡ None → (split payload).rest ≡ []
+head_whole payload payload_at tag_at none = rests_nothing payload_at (split payload) (option_or-nones _ _ none).0
 
 pub layer_told : (payload : List ℕ) (payload_at tag_at : ℕ) (e : MessageError) → head_fault payload payload_at tag_at ≡ None → version_in (split payload).fields ≡ Some 2 → TellsMessage e (layer_fault payload_at tag_at (split payload).fields) → TellsMessage e (item_fault payload payload_at tag_at)
 layer_told payload payload_at tag_at e head version h = subst (TellsMessage e) (sym (item_of_layer payload payload_at tag_at head version)) h
 
-pub layer_item : NoneRest → FormsHave → SplitIs → (payload : List ℕ) (payload_at tag_at : ℕ) (layer : ALayer) → head_fault payload payload_at tag_at ≡ None → version_in (split payload).fields ≡ Some 2 → IsLayer (split payload).fields layer → IsItem payload (Layer layer)
-layer_item none_rest have split_is payload payload_at tag_at layer head version is =
-    let parts = head_clean none_rest have payload payload_at tag_at head in
-    item_from split_is payload (Layer layer) parts.0 parts.1 (version, is)
+pub layer_item : (payload : List ℕ) (payload_at tag_at : ℕ) (layer : ALayer) → head_fault payload payload_at tag_at ≡ None → version_in (split payload).fields ≡ Some 2 → IsLayer (split payload).fields layer → IsItem payload (Layer layer)
+layer_item payload payload_at tag_at layer head version is =
+    let parts = head_clean payload payload_at tag_at head in
+    item_from payload (Layer layer) parts.0 parts.1 (version, is)
 
-pub other_item : NoneRest → FormsHave → SplitIs → (payload : List ℕ) (payload_at tag_at n : ℕ) (content : List ℕ) → head_fault payload payload_at tag_at ≡ None → version_in (split payload).fields ≡ Some n → n ≢ 2 → content ≡ payload → IsItem payload (Foreign n content)
-other_item none_rest have split_is payload payload_at tag_at n content head version other is =
-    let parts = head_clean none_rest have payload payload_at tag_at head in
-    item_from split_is payload (Foreign n content) parts.0 parts.1 (version, other, is)
+pub other_item : (payload : List ℕ) (payload_at tag_at n : ℕ) (content : List ℕ) → head_fault payload payload_at tag_at ≡ None → version_in (split payload).fields ≡ Some n → n ≢ 2 → content ≡ payload → IsItem payload (Foreign n content)
+other_item payload payload_at tag_at n content head version other is =
+    let parts = head_clean payload payload_at tag_at head in
+    item_from payload (Foreign n content) parts.0 parts.1 (version, other, is)
 
 -- the names of a payload
 pub names_of_layer : (payload name : List ℕ) → version_in (split payload).fields ≡ Some 2 → Some name ≡ name_in (split payload).fields → payload_names payload ≡ name ∷ []

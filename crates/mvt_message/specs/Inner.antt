@@ -4,12 +4,7 @@ use Rattle.std.specs.Bool.{OnTrue}
 use Rattle.std.specs.Option.{option_or, option_copied}
 use Rattle.mvt_base.specs.Related.{AreRelated}
 use Rattle.mvt_base.specs.Rules.{when, rows, each, first}
-use Rattle.mvt_attrs.specs.declared.value.Attribute.{Attribute}
 use Rattle.mvt_attrs.specs.declared.value.Value.{Value}
-use Rattle.mvt_attrs.specs.FirstUse.{AreDistinct}
-use Rattle.mvt_attrs.specs.Pools.{key_pool, value_pool}
-use Rattle.mvt_attrs.specs.Tags.{Names}
-use Rattle.mvt_attrs.specs.TagPlaces.{tags_in}
 use Rattle.mvt_wire.specs.Field.{Content, Entry}
 use Rattle.mvt_wire.specs.Split.{split}
 use Rattle.mvt_feature.specs.declared.cause.Cause.TheVariants.{NoVersion, NoName}
@@ -126,13 +121,3 @@ pub record AreParts (keep : Bool) (layer : ALayer) (name : List ℕ) (extent : �
 abbrev pub IsFault : MessageError → Type 0
 IsFault Memory = ⊥
 IsFault (Fault feature at cause) = ⊤
-
--- what is known of pools, as the level below says it
-pub record PoolLaws : Type 0 where
-  pub keys_by_parts : (held : List (List ℕ)) (attributes more : List Attribute) → key_pool (key_pool held attributes) more ≡ key_pool held (attributes ++ more)
-  pub values_by_parts : (held : List Value) (attributes more : List Attribute) → value_pool (value_pool held attributes) more ≡ value_pool held (attributes ++ more)
-  pub keys_grow : (held : List (List ℕ)) (attributes more : List Attribute) → (added : List (List ℕ)) × (key_pool held (attributes ++ more) ≡ key_pool held attributes ++ added)
-  pub values_grow : (held : List Value) (attributes more : List Attribute) → (added : List Value) × (value_pool held (attributes ++ more) ≡ value_pool held attributes ++ added)
-  pub distinct_keys : (held : List (List ℕ)) (attributes : List Attribute) → AreDistinct (key_pool held attributes)
-  pub distinct_values : (held : List Value) (attributes : List Attribute) → AreDistinct (value_pool held attributes)
-  pub tags_stay : (keys more : List (List ℕ)) (values further : List Value) (tags : List ℕ) (attributes : List Attribute) → AreDistinct keys → AreDistinct values → Names keys values tags attributes → tags ≡ tags_in (keys ++ more) (values ++ further) attributes

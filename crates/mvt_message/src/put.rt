@@ -9,7 +9,6 @@ use crate::layer_len::layer_len;
 use crate::put_layer::{put_extent, put_features, put_head, put_keys, put_values};
 use mvt_attrs::{KeyPool, PoolError, ValuePool};
 use mvt_base::LIMIT;
-use mvt_wire::laws::short_lengths;
 use std::alloc::{AllocError, Global};
 use std::error::Error;
 use std::fmt;
@@ -113,8 +112,6 @@ fn put_layer(alloc: Global, layer: &Layer) -> Result<Vec<u8>, PutError>
     ensures put { IfOk result (λ v. (v.items ≡ spelled (layer_fields layer.now)) × (length v.items ≤ LIMIT)) }
     ensures too_large { IsErrOf result PutError.TooLarge → LIMIT < length (spelled (layer_fields layer.now)) }
 {
-    // What the proof needs to know of lengths; it does nothing.
-    short_lengths();
     let mut keys = KeyPool::new(alloc);
     let mut values = ValuePool::new(alloc);
     let mut out = Vec::new(alloc);

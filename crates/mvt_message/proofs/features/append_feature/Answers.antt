@@ -1,5 +1,6 @@
 use Rattle.std.proofs.Common.{sym, refl}
 use Rattle.mvt_wire.specs.Field.{entry_of}
+use Rattle.mvt_feature.proofs.FeatureLaws.{feature_or_fault_there}
 use Rattle.mvt_message.proofs.HeldLemmas.{on_true, on_false, from_true, feature_skipped, feature_stops, feature_held}
 use Rattle.mvt_message.proofs.features.append_feature.Goals as goal
 
@@ -23,7 +24,7 @@ returns-then-keeps-clause-ok c = λ held done are so_far.
 pub returns-in-Ok-judge_feature-clause-ok : goal.returns-in-Ok-judge_feature-clause-ok
 returns-in-Ok-judge_feature-clause-ok c = λ held done are so_far.
     let clean = rw c.bytes_of-payload.ensures at (c.in-Ok-judge_feature.ensures.ok held (sym are.0)) in
-    let there = c.feature_or_fault.ensures.there _ _ _ _ clean in
+    let there = feature_or_fault_there _ _ _ _ clean in
     feature_held c.args.keeps c.args.payload_at c.args.keys.now held done c.args.features.now.count c.args.features.now.kept.items (entry_of c.args.field.now) so_far c.args.features.now.kept.items there.0 c.if-field-ne-FEATURES.false there.1 clean
     (on_false c.args.keeps _ c.if-keeps.false)
 

@@ -12,13 +12,13 @@ pub returns-in_err-len-2-clause-too_large : goal.returns-in_err-len-2-clause-too
 returns-in_err-len-2-clause-too_large c = λ h.
     let p = err_from_is_err_and c.from_residual-in_err-len-2.result c.from_residual-in_err-len-2.ensures.1 in
     let told : Err c.in_err-len-2.field-0.0 ≡ Err TooLarge = ap Err (sym p.2) ∙ sym p.1 ∙ h in
-    layer_long c.short_lengths.ensures.bytes c.args.layer.now c.as_slice.result.now c.in_ok-len.len c.as_slice.ensures (head_is c.short_lengths.ensures.one c.short_lengths.ensures.field c.args.layer.now.name c.as_str.result.now c.in_ok-len.len c.as_str.ensures.text (c.in_ok-len.ensures.ok c.as_str.result.now refl).0) (c.in_err-len-2.ensures.too_large told)
+    layer_long c.args.layer.now c.as_slice.result.now c.in_ok-len.len c.as_slice.ensures (head_is c.args.layer.now.name c.as_str.result.now c.in_ok-len.len c.as_str.ensures.text (c.in_ok-len.ensures.ok c.as_str.result.now refl).0) (c.in_err-len-2.ensures.too_large told)
 
 pub returns-in_err-len-3-clause-too_large : goal.returns-in_err-len-3-clause-too_large
 returns-in_err-len-3-clause-too_large c = λ h.
     let p = err_from_is_err_and c.from_residual-in_err-len-3.result c.from_residual-in_err-len-3.ensures.1 in
     let told : Err c.in_err-len-3.field-0.0 ≡ Err TooLarge = ap Err (sym p.2) ∙ sym p.1 ∙ h in
-    let sum = layer_sum c.args.layer.now c.as_slice.result.now c.with_features.new.keys c.with_features.new.values c.in_ok-len.len c.in_ok-len-2.len c.as_slice.ensures c.in_ok-len-2.ensures.keys c.in_ok-len-2.ensures.values (head_is c.short_lengths.ensures.one c.short_lengths.ensures.field c.args.layer.now.name c.as_str.result.now c.in_ok-len.len c.as_str.ensures.text (c.in_ok-len.ensures.ok c.as_str.result.now refl).0) c.in_ok-len-2.ensures.len in
+    let sum = layer_sum c.args.layer.now c.as_slice.result.now c.with_features.new.keys c.with_features.new.values c.in_ok-len.len c.in_ok-len-2.len c.as_slice.ensures c.in_ok-len-2.ensures.keys c.in_ok-len-2.ensures.values (head_is c.args.layer.now.name c.as_str.result.now c.in_ok-len.len c.as_str.ensures.text (c.in_ok-len.ensures.ok c.as_str.result.now refl).0) c.in_ok-len-2.ensures.len in
     let long = c.in_err-len-3.ensures.too_large told in
     omega (arith, sum)
 
@@ -26,24 +26,24 @@ pub returns-in_err-len-4-clause-too_large : goal.returns-in_err-len-4-clause-too
 returns-in_err-len-4-clause-too_large c = λ h.
     let p = err_from_is_err_and c.from_residual-in_err-len-4.result c.from_residual-in_err-len-4.ensures.1 in
     let told : Err c.in_err-len-4.field-0.0 ≡ Err TooLarge = ap Err (sym p.2) ∙ sym p.1 ∙ h in
-    let sum = layer_sum c.args.layer.now c.as_slice.result.now c.with_features.new.keys c.with_features.new.values c.in_ok-len.len c.in_ok-len-2.len c.as_slice.ensures c.in_ok-len-2.ensures.keys c.in_ok-len-2.ensures.values (head_is c.short_lengths.ensures.one c.short_lengths.ensures.field c.args.layer.now.name c.as_str.result.now c.in_ok-len.len c.as_str.ensures.text (c.in_ok-len.ensures.ok c.as_str.result.now refl).0) c.in_ok-len-2.ensures.len in
+    let sum = layer_sum c.args.layer.now c.as_slice.result.now c.with_features.new.keys c.with_features.new.values c.in_ok-len.len c.in_ok-len-2.len c.as_slice.ensures c.in_ok-len-2.ensures.keys c.in_ok-len-2.ensures.values (head_is c.args.layer.now.name c.as_str.result.now c.in_ok-len.len c.as_str.ensures.text (c.in_ok-len.ensures.ok c.as_str.result.now refl).0) c.in_ok-len-2.ensures.len in
     let keys = c.in_ok-len-3.ensures.len in
     let long = c.in_err-len-4.ensures.too_large told in
     omega (arith, sum)
 
 pub returns-then-len-gt-LIMIT-clause-too_large : goal.returns-then-len-gt-LIMIT-clause-too_large
 returns-then-len-gt-LIMIT-clause-too_large c = λ _.
-    let sum = layer_sum c.args.layer.now c.as_slice.result.now c.with_features.new.keys c.with_features.new.values c.in_ok-len.len c.in_ok-len-2.len c.as_slice.ensures c.in_ok-len-2.ensures.keys c.in_ok-len-2.ensures.values (head_is c.short_lengths.ensures.one c.short_lengths.ensures.field c.args.layer.now.name c.as_str.result.now c.in_ok-len.len c.as_str.ensures.text (c.in_ok-len.ensures.ok c.as_str.result.now refl).0) c.in_ok-len-2.ensures.len in
+    let sum = layer_sum c.args.layer.now c.as_slice.result.now c.with_features.new.keys c.with_features.new.values c.in_ok-len.len c.in_ok-len-2.len c.as_slice.ensures c.in_ok-len-2.ensures.keys c.in_ok-len-2.ensures.values (head_is c.args.layer.now.name c.as_str.result.now c.in_ok-len.len c.as_str.ensures.text (c.in_ok-len.ensures.ok c.as_str.result.now refl).0) c.in_ok-len-2.ensures.len in
     let keys = c.in_ok-len-3.ensures.len in
     let values = c.in_ok-len-4.ensures.len in
-    let extent = extent_is c.short_lengths.ensures.one c.short_lengths.ensures.field c.args.layer.now.extent c.from.result c.varint_len.result c.from.ensures c.varint_len.ensures.len in
+    let extent = extent_is c.args.layer.now.extent c.from.result c.varint_len.result c.from.ensures c.varint_len.ensures.len in
     let long = c.if-len-gt-LIMIT.true in
     omega (arith, sum, extent)
 
 pub returns-clause-len : goal.returns-clause-len
 returns-clause-len c =
-    let sum = layer_sum c.args.layer.now c.as_slice.result.now c.with_features.new.keys c.with_features.new.values c.in_ok-len.len c.in_ok-len-2.len c.as_slice.ensures c.in_ok-len-2.ensures.keys c.in_ok-len-2.ensures.values (head_is c.short_lengths.ensures.one c.short_lengths.ensures.field c.args.layer.now.name c.as_str.result.now c.in_ok-len.len c.as_str.ensures.text (c.in_ok-len.ensures.ok c.as_str.result.now refl).0) c.in_ok-len-2.ensures.len in
+    let sum = layer_sum c.args.layer.now c.as_slice.result.now c.with_features.new.keys c.with_features.new.values c.in_ok-len.len c.in_ok-len-2.len c.as_slice.ensures c.in_ok-len-2.ensures.keys c.in_ok-len-2.ensures.values (head_is c.args.layer.now.name c.as_str.result.now c.in_ok-len.len c.as_str.ensures.text (c.in_ok-len.ensures.ok c.as_str.result.now refl).0) c.in_ok-len-2.ensures.len in
     let keys = c.in_ok-len-3.ensures.len in
     let values = c.in_ok-len-4.ensures.len in
-    let extent = extent_is c.short_lengths.ensures.one c.short_lengths.ensures.field c.args.layer.now.extent c.from.result c.varint_len.result c.from.ensures c.varint_len.ensures.len in
+    let extent = extent_is c.args.layer.now.extent c.from.result c.varint_len.result c.from.ensures c.varint_len.ensures.len in
     (omega (arith, sum, extent), c.if-len-gt-LIMIT.false)

@@ -20,7 +20,7 @@ returns-in_err-append_feature-clause-too_large c = λ h.
     let e = c.in_err-append_feature.ensures in
     let told : Err (of_pool c.in_err-append_feature.field-0.0) ≡ Err TooLarge = ap Err (sym p.2) ∙ sym p.1 ∙ h in
     let full : of_pool c.in_err-append_feature.field-0.0 ≡ TooLarge = cc in
-    inr (features_full c.pool_laws.ensures c.args.features.now c.loop-feature.feature-index c.feature-item.result c.loop-feature.keys c.loop-feature.values LIMIT c.loop-feature.invariant.1.keys_are c.loop-feature.invariant.1.values_are c.loop-feature-test.true c.feature-item.is (e.too_many (ap Err (pool_full _ full))))
+    inr (features_full c.args.features.now c.loop-feature.feature-index c.feature-item.result c.loop-feature.keys c.loop-feature.values LIMIT c.loop-feature.invariant.1.keys_are c.loop-feature.invariant.1.values_are c.loop-feature-test.true c.feature-item.is (e.too_many (ap Err (pool_full _ full))))
 
 pub returns-in_err-len-clause-too_large : goal.returns-in_err-len-clause-too_large
 returns-in_err-len-clause-too_large c = λ h.
@@ -29,7 +29,7 @@ returns-in_err-len-clause-too_large c = λ h.
     let e = c.in_ok-append_feature.ensures in
     let payload = c.append_feature.new.out.items in
     let size = sym (c.len.ensures ∙ c.append_feature.new.out.ok.0) in
-    let step = features_len_step c.pool_laws.ensures c.args.features.now c.loop-feature.feature-index c.feature-item.result c.loop-feature.keys c.append_feature.new.keys c.loop-feature.values c.append_feature.new.values c.args.start c.loop-feature.len c.loop-feature.invariant.0 payload c.loop-feature.invariant.1 c.loop-feature-test.true c.feature-item.is e.keys e.values e.names (e.ok ∙ ap (λ l. l ++ spelled (feature_fields (tags_in c.append_feature.new.keys c.append_feature.new.values c.feature-item.result.attributes) c.feature-item.result)) c.clear.ensures.items) c.loop-feature.invariant.2 in
+    let step = features_len_step c.args.features.now c.loop-feature.feature-index c.feature-item.result c.loop-feature.keys c.append_feature.new.keys c.loop-feature.values c.append_feature.new.values c.args.start c.loop-feature.len c.loop-feature.invariant.0 payload c.loop-feature.invariant.1 c.loop-feature-test.true c.feature-item.is e.keys e.values e.names (e.ok ∙ ap (λ l. l ++ spelled (feature_fields (tags_in c.append_feature.new.keys c.append_feature.new.values c.feature-item.result.attributes) c.feature-item.result)) c.clear.ensures.items) c.loop-feature.invariant.2 in
     let long = c.in_err-len.ensures.too_large payload size told in
     inl (features_len_long c.args.features.now (c.loop-feature.feature-index + 1) c.append_feature.new.keys c.append_feature.new.values c.args.start step.0 LIMIT step.1 (omega (arith, step.2)))
 
@@ -38,6 +38,6 @@ loop-feature-preserved c =
     let e = c.in_ok-append_feature.ensures in
     let payload = c.append_feature.new.out.items in
     let size = sym (c.len.ensures ∙ c.append_feature.new.out.ok.0) in
-    let step = features_len_step c.pool_laws.ensures c.args.features.now c.loop-feature.feature-index c.feature-item.result c.loop-feature.keys c.append_feature.new.keys c.loop-feature.values c.append_feature.new.values c.args.start c.loop-feature.len c.loop-feature.invariant.0 payload c.loop-feature.invariant.1 c.loop-feature-test.true c.feature-item.is e.keys e.values e.names (e.ok ∙ ap (λ l. l ++ spelled (feature_fields (tags_in c.append_feature.new.keys c.append_feature.new.values c.feature-item.result.attributes) c.feature-item.result)) c.clear.ensures.items) c.loop-feature.invariant.2 in
+    let step = features_len_step c.args.features.now c.loop-feature.feature-index c.feature-item.result c.loop-feature.keys c.append_feature.new.keys c.loop-feature.values c.append_feature.new.values c.args.start c.loop-feature.len c.loop-feature.invariant.0 payload c.loop-feature.invariant.1 c.loop-feature-test.true c.feature-item.is e.keys e.values e.names (e.ok ∙ ap (λ l. l ++ spelled (feature_fields (tags_in c.append_feature.new.keys c.append_feature.new.values c.feature-item.result.attributes) c.feature-item.result)) c.clear.ensures.items) c.loop-feature.invariant.2 in
     let more = c.in_ok-len.ensures.ok payload size in
     (step.0, step.1, more.0 ∙ step.2, more.1)

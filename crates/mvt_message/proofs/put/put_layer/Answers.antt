@@ -15,7 +15,7 @@ returns-in_err-put_features-clause-too_large c = λ h.
     let p = err_from_is_err_and c.from_residual-in_err-put_features.result c.from_residual-in_err-put_features.ensures.1 in
     let told : Err c.in_err-put_features.field-0.0 ≡ Err TooLarge = ap Err (sym p.2) ∙ sym p.1 ∙ h in
     let cause : c.in_err-put_features.field-0.0 ≡ TooLarge = cc in
-    layer_long c.short_lengths.ensures.bytes c.args.layer.now c.as_slice.result.now (length c.put_head.new.out.items) c.as_slice.ensures (ap length (c.in_ok-put_head.ensures ∙ ap₂ (λ x y. x ++ spelled (head_fields y)) c.new-out.ensures.items c.as_str.ensures.text)) (c.in_err-put_features.ensures.too_large (ap Err cause))
+    layer_long c.args.layer.now c.as_slice.result.now (length c.put_head.new.out.items) c.as_slice.ensures (ap length (c.in_ok-put_head.ensures ∙ ap₂ (λ x y. x ++ spelled (head_fields y)) c.new-out.ensures.items c.as_str.ensures.text)) (c.in_err-put_features.ensures.too_large (ap Err cause))
 
 pub returns-then-len-gt-LIMIT-clause-too_large : goal.returns-then-len-gt-LIMIT-clause-too_large
 returns-then-len-gt-LIMIT-clause-too_large c = λ _.

@@ -3,7 +3,7 @@ use Rattle.std.proofs.lemmas.Result.{err_from_is_err_and}
 use Rattle.mvt_wire.specs.Split.{split}
 use Rattle.mvt_message.specs.LayerFields.{version_in}
 use Rattle.mvt_message.proofs.ReadLemmas.{head_told, head_whole, layer_told, names_of_layer, names_of_other}
-use Rattle.mvt_message.proofs.ItemLaws.{item_of_layer, item_of_other}
+use Rattle.mvt_message.proofs.OrFaultLemmas.{item_of_layer, item_of_other}
 use Rattle.mvt_message.proofs.read.judge_item.Goals as goal
 
 pub returns-in_err-version-clause-fault : goal.returns-in_err-version-clause-fault
@@ -18,7 +18,7 @@ pub returns-then-version-ne2-clause-names : goal.returns-then-version-ne2-clause
 returns-then-version-ne2-clause-names c = sym (names_of_other c.args.payload.now c.in_ok-version.version c.in_ok-version.ensures.version c.if-version-ne2.true)
 
 pub read_parts-requires-clause-whole : goal.read_parts-requires-clause-whole
-read_parts-requires-clause-whole c = head_whole c.rests.ensures.nothing c.args.payload.now c.args.payload_at c.args.tag_at c.in_ok-version.ensures.ok
+read_parts-requires-clause-whole c = head_whole c.args.payload.now c.args.payload_at c.args.tag_at c.in_ok-version.ensures.ok
 
 pub returns-in_err-parts-clause-fault : goal.returns-in_err-parts-clause-fault
 returns-in_err-parts-clause-fault c =

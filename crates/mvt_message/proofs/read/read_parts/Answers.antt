@@ -34,7 +34,7 @@ returns-in_err-features-clause-fault c =
     let name : Some c.in-Some-name.name.now ≡ name_in fields = ap option_copied (sym c.in-Some-name.is) ∙ head.name_is in
     let keys : c.deref.result.now ≡ keys_in fields = c.deref.ensures.value ∙ head.keys_are in
     let values = rw c.in_default-values_fault.is at c.requires.front.1 in
-    rw (p.1, p.2) (features_told c.value_function.ensures c.args.payload_at c.args.tag_at fields c.in-Some-name.name.now c.deref.result.now values.0 _ head.clean name values.1.0 keys values.1.1 (c.in_err-features.ensures.err values.0 values.2))
+    rw (p.1, p.2) (features_told c.args.payload_at c.args.tag_at fields c.in-Some-name.name.now c.deref.result.now values.0 _ head.clean name values.1.0 keys values.1.1 (c.in_err-features.ensures.err values.0 values.2))
 
 pub returns-clause-ok : goal.returns-clause-ok
 returns-clause-ok c =
@@ -43,7 +43,7 @@ returns-clause-ok c =
     let name : Some c.in-Some-name.name.now ≡ name_in fields = ap option_copied (sym c.in-Some-name.is) ∙ head.name_is in
     let keys : c.deref.result.now ≡ keys_in fields = c.deref.ensures.value ∙ head.keys_are in
     let values = rw c.in_default-values_fault.is at c.requires.front.1 in
-    layer_ok c.value_function.ensures c.args.payload_at c.args.tag_at fields c.in-Some-name.name.now c.deref.result.now values.0 head.clean name values.1.0 keys values.1.1 (c.in_ok-features.ensures.ok values.0 values.2)
+    layer_ok c.args.payload_at c.args.tag_at fields c.in-Some-name.name.now c.deref.result.now values.0 head.clean name values.1.0 keys values.1.1 (c.in_ok-features.ensures.ok values.0 values.2)
 
 pub returns-clause-layer : goal.returns-clause-layer
 returns-clause-layer c =
@@ -55,6 +55,6 @@ returns-clause-layer c =
     let features = c.in_ok-features.ensures.features values.0 values.2 in
     let layer : ALayer = record { name = c.in-Some-name.name.now; extent = c.args.front.head.extent; features = features.0 } in (
       layer,
-      layer_read c.forms.ensures.have c.args.payload_at c.args.tag_at fields layer c.in-Some-name.name.now c.args.front.head.extent c.deref.result.now values.0 head.clean name refl head.extent_is refl keys values.1.1 features.1,
+      layer_read c.args.payload_at c.args.tag_at fields layer c.in-Some-name.name.now c.args.front.head.extent c.deref.result.now values.0 head.clean name refl head.extent_is refl keys values.1.1 features.1,
       record { name_is = refl; extent_is = refl; features_are = features.2 },
     )

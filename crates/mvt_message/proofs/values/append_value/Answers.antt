@@ -17,7 +17,7 @@ returns-then-keeps-clause-ok c = λ done held.
 
 pub returns-clause-ok : goal.returns-clause-ok
 returns-clause-ok c = λ done held.
-    value_judged c.args.keeps c.args.payload_at done c.args.values.now.count c.args.values.now.kept.items (entry_of c.args.field.now) held c.judge_value.result (λ none. (c.value_or_fault.ensures.there _ _ _ none)) c.if-keeps.false c.if-field-ne-VALUES.false (rw c.bytes_of-payload.ensures at c.judge_value.ensures.ok)
+    value_judged c.args.keeps c.args.payload_at done c.args.values.now.count c.args.values.now.kept.items (entry_of c.args.field.now) held c.judge_value.result c.if-keeps.false c.if-field-ne-VALUES.false (rw c.bytes_of-payload.ensures at c.judge_value.ensures.ok)
 
 pub returns-clause-err : goal.returns-clause-err
 returns-clause-err c = λ done more held.
