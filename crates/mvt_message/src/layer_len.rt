@@ -25,17 +25,27 @@ pub(crate) fn layer_len(alloc: Global, layer: &Layer) -> Result<u64, PutError>
 {
     let mut keys = KeyPool::new(alloc);
     let mut values = ValuePool::new(alloc);
+    len_of_parts(alloc, layer, &mut keys, &mut values)
+}
+
+/// The same, with pools that hold nothing yet.
+fn len_of_parts(
+    alloc: Global,
+    layer: &Layer,
+    keys: &mut KeyPool,
+    values: &mut ValuePool,
+) -> Result<u64, PutError>
+    requires valid { ValidLayer layer.now }
+    requires no_keys { keys.old ≡ [] }
+    requires no_values { values.old ≡ [] }
+    ensures len { IfOk result (λ n. (n ≡ length (spelled (layer_fields layer.now))) × (n ≤ LIMIT)) }
+    ensures too_large { IsErrOf result PutError.TooLarge → LIMIT < length (spelled (layer_fields layer.now)) }
+{
     // The version takes two bytes.
     let len = with_field(2, layer::NAME, layer.name.as_str().len() as u64)?;
-    let len = with_features(
-        alloc,
-        layer.features.as_slice(),
-        len,
-        &mut keys,
-        &mut values,
-    )?;
-    let len = with_keys(len, &keys)?;
-    let len = with_values(len, &values)?;
+    let len = with_features(alloc, layer.features.as_slice(), len, keys, values)?;
+    let len = with_keys(len, keys)?;
+    let len = with_values(len, values)?;
     let len = len + 1 + varint_len(u64::from(layer.extent)) as u64;
     if len > LIMIT {
         return Err(PutError::TooLarge);

@@ -3,10 +3,10 @@ use Rattle.std.proofs.lemmas.Result.{err_from_is_err_and}
 use Rattle.mvt_message.specs.declared.put.PutError.TheVariants.{TooLarge}
 use Rattle.mvt_message.proofs.LenLemmas.{head_is, extent_is, layer_sum}
 use Rattle.mvt_message.proofs.PutLemmas.{layer_geometries, layer_long}
-use Rattle.mvt_message.proofs.layer_len.layer_len.Goals as goal
+use Rattle.mvt_message.proofs.layer_len.len_of_parts.Goals as goal
 
 pub with_features-requires-clause-valid : goal.with_features-requires-clause-valid
-with_features-requires-clause-valid c = layer_geometries c.args.layer.now c.as_slice.result.now c.requires c.as_slice.ensures
+with_features-requires-clause-valid c = layer_geometries c.args.layer.now c.as_slice.result.now c.requires.valid c.as_slice.ensures
 
 pub returns-in_err-len-2-clause-too_large : goal.returns-in_err-len-2-clause-too_large
 returns-in_err-len-2-clause-too_large c = λ h.
