@@ -75,6 +75,13 @@ pub head_is : (name text : List ℕ) (len : ℕ) → text ≡ name → len ≡ 2
 head_is name text len same is =
     is ∙ ap (λ d. 2 + length (short_field 1 (bytes d))) same ∙ head_len name
 
+pub head_long : (layer : ALayer) (text : List ℕ) → text ≡ layer.name
+    → LIMIT < 2 + length (short_field 1 (bytes text)) → LIMIT < length (spelled (layer_fields layer))
+head_long layer text same long =
+    let head = head_is layer.name text (2 + length (short_field 1 (bytes text))) same refl in
+    let parts = ap length (layer_parts layer) ∙ length-append (spelled (head_fields layer.name)) _ in
+    omega (arith, head, parts, long)
+
 pub extent_len : (extent : ℕ) → length (spelled (extent_fields extent)) ≡ 1 + length (short extent)
 extent_len extent =
     let field = short_lengths_field 5 (varint extent) in

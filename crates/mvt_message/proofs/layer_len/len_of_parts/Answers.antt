@@ -1,12 +1,18 @@
 use Rattle.std.proofs.Common.{◌≡◌, ◌∙◌, ap, sym, refl, Err, arith}
 use Rattle.std.proofs.lemmas.Result.{err_from_is_err_and}
 use Rattle.mvt_message.specs.declared.put.PutError.TheVariants.{TooLarge}
-use Rattle.mvt_message.proofs.LenLemmas.{head_is, extent_is, layer_sum}
+use Rattle.mvt_message.proofs.LenLemmas.{head_is, head_long, extent_is, layer_sum}
 use Rattle.mvt_message.proofs.PutLemmas.{layer_geometries, layer_long}
 use Rattle.mvt_message.proofs.layer_len.len_of_parts.Goals as goal
 
 pub with_features-requires-clause-valid : goal.with_features-requires-clause-valid
 with_features-requires-clause-valid c = layer_geometries c.args.layer.now c.as_slice.result.now c.requires.valid c.as_slice.ensures
+
+pub returns-in_err-len-clause-too_large : goal.returns-in_err-len-clause-too_large
+returns-in_err-len-clause-too_large c = λ h.
+    let p = err_from_is_err_and c.from_residual.result c.from_residual.ensures.1 in
+    let told : Err c.in_err-len.field-0.0 ≡ Err TooLarge = ap Err (sym p.2) ∙ sym p.1 ∙ h in
+    head_long c.args.layer.now c.as_str.result.now c.as_str.ensures.text (c.in_err-len.ensures.too_large c.as_str.result.now refl told)
 
 pub returns-in_err-len-2-clause-too_large : goal.returns-in_err-len-2-clause-too_large
 returns-in_err-len-2-clause-too_large c = λ h.
