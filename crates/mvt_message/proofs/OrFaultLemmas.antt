@@ -106,8 +106,8 @@ features_clean payload_at keys values xs features are =
     each_told_none (λ (earlier : List Entry). in_feature (length earlier)) (feature_rules_at payload_at keys values) [] (only FEATURES xs) (related_left (HoldsFeature keys values) (λ (x : Entry). first (feature_rules_at payload_at keys values x) ≡ None) (λ x f is. sym (feature_first _ _ _ _) ∙ feature_or_fault_clean (bytes_of x.content) (payload_at + x.body) keys values f is) (only FEATURES xs) features are)
 
 -- a layer without a fault is there
-pub layer_from : (payload_at tag_at : ℕ) (xs : List Entry) (layer : ALayer) (values : List Value) → forms_fault payload_at xs ≡ None → name_in xs ≡ Some layer.name → layer.extent ≡ extent_in xs → AreRelated HoldsValue (only VALUES xs) values → AreRelated (HoldsFeature (keys_in xs) values) (only FEATURES xs) layer.features → IsLayer xs layer
-layer_from payload_at tag_at xs layer values clean name extent values_are features =
+pub layer_from : (payload_at : ℕ) (xs : List Entry) (layer : ALayer) (values : List Value) → forms_fault payload_at xs ≡ None → name_in xs ≡ Some layer.name → layer.extent ≡ extent_in xs → AreRelated HoldsValue (only VALUES xs) values → AreRelated (HoldsFeature (keys_in xs) values) (only FEATURES xs) layer.features → IsLayer xs layer
+layer_from payload_at xs layer values clean name extent values_are features =
     record {
       forms = layer_have payload_at xs clean;
       name = name;
@@ -128,7 +128,7 @@ layer_there payload_at tag_at xs none =
     let same : values_in xs ≡ values.0 = values_said (only VALUES xs) values.0 values.1 in
     let features = features_there payload_at (keys_in xs) values.0 xs (subst (λ vs. features_fault payload_at (keys_in xs) vs xs ≡ None) same end.0) in
     let layer : ALayer = record { name = bytes_of name.0.content; extent = extent_in xs; features = features.0 } in
-    (layer, layer_from payload_at tag_at xs layer values.0 parts.0 (ap (option_map (λ (x : Entry). bytes_of x.content)) name.1) refl values.1 features.1)
+    (layer, layer_from payload_at xs layer values.0 parts.0 (ap (option_map (λ (x : Entry). bytes_of x.content)) name.1) refl values.1 features.1)
 
 name_there : (xs : List Entry) (name : List ℕ) → name_in xs ≡ Some name → is_none (last_only NAME xs) ≡ false
 name_there xs name is = of_option (last_only NAME xs) is

@@ -30,7 +30,8 @@ use Rattle.mvt_feature.specs.Values.{IsValueOf}
 use Rattle.mvt_feature.specs.ValueRules.{value_fault}
 use Rattle.mvt_feature.specs.Walks.{Walk}
 use Rattle.mvt_wire.proofs.WireLaws.{split_function_count}
-use Rattle.mvt_feature.proofs.FeatureLaws.{rests_none, rests_nothing}
+use Rattle.mvt_feature.proofs.FeatureLaws.{rests_none, rests_nothing, walks_end, walks_fault}
+use Rattle.mvt_feature.specs.Causes.{of_wire}
 use Rattle.mvt_message.specs.declared.numbers.layer.TheConstants.{NAME, FEATURES, KEYS, VALUES, EXTENT, VERSION}
 use Rattle.mvt_message.specs.declared.item.Layer.{Layer as ALayer}
 use Rattle.mvt_message.specs.declared.item.Item.TheVariants.{Layer, Foreign}
@@ -215,8 +216,18 @@ walk_body_fits payload old new done field payload_at walk step small =
     let bound = walk.bound in
     omega arith
 
-pub walk_whole : (payload : List ℕ) (old new : Parts) (done : List Entry) (fault : WireFault) → Walk payload old done → GivesEntry old (Some (Err fault)) new → (split payload).rest ≡ [] → ⊥
-walk_whole payload old new done fault walk step whole = step.1 (walk.rest ∙ whole)
+-- the ends of a walk over the fields of a payload: at a rest, and behind the last
+pub rest_told : {payload : List ℕ} {old : Parts} {done : List Entry} {fault : WireFault} (new : Parts) (payload_at tag_at : ℕ)
+    → Walk payload old done → GivesEntry old (Some (Err fault)) new
+    → head_fault payload payload_at tag_at ≡ Some (fault_at (payload_at + fault.at) (of_wire fault.cause))
+rest_told {payload} {old} {done} {fault} new payload_at tag_at walk step =
+    option_or-some _ _ _ (walks_fault payload old new done fault payload_at walk step)
+
+pub version_ends : {payload : List ℕ} {old new : Parts} {done : List Entry} (payload_at : ℕ) (v : Result (Option ℕ) MessageError)
+    → Walk payload old done → GivesEntry old None new → IsVersionSoFar payload_at done v
+    → IsVersionSoFar payload_at (split payload).fields v
+version_ends {payload} {old} {new} {done} payload_at v walk step so_far =
+    subst (λ xs. IsVersionSoFar payload_at xs v) (sym (walks_end payload old new done walk step).0) so_far
 
 -- the exits of `read_version`
 pub head_some : (payload : List ℕ) (payload_at tag_at n : ℕ) → (split payload).rest ≡ [] → versions_fault payload_at (split payload).fields ≡ None → Some n ≡ version_in (split payload).fields → head_fault payload payload_at tag_at ≡ None
@@ -261,26 +272,66 @@ name_told payload_at tag_at xs forms is =
     by_option None h = refl
     by_option (Some x) h = cc
 
-pub values_told : (payload_at tag_at : ℕ) (xs : List Entry) (name : List ℕ) (e : MessageError) → forms_fault payload_at xs ≡ None → Some name ≡ name_in xs → TellsMessage e (values_fault payload_at xs) → TellsMessage e (layer_fault payload_at tag_at xs)
-values_told payload_at tag_at xs name e forms is h =
-    subst (TellsMessage e) (sym (layer_chain payload_at tag_at xs)) (or_tells e (forms_fault payload_at xs) _ forms (or_tells e (no_name_fault tag_at xs) _ (name_some tag_at xs name is) (tells_or e (values_fault payload_at xs) _ h)))
+pub values_told : (payload_at tag_at : ℕ) (xs : List Entry) {name : List ℕ} (e : MessageError)
+    → forms_fault payload_at xs ≡ None → Some name ≡ name_in xs → TellsMessage e (values_fault payload_at xs)
+    → TellsMessage e (layer_fault payload_at tag_at xs)
+values_told payload_at tag_at xs {name} e forms is h =
+    let values = or_tells e (no_name_fault tag_at xs) _ (name_some tag_at xs name is) (tells_or e (values_fault payload_at xs) _ h) in
+    subst (TellsMessage e) (sym (layer_chain payload_at tag_at xs)) (or_tells e (forms_fault payload_at xs) _ forms values)
 
-pub features_told : (payload_at tag_at : ℕ) (xs : List Entry) (name : List ℕ) (keys : List (List ℕ)) (values : List Value) (e : MessageError) → forms_fault payload_at xs ≡ None → Some name ≡ name_in xs → values_fault payload_at xs ≡ None → keys ≡ keys_in xs → AreRelated HoldsValue (only VALUES xs) values → TellsMessage e (features_fault payload_at keys values xs) → TellsMessage e (layer_fault payload_at tag_at xs)
-features_told payload_at tag_at xs name keys values e forms is clean keys_are values_are h =
-    let same : values_in xs ≡ values = values_said (only VALUES xs) values values_are in
-    let here : TellsMessage e (features_fault payload_at (keys_in xs) (values_in xs) xs) = subst (TellsMessage e) (ap₂ (λ ks vs. features_fault payload_at ks vs xs) keys_are (sym same)) h in
-    subst (TellsMessage e) (sym (layer_chain payload_at tag_at xs)) (or_tells e (forms_fault payload_at xs) _ forms (or_tells e (no_name_fault tag_at xs) _ (name_some tag_at xs name is) (or_tells e (values_fault payload_at xs) _ clean (tells_or e (features_fault payload_at (keys_in xs) (values_in xs) xs) _ here))))
+-- fields that break no rule before those of the features: the name, the keys and the values
+pub record IsClean (payload_at : ℕ) (xs : List Entry) (name : List ℕ) (keys : List (List ℕ)) (values : List Value) : Type 0 where
+  pub forms : forms_fault payload_at xs ≡ None
+  pub name_is : Some name ≡ name_in xs
+  pub keys_are : keys ≡ keys_in xs
+  pub none_broken : values_fault payload_at xs ≡ None
+  pub values_are : AreRelated HoldsValue (only VALUES xs) values
 
-pub layer_ok : (payload_at tag_at : ℕ) (xs : List Entry) (name : List ℕ) (keys : List (List ℕ)) (values : List Value) → forms_fault payload_at xs ≡ None → Some name ≡ name_in xs → values_fault payload_at xs ≡ None → keys ≡ keys_in xs → AreRelated HoldsValue (only VALUES xs) values → features_fault payload_at keys values xs ≡ None → layer_fault payload_at tag_at xs ≡ None
-layer_ok payload_at tag_at xs name keys values forms is clean keys_are values_are h =
-    let same : values_in xs ≡ values = values_said (only VALUES xs) values values_are in
-    layer_clean payload_at tag_at xs forms (name_some tag_at xs name is) clean (sym (ap₂ (λ ks vs. features_fault payload_at ks vs xs) keys_are (sym same)) ∙ h)
+pub front_clean : {payload_at extent : ℕ} {xs : List Entry} {found : Option (List ℕ)} {name : List ℕ} {held keys : List (List ℕ)}
+    (values : List Value) → IsHead payload_at found extent held xs → found ≡ Some name → keys ≡ held
+    → AreValuesSoFar payload_at xs values → IsClean payload_at xs name keys values
+front_clean values head name keys so_far = record {
+  forms = head.clean;
+  name_is = sym name ∙ head.name_is;
+  keys_are = keys ∙ head.keys_are;
+  none_broken = so_far.0;
+  values_are = so_far.1;
+}
 
-pub layer_read : (payload_at tag_at : ℕ) (xs : List Entry) (layer : ALayer) (name : List ℕ) (extent : ℕ) (keys : List (List ℕ)) (values : List Value) → forms_fault payload_at xs ≡ None → Some name ≡ name_in xs → layer.name ≡ name → extent ≡ extent_in xs → layer.extent ≡ extent → keys ≡ keys_in xs → AreRelated HoldsValue (only VALUES xs) values → AreRelated (HoldsFeature keys values) (only FEATURES xs) layer.features → IsLayer xs layer
-layer_read payload_at tag_at xs layer name extent keys values forms is name_is extent_is extent_same keys_are values_are features =
-    layer_from payload_at tag_at xs layer values forms (sym is ∙ ap Some (sym name_is)) (extent_same ∙ extent_is) values_are (subst (λ ks. AreRelated (HoldsFeature ks values) (only FEATURES xs) layer.features) keys_are features)
+features_same : {payload_at : ℕ} {xs : List Entry} {name : List ℕ} {keys : List (List ℕ)} {values : List Value}
+    → IsClean payload_at xs name keys values
+    → features_fault payload_at keys values xs ≡ features_fault payload_at (keys_in xs) (values_in xs) xs
+features_same {payload_at} {xs} {values} front =
+    let same : values_in xs ≡ values = values_said (only VALUES xs) values front.values_are in
+    ap₂ (λ ks vs. features_fault payload_at ks vs xs) front.keys_are (sym same)
+
+pub features_told : {payload_at : ℕ} {xs : List Entry} {name : List ℕ} {keys : List (List ℕ)} {values : List Value} (tag_at : ℕ)
+    (e : MessageError) → IsClean payload_at xs name keys values → TellsMessage e (features_fault payload_at keys values xs)
+    → TellsMessage e (layer_fault payload_at tag_at xs)
+features_told {payload_at} {xs} {name} tag_at e front h =
+    let here = subst (TellsMessage e) (features_same front) h in
+    let features = tells_or e (features_fault payload_at (keys_in xs) (values_in xs) xs) None here in
+    let behind = or_tells e (values_fault payload_at xs) _ front.none_broken features in
+    let named = or_tells e (no_name_fault tag_at xs) _ (name_some tag_at xs name front.name_is) behind in
+    subst (TellsMessage e) (sym (layer_chain payload_at tag_at xs)) (or_tells e (forms_fault payload_at xs) _ front.forms named)
+
+pub layer_ok : {payload_at : ℕ} {xs : List Entry} {name : List ℕ} {keys : List (List ℕ)} {values : List Value} (tag_at : ℕ)
+    → IsClean payload_at xs name keys values → features_fault payload_at keys values xs ≡ None
+    → layer_fault payload_at tag_at xs ≡ None
+layer_ok {payload_at} {xs} {name} tag_at front h =
+    layer_clean payload_at tag_at xs front.forms (name_some tag_at xs name front.name_is) front.none_broken (sym (features_same front) ∙ h)
+
+pub layer_read : {payload_at : ℕ} {xs : List Entry} {keys : List (List ℕ)} {values : List Value} (layer : ALayer)
+    → IsClean payload_at xs layer.name keys values → layer.extent ≡ extent_in xs
+    → AreRelated (HoldsFeature keys values) (only FEATURES xs) layer.features → IsLayer xs layer
+layer_read {payload_at} {xs} {values} layer front extent features =
+    let held = subst (λ ks. AreRelated (HoldsFeature ks values) (only FEATURES xs) layer.features) front.keys_are features in
+    layer_from payload_at xs layer values front.forms (sym front.name_is) extent front.values_are held
 
 -- the exits of `read_item`
+pub as_two : (xs : List Entry) {n : ℕ} → version_in xs ≡ Some n → n ≡ 2 → version_in xs ≡ Some 2
+as_two xs is two = is ∙ ap Some two
+
 pub head_told : (payload : List ℕ) (payload_at tag_at : ℕ) (e : MessageError) → TellsMessage e (head_fault payload payload_at tag_at) → TellsMessage e (item_fault payload payload_at tag_at)
 head_told payload payload_at tag_at e h = subst (TellsMessage e) (sym (item_chain payload payload_at tag_at)) (tells_or e (head_fault payload payload_at tag_at) _ h)
 

@@ -1,8 +1,7 @@
 use Rattle.std.proofs.Common.{◌≡◌, ap, sym, ◌∙◌, Some}
 use Rattle.std.proofs.lemmas.Result.{err_from_is_err_and}
 use Rattle.mvt_wire.specs.Split.{split}
-use Rattle.mvt_message.specs.LayerFields.{version_in}
-use Rattle.mvt_message.proofs.ReadLemmas.{head_told, head_whole, layer_told, names_of_layer, names_of_other}
+use Rattle.mvt_message.proofs.ReadLemmas.{as_two, head_told, head_whole, layer_told, names_of_layer, names_of_other}
 use Rattle.mvt_message.proofs.OrFaultLemmas.{item_of_layer, item_of_other}
 use Rattle.mvt_message.proofs.read.judge_item.Goals as goal
 
@@ -23,15 +22,15 @@ read_parts-requires-clause-whole c = head_whole c.args.payload.now c.args.payloa
 pub returns-in_err-parts-clause-fault : goal.returns-in_err-parts-clause-fault
 returns-in_err-parts-clause-fault c =
     let p = err_from_is_err_and c.from_residual-in_err-parts.result c.from_residual-in_err-parts.ensures.1 in
-    let two : version_in (split c.args.payload.now).fields ≡ Some 2 = c.in_ok-version.ensures.version ∙ ap Some c.if-version-ne2.false in
+    let two = as_two (split c.args.payload.now).fields c.in_ok-version.ensures.version c.if-version-ne2.false in
     rw (p.1, p.2) (layer_told c.args.payload.now c.args.payload_at c.args.tag_at _ c.in_ok-version.ensures.ok two c.in_err-parts.ensures.fault)
 
 pub returns-clause-ok : goal.returns-clause-ok
 returns-clause-ok c =
-    let two : version_in (split c.args.payload.now).fields ≡ Some 2 = c.in_ok-version.ensures.version ∙ ap Some c.if-version-ne2.false in
+    let two = as_two (split c.args.payload.now).fields c.in_ok-version.ensures.version c.if-version-ne2.false in
     item_of_layer c.args.payload.now c.args.payload_at c.args.tag_at c.in_ok-version.ensures.ok two ∙ c.in_ok-parts.ensures.ok
 
 pub returns-clause-names : goal.returns-clause-names
 returns-clause-names c =
-    let two : version_in (split c.args.payload.now).fields ≡ Some 2 = c.in_ok-version.ensures.version ∙ ap Some c.if-version-ne2.false in
+    let two = as_two (split c.args.payload.now).fields c.in_ok-version.ensures.version c.if-version-ne2.false in
     sym (names_of_layer c.args.payload.now _ two c.in_ok-parts.ensures.name)
