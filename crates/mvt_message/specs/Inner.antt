@@ -93,9 +93,10 @@ AreFeaturesSoFar payload_at keys values done features =
 abbrev pub AreHeld : {A : Type 0} → Bool → List A → ℕ → List A → Type 0
 AreHeld keep things count kept = (count ≡ length things) × OnTrue keep (kept ≡ things)
 
-abbrev pub AreValuesHeld : Bool → ℕ → List Entry → ℕ → List Value → Type 0
-AreValuesHeld keep payload_at done count kept =
-    (values : List Value) × AreValuesSoFar payload_at done values × AreHeld keep values count kept
+pub record AreValuesHeld (keep : Bool) (payload_at : ℕ) (done : List Entry) (count : ℕ) (kept : List Value) : Type 0 where
+  pub values : List Value
+  pub so_far : AreValuesSoFar payload_at done values
+  pub held : AreHeld keep values count kept
 
 abbrev pub AreValuesSaid : Bool → ℕ → List Entry → Option MessageError → ℕ → List Value → Type 0
 AreValuesSaid keep payload_at done fault count kept =
@@ -107,9 +108,11 @@ IsFront keep payload_at fields front =
     IsHeadSoFar payload_at fields front.head_fault (option_copied front.head.name) front.head.extent front.head.keys.items
     × AreValuesSaid keep payload_at fields front.values_fault front.values.count front.values.kept.items
 
-abbrev pub AreFeaturesHeld : Bool → ℕ → List (List ℕ) → List Value → List Entry → ℕ → List Feature → Type 0
-AreFeaturesHeld keep payload_at keys values done count kept =
-    (features : List Feature) × AreFeaturesSoFar payload_at keys values done features × AreHeld keep features count kept
+pub record AreFeaturesHeld (keep : Bool) (payload_at : ℕ) (keys : List (List ℕ)) (values : List Value) (done : List Entry)
+    (count : ℕ) (kept : List Feature) : Type 0 where
+  pub features : List Feature
+  pub so_far : AreFeaturesSoFar payload_at keys values done features
+  pub held : AreHeld keep features count kept
 
 -- what was read of a layer: its name, and the rest where it is kept
 pub record AreParts (keep : Bool) (layer : ALayer) (name : List ℕ) (extent : ℕ) (features : List Feature) : Type 0 where

@@ -13,12 +13,13 @@ loop-field-init c = (
   walks_start _ _ (ap (λ (a : Ahead). a.to_come) c.into_iter-field-iterator.ensures.into_iter_gives ∙ c.new-field-items.ensures.fields) (rw c.into_iter-field-iterator.ensures.into_iter_gives c.new-field-items.ensures.place),
   (refl, refl),
   record { clean = refl; name_is = c.new-head.ensures.name; extent_is = c.new-head.ensures.extent; keys_are = c.new-head.ensures.keys },
-  ([], (refl, tt), (c.new-values.ensures.count, on_true c.args.keeps _ c.new-values.ensures.kept)),
+  record { values = []; so_far = (refl, tt); held = (c.new-values.ensures.count, on_true c.args.keeps _ c.new-values.ensures.kept) },
 )
 
 pub take_value-requires-clause-few : goal.take_value-requires-clause-few
 take_value-requires-clause-few c = λ none.
-    values_few c.args.keeps c.args.payload_at c.loop-field.invariant.0 c.loop-field.values.count c.loop-field.values.kept.items (entry_of c.in-Ok.field) (rw none at c.loop-field.invariant.4) c.args.payload.now c.loop-field.field-iterator.to_come c.loop-field.invariant.1 c.requires.small
+    let so_far = rw none at c.loop-field.invariant.4 in
+    values_few (entry_of c.in-Ok.field) so_far c.args.payload.now c.loop-field.field-iterator.to_come c.loop-field.invariant.1 c.requires.small
 
 pub loop-field-preserved : goal.loop-field-preserved
 loop-field-preserved c =

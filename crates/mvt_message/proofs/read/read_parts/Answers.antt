@@ -34,22 +34,22 @@ returns-in_err-features-clause-fault c =
     let p = err_from_is_err_and c.from_residual.result c.from_residual.ensures.1 in
     let head = rw c.in_default.is at c.requires.front.0 in
     let values = rw c.in_default-values_fault.is at c.requires.front.1 in
-    let front = front_clean values.0 head (ap option_copied c.in-Some-name.is) c.deref.ensures.value values.1 in
-    rw (p.1, p.2) (features_told c.args.tag_at _ front (c.in_err-features.ensures.err values.0 values.2))
+    let front = front_clean values.values head (ap option_copied c.in-Some-name.is) c.deref.ensures.value values.so_far in
+    rw (p.1, p.2) (features_told c.args.tag_at _ front (c.in_err-features.ensures.err values.values values.held))
 
 pub returns-clause-ok : goal.returns-clause-ok
 returns-clause-ok c =
     let head = rw c.in_default.is at c.requires.front.0 in
     let values = rw c.in_default-values_fault.is at c.requires.front.1 in
-    let front = front_clean values.0 head (ap option_copied c.in-Some-name.is) c.deref.ensures.value values.1 in
-    layer_ok c.args.tag_at front (c.in_ok-features.ensures.ok values.0 values.2)
+    let front = front_clean values.values head (ap option_copied c.in-Some-name.is) c.deref.ensures.value values.so_far in
+    layer_ok c.args.tag_at front (c.in_ok-features.ensures.ok values.values values.held)
 
 pub returns-clause-layer : goal.returns-clause-layer
 returns-clause-layer c =
     let head = rw c.in_default.is at c.requires.front.0 in
     let values = rw c.in_default-values_fault.is at c.requires.front.1 in
-    let front = front_clean values.0 head (ap option_copied c.in-Some-name.is) c.deref.ensures.value values.1 in
-    let features = c.in_ok-features.ensures.features values.0 values.2 in
+    let front = front_clean values.values head (ap option_copied c.in-Some-name.is) c.deref.ensures.value values.so_far in
+    let features = c.in_ok-features.ensures.features values.values values.held in
     let layer : ALayer = record { name = c.in-Some-name.name.now; extent = c.args.front.head.extent; features = features.0 } in (
       layer,
       layer_read layer front head.extent_is features.1,
