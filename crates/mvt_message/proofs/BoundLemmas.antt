@@ -46,7 +46,8 @@ first_uses same size (x ∷ xs) =
     omega (arith, others, part, some, all)
 
 -- the lengths of fields, added up
-spelled_sum : {Y : Type 0} → (g : Y → Plain) (ys : List Y) → length (spelled (map g ys)) ≡ sum_by (λ y. length (short_field (g y).number (g y).content)) ys
+spelled_sum : {Y : Type 0} → (g : Y → Plain) (ys : List Y)
+    → length (spelled (map g ys)) ≡ sum_by (λ y. length (short_field (g y).number (g y).content)) ys
 spelled_sum g [] = refl
 spelled_sum g (y ∷ ys) =
     let parts = length-append (short_field (g y).number (g y).content) (spelled (map g ys)) in
@@ -60,7 +61,9 @@ key_size key = length (short_field 3 (bytes key))
 abbrev value_size : Value → ℕ
 value_size value = length (short_field 4 (bytes (spelled (value_fields value))))
 
-entries_sum : (attributes : List Attribute) → sum_by key_size (map (λ (a : Attribute). a.key) attributes) + sum_by value_size (map (λ (a : Attribute). a.value) attributes) ≡ sum_by attribute_bound attributes
+entries_sum : (attributes : List Attribute)
+    → sum_by key_size (map (λ (a : Attribute). a.key) attributes) + sum_by value_size
+    (map (λ (a : Attribute). a.value) attributes) ≡ sum_by attribute_bound attributes
 entries_sum [] = refl
 entries_sum (a ∷ attributes) =
     let keys = sum_by-cons key_size a.key (map (λ (b : Attribute). b.key) attributes) in
@@ -70,7 +73,9 @@ entries_sum (a ∷ attributes) =
     omega (arith, keys, values, others, sums)
 
 -- the pools take no more than an entry for each attribute
-pools_length : (features : List Feature) → length (spelled (map key_field (keys_of features))) + length (spelled (map value_field (values_of features))) ≤ sum_by attribute_bound (attributes_of features)
+pools_length : (features : List Feature)
+    → length (spelled (map key_field (keys_of features))) + length
+    (spelled (map value_field (values_of features))) ≤ sum_by attribute_bound (attributes_of features)
 unfolding keys_of values_of
 pools_length features =
     let attributes = attributes_of features in
@@ -81,7 +86,8 @@ pools_length features =
     let all = entries_sum attributes in
     omega (arith, keys, values, some_keys, some_values, all)
 
-features_sum : (features : List Feature) → sum_by (λ f. 11 + feature_bound f) features + sum_by attribute_bound (attributes_of features) ≡ sum_by entries_bound features
+features_sum : (features : List Feature)
+    → sum_by (λ f. 11 + feature_bound f) features + sum_by attribute_bound (attributes_of features) ≡ sum_by entries_bound features
 features_sum [] = refl
 features_sum (f ∷ features) =
     let payloads = sum_by-cons (λ g. 11 + feature_bound g) f features in
@@ -102,7 +108,8 @@ bytes_length number d small =
     let parts = length-append (short (length d)) d in
     omega (arith, whole, tag, size, parts)
 
-features_length : (keys : List (List ℕ)) (values : List Value) (features : List Feature) → AllByRecursion (IsFineIn keys values) features → length (spelled (map (feature_field keys values) features)) ≤ sum_by (λ f. 11 + feature_bound f) features
+features_length : (keys : List (List ℕ)) (values : List Value) (features : List Feature) → AllByRecursion (IsFineIn keys values) features
+    → length (spelled (map (feature_field keys values) features)) ≤ sum_by (λ f. 11 + feature_bound f) features
 features_length keys values [] fine = omega arith
 features_length keys values (f ∷ features) fine =
     let payload = spelled (feature_fields (tags_in keys values f.attributes) f) in
@@ -113,7 +120,8 @@ features_length keys values (f ∷ features) fine =
     let sums = sum_by-cons (λ g. 11 + feature_bound g) f features in
     omega (arith, parts, one, few, others, sums)
 
-layer_length : (layer : ALayer) → AllByRecursion (IsFineIn (keys_of layer.features) (values_of layer.features)) layer.features → length (spelled (layer_fields layer)) ≤ layer_bound layer
+layer_length : (layer : ALayer) → AllByRecursion (IsFineIn (keys_of layer.features) (values_of layer.features)) layer.features
+    → length (spelled (layer_fields layer)) ≤ layer_bound layer
 layer_length layer fine =
     let features = layer.features in
     let H = spelled (head_fields layer.name) in
@@ -135,7 +143,8 @@ layer_length layer fine =
     omega (arith, whole, behind, pools, last, head, name, payloads, entries, sums, extent, number)
 
 -- within the limit the pools have few entries, and tags have 32 bits
-all_fine : (layer : ALayer) → AllByRecursion ValidFeature layer.features → layer_bound layer ≤ LIMIT → AllByRecursion (IsFineIn (keys_of layer.features) (values_of layer.features)) layer.features
+all_fine : (layer : ALayer) → AllByRecursion ValidFeature layer.features → layer_bound layer ≤ LIMIT
+    → AllByRecursion (IsFineIn (keys_of layer.features) (values_of layer.features)) layer.features
 all_fine layer valid small =
     let features = layer.features in
     let keys = keys_of features in
@@ -147,7 +156,9 @@ all_fine layer valid small =
     let few_keys : length keys ≤ 2 ^ 32 = omega (arith, entries, sums, key_count, small) in
     let few_values : length values ≤ 2 ^ 32 = omega (arith, entries, sums, value_count, small) in
     all_both ValidFeature (λ (f : Feature). AllByRecursion (λ tag. tag < 2 ^ 32) (tags_in keys values f.attributes)) features valid
-    (all_weaker (λ (f : Feature). AllByRecursion (IsIn keys values) f.attributes) (λ (f : Feature). AllByRecursion (λ tag. tag < 2 ^ 32) (tags_in keys values f.attributes)) (λ f is. places_name_small keys values f.attributes (2 ^ 32) is few_keys few_values) features (features_held features))
+    (all_weaker (λ (f : Feature). AllByRecursion (IsIn keys values) f.attributes)
+    (λ (f : Feature). AllByRecursion (λ tag. tag < 2 ^ 32) (tags_in keys values f.attributes))
+    (λ f is. places_name_small keys values f.attributes (2 ^ 32) is few_keys few_values) features (features_held features))
 
 pub bound_holds_lem : (item : AnItem) → ValidItem item → item_bound item ≤ LIMIT → length (canonical_item item) ≤ item_bound item
 unfolding canonical_item ValidItem ValidLayer

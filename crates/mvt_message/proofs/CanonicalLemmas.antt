@@ -44,7 +44,9 @@ only_contents : (k : ℕ) (xs : List Entry) → map (λ (x : Entry). x.content) 
 only_contents k [] = refl
 only_contents k (x ∷ xs) = by_test (x.number == k) (only_contents k xs)
   where
-    by_test : (b : Bool) → map (λ (y : Entry). y.content) (only k xs) ≡ contents_at k (map plain_of xs) → map (λ (y : Entry). y.content) (if b then x ∷ only k xs else only k xs) ≡ (if b then x.content ∷ contents_at k (map plain_of xs) else contents_at k (map plain_of xs))
+    by_test : (b : Bool) → map (λ (y : Entry). y.content) (only k xs) ≡ contents_at k (map plain_of xs)
+        → map (λ (y : Entry). y.content) (if b then x ∷ only k xs else only k xs) ≡
+        (if b then x.content ∷ contents_at k (map plain_of xs) else contents_at k (map plain_of xs))
     by_test true h = ap (λ l. x.content ∷ l) h
     by_test false h = h
 
@@ -52,7 +54,9 @@ contents-append : (k : ℕ) (ps qs : List Plain) → contents_at k (ps ++ qs) �
 contents-append k [] qs = refl
 contents-append k (p ∷ ps) qs = by_test (p.number == k) (contents-append k ps qs)
   where
-    by_test : (b : Bool) → contents_at k (ps ++ qs) ≡ contents_at k ps ++ contents_at k qs → (if b then p.content ∷ contents_at k (ps ++ qs) else contents_at k (ps ++ qs)) ≡ (if b then p.content ∷ contents_at k ps else contents_at k ps) ++ contents_at k qs
+    by_test : (b : Bool) → contents_at k (ps ++ qs) ≡ contents_at k ps ++ contents_at k qs
+        → (if b then p.content ∷ contents_at k (ps ++ qs) else contents_at k (ps ++ qs)) ≡
+        (if b then p.content ∷ contents_at k ps else contents_at k ps) ++ contents_at k qs
     by_test true h = ap (λ l. p.content ∷ l) h
     by_test false h = h
 
@@ -63,12 +67,14 @@ all_of k g ys = map (λ y. plain k (bytes (g y))) ys
 contents_same : {Y : Type 0} → (k : ℕ) (g : Y → List ℕ) (ys : List Y) → contents_at k (all_of k g ys) ≡ map (λ y. bytes (g y)) ys
 contents_same k g [] = refl
 contents_same k g (y ∷ ys) =
-    ap (λ (b : Bool). if b then bytes (g y) ∷ contents_at k (all_of k g ys) else contents_at k (all_of k g ys)) (eq-eqb k k refl) ∙ ap (λ l. bytes (g y) ∷ l) (contents_same k g ys)
+    ap (λ (b : Bool). if b then bytes (g y) ∷ contents_at k (all_of k g ys) else contents_at k (all_of k g ys)) (eq-eqb k k refl)
+    ∙ ap (λ l. bytes (g y) ∷ l) (contents_same k g ys)
 
 contents_other : {Y : Type 0} → (j k : ℕ) (g : Y → List ℕ) (ys : List Y) → (j == k) ≡ false → contents_at k (all_of j g ys) ≡ []
 contents_other j k g [] other = refl
 contents_other j k g (y ∷ ys) other =
-    ap (λ (b : Bool). if b then bytes (g y) ∷ contents_at k (all_of j g ys) else contents_at k (all_of j g ys)) other ∙ contents_other j k g ys other
+    ap (λ (b : Bool). if b then bytes (g y) ∷ contents_at k (all_of j g ys) else contents_at k (all_of j g ys)) other
+    ∙ contents_other j k g ys other
 
 abbrev feature_bytes : List (List ℕ) → List Value → Feature → List ℕ
 feature_bytes keys values f = spelled (feature_fields (tags_in keys values f.attributes) f)
@@ -82,16 +88,26 @@ same_bytes key = key
 -- the fields behind the name
 abbrev tail : List (List ℕ) → List Value → List Feature → ℕ → List Plain
 tail keys values features extent =
-    all_of FEATURES (feature_bytes keys values) features ++ (all_of KEYS same_bytes keys ++ (all_of VALUES value_bytes values ++ extent_fields extent))
+    all_of FEATURES (feature_bytes keys values) features ++
+    (all_of KEYS same_bytes keys ++ (all_of VALUES value_bytes values ++ extent_fields extent))
 
-tail_contents : (k : ℕ) (keys : List (List ℕ)) (values : List Value) (features : List Feature) (extent : ℕ) (a b c : List Content) → contents_at k (all_of FEATURES (feature_bytes keys values) features) ≡ a → contents_at k (all_of KEYS same_bytes keys) ≡ b → contents_at k (all_of VALUES value_bytes values) ≡ c → contents_at k (tail keys values features extent) ≡ a ++ (b ++ (c ++ contents_at k (extent_fields extent)))
+tail_contents : (k : ℕ) (keys : List (List ℕ)) (values : List Value) (features : List Feature) (extent : ℕ) (a b c : List Content)
+    → contents_at k (all_of FEATURES (feature_bytes keys values) features) ≡ a → contents_at k (all_of KEYS same_bytes keys) ≡ b
+    → contents_at k (all_of VALUES value_bytes values) ≡ c
+    → contents_at k (tail keys values features extent) ≡ a ++ (b ++ (c ++ contents_at k (extent_fields extent)))
 tail_contents k keys values features extent a b c ea eb ec =
-    contents-append k (all_of FEATURES (feature_bytes keys values) features) _ ∙ ap₂ (λ x y. x ++ y) ea (contents-append k (all_of KEYS same_bytes keys) _ ∙ ap₂ (λ x y. x ++ y) eb (contents-append k (all_of VALUES value_bytes values) (extent_fields extent) ∙ ap (λ x. x ++ contents_at k (extent_fields extent)) ec))
+    contents-append k (all_of FEATURES (feature_bytes keys values) features) _
+    ∙ ap₂ (λ x y. x ++ y) ea (contents-append k (all_of KEYS same_bytes keys) _
+    ∙ ap₂ (λ x y. x ++ y) eb (contents-append k (all_of VALUES value_bytes values) (extent_fields extent)
+    ∙ ap (λ x. x ++ contents_at k (extent_fields extent)) ec))
 
 -- no field of another number stands behind the name
-tail_none : (k : ℕ) (keys : List (List ℕ)) (values : List Value) (features : List Feature) (extent : ℕ) → (FEATURES == k) ≡ false → (KEYS == k) ≡ false → (VALUES == k) ≡ false → contents_at k (tail keys values features extent) ≡ contents_at k (extent_fields extent)
+tail_none : (k : ℕ) (keys : List (List ℕ)) (values : List Value) (features : List Feature) (extent : ℕ) → (FEATURES == k) ≡ false
+    → (KEYS == k) ≡ false → (VALUES == k) ≡ false
+    → contents_at k (tail keys values features extent) ≡ contents_at k (extent_fields extent)
 tail_none k keys values features extent two three four =
-    tail_contents k keys values features extent [] [] [] (contents_other FEATURES k (feature_bytes keys values) features two) (contents_other KEYS k same_bytes keys three) (contents_other VALUES k value_bytes values four)
+    tail_contents k keys values features extent [] [] [] (contents_other FEATURES k (feature_bytes keys values) features two)
+    (contents_other KEYS k same_bytes keys three) (contents_other VALUES k value_bytes values four)
 
 -- the one field of a number
 one_content : (xs : List Entry) (c : Content) → map (λ (x : Entry). x.content) xs ≡ c ∷ [] → (x : Entry) × (xs ≡ x ∷ []) × (x.content ≡ c)
@@ -99,12 +115,16 @@ one_content [] c h = cc
 one_content (x ∷ []) c h = (x, refl, cc)
 one_content (x ∷ y ∷ xs) c h = cc
 
-form_contents : (k : ℕ) (P : Content → Type 0) (xs : List Entry) (cs : List Content) → map (λ (x : Entry). x.content) (only k xs) ≡ cs → AllByRecursion P cs → HaveForm k P xs
+form_contents : (k : ℕ) (P : Content → Type 0) (xs : List Entry) (cs : List Content) → map (λ (x : Entry). x.content) (only k xs) ≡ cs
+    → AllByRecursion P cs → HaveForm k P xs
 form_contents k P xs cs is all =
-    all_only (λ (x : Entry). x.number) (λ (x : Entry). P x.content) k xs (all_unmapped (λ (x : Entry). x.content) P (only k xs) (subst (AllByRecursion P) (sym is) all))
+    all_only (λ (x : Entry). x.number) (λ (x : Entry). P x.content) k xs
+    (all_unmapped (λ (x : Entry). x.content) P (only k xs) (subst (AllByRecursion P) (sym is) all))
 
 -- bytes fields, and what each of them holds
-related_contents : {Y : Type 0} → (g : Y → List ℕ) (R : List ℕ → Y → Type 0) (xs : List Entry) (ys : List Y) → map (λ (x : Entry). x.content) xs ≡ map (λ y. bytes (g y)) ys → AllByRecursion (λ y. R (g y) y) ys → AreRelated (λ (x : Entry) y. R (bytes_of x.content) y) xs ys
+related_contents : {Y : Type 0} → (g : Y → List ℕ) (R : List ℕ → Y → Type 0) (xs : List Entry) (ys : List Y)
+    → map (λ (x : Entry). x.content) xs ≡ map (λ y. bytes (g y)) ys → AllByRecursion (λ y. R (g y) y) ys
+    → AreRelated (λ (x : Entry) y. R (bytes_of x.content) y) xs ys
 related_contents g R [] [] h all = tt
 related_contents g R [] (y ∷ ys) h all = cc
 related_contents g R (x ∷ xs) [] h all = cc
@@ -113,7 +133,8 @@ related_contents g R (x ∷ xs) (y ∷ ys) h all =
     let later : map (λ (z : Entry). z.content) xs ≡ map (λ y'. bytes (g y')) ys = cc in
     (subst (λ c. R (bytes_of c) y) (sym here) all.0, related_contents g R xs ys later all.1)
 
-keys_are : (xs : List Entry) (keys : List (List ℕ)) → map (λ (x : Entry). x.content) xs ≡ map (λ key. bytes (same_bytes key)) keys → map (λ (x : Entry). bytes_of x.content) xs ≡ keys
+keys_are : (xs : List Entry) (keys : List (List ℕ)) → map (λ (x : Entry). x.content) xs ≡ map (λ key. bytes (same_bytes key)) keys
+    → map (λ (x : Entry). bytes_of x.content) xs ≡ keys
 keys_are [] [] h = refl
 keys_are [] (k ∷ ks) h = cc
 keys_are (x ∷ xs) [] h = cc
@@ -122,7 +143,8 @@ keys_are (x ∷ xs) (k ∷ ks) h =
     let later : map (λ (z : Entry). z.content) xs ≡ map (λ key. bytes (same_bytes key)) ks = cc in
     ap₂ (λ c l. bytes_of c ∷ l) here (keys_are xs ks later)
 
-bytes_all : {Y : Type 0} → (P : Content → Type 0) (g : Y → List ℕ) (ys : List Y) → AllByRecursion (λ y. P (bytes (g y))) ys → AllByRecursion P (map (λ y. bytes (g y)) ys)
+bytes_all : {Y : Type 0} → (P : Content → Type 0) (g : Y → List ℕ) (ys : List Y) → AllByRecursion (λ y. P (bytes (g y))) ys
+    → AllByRecursion P (map (λ y. bytes (g y)) ys)
 bytes_all P g ys h = all_mapped (λ y. bytes (g y)) P ys h
 
 all_true : {Y : Type 0} → (ys : List Y) → AllByRecursion (λ _. ⊤) ys
@@ -130,16 +152,31 @@ all_true [] = tt
 all_true (y ∷ ys) = (tt, all_true ys)
 
 -- the fields of a layer, wherever they stand, are the layer
-pub layer_is : (xs : List Entry) (keys : List (List ℕ)) (values : List Value) (layer : ALayer) → map plain_of xs ≡ fields_with keys values layer → IsUtf8 layer.name → layer.extent < 2 ^ 32 → AllByRecursion IsUtf8 keys → AllByRecursion (λ v. IsValueOf (value_bytes v) v) values → AllByRecursion (λ f. IsFeatureOf (feature_bytes keys values f) keys values f) layer.features
+pub layer_is : (xs : List Entry) (keys : List (List ℕ)) (values : List Value) (layer : ALayer)
+    → map plain_of xs ≡ fields_with keys values layer → IsUtf8 layer.name → layer.extent < 2 ^ 32 → AllByRecursion IsUtf8 keys
+    → AllByRecursion (λ v. IsValueOf (value_bytes v) v) values
+    → AllByRecursion (λ f. IsFeatureOf (feature_bytes keys values f) keys values f) layer.features
     → HaveForm VERSION (HasForm uint32) xs × (version_in xs ≡ Some 2) × IsLayer xs layer
 layer_is xs keys values layer is name extent texts hold features =
     let at = λ (k : ℕ). only_contents k xs ∙ ap (contents_at k) is in
-    let versions : map (λ (x : Entry). x.content) (only VERSION xs) ≡ varint 2 ∷ [] = at VERSION ∙ ap (λ l. varint 2 ∷ l) (tail_none VERSION keys values layer.features layer.extent refl refl refl) in
-    let names : map (λ (x : Entry). x.content) (only NAME xs) ≡ bytes layer.name ∷ [] = at NAME ∙ ap (λ l. bytes layer.name ∷ l) (tail_none NAME keys values layer.features layer.extent refl refl refl) in
-    let extents : map (λ (x : Entry). x.content) (only EXTENT xs) ≡ varint layer.extent ∷ [] = at EXTENT ∙ tail_none EXTENT keys values layer.features layer.extent refl refl refl in
-    let messages : map (λ (x : Entry). x.content) (only FEATURES xs) ≡ map (λ f. bytes (feature_bytes keys values f)) layer.features = at FEATURES ∙ tail_contents FEATURES keys values layer.features layer.extent _ [] [] (contents_same FEATURES (feature_bytes keys values) layer.features) (contents_other KEYS FEATURES same_bytes keys refl) (contents_other VALUES FEATURES value_bytes values refl) ∙ append-nil _ in
-    let key_texts : map (λ (x : Entry). x.content) (only KEYS xs) ≡ map (λ key. bytes (same_bytes key)) keys = at KEYS ∙ tail_contents KEYS keys values layer.features layer.extent [] _ [] (contents_other FEATURES KEYS (feature_bytes keys values) layer.features refl) (contents_same KEYS same_bytes keys) (contents_other VALUES KEYS value_bytes values refl) ∙ append-nil _ in
-    let pool : map (λ (x : Entry). x.content) (only VALUES xs) ≡ map (λ v. bytes (value_bytes v)) values = at VALUES ∙ tail_contents VALUES keys values layer.features layer.extent [] [] _ (contents_other FEATURES VALUES (feature_bytes keys values) layer.features refl) (contents_other KEYS VALUES same_bytes keys refl) (contents_same VALUES value_bytes values) ∙ append-nil _ in
+    let versions : map (λ (x : Entry). x.content) (only VERSION xs) ≡ varint 2 ∷ [] = at VERSION
+    ∙ ap (λ l. varint 2 ∷ l) (tail_none VERSION keys values layer.features layer.extent refl refl refl) in
+    let names : map (λ (x : Entry). x.content) (only NAME xs) ≡ bytes layer.name ∷ [] = at NAME
+    ∙ ap (λ l. bytes layer.name ∷ l) (tail_none NAME keys values layer.features layer.extent refl refl refl) in
+    let extents : map (λ (x : Entry). x.content) (only EXTENT xs) ≡ varint layer.extent ∷ [] = at EXTENT
+    ∙ tail_none EXTENT keys values layer.features layer.extent refl refl refl in
+    let messages : map (λ (x : Entry). x.content) (only FEATURES xs) ≡ map (λ f. bytes (feature_bytes keys values f)) layer.features =
+    at FEATURES ∙ tail_contents FEATURES keys values layer.features layer.extent _ [] []
+    (contents_same FEATURES (feature_bytes keys values) layer.features) (contents_other KEYS FEATURES same_bytes keys refl)
+    (contents_other VALUES FEATURES value_bytes values refl) ∙ append-nil _ in
+    let key_texts : map (λ (x : Entry). x.content) (only KEYS xs) ≡ map (λ key. bytes (same_bytes key)) keys = at KEYS
+    ∙ tail_contents KEYS keys values layer.features layer.extent [] _ []
+    (contents_other FEATURES KEYS (feature_bytes keys values) layer.features refl) (contents_same KEYS same_bytes keys)
+    (contents_other VALUES KEYS value_bytes values refl) ∙ append-nil _ in
+    let pool : map (λ (x : Entry). x.content) (only VALUES xs) ≡ map (λ v. bytes (value_bytes v)) values = at VALUES
+    ∙ tail_contents VALUES keys values layer.features layer.extent [] [] _
+    (contents_other FEATURES VALUES (feature_bytes keys values) layer.features refl) (contents_other KEYS VALUES same_bytes keys refl)
+    (contents_same VALUES value_bytes values) ∙ append-nil _ in
     let version = one_content (only VERSION xs) (varint 2) versions in
     let the_name = one_content (only NAME xs) (bytes layer.name) names in
     let the_extent = one_content (only EXTENT xs) (varint layer.extent) extents in
@@ -150,7 +187,8 @@ layer_is xs keys values layer is name extent texts hold features =
         forms = (
           form_contents NAME (HasForm string) xs (bytes layer.name ∷ []) names (name, tt),
           (
-            form_contents FEATURES (HasForm message) xs _ messages (bytes_all (HasForm message) (feature_bytes keys values) layer.features (all_true layer.features)),
+            form_contents FEATURES (HasForm message) xs _ messages
+                (bytes_all (HasForm message) (feature_bytes keys values) layer.features (all_true layer.features)),
             (
               form_contents KEYS (HasForm string) xs _ key_texts (bytes_all (HasForm string) same_bytes keys texts),
               (
@@ -160,11 +198,15 @@ layer_is xs keys values layer is name extent texts hold features =
             ),
           ),
         );
-        name = ap (λ l. option_map (λ (x : Entry). bytes_of x.content) (last_or None l)) the_name.1 ∙ ap (λ c. Some (bytes_of c)) the_name.2;
-        extent = sym (ap (λ l. unwrap_or (number_in (last_or None l)) 4096) the_extent.1 ∙ ap (λ c. unwrap_or (number_of c) 4096) the_extent.2);
+        name = ap (λ l. option_map (λ (x : Entry). bytes_of x.content) (last_or None l)) the_name.1
+            ∙ ap (λ c. Some (bytes_of c)) the_name.2;
+        extent = sym (ap (λ l. unwrap_or (number_in (last_or None l)) 4096) the_extent.1
+            ∙ ap (λ c. unwrap_or (number_of c) 4096) the_extent.2);
         values = values;
         values_are = related_contents value_bytes (λ b v. IsValueOf b v) (only VALUES xs) values pool hold;
-        features = subst (λ ks. AreRelated (HoldsFeature ks values) (only FEATURES xs) layer.features) (sym same_keys) (related_contents (feature_bytes keys values) (λ b f. IsFeatureOf b keys values f) (only FEATURES xs) layer.features messages features);
+        features = subst (λ ks. AreRelated (HoldsFeature ks values) (only FEATURES xs) layer.features) (sym same_keys)
+            (related_contents (feature_bytes keys values) (λ b f. IsFeatureOf b keys values f)
+            (only FEATURES xs) layer.features messages features);
       },
     )
 
@@ -199,13 +241,25 @@ fine_bytes : {Y : Type 0} → (k : ℕ) (g : Y → List ℕ) (ys : List Y) → 1
 fine_bytes k g [] low high = tt
 fine_bytes k g (y ∷ ys) low high = (record { first = low; last = high; content = tt }, fine_bytes k g ys low high)
 
-layer_fine : (keys : List (List ℕ)) (values : List Value) (layer : ALayer) → layer.extent < 2 ^ 32 → AllByRecursion IsFine (fields_with keys values layer)
+layer_fine : (keys : List (List ℕ)) (values : List Value) (layer : ALayer) → layer.extent < 2 ^ 32
+    → AllByRecursion IsFine (fields_with keys values layer)
 layer_fine keys values layer small =
-    let extent : IsFine (plain EXTENT (varint layer.extent)) = record { first = lit≤ tt; last = lit< tt; content = omega arith } in
-    (record { first = lit≤ tt; last = lit< tt; content = lit< tt }, (record { first = lit≤ tt; last = lit< tt; content = tt }, all_joined IsFine (all_of FEATURES (feature_bytes keys values) layer.features) _ (fine_bytes FEATURES (feature_bytes keys values) layer.features (lit≤ tt) (lit< tt)) (all_joined IsFine (all_of KEYS same_bytes keys) _ (fine_bytes KEYS same_bytes keys (lit≤ tt) (lit< tt)) (all_joined IsFine (all_of VALUES value_bytes values) (extent_fields layer.extent) (fine_bytes VALUES value_bytes values (lit≤ tt) (lit< tt)) (extent, tt)))))
+    let extent : IsFine (plain EXTENT (varint layer.extent)) = record { first = lit≤ tt; last = lit< tt; content = omega arith } in (
+      record { first = lit≤ tt; last = lit< tt; content = lit< tt },
+      (
+        record { first = lit≤ tt; last = lit< tt; content = tt },
+        all_joined IsFine
+            (all_of FEATURES (feature_bytes keys values) layer.features) _
+            (fine_bytes FEATURES (feature_bytes keys values) layer.features (lit≤ tt) (lit< tt))
+            (all_joined IsFine (all_of KEYS same_bytes keys) _ (fine_bytes KEYS same_bytes keys (lit≤ tt) (lit< tt))
+            (all_joined IsFine (all_of VALUES value_bytes values) (extent_fields layer.extent)
+            (fine_bytes VALUES value_bytes values (lit≤ tt) (lit< tt)) (extent, tt))),
+      ),
+    )
 
 -- the sizes of the payloads
-sizes : {Y : Type 0} → (k : ℕ) (g : Y → List ℕ) (ys : List Y) → AllByRecursion IsFit (all_of k g ys) → AllByRecursion (λ y. length (g y) < 2 ^ 64) ys
+sizes : {Y : Type 0} → (k : ℕ) (g : Y → List ℕ) (ys : List Y) → AllByRecursion IsFit (all_of k g ys)
+    → AllByRecursion (λ y. length (g y) < 2 ^ 64) ys
 sizes k g [] h = tt
 sizes k g (y ∷ ys) h = (h.0.content, sizes k g ys h.1)
 
@@ -224,10 +278,13 @@ pub spelled_length : (ps qs : List Plain) → length (spelled (ps ++ qs)) ≡ le
 spelled_length ps qs = ap length (spelled-append ps qs) ∙ length-append (spelled ps) (spelled qs)
 
 -- each entry of the pools takes two bytes
-pub pools_within : (keys : List (List ℕ)) (values : List Value) (layer : ALayer) → (2 * length keys ≤ length (spelled (fields_with keys values layer))) × (2 * length values ≤ length (spelled (fields_with keys values layer)))
+pub pools_within : (keys : List (List ℕ)) (values : List Value) (layer : ALayer)
+    → (2 * length keys ≤ length (spelled (fields_with keys values layer)))
+    × (2 * length values ≤ length (spelled (fields_with keys values layer)))
 pools_within keys values layer =
     let a = spelled_length (head_fields layer.name) (tail keys values layer.features layer.extent) in
-    let b = spelled_length (all_of FEATURES (feature_bytes keys values) layer.features) (all_of KEYS same_bytes keys ++ (all_of VALUES value_bytes values ++ extent_fields layer.extent)) in
+    let b = spelled_length (all_of FEATURES (feature_bytes keys values) layer.features)
+    (all_of KEYS same_bytes keys ++ (all_of VALUES value_bytes values ++ extent_fields layer.extent)) in
     let c = spelled_length (all_of KEYS same_bytes keys) (all_of VALUES value_bytes values ++ extent_fields layer.extent) in
     let d = spelled_length (all_of VALUES value_bytes values) (extent_fields layer.extent) in
     let k = count_bytes KEYS same_bytes keys in
@@ -253,26 +310,41 @@ pub keys_valid : (features : List Feature) → AllByRecursion ValidFeature featu
 unfolding keys_of
 keys_valid features valid =
     let attributes = attributes_of features in
-    let texts : AllByRecursion IsUtf8 (map (λ (a : Attribute). a.key) attributes) = all_mapped (λ (a : Attribute). a.key) IsUtf8 attributes (all_weaker ValidAttribute (λ (a : Attribute). IsUtf8 a.key) (λ a h. h.0) attributes (attributes_valid features valid)) in
-    all_from IsUtf8 (key_pool [] attributes) (λ key is. contained IsUtf8 (map (λ (a : Attribute). a.key) attributes) key texts (pool_entries_from_keys [] attributes key is))
+    let texts : AllByRecursion IsUtf8 (map (λ (a : Attribute). a.key) attributes) =
+    all_mapped (λ (a : Attribute). a.key) IsUtf8 attributes
+    (all_weaker ValidAttribute (λ (a : Attribute). IsUtf8 a.key) (λ a h. h.0) attributes (attributes_valid features valid)) in
+    all_from IsUtf8 (key_pool [] attributes)
+    (λ key is. contained IsUtf8 (map (λ (a : Attribute). a.key) attributes) key texts (pool_entries_from_keys [] attributes key is))
 
 pub values_valid : (features : List Feature) → AllByRecursion ValidFeature features → AllByRecursion ValidValue (values_of features)
 unfolding values_of
 values_valid features valid =
     let attributes = attributes_of features in
-    let texts : AllByRecursion ValidValue (map (λ (a : Attribute). a.value) attributes) = all_mapped (λ (a : Attribute). a.value) ValidValue attributes (all_weaker ValidAttribute (λ (a : Attribute). ValidValue a.value) (λ a h. h.1) attributes (attributes_valid features valid)) in
-    all_from ValidValue (value_pool [] attributes) (λ value is. contained ValidValue (map (λ (a : Attribute). a.value) attributes) value texts (pool_entries_from_values [] attributes value is))
+    let texts : AllByRecursion ValidValue (map (λ (a : Attribute). a.value) attributes) =
+    all_mapped (λ (a : Attribute). a.value) ValidValue attributes
+    (all_weaker ValidAttribute (λ (a : Attribute). ValidValue a.value) (λ a h. h.1) attributes (attributes_valid features valid)) in
+    all_from ValidValue (value_pool [] attributes)
+    (λ value is. contained ValidValue (map (λ (a : Attribute). a.value) attributes) value texts
+    (pool_entries_from_values [] attributes value is))
 
-held_from : (front : List Attribute) (features : List Feature) → AllByRecursion (λ (f : Feature). AllByRecursion (IsIn (key_pool [] (front ++ attributes_of features)) (value_pool [] (front ++ attributes_of features))) f.attributes) features
+held_from : (front : List Attribute) (features : List Feature)
+    → AllByRecursion (λ (f : Feature). AllByRecursion
+    (IsIn (key_pool [] (front ++ attributes_of features)) (value_pool [] (front ++ attributes_of features))) f.attributes) features
 held_from front [] = tt
-held_from front (f ∷ fs) =
-    (pools_hold [] [] front f.attributes (attributes_of fs), subst (λ all. AllByRecursion (λ (g : Feature). AllByRecursion (IsIn (key_pool [] all) (value_pool [] all)) g.attributes) fs) (append_assoc front f.attributes (attributes_of fs)) (held_from (front ++ f.attributes) fs))
+held_from front (f ∷ fs) = (
+  pools_hold [] [] front f.attributes (attributes_of fs),
+  subst
+      (λ all. AllByRecursion (λ (g : Feature). AllByRecursion (IsIn (key_pool [] all) (value_pool [] all)) g.attributes) fs)
+      (append_assoc front f.attributes (attributes_of fs)) (held_from (front ++ f.attributes) fs),
+)
 
-pub features_held : (features : List Feature) → AllByRecursion (λ (f : Feature). AllByRecursion (IsIn (keys_of features) (values_of features)) f.attributes) features
+pub features_held : (features : List Feature)
+    → AllByRecursion (λ (f : Feature). AllByRecursion (IsIn (keys_of features) (values_of features)) f.attributes) features
 unfolding keys_of values_of
 features_held features = held_from [] features
 
-pub layer_canonical : (layer : ALayer) → ValidLayer layer → length (spelled (layer_fields layer)) < 2 ^ 32 → IsItem (spelled (layer_fields layer)) (Layer layer)
+pub layer_canonical : (layer : ALayer) → ValidLayer layer → length (spelled (layer_fields layer)) < 2 ^ 32
+    → IsItem (spelled (layer_fields layer)) (Layer layer)
 unfolding IsItem ValidLayer
 layer_canonical layer valid within =
     let features = layer.features in
@@ -282,11 +354,25 @@ layer_canonical layer valid within =
     let behind = fits.1.1 in
     let whole = spelled_whole_whole (layer_fields layer) fits in
     let pools = pools_within keys values layer in
-    let feature_sizes = sizes FEATURES (feature_bytes keys values) features (all_left IsFit (all_of FEATURES (feature_bytes keys values) features) _ behind) in
+    let feature_sizes = sizes FEATURES (feature_bytes keys values) features
+    (all_left IsFit (all_of FEATURES (feature_bytes keys values) features) _ behind) in
     let pool_fits = all_right IsFit (all_of FEATURES (feature_bytes keys values) features) _ behind in
-    let value_sizes = sizes VALUES value_bytes values (all_left IsFit (all_of VALUES value_bytes values) (extent_fields layer.extent) (all_right IsFit (all_of KEYS same_bytes keys) _ pool_fits)) in
-    let hold_values = all_weaker (λ v. ValidValue v × (length (value_bytes v) < 2 ^ 64)) (λ v. IsValueOf (value_bytes v) v) (λ v h. canonical_reads_value v h.0 h.1) values (all_both ValidValue (λ v. length (value_bytes v) < 2 ^ 64) values (values_valid features valid.2) value_sizes) in
-    let hold_features = all_weaker (λ (f : Feature). (ValidFeature f × AllByRecursion (IsIn keys values) f.attributes) × (length (feature_bytes keys values f) < 2 ^ 64)) (λ f. IsFeatureOf (feature_bytes keys values f) keys values f) (λ f h. canonical_reads_feature keys values (tags_in keys values f.attributes) f h.0.0 (places_name_names keys values f.attributes h.0.1) (places_name_small keys values f.attributes (2 ^ 32) h.0.1 (omega (arith, pools.0)) (omega (arith, pools.1))) h.1) features (all_both (λ (f : Feature). ValidFeature f × AllByRecursion (IsIn keys values) f.attributes) (λ f. length (feature_bytes keys values f) < 2 ^ 64) features (all_both ValidFeature (λ (f : Feature). AllByRecursion (IsIn keys values) f.attributes) features valid.2 (features_held features)) feature_sizes) in
+    let value_sizes = sizes VALUES value_bytes values
+    (all_left IsFit (all_of VALUES value_bytes values) (extent_fields layer.extent)
+    (all_right IsFit (all_of KEYS same_bytes keys) _ pool_fits)) in
+    let hold_values = all_weaker (λ v. ValidValue v × (length (value_bytes v) < 2 ^ 64)) (λ v. IsValueOf (value_bytes v) v)
+    (λ v h. canonical_reads_value v h.0 h.1) values
+    (all_both ValidValue (λ v. length (value_bytes v) < 2 ^ 64) values (values_valid features valid.2) value_sizes) in
+    let hold_features = all_weaker
+    (λ (f : Feature). (ValidFeature f × AllByRecursion (IsIn keys values) f.attributes)
+    × (length (feature_bytes keys values f) < 2 ^ 64)) (λ f. IsFeatureOf (feature_bytes keys values f) keys values f)
+    (λ f h. canonical_reads_feature keys values (tags_in keys values f.attributes) f h.0.0
+    (places_name_names keys values f.attributes h.0.1)
+    (places_name_small keys values f.attributes (2 ^ 32) h.0.1 (omega (arith, pools.0)) (omega (arith, pools.1))) h.1) features
+    (all_both (λ (f : Feature). ValidFeature f × AllByRecursion (IsIn keys values) f.attributes)
+    (λ f. length (feature_bytes keys values f) < 2 ^ 64) features
+    (all_both ValidFeature (λ (f : Feature). AllByRecursion (IsIn keys values) f.attributes) features valid.2
+    (features_held features)) feature_sizes) in
     let is = layer_is whole.0 keys values layer whole.2 valid.0 valid.1 (keys_valid features valid.2) hold_values hold_features in
     (whole.0, whole.1, is.0, (is.1, is.2))
 

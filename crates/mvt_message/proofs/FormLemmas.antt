@@ -25,7 +25,8 @@ form_versions payload_at xs h = forms_clean version_forms payload_at xs (h, tt)
 
 pub layer_have : (payload_at : ℕ) (xs : List Entry) → forms_fault payload_at xs ≡ None → HaveForms layer_forms xs
 unfolding layer_field_rules
-layer_have payload_at xs clean = forms_have layer_forms payload_at xs (λ c. refl, (λ c. refl, (λ c. refl, (λ c. refl, (λ c. refl, tt))))) clean
+layer_have payload_at xs clean =
+    forms_have layer_forms payload_at xs (λ c. refl, (λ c. refl, (λ c. refl, (λ c. refl, (λ c. refl, tt))))) clean
 
 pub have_layer : (payload_at : ℕ) (xs : List Entry) → HaveForms layer_forms xs → forms_fault payload_at xs ≡ None
 unfolding layer_field_rules
@@ -40,13 +41,20 @@ unfolding layer_field_rules
 layer_field_ordered payload_at x = forms_ordered layer_forms payload_at x
 
 -- rules of elements that are told by those before them
-pub none_each_told : {X F G : Type 0} → (tell : List X → F → G) (rules : X → Rules F) (front xs : List X) → first (each (λ f x. told (tell f) (rules x)) front xs) ≡ None → AllByRecursion (λ x. first (rules x) ≡ None) xs
+pub none_each_told : {X F G : Type 0} → (tell : List X → F → G) (rules : X → Rules F) (front xs : List X)
+    → first (each (λ f x. told (tell f) (rules x)) front xs) ≡ None → AllByRecursion (λ x. first (rules x) ≡ None) xs
 none_each_told tell rules front [] h = tt
 none_each_told tell rules front (x ∷ xs) h =
-    let parts = option_or-nones _ _ (sym (first-append _ (each (λ f y. told (tell f) (rules y)) (front ++ x ∷ []) xs)) ∙ h) in
-    (none_mapped (tell front) (first (rules x)) (sym (first-told (tell front) (rules x)) ∙ sym (first-under (length front) (told (tell front) (rules x))) ∙ parts.0), none_each_told tell rules (front ++ x ∷ []) xs parts.1)
+    let parts = option_or-nones _ _ (sym (first-append _ (each (λ f y. told (tell f) (rules y)) (front ++ x ∷ []) xs)) ∙ h) in (
+      none_mapped (tell front) (first (rules x))
+          (sym (first-told (tell front) (rules x)) ∙ sym (first-under (length front) (told (tell front) (rules x))) ∙ parts.0),
+      none_each_told tell rules (front ++ x ∷ []) xs parts.1,
+    )
 
-pub each_told_none : {X F G : Type 0} → (tell : List X → F → G) (rules : X → Rules F) (front xs : List X) → AllByRecursion (λ x. first (rules x) ≡ None) xs → first (each (λ f x. told (tell f) (rules x)) front xs) ≡ None
+pub each_told_none : {X F G : Type 0} → (tell : List X → F → G) (rules : X → Rules F) (front xs : List X)
+    → AllByRecursion (λ x. first (rules x) ≡ None) xs → first (each (λ f x. told (tell f) (rules x)) front xs) ≡ None
 each_told_none tell rules front [] h = refl
 each_told_none tell rules front (x ∷ xs) h =
-    first-append _ (each (λ f y. told (tell f) (rules y)) (front ++ x ∷ []) xs) ∙ option_or-none _ _ (first-under (length front) (told (tell front) (rules x)) ∙ first-told (tell front) (rules x) ∙ ap (option_map (tell front)) h.0) ∙ each_told_none tell rules (front ++ x ∷ []) xs h.1
+    first-append _ (each (λ f y. told (tell f) (rules y)) (front ++ x ∷ []) xs)
+    ∙ option_or-none _ _ (first-under (length front) (told (tell front) (rules x)) ∙ first-told (tell front) (rules x)
+    ∙ ap (option_map (tell front)) h.0) ∙ each_told_none tell rules (front ++ x ∷ []) xs h.1

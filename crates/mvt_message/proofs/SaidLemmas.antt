@@ -12,7 +12,8 @@ use Rattle.mvt_feature.proofs.FeatureLaws.{value_function}
 use Rattle.mvt_message.specs.LayerFields.{bytes_of}
 use Rattle.mvt_message.specs.Items.{HoldsValue}
 
-pub values_said : (xs : List Entry) (vs : List Value) → AreRelated HoldsValue xs vs → flat_map (λ (x : Entry). option_to_list (value_in (bytes_of x.content))) xs ≡ vs
+pub values_said : (xs : List Entry) (vs : List Value) → AreRelated HoldsValue xs vs
+    → flat_map (λ (x : Entry). option_to_list (value_in (bytes_of x.content))) xs ≡ vs
 values_said [] [] h = refl
 values_said [] (v ∷ vs) h = absurd h
 values_said (x ∷ xs) [] h = absurd h

@@ -8,7 +8,8 @@ use Rattle.mvt_message.proofs.features.read_features.Goals as goal
 pub append_feature-requires-clause-few : goal.append_feature-requires-clause-few
 append_feature-requires-clause-few c =
     let so_far = c.loop-field.invariant.2 c.requires.held.0 c.requires.held.1 in
-    features_few (entry_of c.in-Ok.field) so_far c.args.payload.now c.loop-field.field-iterator.to_come c.loop-field.invariant.1 c.requires.small
+    features_few (entry_of c.in-Ok.field) so_far c.args.payload.now c.loop-field.field-iterator.to_come c.loop-field.invariant.1
+    c.requires.small
 
 pub loop-field-preserved : goal.loop-field-preserved
 loop-field-preserved c =

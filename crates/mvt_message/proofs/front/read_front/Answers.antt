@@ -10,7 +10,8 @@ use Rattle.mvt_message.proofs.front.read_front.Goals as goal
 pub loop-field-init : goal.loop-field-init
 loop-field-init c = (
   [],
-  walks_start _ _ (ap (λ (a : Ahead). a.to_come) c.into_iter-field-iterator.ensures.into_iter_gives ∙ c.new-field-items.ensures.fields) (rw c.into_iter-field-iterator.ensures.into_iter_gives c.new-field-items.ensures.place),
+  walks_start _ _ (ap (λ (a : Ahead). a.to_come) c.into_iter-field-iterator.ensures.into_iter_gives ∙ c.new-field-items.ensures.fields)
+      (rw c.into_iter-field-iterator.ensures.into_iter_gives c.new-field-items.ensures.place),
   (refl, refl),
   record { clean = refl; name_is = c.new-head.ensures.name; extent_is = c.new-head.ensures.extent; keys_are = c.new-head.ensures.keys },
   record { values = []; so_far = (refl, tt); held = (c.new-values.ensures.count, on_true c.args.keeps _ c.new-values.ensures.kept) },
@@ -19,7 +20,8 @@ loop-field-init c = (
 pub take_value-requires-clause-few : goal.take_value-requires-clause-few
 take_value-requires-clause-few c = λ none.
     let so_far = rw none at c.loop-field.invariant.4 in
-    values_few (entry_of c.in-Ok.field) so_far c.args.payload.now c.loop-field.field-iterator.to_come c.loop-field.invariant.1 c.requires.small
+    values_few (entry_of c.in-Ok.field) so_far c.args.payload.now c.loop-field.field-iterator.to_come c.loop-field.invariant.1
+    c.requires.small
 
 pub loop-field-preserved : goal.loop-field-preserved
 loop-field-preserved c =
@@ -33,9 +35,11 @@ loop-field-preserved c =
 
 pub returns-in-Err-clause-err : goal.returns-in-Err-clause-err
 returns-in-Err-clause-err c =
-    rw c.rest_fault.ensures (rest_told c.next.new.self.to_come c.args.payload_at c.args.tag_at c.loop-field.invariant.1 (rw c.in-Err.is at c.in-Some.ensures.steps).0)
+    rw c.rest_fault.ensures (rest_told c.next.new.self.to_come c.args.payload_at c.args.tag_at c.loop-field.invariant.1
+    (rw c.in-Err.is at c.in-Some.ensures.steps).0)
 
 pub returns-clause-version : goal.returns-clause-version
 returns-clause-version c =
-    let so_far = version_ends c.args.payload_at c.loop-field.version c.loop-field.invariant.1 c.in-None.ensures.steps.0 c.loop-field.invariant.2 in
+    let so_far = version_ends c.args.payload_at c.loop-field.version c.loop-field.invariant.1 c.in-None.ensures.steps.0
+    c.loop-field.invariant.2 in
     c.in_ok-version.ensures.version c.args.payload_at (split c.args.payload.now).fields so_far

@@ -6,7 +6,8 @@ use Rattle.mvt_message.proofs.layer_len.with_field.Goals as goal
 
 pub overflow_add-len : goal.overflow_add-len
 overflow_add-len c =
-    Fits-of_lt (field_fits c.args.number c.args.size c.args.len c.field_len.result c.field_len.ensures c.if-size-gt-LIMIT.false c.requires.small)
+    Fits-of_lt (field_fits c.args.number c.args.size c.args.len c.field_len.result c.field_len.ensures c.if-size-gt-LIMIT.false
+    c.requires.small)
 
 pub returns-then-size-gt-LIMIT-clause-too_large : goal.returns-then-size-gt-LIMIT-clause-too_large
 returns-then-size-gt-LIMIT-clause-too_large c = λ d same _.

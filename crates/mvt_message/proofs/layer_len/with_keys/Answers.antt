@@ -9,7 +9,8 @@ pub returns-in_err-len-in-Some-clause-too_large : goal.returns-in_err-len-in-Som
 returns-in_err-len-in-Some-clause-too_large c = λ h.
     let told = exit_is c.from_residual.result c.from_residual.ensures.1 h in
     let long = c.in_err-len-in-Some.ensures.too_large c.in-Some.key.now refl (ap Err told) in
-    len_long key_field c.args.keys.now c.loop-index.index c.args.start c.loop-index.len LIMIT c.in-Some.ensures c.loop-index.invariant.0 long
+    len_long key_field c.args.keys.now c.loop-index.index c.args.start c.loop-index.len LIMIT c.in-Some.ensures c.loop-index.invariant.0
+    long
 
 pub unreachable-requires : goal.unreachable-requires
 unreachable-requires c =

@@ -8,4 +8,5 @@ use Rattle.mvt_message.proofs.put_layer.put_values.Goals as goal
 pub loop-index-preserved : goal.loop-index-preserved
 loop-index-preserved c =
     let head = c.in_ok-put_field_head-in-Some.ensures.ok (spelled (value_fields c.in-Some.value.now)) (sym c.value_len.ensures) in
-    entry_step value_field c.args.values.now c.loop-index.index c.args.out.now.items c.in-Some.ensures c.loop-index.invariant (c.in_ok-append_value-in-Some.ensures.ok ∙ head)
+    entry_step value_field c.args.values.now c.loop-index.index c.args.out.now.items c.in-Some.ensures c.loop-index.invariant
+    (c.in_ok-append_value-in-Some.ensures.ok ∙ head)

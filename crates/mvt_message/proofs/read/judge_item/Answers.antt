@@ -11,10 +11,13 @@ returns-in_err-version-clause-fault c =
     rw (p.1, p.2) (head_told c.args.payload.now c.args.payload_at c.args.tag_at _ c.in_err-version.ensures.err)
 
 pub returns-then-version-ne2-clause-ok : goal.returns-then-version-ne2-clause-ok
-returns-then-version-ne2-clause-ok c = item_of_other c.args.payload.now c.args.payload_at c.args.tag_at c.in_ok-version.version c.in_ok-version.ensures.ok c.in_ok-version.ensures.version c.if-version-ne2.true
+returns-then-version-ne2-clause-ok c =
+    item_of_other c.args.payload.now c.args.payload_at c.args.tag_at c.in_ok-version.version c.in_ok-version.ensures.ok
+    c.in_ok-version.ensures.version c.if-version-ne2.true
 
 pub returns-then-version-ne2-clause-names : goal.returns-then-version-ne2-clause-names
-returns-then-version-ne2-clause-names c = sym (names_of_other c.args.payload.now c.in_ok-version.version c.in_ok-version.ensures.version c.if-version-ne2.true)
+returns-then-version-ne2-clause-names c =
+    sym (names_of_other c.args.payload.now c.in_ok-version.version c.in_ok-version.ensures.version c.if-version-ne2.true)
 
 pub read_parts-requires-clause-whole : goal.read_parts-requires-clause-whole
 read_parts-requires-clause-whole c = head_whole c.args.payload.now c.args.payload_at c.args.tag_at c.in_ok-version.ensures.ok
@@ -23,7 +26,8 @@ pub returns-in_err-parts-clause-fault : goal.returns-in_err-parts-clause-fault
 returns-in_err-parts-clause-fault c =
     let p = err_from_is_err_and c.from_residual-in_err-parts.result c.from_residual-in_err-parts.ensures.1 in
     let two = as_two (split c.args.payload.now).fields c.in_ok-version.ensures.version c.if-version-ne2.false in
-    rw (p.1, p.2) (layer_told c.args.payload.now c.args.payload_at c.args.tag_at _ c.in_ok-version.ensures.ok two c.in_err-parts.ensures.fault)
+    rw (p.1, p.2) (layer_told c.args.payload.now c.args.payload_at c.args.tag_at _ c.in_ok-version.ensures.ok two
+    c.in_err-parts.ensures.fault)
 
 pub returns-clause-ok : goal.returns-clause-ok
 returns-clause-ok c =

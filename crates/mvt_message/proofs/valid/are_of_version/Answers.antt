@@ -16,7 +16,8 @@ no_test m n h = subst (λ b. IsTrue (not b)) (sym (ne_eqb m n h)) refl
 
 pub returns-then-found-version : goal.returns-then-found-version
 returns-then-found-version c = (
-  λ t. of_version c.args.bytes.now c.args.version c.in-Ok.found c.in-Ok.ensures.ok c.in-Ok.ensures.version c.if-found-version.true (differ c.args.version 2 t),
+  λ t. of_version c.args.bytes.now c.args.version c.in-Ok.found c.in-Ok.ensures.ok c.in-Ok.ensures.version c.if-found-version.true
+      (differ c.args.version 2 t),
   λ of. no_test c.args.version 2 (found_version c.args.bytes.now c.args.version c.in-Ok.found c.in-Ok.ensures.version of).1,
 )
 
@@ -27,4 +28,5 @@ returns-else-found-version c = (
 )
 
 pub returns-in-Err : goal.returns-in-Err
-returns-in-Err c = (λ t. cc t, λ of. absurd (no_version c.args.bytes.now c.args.version c.in-Err.field-0 c.in-Err.ensures.fault c.in-Err.ensures.err of))
+returns-in-Err c =
+    (λ t. cc t, λ of. absurd (no_version c.args.bytes.now c.args.version c.in-Err.field-0 c.in-Err.ensures.fault c.in-Err.ensures.err of))

@@ -17,7 +17,8 @@ returns-then-keeps-clause-ok c = λ done so_far.
     let holds = rw c.bytes_of-payload.ensures at c.in_ok-read_value.ensures.value in
     let clean = rw c.bytes_of-payload.ensures at c.in_ok-read_value.ensures.ok in
     let more = on_true c.args.keeps _ c.in_ok-push.ensures.items in
-    value_held (entry_of c.args.field.now) so_far c.push.new.self.items c.in_ok-read_value.field-0 c.if-field-ne-VALUES.false holds clean more
+    value_held (entry_of c.args.field.now) so_far c.push.new.self.items c.in_ok-read_value.field-0 c.if-field-ne-VALUES.false holds clean
+    more
 
 pub returns-clause-ok : goal.returns-clause-ok
 returns-clause-ok c = λ done so_far.
