@@ -142,6 +142,14 @@ layer_length layer fine =
     let number = short_lengths_most layer.extent in
     omega (arith, whole, behind, pools, last, head, name, payloads, entries, sums, extent, number)
 
+fine_in : (keys : List (List ℕ)) (values : List Value) (features : List Feature) → length keys ≤ 2 ^ 32 → length values ≤ 2 ^ 32
+    → AllByRecursion ValidFeature features → AllByRecursion (λ (f : Feature). AllByRecursion (IsIn keys values) f.attributes) features
+    → AllByRecursion (IsFineIn keys values) features
+fine_in keys values [] few_keys few_values valid held = tt
+fine_in keys values (f ∷ fs) few_keys few_values valid held =
+    let tags = places_name_small keys values f.attributes (2 ^ 32) held.0 few_keys few_values in
+    ((valid.0, tags), fine_in keys values fs few_keys few_values valid.1 held.1)
+
 -- within the limit the pools have few entries, and tags have 32 bits
 all_fine : (layer : ALayer) → AllByRecursion ValidFeature layer.features → layer_bound layer ≤ LIMIT
     → AllByRecursion (IsFineIn (keys_of layer.features) (values_of layer.features)) layer.features
@@ -155,13 +163,9 @@ all_fine layer valid small =
     let value_count = count_bytes 4 (λ value. spelled (value_fields value)) values in
     let few_keys : length keys ≤ 2 ^ 32 = omega (arith, entries, sums, key_count, small) in
     let few_values : length values ≤ 2 ^ 32 = omega (arith, entries, sums, value_count, small) in
-    all_both ValidFeature (λ (f : Feature). AllByRecursion (λ tag. tag < 2 ^ 32) (tags_in keys values f.attributes)) features valid
-    (all_weaker (λ (f : Feature). AllByRecursion (IsIn keys values) f.attributes)
-    (λ (f : Feature). AllByRecursion (λ tag. tag < 2 ^ 32) (tags_in keys values f.attributes))
-    (λ f is. places_name_small keys values f.attributes (2 ^ 32) is few_keys few_values) features (features_held features))
+    fine_in keys values features few_keys few_values valid (features_held features)
 
 pub bound_holds_lem : (item : AnItem) → ValidItem item → item_bound item ≤ LIMIT → length (canonical_item item) ≤ item_bound item
 unfolding canonical_item ValidItem ValidLayer
-bound_holds_lem (Layer layer) valid small =
-    layer_length layer (all_fine layer valid.2 small)
+bound_holds_lem (Layer layer) valid small = layer_length layer (all_fine layer valid.2 small)
 bound_holds_lem (Foreign version content) valid small = omega arith

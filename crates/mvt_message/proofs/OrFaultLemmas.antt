@@ -57,8 +57,8 @@ pub two_there : (o : Option ℕ) → is_two o ≡ true → o ≡ Some 2
 two_there None h = cc
 two_there (Some n) h = ap Some (eqb-true n 2 h)
 
-pub version_there : (xs : List Entry) → HaveForm VERSION (HasForm uint32) xs → is_none (last_only VERSION xs) ≡ false → (n : ℕ)
-    × (version_in xs ≡ Some n)
+pub version_there : (xs : List Entry) → HaveForm VERSION (HasForm uint32) xs → is_none (last_only VERSION xs) ≡ false
+    → (n : ℕ) × (version_in xs ≡ Some n)
 version_there xs forms some =
     let last = some_there (last_only VERSION xs) some in
     let number = of_form last.0.content
@@ -70,10 +70,6 @@ version_there xs forms some =
     of_form (bytes d) h = absurd h
     of_form (fixed64 n) h = absurd h
     of_form (fixed32 n) h = absurd h
-
-pub some_none : {A : Type 0} → (o : Option A) (x : A) → o ≡ Some x → is_none o ≡ false
-some_none None x h = cc
-some_none (Some y) x h = refl
 
 -- what is there for each element
 pub related_there : {X Y : Type 0} → (P : X → Type 0) (R : X → Y → Type 0) → ((x : X) → P x → (y : Y) × R x y) → (xs : List X)
@@ -92,8 +88,8 @@ related_left R P gives (x ∷ xs) [] h = absurd h
 related_left R P gives (x ∷ xs) (y ∷ ys) h = (gives x y h.0, related_left R P gives xs ys h.1)
 
 -- the rows of values and of features
-pub values_there : (payload_at : ℕ) (xs : List Entry) → values_fault payload_at xs ≡ None → (values : List Value)
-    × AreRelated HoldsValue (only VALUES xs) values
+pub values_there : (payload_at : ℕ) (xs : List Entry) → values_fault payload_at xs ≡ None
+    → (values : List Value) × AreRelated HoldsValue (only VALUES xs) values
 values_there payload_at xs clean =
     related_there (λ (x : Entry). first (value_rules_of payload_at x) ≡ None) HoldsValue
     (λ x none. value_or_fault_there (bytes_of x.content) (payload_at + x.body) (payload_at + x.at) (value_first _ _ _ ∙ none))
@@ -111,8 +107,8 @@ abbrev feature_rules_at : ℕ → List (List ℕ) → List Value → Entry → R
 feature_rules_at payload_at keys values x = feature_rules (bytes_of x.content) (payload_at + x.body) keys values
 
 pub features_there : (payload_at : ℕ) (keys : List (List ℕ)) (values : List Value) (xs : List Entry)
-    → features_fault payload_at keys values xs ≡ None → (features : List Feature)
-    × AreRelated (HoldsFeature keys values) (only FEATURES xs) features
+    → features_fault payload_at keys values xs ≡ None
+    → (features : List Feature) × AreRelated (HoldsFeature keys values) (only FEATURES xs) features
 features_there payload_at keys values xs clean =
     related_there (λ (x : Entry). first (feature_rules_at payload_at keys values x) ≡ None) (HoldsFeature keys values)
     (λ x none. feature_or_fault_there (bytes_of x.content) (payload_at + x.body) keys values (feature_first _ _ _ _ ∙ none))
@@ -158,7 +154,7 @@ layer_there payload_at tag_at xs none =
           (ap (option_map (λ (x : Entry). bytes_of x.content)) name.1) refl values.1 features.1,
     )
 
-name_there : (xs : List Entry) (name : List ℕ) → name_in xs ≡ Some name → is_none (last_only NAME xs) ≡ false
+pub name_there : (xs : List Entry) (name : List ℕ) → name_in xs ≡ Some name → is_none (last_only NAME xs) ≡ false
 name_there xs name is = of_option (last_only NAME xs) is
   where
     of_option : (o : Option Entry) → option_map (λ (x : Entry). bytes_of x.content) o ≡ Some name → is_none o ≡ false
@@ -184,8 +180,8 @@ layer_keeps payload_at tag_at xs layer is =
 abbrev FaultBehind : ℕ → ℕ → List Entry → Bool → Option MessageFault
 FaultBehind payload_at tag_at xs two = if two then layer_fault payload_at tag_at xs else None
 
-pub head_clean : (payload : List ℕ) (payload_at tag_at : ℕ) → head_fault payload payload_at tag_at ≡ None → ((split payload).rest ≡ [])
-    × HaveForm VERSION (HasForm uint32) (split payload).fields × ((n : ℕ) × (version_in (split payload).fields ≡ Some n))
+pub head_clean : (payload : List ℕ) (payload_at tag_at : ℕ) → head_fault payload payload_at tag_at ≡ None
+    → ((split payload).rest ≡ []) × HaveForm VERSION (HasForm uint32) (split payload).fields × ((n : ℕ) × (version_in (split payload).fields ≡ Some n))
 head_clean payload payload_at tag_at none =
     let xs = (split payload).fields in
     let parts = option_or-nones _ _ none in
@@ -205,8 +201,8 @@ pub item_from : (payload : List ℕ) (item : AnItem) → (split payload).rest �
 unfolding IsItem
 item_from payload item rest forms are = ((split payload).fields, whole_of payload rest, forms, are)
 
-pub item_there : (payload : List ℕ) (payload_at tag_at : ℕ) → item_fault payload payload_at tag_at ≡ None → (item : AnItem)
-    × IsItem payload item
+pub item_there : (payload : List ℕ) (payload_at tag_at : ℕ) → item_fault payload payload_at tag_at ≡ None
+    → (item : AnItem) × IsItem payload item
 item_there payload payload_at tag_at none =
     let parts = option_or-nones _ _ (sym (item_chain payload payload_at tag_at) ∙ none) in
     let head = head_clean payload payload_at tag_at parts.0 in
@@ -223,7 +219,7 @@ item_there payload payload_at tag_at none =
         (Foreign version.0 payload, item_from payload (Foreign version.0 payload) rest forms (version.1, other, refl))
 
 -- and a payload that is an item has none
-last_there : (xs : List Entry) (n : ℕ) → version_in xs ≡ Some n → is_none (last_only VERSION xs) ≡ false
+pub last_there : (xs : List Entry) (n : ℕ) → version_in xs ≡ Some n → is_none (last_only VERSION xs) ≡ false
 last_there xs n is = of_option (last_only VERSION xs) is
   where
     of_option : (o : Option Entry) → number_in o ≡ Some n → is_none o ≡ false

@@ -42,7 +42,7 @@ use Rattle.mvt_message.specs.Inner.{rest_fault, versions_fault, forms_fault, no_
 use Rattle.mvt_message.proofs.ChainLemmas.{item_chain, layer_chain, tells_or, or_tells}
 use Rattle.mvt_message.proofs.FormLemmas.{versions_form}
 use Rattle.mvt_message.proofs.SaidLemmas.{values_said}
-use Rattle.mvt_message.proofs.OrFaultLemmas.{value_first, feature_first, version_there, head_clean, layer_from, layer_clean, item_of_layer, item_from}
+use Rattle.mvt_message.proofs.OrFaultLemmas.{last_there, name_there, value_first, feature_first, version_there, head_clean, layer_from, layer_clean, item_of_layer, item_from}
 
 -- a fault is told of whatever has it
 pub tells_as : (e : MessageError) (o p : Option MessageFault) → ((f : MessageFault) → o ≡ Some f → p ≡ Some f) → TellsMessage e o
@@ -297,16 +297,6 @@ selected_few payload to_come done k walk small =
     let count = split_function_count payload in
     omega arith
 
--- the walk over a payload that is known to split into fields
-pub walk_body_fits : (payload : List ℕ) (old new : Parts) (done : List Entry) (field : Field) (payload_at : ℕ) → Walk payload old done
-    → GivesEntry old (Some (Ok field)) new → payload_at + length payload < 2 ^ 64
-    → payload_at + (field.body + bytes_size (content_of field.payload)) < 2 ^ 64
-walk_body_fits payload old new done field payload_at walk step small =
-    let inside : field.body + bytes_size (content_of field.payload) ≤ old.rest_at = step.1.1 in
-    let place = walk.place in
-    let bound = walk.bound in
-    omega arith
-
 -- the ends of a walk over the fields of a payload: at a rest, and behind the last
 pub rest_told : {payload : List ℕ} {old : Parts} {done : List Entry} {fault : WireFault} (new : Parts) (payload_at tag_at : ℕ)
     → Walk payload old done → GivesEntry old (Some (Err fault)) new
@@ -326,11 +316,7 @@ pub head_some : (payload : List ℕ) (payload_at tag_at n : ℕ) → (split payl
     → head_fault payload payload_at tag_at ≡ None
 head_some payload payload_at tag_at n rest clean version =
     option_or-none _ _ (rests_none payload_at (split payload) rest) ∙ option_or-none _ _ clean
-    ∙ first-when_not _ _ (by_option (last_only VERSION (split payload).fields) version)
-  where
-    by_option : (o : Option Entry) → Some n ≡ number_in o → is_none o ≡ false
-    by_option None h = cc
-    by_option (Some x) h = refl
+    ∙ first-when_not _ _ (last_there (split payload).fields n (sym version))
 
 pub head_none : (payload : List ℕ) (payload_at tag_at : ℕ) → (split payload).rest ≡ []
     → versions_fault payload_at (split payload).fields ≡ None → None ≡ version_in (split payload).fields
@@ -360,11 +346,7 @@ forms_told payload_at tag_at xs e h =
     subst (TellsMessage e) (sym (layer_chain payload_at tag_at xs)) (tells_or e (forms_fault payload_at xs) _ h)
 
 name_some : (tag_at : ℕ) (xs : List Entry) (name : List ℕ) → Some name ≡ name_in xs → no_name_fault tag_at xs ≡ None
-name_some tag_at xs name is = first-when_not _ _ (by_option (last_only NAME xs) is)
-  where
-    by_option : (o : Option Entry) → Some name ≡ option_map (λ (x : Entry). bytes_of x.content) o → is_none o ≡ false
-    by_option None h = cc
-    by_option (Some x) h = refl
+name_some tag_at xs name is = first-when_not _ _ (name_there xs name (sym is))
 
 pub name_told : (payload_at tag_at : ℕ) (xs : List Entry) → forms_fault payload_at xs ≡ None → None ≡ name_in xs
     → layer_fault payload_at tag_at xs ≡ Some (fault_at tag_at NoName)
