@@ -5,13 +5,11 @@ use Rattle.std.specs.List.{AllByRecursion, sum_by}
 use Rattle.std.proofs.lemmas.List.Filters.{sum_by-filter_both}
 use Rattle.std.proofs.lemmas.List.Sums.{sum_by-cons, sum_by-append}
 use Rattle.mvt_base.specs.declared.TheConstants.{LIMIT}
-use Rattle.mvt_base.proofs.ListLemmas.{all_weaker, all_both}
 use Rattle.mvt_attrs.specs.declared.value.Attribute.{Attribute}
 use Rattle.mvt_attrs.specs.declared.value.Value.{Value}
 use Rattle.mvt_attrs.specs.FirstUse.{first_use}
 use Rattle.mvt_attrs.specs.TagPlaces.{tags_in, IsIn}
 use Rattle.mvt_attrs.specs.Values.{equal_values}
-use Rattle.mvt_geometry.specs.Valid.{IsValid}
 use Rattle.mvt_wire.specs.Field.{bytes}
 use Rattle.mvt_wire.specs.Spelling.{Plain, short_field, spelled}
 use Rattle.mvt_wire.specs.Varint.{short}

@@ -1,5 +1,5 @@
 -- The forms of a layer's fields, and rules that are told by the elements before.
-use Rattle.std.proofs.Common.{◌≡◌, ℕ, ◌+◌, List, [], ◌∷◌, ◌++◌, length, None, refl, sym, ap, ◌∙◌}
+use Rattle.std.proofs.Common.{◌≡◌, ℕ, List, [], ◌∷◌, ◌++◌, length, None, refl, sym, ap, ◌∙◌}
 use Rattle.std.specs.List.{AllByRecursion}
 use Rattle.std.specs.Option.{option_map}
 use Rattle.mvt_base.specs.Rules.{Rules, AreOrdered, told, each, first}
@@ -8,7 +8,7 @@ use Rattle.mvt_base.proofs.TableLemmas.{none_mapped}
 use Rattle.mvt_wire.specs.Field.{Entry}
 use Rattle.mvt_feature.proofs.FeatureLaws.{forms_clean, forms_have, forms_ordered}
 use Rattle.mvt_message.specs.declared.numbers.layer.TheConstants.{VERSION}
-use Rattle.mvt_feature.specs.Forms.{Form, uint32, HasForm, HaveForms, IsFirst, forms_rules}
+use Rattle.mvt_feature.specs.Forms.{uint32, HasForm, HaveForms}
 use Rattle.mvt_feature.specs.Selection.{HaveForm}
 use Rattle.mvt_message.specs.LayerFields.{version_forms, layer_forms}
 use Rattle.mvt_message.specs.ItemRules.{version_rules, layer_field_rules}

@@ -3,17 +3,13 @@ use Rattle.std.proofs.Common.{◌≡◌, ℕ, zero, suc, ◌+◌, ◌*◌, ◌^�
 use Rattle.std.proofs.lemmas.List.{length-replicate}
 use Rattle.mvt_base.specs.declared.TheConstants.{LIMIT}
 use Rattle.mvt_attrs.specs.declared.value.Value.{Value}
-use Rattle.mvt_attrs.specs.Pools.{key_pool, value_pool}
-use Rattle.mvt_attrs.specs.Tags.{Names}
-use Rattle.mvt_attrs.specs.TagPlaces.{tags_in}
-use Rattle.mvt_wire.specs.Field.{Content, varint, bytes, wire_type}
-use Rattle.mvt_wire.specs.Spelling.{Plain, short_payload, short_field, spelled}
+use Rattle.mvt_wire.specs.Field.{varint, bytes}
+use Rattle.mvt_wire.specs.Spelling.{Plain, short_field, spelled}
 use Rattle.mvt_wire.specs.Varint.{short}
 use Rattle.mvt_feature.specs.declared.feature.Feature.{Feature}
-use Rattle.mvt_feature.specs.Canonical.{feature_fields}
 use Rattle.mvt_wire.proofs.WireLaws.{short_lengths_field, short_lengths_most, short_lengths_one}
 use Rattle.mvt_message.specs.declared.item.Layer.{Layer as ALayer}
-use Rattle.mvt_message.specs.CanonicalItems.{keys_of, values_of, head_fields, feature_field, key_field, value_field, extent_fields, layer_fields}
+use Rattle.mvt_message.specs.CanonicalItems.{keys_of, values_of, head_fields, feature_field, extent_fields, layer_fields}
 use Rattle.mvt_message.proofs.PutLemmas.{FeaturesSoFar, IsPlaced, entry_step, extent_part, features_length, features_part, features_step, front_long, head_part, keys_part, layer_parts, values_part}
 
 -- a field within the limit is not much longer

@@ -13,15 +13,14 @@ use Rattle.mvt_base.proofs.TableLemmas.{when_none, none_each, each_none}
 use Rattle.mvt_base.proofs.SelectionLemmas.{last_selected}
 use Rattle.mvt_attrs.specs.declared.value.Value.{Value}
 use Rattle.mvt_wire.specs.Field.{Content, varint, fixed64, bytes, fixed32, Entry}
-use Rattle.mvt_wire.specs.Split.{Split, Parts, Whole, split}
+use Rattle.mvt_wire.specs.Split.{Split, Whole, split}
 use Rattle.mvt_feature.specs.declared.cause.Cause.TheVariants.{NoVersion, NoName}
 use Rattle.mvt_feature.specs.declared.feature.Feature.{Feature}
-use Rattle.mvt_feature.specs.Faults.{MessageFault, fault_at, in_feature, rest_rules}
-use Rattle.mvt_feature.specs.Features.{IsFeatureOf, number_in, number_of}
+use Rattle.mvt_feature.specs.Faults.{MessageFault, fault_at, in_feature}
+use Rattle.mvt_feature.specs.Features.{number_in, number_of}
 use Rattle.mvt_feature.specs.FeatureRules.{feature_rules, feature_fault}
 use Rattle.mvt_feature.specs.Forms.{uint32, HasForm}
 use Rattle.mvt_feature.specs.Selection.{only, last_only, HaveForm}
-use Rattle.mvt_feature.specs.Values.{IsValueOf}
 use Rattle.mvt_feature.specs.ValueRules.{value_rules, value_fault}
 use Rattle.mvt_wire.proofs.WireLaws.{one_split, split_function_is, split_function_only}
 use Rattle.mvt_feature.proofs.FeatureLaws.{feature_fault_is_least_ordered, feature_or_fault_clean, feature_or_fault_once, feature_or_fault_there, rests_none, rests_nothing, rests_ordered, value_fault_is_least_ordered, value_or_fault_clean, value_or_fault_once, value_or_fault_there}

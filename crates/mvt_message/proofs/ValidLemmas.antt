@@ -6,21 +6,17 @@ use Rattle.std.specs.Option.{option_map}
 use Rattle.mvt_base.specs.Related.{AreRelated}
 use Rattle.mvt_base.proofs.ListLemmas.{all_weaker}
 use Rattle.mvt_base.proofs.SelectionLemmas.{only_number, only_all, last_selected}
-use Rattle.mvt_attrs.specs.declared.value.Value.{Value}
-use Rattle.mvt_geometry.specs.declared.shape.Geometry.{Geometry}
-use Rattle.mvt_geometry.specs.Valid.{IsValid, IsOfFirstProfile}
 use Rattle.mvt_wire.specs.Field.{Content, varint, bytes, fixed64, fixed32, Entry}
 use Rattle.mvt_wire.specs.Split.{Whole, split}
 use Rattle.mvt_feature.specs.declared.feature.Feature.{Feature}
 use Rattle.mvt_feature.specs.declared.message_error.MessageError.{MessageError}
 use Rattle.mvt_feature.specs.declared.message_error.MessageError.TheVariants.{Memory, Fault}
 use Rattle.mvt_feature.specs.Faults.{TellsMessage}
-use Rattle.mvt_feature.specs.Features.{IsFeatureOf, number_in, number_of}
+use Rattle.mvt_feature.specs.Features.{number_in, number_of}
 use Rattle.mvt_feature.specs.Ranges.{AreBytes, IsInRange}
 use Rattle.mvt_feature.specs.Forms.{uint32, string, HasForm}
 use Rattle.mvt_feature.specs.Selection.{only, last_only, HaveForm}
 use Rattle.mvt_feature.specs.Valid.{ValidValue, ValidFeature}
-use Rattle.mvt_feature.specs.Values.{IsValueOf}
 use Rattle.mvt_geometry.proofs.GeometryLaws.{old_geometries_stay}
 use Rattle.mvt_wire.proofs.WireLaws.{split_function_only}
 use Rattle.mvt_feature.proofs.FeatureLaws.{read_is_valid_feature, read_is_valid_fields, read_is_valid_value}

@@ -1,4 +1,4 @@
-use Rattle.std.proofs.Common.{◌+◌, ◌∙◌, [], ap, sym, inl, inr, Err, arith}
+use Rattle.std.proofs.Common.{◌∙◌, [], ap, sym, inl, inr, Err, arith}
 use Rattle.mvt_base.specs.declared.TheConstants.{LIMIT}
 use Rattle.mvt_message.proofs.LenLemmas.{features_len_step, features_len_long}
 use Rattle.mvt_message.proofs.PutLemmas.{exit_is, features_full, features_start, placed, pool_full}

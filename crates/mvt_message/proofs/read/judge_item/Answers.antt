@@ -1,4 +1,4 @@
-use Rattle.std.proofs.Common.{◌≡◌, ap, sym, ◌∙◌, Some}
+use Rattle.std.proofs.Common.{sym, ◌∙◌}
 use Rattle.std.proofs.lemmas.Result.{err_from_is_err_and}
 use Rattle.mvt_wire.specs.Split.{split}
 use Rattle.mvt_message.proofs.ReadLemmas.{as_two, head_told, head_whole, layer_told, names_of_layer, names_of_other}
