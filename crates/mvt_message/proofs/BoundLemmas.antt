@@ -5,13 +5,11 @@ use Rattle.std.specs.List.{AllByRecursion, sum_by}
 use Rattle.std.proofs.lemmas.List.Filters.{sum_by-filter_both}
 use Rattle.std.proofs.lemmas.List.Sums.{sum_by-cons, sum_by-append}
 use Rattle.mvt_base.specs.declared.TheConstants.{LIMIT}
-use Rattle.mvt_base.proofs.ListLemmas.{all_weaker, all_both}
 use Rattle.mvt_attrs.specs.declared.value.Attribute.{Attribute}
 use Rattle.mvt_attrs.specs.declared.value.Value.{Value}
 use Rattle.mvt_attrs.specs.FirstUse.{first_use}
 use Rattle.mvt_attrs.specs.TagPlaces.{tags_in, IsIn}
 use Rattle.mvt_attrs.specs.Values.{equal_values}
-use Rattle.mvt_geometry.specs.Valid.{IsValid}
 use Rattle.mvt_wire.specs.Field.{bytes}
 use Rattle.mvt_wire.specs.Spelling.{Plain, short_field, spelled}
 use Rattle.mvt_wire.specs.Varint.{short}
@@ -19,19 +17,18 @@ use Rattle.mvt_feature.specs.declared.feature.Feature.{Feature}
 use Rattle.mvt_feature.specs.Bounds.{feature_bound}
 use Rattle.mvt_feature.specs.Canonical.{feature_fields, value_fields}
 use Rattle.mvt_feature.specs.Valid.{ValidFeature}
+use Rattle.mvt_attrs.proofs.AttrsLaws.{places_name_small}
+use Rattle.mvt_wire.proofs.WireLaws.{short_lengths_field, short_lengths_most, short_lengths_one}
+use Rattle.mvt_feature.proofs.FeatureLaws.{bound_holds as feature_bound_holds}
 use Rattle.mvt_message.specs.declared.item.Item.{Item as AnItem}
 use Rattle.mvt_message.specs.declared.item.Layer.{Layer as ALayer}
 use Rattle.mvt_message.specs.declared.item.Item.TheVariants.{Layer, Foreign}
 use Rattle.mvt_message.specs.Bounds.{attribute_bound, entries_bound, layer_bound, item_bound}
 use Rattle.mvt_message.specs.CanonicalItems.{attributes_of, keys_of, values_of, head_fields, feature_field, key_field, value_field, extent_fields, layer_fields, canonical_item}
 use Rattle.mvt_message.specs.ValidItems.{ValidLayer, ValidItem}
-use Rattle.mvt_message.proofs.CanonicalLemmas.{BytesLonger, PoolsHold, PlacesSmall, count_bytes, features_held}
-use Rattle.mvt_message.proofs.LenLemmas.{ShortOne, ShortMost, FieldLength, head_len, extent_len}
+use Rattle.mvt_message.proofs.CanonicalLemmas.{count_bytes, features_held}
+use Rattle.mvt_message.proofs.LenLemmas.{head_len, extent_len}
 use Rattle.mvt_message.proofs.PutLemmas.{layer_parts}
-
--- what the level below gives
-abbrev pub FeatureBound : Type 0
-FeatureBound = (keys : List (List ℕ)) (values : List Value) (f : Feature) → IsValid f.geometry → AllByRecursion (λ tag. tag < 2 ^ 32) (tags_in keys values f.attributes) → length (spelled (feature_fields (tags_in keys values f.attributes) f)) ≤ feature_bound f
 
 -- first uses are a part of all
 filtered : {A : Type 0} → (p : A → Bool) (size : A → ℕ) (xs : List A) → sum_by size (filter p xs) ≤ sum_by size xs
@@ -47,7 +44,8 @@ first_uses same size (x ∷ xs) =
     omega (arith, others, part, some, all)
 
 -- the lengths of fields, added up
-spelled_sum : {Y : Type 0} → (g : Y → Plain) (ys : List Y) → length (spelled (map g ys)) ≡ sum_by (λ y. length (short_field (g y).number (g y).content)) ys
+spelled_sum : {Y : Type 0} → (g : Y → Plain) (ys : List Y)
+    → length (spelled (map g ys)) ≡ sum_by (λ y. length (short_field (g y).number (g y).content)) ys
 spelled_sum g [] = refl
 spelled_sum g (y ∷ ys) =
     let parts = length-append (short_field (g y).number (g y).content) (spelled (map g ys)) in
@@ -61,7 +59,9 @@ key_size key = length (short_field 3 (bytes key))
 abbrev value_size : Value → ℕ
 value_size value = length (short_field 4 (bytes (spelled (value_fields value))))
 
-entries_sum : (attributes : List Attribute) → sum_by key_size (map (λ (a : Attribute). a.key) attributes) + sum_by value_size (map (λ (a : Attribute). a.value) attributes) ≡ sum_by attribute_bound attributes
+entries_sum : (attributes : List Attribute)
+    → sum_by key_size (map (λ (a : Attribute). a.key) attributes) + sum_by value_size
+    (map (λ (a : Attribute). a.value) attributes) ≡ sum_by attribute_bound attributes
 entries_sum [] = refl
 entries_sum (a ∷ attributes) =
     let keys = sum_by-cons key_size a.key (map (λ (b : Attribute). b.key) attributes) in
@@ -71,7 +71,9 @@ entries_sum (a ∷ attributes) =
     omega (arith, keys, values, others, sums)
 
 -- the pools take no more than an entry for each attribute
-pools_length : (features : List Feature) → length (spelled (map key_field (keys_of features))) + length (spelled (map value_field (values_of features))) ≤ sum_by attribute_bound (attributes_of features)
+pools_length : (features : List Feature)
+    → length (spelled (map key_field (keys_of features))) + length
+    (spelled (map value_field (values_of features))) ≤ sum_by attribute_bound (attributes_of features)
 unfolding keys_of values_of
 pools_length features =
     let attributes = attributes_of features in
@@ -82,7 +84,8 @@ pools_length features =
     let all = entries_sum attributes in
     omega (arith, keys, values, some_keys, some_values, all)
 
-features_sum : (features : List Feature) → sum_by (λ f. 11 + feature_bound f) features + sum_by attribute_bound (attributes_of features) ≡ sum_by entries_bound features
+features_sum : (features : List Feature)
+    → sum_by (λ f. 11 + feature_bound f) features + sum_by attribute_bound (attributes_of features) ≡ sum_by entries_bound features
 features_sum [] = refl
 features_sum (f ∷ features) =
     let payloads = sum_by-cons (λ g. 11 + feature_bound g) f features in
@@ -95,64 +98,72 @@ features_sum (f ∷ features) =
 abbrev IsFineIn : List (List ℕ) → List Value → Feature → Type 0
 IsFineIn keys values f = ValidFeature f × AllByRecursion (λ tag. tag < 2 ^ 32) (tags_in keys values f.attributes)
 
-module _ (short_one : ShortOne) (most : ShortMost) (field_length : FieldLength) where
-  bytes_length : (number : ℕ) (d : List ℕ) → 8 * number + 2 < 128 → length (short_field number (bytes d)) ≤ 11 + length d
-  bytes_length number d small =
-      let whole = field_length number (bytes d) in
-      let tag = short_one (8 * number + 2) small in
-      let size = most (length d) in
-      let parts = length-append (short (length d)) d in
-      omega (arith, whole, tag, size, parts)
+bytes_length : (number : ℕ) (d : List ℕ) → 8 * number + 2 < 128 → length (short_field number (bytes d)) ≤ 11 + length d
+bytes_length number d small =
+    let whole = short_lengths_field number (bytes d) in
+    let tag = short_lengths_one (8 * number + 2) small in
+    let size = short_lengths_most (length d) in
+    let parts = length-append (short (length d)) d in
+    omega (arith, whole, tag, size, parts)
 
-  features_length : FeatureBound → (keys : List (List ℕ)) (values : List Value) (features : List Feature) → AllByRecursion (IsFineIn keys values) features → length (spelled (map (feature_field keys values) features)) ≤ sum_by (λ f. 11 + feature_bound f) features
-  features_length bound keys values [] fine = omega arith
-  features_length bound keys values (f ∷ features) fine =
-      let payload = spelled (feature_fields (tags_in keys values f.attributes) f) in
-      let parts = length-append (short_field 2 (bytes payload)) (spelled (map (feature_field keys values) features)) in
-      let one = bytes_length 2 payload (lit< tt) in
-      let few = bound keys values f fine.0.0.drawn fine.0.1 in
-      let others = features_length bound keys values features fine.1 in
-      let sums = sum_by-cons (λ g. 11 + feature_bound g) f features in
-      omega (arith, parts, one, few, others, sums)
+features_length : (keys : List (List ℕ)) (values : List Value) (features : List Feature) → AllByRecursion (IsFineIn keys values) features
+    → length (spelled (map (feature_field keys values) features)) ≤ sum_by (λ f. 11 + feature_bound f) features
+features_length keys values [] fine = omega arith
+features_length keys values (f ∷ features) fine =
+    let payload = spelled (feature_fields (tags_in keys values f.attributes) f) in
+    let parts = length-append (short_field 2 (bytes payload)) (spelled (map (feature_field keys values) features)) in
+    let one = bytes_length 2 payload (lit< tt) in
+    let few = feature_bound_holds keys values f fine.0.0.drawn fine.0.1 in
+    let others = features_length keys values features fine.1 in
+    let sums = sum_by-cons (λ g. 11 + feature_bound g) f features in
+    omega (arith, parts, one, few, others, sums)
 
-  layer_length : FeatureBound → (layer : ALayer) → AllByRecursion (IsFineIn (keys_of layer.features) (values_of layer.features)) layer.features → length (spelled (layer_fields layer)) ≤ layer_bound layer
-  layer_length bound layer fine =
-      let features = layer.features in
-      let H = spelled (head_fields layer.name) in
-      let F = spelled (map (feature_field (keys_of features) (values_of features)) features) in
-      let K = spelled (map key_field (keys_of features)) in
-      let V = spelled (map value_field (values_of features)) in
-      let E = spelled (extent_fields layer.extent) in
-      let whole = ap length (layer_parts layer) ∙ length-append H (F ++ (K ++ (V ++ E))) in
-      let behind = length-append F (K ++ (V ++ E)) in
-      let pools = length-append K (V ++ E) in
-      let last = length-append V E in
-      let head = head_len short_one field_length layer.name in
-      let name = bytes_length 1 layer.name (lit< tt) in
-      let payloads = features_length bound (keys_of features) (values_of features) features fine in
-      let entries = pools_length features in
-      let sums = features_sum features in
-      let extent = extent_len short_one field_length layer.extent in
-      let number = most layer.extent in
-      omega (arith, whole, behind, pools, last, head, name, payloads, entries, sums, extent, number)
+layer_length : (layer : ALayer) → AllByRecursion (IsFineIn (keys_of layer.features) (values_of layer.features)) layer.features
+    → length (spelled (layer_fields layer)) ≤ layer_bound layer
+layer_length layer fine =
+    let features = layer.features in
+    let H = spelled (head_fields layer.name) in
+    let F = spelled (map (feature_field (keys_of features) (values_of features)) features) in
+    let K = spelled (map key_field (keys_of features)) in
+    let V = spelled (map value_field (values_of features)) in
+    let E = spelled (extent_fields layer.extent) in
+    let whole = ap length (layer_parts layer) ∙ length-append H (F ++ (K ++ (V ++ E))) in
+    let behind = length-append F (K ++ (V ++ E)) in
+    let pools = length-append K (V ++ E) in
+    let last = length-append V E in
+    let head = head_len layer.name in
+    let name = bytes_length 1 layer.name (lit< tt) in
+    let payloads = features_length (keys_of features) (values_of features) features fine in
+    let entries = pools_length features in
+    let sums = features_sum features in
+    let extent = extent_len layer.extent in
+    let number = short_lengths_most layer.extent in
+    omega (arith, whole, behind, pools, last, head, name, payloads, entries, sums, extent, number)
 
-  -- within the limit the pools have few entries, and tags have 32 bits
-  all_fine : BytesLonger → PoolsHold → PlacesSmall → (layer : ALayer) → AllByRecursion ValidFeature layer.features → layer_bound layer ≤ LIMIT → AllByRecursion (IsFineIn (keys_of layer.features) (values_of layer.features)) layer.features
-  all_fine longer hold places layer valid small =
-      let features = layer.features in
-      let keys = keys_of features in
-      let values = values_of features in
-      let entries = pools_length features in
-      let sums = features_sum features in
-      let key_count = count_bytes longer 3 (λ key. key) keys in
-      let value_count = count_bytes longer 4 (λ value. spelled (value_fields value)) values in
-      let few_keys : length keys ≤ 2 ^ 32 = omega (arith, entries, sums, key_count, small) in
-      let few_values : length values ≤ 2 ^ 32 = omega (arith, entries, sums, value_count, small) in
-      all_both ValidFeature (λ (f : Feature). AllByRecursion (λ tag. tag < 2 ^ 32) (tags_in keys values f.attributes)) features valid
-      (all_weaker (λ (f : Feature). AllByRecursion (IsIn keys values) f.attributes) (λ (f : Feature). AllByRecursion (λ tag. tag < 2 ^ 32) (tags_in keys values f.attributes)) (λ f is. places keys values f.attributes (2 ^ 32) is few_keys few_values) features (features_held hold features))
+fine_in : (keys : List (List ℕ)) (values : List Value) (features : List Feature) → length keys ≤ 2 ^ 32 → length values ≤ 2 ^ 32
+    → AllByRecursion ValidFeature features → AllByRecursion (λ (f : Feature). AllByRecursion (IsIn keys values) f.attributes) features
+    → AllByRecursion (IsFineIn keys values) features
+fine_in keys values [] few_keys few_values valid held = tt
+fine_in keys values (f ∷ fs) few_keys few_values valid held =
+    let tags = places_name_small keys values f.attributes (2 ^ 32) held.0 few_keys few_values in
+    ((valid.0, tags), fine_in keys values fs few_keys few_values valid.1 held.1)
 
-  pub bound_holds_lem : BytesLonger → PoolsHold → PlacesSmall → FeatureBound → (item : AnItem) → ValidItem item → item_bound item ≤ LIMIT → length (canonical_item item) ≤ item_bound item
-  unfolding canonical_item ValidItem ValidLayer
-  bound_holds_lem longer hold places bound (Layer layer) valid small =
-      layer_length bound layer (all_fine longer hold places layer valid.2 small)
-  bound_holds_lem longer hold places bound (Foreign version content) valid small = omega arith
+-- within the limit the pools have few entries, and tags have 32 bits
+all_fine : (layer : ALayer) → AllByRecursion ValidFeature layer.features → layer_bound layer ≤ LIMIT
+    → AllByRecursion (IsFineIn (keys_of layer.features) (values_of layer.features)) layer.features
+all_fine layer valid small =
+    let features = layer.features in
+    let keys = keys_of features in
+    let values = values_of features in
+    let entries = pools_length features in
+    let sums = features_sum features in
+    let key_count = count_bytes 3 (λ key. key) keys in
+    let value_count = count_bytes 4 (λ value. spelled (value_fields value)) values in
+    let few_keys : length keys ≤ 2 ^ 32 = omega (arith, entries, sums, key_count, small) in
+    let few_values : length values ≤ 2 ^ 32 = omega (arith, entries, sums, value_count, small) in
+    fine_in keys values features few_keys few_values valid (features_held features)
+
+pub bound_holds_lem : (item : AnItem) → ValidItem item → item_bound item ≤ LIMIT → length (canonical_item item) ≤ item_bound item
+unfolding canonical_item ValidItem ValidLayer
+bound_holds_lem (Layer layer) valid small = layer_length layer (all_fine layer valid.2 small)
+bound_holds_lem (Foreign version content) valid small = omega arith

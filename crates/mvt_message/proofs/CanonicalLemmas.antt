@@ -5,16 +5,16 @@ use Rattle.std.specs.List.{AllByRecursion, last_or}
 use Rattle.std.specs.Option.{option_map}
 use Rattle.std.proofs.lemmas.Bool.{eq-eqb}
 use Rattle.std.proofs.lemmas.Grind.{flat_map-append}
+use Rattle.mvt_base.specs.declared.TheConstants.{LIMIT}
 use Rattle.mvt_base.specs.Related.{AreRelated}
-use Rattle.mvt_base.proofs.ListLemmas.{all_weaker, all_joined, all_left, all_right, all_mapped, all_unmapped, all_both}
+use Rattle.mvt_base.proofs.ListLemmas.{all_weaker, all_joined, all_left, all_right, all_mapped, all_unmapped}
 use Rattle.mvt_base.proofs.SelectionLemmas.{all_only}
 use Rattle.mvt_attrs.specs.declared.value.Attribute.{Attribute}
 use Rattle.mvt_attrs.specs.declared.value.Value.{Value}
 use Rattle.mvt_attrs.specs.Pools.{key_pool, value_pool}
-use Rattle.mvt_attrs.specs.Tags.{Names}
 use Rattle.mvt_attrs.specs.TagPlaces.{tags_in, IsIn}
 use Rattle.mvt_wire.specs.Field.{Content, varint, bytes, fixed64, fixed32, Entry}
-use Rattle.mvt_wire.specs.Spelling.{Plain, plain_of, short_field, spelled, IsFit, FitsContent, IsWholeAs}
+use Rattle.mvt_wire.specs.Spelling.{Plain, plain_of, short_field, spelled, IsFit, FitsContent}
 use Rattle.mvt_feature.specs.declared.feature.Feature.{Feature}
 use Rattle.mvt_feature.specs.Canonical.{plain, value_fields, feature_fields}
 use Rattle.mvt_feature.specs.Features.{IsFeatureOf, number_in, number_of}
@@ -22,6 +22,9 @@ use Rattle.mvt_feature.specs.Forms.{uint32, string, message, HasForm}
 use Rattle.mvt_feature.specs.Selection.{only, HaveForm}
 use Rattle.mvt_feature.specs.Valid.{ValidValue, ValidAttribute, ValidFeature}
 use Rattle.mvt_feature.specs.Values.{IsValueOf}
+use Rattle.mvt_attrs.proofs.AttrsLaws.{places_name_names, places_name_small, pool_entries_from_keys, pool_entries_from_values, pools_hold}
+use Rattle.mvt_wire.proofs.WireLaws.{short_lengths_bytes, spelled_whole_whole}
+use Rattle.mvt_feature.proofs.FeatureLaws.{canonical_reads_feature, canonical_reads_value}
 use Rattle.mvt_message.specs.declared.numbers.layer.TheConstants.{NAME, FEATURES, KEYS, VALUES, EXTENT, VERSION}
 use Rattle.mvt_message.specs.declared.item.Item.{Item as AnItem}
 use Rattle.mvt_message.specs.declared.item.Layer.{Layer as ALayer}
@@ -36,11 +39,17 @@ abbrev contents_at : ℕ → List Plain → List Content
 contents_at k [] = []
 contents_at k (p ∷ ps) = if p.number == k then p.content ∷ contents_at k ps else contents_at k ps
 
-only_contents : (k : ℕ) (xs : List Entry) → map (λ (x : Entry). x.content) (only k xs) ≡ contents_at k (map plain_of xs)
+-- and of entries
+abbrev contents_of : ℕ → List Entry → List Content
+contents_of k xs = map (λ (x : Entry). x.content) (only k xs)
+
+only_contents : (k : ℕ) (xs : List Entry) → contents_of k xs ≡ contents_at k (map plain_of xs)
 only_contents k [] = refl
 only_contents k (x ∷ xs) = by_test (x.number == k) (only_contents k xs)
   where
-    by_test : (b : Bool) → map (λ (y : Entry). y.content) (only k xs) ≡ contents_at k (map plain_of xs) → map (λ (y : Entry). y.content) (if b then x ∷ only k xs else only k xs) ≡ (if b then x.content ∷ contents_at k (map plain_of xs) else contents_at k (map plain_of xs))
+    by_test : (b : Bool) → contents_of k xs ≡ contents_at k (map plain_of xs)
+        → map (λ (y : Entry). y.content) (if b then x ∷ only k xs else only k xs)
+        ≡ (if b then x.content ∷ contents_at k (map plain_of xs) else contents_at k (map plain_of xs))
     by_test true h = ap (λ l. x.content ∷ l) h
     by_test false h = h
 
@@ -48,7 +57,9 @@ contents-append : (k : ℕ) (ps qs : List Plain) → contents_at k (ps ++ qs) �
 contents-append k [] qs = refl
 contents-append k (p ∷ ps) qs = by_test (p.number == k) (contents-append k ps qs)
   where
-    by_test : (b : Bool) → contents_at k (ps ++ qs) ≡ contents_at k ps ++ contents_at k qs → (if b then p.content ∷ contents_at k (ps ++ qs) else contents_at k (ps ++ qs)) ≡ (if b then p.content ∷ contents_at k ps else contents_at k ps) ++ contents_at k qs
+    by_test : (b : Bool) → contents_at k (ps ++ qs) ≡ contents_at k ps ++ contents_at k qs
+        → (if b then p.content ∷ contents_at k (ps ++ qs) else contents_at k (ps ++ qs)) ≡
+        (if b then p.content ∷ contents_at k ps else contents_at k ps) ++ contents_at k qs
     by_test true h = ap (λ l. p.content ∷ l) h
     by_test false h = h
 
@@ -59,12 +70,14 @@ all_of k g ys = map (λ y. plain k (bytes (g y))) ys
 contents_same : {Y : Type 0} → (k : ℕ) (g : Y → List ℕ) (ys : List Y) → contents_at k (all_of k g ys) ≡ map (λ y. bytes (g y)) ys
 contents_same k g [] = refl
 contents_same k g (y ∷ ys) =
-    ap (λ (b : Bool). if b then bytes (g y) ∷ contents_at k (all_of k g ys) else contents_at k (all_of k g ys)) (eq-eqb k k refl) ∙ ap (λ l. bytes (g y) ∷ l) (contents_same k g ys)
+    ap (λ (b : Bool). if b then bytes (g y) ∷ contents_at k (all_of k g ys) else contents_at k (all_of k g ys)) (eq-eqb k k refl)
+    ∙ ap (λ l. bytes (g y) ∷ l) (contents_same k g ys)
 
 contents_other : {Y : Type 0} → (j k : ℕ) (g : Y → List ℕ) (ys : List Y) → (j == k) ≡ false → contents_at k (all_of j g ys) ≡ []
 contents_other j k g [] other = refl
 contents_other j k g (y ∷ ys) other =
-    ap (λ (b : Bool). if b then bytes (g y) ∷ contents_at k (all_of j g ys) else contents_at k (all_of j g ys)) other ∙ contents_other j k g ys other
+    ap (λ (b : Bool). if b then bytes (g y) ∷ contents_at k (all_of j g ys) else contents_at k (all_of j g ys)) other
+    ∙ contents_other j k g ys other
 
 abbrev feature_bytes : List (List ℕ) → List Value → Feature → List ℕ
 feature_bytes keys values f = spelled (feature_fields (tags_in keys values f.attributes) f)
@@ -78,16 +91,26 @@ same_bytes key = key
 -- the fields behind the name
 abbrev tail : List (List ℕ) → List Value → List Feature → ℕ → List Plain
 tail keys values features extent =
-    all_of FEATURES (feature_bytes keys values) features ++ (all_of KEYS same_bytes keys ++ (all_of VALUES value_bytes values ++ extent_fields extent))
+    all_of FEATURES (feature_bytes keys values) features ++
+    (all_of KEYS same_bytes keys ++ (all_of VALUES value_bytes values ++ extent_fields extent))
 
-tail_contents : (k : ℕ) (keys : List (List ℕ)) (values : List Value) (features : List Feature) (extent : ℕ) (a b c : List Content) → contents_at k (all_of FEATURES (feature_bytes keys values) features) ≡ a → contents_at k (all_of KEYS same_bytes keys) ≡ b → contents_at k (all_of VALUES value_bytes values) ≡ c → contents_at k (tail keys values features extent) ≡ a ++ (b ++ (c ++ contents_at k (extent_fields extent)))
+tail_contents : (k : ℕ) (keys : List (List ℕ)) (values : List Value) (features : List Feature) (extent : ℕ) (a b c : List Content)
+    → contents_at k (all_of FEATURES (feature_bytes keys values) features) ≡ a → contents_at k (all_of KEYS same_bytes keys) ≡ b
+    → contents_at k (all_of VALUES value_bytes values) ≡ c
+    → contents_at k (tail keys values features extent) ≡ a ++ (b ++ (c ++ contents_at k (extent_fields extent)))
 tail_contents k keys values features extent a b c ea eb ec =
-    contents-append k (all_of FEATURES (feature_bytes keys values) features) _ ∙ ap₂ (λ x y. x ++ y) ea (contents-append k (all_of KEYS same_bytes keys) _ ∙ ap₂ (λ x y. x ++ y) eb (contents-append k (all_of VALUES value_bytes values) (extent_fields extent) ∙ ap (λ x. x ++ contents_at k (extent_fields extent)) ec))
+    contents-append k (all_of FEATURES (feature_bytes keys values) features) _
+    ∙ ap₂ (λ x y. x ++ y) ea (contents-append k (all_of KEYS same_bytes keys) _
+    ∙ ap₂ (λ x y. x ++ y) eb (contents-append k (all_of VALUES value_bytes values) (extent_fields extent)
+    ∙ ap (λ x. x ++ contents_at k (extent_fields extent)) ec))
 
 -- no field of another number stands behind the name
-tail_none : (k : ℕ) (keys : List (List ℕ)) (values : List Value) (features : List Feature) (extent : ℕ) → (FEATURES == k) ≡ false → (KEYS == k) ≡ false → (VALUES == k) ≡ false → contents_at k (tail keys values features extent) ≡ contents_at k (extent_fields extent)
+tail_none : (k : ℕ) (keys : List (List ℕ)) (values : List Value) (features : List Feature) (extent : ℕ) → (FEATURES == k) ≡ false
+    → (KEYS == k) ≡ false → (VALUES == k) ≡ false
+    → contents_at k (tail keys values features extent) ≡ contents_at k (extent_fields extent)
 tail_none k keys values features extent two three four =
-    tail_contents k keys values features extent [] [] [] (contents_other FEATURES k (feature_bytes keys values) features two) (contents_other KEYS k same_bytes keys three) (contents_other VALUES k value_bytes values four)
+    tail_contents k keys values features extent [] [] [] (contents_other FEATURES k (feature_bytes keys values) features two)
+    (contents_other KEYS k same_bytes keys three) (contents_other VALUES k value_bytes values four)
 
 -- the one field of a number
 one_content : (xs : List Entry) (c : Content) → map (λ (x : Entry). x.content) xs ≡ c ∷ [] → (x : Entry) × (xs ≡ x ∷ []) × (x.content ≡ c)
@@ -95,12 +118,16 @@ one_content [] c h = cc
 one_content (x ∷ []) c h = (x, refl, cc)
 one_content (x ∷ y ∷ xs) c h = cc
 
-form_contents : (k : ℕ) (P : Content → Type 0) (xs : List Entry) (cs : List Content) → map (λ (x : Entry). x.content) (only k xs) ≡ cs → AllByRecursion P cs → HaveForm k P xs
+form_contents : (k : ℕ) (P : Content → Type 0) (xs : List Entry) (cs : List Content) → contents_of k xs ≡ cs
+    → AllByRecursion P cs → HaveForm k P xs
 form_contents k P xs cs is all =
-    all_only (λ (x : Entry). x.number) (λ (x : Entry). P x.content) k xs (all_unmapped (λ (x : Entry). x.content) P (only k xs) (subst (AllByRecursion P) (sym is) all))
+    let held = all_unmapped (λ (x : Entry). x.content) P (only k xs) (subst (AllByRecursion P) (sym is) all) in
+    all_only (λ (x : Entry). x.number) (λ (x : Entry). P x.content) k xs held
 
 -- bytes fields, and what each of them holds
-related_contents : {Y : Type 0} → (g : Y → List ℕ) (R : List ℕ → Y → Type 0) (xs : List Entry) (ys : List Y) → map (λ (x : Entry). x.content) xs ≡ map (λ y. bytes (g y)) ys → AllByRecursion (λ y. R (g y) y) ys → AreRelated (λ (x : Entry) y. R (bytes_of x.content) y) xs ys
+related_contents : {Y : Type 0} → (g : Y → List ℕ) (R : List ℕ → Y → Type 0) (xs : List Entry) (ys : List Y)
+    → map (λ (x : Entry). x.content) xs ≡ map (λ y. bytes (g y)) ys → AllByRecursion (λ y. R (g y) y) ys
+    → AreRelated (λ (x : Entry) y. R (bytes_of x.content) y) xs ys
 related_contents g R [] [] h all = tt
 related_contents g R [] (y ∷ ys) h all = cc
 related_contents g R (x ∷ xs) [] h all = cc
@@ -109,7 +136,8 @@ related_contents g R (x ∷ xs) (y ∷ ys) h all =
     let later : map (λ (z : Entry). z.content) xs ≡ map (λ y'. bytes (g y')) ys = cc in
     (subst (λ c. R (bytes_of c) y) (sym here) all.0, related_contents g R xs ys later all.1)
 
-keys_are : (xs : List Entry) (keys : List (List ℕ)) → map (λ (x : Entry). x.content) xs ≡ map (λ key. bytes (same_bytes key)) keys → map (λ (x : Entry). bytes_of x.content) xs ≡ keys
+keys_are : (xs : List Entry) (keys : List (List ℕ)) → map (λ (x : Entry). x.content) xs ≡ map (λ key. bytes (same_bytes key)) keys
+    → map (λ (x : Entry). bytes_of x.content) xs ≡ keys
 keys_are [] [] h = refl
 keys_are [] (k ∷ ks) h = cc
 keys_are (x ∷ xs) [] h = cc
@@ -118,49 +146,83 @@ keys_are (x ∷ xs) (k ∷ ks) h =
     let later : map (λ (z : Entry). z.content) xs ≡ map (λ key. bytes (same_bytes key)) ks = cc in
     ap₂ (λ c l. bytes_of c ∷ l) here (keys_are xs ks later)
 
-bytes_all : {Y : Type 0} → (P : Content → Type 0) (g : Y → List ℕ) (ys : List Y) → AllByRecursion (λ y. P (bytes (g y))) ys → AllByRecursion P (map (λ y. bytes (g y)) ys)
+bytes_all : {Y : Type 0} → (P : Content → Type 0) (g : Y → List ℕ) (ys : List Y) → AllByRecursion (λ y. P (bytes (g y))) ys
+    → AllByRecursion P (map (λ y. bytes (g y)) ys)
 bytes_all P g ys h = all_mapped (λ y. bytes (g y)) P ys h
 
 all_true : {Y : Type 0} → (ys : List Y) → AllByRecursion (λ _. ⊤) ys
 all_true [] = tt
 all_true (y ∷ ys) = (tt, all_true ys)
 
+-- what stands in the fields of each number
+record AreContents (keys : List (List ℕ)) (values : List Value) (layer : ALayer) (xs : List Entry) : Type 0 where
+  version : contents_of VERSION xs ≡ varint 2 ∷ []
+  name : contents_of NAME xs ≡ bytes layer.name ∷ []
+  extent : contents_of EXTENT xs ≡ varint layer.extent ∷ []
+  features : contents_of FEATURES xs ≡ map (λ f. bytes (feature_bytes keys values f)) layer.features
+  keys_are : contents_of KEYS xs ≡ map (λ key. bytes (same_bytes key)) keys
+  values_are : contents_of VALUES xs ≡ map (λ v. bytes (value_bytes v)) values
+
+are_contents : (keys : List (List ℕ)) (values : List Value) (layer : ALayer) (xs : List Entry)
+    → map plain_of xs ≡ fields_with keys values layer → AreContents keys values layer xs
+are_contents keys values layer xs is =
+    let at = λ (k : ℕ). only_contents k xs ∙ ap (contents_at k) is in
+    let none = λ (k : ℕ). tail_none k keys values layer.features layer.extent in
+    let parts = λ (k : ℕ). tail_contents k keys values layer.features layer.extent in
+    let features = contents_same FEATURES (feature_bytes keys values) layer.features in
+    let no_features = λ (k : ℕ). contents_other FEATURES k (feature_bytes keys values) layer.features in
+    let no_keys = λ (k : ℕ). contents_other KEYS k same_bytes keys in
+    let no_values = λ (k : ℕ). contents_other VALUES k value_bytes values in
+    record {
+      version = at VERSION ∙ ap (λ l. varint 2 ∷ l) (none VERSION refl refl refl);
+      name = at NAME ∙ ap (λ l. bytes layer.name ∷ l) (none NAME refl refl refl);
+      extent = at EXTENT ∙ none EXTENT refl refl refl;
+      features = at FEATURES ∙ parts FEATURES _ [] [] features (no_keys FEATURES refl) (no_values FEATURES refl) ∙ append-nil _;
+      keys_are = at KEYS ∙ parts KEYS [] _ [] (no_features KEYS refl) (contents_same KEYS same_bytes keys) (no_values KEYS refl)
+          ∙ append-nil _;
+      values_are = at VALUES
+          ∙ parts VALUES [] [] _ (no_features VALUES refl) (no_keys VALUES refl) (contents_same VALUES value_bytes values)
+          ∙ append-nil _;
+    }
+
 -- the fields of a layer, wherever they stand, are the layer
-pub layer_is : (xs : List Entry) (keys : List (List ℕ)) (values : List Value) (layer : ALayer) → map plain_of xs ≡ fields_with keys values layer → IsUtf8 layer.name → layer.extent < 2 ^ 32 → AllByRecursion IsUtf8 keys → AllByRecursion (λ v. IsValueOf (value_bytes v) v) values → AllByRecursion (λ f. IsFeatureOf (feature_bytes keys values f) keys values f) layer.features
+pub layer_is : (xs : List Entry) (keys : List (List ℕ)) (values : List Value) (layer : ALayer)
+    → map plain_of xs ≡ fields_with keys values layer → IsUtf8 layer.name → layer.extent < 2 ^ 32 → AllByRecursion IsUtf8 keys
+    → AllByRecursion (λ v. IsValueOf (value_bytes v) v) values
+    → AllByRecursion (λ f. IsFeatureOf (feature_bytes keys values f) keys values f) layer.features
     → HaveForm VERSION (HasForm uint32) xs × (version_in xs ≡ Some 2) × IsLayer xs layer
 layer_is xs keys values layer is name extent texts hold features =
-    let at = λ (k : ℕ). only_contents k xs ∙ ap (contents_at k) is in
-    let versions : map (λ (x : Entry). x.content) (only VERSION xs) ≡ varint 2 ∷ [] = at VERSION ∙ ap (λ l. varint 2 ∷ l) (tail_none VERSION keys values layer.features layer.extent refl refl refl) in
-    let names : map (λ (x : Entry). x.content) (only NAME xs) ≡ bytes layer.name ∷ [] = at NAME ∙ ap (λ l. bytes layer.name ∷ l) (tail_none NAME keys values layer.features layer.extent refl refl refl) in
-    let extents : map (λ (x : Entry). x.content) (only EXTENT xs) ≡ varint layer.extent ∷ [] = at EXTENT ∙ tail_none EXTENT keys values layer.features layer.extent refl refl refl in
-    let messages : map (λ (x : Entry). x.content) (only FEATURES xs) ≡ map (λ f. bytes (feature_bytes keys values f)) layer.features = at FEATURES ∙ tail_contents FEATURES keys values layer.features layer.extent _ [] [] (contents_same FEATURES (feature_bytes keys values) layer.features) (contents_other KEYS FEATURES same_bytes keys refl) (contents_other VALUES FEATURES value_bytes values refl) ∙ append-nil _ in
-    let key_texts : map (λ (x : Entry). x.content) (only KEYS xs) ≡ map (λ key. bytes (same_bytes key)) keys = at KEYS ∙ tail_contents KEYS keys values layer.features layer.extent [] _ [] (contents_other FEATURES KEYS (feature_bytes keys values) layer.features refl) (contents_same KEYS same_bytes keys) (contents_other VALUES KEYS value_bytes values refl) ∙ append-nil _ in
-    let pool : map (λ (x : Entry). x.content) (only VALUES xs) ≡ map (λ v. bytes (value_bytes v)) values = at VALUES ∙ tail_contents VALUES keys values layer.features layer.extent [] [] _ (contents_other FEATURES VALUES (feature_bytes keys values) layer.features refl) (contents_other KEYS VALUES same_bytes keys refl) (contents_same VALUES value_bytes values) ∙ append-nil _ in
-    let version = one_content (only VERSION xs) (varint 2) versions in
-    let the_name = one_content (only NAME xs) (bytes layer.name) names in
-    let the_extent = one_content (only EXTENT xs) (varint layer.extent) extents in
-    let same_keys : keys_in xs ≡ keys = keys_are (only KEYS xs) keys key_texts in (
-      form_contents VERSION (HasForm uint32) xs (varint 2 ∷ []) versions (lit< tt, tt),
+    let at = are_contents keys values layer xs is in
+    let version = one_content (only VERSION xs) (varint 2) at.version in
+    let the_name = one_content (only NAME xs) (bytes layer.name) at.name in
+    let the_extent = one_content (only EXTENT xs) (varint layer.extent) at.extent in
+    let messages = bytes_all (HasForm message) (feature_bytes keys values) layer.features (all_true layer.features) in
+    let values_form = bytes_all (HasForm message) value_bytes values (all_true values) in
+    let same_keys : keys_in xs ≡ keys = keys_are (only KEYS xs) keys at.keys_are in
+    let are = related_contents (feature_bytes keys values) (λ b f. IsFeatureOf b keys values f) (only FEATURES xs) layer.features at.features features in (
+      form_contents VERSION (HasForm uint32) xs (varint 2 ∷ []) at.version (lit< tt, tt),
       ap (λ l. number_in (last_or None l)) version.1 ∙ ap number_of version.2,
       record {
         forms = (
-          form_contents NAME (HasForm string) xs (bytes layer.name ∷ []) names (name, tt),
+          form_contents NAME (HasForm string) xs (bytes layer.name ∷ []) at.name (name, tt),
           (
-            form_contents FEATURES (HasForm message) xs _ messages (bytes_all (HasForm message) (feature_bytes keys values) layer.features (all_true layer.features)),
+            form_contents FEATURES (HasForm message) xs _ at.features messages,
             (
-              form_contents KEYS (HasForm string) xs _ key_texts (bytes_all (HasForm string) same_bytes keys texts),
+              form_contents KEYS (HasForm string) xs _ at.keys_are (bytes_all (HasForm string) same_bytes keys texts),
               (
-                form_contents VALUES (HasForm message) xs _ pool (bytes_all (HasForm message) value_bytes values (all_true values)),
-                (form_contents EXTENT (HasForm uint32) xs (varint layer.extent ∷ []) extents (extent, tt), tt),
+                form_contents VALUES (HasForm message) xs _ at.values_are values_form,
+                (form_contents EXTENT (HasForm uint32) xs (varint layer.extent ∷ []) at.extent (extent, tt), tt),
               ),
             ),
           ),
         );
-        name = ap (λ l. option_map (λ (x : Entry). bytes_of x.content) (last_or None l)) the_name.1 ∙ ap (λ c. Some (bytes_of c)) the_name.2;
-        extent = sym (ap (λ l. unwrap_or (number_in (last_or None l)) 4096) the_extent.1 ∙ ap (λ c. unwrap_or (number_of c) 4096) the_extent.2);
+        name = ap (λ l. option_map (λ (x : Entry). bytes_of x.content) (last_or None l)) the_name.1
+            ∙ ap (λ c. Some (bytes_of c)) the_name.2;
+        extent = sym (ap (λ l. unwrap_or (number_in (last_or None l)) 4096) the_extent.1
+            ∙ ap (λ c. unwrap_or (number_of c) 4096) the_extent.2);
         values = values;
-        values_are = related_contents value_bytes (λ b v. IsValueOf b v) (only VALUES xs) values pool hold;
-        features = subst (λ ks. AreRelated (HoldsFeature ks values) (only FEATURES xs) layer.features) (sym same_keys) (related_contents (feature_bytes keys values) (λ b f. IsFeatureOf b keys values f) (only FEATURES xs) layer.features messages features);
+        values_are = related_contents value_bytes (λ b v. IsValueOf b v) (only VALUES xs) values at.values_are hold;
+        features = subst (λ ks. AreRelated (HoldsFeature ks values) (only FEATURES xs) layer.features) (sym same_keys) are;
       },
     )
 
@@ -176,44 +238,50 @@ record IsFine (p : Plain) : Type 0 where
   last : p.number < 2 ^ 29
   content : FineContent p.content
 
-abbrev pub BytesLonger : Type 0
-BytesLonger = (number : ℕ) (d : List ℕ) → length d + 2 ≤ length (short_field number (bytes d))
-
-fit : BytesLonger → (p : Plain) (n : ℕ) → IsFine p → length (short_field p.number p.content) ≤ n → n < 2 ^ 64 → IsFit p
-fit longer p n fine within small = record { first = fine.first; last = fine.last; content = of_content p.content fine.content within }
+fit : (p : Plain) (n : ℕ) → IsFine p → length (short_field p.number p.content) ≤ n → n < 2 ^ 64 → IsFit p
+fit p n fine within small = record { first = fine.first; last = fine.last; content = of_content p.content fine.content within }
   where
     of_content : (c : Content) → FineContent c → length (short_field p.number c) ≤ n → FitsContent c
     of_content (varint m) h le = h
     of_content (fixed64 m) h le = h
-    of_content (bytes d) h le = let more = longer p.number d in omega arith
+    of_content (bytes d) h le = let more = short_lengths_bytes p.number d in omega arith
     of_content (fixed32 m) h le = h
 
-all_fit : BytesLonger → (ps : List Plain) → AllByRecursion IsFine ps → length (spelled ps) < 2 ^ 64 → AllByRecursion IsFit ps
-all_fit longer [] fine small = tt
-all_fit longer (p ∷ ps) fine small =
+all_fit : (ps : List Plain) → AllByRecursion IsFine ps → length (spelled ps) < 2 ^ 64 → AllByRecursion IsFit ps
+all_fit [] fine small = tt
+all_fit (p ∷ ps) fine small =
     let size = length-append (short_field p.number p.content) (spelled ps) in
-    (fit longer p (length (short_field p.number p.content)) fine.0 (omega arith) (omega (arith, size)), all_fit longer ps fine.1 (omega (arith, size)))
+    (fit p (length (short_field p.number p.content)) fine.0 (omega arith) (omega (arith, size)), all_fit ps fine.1 (omega (arith, size)))
 
 fine_bytes : {Y : Type 0} → (k : ℕ) (g : Y → List ℕ) (ys : List Y) → 1 ≤ k → k < 2 ^ 29 → AllByRecursion IsFine (all_of k g ys)
 fine_bytes k g [] low high = tt
 fine_bytes k g (y ∷ ys) low high = (record { first = low; last = high; content = tt }, fine_bytes k g ys low high)
 
-layer_fine : (keys : List (List ℕ)) (values : List Value) (layer : ALayer) → layer.extent < 2 ^ 32 → AllByRecursion IsFine (fields_with keys values layer)
+layer_fine : (keys : List (List ℕ)) (values : List Value) (layer : ALayer) → layer.extent < 2 ^ 32
+    → AllByRecursion IsFine (fields_with keys values layer)
 layer_fine keys values layer small =
+    let version : IsFine (plain VERSION (varint 2)) = record { first = lit≤ tt; last = lit< tt; content = lit< tt } in
+    let name : IsFine (plain NAME (bytes layer.name)) = record { first = lit≤ tt; last = lit< tt; content = tt } in
     let extent : IsFine (plain EXTENT (varint layer.extent)) = record { first = lit≤ tt; last = lit< tt; content = omega arith } in
-    (record { first = lit≤ tt; last = lit< tt; content = lit< tt }, (record { first = lit≤ tt; last = lit< tt; content = tt }, all_joined IsFine (all_of FEATURES (feature_bytes keys values) layer.features) _ (fine_bytes FEATURES (feature_bytes keys values) layer.features (lit≤ tt) (lit< tt)) (all_joined IsFine (all_of KEYS same_bytes keys) _ (fine_bytes KEYS same_bytes keys (lit≤ tt) (lit< tt)) (all_joined IsFine (all_of VALUES value_bytes values) (extent_fields layer.extent) (fine_bytes VALUES value_bytes values (lit≤ tt) (lit< tt)) (extent, tt)))))
+    let features = fine_bytes FEATURES (feature_bytes keys values) layer.features (lit≤ tt) (lit< tt) in
+    let key_fields = fine_bytes KEYS same_bytes keys (lit≤ tt) (lit< tt) in
+    let value_fields = fine_bytes VALUES value_bytes values (lit≤ tt) (lit< tt) in
+    let last = all_joined IsFine (all_of VALUES value_bytes values) (extent_fields layer.extent) value_fields (extent, tt) in
+    let pools = all_joined IsFine (all_of KEYS same_bytes keys) _ key_fields last in
+    (version, (name, all_joined IsFine (all_of FEATURES (feature_bytes keys values) layer.features) _ features pools))
 
 -- the sizes of the payloads
-sizes : {Y : Type 0} → (k : ℕ) (g : Y → List ℕ) (ys : List Y) → AllByRecursion IsFit (all_of k g ys) → AllByRecursion (λ y. length (g y) < 2 ^ 64) ys
+sizes : {Y : Type 0} → (k : ℕ) (g : Y → List ℕ) (ys : List Y) → AllByRecursion IsFit (all_of k g ys)
+    → AllByRecursion (λ y. length (g y) < 2 ^ 64) ys
 sizes k g [] h = tt
 sizes k g (y ∷ ys) h = (h.0.content, sizes k g ys h.1)
 
-pub count_bytes : {Y : Type 0} → BytesLonger → (k : ℕ) (g : Y → List ℕ) (ys : List Y) → 2 * length ys ≤ length (spelled (all_of k g ys))
-count_bytes longer k g [] = omega arith
-count_bytes longer k g (y ∷ ys) =
+pub count_bytes : {Y : Type 0} → (k : ℕ) (g : Y → List ℕ) (ys : List Y) → 2 * length ys ≤ length (spelled (all_of k g ys))
+count_bytes k g [] = omega arith
+count_bytes k g (y ∷ ys) =
     let size = length-append (short_field k (bytes (g y))) (spelled (all_of k g ys)) in
-    let more = longer k (g y) in
-    let rest = count_bytes longer k g ys in
+    let more = short_lengths_bytes k (g y) in
+    let rest = count_bytes k g ys in
     omega (arith, size)
 
 pub spelled-append : (ps qs : List Plain) → spelled (ps ++ qs) ≡ spelled ps ++ spelled qs
@@ -223,14 +291,17 @@ pub spelled_length : (ps qs : List Plain) → length (spelled (ps ++ qs)) ≡ le
 spelled_length ps qs = ap length (spelled-append ps qs) ∙ length-append (spelled ps) (spelled qs)
 
 -- each entry of the pools takes two bytes
-pub pools_within : BytesLonger → (keys : List (List ℕ)) (values : List Value) (layer : ALayer) → (2 * length keys ≤ length (spelled (fields_with keys values layer))) × (2 * length values ≤ length (spelled (fields_with keys values layer)))
-pools_within longer keys values layer =
+pub pools_within : (keys : List (List ℕ)) (values : List Value) (layer : ALayer)
+    → (2 * length keys ≤ length (spelled (fields_with keys values layer)))
+    × (2 * length values ≤ length (spelled (fields_with keys values layer)))
+pools_within keys values layer =
     let a = spelled_length (head_fields layer.name) (tail keys values layer.features layer.extent) in
-    let b = spelled_length (all_of FEATURES (feature_bytes keys values) layer.features) (all_of KEYS same_bytes keys ++ (all_of VALUES value_bytes values ++ extent_fields layer.extent)) in
+    let b = spelled_length (all_of FEATURES (feature_bytes keys values) layer.features)
+    (all_of KEYS same_bytes keys ++ (all_of VALUES value_bytes values ++ extent_fields layer.extent)) in
     let c = spelled_length (all_of KEYS same_bytes keys) (all_of VALUES value_bytes values ++ extent_fields layer.extent) in
     let d = spelled_length (all_of VALUES value_bytes values) (extent_fields layer.extent) in
-    let k = count_bytes longer KEYS same_bytes keys in
-    let v = count_bytes longer VALUES value_bytes values in
+    let k = count_bytes KEYS same_bytes keys in
+    let v = count_bytes VALUES value_bytes values in
     (omega (arith, a, b, c, d, k, v), omega (arith, a, b, c, d, k, v))
 
 -- entries of a list
@@ -243,83 +314,95 @@ all_from : {X : Type 0} → (P : X → Type 0) (xs : List X) → ((x : X) → Co
 all_from P [] h = tt
 all_from P (x ∷ xs) h = (h x (0, omega arith, refl), all_from P xs (λ y is. h y (suc is.0, omega (arith, is.1), is.2)))
 
--- what the levels below give
-abbrev pub SpelledWhole : Type 0
-SpelledWhole = (ps : List Plain) → AllByRecursion IsFit ps → IsWholeAs (spelled ps) ps
-
-abbrev pub FromKeys : Type 0
-FromKeys = (held : List (List ℕ)) (attributes : List Attribute) (key : List ℕ) → Contains (key_pool held attributes) key → Contains (held ++ map (λ (a : Attribute). a.key) attributes) key
-
-abbrev pub FromValues : Type 0
-FromValues = (held : List Value) (attributes : List Attribute) (value : Value) → Contains (value_pool held attributes) value → Contains (held ++ map (λ (a : Attribute). a.value) attributes) value
-
-abbrev pub PoolsHold : Type 0
-PoolsHold = (held_keys : List (List ℕ)) (held_values : List Value) (front attributes back : List Attribute) → AllByRecursion (IsIn (key_pool held_keys (front ++ (attributes ++ back))) (value_pool held_values (front ++ (attributes ++ back)))) attributes
-
-abbrev pub PlacesName : Type 0
-PlacesName = (keys : List (List ℕ)) (values : List Value) (attributes : List Attribute) → AllByRecursion (IsIn keys values) attributes → Names keys values (tags_in keys values attributes) attributes
-
-abbrev pub PlacesSmall : Type 0
-PlacesSmall = (keys : List (List ℕ)) (values : List Value) (attributes : List Attribute) (bound : ℕ) → AllByRecursion (IsIn keys values) attributes → length keys ≤ bound → length values ≤ bound → AllByRecursion (λ tag. tag < bound) (tags_in keys values attributes)
-
-abbrev pub ValueReads : Type 0
-ValueReads = (value : Value) → ValidValue value → length (spelled (value_fields value)) < 2 ^ 64 → IsValueOf (spelled (value_fields value)) value
-
-abbrev pub FeatureReads : Type 0
-FeatureReads = (keys : List (List ℕ)) (values : List Value) (tags : List ℕ) (feature : Feature) → ValidFeature feature → Names keys values tags feature.attributes → AllByRecursion (λ tag. tag < 2 ^ 32) tags → length (spelled (feature_fields tags feature)) < 2 ^ 64 → IsFeatureOf (spelled (feature_fields tags feature)) keys values feature
-
 -- the pools of valid features
 attributes_valid : (features : List Feature) → AllByRecursion ValidFeature features → AllByRecursion ValidAttribute (attributes_of features)
 attributes_valid [] h = tt
 attributes_valid (f ∷ fs) h = all_joined ValidAttribute f.attributes (attributes_of fs) h.0.attributes (attributes_valid fs h.1)
 
-pub keys_valid : FromKeys → (features : List Feature) → AllByRecursion ValidFeature features → AllByRecursion IsUtf8 (keys_of features)
+-- what holds of each attribute's part holds of the entries that come from them
+pool_valid : {X : Type 0} → (P : X → Type 0) (part : Attribute → X) (pool : List X) (attributes : List Attribute)
+    → AllByRecursion (λ a. P (part a)) attributes → ((x : X) → Contains pool x → Contains (map part attributes) x)
+    → AllByRecursion P pool
+pool_valid P part pool attributes valid from =
+    all_from P pool (λ x is. contained P (map part attributes) x (all_mapped part P attributes valid) (from x is))
+
+pub keys_valid : (features : List Feature) → AllByRecursion ValidFeature features → AllByRecursion IsUtf8 (keys_of features)
 unfolding keys_of
-keys_valid from features valid =
+keys_valid features valid =
     let attributes = attributes_of features in
-    let texts : AllByRecursion IsUtf8 (map (λ (a : Attribute). a.key) attributes) = all_mapped (λ (a : Attribute). a.key) IsUtf8 attributes (all_weaker ValidAttribute (λ (a : Attribute). IsUtf8 a.key) (λ a h. h.0) attributes (attributes_valid features valid)) in
-    all_from IsUtf8 (key_pool [] attributes) (λ key is. contained IsUtf8 (map (λ (a : Attribute). a.key) attributes) key texts (from [] attributes key is))
+    let texts = all_weaker ValidAttribute (λ (a : Attribute). IsUtf8 a.key) (λ a h. h.0) attributes (attributes_valid features valid) in
+    pool_valid IsUtf8 (λ (a : Attribute). a.key) (key_pool [] attributes) attributes texts (pool_entries_from_keys [] attributes)
 
-pub values_valid : FromValues → (features : List Feature) → AllByRecursion ValidFeature features → AllByRecursion ValidValue (values_of features)
+pub values_valid : (features : List Feature) → AllByRecursion ValidFeature features → AllByRecursion ValidValue (values_of features)
 unfolding values_of
-values_valid from features valid =
+values_valid features valid =
     let attributes = attributes_of features in
-    let texts : AllByRecursion ValidValue (map (λ (a : Attribute). a.value) attributes) = all_mapped (λ (a : Attribute). a.value) ValidValue attributes (all_weaker ValidAttribute (λ (a : Attribute). ValidValue a.value) (λ a h. h.1) attributes (attributes_valid features valid)) in
-    all_from ValidValue (value_pool [] attributes) (λ value is. contained ValidValue (map (λ (a : Attribute). a.value) attributes) value texts (from [] attributes value is))
+    let parts = all_weaker ValidAttribute (λ (a : Attribute). ValidValue a.value) (λ a h. h.1) attributes (attributes_valid features valid) in
+    pool_valid ValidValue (λ (a : Attribute). a.value) (value_pool [] attributes) attributes parts (pool_entries_from_values [] attributes)
 
-held_from : PoolsHold → (front : List Attribute) (features : List Feature) → AllByRecursion (λ (f : Feature). AllByRecursion (IsIn (key_pool [] (front ++ attributes_of features)) (value_pool [] (front ++ attributes_of features))) f.attributes) features
-held_from hold front [] = tt
-held_from hold front (f ∷ fs) =
-    (hold [] [] front f.attributes (attributes_of fs), subst (λ all. AllByRecursion (λ (g : Feature). AllByRecursion (IsIn (key_pool [] all) (value_pool [] all)) g.attributes) fs) (append_assoc front f.attributes (attributes_of fs)) (held_from hold (front ++ f.attributes) fs))
+-- attributes that are among the entries of the pools of a list
+abbrev AreIn : List Attribute → Feature → Type 0
+AreIn all f = AllByRecursion (IsIn (key_pool [] all) (value_pool [] all)) f.attributes
 
-pub features_held : PoolsHold → (features : List Feature) → AllByRecursion (λ (f : Feature). AllByRecursion (IsIn (keys_of features) (values_of features)) f.attributes) features
+held_from : (front : List Attribute) (features : List Feature) → AllByRecursion (AreIn (front ++ attributes_of features)) features
+held_from front [] = tt
+held_from front (f ∷ fs) =
+    let same = append_assoc front f.attributes (attributes_of fs) in (
+      pools_hold [] [] front f.attributes (attributes_of fs),
+      subst (λ all. AllByRecursion (AreIn all) fs) same (held_from (front ++ f.attributes) fs),
+    )
+
+pub features_held : (features : List Feature)
+    → AllByRecursion (λ (f : Feature). AllByRecursion (IsIn (keys_of features) (values_of features)) f.attributes) features
 unfolding keys_of values_of
-features_held hold features = held_from hold [] features
+features_held features = held_from [] features
 
-pub layer_canonical : SpelledWhole → BytesLonger → FromKeys → FromValues → PoolsHold → PlacesName → PlacesSmall → ValueReads → FeatureReads → (layer : ALayer) → ValidLayer layer → length (spelled (layer_fields layer)) < 2 ^ 32 → IsItem (spelled (layer_fields layer)) (Layer layer)
+-- the values and the features of a layer read as what they are
+values_read : (values : List Value) → AllByRecursion ValidValue values
+    → AllByRecursion (λ v. length (value_bytes v) < 2 ^ 64) values → AllByRecursion (λ v. IsValueOf (value_bytes v) v) values
+values_read [] valid small = tt
+values_read (v ∷ vs) valid small = (canonical_reads_value v valid.0 small.0, values_read vs valid.1 small.1)
+
+features_read : (keys : List (List ℕ)) (values : List Value) (features : List Feature) → length keys ≤ 2 ^ 32 → length values ≤ 2 ^ 32
+    → AllByRecursion ValidFeature features → AllByRecursion (λ (f : Feature). AllByRecursion (IsIn keys values) f.attributes) features
+    → AllByRecursion (λ f. length (feature_bytes keys values f) < 2 ^ 64) features
+    → AllByRecursion (λ f. IsFeatureOf (feature_bytes keys values f) keys values f) features
+features_read keys values [] few_keys few_values valid held small = tt
+features_read keys values (f ∷ fs) few_keys few_values valid held small =
+    let names = places_name_names keys values f.attributes held.0 in
+    let tags = places_name_small keys values f.attributes (2 ^ 32) held.0 few_keys few_values in (
+      canonical_reads_feature keys values (tags_in keys values f.attributes) f valid.0 names tags small.0,
+      features_read keys values fs few_keys few_values valid.1 held.1 small.1,
+    )
+
+pub layer_canonical : (layer : ALayer) → ValidLayer layer → length (spelled (layer_fields layer)) < 2 ^ 32
+    → IsItem (spelled (layer_fields layer)) (Layer layer)
 unfolding IsItem ValidLayer
-layer_canonical spelled_whole longer from_keys from_values hold names small value_reads feature_reads layer valid within =
+layer_canonical layer valid within =
     let features = layer.features in
     let keys = keys_of features in
     let values = values_of features in
-    let fits = all_fit longer (layer_fields layer) (layer_fine keys values layer valid.1) (omega arith) in
-    let behind = fits.1.1 in
-    let whole = spelled_whole (layer_fields layer) fits in
-    let pools = pools_within longer keys values layer in
-    let feature_sizes = sizes FEATURES (feature_bytes keys values) features (all_left IsFit (all_of FEATURES (feature_bytes keys values) features) _ behind) in
-    let pool_fits = all_right IsFit (all_of FEATURES (feature_bytes keys values) features) _ behind in
-    let value_sizes = sizes VALUES value_bytes values (all_left IsFit (all_of VALUES value_bytes values) (extent_fields layer.extent) (all_right IsFit (all_of KEYS same_bytes keys) _ pool_fits)) in
-    let hold_values = all_weaker (λ v. ValidValue v × (length (value_bytes v) < 2 ^ 64)) (λ v. IsValueOf (value_bytes v) v) (λ v h. value_reads v h.0 h.1) values (all_both ValidValue (λ v. length (value_bytes v) < 2 ^ 64) values (values_valid from_values features valid.2) value_sizes) in
-    let hold_features = all_weaker (λ (f : Feature). (ValidFeature f × AllByRecursion (IsIn keys values) f.attributes) × (length (feature_bytes keys values f) < 2 ^ 64)) (λ f. IsFeatureOf (feature_bytes keys values f) keys values f) (λ f h. feature_reads keys values (tags_in keys values f.attributes) f h.0.0 (names keys values f.attributes h.0.1) (small keys values f.attributes (2 ^ 32) h.0.1 (omega (arith, pools.0)) (omega (arith, pools.1))) h.1) features (all_both (λ (f : Feature). ValidFeature f × AllByRecursion (IsIn keys values) f.attributes) (λ f. length (feature_bytes keys values f) < 2 ^ 64) features (all_both ValidFeature (λ (f : Feature). AllByRecursion (IsIn keys values) f.attributes) features valid.2 (features_held hold features)) feature_sizes) in
-    let is = layer_is whole.0 keys values layer whole.2 valid.0 valid.1 (keys_valid from_keys features valid.2) hold_values hold_features in
+    let feature_fields = all_of FEATURES (feature_bytes keys values) features in
+    let key_fields = all_of KEYS same_bytes keys in
+    let value_fields = all_of VALUES value_bytes values in
+    let fits = all_fit (layer_fields layer) (layer_fine keys values layer valid.1) (omega arith) in
+    let whole = spelled_whole_whole (layer_fields layer) fits in
+    let pool_fits = all_right IsFit key_fields _ (all_right IsFit feature_fields _ fits.1.1) in
+    let feature_sizes = sizes FEATURES (feature_bytes keys values) features (all_left IsFit feature_fields _ fits.1.1) in
+    let value_sizes = sizes VALUES value_bytes values (all_left IsFit value_fields (extent_fields layer.extent) pool_fits) in
+    let pools = pools_within keys values layer in
+    let few_keys : length keys ≤ 2 ^ 32 = omega (arith, pools.0) in
+    let few_values : length values ≤ 2 ^ 32 = omega (arith, pools.1) in
+    let hold_values = values_read values (values_valid features valid.2) value_sizes in
+    let hold_features = features_read keys values features few_keys few_values valid.2 (features_held features) feature_sizes in
+    let is = layer_is whole.0 keys values layer whole.2 valid.0 valid.1 (keys_valid features valid.2) hold_values hold_features in
     (whole.0, whole.1, is.0, (is.1, is.2))
 
 foreign_canonical : (version : ℕ) (content : List ℕ) → AreOfVersion version content → IsItem content (Foreign version content)
 unfolding IsItem
 foreign_canonical version content (xs, whole, forms, is, other) = (xs, whole, forms, (is, other, refl))
 
-pub item_canonical : SpelledWhole → BytesLonger → FromKeys → FromValues → PoolsHold → PlacesName → PlacesSmall → ValueReads → FeatureReads → (item : AnItem) → ValidItem item → length (canonical_item item) < 2 ^ 32 → IsItem (canonical_item item) item
+pub item_canonical : (item : AnItem) → ValidItem item → length (canonical_item item) ≤ LIMIT → IsItem (canonical_item item) item
 unfolding canonical_item ValidItem
-item_canonical spelled_whole longer from_keys from_values hold names small value_reads feature_reads (Layer layer) valid within =
-    layer_canonical spelled_whole longer from_keys from_values hold names small value_reads feature_reads layer valid within
-item_canonical spelled_whole longer from_keys from_values hold names small value_reads feature_reads (Foreign version content) valid within = foreign_canonical version content valid
+item_canonical (Layer layer) valid within = layer_canonical layer valid (omega arith)
+item_canonical (Foreign version content) valid within = foreign_canonical version content valid

@@ -17,17 +17,27 @@ or_assoc None None c d = refl
 or_assoc None (Some x) c d = refl
 or_assoc (Some x) b c d = refl
 
-layer_rows : (payload_at tag_at : ℕ) (fields : List Entry) (two : Bool) → firsts (if two then layer_table payload_at tag_at fields else []) ≡ (if two then layer_fault payload_at tag_at fields else None)
+layer_rows : (payload_at tag_at : ℕ) (fields : List Entry) (two : Bool)
+    → firsts (if two then layer_table payload_at tag_at fields else []) ≡ (if two then layer_fault payload_at tag_at fields else None)
 unfolding layer_fault
 layer_rows payload_at tag_at fields true = sym (first-rows_all (layer_table payload_at tag_at fields))
 layer_rows payload_at tag_at fields false = refl
 
-pub item_chain : (payload : List ℕ) (payload_at tag_at : ℕ) → item_fault payload payload_at tag_at ≡ option_or (head_fault payload payload_at tag_at) (if is_two (version_in (split payload).fields) then layer_fault payload_at tag_at (split payload).fields else None)
+pub item_chain : (payload : List ℕ) (payload_at tag_at : ℕ)
+    → item_fault payload payload_at tag_at ≡ option_or (head_fault payload payload_at tag_at)
+    (if is_two (version_in (split payload).fields) then layer_fault payload_at tag_at (split payload).fields else None)
 unfolding item_fault item_rules
 item_chain payload payload_at tag_at =
-    first-rows_all (item_table payload payload_at tag_at) ∙ or_assoc (rest_fault payload payload_at) (versions_fault payload_at (split payload).fields) (no_version_fault tag_at (split payload).fields) _ ∙ ap (option_or (head_fault payload payload_at tag_at)) (layer_rows payload_at tag_at (split payload).fields (is_two (version_in (split payload).fields)))
+    first-rows_all (item_table payload payload_at tag_at)
+    ∙ or_assoc (rest_fault payload payload_at) (versions_fault payload_at (split payload).fields)
+    (no_version_fault tag_at (split payload).fields) _
+    ∙ ap (option_or (head_fault payload payload_at tag_at))
+    (layer_rows payload_at tag_at (split payload).fields (is_two (version_in (split payload).fields)))
 
-pub layer_chain : (payload_at tag_at : ℕ) (fields : List Entry) → layer_fault payload_at tag_at fields ≡ option_or (forms_fault payload_at fields) (option_or (no_name_fault tag_at fields) (option_or (values_fault payload_at fields) (option_or (features_fault payload_at (keys_in fields) (values_in fields) fields) None)))
+pub layer_chain : (payload_at tag_at : ℕ) (fields : List Entry)
+    → layer_fault payload_at tag_at fields ≡ option_or (forms_fault payload_at fields)
+    (option_or (no_name_fault tag_at fields)
+    (option_or (values_fault payload_at fields) (option_or (features_fault payload_at (keys_in fields) (values_in fields) fields) None)))
 unfolding layer_fault
 layer_chain payload_at tag_at fields = first-rows_all (layer_table payload_at tag_at fields)
 

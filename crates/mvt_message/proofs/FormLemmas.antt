@@ -1,61 +1,60 @@
 -- The forms of a layer's fields, and rules that are told by the elements before.
-use Rattle.std.proofs.Common.{◌≡◌, ℕ, ◌+◌, List, [], ◌∷◌, ◌++◌, length, None, refl, sym, ap, ◌∙◌}
+use Rattle.std.proofs.Common.{◌≡◌, ℕ, List, [], ◌∷◌, ◌++◌, length, None, refl, sym, ap, ◌∙◌}
 use Rattle.std.specs.List.{AllByRecursion}
 use Rattle.std.specs.Option.{option_map}
 use Rattle.mvt_base.specs.Rules.{Rules, AreOrdered, told, each, first}
 use Rattle.mvt_base.proofs.RuleLemmas.{first-append, first-under, first-told, option_or-nones, option_or-none}
 use Rattle.mvt_base.proofs.TableLemmas.{none_mapped}
 use Rattle.mvt_wire.specs.Field.{Entry}
+use Rattle.mvt_feature.proofs.FeatureLaws.{forms_clean, forms_have, forms_ordered}
 use Rattle.mvt_message.specs.declared.numbers.layer.TheConstants.{VERSION}
-use Rattle.mvt_feature.specs.Forms.{Form, uint32, HasForm, HaveForms, IsFirst, forms_rules}
+use Rattle.mvt_feature.specs.Forms.{uint32, HasForm, HaveForms}
 use Rattle.mvt_feature.specs.Selection.{HaveForm}
 use Rattle.mvt_message.specs.LayerFields.{version_forms, layer_forms}
 use Rattle.mvt_message.specs.ItemRules.{version_rules, layer_field_rules}
 use Rattle.mvt_message.specs.Inner.{versions_fault, forms_fault}
 
--- what the level below gives
-abbrev pub FormsHave : Type 0
-FormsHave = (forms : List (ℕ × Form)) (payload_at : ℕ) (fields : List Entry) → AllByRecursion (IsFirst forms) forms → first (each (λ _. forms_rules forms payload_at) [] fields) ≡ None → HaveForms forms fields
-
-abbrev pub FormsClean : Type 0
-FormsClean = (forms : List (ℕ × Form)) (payload_at : ℕ) (fields : List Entry) → HaveForms forms fields → first (each (λ _. forms_rules forms payload_at) [] fields) ≡ None
-
-abbrev pub FormsOrdered : Type 0
-FormsOrdered = (forms : List (ℕ × Form)) (payload_at : ℕ) (x : Entry) → AreOrdered (forms_rules forms payload_at x)
-
 -- the fields of a layer
-pub versions_form : FormsHave → (payload_at : ℕ) (xs : List Entry) → versions_fault payload_at xs ≡ None → HaveForm VERSION (HasForm uint32) xs
+pub versions_form : (payload_at : ℕ) (xs : List Entry) → versions_fault payload_at xs ≡ None → HaveForm VERSION (HasForm uint32) xs
 unfolding version_rules
-versions_form have payload_at xs clean = (have version_forms payload_at xs (λ c. refl, tt) clean).0
+versions_form payload_at xs clean = (forms_have version_forms payload_at xs (λ c. refl, tt) clean).0
 
-pub form_versions : FormsClean → (payload_at : ℕ) (xs : List Entry) → HaveForm VERSION (HasForm uint32) xs → versions_fault payload_at xs ≡ None
+pub form_versions : (payload_at : ℕ) (xs : List Entry) → HaveForm VERSION (HasForm uint32) xs → versions_fault payload_at xs ≡ None
 unfolding version_rules
-form_versions clean payload_at xs h = clean version_forms payload_at xs (h, tt)
+form_versions payload_at xs h = forms_clean version_forms payload_at xs (h, tt)
 
-pub layer_have : FormsHave → (payload_at : ℕ) (xs : List Entry) → forms_fault payload_at xs ≡ None → HaveForms layer_forms xs
+pub layer_have : (payload_at : ℕ) (xs : List Entry) → forms_fault payload_at xs ≡ None → HaveForms layer_forms xs
 unfolding layer_field_rules
-layer_have have payload_at xs clean = have layer_forms payload_at xs (λ c. refl, (λ c. refl, (λ c. refl, (λ c. refl, (λ c. refl, tt))))) clean
+layer_have payload_at xs clean =
+    forms_have layer_forms payload_at xs (λ c. refl, (λ c. refl, (λ c. refl, (λ c. refl, (λ c. refl, tt))))) clean
 
-pub have_layer : FormsClean → (payload_at : ℕ) (xs : List Entry) → HaveForms layer_forms xs → forms_fault payload_at xs ≡ None
+pub have_layer : (payload_at : ℕ) (xs : List Entry) → HaveForms layer_forms xs → forms_fault payload_at xs ≡ None
 unfolding layer_field_rules
-have_layer clean payload_at xs h = clean layer_forms payload_at xs h
+have_layer payload_at xs h = forms_clean layer_forms payload_at xs h
 
-pub version_ordered : FormsOrdered → (payload_at : ℕ) (x : Entry) → AreOrdered (version_rules payload_at x)
+pub version_ordered : (payload_at : ℕ) (x : Entry) → AreOrdered (version_rules payload_at x)
 unfolding version_rules
-version_ordered ordered payload_at x = ordered version_forms payload_at x
+version_ordered payload_at x = forms_ordered version_forms payload_at x
 
-pub layer_field_ordered : FormsOrdered → (payload_at : ℕ) (x : Entry) → AreOrdered (layer_field_rules payload_at x)
+pub layer_field_ordered : (payload_at : ℕ) (x : Entry) → AreOrdered (layer_field_rules payload_at x)
 unfolding layer_field_rules
-layer_field_ordered ordered payload_at x = ordered layer_forms payload_at x
+layer_field_ordered payload_at x = forms_ordered layer_forms payload_at x
 
 -- rules of elements that are told by those before them
-pub none_each_told : {X F G : Type 0} → (tell : List X → F → G) (rules : X → Rules F) (front xs : List X) → first (each (λ f x. told (tell f) (rules x)) front xs) ≡ None → AllByRecursion (λ x. first (rules x) ≡ None) xs
+pub none_each_told : {X F G : Type 0} → (tell : List X → F → G) (rules : X → Rules F) (front xs : List X)
+    → first (each (λ f x. told (tell f) (rules x)) front xs) ≡ None → AllByRecursion (λ x. first (rules x) ≡ None) xs
 none_each_told tell rules front [] h = tt
 none_each_told tell rules front (x ∷ xs) h =
-    let parts = option_or-nones _ _ (sym (first-append _ (each (λ f y. told (tell f) (rules y)) (front ++ x ∷ []) xs)) ∙ h) in
-    (none_mapped (tell front) (first (rules x)) (sym (first-told (tell front) (rules x)) ∙ sym (first-under (length front) (told (tell front) (rules x))) ∙ parts.0), none_each_told tell rules (front ++ x ∷ []) xs parts.1)
+    let parts = option_or-nones _ _ (sym (first-append _ (each (λ f y. told (tell f) (rules y)) (front ++ x ∷ []) xs)) ∙ h) in (
+      none_mapped (tell front) (first (rules x))
+          (sym (first-told (tell front) (rules x)) ∙ sym (first-under (length front) (told (tell front) (rules x))) ∙ parts.0),
+      none_each_told tell rules (front ++ x ∷ []) xs parts.1,
+    )
 
-pub each_told_none : {X F G : Type 0} → (tell : List X → F → G) (rules : X → Rules F) (front xs : List X) → AllByRecursion (λ x. first (rules x) ≡ None) xs → first (each (λ f x. told (tell f) (rules x)) front xs) ≡ None
+pub each_told_none : {X F G : Type 0} → (tell : List X → F → G) (rules : X → Rules F) (front xs : List X)
+    → AllByRecursion (λ x. first (rules x) ≡ None) xs → first (each (λ f x. told (tell f) (rules x)) front xs) ≡ None
 each_told_none tell rules front [] h = refl
 each_told_none tell rules front (x ∷ xs) h =
-    first-append _ (each (λ f y. told (tell f) (rules y)) (front ++ x ∷ []) xs) ∙ option_or-none _ _ (first-under (length front) (told (tell front) (rules x)) ∙ first-told (tell front) (rules x) ∙ ap (option_map (tell front)) h.0) ∙ each_told_none tell rules (front ++ x ∷ []) xs h.1
+    first-append _ (each (λ f y. told (tell f) (rules y)) (front ++ x ∷ []) xs)
+    ∙ option_or-none _ _ (first-under (length front) (told (tell front) (rules x)) ∙ first-told (tell front) (rules x)
+    ∙ ap (option_map (tell front)) h.0) ∙ each_told_none tell rules (front ++ x ∷ []) xs h.1

@@ -1,5 +1,5 @@
 -- Values and features that are counted, and kept where that is wanted.
-use Rattle.std.proofs.Common.{◌≡◌, ◌≢◌, ℕ, ◌+◌, ◌^◌, ◌<◌, Bool, true, false, List, [], ◌∷◌, ◌++◌, length, None, Result, Ok, Err, OnOk, IfErr, refl, ap, ◌∙◌, arith}
+use Rattle.std.proofs.Common.{◌≡◌, ◌≢◌, ℕ, ◌+◌, ◌^◌, ◌<◌, Bool, true, false, List, [], ◌∷◌, ◌++◌, length, Option, None, Result, Ok, Err, OnOk, IfErr, refl, ap, subst, ◌∙◌, arith}
 use Rattle.std.specs.Bool.{OnTrue}
 use Rattle.std.specs.Option.{option_map}
 use Rattle.std.proofs.lemmas.List.{length_push}
@@ -7,8 +7,9 @@ use Rattle.mvt_base.proofs.ListLemmas.{length-related}
 use Rattle.mvt_attrs.specs.declared.value.Value.{Value}
 use Rattle.mvt_wire.specs.Field.{Entry}
 use Rattle.mvt_wire.specs.Split.{Parts}
+use Rattle.mvt_feature.proofs.FeatureLaws.{value_or_fault_there}
 use Rattle.mvt_feature.specs.declared.message_error.MessageError.{MessageError}
-use Rattle.mvt_feature.specs.Faults.{TellsMessage, in_feature}
+use Rattle.mvt_feature.specs.Faults.{MessageFault, TellsMessage, in_feature}
 use Rattle.mvt_feature.specs.Selection.{only}
 use Rattle.mvt_feature.specs.Walks.{Walk}
 use Rattle.mvt_feature.specs.declared.feature.Feature.{Feature}
@@ -20,7 +21,7 @@ use Rattle.mvt_message.specs.declared.numbers.layer.TheConstants.{FEATURES, VALU
 use Rattle.mvt_message.specs.LayerFields.{bytes_of}
 use Rattle.mvt_message.specs.Inner.{values_fault, features_fault, AreHeld, AreValuesHeld, AreFeaturesHeld}
 use Rattle.mvt_message.specs.Items.{HoldsValue, HoldsFeature}
-use Rattle.mvt_message.proofs.ReadLemmas.{SplitCount, selected_few, values_skip, values_take, values_stop, features_skip, features_take, features_stop}
+use Rattle.mvt_message.proofs.ReadLemmas.{selected_few, values_skip, values_take, values_stop, features_skip, features_take, features_stop}
 
 pub on_true : (b : Bool) (P : Type 0) → P → OnTrue b P
 on_true true P h = h
@@ -34,50 +35,90 @@ pub from_true : (b : Bool) (P : Type 0) → b ≡ true → OnTrue b P → P
 from_true true P e h = h
 from_true false P e h = absurd (let clash : false ≡ true = e in cc)
 
-held_more : {A : Type 0} (keep : Bool) (things kept new : List A) (count : ℕ) (x : A) → AreHeld keep things count kept → OnTrue keep (new ≡ kept ++ x ∷ []) → AreHeld keep (things ++ x ∷ []) (count + 1) new
+held_more : {A : Type 0} (keep : Bool) (things kept new : List A) (count : ℕ) (x : A) → AreHeld keep things count kept
+    → OnTrue keep (new ≡ kept ++ x ∷ []) → AreHeld keep (things ++ x ∷ []) (count + 1) new
 held_more true things kept new count x held e = (omega (arith, length_push things x, held.0), e ∙ ap (λ xs. xs ++ x ∷ []) held.1)
 held_more false things kept new count x held e = (omega (arith, length_push things x, held.0), tt)
 
-module _ (keep : Bool) (payload_at : ℕ) (done : List Entry) (count : ℕ) (kept : List Value) (x : Entry) (held : AreValuesHeld keep payload_at done count kept) where
+-- the fault of the value of a field
+abbrev fault_of_value : ℕ → Entry → Option MessageFault
+fault_of_value payload_at x = value_fault (bytes_of x.content) (payload_at + x.body) (payload_at + x.at)
+
+module _ {keep : Bool} {payload_at : ℕ} {done : List Entry} {count : ℕ} {kept : List Value} (x : Entry)
+    (so_far : AreValuesHeld keep payload_at done count kept) where
   pub value_skipped : x.number ≢ VALUES → AreValuesHeld keep payload_at (done ++ x ∷ []) count kept
-  value_skipped other = (held.0, values_skip payload_at done held.0 x held.1 other, held.2)
+  value_skipped other = record {
+    values = so_far.values;
+    so_far = values_skip payload_at done so_far.values x so_far.so_far other;
+    held = so_far.held;
+  }
 
-  pub values_few : SplitCount → (payload : List ℕ) (to_come : Parts) → Walk payload to_come done → length payload < 2 ^ 32 → count < 2 ^ 32
-  values_few split_count payload to_come walk small =
-      let few = selected_few split_count payload to_come done 4 walk small in
-      omega (arith, held.2.0, length-related HoldsValue (only VALUES done) held.0 held.1.1)
+  pub values_few : (payload : List ℕ) (to_come : Parts) → Walk payload to_come done → length payload < 2 ^ 32 → count < 2 ^ 32
+  values_few payload to_come walk small =
+      let few = selected_few payload to_come done VALUES walk small in
+      omega (arith, so_far.held.0, length-related HoldsValue (only VALUES done) so_far.values so_far.so_far.1)
 
-  pub value_stops : (more : List Entry) (e : MessageError) → x.number ≡ VALUES → TellsMessage e (value_fault (bytes_of x.content) (payload_at + x.body) (payload_at + x.at)) → TellsMessage e (values_fault payload_at ((done ++ x ∷ []) ++ more))
-  value_stops more e is told_here = values_stop payload_at done held.0 x more e held.1 is told_here
+  pub value_stops : (more : List Entry) (e : MessageError) → x.number ≡ VALUES → TellsMessage e (fault_of_value payload_at x)
+      → TellsMessage e (values_fault payload_at ((done ++ x ∷ []) ++ more))
+  value_stops more e is told_here = values_stop payload_at done so_far.values x more e so_far.so_far is told_here
 
-  pub value_held : (new : List Value) (value : Value) → x.number ≡ VALUES → IsValueOf (bytes_of x.content) value → value_fault (bytes_of x.content) (payload_at + x.body) (payload_at + x.at) ≡ None → OnTrue keep (new ≡ kept ++ value ∷ [])
+  pub value_held : (new : List Value) (value : Value) → x.number ≡ VALUES → IsValueOf (bytes_of x.content) value
+      → fault_of_value payload_at x ≡ None → OnTrue keep (new ≡ kept ++ value ∷ [])
       → AreValuesHeld keep payload_at (done ++ x ∷ []) (count + 1) new
-  value_held new value is holds clean more =
-      (held.0 ++ value ∷ [], values_take payload_at done held.0 (held.0 ++ value ∷ []) x value held.1 is holds clean refl, held_more keep held.0 kept new count value held.2 more)
+  value_held new value is holds clean more = record {
+    values = so_far.values ++ value ∷ [];
+    so_far = values_take payload_at done so_far.values (so_far.values ++ value ∷ []) x value so_far.so_far is holds clean refl;
+    held = held_more keep so_far.values kept new count value so_far.held more;
+  }
 
   -- a value that was only judged
-  pub value_judged : (r : Result (Unit {0}) MessageError) → (value_fault (bytes_of x.content) (payload_at + x.body) (payload_at + x.at) ≡ None → (value : Value) × IsValueOf (bytes_of x.content) value)
-      → keep ≡ false → x.number ≡ VALUES → OnOk r (value_fault (bytes_of x.content) (payload_at + x.body) (payload_at + x.at) ≡ None) → OnOk r (AreValuesHeld keep payload_at (done ++ x ∷ []) (count + 1) kept)
-  value_judged (Err e) there no_keep is clean = tt
-  value_judged (Ok u) there no_keep is clean = value_held kept (there clean).0 is (there clean).1 clean (on_false keep _ no_keep)
+  pub value_judged : (r : Result (Unit {0}) MessageError) → keep ≡ false → x.number ≡ VALUES
+      → OnOk r (fault_of_value payload_at x ≡ None) → OnOk r (AreValuesHeld keep payload_at (done ++ x ∷ []) (count + 1) kept)
+  value_judged (Err e) no_keep is clean = tt
+  value_judged (Ok u) no_keep is clean =
+      let there = value_or_fault_there (bytes_of x.content) (payload_at + x.body) (payload_at + x.at) clean in
+      value_held kept there.0 is there.1 clean (on_false keep _ no_keep)
 
-  pub value_blamed : (r : Result (Unit {0}) MessageError) (more : List Entry) → x.number ≡ VALUES → IfErr r (λ e. TellsMessage e (value_fault (bytes_of x.content) (payload_at + x.body) (payload_at + x.at))) → IfErr r (λ e. TellsMessage e (values_fault payload_at ((done ++ x ∷ []) ++ more)))
+  pub value_blamed : (r : Result (Unit {0}) MessageError) (more : List Entry) → x.number ≡ VALUES
+      → IfErr r (λ e. TellsMessage e (fault_of_value payload_at x))
+      → IfErr r (λ e. TellsMessage e (values_fault payload_at ((done ++ x ∷ []) ++ more)))
   value_blamed (Err e) more is told_here = value_stops more e is told_here
   value_blamed (Ok u) more is told_here = tt
 
-module _ (keep : Bool) (payload_at : ℕ) (keys : List (List ℕ)) (values : List Value) (done : List Entry) (count : ℕ) (kept : List Feature) (x : Entry) (held : AreFeaturesHeld keep payload_at keys values done count kept) where
+module _ {keep : Bool} {payload_at : ℕ} {keys : List (List ℕ)} {values : List Value} {done : List Entry} {count : ℕ}
+    {kept : List Feature} (x : Entry) (so_far : AreFeaturesHeld keep payload_at keys values done count kept) where
   pub feature_skipped : x.number ≢ FEATURES → AreFeaturesHeld keep payload_at keys values (done ++ x ∷ []) count kept
-  feature_skipped other = (held.0, features_skip payload_at keys values done held.0 x held.1 other, held.2)
+  feature_skipped other = record {
+    features = so_far.features;
+    so_far = features_skip payload_at keys values done so_far.features x so_far.so_far other;
+    held = so_far.held;
+  }
 
-  pub features_few : SplitCount → (payload : List ℕ) (to_come : Parts) → Walk payload to_come done → length payload < 2 ^ 32 → count < 2 ^ 32
-  features_few split_count payload to_come walk small =
-      let few = selected_few split_count payload to_come done 2 walk small in
-      omega (arith, held.2.0, length-related (HoldsFeature keys values) (only FEATURES done) held.0 held.1.1)
+  pub features_few : (payload : List ℕ) (to_come : Parts) → Walk payload to_come done → length payload < 2 ^ 32 → count < 2 ^ 32
+  features_few payload to_come walk small =
+      let few = selected_few payload to_come done FEATURES walk small in
+      omega (arith, so_far.held.0, length-related (HoldsFeature keys values) (only FEATURES done) so_far.features so_far.so_far.1)
 
-  pub feature_stops : (more : List Entry) (index : ℕ) (e : MessageError) → x.number ≡ FEATURES → index ≡ count → TellsMessage e (option_map (in_feature index) (feature_fault (bytes_of x.content) (payload_at + x.body) keys values)) → TellsMessage e (features_fault payload_at keys values ((done ++ x ∷ []) ++ more))
-  feature_stops more index e is index_is told_here = features_stop payload_at keys values done held.0 x more index e held.1 is (index_is ∙ held.2.0) told_here
+  pub feature_stops : (more : List Entry) (index : ℕ) (e : MessageError) → x.number ≡ FEATURES → index ≡ count
+      → TellsMessage e (option_map (in_feature index) (feature_fault (bytes_of x.content) (payload_at + x.body) keys values))
+      → TellsMessage e (features_fault payload_at keys values ((done ++ x ∷ []) ++ more))
+  feature_stops more index e is index_is told_here =
+      features_stop payload_at keys values done so_far.features x more index e so_far.so_far is (index_is ∙ so_far.held.0) told_here
 
-  pub feature_held : (new : List Feature) (feature : Feature) → x.number ≡ FEATURES → IsFeatureOf (bytes_of x.content) keys values feature → feature_fault (bytes_of x.content) (payload_at + x.body) keys values ≡ None → OnTrue keep (new ≡ kept ++ feature ∷ [])
+  pub feature_held : (new : List Feature) (feature : Feature) → x.number ≡ FEATURES → IsFeatureOf (bytes_of x.content) keys values feature
+      → feature_fault (bytes_of x.content) (payload_at + x.body) keys values ≡ None → OnTrue keep (new ≡ kept ++ feature ∷ [])
       → AreFeaturesHeld keep payload_at keys values (done ++ x ∷ []) (count + 1) new
   feature_held new feature is holds clean more =
-      (held.0 ++ feature ∷ [], features_take payload_at keys values done held.0 (held.0 ++ feature ∷ []) x feature held.1 is holds clean refl, held_more keep held.0 kept new count feature held.2 more)
+      let all = so_far.features ++ feature ∷ [] in
+      record {
+        features = all;
+        so_far = features_take payload_at keys values done so_far.features all x feature so_far.so_far is holds clean refl;
+        held = held_more keep so_far.features kept new count feature so_far.held more;
+      }
+
+-- the same keys by another name
+pub keys_as : {keep : Bool} {payload_at : ℕ} {keys others : List (List ℕ)} {values : List Value} {done : List Entry} {count : ℕ}
+    {kept : List Feature} → keys ≡ others → AreFeaturesHeld keep payload_at keys values done count kept
+    → AreFeaturesHeld keep payload_at others values done count kept
+keys_as {keep} {payload_at} {values} {done} {count} {kept} same so_far =
+    subst (λ ks. AreFeaturesHeld keep payload_at ks values done count kept) same so_far

@@ -1,12 +1,12 @@
 pub mod MessageLaws
-pub mod ChainLemmas
-pub mod SaidLemmas
-pub mod FormLemmas
-pub mod ItemLaws
-pub mod ReadLemmas
-pub mod ValidLemmas
-pub mod CanonicalLemmas
-pub mod PutLemmas
-pub mod LenLemmas
-pub mod HeldLemmas
-pub mod BoundLemmas
+mod ChainLemmas
+mod SaidLemmas
+mod FormLemmas
+mod OrFaultLemmas
+mod ReadLemmas
+mod ValidLemmas
+mod CanonicalLemmas
+mod PutLemmas
+mod LenLemmas
+mod HeldLemmas
+mod BoundLemmas

@@ -1,7 +1,10 @@
 -- What is written of a layer so far.
-use Rattle.std.proofs.Common.{◌≡◌, ℕ, ◌+◌, ◌<◌, ◌≤◌, ◌⊎◌, inl, inr, List, [], ◌∷◌, ◌++◌, length, map, take, drop, get_or, refl, sym, ap, ap₂, ◌∙◌, subst, arith, append_assoc, append-nil, length-append}
+use Rattle.std.proofs.Common.{◌≡◌, ℕ, ◌+◌, ◌<◌, ◌≤◌, ◌⊎◌, inl, inr, List, [], ◌∷◌, ◌++◌, length, map, take, drop, get_or, slice_get, Some, Result, Err, refl, sym, ap, ap₂, ◌∙◌, subst, arith, append_assoc, append-nil, length-append}
 use Rattle.std.specs.List.{AllByRecursion}
 use Rattle.std.proofs.lemmas.Grind.{flat_map-append}
+use Rattle.std.specs.Result.{IsErrAnd}
+use Rattle.std.proofs.lemmas.Option.{slice_get_within, get_or_from_slice_get}
+use Rattle.std.proofs.lemmas.Result.{err_from_is_err_and}
 use Rattle.std.proofs.lemmas.List.{map-append, take-append-drop, take_more}
 use Rattle.mvt_base.specs.declared.TheConstants.{LIMIT}
 use Rattle.mvt_base.proofs.ListLemmas.{all_weaker}
@@ -18,31 +21,58 @@ use Rattle.mvt_wire.specs.Spelling.{Plain, short_field, spelled}
 use Rattle.mvt_feature.specs.declared.feature.Feature.{Feature}
 use Rattle.mvt_feature.specs.Canonical.{feature_fields}
 use Rattle.mvt_feature.specs.Valid.{ValidFeature}
+use Rattle.mvt_attrs.proofs.AttrsLaws.{pool_entries_distinct_keys, pool_entries_distinct_values, pools_by_parts_keys, pools_by_parts_values, pools_grow_keys, pools_grow_values, tags_stay}
 use Rattle.mvt_message.specs.declared.item.Layer.{Layer as ALayer}
 use Rattle.mvt_message.specs.declared.put.PutError.TheVariants.{TooLarge}
 use Rattle.mvt_message.specs.CanonicalItems.{attributes_of, keys_of, values_of, head_fields, feature_field, key_field, value_field, extent_fields, layer_fields}
 use Rattle.mvt_message.specs.PutErrors.{of_pool}
-use Rattle.mvt_message.specs.Inner.{PoolLaws}
 use Rattle.mvt_message.specs.ValidItems.{ValidLayer}
-use Rattle.mvt_message.proofs.CanonicalLemmas.{BytesLonger, pools_within, spelled-append}
+use Rattle.mvt_message.proofs.CanonicalLemmas.{pools_within, spelled-append}
 
 pub pool_full : (e : PoolError) → of_pool e ≡ TooLarge → e ≡ pools.Full
 pool_full pools.Memory h = cc
 pool_full pools.Full h = refl
 
-pub layer_geometries : (layer : ALayer) (features : List Feature) → ValidLayer layer → features ≡ layer.features → AllByRecursion (λ (f : Feature). IsValid f.geometry) features
+abbrev IsDrawn : Feature → Type 0
+IsDrawn f = IsValid f.geometry
+
+pub layer_geometries : (layer : ALayer) (features : List Feature) → ValidLayer layer → features ≡ layer.features
+    → AllByRecursion IsDrawn features
 unfolding ValidLayer
 layer_geometries layer features valid is =
-    subst (AllByRecursion (λ (f : Feature). IsValid f.geometry)) (sym is) (all_weaker ValidFeature (λ (f : Feature). IsValid f.geometry) (λ f h. h.drawn) layer.features valid.2)
+    subst (AllByRecursion IsDrawn) (sym is) (all_weaker ValidFeature IsDrawn (λ f h. h.drawn) layer.features valid.2)
+
+-- the error that a `?` hands on
+pub exit_is : {T E : Type 0} {e x : E} → (r : Result T E) → IsErrAnd r (λ y. y ≡ e) → r ≡ Err x → e ≡ x
+exit_is {x} r exit is =
+    let left = err_from_is_err_and r exit in
+    let same = sym left.1 ∙ is in
+    let here : left.0 ≡ x = cc in
+    sym left.2 ∙ here
 
 -- one more field of a list
-pub spelled_more : {Y : Type 0} → (g : Y → Plain) (ys : List Y) (y : Y) (start old new : List ℕ) → old ≡ start ++ spelled (map g ys) → new ≡ old ++ short_field (g y).number (g y).content → new ≡ start ++ spelled (map g (ys ++ y ∷ []))
-spelled_more g ys y start old new is more =
-    more ∙ ap (λ l. l ++ short_field (g y).number (g y).content) is ∙ append_assoc start (spelled (map g ys)) (short_field (g y).number (g y).content) ∙ ap (λ l. start ++ l) (ap (λ l. spelled (map g ys) ++ l) (sym (append-nil (short_field (g y).number (g y).content))) ∙ sym (spelled-append (map g ys) (g y ∷ [])) ∙ ap spelled (sym (map-append g ys (y ∷ []))))
+pub spelled_more : {Y : Type 0} → (g : Y → Plain) (ys : List Y) (y : Y) (start : List ℕ)
+    → (start ++ spelled (map g ys)) ++ short_field (g y).number (g y).content ≡ start ++ spelled (map g (ys ++ y ∷ []))
+spelled_more g ys y start =
+    let one = short_field (g y).number (g y).content in
+    let joined : spelled (map g (ys ++ y ∷ [])) ≡ spelled (map g ys) ++ (one ++ []) =
+    ap spelled (map-append g ys (y ∷ [])) ∙ spelled-append (map g ys) (g y ∷ []) in
+    append_assoc start (spelled (map g ys)) one
+    ∙ ap (λ l. start ++ l) (ap (λ l. spelled (map g ys) ++ l) (sym (append-nil one)) ∙ sym joined)
 
-pub list_step : {Y : Type 0} → (g : Y → Plain) (ys : List Y) (i : ℕ) (y : Y) (start old new : List ℕ) → i < length ys → get_or ys i y ≡ y → old ≡ start ++ spelled (map g (take i ys)) → new ≡ old ++ short_field (g y).number (g y).content → new ≡ start ++ spelled (map g (take (i + 1) ys))
-list_step g ys i y start old new within here is more =
-    spelled_more g (take i ys) y start old new is more ∙ ap (λ l. start ++ spelled (map g l)) (ap (λ x. take i ys ++ x ∷ []) (sym here) ∙ sym (take_more ys i y within))
+pub list_step : {Y : Type 0} → (g : Y → Plain) (ys : List Y) (i : ℕ) {y : Y} (start : List ℕ) {old new : List ℕ}
+    → i < length ys → get_or ys i y ≡ y → old ≡ start ++ spelled (map g (take i ys))
+    → new ≡ old ++ short_field (g y).number (g y).content → new ≡ start ++ spelled (map g (take (i + 1) ys))
+list_step g ys i {y} start within here was more =
+    more ∙ ap (λ l. l ++ short_field (g y).number (g y).content) was ∙ spelled_more g (take i ys) y start
+    ∙ ap (λ l. start ++ spelled (map g l)) (ap (λ x. take i ys ++ x ∷ []) (sym here) ∙ sym (take_more ys i y within))
+
+-- where the entry was looked up
+pub entry_step : {Y : Type 0} → (g : Y → Plain) (ys : List Y) (i : ℕ) {y : Y} (start : List ℕ) {old new : List ℕ}
+    → Some y ≡ slice_get ys i → old ≡ start ++ spelled (map g (take i ys))
+    → new ≡ old ++ short_field (g y).number (g y).content → new ≡ start ++ spelled (map g (take (i + 1) ys))
+entry_step g ys i {y} start at was more =
+    list_step g ys i start (slice_get_within ys i y (sym at)) (get_or_from_slice_get ys i y y (sym at)) was more
 
 -- pools of more features
 attributes-append : (fs gs : List Feature) → attributes_of (fs ++ gs) ≡ attributes_of fs ++ attributes_of gs
@@ -51,44 +81,56 @@ attributes-append fs gs = flat_map-append (λ (f : Feature). f.attributes) fs gs
 attributes_more : (done : List Feature) (f : Feature) → attributes_of (done ++ f ∷ []) ≡ attributes_of done ++ f.attributes
 attributes_more done f = attributes-append done (f ∷ []) ∙ ap (λ l. attributes_of done ++ l) (append-nil f.attributes)
 
-keys_more : PoolLaws → (done : List Feature) (f : Feature) (keys new : List (List ℕ)) → keys ≡ keys_of done → new ≡ key_pool keys f.attributes → new ≡ keys_of (done ++ f ∷ [])
+keys_more : (done : List Feature) (f : Feature) (keys new : List (List ℕ)) → keys ≡ keys_of done
+    → new ≡ key_pool keys f.attributes → new ≡ keys_of (done ++ f ∷ [])
 unfolding keys_of
-keys_more laws done f keys new is more =
-    more ∙ ap (λ k. key_pool k f.attributes) is ∙ laws.keys_by_parts [] (attributes_of done) f.attributes ∙ ap (key_pool []) (sym (attributes_more done f))
+keys_more done f keys new is more =
+    more ∙ ap (λ k. key_pool k f.attributes) is
+    ∙ pools_by_parts_keys [] (attributes_of done) f.attributes ∙ ap (key_pool []) (sym (attributes_more done f))
 
-values_more : PoolLaws → (done : List Feature) (f : Feature) (values new : List Value) → values ≡ values_of done → new ≡ value_pool values f.attributes → new ≡ values_of (done ++ f ∷ [])
+values_more : (done : List Feature) (f : Feature) (values new : List Value) → values ≡ values_of done
+    → new ≡ value_pool values f.attributes → new ≡ values_of (done ++ f ∷ [])
 unfolding values_of
-values_more laws done f values new is more =
-    more ∙ ap (λ k. value_pool k f.attributes) is ∙ laws.values_by_parts [] (attributes_of done) f.attributes ∙ ap (value_pool []) (sym (attributes_more done f))
+values_more done f values new is more =
+    more ∙ ap (λ k. value_pool k f.attributes) is
+    ∙ pools_by_parts_values [] (attributes_of done) f.attributes ∙ ap (value_pool []) (sym (attributes_more done f))
 
-keys_front : PoolLaws → (done rest : List Feature) → (added : List (List ℕ)) × (keys_of (done ++ rest) ≡ keys_of done ++ added)
+keys_front : (done rest : List Feature) → (added : List (List ℕ)) × (keys_of (done ++ rest) ≡ keys_of done ++ added)
 unfolding keys_of
-keys_front laws done rest =
-    let grown = laws.keys_grow [] (attributes_of done) (attributes_of rest) in
+keys_front done rest =
+    let grown = pools_grow_keys [] (attributes_of done) (attributes_of rest) in
     (grown.0, ap (key_pool []) (attributes-append done rest) ∙ grown.1)
 
-values_front : PoolLaws → (done rest : List Feature) → (added : List Value) × (values_of (done ++ rest) ≡ values_of done ++ added)
+values_front : (done rest : List Feature) → (added : List Value) × (values_of (done ++ rest) ≡ values_of done ++ added)
 unfolding values_of
-values_front laws done rest =
-    let grown = laws.values_grow [] (attributes_of done) (attributes_of rest) in
+values_front done rest =
+    let grown = pools_grow_values [] (attributes_of done) (attributes_of rest) in
     (grown.0, ap (value_pool []) (attributes-append done rest) ∙ grown.1)
 
-keys_distinct : PoolLaws → (done : List Feature) → AreDistinct (keys_of done)
+keys_distinct : (done : List Feature) → AreDistinct (keys_of done)
 unfolding keys_of
-keys_distinct laws done = laws.distinct_keys [] (attributes_of done)
+keys_distinct done = pool_entries_distinct_keys [] (attributes_of done)
 
-values_distinct : PoolLaws → (done : List Feature) → AreDistinct (values_of done)
+values_distinct : (done : List Feature) → AreDistinct (values_of done)
 unfolding values_of
-values_distinct laws done = laws.distinct_values [] (attributes_of done)
+values_distinct done = pool_entries_distinct_values [] (attributes_of done)
 
 -- the tags of a feature name the same entries in the pools of all features
-tags_last : PoolLaws → (features done rest : List Feature) (f : Feature) (keys : List (List ℕ)) (values : List Value) → features ≡ done ++ rest → keys ≡ keys_of done → values ≡ values_of done → Names keys values (tags_in keys values f.attributes) f.attributes → tags_in keys values f.attributes ≡ tags_in (keys_of features) (values_of features) f.attributes
-tags_last laws features done rest f keys values parts keys_are values_are names =
-    let all_keys = keys_front laws done rest in
-    let all_values = values_front laws done rest in
-    let keys_grow : keys_of features ≡ keys ++ all_keys.0 = ap keys_of parts ∙ all_keys.1 ∙ ap (λ k. k ++ all_keys.0) (sym keys_are) in
-    let values_grow : values_of features ≡ values ++ all_values.0 = ap values_of parts ∙ all_values.1 ∙ ap (λ k. k ++ all_values.0) (sym values_are) in
-    laws.tags_stay keys all_keys.0 values all_values.0 (tags_in keys values f.attributes) f.attributes (subst AreDistinct (sym keys_are) (keys_distinct laws done)) (subst AreDistinct (sym values_are) (values_distinct laws done)) names ∙ ap₂ (λ ks vs. tags_in ks vs f.attributes) (sym keys_grow) (sym values_grow)
+tags_last : (features done rest : List Feature) (f : Feature) (keys : List (List ℕ)) (values : List Value)
+    → features ≡ done ++ rest → keys ≡ keys_of done → values ≡ values_of done
+    → Names keys values (tags_in keys values f.attributes) f.attributes
+    → tags_in keys values f.attributes ≡ tags_in (keys_of features) (values_of features) f.attributes
+tags_last features done rest f keys values parts keys_are values_are names =
+    let all_keys = keys_front done rest in
+    let all_values = values_front done rest in
+    let keys_grow : keys_of features ≡ keys ++ all_keys.0 =
+    ap keys_of parts ∙ all_keys.1 ∙ ap (λ k. k ++ all_keys.0) (sym keys_are) in
+    let values_grow : values_of features ≡ values ++ all_values.0 =
+    ap values_of parts ∙ all_values.1 ∙ ap (λ k. k ++ all_values.0) (sym values_are) in
+    let distinct_keys : AreDistinct keys = subst AreDistinct (sym keys_are) (keys_distinct done) in
+    let distinct_values : AreDistinct values = subst AreDistinct (sym values_are) (values_distinct done) in
+    tags_stay keys all_keys.0 values all_values.0 (tags_in keys values f.attributes) f.attributes distinct_keys distinct_values names
+    ∙ ap₂ (λ ks vs. tags_in ks vs f.attributes) (sym keys_grow) (sym values_grow)
 
 -- the features below a place are written, with tags that name entries of the pools of all features
 pub record FeaturesSoFar (features : List Feature) (i : ℕ) (keys : List (List ℕ)) (values : List Value) (start out : List ℕ) : Type 0 where
@@ -96,101 +138,175 @@ pub record FeaturesSoFar (features : List Feature) (i : ℕ) (keys : List (List 
   pub values_are : values ≡ values_of (take i features)
   pub out_is : out ≡ start ++ spelled (map (feature_field (keys_of features) (values_of features)) (take i features))
 
-pub features_start : (features : List Feature) (keys : List (List ℕ)) (values : List Value) (start : List ℕ) → keys ≡ [] → values ≡ [] → FeaturesSoFar features 0 keys values start start
+pub features_start : (features : List Feature) {keys : List (List ℕ)} {values : List Value} (start : List ℕ)
+    → keys ≡ [] → values ≡ [] → FeaturesSoFar features 0 keys values start start
 unfolding keys_of values_of
-features_start features keys values start no_keys no_values =
+features_start features start no_keys no_values =
     record { keys_are = no_keys; values_are = no_values; out_is = sym (append-nil start) }
 
-front_more : (features : List Feature) (i : ℕ) (f : Feature) → i < length features → f ≡ get_or features i f → take (i + 1) features ≡ take i features ++ f ∷ []
+front_more : (features : List Feature) (i : ℕ) (f : Feature) → i < length features → f ≡ get_or features i f
+    → take (i + 1) features ≡ take i features ++ f ∷ []
 front_more features i f within here = take_more features i f within ∙ ap (λ x. take i features ++ x ∷ []) (sym here)
 
-pub features_step : PoolLaws → (features : List Feature) (i : ℕ) (f : Feature) (keys new_keys : List (List ℕ)) (values new_values : List Value) (start out payload new_out : List ℕ) → FeaturesSoFar features i keys values start out → i < length features → f ≡ get_or features i f → new_keys ≡ key_pool keys f.attributes → new_values ≡ value_pool values f.attributes
-    → Names new_keys new_values (tags_in new_keys new_values f.attributes) f.attributes → payload ≡ spelled (feature_fields (tags_in new_keys new_values f.attributes) f) → new_out ≡ out ++ short_field 2 (bytes payload) → FeaturesSoFar features (i + 1) new_keys new_values start new_out
-features_step laws features i f keys new_keys values new_values start out payload new_out so_far within here keys_grow values_grow names payload_is out_grows =
+-- a feature whose entries are in pools, and its payload behind nothing
+pub record IsPlaced (f : Feature) (keys new_keys : List (List ℕ)) (values new_values : List Value) (payload : List ℕ) : Type 0 where
+  pub keys_grow : new_keys ≡ key_pool keys f.attributes
+  pub values_grow : new_values ≡ value_pool values f.attributes
+  pub names : Names new_keys new_values (tags_in new_keys new_values f.attributes) f.attributes
+  pub payload_is : payload ≡ spelled (feature_fields (tags_in new_keys new_values f.attributes) f)
+
+pub placed : {f : Feature} {keys new_keys : List (List ℕ)} {values new_values : List Value} {old payload : List ℕ} → old ≡ []
+    → payload ≡ old ++ spelled (feature_fields (tags_in new_keys new_values f.attributes) f)
+    → new_keys ≡ key_pool keys f.attributes → new_values ≡ value_pool values f.attributes
+    → Names new_keys new_values (tags_in new_keys new_values f.attributes) f.attributes
+    → IsPlaced f keys new_keys values new_values payload
+placed {f} {new_keys} {new_values} nothing is keys_grow values_grow names = record {
+  keys_grow = keys_grow;
+  values_grow = values_grow;
+  names = names;
+  payload_is = is ∙ ap (λ l. l ++ spelled (feature_fields (tags_in new_keys new_values f.attributes) f)) nothing;
+}
+
+pub features_step : {features : List Feature} {i : ℕ} {f : Feature} {keys new_keys : List (List ℕ)} {values new_values : List Value}
+    {start out payload new_out : List ℕ}
+    → FeaturesSoFar features i keys values start out → i < length features → f ≡ get_or features i f
+    → IsPlaced f keys new_keys values new_values payload → new_out ≡ out ++ short_field 2 (bytes payload)
+    → FeaturesSoFar features (i + 1) new_keys new_values start new_out
+features_step {features} {i} {f} {keys} {new_keys} {values} {new_values} {start} {out} so_far within here placed out_grows =
     let done = take i features in
+    let next = take (i + 1) features in
     let more = front_more features i f within here in
-    let keys_are : new_keys ≡ keys_of (take (i + 1) features) = keys_more laws done f keys new_keys so_far.keys_are keys_grow ∙ ap keys_of (sym more) in
-    let values_are : new_values ≡ values_of (take (i + 1) features) = values_more laws done f values new_values so_far.values_are values_grow ∙ ap values_of (sym more) in
-    let tags = tags_last laws features (take (i + 1) features) (drop (i + 1) features) f new_keys new_values (sym (take-append-drop (i + 1) features)) keys_are values_are names in
-    let put : new_out ≡ out ++ short_field 2 (bytes (spelled (feature_fields (tags_in (keys_of features) (values_of features) f.attributes) f))) = out_grows ∙ ap (λ b. out ++ short_field 2 (bytes b)) (payload_is ∙ ap (λ t. spelled (feature_fields t f)) tags) in
+    let keys_are : new_keys ≡ keys_of next = keys_more done f keys new_keys so_far.keys_are placed.keys_grow ∙ ap keys_of (sym more) in
+    let values_are : new_values ≡ values_of next =
+    values_more done f values new_values so_far.values_are placed.values_grow ∙ ap values_of (sym more) in
+    let parts = sym (take-append-drop (i + 1) features) in
+    let tags = tags_last features next (drop (i + 1) features) f new_keys new_values parts keys_are values_are placed.names in
+    let whole = placed.payload_is ∙ ap (λ t. spelled (feature_fields t f)) tags in
     record {
       keys_are = keys_are;
       values_are = values_are;
-      out_is = list_step (feature_field (keys_of features) (values_of features)) features i f start out new_out within (sym here) so_far.out_is put;
+      out_is = list_step (feature_field (keys_of features) (values_of features)) features i start within (sym here) so_far.out_is
+          (out_grows ∙ ap (λ b. out ++ short_field 2 (bytes b)) whole);
     }
 
 -- a front of a list is no longer than the whole
-pub front_long : {Y : Type 0} → (g : Y → Plain) (ys : List Y) (i start bound : ℕ) → bound < start + length (spelled (map g (take i ys))) → bound < start + length (spelled (map g ys))
+pub front_long : {Y : Type 0} → (g : Y → Plain) (ys : List Y) (i start bound : ℕ)
+    → bound < start + length (spelled (map g (take i ys))) → bound < start + length (spelled (map g ys))
 front_long g ys i start bound long =
-    let parts : spelled (map g ys) ≡ spelled (map g (take i ys)) ++ spelled (map g (drop i ys)) = ap (λ l. spelled (map g l)) (sym (take-append-drop i ys)) ∙ ap spelled (map-append g (take i ys) (drop i ys)) ∙ spelled-append (map g (take i ys)) (map g (drop i ys)) in
-    let size = ap length parts ∙ length-append (spelled (map g (take i ys))) (spelled (map g (drop i ys))) in
+    let front = map g (take i ys) in
+    let back = map g (drop i ys) in
+    let parts : spelled (map g ys) ≡ spelled front ++ spelled back =
+    ap (λ l. spelled (map g l)) (sym (take-append-drop i ys)) ∙ ap spelled (map-append g (take i ys) (drop i ys))
+    ∙ spelled-append front back in
+    let size = ap length parts ∙ length-append (spelled front) (spelled back) in
     omega (arith, size)
 
 -- what is written is a front of the whole
-pub features_long : (features : List Feature) (i : ℕ) (keys : List (List ℕ)) (values : List Value) (start out : List ℕ) (bound : ℕ) → FeaturesSoFar features i keys values start out → bound < length out → bound < length start + length (spelled (map (feature_field (keys_of features) (values_of features)) features))
-features_long features i keys values start out bound so_far long =
+abbrev pub features_length : List Feature → ℕ
+features_length features = length (spelled (map (feature_field (keys_of features) (values_of features)) features))
+
+pub features_long : {features : List Feature} {i : ℕ} {keys : List (List ℕ)} {values : List Value} {start out : List ℕ} (bound : ℕ)
+    → FeaturesSoFar features i keys values start out → bound < length out → bound < length start + features_length features
+features_long {features} {i} {start} bound so_far long =
     let field = feature_field (keys_of features) (values_of features) in
     let size = ap length so_far.out_is ∙ length-append start (spelled (map field (take i features))) in
     front_long field features i (length start) bound (omega (arith, size))
 
 -- pools that a feature takes past a bound are fronts of the pools of all features
-keys_pass : PoolLaws → (features : List Feature) (i : ℕ) (f : Feature) (keys : List (List ℕ)) (bound : ℕ) → keys ≡ keys_of (take i features) → i < length features → f ≡ get_or features i f → bound < length (key_pool keys f.attributes) → bound < length (keys_of features)
-keys_pass laws features i f keys bound is within here more =
-    let now : key_pool keys f.attributes ≡ keys_of (take (i + 1) features) = keys_more laws (take i features) f keys _ is refl ∙ ap keys_of (sym (front_more features i f within here)) in
-    let later = keys_front laws (take (i + 1) features) (drop (i + 1) features) in
-    let all : keys_of features ≡ key_pool keys f.attributes ++ later.0 = ap keys_of (sym (take-append-drop (i + 1) features)) ∙ later.1 ∙ ap (λ k. k ++ later.0) (sym now) in
+keys_pass : (features : List Feature) (i : ℕ) (f : Feature) (keys : List (List ℕ)) (bound : ℕ) → keys ≡ keys_of (take i features)
+    → i < length features → f ≡ get_or features i f → bound < length (key_pool keys f.attributes) → bound < length (keys_of features)
+keys_pass features i f keys bound is within here more =
+    let next = take (i + 1) features in
+    let now : key_pool keys f.attributes ≡ keys_of next =
+    keys_more (take i features) f keys _ is refl ∙ ap keys_of (sym (front_more features i f within here)) in
+    let later = keys_front next (drop (i + 1) features) in
+    let all : keys_of features ≡ key_pool keys f.attributes ++ later.0 =
+    ap keys_of (sym (take-append-drop (i + 1) features)) ∙ later.1 ∙ ap (λ k. k ++ later.0) (sym now) in
     let size = ap length all ∙ length-append (key_pool keys f.attributes) later.0 in
     omega (arith, size)
 
-values_pass : PoolLaws → (features : List Feature) (i : ℕ) (f : Feature) (values : List Value) (bound : ℕ) → values ≡ values_of (take i features) → i < length features → f ≡ get_or features i f → bound < length (value_pool values f.attributes) → bound < length (values_of features)
-values_pass laws features i f values bound is within here more =
-    let now : value_pool values f.attributes ≡ values_of (take (i + 1) features) = values_more laws (take i features) f values _ is refl ∙ ap values_of (sym (front_more features i f within here)) in
-    let later = values_front laws (take (i + 1) features) (drop (i + 1) features) in
-    let all : values_of features ≡ value_pool values f.attributes ++ later.0 = ap values_of (sym (take-append-drop (i + 1) features)) ∙ later.1 ∙ ap (λ k. k ++ later.0) (sym now) in
+values_pass : (features : List Feature) (i : ℕ) (f : Feature) (values : List Value) (bound : ℕ) → values ≡ values_of (take i features)
+    → i < length features → f ≡ get_or features i f → bound < length (value_pool values f.attributes) → bound < length (values_of features)
+values_pass features i f values bound is within here more =
+    let next = take (i + 1) features in
+    let now : value_pool values f.attributes ≡ values_of next =
+    values_more (take i features) f values _ is refl ∙ ap values_of (sym (front_more features i f within here)) in
+    let later = values_front next (drop (i + 1) features) in
+    let all : values_of features ≡ value_pool values f.attributes ++ later.0 =
+    ap values_of (sym (take-append-drop (i + 1) features)) ∙ later.1 ∙ ap (λ k. k ++ later.0) (sym now) in
     let size = ap length all ∙ length-append (value_pool values f.attributes) later.0 in
     omega (arith, size)
 
-pub features_full : PoolLaws → (features : List Feature) (i : ℕ) (f : Feature) (keys : List (List ℕ)) (values : List Value) (bound : ℕ) → keys ≡ keys_of (take i features) → values ≡ values_of (take i features) → i < length features → f ≡ get_or features i f → (bound < length (key_pool keys f.attributes)) ⊎ (bound < length (value_pool values f.attributes)) → (bound ≤ length (keys_of features)) ⊎ (bound ≤ length (values_of features))
-features_full laws features i f keys values bound keys_are values_are within here (inl more) =
-    let all = keys_pass laws features i f keys bound keys_are within here more in inl (omega arith)
-features_full laws features i f keys values bound keys_are values_are within here (inr more) =
-    let all = values_pass laws features i f values bound values_are within here more in inr (omega arith)
+pub features_full : {features : List Feature} {i : ℕ} {f : Feature} {keys : List (List ℕ)} {values : List Value}
+    {start out : List ℕ} (bound : ℕ)
+    → FeaturesSoFar features i keys values start out → i < length features → f ≡ get_or features i f
+    → (bound < length (key_pool keys f.attributes)) ⊎ (bound < length (value_pool values f.attributes))
+    → (bound ≤ length (keys_of features)) ⊎ (bound ≤ length (values_of features))
+features_full {features} {i} {f} {keys} bound so_far within here (inl more) =
+    let all = keys_pass features i f keys bound so_far.keys_are within here more in inl (omega arith)
+features_full {features} {i} {f} {values} bound so_far within here (inr more) =
+    let all = values_pass features i f values bound so_far.values_are within here more in inr (omega arith)
 
 -- the whole layer
 abbrev pub IsLong : ℕ → ℕ → List Feature → Type 0
 IsLong bound start features =
-    (bound < start + length (spelled (map (feature_field (keys_of features) (values_of features)) features)))
-    ⊎ ((bound ≤ length (keys_of features)) ⊎ (bound ≤ length (values_of features)))
+    (bound < start + features_length features) ⊎ ((bound ≤ length (keys_of features)) ⊎ (bound ≤ length (values_of features)))
 
-pub layer_parts : (layer : ALayer) → spelled (layer_fields layer) ≡ spelled (head_fields layer.name) ++ (spelled (map (feature_field (keys_of layer.features) (values_of layer.features)) layer.features) ++ (spelled (map key_field (keys_of layer.features)) ++ (spelled (map value_field (values_of layer.features)) ++ spelled (extent_fields layer.extent))))
+-- the parts of a layer's payload, in their order
+abbrev pub head_part : ALayer → List ℕ
+head_part layer = spelled (head_fields layer.name)
+
+abbrev pub features_part : List Feature → List ℕ
+features_part features = spelled (map (feature_field (keys_of features) (values_of features)) features)
+
+abbrev pub keys_part : List (List ℕ) → List ℕ
+keys_part keys = spelled (map key_field keys)
+
+abbrev pub values_part : List Value → List ℕ
+values_part values = spelled (map value_field values)
+
+abbrev pub extent_part : ALayer → List ℕ
+extent_part layer = spelled (extent_fields layer.extent)
+
+abbrev pub pool_parts : ALayer → List ℕ
+pool_parts layer = keys_part (keys_of layer.features) ++ (values_part (values_of layer.features) ++ extent_part layer)
+
+pub layer_parts : (layer : ALayer) → spelled (layer_fields layer) ≡ head_part layer ++ (features_part layer.features ++ pool_parts layer)
 layer_parts layer =
     let features = map (feature_field (keys_of layer.features) (values_of layer.features)) layer.features in
     let keys = map key_field (keys_of layer.features) in
     let values = map value_field (values_of layer.features) in
     let extent = extent_fields layer.extent in
-    spelled-append (head_fields layer.name) (features ++ (keys ++ (values ++ extent))) ∙ ap (λ l. spelled (head_fields layer.name) ++ l) (spelled-append features (keys ++ (values ++ extent)) ∙ ap (λ l. spelled features ++ l) (spelled-append keys (values ++ extent) ∙ ap (λ l. spelled keys ++ l) (spelled-append values extent)))
+    let last = ap (λ l. spelled keys ++ l) (spelled-append values extent) in
+    let behind = ap (λ l. spelled features ++ l) (spelled-append keys (values ++ extent) ∙ last) in
+    spelled-append (head_fields layer.name) (features ++ (keys ++ (values ++ extent)))
+    ∙ ap (λ l. head_part layer ++ l) (spelled-append features (keys ++ (values ++ extent)) ∙ behind)
 
-pub layer_long : BytesLonger → (layer : ALayer) (features : List Feature) (start : ℕ) → features ≡ layer.features → start ≡ length (spelled (head_fields layer.name)) → IsLong LIMIT start features → LIMIT < length (spelled (layer_fields layer))
-layer_long bytes_longer layer features start is start_is long = by_cause (subst (IsLong LIMIT start) is long)
+pub layer_long : (layer : ALayer) {features : List Feature} {start : ℕ} → features ≡ layer.features → start ≡ length (head_part layer)
+    → IsLong LIMIT start features → LIMIT < length (spelled (layer_fields layer))
+layer_long layer {start} is start_is long = by_cause (subst (IsLong LIMIT start) is long)
   where
     by_cause : IsLong LIMIT start layer.features → LIMIT < length (spelled (layer_fields layer))
     by_cause (inl h) =
-        let parts = ap length (layer_parts layer) ∙ length-append (spelled (head_fields layer.name)) _ in
-        let more = length-append (spelled (map (feature_field (keys_of layer.features) (values_of layer.features)) layer.features)) (spelled (map key_field (keys_of layer.features)) ++ (spelled (map value_field (values_of layer.features)) ++ spelled (extent_fields layer.extent))) in
+        let parts = ap length (layer_parts layer) ∙ length-append (head_part layer) _ in
+        let more = length-append (features_part layer.features) (pool_parts layer) in
         omega (arith, parts, more)
-    by_cause (inr (inl h)) = let two = pools_within bytes_longer (keys_of layer.features) (values_of layer.features) layer in omega (arith, two.0)
-    by_cause (inr (inr h)) = let two = pools_within bytes_longer (keys_of layer.features) (values_of layer.features) layer in omega (arith, two.1)
+    by_cause (inr (inl h)) = omega (arith, (pools_within (keys_of layer.features) (values_of layer.features) layer).0)
+    by_cause (inr (inr h)) = omega (arith, (pools_within (keys_of layer.features) (values_of layer.features) layer).1)
 
-pub layer_put : (layer : ALayer) (features : List Feature) (keys : List (List ℕ)) (values : List Value) (a b c d e : List ℕ) → features ≡ layer.features → keys ≡ keys_of features → values ≡ values_of features → a ≡ spelled (head_fields layer.name) → b ≡ a ++ spelled (map (feature_field (keys_of features) (values_of features)) features) → c ≡ b ++ spelled (map key_field keys) → d ≡ c ++ spelled (map value_field values) → e ≡ d ++ spelled (extent_fields layer.extent) → e ≡ spelled (layer_fields layer)
-layer_put layer features keys values a b c d e is keys_are values_are ha hb hc hd he =
-    let F = spelled (map (feature_field (keys_of layer.features) (values_of layer.features)) layer.features) in
-    let K = spelled (map key_field (keys_of layer.features)) in
-    let V = spelled (map value_field (values_of layer.features)) in
-    let E = spelled (extent_fields layer.extent) in
-    let H = spelled (head_fields layer.name) in
-    let b_is : b ≡ H ++ F = hb ∙ ap₂ (λ x y. x ++ spelled (map (feature_field (keys_of y) (values_of y)) y)) ha is in
-    let c_is : c ≡ (H ++ F) ++ K = hc ∙ ap₂ (λ x y. x ++ spelled (map key_field y)) b_is (keys_are ∙ ap keys_of is) in
-    let d_is : d ≡ ((H ++ F) ++ K) ++ V = hd ∙ ap₂ (λ x y. x ++ spelled (map value_field y)) c_is (values_are ∙ ap values_of is) in
+pub layer_put : (layer : ALayer) {features : List Feature} {keys : List (List ℕ)} {values : List Value} {a b c d e : List ℕ}
+    → features ≡ layer.features → keys ≡ keys_of features → values ≡ values_of features
+    → a ≡ head_part layer → b ≡ a ++ features_part features → c ≡ b ++ keys_part keys → d ≡ c ++ values_part values
+    → e ≡ d ++ extent_part layer → e ≡ spelled (layer_fields layer)
+layer_put layer {b} {c} {d} is keys_are values_are ha hb hc hd he =
+    let F = features_part layer.features in
+    let K = keys_part (keys_of layer.features) in
+    let V = values_part (values_of layer.features) in
+    let E = extent_part layer in
+    let H = head_part layer in
+    let b_is : b ≡ H ++ F = hb ∙ ap₂ (λ x y. x ++ features_part y) ha is in
+    let c_is : c ≡ (H ++ F) ++ K = hc ∙ ap₂ (λ x y. x ++ keys_part y) b_is (keys_are ∙ ap keys_of is) in
+    let d_is : d ≡ ((H ++ F) ++ K) ++ V = hd ∙ ap₂ (λ x y. x ++ values_part y) c_is (values_are ∙ ap values_of is) in
     he ∙ ap (λ x. x ++ E) d_is ∙ regroup H F K V E ∙ sym (layer_parts layer)
   where
     regroup : (h f k v x : List ℕ) → (((h ++ f) ++ k) ++ v) ++ x ≡ h ++ (f ++ (k ++ (v ++ x)))

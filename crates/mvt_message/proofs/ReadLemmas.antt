@@ -12,10 +12,9 @@ use Rattle.mvt_base.proofs.ListLemmas.{related-append, length-related}
 use Rattle.mvt_base.proofs.RuleLemmas.{each_more, each_stops, first-told, first-when, first-when_not, option_or-none, option_or-nones, option_or-some}
 use Rattle.mvt_base.proofs.SelectionLemmas.{last_only-more}
 use Rattle.mvt_attrs.specs.declared.value.Value.{Value}
-use Rattle.mvt_wire.specs.declared.field.Field.{Field}
 use Rattle.mvt_wire.specs.declared.fault.WireFault.{WireFault}
-use Rattle.mvt_wire.specs.Field.{Entry, content_of}
-use Rattle.mvt_wire.specs.Fields.{GivesEntry, bytes_size}
+use Rattle.mvt_wire.specs.Field.{Entry}
+use Rattle.mvt_wire.specs.Fields.{GivesEntry}
 use Rattle.mvt_wire.specs.Split.{Parts, split}
 use Rattle.mvt_feature.specs.declared.cause.Cause.TheVariants.{NoVersion, NoName}
 use Rattle.mvt_feature.specs.declared.feature.Feature.{Feature}
@@ -29,6 +28,9 @@ use Rattle.mvt_feature.specs.Selection.{only, last_only}
 use Rattle.mvt_feature.specs.Values.{IsValueOf}
 use Rattle.mvt_feature.specs.ValueRules.{value_fault}
 use Rattle.mvt_feature.specs.Walks.{Walk}
+use Rattle.mvt_wire.proofs.WireLaws.{split_function_count}
+use Rattle.mvt_feature.proofs.FeatureLaws.{rests_none, rests_nothing, walks_end, walks_fault}
+use Rattle.mvt_feature.specs.Causes.{of_wire}
 use Rattle.mvt_message.specs.declared.numbers.layer.TheConstants.{NAME, FEATURES, KEYS, VALUES, EXTENT, VERSION}
 use Rattle.mvt_message.specs.declared.item.Layer.{Layer as ALayer}
 use Rattle.mvt_message.specs.declared.item.Item.TheVariants.{Layer, Foreign}
@@ -37,158 +39,245 @@ use Rattle.mvt_message.specs.ItemRules.{version_rules, layer_field_rules, value_
 use Rattle.mvt_message.specs.Items.{HoldsValue, HoldsFeature, IsLayer, IsItem}
 use Rattle.mvt_message.specs.Inner.{rest_fault, versions_fault, forms_fault, no_name_fault, values_fault, features_fault, head_fault, layer_fault, IsVersionSoFar, OrFault, IsHead, name_after, extent_after, keys_at, AreValuesSoFar, AreFeaturesSoFar}
 use Rattle.mvt_message.proofs.ChainLemmas.{item_chain, layer_chain, tells_or, or_tells}
-use Rattle.mvt_message.proofs.FormLemmas.{FormsHave, versions_form}
-use Rattle.mvt_message.proofs.SaidLemmas.{ValueIs, values_said}
-use Rattle.mvt_message.proofs.ItemLaws.{RestNone, NoneRest, SplitIs, value_first, feature_first, version_there, head_clean, layer_from, layer_clean, item_of_layer, item_from}
+use Rattle.mvt_message.proofs.FormLemmas.{versions_form}
+use Rattle.mvt_message.proofs.SaidLemmas.{values_said}
+use Rattle.mvt_message.proofs.OrFaultLemmas.{last_there, name_there, value_first, feature_first, version_there, head_clean, layer_from, layer_clean, item_of_layer, item_from}
 
 -- a fault is told of whatever has it
-pub tells_as : (e : MessageError) (o p : Option MessageFault) → ((f : MessageFault) → o ≡ Some f → p ≡ Some f) → TellsMessage e o → TellsMessage e p
+pub tells_as : (e : MessageError) (o p : Option MessageFault) → ((f : MessageFault) → o ≡ Some f → p ≡ Some f) → TellsMessage e o
+    → TellsMessage e p
 tells_as Memory o p keep h = tt
 tells_as (Fault feature at cause) o p keep h = keep _ h
 
 -- the selected fields with one more
 only_take : (k : ℕ) (done : List Entry) (x : Entry) → x.number ≡ k → only k (done ++ x ∷ []) ≡ only k done ++ x ∷ []
-only_take k done x is = filter-append (λ (y : Entry). y.number == k) done (x ∷ []) ∙ ap (λ b. only k done ++ (if b then x ∷ [] else [])) (eq-eqb x.number k is)
+only_take k done x is =
+    filter-append (λ (y : Entry). y.number == k) done (x ∷ []) ∙ ap (λ b. only k done ++ (if b then x ∷ [] else [])) (eq-eqb x.number k is)
 
 only_skip : (k : ℕ) (done : List Entry) (x : Entry) → x.number ≢ k → only k (done ++ x ∷ []) ≡ only k done
 only_skip k done x not_is =
-    filter-append (λ (y : Entry). y.number == k) done (x ∷ []) ∙ ap (λ b. only k done ++ (if b then x ∷ [] else [])) (ne_eqb x.number k not_is) ∙ append-nil (only k done)
+    filter-append (λ (y : Entry). y.number == k) done (x ∷ [])
+    ∙ ap (λ b. only k done ++ (if b then x ∷ [] else [])) (ne_eqb x.number k not_is) ∙ append-nil (only k done)
 
 -- an element's fault stays whatever fields follow
-selected_stops : (k : ℕ) (rules : List Entry → Entry → Rules MessageFault) (e : MessageError) (done : List Entry) (x : Entry) (more : List Entry) → x.number ≡ k → first (each rules [] (only k done)) ≡ None → TellsMessage e (first (rules (only k done) x)) → TellsMessage e (first (each rules [] (only k ((done ++ x ∷ []) ++ more))))
+selected_stops : (k : ℕ) (rules : List Entry → Entry → Rules MessageFault) (e : MessageError) (done : List Entry) (x : Entry)
+    (more : List Entry) → x.number ≡ k → first (each rules [] (only k done)) ≡ None → TellsMessage e (first (rules (only k done) x))
+    → TellsMessage e (first (each rules [] (only k ((done ++ x ∷ []) ++ more))))
 selected_stops k rules e done x more is clean told_here =
-    tells_as e (first (rules (only k done) x)) _ (λ f broken. ap (λ xs. first (each rules [] xs)) (filter-append (λ (y : Entry). y.number == k) (done ++ x ∷ []) more ∙ ap (λ xs. xs ++ only k more) (only_take k done x is) ∙ append_assoc (only k done) (x ∷ []) (only k more)) ∙ each_stops rules (only k done) x (only k more) f clean broken) told_here
+    tells_as e (first (rules (only k done) x)) _
+    (λ f broken. ap (λ xs. first (each rules [] xs))
+    (filter-append (λ (y : Entry). y.number == k) (done ++ x ∷ []) more ∙ ap (λ xs. xs ++ only k more) (only_take k done x is)
+    ∙ append_assoc (only k done) (x ∷ []) (only k more)) ∙ each_stops rules (only k done) x (only k more) f clean broken) told_here
 
 -- versions
-number_more : (k : ℕ) (done : List Entry) (x : Entry) → number_in (last_only k (done ++ x ∷ [])) ≡ (if x.number == k then number_of x.content else number_in (last_only k done))
+number_more : (k : ℕ) (done : List Entry) (x : Entry)
+    → number_in (last_only k (done ++ x ∷ [])) ≡ (if x.number == k then number_of x.content else number_in (last_only k done))
 number_more k done x = ap number_in (last_only-more (λ (y : Entry). y.number) k done x) ∙ by_test (x.number == k)
   where
-    by_test : (b : Bool) → number_in (if b then Some x else last_only k done) ≡ (if b then number_of x.content else number_in (last_only k done))
+    by_test : (b : Bool) → number_in (if b then Some x else last_only k done) ≡
+        (if b then number_of x.content else number_in (last_only k done))
     by_test true = refl
     by_test false = refl
 
-version_first : (payload_at : ℕ) (x : Entry) → first (version_rules payload_at x) ≡ option_map (fault_at (payload_at + x.at)) (first (number_rules version_forms x.number x.content))
+version_first : (payload_at : ℕ) (x : Entry)
+    → first (version_rules payload_at x) ≡ option_map (fault_at (payload_at + x.at))
+    (first (number_rules version_forms x.number x.content))
 unfolding version_rules
 version_first payload_at x = first-told (fault_at (payload_at + x.at)) (number_rules version_forms x.number x.content)
 
-pub version_skip : (payload_at : ℕ) (done : List Entry) (v : Option ℕ) (x : Entry) → IsVersionSoFar payload_at done (Ok v) → x.number ≢ VERSION → IsVersionSoFar payload_at (done ++ x ∷ []) (Ok v)
+pub version_skip : (payload_at : ℕ) (done : List Entry) (v : Option ℕ) (x : Entry) → IsVersionSoFar payload_at done (Ok v)
+    → x.number ≢ VERSION → IsVersionSoFar payload_at (done ++ x ∷ []) (Ok v)
 version_skip payload_at done v x so_far other =
     let test = ne_eqb x.number VERSION other in (
-      each_more (λ _. version_rules payload_at) done x so_far.0 ∙ version_first payload_at x ∙ ap (λ (b : Bool). option_map (fault_at (payload_at + x.at)) (first (if b then form_rules uint32 x.content else []))) test,
+      each_more (λ _. version_rules payload_at) done x so_far.0 ∙ version_first payload_at x
+          ∙ ap (λ (b : Bool). option_map (fault_at (payload_at + x.at)) (first (if b then form_rules uint32 x.content else []))) test,
       so_far.1 ∙ sym (number_more VERSION done x ∙ ap (λ (b : Bool). if b then number_of x.content else version_in done) test),
     )
 
-pub version_take : (payload_at : ℕ) (done : List Entry) (v : Option ℕ) (x : Entry) (n : ℕ) → IsVersionSoFar payload_at done (Ok v) → x.number ≡ VERSION → number_of x.content ≡ Some n → first (form_rules uint32 x.content) ≡ None → IsVersionSoFar payload_at (done ++ x ∷ []) (Ok (Some n))
+pub version_take : (payload_at : ℕ) (done : List Entry) (v : Option ℕ) (x : Entry) (n : ℕ) → IsVersionSoFar payload_at done (Ok v)
+    → x.number ≡ VERSION → number_of x.content ≡ Some n → first (form_rules uint32 x.content) ≡ None
+    → IsVersionSoFar payload_at (done ++ x ∷ []) (Ok (Some n))
 version_take payload_at done v x n so_far is number clean =
     let test = eq-eqb x.number VERSION is in (
-      each_more (λ _. version_rules payload_at) done x so_far.0 ∙ version_first payload_at x ∙ ap (λ (b : Bool). option_map (fault_at (payload_at + x.at)) (first (if b then form_rules uint32 x.content else []))) test ∙ ap (option_map (fault_at (payload_at + x.at))) clean,
+      each_more (λ _. version_rules payload_at) done x so_far.0 ∙ version_first payload_at x
+          ∙ ap (λ (b : Bool). option_map (fault_at (payload_at + x.at)) (first (if b then form_rules uint32 x.content else []))) test
+          ∙ ap (option_map (fault_at (payload_at + x.at))) clean,
       sym (number_more VERSION done x ∙ ap (λ (b : Bool). if b then number_of x.content else version_in done) test ∙ number),
     )
 
-pub version_stops : (payload_at : ℕ) (done : List Entry) (v : Option ℕ) (x : Entry) (e : MessageError) → IsVersionSoFar payload_at done (Ok v) → x.number ≡ VERSION → TellsMessage e (option_map (fault_at (payload_at + x.at)) (first (form_rules uint32 x.content))) → (more : List Entry) → TellsMessage e (versions_fault payload_at ((done ++ x ∷ []) ++ more))
+pub version_stops : (payload_at : ℕ) (done : List Entry) (v : Option ℕ) (x : Entry) (e : MessageError)
+    → IsVersionSoFar payload_at done (Ok v) → x.number ≡ VERSION
+    → TellsMessage e (option_map (fault_at (payload_at + x.at)) (first (form_rules uint32 x.content))) → (more : List Entry)
+    → TellsMessage e (versions_fault payload_at ((done ++ x ∷ []) ++ more))
 version_stops payload_at done v x e so_far is told_here more =
     let test = eq-eqb x.number VERSION is in
-    tells_as e (option_map (fault_at (payload_at + x.at)) (first (form_rules uint32 x.content))) _ (λ f broken. rw append_assoc (each_stops (λ _. version_rules payload_at) done x more f so_far.0 (version_first payload_at x ∙ ap (λ (b : Bool). option_map (fault_at (payload_at + x.at)) (first (if b then form_rules uint32 x.content else []))) test ∙ broken))) told_here
+    tells_as e (option_map (fault_at (payload_at + x.at)) (first (form_rules uint32 x.content))) _
+    (λ f broken. rw append_assoc
+    (each_stops (λ _. version_rules payload_at) done x more f so_far.0
+    (version_first payload_at x
+    ∙ ap (λ (b : Bool). option_map (fault_at (payload_at + x.at)) (first (if b then form_rules uint32 x.content else []))) test
+    ∙ broken))) told_here
 
 -- a fault stays
-pub fault_stays : (fault : List Entry → Option MessageFault) (done : List Entry) (x : Entry) (e : MessageError) → ((more : List Entry) → TellsMessage e (fault (done ++ more))) → (more : List Entry) → TellsMessage e (fault ((done ++ x ∷ []) ++ more))
+pub fault_stays : (fault : List Entry → Option MessageFault) (done : List Entry) (x : Entry) (e : MessageError)
+    → ((more : List Entry) → TellsMessage e (fault (done ++ more))) → (more : List Entry)
+    → TellsMessage e (fault ((done ++ x ∷ []) ++ more))
 fault_stays fault done x e stays more = subst (λ xs. TellsMessage e (fault xs)) (sym (append_assoc done (x ∷ []) more)) (stays (x ∷ more))
 
 -- where there is no fault, what the fields say holds
-pub or_clean : (fault : List Entry → Option MessageFault) (Say : List Entry → Type 0) (done : List Entry) (kept : Option MessageError) → false ≡ is_some kept → OrFault fault Say done kept → Say done
+pub or_clean : (fault : List Entry → Option MessageFault) (Say : List Entry → Type 0) (done : List Entry) (kept : Option MessageError)
+    → false ≡ is_some kept → OrFault fault Say done kept → Say done
 or_clean fault Say done None none h = h
 or_clean fault Say done (Some e) none h = absurd (let clash : false ≡ true = none in cc)
 
-pub or_said : (fault : List Entry → Option MessageFault) (Say : List Entry → Type 0) (done : List Entry) (kept : Option MessageError) → false ≡ is_some kept → Say done → OrFault fault Say done kept
+pub or_said : (fault : List Entry → Option MessageFault) (Say : List Entry → Type 0) (done : List Entry) (kept : Option MessageError)
+    → false ≡ is_some kept → Say done → OrFault fault Say done kept
 or_said fault Say done None none h = h
 or_said fault Say done (Some e) none h = absurd (let clash : false ≡ true = none in cc)
 
 -- at the end of a walk a fault is that of all fields
-pub or_told : (fault : List Entry → Option MessageFault) (done : List Entry) (e : MessageError) → ((more : List Entry) → TellsMessage e (fault (done ++ more))) → TellsMessage e (fault done)
+pub or_told : (fault : List Entry → Option MessageFault) (done : List Entry) (e : MessageError)
+    → ((more : List Entry) → TellsMessage e (fault (done ++ more))) → TellsMessage e (fault done)
 or_told fault done e stays = subst (λ xs. TellsMessage e (fault xs)) (append-nil done) (stays [])
 
 -- the version so far with a field of another number, or behind a fault
-pub version_passes : (payload_at : ℕ) (done : List Entry) (v : Result (Option ℕ) MessageError) (x : Entry) → IsVersionSoFar payload_at done v → x.number ≢ VERSION → IsVersionSoFar payload_at (done ++ x ∷ []) v
+pub version_passes : (payload_at : ℕ) (done : List Entry) (v : Result (Option ℕ) MessageError) (x : Entry)
+    → IsVersionSoFar payload_at done v → x.number ≢ VERSION → IsVersionSoFar payload_at (done ++ x ∷ []) v
 version_passes payload_at done (Ok v) x so_far other = version_skip payload_at done v x so_far other
 version_passes payload_at done (Err e) x stays other = fault_stays (versions_fault payload_at) done x e stays
 
-pub version_stays : (payload_at : ℕ) (done : List Entry) (v : Result (Option ℕ) MessageError) (x : Entry) → true ≡ is_err v → IsVersionSoFar payload_at done v → IsVersionSoFar payload_at (done ++ x ∷ []) v
+pub version_stays : (payload_at : ℕ) (done : List Entry) (v : Result (Option ℕ) MessageError) (x : Entry) → true ≡ is_err v
+    → IsVersionSoFar payload_at done v → IsVersionSoFar payload_at (done ++ x ∷ []) v
 version_stays payload_at done (Ok v) x broken so_far = absurd (let clash : true ≡ false = broken in cc)
 version_stays payload_at done (Err e) x broken stays = fault_stays (versions_fault payload_at) done x e stays
 
-pub version_clean : (payload_at : ℕ) (done : List Entry) (v : Result (Option ℕ) MessageError) → false ≡ is_err v → IsVersionSoFar payload_at done v → (o : Option ℕ) × IsVersionSoFar payload_at done (Ok o)
+pub version_clean : (payload_at : ℕ) (done : List Entry) (v : Result (Option ℕ) MessageError) → false ≡ is_err v
+    → IsVersionSoFar payload_at done v → (o : Option ℕ) × IsVersionSoFar payload_at done (Ok o)
 version_clean payload_at done (Ok v) whole so_far = (v, so_far)
 version_clean payload_at done (Err e) whole stays = absurd (let clash : false ≡ true = whole in cc)
 
 -- the head
-form_first : (payload_at : ℕ) (x : Entry) → first (layer_field_rules payload_at x) ≡ option_map (fault_at (payload_at + x.at)) (first (number_rules layer_forms x.number x.content))
+form_first : (payload_at : ℕ) (x : Entry)
+    → first (layer_field_rules payload_at x) ≡ option_map (fault_at (payload_at + x.at))
+    (first (number_rules layer_forms x.number x.content))
 unfolding layer_field_rules
 form_first payload_at x = first-told (fault_at (payload_at + x.at)) (number_rules layer_forms x.number x.content)
 
 name_more : (done : List Entry) (x : Entry) → name_in (done ++ x ∷ []) ≡ name_after (name_in done) x.number x.content
-name_more done x = ap (option_map (λ (y : Entry). bytes_of y.content)) (last_only-more (λ (y : Entry). y.number) NAME done x) ∙ by_test (x.number == NAME)
+name_more done x =
+    ap (option_map (λ (y : Entry). bytes_of y.content)) (last_only-more (λ (y : Entry). y.number) NAME done x) ∙ by_test (x.number == NAME)
   where
-    by_test : (b : Bool) → option_map (λ (y : Entry). bytes_of y.content) (if b then Some x else last_only NAME done) ≡ (if b then Some (bytes_of x.content) else name_in done)
+    by_test : (b : Bool) → option_map (λ (y : Entry). bytes_of y.content) (if b then Some x else last_only NAME done) ≡
+        (if b then Some (bytes_of x.content) else name_in done)
     by_test true = refl
     by_test false = refl
 
 extent_more : (done : List Entry) (x : Entry) → extent_in (done ++ x ∷ []) ≡ extent_after (extent_in done) x.number x.content
 extent_more done x = ap (λ o. unwrap_or o 4096) (number_more EXTENT done x) ∙ by_test (x.number == EXTENT)
   where
-    by_test : (b : Bool) → unwrap_or (if b then number_of x.content else number_in (last_only EXTENT done)) 4096 ≡ (if b then unwrap_or (number_of x.content) 4096 else extent_in done)
+    by_test : (b : Bool) → unwrap_or (if b then number_of x.content else number_in (last_only EXTENT done)) 4096 ≡
+        (if b then unwrap_or (number_of x.content) 4096 else extent_in done)
     by_test true = refl
     by_test false = refl
 
 keys_more : (done : List Entry) (x : Entry) → keys_in (done ++ x ∷ []) ≡ keys_in done ++ keys_at x.number x.content
 keys_more done x =
-    ap (map (λ (y : Entry). bytes_of y.content)) (filter-append (λ (y : Entry). y.number == KEYS) done (x ∷ [])) ∙ map-append (λ (y : Entry). bytes_of y.content) (only KEYS done) (only KEYS (x ∷ [])) ∙ ap (λ l. keys_in done ++ l) (by_test (x.number == KEYS))
+    ap (map (λ (y : Entry). bytes_of y.content)) (filter-append (λ (y : Entry). y.number == KEYS) done (x ∷ []))
+    ∙ map-append (λ (y : Entry). bytes_of y.content) (only KEYS done) (only KEYS (x ∷ []))
+    ∙ ap (λ l. keys_in done ++ l) (by_test (x.number == KEYS))
   where
     by_test : (b : Bool) → map (λ (y : Entry). bytes_of y.content) (if b then x ∷ [] else []) ≡ (if b then bytes_of x.content ∷ [] else [])
     by_test true = refl
     by_test false = refl
 
-pub head_step : (payload_at : ℕ) (done : List Entry) (x : Entry) (name new_name : Option (List ℕ)) (extent new_extent : ℕ) (keys new_keys : List (List ℕ)) → IsHead payload_at name extent keys done → first (number_rules layer_forms x.number x.content) ≡ None → new_name ≡ name_after name x.number x.content → new_extent ≡ extent_after extent x.number x.content → new_keys ≡ keys ++ keys_at x.number x.content → IsHead payload_at new_name new_extent new_keys (done ++ x ∷ [])
+pub head_step : (payload_at : ℕ) (done : List Entry) (x : Entry) (name new_name : Option (List ℕ)) (extent new_extent : ℕ)
+    (keys new_keys : List (List ℕ)) → IsHead payload_at name extent keys done → first (number_rules layer_forms x.number x.content) ≡ None
+    → new_name ≡ name_after name x.number x.content → new_extent ≡ extent_after extent x.number x.content
+    → new_keys ≡ keys ++ keys_at x.number x.content → IsHead payload_at new_name new_extent new_keys (done ++ x ∷ [])
 head_step payload_at done x name new_name extent new_extent keys new_keys so_far clean name_is extent_is keys_are = record {
-  clean = each_more (λ _. layer_field_rules payload_at) done x so_far.clean ∙ form_first payload_at x ∙ ap (option_map (fault_at (payload_at + x.at))) clean;
+  clean = each_more (λ _. layer_field_rules payload_at) done x so_far.clean ∙ form_first payload_at x
+      ∙ ap (option_map (fault_at (payload_at + x.at))) clean;
   name_is = name_is ∙ ap (λ o. name_after o x.number x.content) so_far.name_is ∙ sym (name_more done x);
   extent_is = extent_is ∙ ap (λ n. extent_after n x.number x.content) so_far.extent_is ∙ sym (extent_more done x);
   keys_are = keys_are ∙ ap (λ l. l ++ keys_at x.number x.content) so_far.keys_are ∙ sym (keys_more done x);
 }
 
-pub head_stops : (payload_at : ℕ) (done : List Entry) (x : Entry) (e : MessageError) → forms_fault payload_at done ≡ None → TellsMessage e (option_map (fault_at (payload_at + x.at)) (first (number_rules layer_forms x.number x.content))) → (more : List Entry) → TellsMessage e (forms_fault payload_at ((done ++ x ∷ []) ++ more))
+pub head_stops : (payload_at : ℕ) (done : List Entry) (x : Entry) (e : MessageError) → forms_fault payload_at done ≡ None
+    → TellsMessage e (option_map (fault_at (payload_at + x.at)) (first (number_rules layer_forms x.number x.content)))
+    → (more : List Entry) → TellsMessage e (forms_fault payload_at ((done ++ x ∷ []) ++ more))
 head_stops payload_at done x e clean told_here more =
-    tells_as e (option_map (fault_at (payload_at + x.at)) (first (number_rules layer_forms x.number x.content))) _ (λ f broken. rw append_assoc (each_stops (λ _. layer_field_rules payload_at) done x more f clean (form_first payload_at x ∙ broken))) told_here
+    tells_as e (option_map (fault_at (payload_at + x.at)) (first (number_rules layer_forms x.number x.content))) _
+    (λ f broken. rw append_assoc (each_stops (λ _. layer_field_rules payload_at) done x more f clean (form_first payload_at x ∙ broken)))
+    told_here
 
 -- values
-pub values_skip : (payload_at : ℕ) (done : List Entry) (values : List Value) (x : Entry) → AreValuesSoFar payload_at done values → x.number ≢ VALUES → AreValuesSoFar payload_at (done ++ x ∷ []) values
+pub values_skip : (payload_at : ℕ) (done : List Entry) (values : List Value) (x : Entry) → AreValuesSoFar payload_at done values
+    → x.number ≢ VALUES → AreValuesSoFar payload_at (done ++ x ∷ []) values
 values_skip payload_at done values x so_far other =
-    subst (λ xs. (first (each (λ _. value_rules_of payload_at) [] xs) ≡ None) × AreRelated HoldsValue xs values) (sym (only_skip VALUES done x other)) so_far
+    subst (λ xs. (first (each (λ _. value_rules_of payload_at) [] xs) ≡ None) × AreRelated HoldsValue xs values)
+    (sym (only_skip VALUES done x other)) so_far
 
-pub values_take : (payload_at : ℕ) (done : List Entry) (values new : List Value) (x : Entry) (value : Value) → AreValuesSoFar payload_at done values → x.number ≡ VALUES → IsValueOf (bytes_of x.content) value → value_fault (bytes_of x.content) (payload_at + x.body) (payload_at + x.at) ≡ None → new ≡ values ++ value ∷ [] → AreValuesSoFar payload_at (done ++ x ∷ []) new
+pub values_take : (payload_at : ℕ) (done : List Entry) (values new : List Value) (x : Entry) (value : Value)
+    → AreValuesSoFar payload_at done values → x.number ≡ VALUES → IsValueOf (bytes_of x.content) value
+    → value_fault (bytes_of x.content) (payload_at + x.body) (payload_at + x.at) ≡ None → new ≡ values ++ value ∷ []
+    → AreValuesSoFar payload_at (done ++ x ∷ []) new
 values_take payload_at done values new x value so_far is holds clean new_is =
-    subst (λ xs. (first (each (λ _. value_rules_of payload_at) [] xs) ≡ None) × AreRelated HoldsValue xs new) (sym (only_take VALUES done x is)) (each_more (λ _. value_rules_of payload_at) (only VALUES done) x so_far.0 ∙ sym (value_first _ _ _) ∙ clean, rw new_is (related-append HoldsValue (only VALUES done) values (x ∷ []) (value ∷ []) so_far.1 (holds, tt)))
+    subst (λ xs. (first (each (λ _. value_rules_of payload_at) [] xs) ≡ None) × AreRelated HoldsValue xs new)
+    (sym (only_take VALUES done x is)) (
+      each_more (λ _. value_rules_of payload_at) (only VALUES done) x so_far.0 ∙ sym (value_first _ _ _)
+          ∙ clean,
+      rw new_is (related-append HoldsValue (only VALUES done) values (x ∷ []) (value ∷ []) so_far.1 (holds, tt)),
+    )
 
-pub values_stop : (payload_at : ℕ) (done : List Entry) (values : List Value) (x : Entry) (more : List Entry) (e : MessageError) → AreValuesSoFar payload_at done values → x.number ≡ VALUES → TellsMessage e (value_fault (bytes_of x.content) (payload_at + x.body) (payload_at + x.at)) → TellsMessage e (values_fault payload_at ((done ++ x ∷ []) ++ more))
+pub values_stop : (payload_at : ℕ) (done : List Entry) (values : List Value) (x : Entry) (more : List Entry) (e : MessageError)
+    → AreValuesSoFar payload_at done values → x.number ≡ VALUES
+    → TellsMessage e (value_fault (bytes_of x.content) (payload_at + x.body) (payload_at + x.at))
+    → TellsMessage e (values_fault payload_at ((done ++ x ∷ []) ++ more))
 values_stop payload_at done values x more e so_far is told_here =
-    selected_stops VALUES (λ _. value_rules_of payload_at) e done x more is so_far.0 (subst (TellsMessage e) (value_first (bytes_of x.content) (payload_at + x.body) (payload_at + x.at)) told_here)
+    selected_stops VALUES (λ _. value_rules_of payload_at) e done x more is so_far.0
+    (subst (TellsMessage e) (value_first (bytes_of x.content) (payload_at + x.body) (payload_at + x.at)) told_here)
 
 -- features
-feature_told : (payload_at : ℕ) (keys : List (List ℕ)) (values : List Value) (earlier : List Entry) (x : Entry) → first (feature_rules_of payload_at keys values earlier x) ≡ option_map (in_feature (length earlier)) (feature_fault (bytes_of x.content) (payload_at + x.body) keys values)
+feature_told : (payload_at : ℕ) (keys : List (List ℕ)) (values : List Value) (earlier : List Entry) (x : Entry)
+    → first (feature_rules_of payload_at keys values earlier x) ≡ option_map (in_feature (length earlier))
+    (feature_fault (bytes_of x.content) (payload_at + x.body) keys values)
 feature_told payload_at keys values earlier x =
-    first-told (in_feature (length earlier)) (feature_rules (bytes_of x.content) (payload_at + x.body) keys values) ∙ ap (option_map (in_feature (length earlier))) (sym (feature_first (bytes_of x.content) (payload_at + x.body) keys values))
+    first-told (in_feature (length earlier)) (feature_rules (bytes_of x.content) (payload_at + x.body) keys values)
+    ∙ ap (option_map (in_feature (length earlier))) (sym (feature_first (bytes_of x.content) (payload_at + x.body) keys values))
 
-pub features_skip : (payload_at : ℕ) (keys : List (List ℕ)) (values : List Value) (done : List Entry) (features : List Feature) (x : Entry) → AreFeaturesSoFar payload_at keys values done features → x.number ≢ FEATURES → AreFeaturesSoFar payload_at keys values (done ++ x ∷ []) features
+pub features_skip : (payload_at : ℕ) (keys : List (List ℕ)) (values : List Value) (done : List Entry) (features : List Feature)
+    (x : Entry) → AreFeaturesSoFar payload_at keys values done features → x.number ≢ FEATURES
+    → AreFeaturesSoFar payload_at keys values (done ++ x ∷ []) features
 features_skip payload_at keys values done features x so_far other =
-    subst (λ xs. (first (each (feature_rules_of payload_at keys values) [] xs) ≡ None) × AreRelated (HoldsFeature keys values) xs features) (sym (only_skip FEATURES done x other)) so_far
+    subst (λ xs. (first (each (feature_rules_of payload_at keys values) [] xs) ≡ None)
+    × AreRelated (HoldsFeature keys values) xs features) (sym (only_skip FEATURES done x other)) so_far
 
-pub features_take : (payload_at : ℕ) (keys : List (List ℕ)) (values : List Value) (done : List Entry) (features new : List Feature) (x : Entry) (feature : Feature) → AreFeaturesSoFar payload_at keys values done features → x.number ≡ FEATURES → IsFeatureOf (bytes_of x.content) keys values feature → feature_fault (bytes_of x.content) (payload_at + x.body) keys values ≡ None → new ≡ features ++ feature ∷ [] → AreFeaturesSoFar payload_at keys values (done ++ x ∷ []) new
+pub features_take : (payload_at : ℕ) (keys : List (List ℕ)) (values : List Value) (done : List Entry) (features new : List Feature)
+    (x : Entry) (feature : Feature) → AreFeaturesSoFar payload_at keys values done features → x.number ≡ FEATURES
+    → IsFeatureOf (bytes_of x.content) keys values feature → feature_fault (bytes_of x.content) (payload_at + x.body) keys values ≡ None
+    → new ≡ features ++ feature ∷ [] → AreFeaturesSoFar payload_at keys values (done ++ x ∷ []) new
 features_take payload_at keys values done features new x feature so_far is holds clean new_is =
-    subst (λ xs. (first (each (feature_rules_of payload_at keys values) [] xs) ≡ None) × AreRelated (HoldsFeature keys values) xs new) (sym (only_take FEATURES done x is)) (each_more (feature_rules_of payload_at keys values) (only FEATURES done) x so_far.0 ∙ feature_told payload_at keys values (only FEATURES done) x ∙ ap (option_map (in_feature (length (only FEATURES done)))) clean, rw new_is (related-append (HoldsFeature keys values) (only FEATURES done) features (x ∷ []) (feature ∷ []) so_far.1 (holds, tt)))
+    subst (λ xs. (first (each (feature_rules_of payload_at keys values) [] xs) ≡ None) × AreRelated (HoldsFeature keys values) xs new)
+    (sym (only_take FEATURES done x is)) (
+      each_more (feature_rules_of payload_at keys values) (only FEATURES done) x so_far.0
+          ∙ feature_told payload_at keys values (only FEATURES done) x
+          ∙ ap (option_map (in_feature (length (only FEATURES done)))) clean,
+      rw new_is
+          (related-append (HoldsFeature keys values) (only FEATURES done) features (x ∷ []) (feature ∷ []) so_far.1 (holds, tt)),
+    )
 
-pub features_stop : (payload_at : ℕ) (keys : List (List ℕ)) (values : List Value) (done : List Entry) (features : List Feature) (x : Entry) (more : List Entry) (index : ℕ) (e : MessageError) → AreFeaturesSoFar payload_at keys values done features → x.number ≡ FEATURES → index ≡ length features → TellsMessage e (option_map (in_feature index) (feature_fault (bytes_of x.content) (payload_at + x.body) keys values)) → TellsMessage e (features_fault payload_at keys values ((done ++ x ∷ []) ++ more))
+pub features_stop : (payload_at : ℕ) (keys : List (List ℕ)) (values : List Value) (done : List Entry) (features : List Feature)
+    (x : Entry) (more : List Entry) (index : ℕ) (e : MessageError) → AreFeaturesSoFar payload_at keys values done features
+    → x.number ≡ FEATURES → index ≡ length features
+    → TellsMessage e (option_map (in_feature index) (feature_fault (bytes_of x.content) (payload_at + x.body) keys values))
+    → TellsMessage e (features_fault payload_at keys values ((done ++ x ∷ []) ++ more))
 features_stop payload_at keys values done features x more index e so_far is index_is told_here =
-    let count : index ≡ length (only FEATURES done) = index_is ∙ sym (length-related (HoldsFeature keys values) (only FEATURES done) features so_far.1) in
-    selected_stops FEATURES (feature_rules_of payload_at keys values) e done x more is so_far.0 (subst (TellsMessage e) (ap (λ n. option_map (in_feature n) (feature_fault (bytes_of x.content) (payload_at + x.body) keys values)) count ∙ sym (feature_told payload_at keys values (only FEATURES done) x)) told_here)
+    let count : index ≡ length (only FEATURES done) = index_is
+    ∙ sym (length-related (HoldsFeature keys values) (only FEATURES done) features so_far.1) in
+    selected_stops FEATURES (feature_rules_of payload_at keys values) e done x more is so_far.0
+    (subst (TellsMessage e) (ap
+    (λ n. option_map (in_feature n) (feature_fault (bytes_of x.content) (payload_at + x.body) keys values)) count
+    ∙ sym (feature_told payload_at keys values (only FEATURES done) x)) told_here)
 
 only_few : (k : ℕ) (xs : List Entry) → length (only k xs) ≤ length xs
 only_few k [] = omega arith
@@ -198,64 +287,68 @@ only_few k (x ∷ xs) = by_test (x.number == k) (only_few k xs)
     by_test true h = omega arith
     by_test false h = omega arith
 
--- what the level below gives
-abbrev pub SplitCount : Type 0
-SplitCount = (b : List ℕ) → length (split b).fields + length (split b).rest ≤ length b
-
-pub selected_few : SplitCount → (payload : List ℕ) (to_come : Parts) (done : List Entry) (k : ℕ) → Walk payload to_come done → length payload < 2 ^ 32 → length (only k done) < 2 ^ 32
-selected_few split_count payload to_come done k walk small =
+pub selected_few : (payload : List ℕ) (to_come : Parts) (done : List Entry) (k : ℕ) → Walk payload to_come done → length payload < 2 ^ 32
+    → length (only k done) < 2 ^ 32
+selected_few payload to_come done k walk small =
     let few = only_few k done in
-    let all : length (split payload).fields ≡ length done + length to_come.fields = ap length walk.fields ∙ length-append done to_come.fields in
-    let count = split_count payload in
+    let all : length (split payload).fields ≡ length done + length to_come.fields = ap length walk.fields
+    ∙ length-append done to_come.fields in
+    let count = split_function_count payload in
     omega arith
 
--- the walk over a payload that is known to split into fields
-pub walk_body_fits : (payload : List ℕ) (old new : Parts) (done : List Entry) (field : Field) (payload_at : ℕ) → Walk payload old done → GivesEntry old (Some (Ok field)) new → payload_at + length payload < 2 ^ 64 → payload_at + (field.body + bytes_size (content_of field.payload)) < 2 ^ 64
-walk_body_fits payload old new done field payload_at walk step small =
-    let inside : field.body + bytes_size (content_of field.payload) ≤ old.rest_at = step.1.1 in
-    let place = walk.place in
-    let bound = walk.bound in
-    omega arith
+-- the ends of a walk over the fields of a payload: at a rest, and behind the last
+pub rest_told : {payload : List ℕ} {old : Parts} {done : List Entry} {fault : WireFault} (new : Parts) (payload_at tag_at : ℕ)
+    → Walk payload old done → GivesEntry old (Some (Err fault)) new
+    → head_fault payload payload_at tag_at ≡ Some (fault_at (payload_at + fault.at) (of_wire fault.cause))
+rest_told {payload} {old} {done} {fault} new payload_at tag_at walk step =
+    option_or-some _ _ _ (walks_fault payload old new done fault payload_at walk step)
 
-pub walk_whole : (payload : List ℕ) (old new : Parts) (done : List Entry) (fault : WireFault) → Walk payload old done → GivesEntry old (Some (Err fault)) new → (split payload).rest ≡ [] → ⊥
-walk_whole payload old new done fault walk step whole = step.1 (walk.rest ∙ whole)
+pub version_ends : {payload : List ℕ} {old new : Parts} {done : List Entry} (payload_at : ℕ) (v : Result (Option ℕ) MessageError)
+    → Walk payload old done → GivesEntry old None new → IsVersionSoFar payload_at done v
+    → IsVersionSoFar payload_at (split payload).fields v
+version_ends {payload} {old} {new} {done} payload_at v walk step so_far =
+    subst (λ xs. IsVersionSoFar payload_at xs v) (sym (walks_end payload old new done walk step).0) so_far
 
 -- the exits of `read_version`
-pub head_some : RestNone → (payload : List ℕ) (payload_at tag_at n : ℕ) → (split payload).rest ≡ [] → versions_fault payload_at (split payload).fields ≡ None → Some n ≡ version_in (split payload).fields → head_fault payload payload_at tag_at ≡ None
-head_some rest_none payload payload_at tag_at n rest clean version =
-    option_or-none _ _ (rest_none payload_at (split payload) rest) ∙ option_or-none _ _ clean ∙ first-when_not _ _ (by_option (last_only VERSION (split payload).fields) version)
-  where
-    by_option : (o : Option Entry) → Some n ≡ number_in o → is_none o ≡ false
-    by_option None h = cc
-    by_option (Some x) h = refl
+pub head_some : (payload : List ℕ) (payload_at tag_at n : ℕ) → (split payload).rest ≡ []
+    → versions_fault payload_at (split payload).fields ≡ None → Some n ≡ version_in (split payload).fields
+    → head_fault payload payload_at tag_at ≡ None
+head_some payload payload_at tag_at n rest clean version =
+    option_or-none _ _ (rests_none payload_at (split payload) rest) ∙ option_or-none _ _ clean
+    ∙ first-when_not _ _ (last_there (split payload).fields n (sym version))
 
-pub head_none : RestNone → FormsHave → (payload : List ℕ) (payload_at tag_at : ℕ) → (split payload).rest ≡ [] → versions_fault payload_at (split payload).fields ≡ None → None ≡ version_in (split payload).fields → head_fault payload payload_at tag_at ≡ Some (fault_at tag_at NoVersion)
-head_none rest_none have payload payload_at tag_at rest clean version =
-    option_or-none _ _ (rest_none payload_at (split payload) rest) ∙ option_or-none _ _ clean ∙ first-when _ _ (by_test (is_none (last_only VERSION (split payload).fields)) refl)
+pub head_none : (payload : List ℕ) (payload_at tag_at : ℕ) → (split payload).rest ≡ []
+    → versions_fault payload_at (split payload).fields ≡ None → None ≡ version_in (split payload).fields
+    → head_fault payload payload_at tag_at ≡ Some (fault_at tag_at NoVersion)
+head_none payload payload_at tag_at rest clean version =
+    option_or-none _ _ (rests_none payload_at (split payload) rest) ∙ option_or-none _ _ clean
+    ∙ first-when _ _ (by_test (is_none (last_only VERSION (split payload).fields)) refl)
   where
     by_test : (b : Bool) → is_none (last_only VERSION (split payload).fields) ≡ b → b ≡ true
     by_test true e = refl
     by_test false e =
-        let there = version_there (split payload).fields (versions_form have payload_at (split payload).fields clean) e in
+        let there = version_there (split payload).fields (versions_form payload_at (split payload).fields clean) e in
         let clash : None ≡ Some there.0 = version ∙ there.1 in
         cc
 
-pub head_versions : RestNone → (payload : List ℕ) (payload_at tag_at : ℕ) (e : MessageError) → (split payload).rest ≡ [] → ((more : List Entry) → TellsMessage e (versions_fault payload_at ((split payload).fields ++ more))) → TellsMessage e (head_fault payload payload_at tag_at)
-head_versions rest_none payload payload_at tag_at e rest stays =
-    or_tells e (rest_fault payload payload_at) _ (rest_none payload_at (split payload) rest) (tells_or e (versions_fault payload_at (split payload).fields) _ (or_told (versions_fault payload_at) (split payload).fields e stays))
+pub head_versions : (payload : List ℕ) (payload_at tag_at : ℕ) (e : MessageError) → (split payload).rest ≡ []
+    → ((more : List Entry) → TellsMessage e (versions_fault payload_at ((split payload).fields ++ more)))
+    → TellsMessage e (head_fault payload payload_at tag_at)
+head_versions payload payload_at tag_at e rest stays =
+    or_tells e (rest_fault payload payload_at) _ (rests_none payload_at (split payload) rest)
+    (tells_or e (versions_fault payload_at (split payload).fields) _ (or_told (versions_fault payload_at) (split payload).fields e stays))
 
 -- the exits of `read_layer`
-pub forms_told : (payload_at tag_at : ℕ) (xs : List Entry) (e : MessageError) → TellsMessage e (forms_fault payload_at xs) → TellsMessage e (layer_fault payload_at tag_at xs)
-forms_told payload_at tag_at xs e h = subst (TellsMessage e) (sym (layer_chain payload_at tag_at xs)) (tells_or e (forms_fault payload_at xs) _ h)
+pub forms_told : (payload_at tag_at : ℕ) (xs : List Entry) (e : MessageError) → TellsMessage e (forms_fault payload_at xs)
+    → TellsMessage e (layer_fault payload_at tag_at xs)
+forms_told payload_at tag_at xs e h =
+    subst (TellsMessage e) (sym (layer_chain payload_at tag_at xs)) (tells_or e (forms_fault payload_at xs) _ h)
 
 name_some : (tag_at : ℕ) (xs : List Entry) (name : List ℕ) → Some name ≡ name_in xs → no_name_fault tag_at xs ≡ None
-name_some tag_at xs name is = first-when_not _ _ (by_option (last_only NAME xs) is)
-  where
-    by_option : (o : Option Entry) → Some name ≡ option_map (λ (x : Entry). bytes_of x.content) o → is_none o ≡ false
-    by_option None h = cc
-    by_option (Some x) h = refl
+name_some tag_at xs name is = first-when_not _ _ (name_there xs name (sym is))
 
-pub name_told : (payload_at tag_at : ℕ) (xs : List Entry) → forms_fault payload_at xs ≡ None → None ≡ name_in xs → layer_fault payload_at tag_at xs ≡ Some (fault_at tag_at NoName)
+pub name_told : (payload_at tag_at : ℕ) (xs : List Entry) → forms_fault payload_at xs ≡ None → None ≡ name_in xs
+    → layer_fault payload_at tag_at xs ≡ Some (fault_at tag_at NoName)
 name_told payload_at tag_at xs forms is =
     layer_chain payload_at tag_at xs ∙ option_or-none _ _ forms ∙ option_or-some _ _ _ (first-when _ _ (by_option (last_only NAME xs) is))
   where
@@ -263,47 +356,95 @@ name_told payload_at tag_at xs forms is =
     by_option None h = refl
     by_option (Some x) h = cc
 
-pub values_told : (payload_at tag_at : ℕ) (xs : List Entry) (name : List ℕ) (e : MessageError) → forms_fault payload_at xs ≡ None → Some name ≡ name_in xs → TellsMessage e (values_fault payload_at xs) → TellsMessage e (layer_fault payload_at tag_at xs)
-values_told payload_at tag_at xs name e forms is h =
-    subst (TellsMessage e) (sym (layer_chain payload_at tag_at xs)) (or_tells e (forms_fault payload_at xs) _ forms (or_tells e (no_name_fault tag_at xs) _ (name_some tag_at xs name is) (tells_or e (values_fault payload_at xs) _ h)))
+pub values_told : (payload_at tag_at : ℕ) (xs : List Entry) {name : List ℕ} (e : MessageError)
+    → forms_fault payload_at xs ≡ None → Some name ≡ name_in xs → TellsMessage e (values_fault payload_at xs)
+    → TellsMessage e (layer_fault payload_at tag_at xs)
+values_told payload_at tag_at xs {name} e forms is h =
+    let values = or_tells e (no_name_fault tag_at xs) _ (name_some tag_at xs name is) (tells_or e (values_fault payload_at xs) _ h) in
+    subst (TellsMessage e) (sym (layer_chain payload_at tag_at xs)) (or_tells e (forms_fault payload_at xs) _ forms values)
 
-pub features_told : ValueIs → (payload_at tag_at : ℕ) (xs : List Entry) (name : List ℕ) (keys : List (List ℕ)) (values : List Value) (e : MessageError) → forms_fault payload_at xs ≡ None → Some name ≡ name_in xs → values_fault payload_at xs ≡ None → keys ≡ keys_in xs → AreRelated HoldsValue (only VALUES xs) values → TellsMessage e (features_fault payload_at keys values xs) → TellsMessage e (layer_fault payload_at tag_at xs)
-features_told value_is payload_at tag_at xs name keys values e forms is clean keys_are values_are h =
-    let same : values_in xs ≡ values = values_said value_is (only VALUES xs) values values_are in
-    let here : TellsMessage e (features_fault payload_at (keys_in xs) (values_in xs) xs) = subst (TellsMessage e) (ap₂ (λ ks vs. features_fault payload_at ks vs xs) keys_are (sym same)) h in
-    subst (TellsMessage e) (sym (layer_chain payload_at tag_at xs)) (or_tells e (forms_fault payload_at xs) _ forms (or_tells e (no_name_fault tag_at xs) _ (name_some tag_at xs name is) (or_tells e (values_fault payload_at xs) _ clean (tells_or e (features_fault payload_at (keys_in xs) (values_in xs) xs) _ here))))
+-- fields that break no rule before those of the features: the name, the keys and the values
+pub record IsClean (payload_at : ℕ) (xs : List Entry) (name : List ℕ) (keys : List (List ℕ)) (values : List Value) : Type 0 where
+  pub forms : forms_fault payload_at xs ≡ None
+  pub name_is : Some name ≡ name_in xs
+  pub keys_are : keys ≡ keys_in xs
+  pub none_broken : values_fault payload_at xs ≡ None
+  pub values_are : AreRelated HoldsValue (only VALUES xs) values
 
-pub layer_ok : ValueIs → (payload_at tag_at : ℕ) (xs : List Entry) (name : List ℕ) (keys : List (List ℕ)) (values : List Value) → forms_fault payload_at xs ≡ None → Some name ≡ name_in xs → values_fault payload_at xs ≡ None → keys ≡ keys_in xs → AreRelated HoldsValue (only VALUES xs) values → features_fault payload_at keys values xs ≡ None → layer_fault payload_at tag_at xs ≡ None
-layer_ok value_is payload_at tag_at xs name keys values forms is clean keys_are values_are h =
-    let same : values_in xs ≡ values = values_said value_is (only VALUES xs) values values_are in
-    layer_clean payload_at tag_at xs forms (name_some tag_at xs name is) clean (sym (ap₂ (λ ks vs. features_fault payload_at ks vs xs) keys_are (sym same)) ∙ h)
+pub front_clean : {payload_at extent : ℕ} {xs : List Entry} {found : Option (List ℕ)} {name : List ℕ} {held keys : List (List ℕ)}
+    (values : List Value) → IsHead payload_at found extent held xs → found ≡ Some name → keys ≡ held
+    → AreValuesSoFar payload_at xs values → IsClean payload_at xs name keys values
+front_clean values head name keys so_far = record {
+  forms = head.clean;
+  name_is = sym name ∙ head.name_is;
+  keys_are = keys ∙ head.keys_are;
+  none_broken = so_far.0;
+  values_are = so_far.1;
+}
 
-pub layer_read : FormsHave → (payload_at tag_at : ℕ) (xs : List Entry) (layer : ALayer) (name : List ℕ) (extent : ℕ) (keys : List (List ℕ)) (values : List Value) → forms_fault payload_at xs ≡ None → Some name ≡ name_in xs → layer.name ≡ name → extent ≡ extent_in xs → layer.extent ≡ extent → keys ≡ keys_in xs → AreRelated HoldsValue (only VALUES xs) values → AreRelated (HoldsFeature keys values) (only FEATURES xs) layer.features → IsLayer xs layer
-layer_read have payload_at tag_at xs layer name extent keys values forms is name_is extent_is extent_same keys_are values_are features =
-    layer_from have payload_at tag_at xs layer values forms (sym is ∙ ap Some (sym name_is)) (extent_same ∙ extent_is) values_are (subst (λ ks. AreRelated (HoldsFeature ks values) (only FEATURES xs) layer.features) keys_are features)
+features_same : {payload_at : ℕ} {xs : List Entry} {name : List ℕ} {keys : List (List ℕ)} {values : List Value}
+    → IsClean payload_at xs name keys values
+    → features_fault payload_at keys values xs ≡ features_fault payload_at (keys_in xs) (values_in xs) xs
+features_same {payload_at} {xs} {values} front =
+    let same : values_in xs ≡ values = values_said (only VALUES xs) values front.values_are in
+    ap₂ (λ ks vs. features_fault payload_at ks vs xs) front.keys_are (sym same)
+
+pub features_told : {payload_at : ℕ} {xs : List Entry} {name : List ℕ} {keys : List (List ℕ)} {values : List Value} (tag_at : ℕ)
+    (e : MessageError) → IsClean payload_at xs name keys values → TellsMessage e (features_fault payload_at keys values xs)
+    → TellsMessage e (layer_fault payload_at tag_at xs)
+features_told {payload_at} {xs} {name} tag_at e front h =
+    let here = subst (TellsMessage e) (features_same front) h in
+    let features = tells_or e (features_fault payload_at (keys_in xs) (values_in xs) xs) None here in
+    let behind = or_tells e (values_fault payload_at xs) _ front.none_broken features in
+    let named = or_tells e (no_name_fault tag_at xs) _ (name_some tag_at xs name front.name_is) behind in
+    subst (TellsMessage e) (sym (layer_chain payload_at tag_at xs)) (or_tells e (forms_fault payload_at xs) _ front.forms named)
+
+pub layer_ok : {payload_at : ℕ} {xs : List Entry} {name : List ℕ} {keys : List (List ℕ)} {values : List Value} (tag_at : ℕ)
+    → IsClean payload_at xs name keys values → features_fault payload_at keys values xs ≡ None
+    → layer_fault payload_at tag_at xs ≡ None
+layer_ok {payload_at} {xs} {name} tag_at front h =
+    layer_clean payload_at tag_at xs front.forms (name_some tag_at xs name front.name_is) front.none_broken (sym (features_same front) ∙ h)
+
+pub layer_read : {payload_at : ℕ} {xs : List Entry} {keys : List (List ℕ)} {values : List Value} (layer : ALayer)
+    → IsClean payload_at xs layer.name keys values → layer.extent ≡ extent_in xs
+    → AreRelated (HoldsFeature keys values) (only FEATURES xs) layer.features → IsLayer xs layer
+layer_read {payload_at} {xs} {values} layer front extent features =
+    let held = subst (λ ks. AreRelated (HoldsFeature ks values) (only FEATURES xs) layer.features) front.keys_are features in
+    layer_from payload_at xs layer values front.forms (sym front.name_is) extent front.values_are held
 
 -- the exits of `read_item`
-pub head_told : (payload : List ℕ) (payload_at tag_at : ℕ) (e : MessageError) → TellsMessage e (head_fault payload payload_at tag_at) → TellsMessage e (item_fault payload payload_at tag_at)
-head_told payload payload_at tag_at e h = subst (TellsMessage e) (sym (item_chain payload payload_at tag_at)) (tells_or e (head_fault payload payload_at tag_at) _ h)
+pub as_two : (xs : List Entry) {n : ℕ} → version_in xs ≡ Some n → n ≡ 2 → version_in xs ≡ Some 2
+as_two xs is two = is ∙ ap Some two
 
-pub head_whole : NoneRest → (payload : List ℕ) (payload_at tag_at : ℕ) → head_fault payload payload_at tag_at ≡ None → (split payload).rest ≡ []
-head_whole none_rest payload payload_at tag_at none = none_rest payload_at (split payload) (option_or-nones _ _ none).0
+pub head_told : (payload : List ℕ) (payload_at tag_at : ℕ) (e : MessageError) → TellsMessage e (head_fault payload payload_at tag_at)
+    → TellsMessage e (item_fault payload payload_at tag_at)
+head_told payload payload_at tag_at e h =
+    subst (TellsMessage e) (sym (item_chain payload payload_at tag_at)) (tells_or e (head_fault payload payload_at tag_at) _ h)
 
-pub layer_told : (payload : List ℕ) (payload_at tag_at : ℕ) (e : MessageError) → head_fault payload payload_at tag_at ≡ None → version_in (split payload).fields ≡ Some 2 → TellsMessage e (layer_fault payload_at tag_at (split payload).fields) → TellsMessage e (item_fault payload payload_at tag_at)
-layer_told payload payload_at tag_at e head version h = subst (TellsMessage e) (sym (item_of_layer payload payload_at tag_at head version)) h
+pub head_whole : (payload : List ℕ) (payload_at tag_at : ℕ) → head_fault payload payload_at tag_at ≡ None → (split payload).rest ≡ []
+head_whole payload payload_at tag_at none = rests_nothing payload_at (split payload) (option_or-nones _ _ none).0
 
-pub layer_item : NoneRest → FormsHave → SplitIs → (payload : List ℕ) (payload_at tag_at : ℕ) (layer : ALayer) → head_fault payload payload_at tag_at ≡ None → version_in (split payload).fields ≡ Some 2 → IsLayer (split payload).fields layer → IsItem payload (Layer layer)
-layer_item none_rest have split_is payload payload_at tag_at layer head version is =
-    let parts = head_clean none_rest have payload payload_at tag_at head in
-    item_from split_is payload (Layer layer) parts.0 parts.1 (version, is)
+pub layer_told : (payload : List ℕ) (payload_at tag_at : ℕ) (e : MessageError) → head_fault payload payload_at tag_at ≡ None
+    → version_in (split payload).fields ≡ Some 2 → TellsMessage e (layer_fault payload_at tag_at (split payload).fields)
+    → TellsMessage e (item_fault payload payload_at tag_at)
+layer_told payload payload_at tag_at e head version h =
+    subst (TellsMessage e) (sym (item_of_layer payload payload_at tag_at head version)) h
 
-pub other_item : NoneRest → FormsHave → SplitIs → (payload : List ℕ) (payload_at tag_at n : ℕ) (content : List ℕ) → head_fault payload payload_at tag_at ≡ None → version_in (split payload).fields ≡ Some n → n ≢ 2 → content ≡ payload → IsItem payload (Foreign n content)
-other_item none_rest have split_is payload payload_at tag_at n content head version other is =
-    let parts = head_clean none_rest have payload payload_at tag_at head in
-    item_from split_is payload (Foreign n content) parts.0 parts.1 (version, other, is)
+pub layer_item : (payload : List ℕ) (payload_at tag_at : ℕ) (layer : ALayer) → head_fault payload payload_at tag_at ≡ None
+    → version_in (split payload).fields ≡ Some 2 → IsLayer (split payload).fields layer → IsItem payload (Layer layer)
+layer_item payload payload_at tag_at layer head version is =
+    let parts = head_clean payload payload_at tag_at head in
+    item_from payload (Layer layer) parts.0 parts.1 (version, is)
+
+pub other_item : (payload : List ℕ) (payload_at tag_at n : ℕ) (content : List ℕ) → head_fault payload payload_at tag_at ≡ None
+    → version_in (split payload).fields ≡ Some n → n ≢ 2 → content ≡ payload → IsItem payload (Foreign n content)
+other_item payload payload_at tag_at n content head version other is =
+    let parts = head_clean payload payload_at tag_at head in
+    item_from payload (Foreign n content) parts.0 parts.1 (version, other, is)
 
 -- the names of a payload
-pub names_of_layer : (payload name : List ℕ) → version_in (split payload).fields ≡ Some 2 → Some name ≡ name_in (split payload).fields → payload_names payload ≡ name ∷ []
+pub names_of_layer : (payload name : List ℕ) → version_in (split payload).fields ≡ Some 2 → Some name ≡ name_in (split payload).fields
+    → payload_names payload ≡ name ∷ []
 unfolding payload_names
 names_of_layer payload name version is =
     ap (λ o. if is_two o then option_to_list (name_in (split payload).fields) else []) version ∙ ap option_to_list (sym is)
@@ -311,4 +452,5 @@ names_of_layer payload name version is =
 pub names_of_other : (payload : List ℕ) (n : ℕ) → version_in (split payload).fields ≡ Some n → n ≢ 2 → payload_names payload ≡ []
 unfolding payload_names
 names_of_other payload n version other =
-    ap (λ o. if is_two o then option_to_list (name_in (split payload).fields) else []) version ∙ ap (λ b. if b then option_to_list (name_in (split payload).fields) else []) (ne_eqb n 2 other)
+    ap (λ o. if is_two o then option_to_list (name_in (split payload).fields) else []) version
+    ∙ ap (λ b. if b then option_to_list (name_in (split payload).fields) else []) (ne_eqb n 2 other)

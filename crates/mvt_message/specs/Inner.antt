@@ -4,12 +4,7 @@ use Rattle.std.specs.Bool.{OnTrue}
 use Rattle.std.specs.Option.{option_or, option_copied}
 use Rattle.mvt_base.specs.Related.{AreRelated}
 use Rattle.mvt_base.specs.Rules.{when, rows, each, first}
-use Rattle.mvt_attrs.specs.declared.value.Attribute.{Attribute}
 use Rattle.mvt_attrs.specs.declared.value.Value.{Value}
-use Rattle.mvt_attrs.specs.FirstUse.{AreDistinct}
-use Rattle.mvt_attrs.specs.Pools.{key_pool, value_pool}
-use Rattle.mvt_attrs.specs.Tags.{Names}
-use Rattle.mvt_attrs.specs.TagPlaces.{tags_in}
 use Rattle.mvt_wire.specs.Field.{Content, Entry}
 use Rattle.mvt_wire.specs.Split.{split}
 use Rattle.mvt_feature.specs.declared.cause.Cause.TheVariants.{NoVersion, NoName}
@@ -98,9 +93,10 @@ AreFeaturesSoFar payload_at keys values done features =
 abbrev pub AreHeld : {A : Type 0} → Bool → List A → ℕ → List A → Type 0
 AreHeld keep things count kept = (count ≡ length things) × OnTrue keep (kept ≡ things)
 
-abbrev pub AreValuesHeld : Bool → ℕ → List Entry → ℕ → List Value → Type 0
-AreValuesHeld keep payload_at done count kept =
-    (values : List Value) × AreValuesSoFar payload_at done values × AreHeld keep values count kept
+pub record AreValuesHeld (keep : Bool) (payload_at : ℕ) (done : List Entry) (count : ℕ) (kept : List Value) : Type 0 where
+  pub values : List Value
+  pub so_far : AreValuesSoFar payload_at done values
+  pub held : AreHeld keep values count kept
 
 abbrev pub AreValuesSaid : Bool → ℕ → List Entry → Option MessageError → ℕ → List Value → Type 0
 AreValuesSaid keep payload_at done fault count kept =
@@ -112,9 +108,11 @@ IsFront keep payload_at fields front =
     IsHeadSoFar payload_at fields front.head_fault (option_copied front.head.name) front.head.extent front.head.keys.items
     × AreValuesSaid keep payload_at fields front.values_fault front.values.count front.values.kept.items
 
-abbrev pub AreFeaturesHeld : Bool → ℕ → List (List ℕ) → List Value → List Entry → ℕ → List Feature → Type 0
-AreFeaturesHeld keep payload_at keys values done count kept =
-    (features : List Feature) × AreFeaturesSoFar payload_at keys values done features × AreHeld keep features count kept
+pub record AreFeaturesHeld (keep : Bool) (payload_at : ℕ) (keys : List (List ℕ)) (values : List Value) (done : List Entry)
+    (count : ℕ) (kept : List Feature) : Type 0 where
+  pub features : List Feature
+  pub so_far : AreFeaturesSoFar payload_at keys values done features
+  pub held : AreHeld keep features count kept
 
 -- what was read of a layer: its name, and the rest where it is kept
 pub record AreParts (keep : Bool) (layer : ALayer) (name : List ℕ) (extent : ℕ) (features : List Feature) : Type 0 where
@@ -126,13 +124,3 @@ pub record AreParts (keep : Bool) (layer : ALayer) (name : List ℕ) (extent : �
 abbrev pub IsFault : MessageError → Type 0
 IsFault Memory = ⊥
 IsFault (Fault feature at cause) = ⊤
-
--- what is known of pools, as the level below says it
-pub record PoolLaws : Type 0 where
-  pub keys_by_parts : (held : List (List ℕ)) (attributes more : List Attribute) → key_pool (key_pool held attributes) more ≡ key_pool held (attributes ++ more)
-  pub values_by_parts : (held : List Value) (attributes more : List Attribute) → value_pool (value_pool held attributes) more ≡ value_pool held (attributes ++ more)
-  pub keys_grow : (held : List (List ℕ)) (attributes more : List Attribute) → (added : List (List ℕ)) × (key_pool held (attributes ++ more) ≡ key_pool held attributes ++ added)
-  pub values_grow : (held : List Value) (attributes more : List Attribute) → (added : List Value) × (value_pool held (attributes ++ more) ≡ value_pool held attributes ++ added)
-  pub distinct_keys : (held : List (List ℕ)) (attributes : List Attribute) → AreDistinct (key_pool held attributes)
-  pub distinct_values : (held : List Value) (attributes : List Attribute) → AreDistinct (value_pool held attributes)
-  pub tags_stay : (keys more : List (List ℕ)) (values further : List Value) (tags : List ℕ) (attributes : List Attribute) → AreDistinct keys → AreDistinct values → Names keys values tags attributes → tags ≡ tags_in (keys ++ more) (values ++ further) attributes

@@ -90,8 +90,6 @@ fn behind_field(number: u32, size: u64, room: u64) -> Option<u64>
     ensures none { (d : List ℕ) → length d ≡ size
         → IfNone result (room < length (short_field number (bytes d))) }
 {
-    // What the proof needs to know of lengths; it does nothing.
-    mvt_wire::laws::short_lengths();
     if size > room {
         return None;
     }

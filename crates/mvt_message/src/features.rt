@@ -18,9 +18,7 @@ use crate::payload::bytes_of;
 use crate::values::LayerValues;
 use mvt_attrs::LayerKeys;
 use mvt_base::Text;
-use mvt_feature::laws::{feature_or_fault, walks};
 use mvt_feature::{Feature, MessageError, Scratch, judge_feature, read_feature_in};
-use mvt_wire::laws::split_function;
 use mvt_wire::{Field, Fields};
 use std::alloc::Global;
 
@@ -54,9 +52,6 @@ pub(crate) fn read_features(
     ensures err { (held : List Value) → AreHeld keeps held values.now.count values.now.kept.items
         → IfErr result (λ error. TellsMessage error (features_fault payload_at keys.now held (split payload.now).fields)) }
 {
-    // What the proof needs to know of splits and of walks; they do nothing.
-    split_function();
-    walks();
     let mut keys = LayerKeys::new(alloc, keys);
     let mut scratch = Scratch::new(alloc);
     let mut features = LayerFeatures {
@@ -103,8 +98,6 @@ fn append_feature(
         (features_fault payload_at keys.old held ((done ++ entry_of field.now ∷ []) ++ more))) }
     ensures same { keys.new ≡ keys.old }
 {
-    // What the proof needs to know of features; it does nothing.
-    feature_or_fault();
     if field.number != layer::FEATURES {
         return Ok(());
     }

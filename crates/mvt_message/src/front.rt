@@ -9,10 +9,8 @@ ghost use Rattle.mvt_message.specs.Inner.{head_fault, IsFront};
 use crate::head::{Head, take_head};
 use crate::values::{LayerValues, take_value};
 use crate::version::{take_version, version_of};
-use mvt_feature::laws::walks;
 use mvt_feature::{MessageError, rest_fault};
 use mvt_wire::Fields;
-use mvt_wire::laws::split_function;
 use std::alloc::Global;
 
 /// The head and the values of a layer. Each has the first fault that it met, which counts where no rule
@@ -41,9 +39,6 @@ pub(crate) fn read_front<'a>(
     ensures ok { OnOk result (head_fault payload.now payload_at tag_at ≡ None) }
     ensures err { IfErr result (λ error. TellsMessage error (head_fault payload.now payload_at tag_at)) }
 {
-    // What the proof needs to know of splits and of walks; they do nothing.
-    split_function();
-    walks();
     let mut version = Ok(None);
     let mut head = Head::new(alloc);
     let mut head_fault = None;

@@ -8,14 +8,12 @@ ghost use Rattle.mvt_feature.specs.declared.feature.Feature.{Feature as OneFeatu
 ghost use Rattle.mvt_message.specs.CanonicalItems.{keys_of, values_of, feature_field, key_field, value_field, layer_fields};
 ghost use Rattle.mvt_message.specs.ValidItems.{ValidLayer};
 
-use crate::below::pool_laws;
 use crate::item::Layer;
 use crate::numbers::layer;
 use crate::put::PutError;
 use mvt_attrs::{KeyPool, ValuePool};
 use mvt_base::LIMIT;
 use mvt_feature::{Feature, Scratch, append_feature, value_len};
-use mvt_wire::laws::short_lengths;
 use mvt_wire::{field_len, varint_len};
 use std::alloc::Global;
 
@@ -25,21 +23,29 @@ pub(crate) fn layer_len(alloc: Global, layer: &Layer) -> Result<u64, PutError>
     ensures len { IfOk result (λ n. (n ≡ length (spelled (layer_fields layer.now))) × (n ≤ LIMIT)) }
     ensures too_large { IsErrOf result PutError.TooLarge → LIMIT < length (spelled (layer_fields layer.now)) }
 {
-    // What the proof needs to know of lengths; it does nothing.
-    short_lengths();
     let mut keys = KeyPool::new(alloc);
     let mut values = ValuePool::new(alloc);
+    len_of_parts(alloc, layer, &mut keys, &mut values)
+}
+
+/// The same, with pools that hold nothing yet.
+fn len_of_parts(
+    alloc: Global,
+    layer: &Layer,
+    keys: &mut KeyPool,
+    values: &mut ValuePool,
+) -> Result<u64, PutError>
+    requires valid { ValidLayer layer.now }
+    requires no_keys { keys.old ≡ [] }
+    requires no_values { values.old ≡ [] }
+    ensures len { IfOk result (λ n. (n ≡ length (spelled (layer_fields layer.now))) × (n ≤ LIMIT)) }
+    ensures too_large { IsErrOf result PutError.TooLarge → LIMIT < length (spelled (layer_fields layer.now)) }
+{
     // The version takes two bytes.
     let len = with_field(2, layer::NAME, layer.name.as_str().len() as u64)?;
-    let len = with_features(
-        alloc,
-        layer.features.as_slice(),
-        len,
-        &mut keys,
-        &mut values,
-    )?;
-    let len = with_keys(len, &keys)?;
-    let len = with_values(len, &values)?;
+    let len = with_features(alloc, layer.features.as_slice(), len, keys, values)?;
+    let len = with_keys(len, keys)?;
+    let len = with_values(len, values)?;
     let len = len + 1 + varint_len(u64::from(layer.extent)) as u64;
     if len > LIMIT {
         return Err(PutError::TooLarge);
@@ -57,8 +63,6 @@ fn with_field(len: u64, number: u32, size: u64) -> Result<u64, PutError>
         → IsErrOf result PutError.TooLarge → LIMIT < len + length (short_field number (bytes d)) }
     ensures memory { ¬ (IsErrOf result PutError.Memory) }
 {
-    // What the proof needs to know of lengths; it does nothing.
-    short_lengths();
     if size > LIMIT {
         return Err(PutError::TooLarge);
     }
@@ -91,8 +95,6 @@ fn with_features(
         + length (spelled (map (feature_field (keys_of features.now) (values_of features.now)) features.now)))
         ⊎ (LIMIT ≤ length (keys_of features.now)) ⊎ (LIMIT ≤ length (values_of features.now)) }
 {
-    // What the proof needs to know of pools; it does nothing.
-    pool_laws();
     let mut scratch = Scratch::new(alloc);
     let mut payload = Vec::new(alloc);
     let mut len = start;

@@ -2,7 +2,6 @@
 //! its bytes, read from a payload and written as one.
 #![tactic(auto)]
 
-mod below;
 mod bound;
 mod features;
 mod front;

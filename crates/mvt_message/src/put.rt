@@ -1,5 +1,5 @@
 //! Writing an item (Mapbox Vector Tile Specification 2.1, 4.1).
-ghost use Rattle.std.specs.Prelude.{◌≡◌, ◌<◌, ◌≤◌, length, IfOk, IsErrOf};
+ghost use Rattle.std.specs.Prelude.{◌≡◌, ◌<◌, ◌≤◌, [], length, OnOk, IfOk, IsErrOf};
 ghost use Rattle.mvt_wire.specs.Spelling.{spelled};
 ghost use Rattle.mvt_message.specs.CanonicalItems.{layer_fields, canonical_item};
 ghost use Rattle.mvt_message.specs.ValidItems.{ValidItem, ValidLayer};
@@ -9,7 +9,6 @@ use crate::layer_len::layer_len;
 use crate::put_layer::{put_extent, put_features, put_head, put_keys, put_values};
 use mvt_attrs::{KeyPool, PoolError, ValuePool};
 use mvt_base::LIMIT;
-use mvt_wire::laws::short_lengths;
 use std::alloc::{AllocError, Global};
 use std::error::Error;
 use std::fmt;
@@ -113,26 +112,38 @@ fn put_layer(alloc: Global, layer: &Layer) -> Result<Vec<u8>, PutError>
     ensures put { IfOk result (λ v. (v.items ≡ spelled (layer_fields layer.now)) × (length v.items ≤ LIMIT)) }
     ensures too_large { IsErrOf result PutError.TooLarge → LIMIT < length (spelled (layer_fields layer.now)) }
 {
-    // What the proof needs to know of lengths; it does nothing.
-    short_lengths();
     let mut keys = KeyPool::new(alloc);
     let mut values = ValuePool::new(alloc);
     let mut out = Vec::new(alloc);
-    put_head(&mut out, layer.name.as_str())?;
-    put_features(
-        alloc,
-        layer.features.as_slice(),
-        &mut out,
-        &mut keys,
-        &mut values,
-    )?;
-    put_keys(&mut out, &keys)?;
-    put_values(&mut out, &values)?;
-    put_extent(&mut out, layer.extent)?;
+    put_parts(alloc, layer, &mut out, &mut keys, &mut values)?;
+    Ok(out)
+}
+
+/// Puts a layer's payload where nothing stands yet, with pools that hold nothing yet.
+fn put_parts(
+    alloc: Global,
+    layer: &Layer,
+    out: &mut Vec<u8>,
+    keys: &mut KeyPool,
+    values: &mut ValuePool,
+) -> Result<(), PutError>
+    requires valid { ValidLayer layer.now }
+    requires no_bytes { out.old.items ≡ [] }
+    requires no_keys { keys.old ≡ [] }
+    requires no_values { values.old ≡ [] }
+    ensures put { OnOk result (out.new.items ≡ spelled (layer_fields layer.now)) }
+    ensures limit { OnOk result (length out.new.items ≤ LIMIT) }
+    ensures too_large { IsErrOf result PutError.TooLarge → LIMIT < length (spelled (layer_fields layer.now)) }
+{
+    put_head(out, layer.name.as_str())?;
+    put_features(alloc, layer.features.as_slice(), out, keys, values)?;
+    put_keys(out, keys)?;
+    put_values(out, values)?;
+    put_extent(out, layer.extent)?;
     if out.len() as u64 > LIMIT {
         return Err(PutError::TooLarge);
     }
-    Ok(out)
+    Ok(())
 }
 
 fn foreign_len(bytes: &[u8]) -> Result<u64, PutError>

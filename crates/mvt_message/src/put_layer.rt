@@ -6,7 +6,6 @@ ghost use Rattle.mvt_wire.specs.Spelling.{spelled};
 ghost use Rattle.mvt_feature.specs.declared.feature.Feature.{Feature as OneFeature};
 ghost use Rattle.mvt_message.specs.CanonicalItems.{keys_of, values_of, head_fields, feature_field, key_field, value_field, extent_fields};
 
-use crate::below::pool_laws;
 use crate::numbers::layer;
 use crate::put::PutError;
 use mvt_attrs::{KeyPool, ValuePool};
@@ -43,8 +42,6 @@ pub(crate) fn put_features(
         + length (spelled (map (feature_field (keys_of features.now) (values_of features.now)) features.now)))
         ⊎ (LIMIT ≤ length (keys_of features.now)) ⊎ (LIMIT ≤ length (values_of features.now)) }
 {
-    // What the proof needs to know of pools; it does nothing.
-    pool_laws();
     let mut scratch = Scratch::new(alloc);
     let mut payload = Vec::new(alloc);
     for feature in features {

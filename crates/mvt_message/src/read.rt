@@ -14,9 +14,7 @@ use crate::features::read_features;
 use crate::front::{Front, read_front};
 use crate::item::{Item, Layer};
 use mvt_base::{Items, LIMIT, Text};
-use mvt_feature::laws::{forms, read_is_valid, rests, value_function};
 use mvt_feature::{Cause, Feature, MessageError, fault_at};
-use mvt_wire::laws::split_function;
 use std::alloc::Global;
 
 /// The item of a payload whose first byte stands at `payload_at`, and whose field's tag at `tag_at`.
@@ -39,11 +37,6 @@ pub fn read_item(
     ensures valid { IfOk result (λ item. ValidItem item) }
     ensures fault { IfErr result (λ error. TellsMessage error (item_fault payload.now payload_at tag_at)) }
 {
-    // What the proof needs to know of the levels below; it does nothing.
-    split_function();
-    rests();
-    forms();
-    read_is_valid();
     let (version, front) = read_front(alloc, payload, payload_at, tag_at, true)?;
     if version == 2 {
         return Ok(Item::Layer(read_layer(alloc, payload, payload_at, tag_at, front)?));
@@ -70,8 +63,6 @@ pub fn judge_item<'a>(
     ensures names { IfOk result (λ name. option_to_list (option_copied name) ≡ payload_names payload.now) }
     ensures fault { IfErr result (λ error. TellsMessage error (item_fault payload.now payload_at tag_at)) }
 {
-    // What the proof needs to know of rests; it does nothing.
-    rests();
     let (version, front) = read_front(alloc, payload, payload_at, tag_at, false)?;
     if version != 2 {
         return Ok(None);
@@ -131,9 +122,6 @@ fn read_parts<'a>(
         × AreParts keeps layer parts.name.now parts.extent parts.features.items) }
     ensures fault { IfErr result (λ error. TellsMessage error (layer_fault payload_at tag_at (split payload.now).fields)) }
 {
-    // What the proof needs to know of values and of forms; they do nothing.
-    value_function();
-    forms();
     let Front {
         head,
         head_fault,

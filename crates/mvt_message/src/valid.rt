@@ -6,9 +6,7 @@ ghost use Rattle.mvt_message.specs.ValidItems.{ValidItem, ValidLayer, AreOfVersi
 
 use crate::item::{Item, Layer};
 use crate::version::read_version;
-use mvt_feature::laws::{forms, rests};
 use mvt_feature::{Feature, is_valid_feature, validate_feature};
-use mvt_wire::laws::split_function;
 use std::alloc::{AllocError, Global};
 
 /// Whether a layer can be written: each of its features can. It takes no memory.
@@ -79,10 +77,6 @@ fn are_valid(features: &[Feature]) -> bool
 fn are_of_version(version: u32, bytes: &[u8]) -> bool
     ensures { IsTrue result ↔ AreOfVersion version bytes.now }
 {
-    // What the proof needs to know of splits, of rests and of forms; they do nothing.
-    split_function();
-    rests();
-    forms();
     match read_version(bytes, 0, 0) {
         Ok(found) => found == version && version != 2,
         Err(_) => false,

@@ -9,9 +9,7 @@ ghost use Rattle.mvt_message.specs.Inner.{values_fault, AreValuesHeld, AreValues
 use crate::numbers::layer;
 use crate::payload::bytes_of;
 use mvt_attrs::Value;
-use mvt_feature::laws::{value_or_fault, walks};
 use mvt_feature::{MessageError, judge_value, read_value};
-use mvt_wire::laws::split_function;
 use mvt_wire::{Field, Fields};
 use std::alloc::Global;
 
@@ -77,8 +75,6 @@ fn append_value(
     ensures err { (done more : List Entry) → AreValuesHeld keeps payload_at done values.old.count values.old.kept.items
         → IfErr result (λ error. TellsMessage error (values_fault payload_at ((done ++ entry_of field.now ∷ []) ++ more))) }
 {
-    // What the proof needs to know of values; it does nothing.
-    value_or_fault();
     if field.number != layer::VALUES {
         return Ok(());
     }

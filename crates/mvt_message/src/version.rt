@@ -8,7 +8,6 @@ ghost use Rattle.mvt_message.specs.Inner.{head_fault, IsFault, IsVersionSoFar};
 
 use crate::numbers::layer;
 use crate::payload::uint32_of;
-use mvt_feature::laws::{forms, rests, walks};
 use mvt_feature::{Cause, MessageError, fault_at, rest_fault};
 use mvt_wire::{Field, Fields};
 
@@ -24,8 +23,6 @@ pub(crate) fn read_version(
     ensures err { IfErr result (λ error. TellsMessage error (head_fault payload.now payload_at tag_at)) }
     ensures fault { IfErr result IsFault }
 {
-    // What the proof needs to know of walks; it does nothing.
-    walks();
     let mut version = Ok(None);
     for field in Fields::new(payload) {
         match field {
@@ -74,9 +71,6 @@ pub(crate) fn version_of(
         → IfErr result (λ error. TellsMessage error (head_fault payload payload_at tag_at)) }
     ensures fault { IfErr version IsFault → IfErr result IsFault }
 {
-    // What the proof needs to know of rests and of forms; they do nothing.
-    rests();
-    forms();
     match version? {
         Some(version) => Ok(version),
         None => Err(fault_at(tag_at, Cause::NoVersion)),

@@ -1,19 +1,16 @@
-use Rattle.std.proofs.Common.{◌≡◌, ◌∙◌, ap, sym, refl, Err, arith}
-use Rattle.std.proofs.lemmas.Option.{slice_get_within, get_or_from_slice_get}
-use Rattle.std.proofs.lemmas.Result.{err_from_is_err_and}
+use Rattle.std.proofs.Common.{ap, refl, Err, arith}
 use Rattle.mvt_base.specs.declared.TheConstants.{LIMIT}
-use Rattle.mvt_message.specs.declared.put.PutError.TheVariants.{TooLarge}
 use Rattle.mvt_message.specs.CanonicalItems.{key_field}
 use Rattle.mvt_message.proofs.LenLemmas.{none_past, len_step, len_long}
+use Rattle.mvt_message.proofs.PutLemmas.{exit_is}
 use Rattle.mvt_message.proofs.layer_len.with_keys.Goals as goal
 
 pub returns-in_err-len-in-Some-clause-too_large : goal.returns-in_err-len-in-Some-clause-too_large
 returns-in_err-len-in-Some-clause-too_large c = λ h.
-    let p = err_from_is_err_and c.from_residual.result c.from_residual.ensures.1 in
-    let told : Err c.in_err-len-in-Some.field-0.0 ≡ Err TooLarge = ap Err (sym p.2) ∙ sym p.1 ∙ h in
-    let key = c.in-Some.key.now in
-    let at = sym c.in-Some.ensures in
-    len_long key_field c.args.keys.now c.loop-index.index key c.args.start c.loop-index.len LIMIT (slice_get_within c.args.keys.now c.loop-index.index key at) (get_or_from_slice_get c.args.keys.now c.loop-index.index key key at) c.loop-index.invariant.0 (c.in_err-len-in-Some.ensures.too_large key refl told)
+    let told = exit_is c.from_residual.result c.from_residual.ensures.1 h in
+    let long = c.in_err-len-in-Some.ensures.too_large c.in-Some.key.now refl (ap Err told) in
+    len_long key_field c.args.keys.now c.loop-index.index c.args.start c.loop-index.len LIMIT c.in-Some.ensures c.loop-index.invariant.0
+    long
 
 pub unreachable-requires : goal.unreachable-requires
 unreachable-requires c =
@@ -23,7 +20,6 @@ unreachable-requires c =
 
 pub loop-index-preserved : goal.loop-index-preserved
 loop-index-preserved c =
-    let key = c.in-Some.key.now in
-    let at = sym c.in-Some.ensures in
-    let more = c.in_ok-len-in-Some.ensures.ok key refl in
-    (len_step key_field c.args.keys.now c.loop-index.index key c.args.start c.loop-index.len c.in_ok-len-in-Some.len (slice_get_within c.args.keys.now c.loop-index.index key at) (get_or_from_slice_get c.args.keys.now c.loop-index.index key key at) c.loop-index.invariant.0 more.0, more.1)
+    let more = c.in_ok-len-in-Some.ensures.ok c.in-Some.key.now refl in
+    let step = len_step key_field c.args.keys.now c.loop-index.index c.args.start c.loop-index.len c.in_ok-len-in-Some.len in
+    (step c.in-Some.ensures c.loop-index.invariant.0 more.0, more.1)

@@ -16,15 +16,17 @@ no_test m n h = subst (λ b. IsTrue (not b)) (sym (ne_eqb m n h)) refl
 
 pub returns-then-found-version : goal.returns-then-found-version
 returns-then-found-version c = (
-  λ t. of_version c.rests.ensures.nothing c.forms.ensures.have c.split_function.ensures.is c.args.bytes.now c.args.version c.in-Ok.found c.in-Ok.ensures.ok c.in-Ok.ensures.version c.if-found-version.true (differ c.args.version 2 t),
-  λ of. no_test c.args.version 2 (found_version c.rests.ensures.none c.forms.ensures.clean c.split_function.ensures.only c.args.bytes.now c.args.version c.in-Ok.found c.in-Ok.ensures.version of).1,
+  λ t. of_version c.args.bytes.now c.args.version c.in-Ok.found c.in-Ok.ensures.ok c.in-Ok.ensures.version c.if-found-version.true
+      (differ c.args.version 2 t),
+  λ of. no_test c.args.version 2 (found_version c.args.bytes.now c.args.version c.in-Ok.found c.in-Ok.ensures.version of).1,
 )
 
 pub returns-else-found-version : goal.returns-else-found-version
 returns-else-found-version c = (
   λ t. absurd (c.if-found-version.false (eqb-true c.in-Ok.found c.args.version t)),
-  λ of. absurd (c.if-found-version.false (found_version c.rests.ensures.none c.forms.ensures.clean c.split_function.ensures.only c.args.bytes.now c.args.version c.in-Ok.found c.in-Ok.ensures.version of).0),
+  λ of. absurd (c.if-found-version.false (found_version c.args.bytes.now c.args.version c.in-Ok.found c.in-Ok.ensures.version of).0),
 )
 
 pub returns-in-Err : goal.returns-in-Err
-returns-in-Err c = (λ t. cc t, λ of. absurd (no_version c.rests.ensures.none c.forms.ensures.clean c.split_function.ensures.only c.args.bytes.now c.args.version c.in-Err.field-0 c.in-Err.ensures.fault c.in-Err.ensures.err of))
+returns-in-Err c =
+    (λ t. cc t, λ of. absurd (no_version c.args.bytes.now c.args.version c.in-Err.field-0 c.in-Err.ensures.fault c.in-Err.ensures.err of))
