@@ -7,9 +7,9 @@ use Rattle.mvt_wire.specs.Field.{Entry}
 use Rattle.mvt_message.specs.declared.item.Item.{Item}
 use Rattle.mvt_message.specs.ItemRules.{item_fault, payload_names}
 use Rattle.mvt_message.specs.Items.{IsItem, names_in}
+use Rattle.mvt_message.proofs.MessageLaws.{item_names, item_or_fault_there}
 use Rattle.mvt_tile.specs.declared.fault.DecodeError.{DecodeError}
 use Rattle.mvt_tile.specs.declared.fault.DecodeError.TheVariants.{Fault}
-use Rattle.mvt_tile.specs.Inner.{ItemLaws}
 use Rattle.mvt_tile.specs.Inner.Judging.{AreNamed, IsPlaceOf, TakesItem, payload_fault, repeated_at, shifted}
 use Rattle.mvt_tile.specs.Streams.{Tells}
 use Rattle.mvt_tile.specs.TileRules.{repeats}
@@ -37,15 +37,15 @@ repeats_by names others [] same = refl
 repeats_by names others (n ∷ given) same = ap₂ (λ a b. a || b) (same n) (repeats_by names others given same)
 
 -- a payload without a fault whose layer has these names is one item more
-module _ (laws : ItemLaws) (count : ℕ) (names : List (List ℕ)) (items : List Item) (d : List ℕ) (payload_at tag_at : ℕ) (are : AreNamed count names items) (none : item_fault d payload_at tag_at ≡ None) (given : List (List ℕ)) (names_are : given ≡ payload_names d) where
+module _ (count : ℕ) (names : List (List ℕ)) (items : List Item) (d : List ℕ) (payload_at tag_at : ℕ) (are : AreNamed count names items) (none : item_fault d payload_at tag_at ≡ None) (given : List (List ℕ)) (names_are : given ≡ payload_names d) where
   abbrev item : Item
-  item = (laws.there d payload_at tag_at none).0
+  item = (item_or_fault_there d payload_at tag_at none).0
 
   is : IsItem d item
-  is = (laws.there d payload_at tag_at none).1
+  is = (item_or_fault_there d payload_at tag_at none).1
 
   same : names_in item ≡ given
-  same = laws.names d item is ∙ sym names_are
+  same = item_names d item is ∙ sym names_are
 
   test : repeats names given ≡ repeats (flat_map names_in items) (names_in item)
   test = repeats_by names (flat_map names_in items) given are.named ∙ ap (repeats (flat_map names_in items)) (sym same)
@@ -65,15 +65,15 @@ module _ (laws : ItemLaws) (count : ℕ) (names : List (List ℕ)) (items : List
   pub named_twice : (added : Bool) → added ≡ not (repeats names given) → added ≡ false → (index : ℕ) → index ≡ count → Tells (Fault (repeated_at index tag_at)) (payload_fault (length items) (flat_map names_in items) d payload_at tag_at)
   named_twice added e no_more index is_count =
       subst (λ n. Tells (Fault (repeated_at n tag_at)) (payload_fault (length items) (flat_map names_in items) d payload_at tag_at)) (sym (is_count ∙ are.counted))
-      (tells_repeated laws (length items) (flat_map names_in items) d payload_at tag_at item added none is (e ∙ ap not test) no_more)
+      (tells_repeated (length items) (flat_map names_in items) d payload_at tag_at item added none is (e ∙ ap not test) no_more)
 
 -- an item that is read and whose name isn't new, or is
 
-pub named_again : ItemLaws → (count : ℕ) (names : List (List ℕ)) (items : List Item) (d : List ℕ) (payload_at tag_at : ℕ) (item : Item) (added : Bool) → AreNamed count names items → item_fault d payload_at tag_at ≡ None → IsItem d item
+pub named_again : (count : ℕ) (names : List (List ℕ)) (items : List Item) (d : List ℕ) (payload_at tag_at : ℕ) (item : Item) (added : Bool) → AreNamed count names items → item_fault d payload_at tag_at ≡ None → IsItem d item
     → added ≡ not (repeats names (names_in item)) → added ≡ false → Tells (Fault (repeated_at count tag_at)) (payload_fault (length items) (flat_map names_in items) d payload_at tag_at)
-named_again laws count names items d payload_at tag_at item added are none is e no_more =
+named_again count names items d payload_at tag_at item added are none is e no_more =
     subst (λ n. Tells (Fault (repeated_at n tag_at)) (payload_fault (length items) (flat_map names_in items) d payload_at tag_at)) (sym are.counted)
-    (tells_repeated laws (length items) (flat_map names_in items) d payload_at tag_at item added none is (e ∙ ap not (repeats_by names (flat_map names_in items) (names_in item) are.named)) no_more)
+    (tells_repeated (length items) (flat_map names_in items) d payload_at tag_at item added none is (e ∙ ap not (repeats_by names (flat_map names_in items) (names_in item) are.named)) no_more)
 
 pub named_new : (count : ℕ) (names : List (List ℕ)) (items : List Item) (item : Item) (added : Bool) → AreNamed count names items → added ≡ not (repeats names (names_in item)) → added ≡ true
     → repeats (flat_map names_in items) (names_in item) ≡ false

@@ -5,7 +5,6 @@ ghost use Rattle.mvt_tile.specs.Streams.{TellsAtEnd};
 ghost use Rattle.mvt_tile.specs.TileRules.{fault_within};
 ghost use Rattle.mvt_tile.specs.Tiles.{IsTile};
 
-use crate::below;
 use crate::fault::DecodeError;
 use crate::layers::{Names, add_name};
 use crate::taking::{Taker, in_layer, repeated_name, take_whole};
@@ -25,8 +24,6 @@ pub fn judge(alloc: Global, bytes: &[u8]) -> Result<(), DecodeError>
     ensures tile { OnOk result ((tile : Tile) × IsTile LIMIT bytes.now tile) }
     ensures fault { IfErr result (λ error. TellsAtEnd error (fault_within LIMIT bytes.now)) }
 {
-    below::item_laws();
-    below::split_laws();
     take_whole(alloc, &mut Names::new(alloc), bytes)
 }
 
@@ -43,7 +40,6 @@ impl Taker for Names {
         payload_at: u64,
         tag_at: u64,
     ) -> Result<(), DecodeError> {
-        below::item_laws();
         let index = self.count;
         let name = match judge_item(alloc, payload, payload_at, tag_at) {
             Ok(name) => name,

@@ -8,7 +8,6 @@ ghost use Rattle.mvt_tile.specs.Inner.Judging.{AreNamed, IsJudged, TellsBehind};
 ghost use Rattle.mvt_tile.specs.TileRules.{repeats};
 ghost use Rattle.mvt_tile.specs.Tiles.{HasDistinctNames};
 
-use crate::below;
 use crate::fault::DecodeError;
 use crate::taking::{Taker, in_layer, repeated_name, take_fields};
 use mvt_base::{LIMIT, Text};
@@ -105,7 +104,6 @@ impl Taker for Layers {
         payload_at: u64,
         tag_at: u64,
     ) -> Result<(), DecodeError> {
-        below::item_laws();
         let index = self.len() as u32;
         let item = match read_item(alloc, payload, payload_at, tag_at) {
             Ok(item) => item,

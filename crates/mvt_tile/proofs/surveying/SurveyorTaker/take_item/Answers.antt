@@ -7,7 +7,7 @@ use Rattle.mvt_tile.proofs.surveying.SurveyorTaker.take_item.Goals as goal
 pub returns-clause-fault : goal.returns-clause-fault
 returns-clause-fault c = λ input items has.
     rw c.repeated_name.ensures
-    (named_again c.item_laws.ensures c.args.self.now.names.count c.args.self.now.names.names.keys items c.args.payload.now c.args.payload_at c.args.tag_at c.in-Ok.item c.in_ok-add_names.field-0 has.0 c.in-Ok.ensures.ok c.in-Ok.ensures.item c.in_ok-add_names.ensures.new c.if-branch.false)
+    (named_again c.args.self.now.names.count c.args.self.now.names.names.keys items c.args.payload.now c.args.payload_at c.args.tag_at c.in-Ok.item c.in_ok-add_names.field-0 has.0 c.in-Ok.ensures.ok c.in-Ok.ensures.item c.in_ok-add_names.ensures.new c.if-branch.false)
 
 pub returns-then-branch-clause-item : goal.returns-then-branch-clause-item
 returns-then-branch-clause-item c = λ input items has.
