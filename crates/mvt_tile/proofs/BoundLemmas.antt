@@ -17,7 +17,7 @@ use Rattle.mvt_tile.specs.Bounds.{field_bound, items_bound}
 use Rattle.mvt_tile.proofs.WritingLemmas.{written, field_of}
 
 -- a field has at most 20 bytes besides its payload
-field_most : (number : ℕ) (d : List ℕ) → length (short_field number (bytes d)) ≤ length d + 20
+pub field_most : (number : ℕ) (d : List ℕ) → length (short_field number (bytes d)) ≤ length d + 20
 field_most number d =
     let parts = length-append (short (length d)) d in
     omega (arith, short_lengths_field number (bytes d), parts, short_lengths_most (8 * number + 2), short_lengths_most (length d))

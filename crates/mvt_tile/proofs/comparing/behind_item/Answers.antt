@@ -1,6 +1,7 @@
-use Rattle.std.proofs.Common.{◌≡◌, ◌++◌, length, sym, ap, ap₂, ◌∙◌, arith, Some, None}
+use Rattle.std.proofs.Common.{◌≡◌, ◌++◌, length, refl, sym, ap, ap₂, ◌∙◌, arith, length-append, Err, Some, None}
 use Rattle.std.proofs.lemmas.Bool.Decides.{Decides-eqb}
 use Rattle.std.proofs.lemmas.Slice.Eq.{strip_prefix_is}
+use Rattle.mvt_wire.proofs.WireLaws.{short_lengths_bytes}
 use Rattle.mvt_wire.specs.Field.{bytes}
 use Rattle.mvt_wire.specs.Spelling.{short_field}
 use Rattle.mvt_message.specs.CanonicalItems.{canonical_item}
@@ -25,3 +26,9 @@ returns c =
     ap (λ d. short_field LAYERS (bytes d)) (sym c.in-Ok.ensures.put.0) ∙ c.in_ok-head.ensures c.in-Ok.payload.items size ∙ ap (λ h. h ++ c.in-Ok.payload.items) (sym c.as_slice.ensures.value) in
     behind_none c.args.bytes.now c.as_slice.result.now c.in-Ok.payload.items _ parts
     (strip_prefix_is Decides-eqb c.args.bytes.now c.as_slice.result.now None c.in-None.ensures.cases)
+
+pub returns-in-Err-TooLarge : goal.returns-in-Err-TooLarge
+returns-in-Err-TooLarge c = λ more same.
+    let d = canonical_item c.args.item.now in
+    let all = length-append (short_field LAYERS (bytes d)) more in
+    omega (arith, ap length same, all, short_lengths_bytes LAYERS d, c.in-Err-TooLarge.ensures.too_large (ap Err c.in-Err-TooLarge.field-0-is), c.requires.small)
