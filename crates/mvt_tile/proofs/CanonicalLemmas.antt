@@ -1,5 +1,5 @@
 -- Canonical bytes are read as the tile that they are of.
-use Rattle.std.proofs.Common.{◌≡◌, ℕ, ◌+◌, ◌^◌, ◌<◌, ◌≤◌, eqb, true, List, [], ◌∷◌, length, map, sym, ap, subst, arith, length-append, lit<}
+use Rattle.std.proofs.Common.{◌≡◌, ◌+◌, ◌^◌, ◌<◌, ◌≤◌, eqb, true, List, [], ◌∷◌, length, map, sym, ap, subst, arith, length-append, lit<}
 use Rattle.std.specs.List.{AllByRecursion}
 use Rattle.mvt_base.specs.Related.{AreRelated}
 use Rattle.mvt_wire.specs.Field.{Entry, bytes}

@@ -1,11 +1,11 @@
 -- Judging the fields at the front of some bytes.
-use Rattle.std.proofs.Common.{◌⊎◌, inl, inr, ◌≡◌, ◌≢◌, ℕ, ◌+◌, ◌≤◌, Bool, true, false, not, List, [], ◌∷◌, ◌++◌, length, map, drop, Option, Some, None, Result, Ok, Err, OnOk, IfOk, IfErr, refl, sym, ap, ap₂, subst, ◌∙◌, arith, append_assoc, append-nil, length-append}
+use Rattle.std.proofs.Common.{◌⊎◌, inl, inr, ◌≡◌, ◌≢◌, ℕ, ◌+◌, ◌≤◌, false, List, [], ◌∷◌, ◌++◌, length, map, drop, Option, Some, None, Result, Ok, Err, OnOk, IfOk, IfErr, refl, sym, ap, ap₂, subst, ◌∙◌, arith, append_assoc, append-nil, length-append}
 use Rattle.std.specs.List.{flat_map}
 use Rattle.std.specs.Option.{option_or, option_map}
-use Rattle.std.proofs.lemmas.Bool.{eq-eqb, ne_eqb, not-false, not-true}
+use Rattle.std.proofs.lemmas.Bool.{eq-eqb, ne_eqb}
 use Rattle.std.proofs.lemmas.List.{map-append}
 use Rattle.mvt_base.specs.Rules.{when, under, each, first}
-use Rattle.mvt_base.proofs.RuleLemmas.{first-append, first-under, first-when, option_or-none, option_or-nones, each-append}
+use Rattle.mvt_base.proofs.RuleLemmas.{first-append, first-under, option_or-none, option_or-nones, each-append}
 use Rattle.mvt_base.proofs.ListLemmas.{length-related}
 use Rattle.mvt_wire.specs.Field.{Entry, Content, bytes, entry_of, content_of}
 use Rattle.mvt_wire.specs.declared.field.Payload.{Payload}
@@ -23,15 +23,14 @@ use Rattle.mvt_feature.specs.declared.message_error.MessageError.{MessageError}
 use Rattle.mvt_feature.specs.declared.message_error.MessageError.TheVariants as message
 use Rattle.mvt_message.specs.declared.item.Item.{Item}
 use Rattle.mvt_message.specs.ItemRules.{item_fault, payload_names}
-use Rattle.mvt_message.specs.Items.{IsItem, names_in}
+use Rattle.mvt_message.specs.Items.{names_in}
 use Rattle.mvt_wire.proofs.WireLaws.{one_cause_end, split_function_count, split_steps_place}
-use Rattle.mvt_message.proofs.MessageLaws.{item_names}
 use Rattle.mvt_tile.specs.declared.fault.DecodeError.{DecodeError}
 use Rattle.mvt_tile.specs.declared.fault.DecodeError.TheVariants.{Memory, Fault, Read}
 use Rattle.mvt_tile.specs.declared.fault.Fault.{Fault as AFault}
 use Rattle.mvt_tile.specs.declared.numbers.tile.TheConstants.{LAYERS}
 use Rattle.mvt_tile.specs.Faults.{outer_fault, in_layer, is_open}
-use Rattle.mvt_tile.specs.Inner.Judging.{shifted, told_in, payload_fault, repeated_at, fault_behind, IsJudged, IsPlaceOf, TakesItem, TellsBehind}
+use Rattle.mvt_tile.specs.Inner.Judging.{shifted, told_in, name_fault, payload_fault, repeated_at, fault_behind, IsJudged, IsPlaceOf, TakesItem, TellsBehind}
 use Rattle.mvt_tile.specs.Streams.{Tells}
 use Rattle.mvt_tile.specs.TileRules.{layers_of, is_bytes, field_rules, repeats, rest_rules, rest_rules_at}
 use Rattle.mvt_tile.specs.Tiles.{HoldsItem, AreItems}
@@ -57,15 +56,13 @@ tells_payload message.Memory n names d payload_at tag_at h = tt
 tells_payload (message.Fault feature at cause) n names d payload_at tag_at h =
     tells_front (told_in n (message.Fault feature at cause)) (option_map (in_layer n) (item_fault d payload_at tag_at)) (first (when (repeats names (payload_names d)) (repeated_at n tag_at))) (ap (option_map (in_layer n)) h, refl)
 
-pub tells_repeated : (n : ℕ) (names : List (List ℕ)) (d : List ℕ) (payload_at tag_at : ℕ) (item : Item) (added : Bool) → item_fault d payload_at tag_at ≡ None → IsItem d item
-    → added ≡ not (repeats names (names_in item)) → added ≡ false → Tells (Fault (repeated_at n tag_at)) (payload_fault n names d payload_at tag_at)
-tells_repeated n names d payload_at tag_at item added none is e no_more =
-    let repeated : repeats names (payload_names d) ≡ true = ap (repeats names) (sym (item_names d item is)) ∙ not-false (repeats names (names_in item)) (sym e ∙ no_more) in
-    tells_back (Fault (repeated_at n tag_at)) (option_map (in_layer n) (item_fault d payload_at tag_at)) (first (when (repeats names (payload_names d)) (repeated_at n tag_at)))
-    (ap (option_map (in_layer n)) none) (first-when (repeats names (payload_names d)) (repeated_at n tag_at) repeated, refl)
-
-pub is_added : (names : List (List ℕ)) (item : Item) (added : Bool) → added ≡ not (repeats names (names_in item)) → added ≡ true → repeats names (names_in item) ≡ false
-is_added names item added e is_new = not-true (repeats names (names_in item)) (sym e ∙ is_new)
+-- what is told of a name is told of a payload that has it, and no fault of its own
+pub tells_name : (e : DecodeError) (n : ℕ) (names given : List (List ℕ)) (d : List ℕ) (payload_at tag_at : ℕ)
+    → item_fault d payload_at tag_at ≡ None → given ≡ payload_names d → Tells e (name_fault n names given tag_at)
+    → Tells e (payload_fault n names d payload_at tag_at)
+tells_name e n names given d payload_at tag_at none is told =
+    tells_back e (option_map (in_layer n) (item_fault d payload_at tag_at)) (name_fault n names (payload_names d) tag_at)
+    (ap (option_map (in_layer n)) none) (subst (λ g. Tells e (name_fault n names g tag_at)) is told)
 
 -- of a field
 

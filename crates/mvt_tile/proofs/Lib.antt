@@ -5,7 +5,6 @@ mod ItemLemmas
 mod TileLemmas
 mod StreamLemmas
 mod CanonicalLemmas
-mod KeptLemmas
 mod ShiftLemmas
 mod JudgeLemmas
 mod NamedLemmas

@@ -17,11 +17,11 @@ ghost use Rattle.mvt_tile.specs.ValidTiles.{Valid};
 
 use crate::comparing::behind_item;
 use crate::fault::DecodeError;
-use crate::layers::{Names, add_names};
+use crate::layers::{Names, name_of};
 use crate::note::Note;
 use crate::noting::{note_if, note_item};
 use crate::survey::Survey;
-use crate::taking::{Taker, in_layer, repeated_name, take_whole};
+use crate::taking::{Taker, in_layer, take_whole};
 use mvt_base::{Items, LIMIT};
 use mvt_message::{Item, read_item};
 use std::alloc::{AllocError, Global};
@@ -78,12 +78,9 @@ impl<'a> Taker for Surveyor<'a> {
             Ok(item) => item,
             Err(error) => return Err(in_layer(index, error)),
         };
-        if add_names(alloc, &mut self.names.names, &item)? {
-            self.names.count += 1;
-            self.found.add(alloc, index as usize, &item)?;
-            return Ok(());
-        }
-        Err(repeated_name(index, tag_at))
+        self.names.add(name_of(alloc, &item)?, tag_at)?;
+        self.found.add(alloc, index as usize, &item)?;
+        Ok(())
     }
 }
 

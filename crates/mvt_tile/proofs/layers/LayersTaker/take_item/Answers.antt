@@ -1,7 +1,12 @@
-use Rattle.mvt_tile.proofs.JudgeLemmas.{tells_repeated}
+use Rattle.std.proofs.lemmas.Result.{IfErr-weaker}
+use Rattle.mvt_message.proofs.MessageLaws.{item_names}
+use Rattle.mvt_message.specs.Items.{names_in}
+use Rattle.mvt_tile.proofs.JudgeLemmas.{tells_name}
 use Rattle.mvt_tile.proofs.layers.LayersTaker.take_item.Goals as goal
 
-pub returns-clause-fault : goal.returns-clause-fault
-returns-clause-fault c = λ input items is.
-    rw (← is, c.repeated_name.ensures, c.len-index.ensures)
-    (tells_repeated _ _ _ _ _ c.in-Ok.item c.in_ok-add.field-0 c.in-Ok.ensures.ok c.in-Ok.ensures.item c.in_ok-add.ensures.added c.if-branch.false)
+pub returns-in-Ok-clause-fault : goal.returns-in-Ok-clause-fault
+returns-in-Ok-clause-fault c = λ input items is.
+    let item = c.in-Ok.item in
+    let d = c.args.payload.now in
+    rw (← is)
+    (IfErr-weaker c.add.result _ _ (λ e told. tells_name e _ _ (names_in item) d _ _ c.in-Ok.ensures.ok (item_names d item c.in-Ok.ensures.item) told) c.add.ensures.fault)
