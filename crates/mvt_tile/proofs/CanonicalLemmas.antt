@@ -1,5 +1,5 @@
 -- Canonical bytes are read as the tile that they are of.
-use Rattle.std.proofs.Common.{◌≡◌, ℕ, ◌+◌, ◌^◌, ◌<◌, ◌≤◌, eqb, true, List, [], ◌∷◌, length, map, sym, ap, subst, arith, length-append, lit<}
+use Rattle.std.proofs.Common.{◌≡◌, ◌+◌, ◌^◌, ◌<◌, ◌≤◌, eqb, true, List, [], ◌∷◌, length, map, sym, ap, subst, arith, length-append, lit<}
 use Rattle.std.specs.List.{AllByRecursion}
 use Rattle.mvt_base.specs.Related.{AreRelated}
 use Rattle.mvt_wire.specs.Field.{Entry, bytes}
@@ -7,8 +7,11 @@ use Rattle.mvt_wire.specs.Spelling.{Plain, plain_of, IsFit, short_field, spelled
 use Rattle.mvt_message.specs.declared.item.Item.{Item}
 use Rattle.mvt_message.specs.CanonicalItems.{canonical_item}
 use Rattle.mvt_message.specs.ValidItems.{ValidItem}
+use Rattle.mvt_base.specs.declared.TheConstants.{LIMIT}
+use Rattle.mvt_message.proofs.MessageLaws.{canonical_reads as item_reads}
+use Rattle.mvt_wire.proofs.WireLaws.{short_lengths_bytes, spelled_whole_whole}
+use Rattle.mvt_tile.specs.declared.numbers.tile.TheConstants.{LAYERS}
 use Rattle.mvt_tile.specs.declared.tile.Tile.{Tile}
-use Rattle.mvt_tile.specs.Inner.{ItemLaws, SplitLaws, WritingLaws}
 use Rattle.mvt_tile.specs.CanonicalTiles.{item_field, canonical}
 use Rattle.mvt_tile.specs.TileRules.{layers_of}
 use Rattle.mvt_tile.specs.Tiles.{HoldsItem, IsTile}
@@ -16,52 +19,53 @@ use Rattle.mvt_tile.specs.ValidTiles.{Valid}
 use Rattle.mvt_tile.proofs.LayerLemmas.{layers_of-layer}
 use Rattle.mvt_tile.proofs.TileLemmas.{tile_once}
 
--- each item's payload is shorter than the whole
-abbrev HaveSmall : ℕ → List Item → Type 0
-HaveSmall limit items = AllByRecursion (λ i. length (canonical_item i) ≤ limit) items
+-- each item's payload is within the limit
+abbrev HaveSmall : List Item → Type 0
+HaveSmall items = AllByRecursion (λ i. length (canonical_item i) ≤ LIMIT) items
 
-small_items : WritingLaws → (limit : ℕ) (items : List Item) → length (spelled (map item_field items)) ≤ limit → HaveSmall limit items
-small_items laws limit [] h = tt
-small_items laws limit (i ∷ items) h =
-    let field = short_field 3 (bytes (canonical_item i)) in
+small_items : (items : List Item) → length (spelled (map item_field items)) ≤ LIMIT → HaveSmall items
+small_items [] h = tt
+small_items (i ∷ items) h =
+    let field = short_field LAYERS (bytes (canonical_item i)) in
     let others = spelled (map item_field items) in
-    let sum : length field + length others ≤ limit = subst (λ n. n ≤ limit) (length-append field others) h in
-    let longer = laws.longer 3 (canonical_item i) in
-    (omega arith, small_items laws limit items (omega arith))
+    let sum : length field + length others ≤ LIMIT = subst (λ n. n ≤ LIMIT) (length-append field others) h in
+    let longer = short_lengths_bytes LAYERS (canonical_item i) in
+    (omega (arith, sum, longer), small_items items (omega (arith, sum)))
 
-fit_items : (limit : ℕ) (items : List Item) → limit < 2 ^ 64 → HaveSmall limit items → AllByRecursion IsFit (map item_field items)
-fit_items limit [] le h = tt
-fit_items limit (i ∷ items) le h = (record { first = omega arith; last = lit< tt; content = omega (arith, h.0) }, fit_items limit items le h.1)
+fit_items : (items : List Item) → HaveSmall items → AllByRecursion IsFit (map item_field items)
+fit_items [] h = tt
+fit_items (i ∷ items) h =
+    let within : LIMIT < 2 ^ 64 = lit< tt in
+    (record { first = omega arith; last = lit< tt; content = omega (arith, h.0, within) }, fit_items items h.1)
 
 -- fields that are items, without their places
-held_items : WritingLaws → (limit : ℕ) → limit ≡ 67108864 → (es : List Entry) (items : List Item) → map plain_of es ≡ map item_field items → HaveSmall limit items → AllByRecursion ValidItem items
+held_items : (es : List Entry) (items : List Item) → map plain_of es ≡ map item_field items → HaveSmall items → AllByRecursion ValidItem items
     → AreRelated HoldsItem (layers_of es) items
-held_items laws limit is [] [] e small valid = tt
-held_items laws limit is [] (i ∷ items) e small valid = cc
-held_items laws limit is (x ∷ es) [] e small valid = cc
-held_items laws limit is (x ∷ es) (i ∷ items) e small valid =
+held_items [] [] e small valid = tt
+held_items [] (i ∷ items) e small valid = cc
+held_items (x ∷ es) [] e small valid = cc
+held_items (x ∷ es) (i ∷ items) e small valid =
     let one : plain_of x ≡ item_field i = cc in
     let others : map plain_of es ≡ map item_field items = cc in
-    let three : eqb x.number 3 ≡ true = ap (λ (p : Plain). eqb p.number 3) one in
+    let is_layer : eqb x.number LAYERS ≡ true = ap (λ (p : Plain). eqb p.number LAYERS) one in
     let content : x.content ≡ bytes (canonical_item i) = ap (λ (p : Plain). p.content) one in
-    subst (λ xs. AreRelated HoldsItem xs (i ∷ items)) (sym (layers_of-layer x es three))
-    ((canonical_item i, content, laws.reads limit is i valid.0 small.0), held_items laws limit is es items others small.1 valid.1)
+    subst (λ xs. AreRelated HoldsItem xs (i ∷ items)) (sym (layers_of-layer x es is_layer))
+    ((canonical_item i, content, item_reads i valid.0 small.0), held_items es items others small.1 valid.1)
 
-pub canonical_reads : WritingLaws → (limit : ℕ) → limit ≡ 67108864 → (tile : Tile) → Valid tile → length (canonical tile) ≤ limit → IsTile limit (canonical tile) tile
+pub canonical_reads : (tile : Tile) → Valid tile → length (canonical tile) ≤ LIMIT → IsTile LIMIT (canonical tile) tile
 unfolding canonical
-canonical_reads laws limit is tile valid small =
-    let each_small = small_items laws limit tile.items small in
-    let below : limit < 2 ^ 64 = subst (λ n. n < 2 ^ 64) (sym is) (lit< tt) in
-    let whole = laws.whole (map item_field tile.items) (fit_items limit tile.items below each_small) in
+canonical_reads tile valid small =
+    let each_small = small_items tile.items small in
+    let whole = spelled_whole_whole (map item_field tile.items) (fit_items tile.items each_small) in
     record {
       small = small;
       fields = whole.0;
       whole = whole.1;
-      items = held_items laws limit is whole.0 tile.items whole.2 each_small valid.items;
+      items = held_items whole.0 tile.items whole.2 each_small valid.items;
       distinct = valid.names;
     }
 
-pub one_tile : ItemLaws → SplitLaws → WritingLaws → (limit : ℕ) → limit ≡ 67108864 → (s t : Tile) → Valid s → Valid t → length (canonical s) ≤ limit → canonical s ≡ canonical t → s ≡ t
-one_tile laws splits writing limit is s t valid_s valid_t small same =
-    tile_once laws splits limit (canonical s) s t (canonical_reads writing limit is s valid_s small)
-    (subst (λ b. IsTile limit b t) (sym same) (canonical_reads writing limit is t valid_t (subst (λ b. length b ≤ limit) same small)))
+pub one_tile : (s t : Tile) → Valid s → Valid t → length (canonical s) ≤ LIMIT → canonical s ≡ canonical t → s ≡ t
+one_tile s t valid_s valid_t small same =
+    tile_once LIMIT (canonical s) s t (canonical_reads s valid_s small)
+    (subst (λ b. IsTile LIMIT b t) (sym same) (canonical_reads t valid_t (subst (λ b. length b ≤ LIMIT) same small)))

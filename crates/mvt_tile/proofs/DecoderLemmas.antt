@@ -10,10 +10,10 @@ use Rattle.mvt_wire.specs.Split.{Parts, Split, split, split_from, no_fields}
 use Rattle.mvt_feature.specs.Causes.{of_wire}
 use Rattle.mvt_feature.specs.declared.cause.Cause.TheVariants.{Truncated, TooLarge}
 use Rattle.mvt_message.specs.declared.item.Item.{Item}
+use Rattle.mvt_wire.proofs.WireLaws.{field_function_end, split_function_is, split_more_fields, split_more_place, split_more_rest, split_steps_none, split_steps_place}
 use Rattle.mvt_tile.specs.declared.fault.DecodeError.{DecodeError}
 use Rattle.mvt_tile.specs.declared.fault.DecodeError.TheVariants.{Memory, Fault, Read}
 use Rattle.mvt_tile.specs.Faults.{outer_fault, is_open}
-use Rattle.mvt_tile.specs.Inner.{ItemLaws, SplitLaws}
 use Rattle.mvt_tile.specs.Inner.Judging.{fault_behind, IsJudged, TellsBehind}
 use Rattle.mvt_tile.specs.Streams.{IsCalm, IsLive, Tells, Decoding, StandsAs, StandsFor}
 use Rattle.mvt_tile.specs.TileRules.{field_rules, rest_rules_at, rest_rules, tile_rules, beyond, fault_within}
@@ -27,9 +27,9 @@ calm_none : IsCalm None
 calm_none f e = cc
 
 -- nothing yet
-pub live_start : SplitLaws → (limit : ℕ) → IsLive limit 0 [] [] []
-live_start splits limit =
-    let all : split [] ≡ no_fields 0 [] = splits.none 0 [] splits.end in
+pub live_start : (limit : ℕ) → IsLive limit 0 [] [] []
+live_start limit =
+    let all : split [] ≡ no_fields 0 [] = split_steps_none 0 [] field_function_end in
     let none : fault_within limit [] ≡ None = fault_of_short limit [] (omega arith) ∙ first-tile [] ∙ ap (fault_behind []) all in
     record {
       small = omega arith;
@@ -46,9 +46,9 @@ rest_calm at (b ∷ bs) e f told =
     ap is_open (sym is) ∙ ap (λ c. is_open (outer_fault at (of_wire c))) e
 
 -- how long the stream is
-pub live_length : SplitLaws → (limit offset : ℕ) (items : List Item) (raw s : List ℕ) → IsLive limit offset items raw s → length s ≡ offset + length raw
-live_length splits limit offset items raw s live =
-    let whole = splits.place 0 s in
+pub live_length : (limit offset : ℕ) (items : List Item) (raw s : List ℕ) → IsLive limit offset items raw s → length s ≡ offset + length raw
+live_length limit offset items raw s live =
+    let whole = split_steps_place 0 s in
     let place = live.place in
     omega (arith, ap length live.rest)
 
@@ -57,49 +57,49 @@ parts_more : (limit offset : ℕ) (items : List Item) (raw s : List ℕ) → IsL
 parts_more limit offset items raw s live t = ap₂ (λ a r. split_from a (r ++ t)) live.place live.rest
 
 -- the first fault of the stream and more
-fault_more : ItemLaws → SplitLaws → (limit offset : ℕ) (items : List Item) (raw s t : List ℕ) → IsLive limit offset items raw s → offset + (length raw + length t) ≤ limit
+fault_more : (limit offset : ℕ) (items : List Item) (raw s t : List ℕ) → IsLive limit offset items raw s → offset + (length raw + length t) ≤ limit
     → fault_within limit (s ++ t) ≡ fault_behind (split s).fields (split_from offset (raw ++ t))
-fault_more laws splits limit offset items raw s t live fits =
-    let size = live_length splits limit offset items raw s live in
+fault_more limit offset items raw s t live fits =
+    let size = live_length limit offset items raw s live in
     let small : length (s ++ t) ≤ limit = simp length-append (omega arith) in
-    fault_of_short limit (s ++ t) small ∙ first-more splits s t
-    ∙ option_or-none (first (each field_rules [] (split s).fields)) (fault_behind (split s).fields (rest_with s t)) (are_clean laws (split s).fields items live.items_are)
+    fault_of_short limit (s ++ t) small ∙ first-more s t
+    ∙ option_or-none (first (each field_rules [] (split s).fields)) (fault_behind (split s).fields (rest_with s t)) (are_clean (split s).fields items live.items_are)
     ∙ ap (fault_behind (split s).fields) (parts_more limit offset items raw s live t)
 
-pub live_more : ItemLaws → SplitLaws → (limit offset : ℕ) (items new : List Item) (raw after s t : List ℕ) (used : ℕ) → IsJudged offset (raw ++ t) items new used → after ≡ drop used (raw ++ t) → offset + (length raw + length t) ≤ limit
+pub live_more : (limit offset : ℕ) (items new : List Item) (raw after s t : List ℕ) (used : ℕ) → IsJudged offset (raw ++ t) items new used → after ≡ drop used (raw ++ t) → offset + (length raw + length t) ≤ limit
     → IsLive limit offset items raw s → IsLive limit (offset + used) new after (s ++ t)
-live_more laws splits limit offset items new raw after s t used judged is fits live =
-    let size = live_length splits limit offset items raw s live in
+live_more limit offset items new raw after s t used judged is fits live =
+    let size = live_length limit offset items raw s live in
     let parts = parts_more limit offset items raw s live t in
     let q = split_from offset (raw ++ t) in
     let now_are : AreItems ((split s).fields ++ q.fields) new = judged.items_are (split s).fields live.items_are in
     record {
       small = simp length-append (omega arith);
-      rest = splits.rest_more 0 s t ∙ ap (λ (p : Parts). p.rest) parts ∙ judged.rest ∙ sym is;
-      place = splits.place_more 0 s t ∙ ap (λ (p : Parts). p.rest_at) parts ∙ judged.place;
-      items_are = subst (λ xs. AreItems xs new) (sym (splits.fields_more 0 s t ∙ ap (λ (p : Parts). (split s).fields ++ p.fields) parts)) now_are;
+      rest = split_more_rest 0 s t ∙ ap (λ (p : Parts). p.rest) parts ∙ judged.rest ∙ sym is;
+      place = split_more_place 0 s t ∙ ap (λ (p : Parts). p.rest_at) parts ∙ judged.place;
+      items_are = subst (λ xs. AreItems xs new) (sym (split_more_fields 0 s t ∙ ap (λ (p : Parts). (split s).fields ++ p.fields) parts)) now_are;
       calm = subst IsCalm
-          (sym (fault_more laws splits limit offset items raw s t live fits
-          ∙ option_or-none (first (each field_rules (split s).fields q.fields)) (first (rest_rules q)) (fields_clean laws (split s).fields q.fields new now_are)))
+          (sym (fault_more limit offset items raw s t live fits
+          ∙ option_or-none (first (each field_rules (split s).fields q.fields)) (first (rest_rules q)) (fields_clean (split s).fields q.fields new now_are)))
           (rest_calm q.rest_at q.rest (ap rest_cause judged.rest ∙ judged.unfinished));
     }
 
 -- what can't be changed is told of each longer stream
-tells_stays : SplitLaws → (limit : ℕ) (e : DecodeError) (s t : List ℕ) → Tells e (fault_within limit s) → Tells e (fault_within limit (s ++ t))
-tells_stays splits limit Memory s t h = tt
-tells_stays splits limit (Fault f) s t h = (fault_stays splits limit s t f h.0 h.1, h.1)
-tells_stays splits limit (Read k) s t h = absurd h
+tells_stays : (limit : ℕ) (e : DecodeError) (s t : List ℕ) → Tells e (fault_within limit s) → Tells e (fault_within limit (s ++ t))
+tells_stays limit Memory s t h = tt
+tells_stays limit (Fault f) s t h = (fault_stays limit s t f h.0 h.1, h.1)
+tells_stays limit (Read k) s t h = absurd h
 
-pub live_fails : ItemLaws → SplitLaws → (limit offset : ℕ) (items : List Item) (raw s piece t beyond : List ℕ) (e : DecodeError) → TellsBehind e offset (raw ++ t) items → piece ≡ t ++ beyond → offset + (length raw + length t) ≤ limit
+pub live_fails : (limit offset : ℕ) (items : List Item) (raw s piece t beyond : List ℕ) (e : DecodeError) → TellsBehind e offset (raw ++ t) items → piece ≡ t ++ beyond → offset + (length raw + length t) ≤ limit
     → IsLive limit offset items raw s → Tells e (fault_within limit (s ++ piece))
-live_fails laws splits limit offset items raw s piece t beyond e tells is fits live =
+live_fails limit offset items raw s piece t beyond e tells is fits live =
     subst (λ p. Tells e (fault_within limit p)) (append_assoc s t beyond ∙ ap (λ p. s ++ p) (sym is))
-    (tells_stays splits limit e (s ++ t) beyond (subst (Tells e) (sym (fault_more laws splits limit offset items raw s t live fits)) (tells (split s).fields live.items_are)))
+    (tells_stays limit e (s ++ t) beyond (subst (Tells e) (sym (fault_more limit offset items raw s t live fits)) (tells (split s).fields live.items_are)))
 
 -- the first fault of the stream is that of its rest
-live_fault : ItemLaws → (limit offset : ℕ) (items : List Item) (raw s : List ℕ) → IsLive limit offset items raw s → first (tile_rules s) ≡ first (rest_rules_at offset raw)
-live_fault laws limit offset items raw s live =
-    first-tile s ∙ option_or-none (first (each field_rules [] (split s).fields)) (first (rest_rules (split s))) (are_clean laws (split s).fields items live.items_are)
+live_fault : (limit offset : ℕ) (items : List Item) (raw s : List ℕ) → IsLive limit offset items raw s → first (tile_rules s) ≡ first (rest_rules_at offset raw)
+live_fault limit offset items raw s live =
+    first-tile s ∙ option_or-none (first (each field_rules [] (split s).fields)) (first (rest_rules (split s))) (are_clean (split s).fields items live.items_are)
     ∙ ap₂ (λ a r. first (rest_rules_at a r)) live.place live.rest
 
 too_large_behind : (limit offset : ℕ) (raw : List ℕ) → offset + length raw ≡ limit → IsCalm (first (rest_rules_at offset raw)) → beyond limit (first (rest_rules_at offset raw)) ≡ Some (outer_fault offset TooLarge)
@@ -111,12 +111,12 @@ too_large_behind limit offset (b ∷ bs) size calm =
     ap (λ t. Some (cond t (outer_fault offset TooLarge) f)) (calm f refl)
 
 -- a stream that goes on behind the limit
-pub live_too_large : ItemLaws → SplitLaws → (limit offset : ℕ) (items : List Item) (raw s more : List ℕ) → offset + length raw ≡ limit → (length more ≡ 0 → ⊥)
+pub live_too_large : (limit offset : ℕ) (items : List Item) (raw s more : List ℕ) → offset + length raw ≡ limit → (length more ≡ 0 → ⊥)
     → IsLive limit offset items raw s → Tells (Fault (outer_fault offset TooLarge)) (fault_within limit (s ++ more))
-live_too_large laws splits limit offset items raw s more full some live =
-    let size : length s ≡ limit = live_length splits limit offset items raw s live ∙ full in
+live_too_large limit offset items raw s more full some live =
+    let size : length s ≡ limit = live_length limit offset items raw s live ∙ full in
     let longer : limit < length (s ++ more) = simp length-append (omega arith) in
-    let is : first (tile_rules s) ≡ first (rest_rules_at offset raw) = live_fault laws limit offset items raw s live in
+    let is : first (tile_rules s) ≡ first (rest_rules_at offset raw) = live_fault limit offset items raw s live in
     let calm : IsCalm (first (rest_rules_at offset raw)) = subst IsCalm (fault_of_short limit s live.small ∙ is) live.calm in (
       fault_of_long limit (s ++ more) longer
           ∙ ap (λ xs. beyond limit (first (tile_rules xs))) (ap (λ n. take n (s ++ more)) (sym size) ∙ take-append_seam s more)
@@ -136,17 +136,17 @@ rest_open at (b ∷ bs) some calm =
     ap (λ c. Some (outer_fault at c)) (open_cause at (rest_cause (b ∷ bs)) (calm (outer_fault at (of_wire (rest_cause (b ∷ bs)))) refl))
 
 -- a stream that ends in a field
-pub live_truncated : ItemLaws → (limit offset : ℕ) (items : List Item) (raw s : List ℕ) → (length raw ≡ 0 → ⊥) → IsLive limit offset items raw s → fault_within limit s ≡ Some (outer_fault offset Truncated)
-live_truncated laws limit offset items raw s some live =
-    let is : fault_within limit s ≡ first (rest_rules_at offset raw) = fault_of_short limit s live.small ∙ live_fault laws limit offset items raw s live in
+pub live_truncated : (limit offset : ℕ) (items : List Item) (raw s : List ℕ) → (length raw ≡ 0 → ⊥) → IsLive limit offset items raw s → fault_within limit s ≡ Some (outer_fault offset Truncated)
+live_truncated limit offset items raw s some live =
+    let is : fault_within limit s ≡ first (rest_rules_at offset raw) = fault_of_short limit s live.small ∙ live_fault limit offset items raw s live in
     is ∙ rest_open offset raw some (subst IsCalm is live.calm)
 
 -- a stream that ends behind a field is the tile
-pub live_tile : SplitLaws → (limit offset : ℕ) (items : List Item) (raw s : List ℕ) → raw ≡ [] → IsLive limit offset items raw s → IsTile limit s (record { items = items })
-live_tile splits limit offset items raw s none live = record {
+pub live_tile : (limit offset : ℕ) (items : List Item) (raw s : List ℕ) → raw ≡ [] → IsLive limit offset items raw s → IsTile limit s (record { items = items })
+live_tile limit offset items raw s none live = record {
   small = live.small;
   fields = (split s).fields;
-  whole = subst (Split s (split s).fields) (live.rest ∙ none) (splits.is s);
+  whole = subst (Split s (split s).fields) (live.rest ∙ none) (split_function_is s);
   items = live.items_are.held;
   distinct = live.items_are.distinct;
 }
@@ -161,18 +161,18 @@ left_length offset raw after t used is within =
     let size : length after ≡ length (raw ++ t) - used = ap length is ∙ length-drop used (raw ++ t) in
     omega (arith, length-append raw t)
 
-pub piece_fits : ItemLaws → SplitLaws → (limit offset : ℕ) (items new : List Item) (raw after s piece t more : List ℕ) (used : ℕ) → IsJudged offset (raw ++ t) items new used → after ≡ drop used (raw ++ t) → offset + (length raw + length t) ≤ limit
+pub piece_fits : (limit offset : ℕ) (items new : List Item) (raw after s piece t more : List ℕ) (used : ℕ) → IsJudged offset (raw ++ t) items new used → after ≡ drop used (raw ++ t) → offset + (length raw + length t) ≤ limit
     → piece ≡ t ++ more → length more ≡ 0 → IsLive limit offset items raw s → IsLive limit (offset + used) new after (s ++ piece)
-piece_fits laws splits limit offset items new raw after s piece t [] used judged is fits joined none live =
-    subst (λ p. IsLive limit (offset + used) new after (s ++ p)) (sym (joined ∙ append-nil t)) (live_more laws splits limit offset items new raw after s t used judged is fits live)
-piece_fits laws splits limit offset items new raw after s piece t (b ∷ bs) used judged is fits joined none live = absurd (omega arith)
+piece_fits limit offset items new raw after s piece t [] used judged is fits joined none live =
+    subst (λ p. IsLive limit (offset + used) new after (s ++ p)) (sym (joined ∙ append-nil t)) (live_more limit offset items new raw after s t used judged is fits live)
+piece_fits limit offset items new raw after s piece t (b ∷ bs) used judged is fits joined none live = absurd (omega arith)
 
-pub piece_too_large : ItemLaws → SplitLaws → (limit offset : ℕ) (items new : List Item) (raw after s piece t more : List ℕ) (used : ℕ) → IsJudged offset (raw ++ t) items new used → after ≡ drop used (raw ++ t) → offset + (length raw + length t) ≡ limit
+pub piece_too_large : (limit offset : ℕ) (items new : List Item) (raw after s piece t more : List ℕ) (used : ℕ) → IsJudged offset (raw ++ t) items new used → after ≡ drop used (raw ++ t) → offset + (length raw + length t) ≡ limit
     → piece ≡ t ++ more → (length more ≡ 0 → ⊥) → IsLive limit offset items raw s → Tells (Fault (outer_fault (offset + used) TooLarge)) (fault_within limit (s ++ piece))
-piece_too_large laws splits limit offset items new raw after s piece t more used judged is full joined some live =
+piece_too_large limit offset items new raw after s piece t more used judged is full joined some live =
     let size = left_length offset raw after t used is judged.within in
     subst (λ p. Tells (Fault (outer_fault (offset + used) TooLarge)) (fault_within limit p)) (append_assoc s t more ∙ ap (λ p. s ++ p) (sym joined))
-    (live_too_large laws splits limit (offset + used) new after (s ++ t) more (omega arith) some (live_more laws splits limit offset items new raw after s t used judged is (omega arith) live))
+    (live_too_large limit (offset + used) new after (s ++ t) more (omega arith) some (live_more limit offset items new raw after s t used judged is (omega arith) live))
 
 pub left_fits : (limit offset : ℕ) (bytes after : List ℕ) (items new : List Item) (used : ℕ) → IsJudged offset bytes items new used → after ≡ drop used bytes → offset + length bytes ≤ limit → (offset + used) + length after ≤ limit
 left_fits limit offset bytes after items new used judged is fits =
@@ -182,9 +182,9 @@ left_fits limit offset bytes after items new used judged is fits =
 
 -- what a decoder stands for, by its parts
 
-pub failed_stays : SplitLaws → (limit : ℕ) (o : Option DecodeError) (d : Decoding) (e : DecodeError) (s t : List ℕ) → o ≡ Some e → StandsAs limit o d s → StandsAs limit o d (s ++ t)
-failed_stays splits limit None d e s t is stands = cc
-failed_stays splits limit (Some x) d e s t is stands = (stands.0, tells_stays splits limit x s t stands.1)
+pub failed_stays : (limit : ℕ) (o : Option DecodeError) (d : Decoding) (e : DecodeError) (s t : List ℕ) → o ≡ Some e → StandsAs limit o d s → StandsAs limit o d (s ++ t)
+failed_stays limit None d e s t is stands = cc
+failed_stays limit (Some x) d e s t is stands = (stands.0, tells_stays limit x s t stands.1)
 
 pub live_of : (limit : ℕ) (failure : Option DecodeError) (offset : ℕ) (items : List Item) (raw : List ℕ) (d : Decoding) (s : List ℕ) → (let d' : Decoding = record { failure = failure; items = items; raw = raw; offset = offset } in d') ≡ d → failure ≡ None → StandsFor limit d s
     → IsLive limit offset items raw s

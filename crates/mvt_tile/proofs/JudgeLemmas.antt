@@ -1,11 +1,11 @@
 -- Judging the fields at the front of some bytes.
-use Rattle.std.proofs.Common.{◌⊎◌, inl, inr, ◌≡◌, ◌≢◌, ℕ, ◌+◌, ◌≤◌, Bool, true, false, not, List, [], ◌∷◌, ◌++◌, length, map, drop, Option, Some, None, Result, Ok, Err, OnOk, IfOk, IfErr, refl, sym, ap, ap₂, subst, ◌∙◌, arith, append_assoc, append-nil, length-append}
+use Rattle.std.proofs.Common.{◌⊎◌, inl, inr, ◌≡◌, ◌≢◌, ℕ, ◌+◌, ◌≤◌, false, List, [], ◌∷◌, ◌++◌, length, map, drop, Option, Some, None, Result, Ok, Err, OnOk, IfOk, IfErr, refl, sym, ap, ap₂, subst, ◌∙◌, arith, append_assoc, append-nil, length-append}
 use Rattle.std.specs.List.{flat_map}
 use Rattle.std.specs.Option.{option_or, option_map}
-use Rattle.std.proofs.lemmas.Bool.{eq-eqb, ne_eqb, not-false, not-true}
+use Rattle.std.proofs.lemmas.Bool.{eq-eqb, ne_eqb}
 use Rattle.std.proofs.lemmas.List.{map-append}
 use Rattle.mvt_base.specs.Rules.{when, under, each, first}
-use Rattle.mvt_base.proofs.RuleLemmas.{first-append, first-under, first-when, option_or-none, option_or-nones, each-append}
+use Rattle.mvt_base.proofs.RuleLemmas.{first-append, first-under, option_or-none, option_or-nones, each-append}
 use Rattle.mvt_base.proofs.ListLemmas.{length-related}
 use Rattle.mvt_wire.specs.Field.{Entry, Content, bytes, entry_of, content_of}
 use Rattle.mvt_wire.specs.declared.field.Payload.{Payload}
@@ -23,14 +23,14 @@ use Rattle.mvt_feature.specs.declared.message_error.MessageError.{MessageError}
 use Rattle.mvt_feature.specs.declared.message_error.MessageError.TheVariants as message
 use Rattle.mvt_message.specs.declared.item.Item.{Item}
 use Rattle.mvt_message.specs.ItemRules.{item_fault, payload_names}
-use Rattle.mvt_message.specs.Items.{IsItem, names_in}
+use Rattle.mvt_message.specs.Items.{names_in}
+use Rattle.mvt_wire.proofs.WireLaws.{one_cause_end, split_function_count, split_steps_place}
 use Rattle.mvt_tile.specs.declared.fault.DecodeError.{DecodeError}
 use Rattle.mvt_tile.specs.declared.fault.DecodeError.TheVariants.{Memory, Fault, Read}
 use Rattle.mvt_tile.specs.declared.fault.Fault.{Fault as AFault}
 use Rattle.mvt_tile.specs.declared.numbers.tile.TheConstants.{LAYERS}
 use Rattle.mvt_tile.specs.Faults.{outer_fault, in_layer, is_open}
-use Rattle.mvt_tile.specs.Inner.{ItemLaws, SplitLaws}
-use Rattle.mvt_tile.specs.Inner.Judging.{shifted, told_in, payload_fault, repeated_at, fault_behind, IsJudged, IsPlaceOf, TakesItem, TellsBehind}
+use Rattle.mvt_tile.specs.Inner.Judging.{shifted, told_in, name_fault, payload_fault, repeated_at, fault_behind, IsJudged, IsPlaceOf, TakesItem, TellsBehind}
 use Rattle.mvt_tile.specs.Streams.{Tells}
 use Rattle.mvt_tile.specs.TileRules.{layers_of, is_bytes, field_rules, repeats, rest_rules, rest_rules_at}
 use Rattle.mvt_tile.specs.Tiles.{HoldsItem, AreItems}
@@ -56,52 +56,50 @@ tells_payload message.Memory n names d payload_at tag_at h = tt
 tells_payload (message.Fault feature at cause) n names d payload_at tag_at h =
     tells_front (told_in n (message.Fault feature at cause)) (option_map (in_layer n) (item_fault d payload_at tag_at)) (first (when (repeats names (payload_names d)) (repeated_at n tag_at))) (ap (option_map (in_layer n)) h, refl)
 
-pub tells_repeated : ItemLaws → (n : ℕ) (names : List (List ℕ)) (d : List ℕ) (payload_at tag_at : ℕ) (item : Item) (added : Bool) → item_fault d payload_at tag_at ≡ None → IsItem d item
-    → added ≡ not (repeats names (names_in item)) → added ≡ false → Tells (Fault (repeated_at n tag_at)) (payload_fault n names d payload_at tag_at)
-tells_repeated laws n names d payload_at tag_at item added none is e no_more =
-    let repeated : repeats names (payload_names d) ≡ true = ap (repeats names) (sym (laws.names d item is)) ∙ not-false (repeats names (names_in item)) (sym e ∙ no_more) in
-    tells_back (Fault (repeated_at n tag_at)) (option_map (in_layer n) (item_fault d payload_at tag_at)) (first (when (repeats names (payload_names d)) (repeated_at n tag_at)))
-    (ap (option_map (in_layer n)) none) (first-when (repeats names (payload_names d)) (repeated_at n tag_at) repeated, refl)
-
-pub is_added : (names : List (List ℕ)) (item : Item) (added : Bool) → added ≡ not (repeats names (names_in item)) → added ≡ true → repeats names (names_in item) ≡ false
-is_added names item added e is_new = not-true (repeats names (names_in item)) (sym e ∙ is_new)
+-- what is told of a name is told of a payload that has it, and no fault of its own
+pub tells_name : (e : DecodeError) (n : ℕ) (names given : List (List ℕ)) (d : List ℕ) (payload_at tag_at : ℕ)
+    → item_fault d payload_at tag_at ≡ None → given ≡ payload_names d → Tells e (name_fault n names given tag_at)
+    → Tells e (payload_fault n names d payload_at tag_at)
+tells_name e n names given d payload_at tag_at none is told =
+    tells_back e (option_map (in_layer n) (item_fault d payload_at tag_at)) (name_fault n names (payload_names d) tag_at)
+    (ap (option_map (in_layer n)) none) (subst (λ g. Tells e (name_fault n names g tag_at)) is told)
 
 -- of a field
 
 pub field_over : (items : List Item) (offset : ℕ) (x : Entry) → (x.number ≡ LAYERS → ⊥) → (front : List Entry) → AreItems front items → AreItems (front ++ shifted offset x ∷ []) items
-field_over items offset x other front are = are_over front items (shifted offset x) are (ne_eqb x.number 3 other)
+field_over items offset x other front are = are_over front items (shifted offset x) are (ne_eqb x.number LAYERS other)
 
-pub field_taken : ItemLaws → (r : Result (Unit {0}) DecodeError) (old new : List Item) (offset : ℕ) (x : Entry) (d : List ℕ) → x.number ≡ LAYERS → x.content ≡ bytes d
+pub field_taken : (r : Result (Unit {0}) DecodeError) (old new : List Item) (offset : ℕ) (x : Entry) (d : List ℕ) → x.number ≡ LAYERS → x.content ≡ bytes d
     → OnOk r (TakesItem old new d) → OnOk r ((front : List Entry) → AreItems front old → AreItems (front ++ shifted offset x ∷ []) new)
-field_taken laws (Err e) old new offset x d three held h = tt
-field_taken laws (Ok u) old new offset x d three held h = λ front are.
-    subst (AreItems (front ++ shifted offset x ∷ [])) (sym h.1) (are_more laws front old (shifted offset x) d h.0 are (eq-eqb x.number LAYERS three) held h.2 h.3)
+field_taken (Err e) old new offset x d is_layer held h = tt
+field_taken (Ok u) old new offset x d is_layer held h = λ front are.
+    subst (AreItems (front ++ shifted offset x ∷ [])) (sym h.1) (are_more front old (shifted offset x) d h.0 are (eq-eqb x.number LAYERS is_layer) held h.2 h.3)
 
 pub field_few : (r : Result (Unit {0}) DecodeError) (old new : List Item) (d : List ℕ) → OnOk r (TakesItem old new d) → OnOk r (length new ≤ length old + 1)
 field_few (Err e) old new d h = tt
 field_few (Ok u) old new d h = omega (arith, ap length h.1, length-append old (h.0 ∷ []))
 
 -- where the item of a field is taken
-pub field_gives : ItemLaws → (Knows : List Item → Type 0) (r : Result (Unit {0}) DecodeError) (items : List Item) (offset : ℕ) (x : Entry) (d : List ℕ) (payload_at tag_at : ℕ) → IsPlaceOf offset x d payload_at tag_at
+pub field_gives : (Knows : List Item → Type 0) (r : Result (Unit {0}) DecodeError) (items : List Item) (offset : ℕ) (x : Entry) (d : List ℕ) (payload_at tag_at : ℕ) → IsPlaceOf offset x d payload_at tag_at
     → OnOk r ((new : List Item) × Knows new × TakesItem items new d)
     → OnOk r ((new : List Item) × Knows new × (length new ≤ length items + 1) × ((front : List Entry) → AreItems front items → AreItems (front ++ shifted offset x ∷ []) new))
-field_gives laws Knows (Err e) items offset x d payload_at tag_at place h = tt
-field_gives laws Knows (Ok u) items offset x d payload_at tag_at place h =
-    (h.0, h.1, field_few (Ok u) items h.0 d h.2, field_taken laws (Ok u) items h.0 offset x d place.is_layer place.holds h.2)
+field_gives Knows (Err e) items offset x d payload_at tag_at place h = tt
+field_gives Knows (Ok u) items offset x d payload_at tag_at place h =
+    (h.0, h.1, field_few (Ok u) items h.0 d h.2, field_taken (Ok u) items h.0 offset x d place.is_layer place.holds h.2)
 
-pub field_tells : ItemLaws → (r : Result (Unit {0}) DecodeError) (old : List Item) (offset : ℕ) (x : Entry) (d : List ℕ) (payload_at tag_at : ℕ) → IsPlaceOf offset x d payload_at tag_at
+pub field_tells : (r : Result (Unit {0}) DecodeError) (old : List Item) (offset : ℕ) (x : Entry) (d : List ℕ) (payload_at tag_at : ℕ) → IsPlaceOf offset x d payload_at tag_at
     → IfErr r (λ e. Tells e (payload_fault (length old) (flat_map names_in old) d payload_at tag_at))
     → IfErr r (λ e. (front : List Entry) → AreItems front old → Tells e (first (field_rules front (shifted offset x))))
-field_tells laws (Ok u) old offset x d payload_at tag_at place h = tt
-field_tells laws (Err e) old offset x d payload_at tag_at place h = λ front are.
+field_tells (Ok u) old offset x d payload_at tag_at place h = tt
+field_tells (Err e) old offset x d payload_at tag_at place h = λ front are.
     let here : Tells e (payload_fault (length old) (flat_map names_in old) d (offset + x.body) (offset + x.at)) = subst (λ b. Tells e (payload_fault (length old) (flat_map names_in old) d b (offset + x.at))) place.payload_at_is (subst (λ o. Tells e (payload_fault (length old) (flat_map names_in old) d payload_at o)) place.tag_at_is h) in
-    subst (Tells e) (sym (first-behind laws front old (shifted offset x) d are (eq-eqb x.number LAYERS place.is_layer) place.holds))
+    subst (Tells e) (sym (first-behind front old (shifted offset x) d are (eq-eqb x.number LAYERS place.is_layer) place.holds))
     (subst (λ n. Tells e (payload_fault n (flat_map names_in old) d (offset + x.body) (offset + x.at))) (sym (length-related HoldsItem (layers_of front) old are.held)) here)
 
 pub field_wrong : (offset : ℕ) (x : Entry) (c : Content) → x.number ≡ LAYERS → x.content ≡ c → is_bytes c ≡ false → (front : List Entry)
     → Tells (Fault (outer_fault (offset + x.at) WrongType)) (first (field_rules front (shifted offset x)))
-field_wrong offset x c three held other front =
-    (first-wrong front (shifted offset x) (eq-eqb x.number LAYERS three) (ap is_bytes held ∙ other), refl)
+field_wrong offset x c is_layer held other front =
+    (first-wrong front (shifted offset x) (eq-eqb x.number LAYERS is_layer) (ap is_bytes held ∙ other), refl)
 
 -- of the fields so far
 
@@ -139,78 +137,78 @@ so_far_step offset b old now after before to_come field so_far step taken few = 
 }
 
 -- a field to come stands within the bytes
-pub so_far_place : SplitLaws → (offset : ℕ) (b : List ℕ) (old now : List Item) (before to_come : Parts) (field : Field) → JudgedSoFar offset b old now before → GivesEntry before (Some (Ok field)) to_come
+pub so_far_place : (offset : ℕ) (b : List ℕ) (old now : List Item) (before to_come : Parts) (field : Field) → JudgedSoFar offset b old now before → GivesEntry before (Some (Ok field)) to_come
     → (field.at ≤ length b) × (field.body + bytes_size (entry_of field).content ≤ length b)
-so_far_place laws offset b old now before to_come field so_far step =
-    let within = place_within laws b in
+so_far_place offset b old now before to_come field so_far step =
+    let within = place_within b in
     let place = so_far.place in
     let ends : EndsBy before.rest_at (entry_of field) = step.1 in
     (omega (arith, ends.0), omega (arith, ends.1))
 
-pub so_far_count : SplitLaws → (offset : ℕ) (b : List ℕ) (old now : List Item) (before : Parts) → JudgedSoFar offset b old now before → length now ≤ length old + length b
-so_far_count laws offset b old now before so_far =
-    let count = laws.count b in
+pub so_far_count : (offset : ℕ) (b : List ℕ) (old now : List Item) (before : Parts) → JudgedSoFar offset b old now before → length now ≤ length old + length b
+so_far_count offset b old now before so_far =
+    let count = split_function_count b in
     let sum : length (split b).fields ≡ length so_far.done + length before.fields = ap length so_far.fields ∙ length-append so_far.done before.fields in
     let few = so_far.few in
     omega arith
 
-pub fields_clean : ItemLaws → (front xs : List Entry) (items : List Item) → AreItems (front ++ xs) items → first (each field_rules front xs) ≡ None
-fields_clean laws front xs items are =
+pub fields_clean : (front xs : List Entry) (items : List Item) → AreItems (front ++ xs) items → first (each field_rules front xs) ≡ None
+fields_clean front xs items are =
     (option_or-nones (first (each field_rules [] front)) (first (each field_rules front xs))
-    (sym (ap first (each-append field_rules [] front xs) ∙ first-append (each field_rules [] front) (each field_rules front xs)) ∙ are_clean laws (front ++ xs) items are)).1
+    (sym (ap first (each-append field_rules [] front xs) ∙ first-append (each field_rules [] front) (each field_rules front xs)) ∙ are_clean (front ++ xs) items are)).1
 
 each_behind : (front xs ys : List Entry) → first (each field_rules front (xs ++ ys)) ≡ option_or (first (each field_rules front xs)) (first (each field_rules (front ++ xs) ys))
 each_behind front xs ys = ap first (each-append field_rules front xs ys) ∙ first-append (each field_rules front xs) (each field_rules (front ++ xs) ys)
 
 -- the field that is at fault
-pub so_far_fails : ItemLaws → SplitLaws → (offset : ℕ) (b : List ℕ) (old now : List Item) (before to_come : Parts) (field : Field) (e : DecodeError) → JudgedSoFar offset b old now before → GivesEntry before (Some (Ok field)) to_come
+pub so_far_fails : (offset : ℕ) (b : List ℕ) (old now : List Item) (before to_come : Parts) (field : Field) (e : DecodeError) → JudgedSoFar offset b old now before → GivesEntry before (Some (Ok field)) to_come
     → ((front : List Entry) → AreItems front now → Tells e (first (field_rules front (shifted offset (entry_of field)))))
     → TellsBehind e offset b old
-so_far_fails laws splits offset b old now before to_come field e so_far step told front are =
+so_far_fails offset b old now before to_come field e so_far step told front are =
     let x = shifted offset (entry_of field) in
     let done = map (shifted offset) so_far.done in
     let later = map (shifted offset) to_come.fields in
     let now_are = so_far.items_are front are in
     let parts = split_from offset b in
-    let is : parts.fields ≡ done ++ x ∷ later = ap (λ (p : Parts). p.fields) (split_at_place splits offset b) ∙ ap (map (shifted offset)) (so_far.fields ∙ ap (λ (p : Parts). so_far.done ++ p.fields) step.0) ∙ map-append (shifted offset) so_far.done (entry_of field ∷ to_come.fields) in
+    let is : parts.fields ≡ done ++ x ∷ later = ap (λ (p : Parts). p.fields) (split_at_place offset b) ∙ ap (map (shifted offset)) (so_far.fields ∙ ap (λ (p : Parts). so_far.done ++ p.fields) step.0) ∙ map-append (shifted offset) so_far.done (entry_of field ∷ to_come.fields) in
     let here : first (each field_rules (front ++ done) (x ∷ later)) ≡ option_or (first (field_rules (front ++ done) x)) (first (each field_rules ((front ++ done) ++ x ∷ []) later)) =
     first-append (under (length (front ++ done)) (field_rules (front ++ done) x)) (each field_rules ((front ++ done) ++ x ∷ []) later) ∙ ap (λ o. option_or o (first (each field_rules ((front ++ done) ++ x ∷ []) later))) (first-under (length (front ++ done)) (field_rules (front ++ done) x)) in
     tells_front e (first (each field_rules front parts.fields)) (first (rest_rules parts))
     (subst (λ xs. Tells e (first (each field_rules front xs))) (sym is)
     (subst (Tells e) (sym (each_behind front done (x ∷ later)))
-    (tells_back e (first (each field_rules front done)) (first (each field_rules (front ++ done) (x ∷ later))) (fields_clean laws front done now now_are)
+    (tells_back e (first (each field_rules front done)) (first (each field_rules (front ++ done) (x ∷ later))) (fields_clean front done now now_are)
     (subst (Tells e) (sym here) (tells_front e (first (field_rules (front ++ done) x)) (first (each field_rules ((front ++ done) ++ x ∷ []) later)) (told (front ++ done) now_are))))))
 
 -- all fields are judged
-all_done : (offset : ℕ) (b : List ℕ) (old now : List Item) (before : Parts) → SplitLaws → (so_far : JudgedSoFar offset b old now before) → before.fields ≡ [] → (split_from offset b).fields ≡ map (shifted offset) so_far.done
-all_done offset b old now before splits so_far none =
-    ap (λ (p : Parts). p.fields) (split_at_place splits offset b) ∙ ap (map (shifted offset)) (so_far.fields ∙ ap (λ xs. so_far.done ++ xs) none ∙ append-nil so_far.done)
+all_done : (offset : ℕ) (b : List ℕ) (old now : List Item) (before : Parts) → (so_far : JudgedSoFar offset b old now before) → before.fields ≡ [] → (split_from offset b).fields ≡ map (shifted offset) so_far.done
+all_done offset b old now before so_far none =
+    ap (λ (p : Parts). p.fields) (split_at_place offset b) ∙ ap (map (shifted offset)) (so_far.fields ∙ ap (λ xs. so_far.done ++ xs) none ∙ append-nil so_far.done)
 
-judged_all : SplitLaws → (offset : ℕ) (b : List ℕ) (old now : List Item) (before : Parts) (used : ℕ) → JudgedSoFar offset b old now before → before.fields ≡ [] → used ≡ (split b).rest_at → rest_cause (split b).rest ≡ wire.Truncated
+judged_all : (offset : ℕ) (b : List ℕ) (old now : List Item) (before : Parts) (used : ℕ) → JudgedSoFar offset b old now before → before.fields ≡ [] → used ≡ (split b).rest_at → rest_cause (split b).rest ≡ wire.Truncated
     → IsJudged offset b old now used
-judged_all splits offset b old now before used so_far none is unfinished =
-    let dropped : (split b).rest ≡ drop used b = rest_dropped splits b ∙ ap (λ n. drop n b) (sym is) in
-    let within = place_within splits b in
-    let count = splits.count b in
-    let place = splits.place 0 b in
+judged_all offset b old now before used so_far none is unfinished =
+    let dropped : (split b).rest ≡ drop used b = rest_dropped b ∙ ap (λ n. drop n b) (sym is) in
+    let within = place_within b in
+    let count = split_function_count b in
+    let place = split_steps_place 0 b in
     let sum : length (split b).fields ≡ length so_far.done + length before.fields = ap length so_far.fields ∙ length-append so_far.done before.fields in
     let few = so_far.few in
     record {
-      place = ap (λ (p : Parts). p.rest_at) (split_at_place splits offset b) ∙ ap (λ n. offset + n) (sym is);
+      place = ap (λ (p : Parts). p.rest_at) (split_at_place offset b) ∙ ap (λ n. offset + n) (sym is);
       within = omega arith;
-      rest = ap (λ (p : Parts). p.rest) (split_at_place splits offset b) ∙ dropped;
+      rest = ap (λ (p : Parts). p.rest) (split_at_place offset b) ∙ dropped;
       unfinished = ap rest_cause (sym dropped) ∙ unfinished;
-      items_are = λ front are. subst (λ xs. AreItems (front ++ xs) now) (sym (all_done offset b old now before splits so_far none)) (so_far.items_are front are);
+      items_are = λ front are. subst (λ xs. AreItems (front ++ xs) now) (sym (all_done offset b old now before so_far none)) (so_far.items_are front are);
       few = omega arith;
     }
 
 -- no byte is left
-pub so_far_ends : SplitLaws → (offset : ℕ) (b : List ℕ) (old now : List Item) (before to_come : Parts) → JudgedSoFar offset b old now before → GivesEntry before None to_come → IsJudged offset b old now (length b)
-so_far_ends splits offset b old now before to_come so_far step =
+pub so_far_ends : (offset : ℕ) (b : List ℕ) (old now : List Item) (before to_come : Parts) → JudgedSoFar offset b old now before → GivesEntry before None to_come → IsJudged offset b old now (length b)
+so_far_ends offset b old now before to_come so_far step =
     let empty : (split b).rest ≡ [] = sym so_far.rest ∙ step.1 in
-    let place = splits.place 0 b in
+    let place = split_steps_place 0 b in
     let none : length (split b).rest ≡ 0 = ap length empty in
-    judged_all splits offset b old now before (length b) so_far step.0 (omega arith) (ap rest_cause empty ∙ splits.nothing)
+    judged_all offset b old now before (length b) so_far step.0 (omega arith) (ap rest_cause empty ∙ one_cause_end)
 
 rest_told : (at : ℕ) (rest : List ℕ) → rest ≢ [] → first (rest_rules_at at rest) ≡ Some (outer_fault at (of_wire (rest_cause rest)))
 rest_told at [] some = absurd (some refl)
@@ -223,27 +221,27 @@ shut_cause at wire.FieldNumber ne = refl
 shut_cause at wire.WireType ne = refl
 
 -- the rest is unfinished, or at fault
-pub so_far_rest : ItemLaws → SplitLaws → (offset : ℕ) (b : List ℕ) (old now : List Item) (before to_come : Parts) (fault : WireFault) (r : Result ℕ DecodeError) → JudgedSoFar offset b old now before → GivesEntry before (Some (Err fault)) to_come
+pub so_far_rest : (offset : ℕ) (b : List ℕ) (old now : List Item) (before to_come : Parts) (fault : WireFault) (r : Result ℕ DecodeError) → JudgedSoFar offset b old now before → GivesEntry before (Some (Err fault)) to_come
     → IfOk r (λ n. (n ≡ fault.at) × (fault.cause ≡ wire.Truncated))
     → IfOk r (IsJudged offset b old now)
-so_far_rest laws splits offset b old now before to_come fault (Err e) so_far step h = tt
-so_far_rest laws splits offset b old now before to_come fault (Ok n) so_far step h =
-    judged_all splits offset b old now before n so_far step.0 (h.0 ∙ step.2 ∙ so_far.place) (ap rest_cause (sym so_far.rest) ∙ sym step.3 ∙ h.1)
+so_far_rest offset b old now before to_come fault (Err e) so_far step h = tt
+so_far_rest offset b old now before to_come fault (Ok n) so_far step h =
+    judged_all offset b old now before n so_far step.0 (h.0 ∙ step.2 ∙ so_far.place) (ap rest_cause (sym so_far.rest) ∙ sym step.3 ∙ h.1)
 
-pub so_far_broken : ItemLaws → SplitLaws → (offset : ℕ) (b : List ℕ) (old now : List Item) (before to_come : Parts) (fault : WireFault) (r : Result ℕ DecodeError) → JudgedSoFar offset b old now before → GivesEntry before (Some (Err fault)) to_come
+pub so_far_broken : (offset : ℕ) (b : List ℕ) (old now : List Item) (before to_come : Parts) (fault : WireFault) (r : Result ℕ DecodeError) → JudgedSoFar offset b old now before → GivesEntry before (Some (Err fault)) to_come
     → IfErr r (λ e. (fault.cause ≢ wire.Truncated) × (e ≡ Fault (outer_fault (offset + fault.at) (of_wire fault.cause))))
     → IfErr r (λ e. TellsBehind e offset b old)
-so_far_broken laws splits offset b old now before to_come fault (Ok n) so_far step h = tt
-so_far_broken laws splits offset b old now before to_come fault (Err e) so_far step h = λ front are.
+so_far_broken offset b old now before to_come fault (Ok n) so_far step h = tt
+so_far_broken offset b old now before to_come fault (Err e) so_far step h = λ front are.
     let done = map (shifted offset) so_far.done in
     let parts = split_from offset b in
-    let at : parts.rest_at ≡ offset + fault.at = ap (λ (p : Parts). p.rest_at) (split_at_place splits offset b) ∙ ap (λ n. offset + n) (sym so_far.place ∙ sym step.2) in
-    let rest : parts.rest ≡ before.rest = ap (λ (p : Parts). p.rest) (split_at_place splits offset b) ∙ sym so_far.rest in
+    let at : parts.rest_at ≡ offset + fault.at = ap (λ (p : Parts). p.rest_at) (split_at_place offset b) ∙ ap (λ n. offset + n) (sym so_far.place ∙ sym step.2) in
+    let rest : parts.rest ≡ before.rest = ap (λ (p : Parts). p.rest) (split_at_place offset b) ∙ sym so_far.rest in
     let told : first (rest_rules parts) ≡ Some (outer_fault (offset + fault.at) (of_wire fault.cause)) =
     ap₂ (λ a r. first (rest_rules_at a r)) at rest ∙ rest_told (offset + fault.at) before.rest step.1 ∙ ap (λ c. Some (outer_fault (offset + fault.at) (of_wire c))) (sym step.3) in
     subst (λ x. Tells x (fault_behind front parts)) (sym h.1)
     (tells_back (Fault (outer_fault (offset + fault.at) (of_wire fault.cause))) (first (each field_rules front parts.fields)) (first (rest_rules parts))
-    (ap (λ xs. first (each field_rules front xs)) (all_done offset b old now before splits so_far step.0) ∙ fields_clean laws front done now (so_far.items_are front are))
+    (ap (λ xs. first (each field_rules front xs)) (all_done offset b old now before so_far step.0) ∙ fields_clean front done now (so_far.items_are front are))
     (told, shut_cause (offset + fault.at) fault.cause h.0))
 
 -- a field that holds no bytes

@@ -6,8 +6,9 @@ use Rattle.mvt_base.proofs.RuleLemmas.{first-told, first-rows, option_or-right}
 use Rattle.mvt_wire.specs.Field.{Content, bytes, Entry}
 use Rattle.mvt_feature.specs.declared.cause.Cause.TheVariants.{WrongType}
 use Rattle.mvt_message.specs.ItemRules.{item_rules, payload_names}
+use Rattle.mvt_message.proofs.MessageLaws.{item_in_order_fault}
+use Rattle.mvt_tile.specs.declared.numbers.tile.TheConstants.{LAYERS}
 use Rattle.mvt_tile.specs.Faults.{outer_fault, in_layer}
-use Rattle.mvt_tile.specs.Inner.{ItemLaws}
 use Rattle.mvt_tile.specs.Inner.Judging.{payload_fault, repeated_at}
 use Rattle.mvt_tile.specs.TileRules.{layers_of, bytes_in, names_before, repeats, layer_rules, is_bytes, field_rules}
 
@@ -18,7 +19,7 @@ cond_append false x xs ys = refl
 pub layers_of-append : (xs ys : List Entry) → layers_of (xs ++ ys) ≡ layers_of xs ++ layers_of ys
 layers_of-append [] ys = refl
 layers_of-append (x ∷ xs) ys =
-    ap (λ zs. cond (eqb x.number 3) (x ∷ zs) zs) (layers_of-append xs ys) ∙ sym (cond_append (eqb x.number 3) x (layers_of xs) (layers_of ys))
+    ap (λ zs. cond (eqb x.number LAYERS) (x ∷ zs) zs) (layers_of-append xs ys) ∙ sym (cond_append (eqb x.number LAYERS) x (layers_of xs) (layers_of ys))
 
 cond_true : {A : Type 0} (b : Bool) (x y : A) → b ≡ true → cond b x y ≡ x
 cond_true true x y e = refl
@@ -28,26 +29,26 @@ cond_false : {A : Type 0} (b : Bool) (x y : A) → b ≡ false → cond b x y �
 cond_false true x y e = cc
 cond_false false x y e = refl
 
-pub layers_of-layer : (x : Entry) (xs : List Entry) → eqb x.number 3 ≡ true → layers_of (x ∷ xs) ≡ x ∷ layers_of xs
-layers_of-layer x xs e = cond_true (eqb x.number 3) (x ∷ layers_of xs) (layers_of xs) e
+pub layers_of-layer : (x : Entry) (xs : List Entry) → eqb x.number LAYERS ≡ true → layers_of (x ∷ xs) ≡ x ∷ layers_of xs
+layers_of-layer x xs e = cond_true (eqb x.number LAYERS) (x ∷ layers_of xs) (layers_of xs) e
 
-pub layers_of-other : (x : Entry) (xs : List Entry) → eqb x.number 3 ≡ false → layers_of (x ∷ xs) ≡ layers_of xs
-layers_of-other x xs e = cond_false (eqb x.number 3) (x ∷ layers_of xs) (layers_of xs) e
+pub layers_of-other : (x : Entry) (xs : List Entry) → eqb x.number LAYERS ≡ false → layers_of (x ∷ xs) ≡ layers_of xs
+layers_of-other x xs e = cond_false (eqb x.number LAYERS) (x ∷ layers_of xs) (layers_of xs) e
 
 -- a field that holds no layer has no rules
-pub field_other : (front : List Entry) (x : Entry) → eqb x.number 3 ≡ false → field_rules front x ≡ []
+pub field_other : (front : List Entry) (x : Entry) → eqb x.number LAYERS ≡ false → field_rules front x ≡ []
 unfolding field_rules
 field_other front x e =
-    cond_false (eqb x.number 3) (cond (is_bytes x.content) (rows (layer_rules front x)) (under 0 (when true (outer_fault x.at WrongType)))) [] e
+    cond_false (eqb x.number LAYERS) (cond (is_bytes x.content) (rows (layer_rules front x)) (under 0 (when true (outer_fault x.at WrongType)))) [] e
 
-field_layer : (front : List Entry) (x : Entry) → eqb x.number 3 ≡ true
+field_layer : (front : List Entry) (x : Entry) → eqb x.number LAYERS ≡ true
     → field_rules front x ≡ cond (is_bytes x.content) (rows (layer_rules front x)) (under 0 (when true (outer_fault x.at WrongType)))
 unfolding field_rules
 field_layer front x e =
-    cond_true (eqb x.number 3) (cond (is_bytes x.content) (rows (layer_rules front x)) (under 0 (when true (outer_fault x.at WrongType)))) [] e
+    cond_true (eqb x.number LAYERS) (cond (is_bytes x.content) (rows (layer_rules front x)) (under 0 (when true (outer_fault x.at WrongType)))) [] e
 
 -- a layer field of another form
-pub first-wrong : (front : List Entry) (x : Entry) → eqb x.number 3 ≡ true → is_bytes x.content ≡ false → first (field_rules front x) ≡ Some (outer_fault x.at WrongType)
+pub first-wrong : (front : List Entry) (x : Entry) → eqb x.number LAYERS ≡ true → is_bytes x.content ≡ false → first (field_rules front x) ≡ Some (outer_fault x.at WrongType)
 first-wrong front x e f =
     ap first (field_layer front x e ∙ cond_false (is_bytes x.content) (rows (layer_rules front x)) (under 0 (when true (outer_fault x.at WrongType))) f)
 
@@ -58,9 +59,9 @@ first-of_rows a b =
 is_bytes_true : (c : Content) (d : List ℕ) → c ≡ bytes d → is_bytes c ≡ true
 is_bytes_true c d e = ap is_bytes e
 
-pub first-layer : ItemLaws → (front : List Entry) (x : Entry) (d : List ℕ) → eqb x.number 3 ≡ true → x.content ≡ bytes d
+pub first-layer : (front : List Entry) (x : Entry) (d : List ℕ) → eqb x.number LAYERS ≡ true → x.content ≡ bytes d
     → first (field_rules front x) ≡ payload_fault (length (layers_of front)) (names_before front) d x.body x.at
-first-layer laws front x d e held =
+first-layer front x d e held =
     let n = length (layers_of front) in
     let of_rows : first (field_rules front x) ≡ first (rows (layer_rules front x)) =
     ap first (field_layer front x e ∙ cond_true (is_bytes x.content) (rows (layer_rules front x)) (under 0 (when true (outer_fault x.at WrongType))) (is_bytes_true x.content d held)) in
@@ -69,4 +70,4 @@ first-layer laws front x d e held =
     ∙ ap (λ o. option_or o (first (when (repeats (names_before front) (payload_names (bytes_in x.content))) (repeated_at n x.at)))) (first-told (in_layer n) (item_rules (bytes_in x.content) x.body x.at)) in
     of_rows ∙ parts
     ∙ ap (λ c. option_or (option_map (in_layer n) (first (item_rules (bytes_in c) x.body x.at))) (first (when (repeats (names_before front) (payload_names (bytes_in c))) (repeated_at n x.at)))) held
-    ∙ ap (λ o. option_or (option_map (in_layer n) o) (first (when (repeats (names_before front) (payload_names d)) (repeated_at n x.at)))) (sym (laws.fault d x.body x.at))
+    ∙ ap (λ o. option_or (option_map (in_layer n) o) (first (when (repeats (names_before front) (payload_names d)) (repeated_at n x.at)))) (sym (item_in_order_fault d x.body x.at))

@@ -1,81 +1,69 @@
--- The names of the layers that are judged.
-use Rattle.std.proofs.Common.{◌≡◌, ℕ, ◌+◌, ◌≤◌, Bool, true, false, not, ◌||◌, List, [], ◌∷◌, ◌++◌, length, None, Result, Ok, Err, OnOk, bytes_eq, refl, sym, ap, ap₂, subst, ◌∙◌, arith, length-append}
+-- The set of names beside the items.
+use Rattle.std.proofs.Common.{◌≡◌, ℕ, ◌+◌, ◌≤◌, Bool, true, false, not, ◌||◌, List, [], ◌∷◌, ◌++◌, length, take, bytes_eq, refl, sym, ap, ap₂, subst, ◌∙◌, arith, length-append}
 use Rattle.std.specs.List.{list_any, flat_map}
-use Rattle.std.proofs.lemmas.Bool.{not-true}
+use Rattle.std.proofs.lemmas.Bool.{not-false, not-true}
+use Rattle.std.proofs.lemmas.List.{take_all}
 use Rattle.std.proofs.lemmas.List.Folds.{list_any-append}
-use Rattle.mvt_wire.specs.Field.{Entry}
+use Rattle.mvt_base.proofs.ListLemmas.{all_joined}
+use Rattle.mvt_base.proofs.RuleLemmas.{first-when}
 use Rattle.mvt_message.specs.declared.item.Item.{Item}
-use Rattle.mvt_message.specs.ItemRules.{item_fault, payload_names}
-use Rattle.mvt_message.specs.Items.{IsItem, names_in}
-use Rattle.mvt_tile.specs.declared.fault.DecodeError.{DecodeError}
+use Rattle.mvt_message.specs.Items.{names_in}
+use Rattle.mvt_message.specs.ValidItems.{ValidItem}
 use Rattle.mvt_tile.specs.declared.fault.DecodeError.TheVariants.{Fault}
-use Rattle.mvt_tile.specs.Inner.{ItemLaws}
-use Rattle.mvt_tile.specs.Inner.Judging.{AreNamed, IsPlaceOf, TakesItem, payload_fault, repeated_at, shifted}
+use Rattle.mvt_tile.specs.Inner.Judging.{AreKept, AreNamed, name_fault, repeated_at}
 use Rattle.mvt_tile.specs.Streams.{Tells}
 use Rattle.mvt_tile.specs.TileRules.{repeats}
-use Rattle.mvt_tile.specs.Tiles.{AreItems}
-use Rattle.mvt_tile.proofs.JudgeLemmas.{tells_repeated}
-use Rattle.mvt_tile.proofs.NameLemmas.{names_more}
+use Rattle.mvt_tile.proofs.NameLemmas.{distinct_more, names_more}
 
 pub named_none : (keys : List (List ℕ)) → keys ≡ [] → AreNamed 0 keys []
 named_none keys e = record { counted = refl; named = λ n. ap (list_any (bytes_eq n)) e }
 
-pub named_more : (count : ℕ) (names after : List (List ℕ)) (items : List Item) (item : Item) → AreNamed count names items
-    → ((n : List ℕ) → list_any (bytes_eq n) after ≡ (list_any (bytes_eq n) names || list_any (bytes_eq n) (names_in item)))
-    → AreNamed (count + 1) after (items ++ item ∷ [])
-named_more count names after items item are more = record {
-  counted = omega (arith, are.counted, length-append items (item ∷ []));
-  named = λ n. more n ∙ ap (λ b. b || list_any (bytes_eq n) (names_in item)) (are.named n) ∙ sym (ap (list_any (bytes_eq n)) (names_more items item) ∙ list_any-append (bytes_eq n) (flat_map names_in items) (names_in item));
-}
-
-or_false : (b : Bool) → b ≡ (b || false)
-or_false true = refl
-or_false false = refl
-
-repeats_by : (names others given : List (List ℕ)) → ((n : List ℕ) → list_any (bytes_eq n) names ≡ list_any (bytes_eq n) others) → repeats names given ≡ repeats others given
+repeats_by : (names others given : List (List ℕ)) → ((n : List ℕ) → list_any (bytes_eq n) names ≡ list_any (bytes_eq n) others)
+    → repeats names given ≡ repeats others given
 repeats_by names others [] same = refl
 repeats_by names others (n ∷ given) same = ap₂ (λ a b. a || b) (same n) (repeats_by names others given same)
 
--- a payload without a fault whose layer has these names is one item more
-module _ (laws : ItemLaws) (count : ℕ) (names : List (List ℕ)) (items : List Item) (d : List ℕ) (payload_at tag_at : ℕ) (are : AreNamed count names items) (none : item_fault d payload_at tag_at ≡ None) (given : List (List ℕ)) (names_are : given ≡ payload_names d) where
-  abbrev item : Item
-  item = (laws.there d payload_at tag_at none).0
+module _ (count : ℕ) (names given : List (List ℕ)) (items : List Item) (added : Bool) (are : AreNamed count names items) (is : added ≡ not (repeats names given)) where
+  same : repeats names given ≡ repeats (flat_map names_in items) given
+  same = repeats_by names (flat_map names_in items) given are.named
 
-  is : IsItem d item
-  is = (laws.there d payload_at tag_at none).1
-
-  same : names_in item ≡ given
-  same = laws.names d item is ∙ sym names_are
-
-  test : repeats names given ≡ repeats (flat_map names_in items) (names_in item)
-  test = repeats_by names (flat_map names_in items) given are.named ∙ ap (repeats (flat_map names_in items)) (sym same)
-
-  pub named_item : (after : List (List ℕ)) → repeats names given ≡ false
+  -- the name of one item more is new
+  pub name_new : (after : List (List ℕ)) (item : Item) → names_in item ≡ given → added ≡ true
       → ((n : List ℕ) → list_any (bytes_eq n) after ≡ (list_any (bytes_eq n) names || list_any (bytes_eq n) given))
-      → (new : List Item) × AreNamed (count + 1) after new × TakesItem items new d
-  named_item after new more = (
-    items ++ item ∷ [],
-    named_more count names after items item are (λ n. more n ∙ ap (λ ns. list_any (bytes_eq n) names || list_any (bytes_eq n) ns) (sym same)),
-    (item, refl, is, sym test ∙ new),
+      → AreNamed (count + 1) after (items ++ item ∷ []) × (repeats (flat_map names_in items) (names_in item) ≡ false)
+  name_new after item named new more = (
+    record {
+      counted = omega (arith, are.counted, length-append items (item ∷ []));
+      named = λ n. more n ∙ ap₂ (λ a b. a || b) (are.named n) (ap (list_any (bytes_eq n)) (sym named))
+          ∙ sym (ap (list_any (bytes_eq n)) (names_more items item) ∙ list_any-append (bytes_eq n) (flat_map names_in items) (names_in item));
+    },
+    ap (repeats (flat_map names_in items)) named ∙ sym same ∙ not-true (repeats names given) (sym is ∙ new),
   )
 
-  pub named_foreign : given ≡ [] → (new : List Item) × AreNamed (count + 1) names new × TakesItem items new d
-  named_foreign nothing = named_item names (ap (repeats names) nothing) (λ n. or_false (list_any (bytes_eq n) names) ∙ ap (λ ns. list_any (bytes_eq n) names || list_any (bytes_eq n) ns) (sym nothing))
+  -- an item has it
+  pub name_there : added ≡ false → repeats (flat_map names_in items) given ≡ true
+  name_there no_more = sym same ∙ not-false (repeats names given) (sym is ∙ no_more)
 
-  pub named_twice : (added : Bool) → added ≡ not (repeats names given) → added ≡ false → (index : ℕ) → index ≡ count → Tells (Fault (repeated_at index tag_at)) (payload_fault (length items) (flat_map names_in items) d payload_at tag_at)
-  named_twice added e no_more index is_count =
-      subst (λ n. Tells (Fault (repeated_at n tag_at)) (payload_fault (length items) (flat_map names_in items) d payload_at tag_at)) (sym (is_count ∙ are.counted))
-      (tells_repeated laws (length items) (flat_map names_in items) d payload_at tag_at item added none is (e ∙ ap not test) no_more)
+  pub name_again : (at : ℕ) → added ≡ false → Tells (Fault (repeated_at count at)) (name_fault (length items) (flat_map names_in items) given at)
+  name_again at no_more =
+      subst (λ n. Tells (Fault (repeated_at n at)) (name_fault (length items) (flat_map names_in items) given at)) (sym are.counted)
+      (first-when (repeats (flat_map names_in items) given) (repeated_at (length items) at) (name_there no_more), refl)
 
--- an item that is read and whose name isn't new, or is
+-- items that are valid too
 
-pub named_again : ItemLaws → (count : ℕ) (names : List (List ℕ)) (items : List Item) (d : List ℕ) (payload_at tag_at : ℕ) (item : Item) (added : Bool) → AreNamed count names items → item_fault d payload_at tag_at ≡ None → IsItem d item
-    → added ≡ not (repeats names (names_in item)) → added ≡ false → Tells (Fault (repeated_at count tag_at)) (payload_fault (length items) (flat_map names_in items) d payload_at tag_at)
-named_again laws count names items d payload_at tag_at item added are none is e no_more =
-    subst (λ n. Tells (Fault (repeated_at n tag_at)) (payload_fault (length items) (flat_map names_in items) d payload_at tag_at)) (sym are.counted)
-    (tells_repeated laws (length items) (flat_map names_in items) d payload_at tag_at item added none is (e ∙ ap not (repeats_by names (flat_map names_in items) (names_in item) are.named)) no_more)
+pub kept_named : (count : ℕ) (names : List (List ℕ)) (items : List Item) → AreKept names items → count ≡ length items → AreNamed count names items
+kept_named count names items kept counted = record { counted = counted; named = kept.named }
 
-pub named_new : (count : ℕ) (names : List (List ℕ)) (items : List Item) (item : Item) (added : Bool) → AreNamed count names items → added ≡ not (repeats names (names_in item)) → added ≡ true
-    → repeats (flat_map names_in items) (names_in item) ≡ false
-named_new count names items item added are e new =
-    sym (repeats_by names (flat_map names_in items) (names_in item) are.named) ∙ not-true (repeats names (names_in item)) (sym e ∙ new)
+pub kept_more : (count : ℕ) (names after : List (List ℕ)) (items longer : List Item) (item : Item) → AreKept names items → ValidItem item
+    → longer ≡ items ++ item ∷ [] → AreNamed count after (items ++ item ∷ []) × (repeats (flat_map names_in items) (names_in item) ≡ false)
+    → AreKept after longer
+kept_more count names after items longer item kept valid is new =
+    subst (AreKept after) (sym is)
+    (record {
+      named = new.0.named;
+      valid = all_joined ValidItem items (item ∷ []) kept.valid (valid, tt);
+      distinct = distinct_more items item kept.distinct new.1;
+    })
+
+pub kept_all : (names : List (List ℕ)) (items : List Item) (i : ℕ) → length items ≤ i → AreKept names (take i items) → AreKept names items
+kept_all names items i past kept = subst (AreKept names) (take_all i items past) kept

@@ -12,9 +12,9 @@ use Rattle.mvt_wire.specs.Fronts.{rest_cause}
 use Rattle.mvt_wire.specs.Split.{Parts, split, split_from}
 use Rattle.mvt_feature.specs.Causes.{of_wire}
 use Rattle.mvt_feature.specs.declared.cause.Cause.TheVariants.{TooLarge}
+use Rattle.mvt_wire.proofs.WireLaws.{front_stays_rest, split_more_fields, split_more_place, split_more_rest, split_steps_none, split_steps_rest}
 use Rattle.mvt_tile.specs.declared.fault.Fault.{Fault}
 use Rattle.mvt_tile.specs.Faults.{outer_fault, is_open}
-use Rattle.mvt_tile.specs.Inner.{SplitLaws}
 use Rattle.mvt_tile.specs.Inner.Judging.{fault_behind}
 use Rattle.mvt_tile.specs.TileRules.{field_rules, rest_rules_at, rest_rules, tile_rules, beyond, fault_within}
 use Rattle.mvt_tile.specs.Streams.{IsCalm}
@@ -28,13 +28,13 @@ option_or_assoc : {F : Type 0} (a b c : Option F) → option_or (option_or a b) 
 option_or_assoc None b c = refl
 option_or_assoc (Some x) b c = refl
 
-pub first-more : SplitLaws → (s t : List ℕ) → first (tile_rules (s ++ t)) ≡ option_or (first (each field_rules [] (split s).fields)) (fault_behind (split s).fields (rest_with s t))
-first-more splits s t =
+pub first-more : (s t : List ℕ) → first (tile_rules (s ++ t)) ≡ option_or (first (each field_rules [] (split s).fields)) (fault_behind (split s).fields (rest_with s t))
+first-more s t =
     let q = rest_with s t in
     first-tile (s ++ t)
     ∙ ap₂ option_or
-    (ap (λ xs. first (each field_rules [] xs)) (splits.fields_more 0 s t) ∙ ap first (each-append field_rules [] (split s).fields q.fields) ∙ first-append (each field_rules [] (split s).fields) (each field_rules (split s).fields q.fields))
-    (ap₂ (λ at r. first (rest_rules_at at r)) (splits.place_more 0 s t) (splits.rest_more 0 s t))
+    (ap (λ xs. first (each field_rules [] xs)) (split_more_fields 0 s t) ∙ ap first (each-append field_rules [] (split s).fields q.fields) ∙ first-append (each field_rules [] (split s).fields) (each field_rules (split s).fields q.fields))
+    (ap₂ (λ at r. first (rest_rules_at at r)) (split_more_place 0 s t) (split_more_rest 0 s t))
     ∙ option_or_assoc (first (each field_rules [] (split s).fields)) (first (each field_rules (split s).fields q.fields)) (first (rest_rules q))
 
 either_stays : {F : Type 0} (o p q : Option F) (f : F) → option_or o p ≡ Some f → (p ≡ Some f → q ≡ Some f) → option_or o q ≡ Some f
@@ -42,22 +42,22 @@ either_stays None p q f e k = k e
 either_stays (Some x) p q f e k = e
 
 -- the fault of a rest that isn't Truncated stays, whatever comes
-rest_stays : SplitLaws → (front : List Entry) (at : ℕ) (rest t : List ℕ) (f : Fault) → StartsNoField rest → first (rest_rules_at at rest) ≡ Some f → is_open f ≡ false
+rest_stays : (front : List Entry) (at : ℕ) (rest t : List ℕ) (f : Fault) → StartsNoField rest → first (rest_rules_at at rest) ≡ Some f → is_open f ≡ false
     → fault_behind front (split_from at (rest ++ t)) ≡ Some f
-rest_stays splits front at [] t f starts e shut = cc
-rest_stays splits front at (b ∷ bs) t f starts e shut =
+rest_stays front at [] t f starts e shut = cc
+rest_stays front at (b ∷ bs) t f starts e shut =
     let is : f ≡ outer_fault at (of_wire (rest_cause (b ∷ bs))) = cc in
     let final : rest_cause (b ∷ bs) ≢ wire.Truncated = λ truncated. (let open_at : is_open (outer_fault at (of_wire (rest_cause (b ∷ bs)))) ≡ true = ap (λ c. is_open (outer_fault at (of_wire c))) truncated in let same = ap is_open is in cc) in
-    let stays = splits.stays (b ∷ bs) t starts final in
-    ap (fault_behind front) (splits.none at ((b ∷ bs) ++ t) stays.0)
+    let stays = front_stays_rest (b ∷ bs) t starts final in
+    ap (fault_behind front) (split_steps_none at ((b ∷ bs) ++ t) stays.0)
     ∙ ap (λ c. Some (outer_fault at (of_wire c))) stays.1
     ∙ ap Some (sym is)
 
-pub tile_stays : SplitLaws → (s t : List ℕ) (f : Fault) → first (tile_rules s) ≡ Some f → is_open f ≡ false → first (tile_rules (s ++ t)) ≡ Some f
-tile_stays splits s t f e shut =
-    first-more splits s t
+pub tile_stays : (s t : List ℕ) (f : Fault) → first (tile_rules s) ≡ Some f → is_open f ≡ false → first (tile_rules (s ++ t)) ≡ Some f
+tile_stays s t f e shut =
+    first-more s t
     ∙ either_stays (first (each field_rules [] (split s).fields)) (first (rest_rules (split s))) (fault_behind (split s).fields (rest_with s t)) f (sym (first-tile s) ∙ e)
-    (λ told. rest_stays splits (split s).fields (split s).rest_at (split s).rest t f (splits.starts 0 s) told shut)
+    (λ told. rest_stays (split s).fields (split s).rest_at (split s).rest t f (split_steps_rest 0 s) told shut)
 
 beyond_stays : (limit : ℕ) (o : Option Fault) (f : Fault) → o ≡ Some f → is_open f ≡ false → beyond limit o ≡ Some f
 beyond_stays limit None f e shut = cc
@@ -70,8 +70,8 @@ fits limit s t h =
     let sum : limit ≡ length s + (limit - length s) = omega arith in
     ap (λ n. take n (s ++ t)) sum ∙ take-append-add s t (limit - length s)
 
-pub fault_stays : SplitLaws → (limit : ℕ) (s t : List ℕ) (f : Fault) → fault_within limit s ≡ Some f → is_open f ≡ false → fault_within limit (s ++ t) ≡ Some f
-fault_stays splits limit s t f e shut = by_length (ltb limit (length s)) refl (ltb limit (length (s ++ t))) refl
+pub fault_stays : (limit : ℕ) (s t : List ℕ) (f : Fault) → fault_within limit s ≡ Some f → is_open f ≡ false → fault_within limit (s ++ t) ≡ Some f
+fault_stays limit s t f e shut = by_length (ltb limit (length s)) refl (ltb limit (length (s ++ t))) refl
   where
     by_length : (a : Bool) → ltb limit (length s) ≡ a → (b : Bool) → ltb limit (length (s ++ t)) ≡ b → fault_within limit (s ++ t) ≡ Some f
     by_length true long b is =
@@ -82,10 +82,10 @@ fault_stays splits limit s t f e shut = by_length (ltb limit (length s)) refl (l
     by_length false short true long =
         let small : length s ≤ limit = ltb-false limit (length s) short in
         fault_of_long limit (s ++ t) (ltb-true limit (length (s ++ t)) long) ∙ ap (λ xs. beyond limit (first (tile_rules xs))) (fits limit s t small)
-        ∙ beyond_stays limit (first (tile_rules (s ++ take (limit - length s) t))) f (tile_stays splits s (take (limit - length s) t) f (sym (fault_of_short limit s small) ∙ e) shut) shut
+        ∙ beyond_stays limit (first (tile_rules (s ++ take (limit - length s) t))) f (tile_stays s (take (limit - length s) t) f (sym (fault_of_short limit s small) ∙ e) shut) shut
     by_length false short false also =
         fault_of_short limit (s ++ t) (ltb-false limit (length (s ++ t)) also)
-        ∙ tile_stays splits s t f (sym (fault_of_short limit s (ltb-false limit (length s) short)) ∙ e) shut
+        ∙ tile_stays s t f (sym (fault_of_short limit s (ltb-false limit (length s) short)) ∙ e) shut
 
 shut_either : (f : Fault) (b : Bool) → is_open f ≡ b → is_open (cond b (outer_fault f.at TooLarge) f) ≡ false
 shut_either f true e = refl
@@ -101,9 +101,9 @@ fault_past_limit limit s long =
     (some.0, fault_of_long limit s long ∙ some.1, some.2)
 
 -- the front of a stream that is calm is calm
-pub calm_front : SplitLaws → (limit : ℕ) (s t : List ℕ) → IsCalm (fault_within limit (s ++ t)) → IsCalm (fault_within limit s)
-calm_front splits limit s t calm f e = by_test (is_open f) refl
+pub calm_front : (limit : ℕ) (s t : List ℕ) → IsCalm (fault_within limit (s ++ t)) → IsCalm (fault_within limit s)
+calm_front limit s t calm f e = by_test (is_open f) refl
   where
     by_test : (b : Bool) → is_open f ≡ b → is_open f ≡ true
     by_test true is = is
-    by_test false is = calm f (fault_stays splits limit s t f e is)
+    by_test false is = calm f (fault_stays limit s t f e is)

@@ -7,7 +7,6 @@ use Rattle.mvt_tile.specs.declared.fault.DecodeError.{DecodeError}
 use Rattle.mvt_tile.specs.declared.fault.DecodeError.TheVariants.{Memory, Fault, Read}
 use Rattle.mvt_tile.specs.declared.fault.Fault.{Fault as AFault}
 use Rattle.mvt_tile.specs.declared.tile.Tile.{Tile}
-use Rattle.mvt_tile.specs.Inner.{SplitLaws}
 use Rattle.mvt_tile.specs.Inner.Taking.{HasTaken, HasStopped, TellsTaken}
 use Rattle.mvt_tile.specs.Reading.{StopsEarly, TellsInput, IsReadError, IsKindOf}
 use Rattle.std.specs.declared.io.ErrorKind.{ErrorKind}
@@ -95,37 +94,37 @@ taken_end limit a b c decoder reads n buffer has consumed none = record {
 
 -- of the whole call
 
-early_from : SplitLaws → (limit size : ℕ) (a b : Option (List ℕ)) (front back : List ℕ) → Consumes a b (front ++ back) → length back ≤ size → IsCalm (fault_within limit front) → StopsEarly limit size a b
-early_from splits limit size None b front back consumed few calm = tt
-early_from splits limit size (Some xs) None front back consumed few calm = consumed
-early_from splits limit size (Some xs) (Some ys) front back consumed few calm =
+early_from : (limit size : ℕ) (a b : Option (List ℕ)) (front back : List ℕ) → Consumes a b (front ++ back) → length back ≤ size → IsCalm (fault_within limit front) → StopsEarly limit size a b
+early_from limit size None b front back consumed few calm = tt
+early_from limit size (Some xs) None front back consumed few calm = consumed
+early_from limit size (Some xs) (Some ys) front back consumed few calm =
     let all = length (front ++ back) in
     let sum : all ≡ length front + length back = length-append front back in
     let within : all - size ≤ length front = omega arith in (
       front ++ back,
       consumed,
       subst (λ s. IsCalm (fault_within limit s)) (sym (take-append-le (all - size) front back within))
-          (calm_front splits limit (take (all - size) front) (drop (all - size) front) (subst (λ s. IsCalm (fault_within limit s)) (sym (take-append-drop (all - size) front)) calm)),
+          (calm_front limit (take (all - size) front) (drop (all - size) front) (subst (λ s. IsCalm (fault_within limit s)) (sym (take-append-drop (all - size) front)) calm)),
     )
 
-pub stopped_early : SplitLaws → (limit given size : ℕ) (a b : Option (List ℕ)) (e : DecodeError) → given ≤ size → HasStopped limit given a b e → StopsEarly limit size a b
-stopped_early splits limit given size a b e within h =
+pub stopped_early : (limit given size : ℕ) (a b : Option (List ℕ)) (e : DecodeError) → given ≤ size → HasStopped limit given a b e → StopsEarly limit size a b
+stopped_early limit given size a b e within h =
     let few : length h.back ≤ given = h.few in
-    early_from splits limit size a b h.front h.back h.consumed (omega arith) h.calm
+    early_from limit size a b h.front h.back h.consumed (omega arith) h.calm
 
-pub taken_early : SplitLaws → (limit size : ℕ) (a b : Option (List ℕ)) (decoder : Decoding) (reads : ℕ) → HasTaken limit a b decoder reads → StopsEarly limit size a b
-taken_early splits limit size a b decoder reads has =
-    early_from splits limit size a b has.taken [] (subst (Consumes a b) (sym (append-nil has.taken)) has.consumed) (omega arith) (live_taken limit decoder has.taken has.alive has.stands).calm
+pub taken_early : (limit size : ℕ) (a b : Option (List ℕ)) (decoder : Decoding) (reads : ℕ) → HasTaken limit a b decoder reads → StopsEarly limit size a b
+taken_early limit size a b decoder reads has =
+    early_from limit size a b has.taken [] (subst (Consumes a b) (sym (append-nil has.taken)) has.consumed) (omega arith) (live_taken limit decoder has.taken has.alive has.stands).calm
 
-tells_input : SplitLaws → (limit : ℕ) (e : DecodeError) (taken left input : List ℕ) → input ≡ taken ++ left → TellsTaken e (fault_within limit taken) → TellsInput e (fault_within limit input)
-tells_input splits limit Memory taken left input is h = tt
-tells_input splits limit (Fault f) taken left input is h = ap (fault_within limit) is ∙ fault_stays splits limit taken left f h.0 h.1
-tells_input splits limit (Read k) taken left input is h = tt
+tells_input : (limit : ℕ) (e : DecodeError) (taken left input : List ℕ) → input ≡ taken ++ left → TellsTaken e (fault_within limit taken) → TellsInput e (fault_within limit input)
+tells_input limit Memory taken left input is h = tt
+tells_input limit (Fault f) taken left input is h = ap (fault_within limit) is ∙ fault_stays limit taken left f h.0 h.1
+tells_input limit (Read k) taken left input is h = tt
 
-pub stopped_told : SplitLaws → (limit size : ℕ) (a b : Option (List ℕ)) (e : DecodeError) → HasStopped limit size a b e → IfSome a (λ input. TellsInput e (fault_within limit input))
-stopped_told splits limit size None b e h = tt
-stopped_told splits limit size (Some xs) None e h = absurd h.consumed
-stopped_told splits limit size (Some xs) (Some ys) e h = tells_input splits limit e (h.front ++ h.back) ys xs h.consumed h.told
+pub stopped_told : (limit size : ℕ) (a b : Option (List ℕ)) (e : DecodeError) → HasStopped limit size a b e → IfSome a (λ input. TellsInput e (fault_within limit input))
+stopped_told limit size None b e h = tt
+stopped_told limit size (Some xs) None e h = absurd h.consumed
+stopped_told limit size (Some xs) (Some ys) e h = tells_input limit e (h.front ++ h.back) ys xs h.consumed h.told
 
 whole_taken : (xs ys taken : List ℕ) → xs ≡ taken ++ ys → ys ≡ [] → taken ≡ xs
 whole_taken xs ys taken is none = sym (is ∙ ap (λ l. taken ++ l) none ∙ append-nil taken)

@@ -14,10 +14,12 @@ use Rattle.mvt_feature.specs.declared.cause.Cause.TheVariants.{WrongType}
 use Rattle.mvt_message.specs.declared.item.Item.{Item}
 use Rattle.mvt_message.specs.ItemRules.{item_rules, payload_names}
 use Rattle.mvt_message.specs.Items.{IsItem}
+use Rattle.mvt_wire.proofs.WireLaws.{split_function_is, split_function_only}
+use Rattle.mvt_message.proofs.MessageLaws.{item_in_order_ordered, one_item}
+use Rattle.mvt_tile.specs.declared.numbers.tile.TheConstants.{LAYERS}
 use Rattle.mvt_tile.specs.declared.fault.Fault.{Fault}
 use Rattle.mvt_tile.specs.declared.tile.Tile.{Tile}
 use Rattle.mvt_tile.specs.Faults.{outer_fault, in_layer}
-use Rattle.mvt_tile.specs.Inner.{ItemLaws, SplitLaws}
 use Rattle.mvt_tile.specs.Inner.Judging.{repeated_at}
 use Rattle.mvt_tile.specs.TileRules.{layers_of, payload_of, names_before, repeats, layer_rules, is_bytes, field_rules, rest_rules_at, rest_rules, tile_rules, beyond, fault_within}
 use Rattle.mvt_tile.specs.Tiles.{HoldsItem, AreItems, IsTile}
@@ -56,57 +58,57 @@ no_rest : (at : ℕ) (rest : List ℕ) → first (rest_rules_at at rest) ≡ Non
 no_rest at [] e = refl
 no_rest at (b ∷ bs) e = cc
 
-pub tile_there : ItemLaws → SplitLaws → (limit : ℕ) (b : List ℕ) → fault_within limit b ≡ None → (tile : Tile) × IsTile limit b tile
-tile_there laws splits limit b none =
+pub tile_there : (limit : ℕ) (b : List ℕ) → fault_within limit b ≡ None → (tile : Tile) × IsTile limit b tile
+tile_there limit b none =
     let small = short_there limit b (ltb limit (length b)) refl none in
     let parts = option_or-nones (first (each field_rules [] (split b).fields)) (first (rest_rules (split b))) (sym (fault_of_short limit b small ∙ first-tile b) ∙ none) in
-    let items = items_there laws (split b).fields [] [] are_none parts.0 in (
+    let items = items_there (split b).fields [] [] are_none parts.0 in (
       record { items = items.0 },
       record {
         small = small;
         fields = (split b).fields;
-        whole = subst (Split b (split b).fields) (no_rest (split b).rest_at (split b).rest parts.1) (splits.is b);
+        whole = subst (Split b (split b).fields) (no_rest (split b).rest_at (split b).rest parts.1) (split_function_is b);
         items = items.1.held;
         distinct = items.1.distinct;
       },
     )
 
 -- the fields of a tile are items
-pub tile_items : SplitLaws → (limit : ℕ) (b : List ℕ) (tile : Tile) → IsTile limit b tile → AreItems (split b).fields tile.items
-tile_items splits limit b tile is = record {
-  held = subst (λ xs. AreRelated HoldsItem (layers_of xs) tile.items) (splits.only b [] is.fields is.whole).0 is.items;
+pub tile_items : (limit : ℕ) (b : List ℕ) (tile : Tile) → IsTile limit b tile → AreItems (split b).fields tile.items
+tile_items limit b tile is = record {
+  held = subst (λ xs. AreRelated HoldsItem (layers_of xs) tile.items) (split_function_only b [] is.fields is.whole).0 is.items;
   distinct = is.distinct;
 }
 
-pub tile_clean : ItemLaws → SplitLaws → (limit : ℕ) (b : List ℕ) (tile : Tile) → IsTile limit b tile → fault_within limit b ≡ None
-tile_clean laws splits limit b tile is =
+pub tile_clean : (limit : ℕ) (b : List ℕ) (tile : Tile) → IsTile limit b tile → fault_within limit b ≡ None
+tile_clean limit b tile is =
     fault_of_short limit b is.small ∙ first-tile b
-    ∙ option_or-none (first (each field_rules [] (split b).fields)) (first (rest_rules (split b))) (are_clean laws (split b).fields tile.items (tile_items splits limit b tile is))
-    ∙ ap (λ r. first (rest_rules_at (split b).rest_at r)) (sym (splits.only b [] is.fields is.whole).1)
+    ∙ option_or-none (first (each field_rules [] (split b).fields)) (first (rest_rules (split b))) (are_clean (split b).fields tile.items (tile_items limit b tile is))
+    ∙ ap (λ r. first (rest_rules_at (split b).rest_at r)) (sym (split_function_only b [] is.fields is.whole).1)
 
-one_held : ItemLaws → (x : Entry) (i j : Item) → HoldsItem x i → HoldsItem x j → i ≡ j
-one_held laws x i j h k =
+one_held : (x : Entry) (i j : Item) → HoldsItem x i → HoldsItem x j → i ≡ j
+one_held x i j h k =
     let same : h.0 ≡ k.0 = let both : bytes h.0 ≡ bytes k.0 = sym h.1 ∙ k.1 in cc in
-    laws.one k.0 i j (subst (λ d. IsItem d i) same h.2) k.2
+    one_item k.0 i j (subst (λ d. IsItem d i) same h.2) k.2
 
-pub tile_once : ItemLaws → SplitLaws → (limit : ℕ) (b : List ℕ) (s t : Tile) → IsTile limit b s → IsTile limit b t → s ≡ t
-tile_once laws splits limit b s t is_s is_t =
-    let same : s.items ≡ t.items = related_once HoldsItem (one_held laws) (layers_of (split b).fields) s.items t.items (tile_items splits limit b s is_s).held (tile_items splits limit b t is_t).held in
+pub tile_once : (limit : ℕ) (b : List ℕ) (s t : Tile) → IsTile limit b s → IsTile limit b t → s ≡ t
+tile_once limit b s t is_s is_t =
+    let same : s.items ≡ t.items = related_once HoldsItem one_held (layers_of (split b).fields) s.items t.items (tile_items limit b s is_s).held (tile_items limit b t is_t).held in
     ap (λ (items : List Item). let t : Tile = record { items = items } in t) same
 
 cond_ordered : {F : Type 0} (b : Bool) (xs ys : Rules F) → AreOrdered xs → AreOrdered ys → AreOrdered (cond b xs ys)
 cond_ordered true xs ys h k = h
 cond_ordered false xs ys h k = k
 
-field_ordered : ItemLaws → (front : List Entry) (x : Entry) → AreOrdered (field_rules front x)
+field_ordered : (front : List Entry) (x : Entry) → AreOrdered (field_rules front x)
 unfolding field_rules
-field_ordered laws front x =
-    cond_ordered (eqb x.number 3) (cond (is_bytes x.content) (rows (layer_rules front x)) (under 0 (when true (outer_fault x.at WrongType)))) []
+field_ordered front x =
+    cond_ordered (eqb x.number LAYERS) (cond (is_bytes x.content) (rows (layer_rules front x)) (under 0 (when true (outer_fault x.at WrongType)))) []
     (cond_ordered (is_bytes x.content) (rows (layer_rules front x)) (under 0 (when true (outer_fault x.at WrongType)))
     (rows_ordered 1 (layer_rules front x) (
       omega arith,
       (
-        told_ordered (in_layer (length (layers_of front))) (item_rules (payload_of x) x.body x.at) (laws.ordered (payload_of x) x.body x.at),
+        told_ordered (in_layer (length (layers_of front))) (item_rules (payload_of x) x.body x.at) (item_in_order_ordered (payload_of x) x.body x.at),
         (omega arith, (when_ordered (repeats (names_before front) (payload_names (payload_of x))) (repeated_at (length (layers_of front)) x.at), tt)),
       ),
     ))
@@ -117,15 +119,15 @@ rest_ordered : (at : ℕ) (rest : List ℕ) → AreOrdered (rest_rules_at at res
 rest_ordered at [] = tt
 rest_ordered at (b ∷ bs) = (tt, tt)
 
-pub tile_ordered : ItemLaws → (b : List ℕ) → AreOrdered (tile_rules b)
+pub tile_ordered : (b : List ℕ) → AreOrdered (tile_rules b)
 unfolding tile_rules
-tile_ordered laws b =
+tile_ordered b =
     let n = length (split b).fields in
-    each_then field_rules [] (split b).fields (under n (under 0 (rest_rules (split b)))) (field_ordered laws)
+    each_then field_rules [] (split b).fields (under n (under 0 (rest_rules (split b)))) field_ordered
     (under_ordered n _ (under_ordered 0 (rest_rules (split b)) (rest_ordered (split b).rest_at (split b).rest))) (all_later (0 + n) n _ (omega arith) (under_from n _))
 
-pub tile_least : ItemLaws → (limit : ℕ) (b : List ℕ) (f : Fault) → length b ≤ limit → (fault_within limit b ≡ Some f) ↔ IsLeast (tile_rules b) f
-tile_least laws limit b f small = (
-  λ e. first_is_least (tile_rules b) f (tile_ordered laws b) (sym (fault_of_short limit b small) ∙ e),
-  λ h. fault_of_short limit b small ∙ least_is_first (tile_rules b) f (tile_ordered laws b) h,
+pub tile_least : (limit : ℕ) (b : List ℕ) (f : Fault) → length b ≤ limit → (fault_within limit b ≡ Some f) ↔ IsLeast (tile_rules b) f
+tile_least limit b f small = (
+  λ e. first_is_least (tile_rules b) f (tile_ordered b) (sym (fault_of_short limit b small) ∙ e),
+  λ h. fault_of_short limit b small ∙ least_is_first (tile_rules b) f (tile_ordered b) h,
 )

@@ -6,7 +6,6 @@ use Rattle.mvt_tile.specs.declared.fault.DecodeError.{DecodeError}
 use Rattle.mvt_tile.specs.declared.fault.DecodeError.TheVariants.{Memory, Fault, Read}
 use Rattle.mvt_tile.specs.declared.fault.Fault.{Fault as AFault}
 use Rattle.mvt_tile.specs.Faults.{outer_fault}
-use Rattle.mvt_tile.specs.Inner.{ItemLaws, SplitLaws}
 use Rattle.mvt_tile.specs.Inner.Judging.{IsJudged, TellsBehind}
 use Rattle.mvt_tile.specs.Streams.{IsLive, Tells, TellsAtEnd}
 use Rattle.mvt_tile.specs.TileRules.{fault_within}
@@ -21,25 +20,25 @@ at_end (Read kind) o h = absurd h
 from_zero : (n : ℕ) → 0 + n ≡ n
 from_zero n = omega arith
 
-module _ (laws : ItemLaws) (splits : SplitLaws) (limit : ℕ) (b fitting beyond : List ℕ) (cut : b ≡ fitting ++ beyond) where
+module _ (limit : ℕ) (b fitting beyond : List ℕ) (cut : b ≡ fitting ++ beyond) where
   pub whole_fails : (e : DecodeError) → TellsBehind e 0 fitting [] → length fitting ≤ limit → TellsAtEnd e (fault_within limit b)
   whole_fails e tells fits =
       let all : 0 + (length {A = ℕ} [] + length fitting) ≤ limit = omega arith in
-      at_end e (fault_within limit b) (live_fails laws splits limit 0 [] [] [] b fitting beyond e tells cut all (live_start splits limit))
+      at_end e (fault_within limit b) (live_fails limit 0 [] [] [] b fitting beyond e tells cut all (live_start limit))
 
   pub whole_too_large : (items : List Item) (used : ℕ) → IsJudged 0 fitting [] items used → length fitting ≡ limit → (length beyond ≡ 0 → ⊥) → fault_within limit b ≡ Some (outer_fault used TooLarge)
   whole_too_large items used judged full some =
       let all : 0 + (length {A = ℕ} [] + length fitting) ≡ limit = omega arith in
-      subst (λ n. fault_within limit b ≡ Some (outer_fault n TooLarge)) (from_zero used) (piece_too_large laws splits limit 0 [] items [] (drop used fitting) [] b fitting beyond used judged refl all cut some (live_start splits limit)).0
+      subst (λ n. fault_within limit b ≡ Some (outer_fault n TooLarge)) (from_zero used) (piece_too_large limit 0 [] items [] (drop used fitting) [] b fitting beyond used judged refl all cut some (live_start limit)).0
 
   module _ (items : List Item) (used : ℕ) (judged : IsJudged 0 fitting [] items used) (fits : length fitting ≤ limit) (none : length beyond ≡ 0) where
     live : IsLive limit used items (drop used fitting) b
     live =
         let all : 0 + (length {A = ℕ} [] + length fitting) ≤ limit = omega arith in
-        subst (λ n. IsLive limit n items (drop used fitting) b) (from_zero used) (piece_fits laws splits limit 0 [] items [] (drop used fitting) [] b fitting beyond used judged refl all cut none (live_start splits limit))
+        subst (λ n. IsLive limit n items (drop used fitting) b) (from_zero used) (piece_fits limit 0 [] items [] (drop used fitting) [] b fitting beyond used judged refl all cut none (live_start limit))
 
     pub whole_truncated : used < length fitting → fault_within limit b ≡ Some (outer_fault used Truncated)
-    whole_truncated left = live_truncated laws limit used items (drop used fitting) b (λ empty. omega (arith, length-drop used fitting)) live
+    whole_truncated left = live_truncated limit used items (drop used fitting) b (λ empty. omega (arith, length-drop used fitting)) live
 
     pub whole_tile : length fitting ≤ used → IsTile limit b (record { items = items })
-    whole_tile all = live_tile splits limit used items (drop used fitting) b (nil_from_length (drop used fitting) (omega (arith, length-drop used fitting))) live
+    whole_tile all = live_tile limit used items (drop used fitting) b (nil_from_length (drop used fitting) (omega (arith, length-drop used fitting))) live

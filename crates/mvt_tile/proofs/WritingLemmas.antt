@@ -3,13 +3,15 @@ use Rattle.std.proofs.Common.{◌≡◌, ℕ, zero, suc, ◌+◌, ◌<◌, ◌�
 use Rattle.std.specs.List.{AllByRecursion}
 use Rattle.std.proofs.lemmas.List.{take_more, take_all, map-append}
 use Rattle.std.proofs.lemmas.Grind.{flat_map-append}
+use Rattle.mvt_base.specs.declared.TheConstants.{LIMIT}
 use Rattle.mvt_wire.specs.Field.{bytes}
 use Rattle.mvt_wire.specs.Spelling.{Plain, short_field, spelled}
 use Rattle.mvt_message.specs.declared.item.Item.{Item}
 use Rattle.mvt_message.specs.CanonicalItems.{canonical_item}
-use Rattle.mvt_tile.specs.Inner.{WritingLaws}
 use Rattle.mvt_message.specs.declared.put.PutError.{PutError}
 use Rattle.mvt_message.specs.declared.put.PutError.TheVariants as put
+use Rattle.mvt_wire.proofs.WireLaws.{short_lengths_bytes}
+use Rattle.mvt_tile.specs.declared.numbers.tile.TheConstants.{LAYERS}
 use Rattle.mvt_tile.specs.declared.write_error.WriteError.TheVariants as write
 use Rattle.mvt_tile.specs.declared.tile.Tile.{Tile}
 use Rattle.mvt_tile.specs.CanonicalTiles.{item_field, canonical}
@@ -22,7 +24,7 @@ abbrev pub written : List Item → List ℕ
 written items = spelled (map item_field items)
 
 abbrev pub field_of : Item → List ℕ
-field_of item = short_field 3 (bytes (canonical_item item))
+field_of item = short_field LAYERS (bytes (canonical_item item))
 
 pub written-append : (xs ys : List Item) → written (xs ++ ys) ≡ written xs ++ written ys
 written-append xs ys =
@@ -53,12 +55,12 @@ written_within items i =
     omega arith
 
 -- an item's payload has fewer bytes than the whole
-pub payload_within : WritingLaws → (items : List Item) (i : ℕ) (item : Item) → i < length items → item ≡ get_or items i item → length (canonical_item item) ≤ length (written items)
-payload_within laws items i item h is =
+pub payload_within : (items : List Item) (i : ℕ) (item : Item) → i < length items → item ≡ get_or items i item → length (canonical_item item) ≤ length (written items)
+payload_within items i item h is =
     let size = ap length (written_parts items i item h is) in
     let outer = length-append (written (take i items)) (field_of item ++ written (drop (i + 1) items)) in
     let inner = length-append (field_of item) (written (drop (i + 1) items)) in
-    let longer = laws.longer 3 (canonical_item item) in
+    let longer = short_lengths_bytes LAYERS (canonical_item item) in
     omega arith
 
 -- what holds of each holds of one
@@ -71,11 +73,11 @@ pub canonical_is : (tile : Tile) (items : List Item) → items ≡ tile.items �
 unfolding canonical
 canonical_is tile items is = ap written (sym is)
 
-pub encoded_reads : {V E : Type 0} → WritingLaws → (tile : Tile) (of : V → List ℕ) (r : Result V E) → Valid tile → IfOk r (λ b. of b ≡ canonical tile) → IfOk r (λ b. length (of b) ≤ 67108864)
-    → IfOk r (λ b. IsTile 67108864 (of b) tile)
-encoded_reads laws tile of (Err e) valid put small = tt
-encoded_reads laws tile of (Ok b) valid put small =
-    subst (λ s. IsTile 67108864 s tile) (sym put) (canonical_reads laws 67108864 refl tile valid (subst (λ s. length s ≤ 67108864) put small))
+pub encoded_reads : {V E : Type 0} → (tile : Tile) (of : V → List ℕ) (r : Result V E) → Valid tile → IfOk r (λ b. of b ≡ canonical tile) → IfOk r (λ b. length (of b) ≤ LIMIT)
+    → IfOk r (λ b. IsTile LIMIT (of b) tile)
+encoded_reads tile of (Err e) valid put small = tt
+encoded_reads tile of (Ok b) valid put small =
+    subst (λ s. IsTile LIMIT s tile) (sym put) (canonical_reads tile valid (subst (λ s. length s ≤ LIMIT) put small))
 
 pub on_err : {T E P : Type 0} (r : Result T E) → P → OnErr r P
 on_err (Ok x) p = tt

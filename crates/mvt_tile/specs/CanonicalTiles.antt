@@ -1,13 +1,14 @@
--- The bytes that a tile is written as: its items in order, each a field 3, with shortest spellings.
+-- The bytes that a tile is written as: its items in order, each a field `layers`, with shortest spellings.
 use Rattle.std.specs.Prelude.{ℕ, List, map}
 use Rattle.mvt_wire.specs.Field.{bytes}
 use Rattle.mvt_wire.specs.Spelling.{Plain, spelled}
 use Rattle.mvt_message.specs.declared.item.Item.{Item}
 use Rattle.mvt_message.specs.CanonicalItems.{canonical_item}
+use Rattle.mvt_tile.specs.declared.numbers.tile.TheConstants.{LAYERS}
 use Rattle.mvt_tile.specs.declared.tile.Tile.{Tile}
 
 abbrev pub item_field : Item → Plain
-item_field item = record { number = 3; content = bytes (canonical_item item) }
+item_field item = record { number = LAYERS; content = bytes (canonical_item item) }
 
 unfoldable pub canonical : Tile → List ℕ
 canonical tile = spelled (map item_field tile.items)

@@ -4,11 +4,12 @@ ghost use Rattle.mvt_wire.specs.Field.{bytes as in_bytes};
 ghost use Rattle.mvt_wire.specs.Spelling.{short_field};
 ghost use Rattle.mvt_message.specs.CanonicalItems.{canonical_item};
 ghost use Rattle.mvt_message.specs.ValidItems.{ValidItem};
+ghost use Rattle.mvt_tile.specs.declared.numbers.tile.TheConstants.{LAYERS};
 ghost use Rattle.mvt_tile.specs.CanonicalTiles.{canonical};
 ghost use Rattle.mvt_tile.specs.Inner.Comparing.{IsBehind};
 ghost use Rattle.mvt_tile.specs.ValidTiles.{Valid};
 
-use crate::below;
+use crate::numbers::tile;
 use crate::tile::Tile;
 use mvt_base::LIMIT;
 use mvt_message::{Item, PutError, put_item};
@@ -21,7 +22,6 @@ pub fn is_canonical(alloc: Global, tile: &Tile, bytes: &[u8]) -> Result<bool, Al
     requires { Valid tile.now }
     ensures { IfOk result (λ yes. IsTrue yes ↔ ((bytes.now ≡ canonical tile.now) × (length bytes.now ≤ LIMIT))) }
 {
-    below::writing_laws();
     if bytes.len() as u64 > LIMIT {
         return Ok(false);
     }
@@ -44,9 +44,8 @@ pub(crate) fn behind_item<'b>(
 ) -> Result<Option<&'b [u8]>, AllocError>
     requires valid { ValidItem item.now }
     requires small { length bytes.now ≤ LIMIT }
-    ensures { IfOk result (IsBehind bytes.now (short_field 3 (in_bytes (canonical_item item.now)))) }
+    ensures { IfOk result (IsBehind bytes.now (short_field LAYERS (in_bytes (canonical_item item.now)))) }
 {
-    below::writing_laws();
     let payload = match put_item(alloc, item) {
         Ok(payload) => payload,
         Err(PutError::TooLarge) => return Ok(None),
@@ -62,10 +61,10 @@ pub(crate) fn behind_item<'b>(
 /// The tag and the length of an item's field.
 fn field_head(alloc: Global, len: usize) -> Result<Vec<u8>, AllocError>
     ensures { IfOk result (λ head. (d : List ℕ) → length d ≡ len
-        → short_field 3 (in_bytes d) ≡ head.items ++ d) }
+        → short_field LAYERS (in_bytes d) ≡ head.items ++ d) }
 {
     let mut head = Vec::new(alloc);
-    put_varint(&mut head, 8 * 3 + 2)?;
+    put_varint(&mut head, 8 * tile::LAYERS as u64 + 2)?;
     put_varint(&mut head, len as u64)?;
     Ok(head)
 }

@@ -6,7 +6,6 @@ ghost use Rattle.mvt_tile.specs.TileRules.{fault_within};
 ghost use Rattle.mvt_tile.specs.Tiles.{IsTile};
 ghost use Rattle.mvt_tile.specs.ValidTiles.{Valid};
 
-use crate::below;
 use crate::fault::{DecodeError, Fault};
 use crate::layers::Layers;
 use crate::tile::Tile;
@@ -54,8 +53,6 @@ impl TileDecoder {
         ensures stands { StandsFor LIMIT result [] }
         ensures fresh { result.failure ≡ None }
     {
-        below::item_laws();
-        below::split_laws();
         TileDecoder {
             alloc,
             layers: Layers::new(alloc),
@@ -82,7 +79,6 @@ impl TileDecoder {
         ensures answer { Answers self.new.failure result }
         ensures sticky { IsSome self.old.failure → self.new ≡ self.old }
     {
-        below::split_laws();
         if let Some(error) = self.failure {
             return Err(error);
         }
@@ -117,8 +113,6 @@ impl TileDecoder {
         ensures kept { IfSome self.failure (λ error. result ≡ Err error) }
         ensures no_memory { self.failure ≡ None → IfErr result (λ error. (error ≡ DecodeError.Memory → ⊥)) }
     {
-        below::item_laws();
-        below::split_laws();
         let TileDecoder {
             layers,
             raw,
@@ -170,8 +164,6 @@ fn take_in(
     ensures fault { IfErr result (λ error. (s : List ℕ) → IsLive LIMIT offset layers.old raw.old.items s
         → Tells error (fault_within LIMIT (s ++ piece.now))) }
 {
-    below::item_laws();
-    below::split_laws();
     let room = LIMIT as usize - (offset as usize + raw.len());
     let (fitting, beyond) = piece.split_at(room.min(piece.len()));
     let used = swallow(alloc, layers, raw, offset, fitting)?;

@@ -1,17 +1,17 @@
 //! Judging a tile without building one.
-ghost use Rattle.std.specs.Prelude.{◌≡◌, None, IfErr, OnOk};
+ghost use Rattle.std.specs.Prelude.{◌≡◌, None, IfOk, IfErr, OnOk};
+ghost use Rattle.std.specs.Option.{option_copied};
 ghost use Rattle.mvt_tile.specs.declared.tile.Tile.{Tile};
 ghost use Rattle.mvt_tile.specs.Streams.{TellsAtEnd};
 ghost use Rattle.mvt_tile.specs.TileRules.{fault_within};
 ghost use Rattle.mvt_tile.specs.Tiles.{IsTile};
 
-use crate::below;
 use crate::fault::DecodeError;
-use crate::layers::{Names, add_name};
-use crate::taking::{Taker, in_layer, repeated_name, take_whole};
+use crate::layers::Names;
+use crate::taking::{Taker, in_layer, take_whole};
 use mvt_base::{LIMIT, Text};
 use mvt_message::judge_item;
-use std::alloc::Global;
+use std::alloc::{AllocError, Global};
 
 /// Judges a tile without building one: it keeps the names of the layers, and of one layer at a time its
 /// keys, and the tags and the integers of one feature.
@@ -25,8 +25,6 @@ pub fn judge(alloc: Global, bytes: &[u8]) -> Result<(), DecodeError>
     ensures tile { OnOk result ((tile : Tile) × IsTile LIMIT bytes.now tile) }
     ensures fault { IfErr result (λ error. TellsAtEnd error (fault_within LIMIT bytes.now)) }
 {
-    below::item_laws();
-    below::split_laws();
     take_whole(alloc, &mut Names::new(alloc), bytes)
 }
 
@@ -43,19 +41,19 @@ impl Taker for Names {
         payload_at: u64,
         tag_at: u64,
     ) -> Result<(), DecodeError> {
-        below::item_laws();
-        let index = self.count;
-        let name = match judge_item(alloc, payload, payload_at, tag_at) {
-            Ok(name) => name,
-            Err(error) => return Err(in_layer(index, error)),
-        };
-        self.count += 1;
-        let Some(name) = name else {
-            return Ok(());
-        };
-        if add_name(&mut self.names, Text::from_str(alloc, name)?)? {
-            return Ok(());
+        match judge_item(alloc, payload, payload_at, tag_at) {
+            Ok(name) => self.add(text_of(alloc, name)?, tag_at),
+            Err(error) => Err(in_layer(self.count, error)),
         }
-        Err(repeated_name(index, tag_at))
+    }
+}
+
+/// A name as a text of its own.
+fn text_of(alloc: Global, name: Option<&str>) -> Result<Option<Text>, AllocError>
+    ensures { IfOk result (λ text. text ≡ option_copied name.entry) }
+{
+    match name {
+        Some(name) => Ok(Some(Text::from_str(alloc, name)?)),
+        None => Ok(None),
     }
 }

@@ -1,14 +1,15 @@
 //! The items that were read so far, and the names of the layers among them.
-ghost use Rattle.std.specs.Prelude.{◌≡◌, ◌∷◌, ◌++◌, ◌||◌, ℕ, ◌+◌, ◌≤◌, List, [], length, not, bytes_eq, IfOk, IfErr, OnErr, IsTrue};
+ghost use Rattle.std.specs.Prelude.{◌≡◌, ◌∷◌, ◌++◌, ◌||◌, ℕ, ◌+◌, ◌≤◌, List, [], false, length, not, bytes_eq, IfOk, IfErr, OnErr, OnOk, IsTrue};
 ghost use Rattle.std.specs.Bool.{OnFalse};
 ghost use Rattle.std.specs.List.{AllByRecursion, flat_map, list_any};
+ghost use Rattle.std.specs.Option.{option_to_list};
 ghost use Rattle.mvt_message.specs.Items.{names_in};
 ghost use Rattle.mvt_message.specs.ValidItems.{ValidItem};
-ghost use Rattle.mvt_tile.specs.Inner.Judging.{AreNamed, IsJudged, TellsBehind};
+ghost use Rattle.mvt_tile.specs.Inner.Judging.{AreNamed, IsJudged, TellsBehind, name_fault};
+ghost use Rattle.mvt_tile.specs.Streams.{Tells};
 ghost use Rattle.mvt_tile.specs.TileRules.{repeats};
 ghost use Rattle.mvt_tile.specs.Tiles.{HasDistinctNames};
 
-use crate::below;
 use crate::fault::DecodeError;
 use crate::taking::{Taker, in_layer, repeated_name, take_fields};
 use mvt_base::{LIMIT, Text};
@@ -21,11 +22,11 @@ use std::marker::Model;
 #[derive(Drop)]
 pub(crate) struct Layers {
     items: Vec<Item>,
-    names: BTreeSet<Text>,
+    names: Names,
 }
 
 impl Model for Layers {
-    ghost use Rattle.std.specs.Prelude.{List};
+    ghost use Rattle.std.specs.Prelude.{◌≡◌, List, length};
     ghost use Rattle.mvt_message.specs.declared.item.Item.{Item};
     ghost use Rattle.mvt_tile.specs.Inner.Judging.{AreKept};
 
@@ -33,7 +34,7 @@ impl Model for Layers {
 
     ghost view = { λ l. l.items.items };
 
-    ghost invariant = { λ l. AreKept l.names.keys l.items.items };
+    ghost invariant = { λ l. AreKept l.names.names.keys l.items.items × (l.names.count ≡ length l.items.items) };
 }
 
 impl Layers {
@@ -43,7 +44,7 @@ impl Layers {
     {
         Layers {
             items: Vec::new(alloc),
-            names: BTreeSet::new(alloc),
+            names: Names::new(alloc),
         }
     }
 
@@ -77,18 +78,20 @@ impl Layers {
         take_fields(alloc, self, bytes, offset)
     }
 
-    /// Adds an item, but for a layer whose name is there. Answers whether it did.
-    pub(crate) fn add(&mut self, item: Item) -> Result<bool, AllocError>
-        requires { ValidItem item }
-        ensures added { IfOk result (λ added. added ≡ not (repeats (flat_map names_in self.old) (names_in item))) }
-        ensures items { IfOk result (λ added. IsTrue added → self.new ≡ self.old ++ item ∷ []) }
+    /// Adds an item, but for a layer whose name is there: that is a fault.
+    fn add(&mut self, item: Item, tag_at: u64) -> Result<(), DecodeError>
+        requires valid { ValidItem item }
+        requires few { length self.old ≤ LIMIT }
+        ensures items { OnOk result (self.new ≡ self.old ++ item ∷ []) }
+        ensures new { OnOk result (repeats (flat_map names_in self.old) (names_in item) ≡ false) }
+        ensures fault { IfErr result (λ error. Tells error
+            (name_fault (length self.old) (flat_map names_in self.old) (names_in item) tag_at)) }
     {
+        let alloc = *self.items.allocator();
         self.items.reserve(1)?;
-        let added = add_names(*self.items.allocator(), &mut self.names, &item)?;
-        if added {
-            self.items.push(item).unwrap();
-        }
-        Ok(added)
+        self.names.add(name_of(alloc, &item)?, tag_at)?;
+        self.items.push(item).unwrap();
+        Ok(())
     }
 }
 
@@ -105,16 +108,10 @@ impl Taker for Layers {
         payload_at: u64,
         tag_at: u64,
     ) -> Result<(), DecodeError> {
-        below::item_laws();
-        let index = self.len() as u32;
-        let item = match read_item(alloc, payload, payload_at, tag_at) {
-            Ok(item) => item,
-            Err(error) => return Err(in_layer(index, error)),
-        };
-        if self.add(item)? {
-            return Ok(());
+        match read_item(alloc, payload, payload_at, tag_at) {
+            Ok(item) => self.add(item, tag_at),
+            Err(error) => Err(in_layer(self.len() as u32, error)),
         }
-        Err(repeated_name(index, tag_at))
     }
 }
 
@@ -135,33 +132,45 @@ impl Names {
             names: BTreeSet::new(alloc),
         }
     }
-}
 
-/// Adds the name of a layer to the names, and answers whether it is new. A foreign item has none.
-pub(crate) fn add_names(
-    alloc: Global,
-    names: &mut BTreeSet<Text>,
-    item: &Item,
-) -> Result<bool, AllocError>
-    ensures new { IfOk result (λ new. new ≡ not (repeats names.old.keys (names_in item.now))) }
-    ensures named { IfOk result (λ new. IsTrue new → (n : List ℕ) → list_any (bytes_eq n) names.new.keys
-        ≡ (list_any (bytes_eq n) names.old.keys || list_any (bytes_eq n) (names_in item.now))) }
-    ensures same { IfOk result (λ new. OnFalse new (names.new.keys ≡ names.old.keys)) }
-    ensures err { OnErr result (names.new.keys ≡ names.old.keys) }
-{
-    match item {
-        Item::Foreign { .. } => Ok(true),
-        Item::Layer(layer) => add_name(names, layer.name.copy(alloc)?),
+    /// Adds one item more, with its name where it has one. A name that is there is a fault.
+    pub(crate) fn add(&mut self, name: Option<Text>, tag_at: u64) -> Result<(), DecodeError>
+        requires { self.old.count ≤ LIMIT }
+        ensures added { OnOk result ((items : List Item) (item : Item) → AreNamed self.old.count self.old.names.keys items
+            → names_in item ≡ option_to_list name → AreNamed self.new.count self.new.names.keys (items ++ item ∷ [])
+            × (repeats (flat_map names_in items) (names_in item) ≡ false)) }
+        ensures fault { IfErr result (λ error. (items : List Item) → AreNamed self.old.count self.old.names.keys items
+            → Tells error (name_fault (length items) (flat_map names_in items) (option_to_list name) tag_at)) }
+        ensures same { OnErr result ((self.new.count ≡ self.old.count) × (self.new.names.keys ≡ self.old.names.keys)) }
+    {
+        if !add_name(&mut self.names, name)? {
+            return Err(repeated_name(self.count, tag_at));
+        }
+        self.count += 1;
+        Ok(())
     }
 }
 
-/// Adds a name, and answers whether it is new.
-pub(crate) fn add_name(names: &mut BTreeSet<Text>, name: Text) -> Result<bool, AllocError>
-    ensures new { IfOk result (λ new. new ≡ not (repeats names.old.keys (name ∷ []))) }
+/// The name of a layer. A foreign item has none.
+pub(crate) fn name_of(alloc: Global, item: &Item) -> Result<Option<Text>, AllocError>
+    ensures { IfOk result (λ name. option_to_list name ≡ names_in item.now) }
+{
+    match item {
+        Item::Foreign { .. } => Ok(None),
+        Item::Layer(layer) => Ok(Some(layer.name.copy(alloc)?)),
+    }
+}
+
+/// Adds a name, where there is one, and answers whether it is new.
+pub(crate) fn add_name(names: &mut BTreeSet<Text>, name: Option<Text>) -> Result<bool, AllocError>
+    ensures new { IfOk result (λ new. new ≡ not (repeats names.old.keys (option_to_list name))) }
     ensures named { IfOk result (λ new. IsTrue new → (n : List ℕ) → list_any (bytes_eq n) names.new.keys
-        ≡ (list_any (bytes_eq n) names.old.keys || list_any (bytes_eq n) (name ∷ []))) }
+        ≡ (list_any (bytes_eq n) names.old.keys || list_any (bytes_eq n) (option_to_list name))) }
     ensures same { IfOk result (λ new. OnFalse new (names.new.keys ≡ names.old.keys)) }
     ensures err { OnErr result (names.new.keys ≡ names.old.keys) }
 {
-    Ok(names.insert(name)?)
+    match name {
+        Some(name) => Ok(names.insert(name)?),
+        None => Ok(true),
+    }
 }

@@ -3,7 +3,6 @@
 //! What a tile is made of is handed up here, so a caller names this crate alone.
 #![tactic(auto)]
 
-mod below;
 mod comparing;
 mod decoder;
 mod extract_error;

@@ -9,7 +9,6 @@ ghost use Rattle.mvt_tile.specs.TileRules.{fault_within};
 ghost use Rattle.mvt_tile.specs.Tiles.{IsTile};
 ghost use Rattle.mvt_tile.specs.ValidTiles.{Valid};
 
-use crate::below;
 use crate::decoder::TileDecoder;
 use crate::fault::DecodeError;
 use crate::tile::Tile;
@@ -45,7 +44,6 @@ pub fn read_tile<R: Source>(alloc: Global, reader: &mut R) -> Result<Tile, Decod
     ensures honest { OnOk result (R.failed reader.new ≡ R.failed reader.old) }
     ensures sound { IfErr result (λ error. (IsReadError error → ⊥) → R.failed reader.new ≡ R.failed reader.old) }
 {
-    below::split_laws();
     let mut decoder = TileDecoder::new(alloc);
     let mut piece = [0; PIECE];
     feed_all(reader, &mut decoder, &mut piece)?;
@@ -75,7 +73,6 @@ fn feed_all<R: Source>(
     ensures honest { OnOk result (R.failed reader.new ≡ R.failed reader.old) }
     ensures sound { IfErr result (λ error. (IsReadError error → ⊥) → R.failed reader.new ≡ R.failed reader.old) }
 {
-    below::split_laws();
     for _turn in 0..MOST_READS {
         let count = match reader.read(buffer) {
             Ok(count) => count,

@@ -11,7 +11,6 @@ ghost use Rattle.mvt_tile.specs.ValidTiles.{Valid};
 ghost use Rattle.mvt_tile.specs.Writing.{IsWriteFault, IsWriteKind};
 
 use crate::fault::DecodeError;
-use crate::laws;
 use crate::reading::{MOST_READS, read_tile};
 use crate::tile::Tile;
 use crate::write_error::WriteError;
@@ -71,8 +70,6 @@ pub fn write_and_read<W: Sink, R: Source>(
     ensures read_sound { IfOk result (λ read. IfErr read (λ error. (IsReadError error → ⊥)
         → R.failed reader.new ≡ R.failed reader.old)) }
 {
-    laws::one_tile();
-    laws::tile_or_fault();
     write_tile(alloc, tile, writer)?;
     Ok(read_tile(alloc, reader))
 }

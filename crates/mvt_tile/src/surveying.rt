@@ -4,6 +4,7 @@ ghost use Rattle.mvt_wire.specs.Field.{bytes as in_bytes};
 ghost use Rattle.mvt_wire.specs.Spelling.{short_field};
 ghost use Rattle.mvt_message.specs.CanonicalItems.{canonical_item};
 ghost use Rattle.mvt_message.specs.ValidItems.{ValidItem};
+ghost use Rattle.mvt_tile.specs.declared.numbers.tile.TheConstants.{LAYERS};
 ghost use Rattle.mvt_tile.specs.declared.tile.Tile.{Tile};
 ghost use Rattle.mvt_tile.specs.CanonicalTiles.{canonical};
 ghost use Rattle.mvt_tile.specs.Inner.Comparing.{IsBehind};
@@ -14,14 +15,13 @@ ghost use Rattle.mvt_tile.specs.TileRules.{fault_within};
 ghost use Rattle.mvt_tile.specs.Tiles.{IsTile};
 ghost use Rattle.mvt_tile.specs.ValidTiles.{Valid};
 
-use crate::below;
 use crate::comparing::behind_item;
 use crate::fault::DecodeError;
-use crate::layers::{Names, add_names};
+use crate::layers::{Names, name_of};
 use crate::note::Note;
 use crate::noting::{note_if, note_item};
 use crate::survey::Survey;
-use crate::taking::{Taker, in_layer, repeated_name, take_whole};
+use crate::taking::{Taker, in_layer, take_whole};
 use mvt_base::{Items, LIMIT};
 use mvt_message::{Item, read_item};
 use std::alloc::{AllocError, Global};
@@ -73,18 +73,14 @@ impl<'a> Taker for Surveyor<'a> {
         payload_at: u64,
         tag_at: u64,
     ) -> Result<(), DecodeError> {
-        below::item_laws();
         let index = self.names.count;
         let item = match read_item(alloc, payload, payload_at, tag_at) {
             Ok(item) => item,
             Err(error) => return Err(in_layer(index, error)),
         };
-        if add_names(alloc, &mut self.names.names, &item)? {
-            self.names.count += 1;
-            self.found.add(alloc, index as usize, &item)?;
-            return Ok(());
-        }
-        Err(repeated_name(index, tag_at))
+        self.names.add(name_of(alloc, &item)?, tag_at)?;
+        self.found.add(alloc, index as usize, &item)?;
+        Ok(())
     }
 }
 
@@ -162,7 +158,7 @@ fn behind_next<'b>(
     requires valid { ValidItem item.now }
     requires small { IfSome behind (λ rest. length rest.now ≤ LIMIT) }
     ensures { (input front : List ℕ) → IsBehind input front behind.entry
-        → IfOk result (IsBehind input (front ++ short_field 3 (in_bytes (canonical_item item.now)))) }
+        → IfOk result (IsBehind input (front ++ short_field LAYERS (in_bytes (canonical_item item.now)))) }
 {
     match behind {
         Some(rest) => behind_item(alloc, item, rest),

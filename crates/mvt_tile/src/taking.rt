@@ -15,7 +15,6 @@ ghost use Rattle.mvt_tile.specs.Streams.{Tells, TellsAtEnd};
 ghost use Rattle.mvt_tile.specs.TileRules.{field_rules, fault_within};
 ghost use Rattle.mvt_tile.specs.Tiles.{AreItems, IsTile};
 
-use crate::below;
 use crate::fault::{DecodeError, Fault};
 use crate::numbers::tile;
 use mvt_base::LIMIT;
@@ -55,8 +54,6 @@ pub(crate) fn take_whole<T: Taker>(
         ((tile : Tile) × IsTile LIMIT bytes.now tile × T.has_taken input taker.new tile.items) }
     ensures fault { IfErr result (λ error. TellsAtEnd error (fault_within LIMIT bytes.now)) }
 {
-    below::item_laws();
-    below::split_laws();
     let (fitting, beyond) = bytes.split_at(bytes.len().min(LIMIT as usize));
     let used = take_fields(alloc, taker, fitting, 0)?;
     if !beyond.is_empty() {
@@ -83,8 +80,6 @@ pub(crate) fn take_fields<T: Taker>(
     ensures fault { (input : List ℕ) (items : List Item) → T.has_taken input taker.old items → IfErr result
         (λ error. TellsBehind error offset bytes.now items) }
 {
-    below::item_laws();
-    below::split_laws();
     for field in Fields::new(bytes) {
         match field {
             Ok(field) => take_field(alloc, taker, &field, offset)?,
@@ -159,7 +154,6 @@ fn take_field<T: Taker>(
     ensures fault { (input : List ℕ) (items : List Item) → T.has_taken input taker.old items → IfErr result (λ error.
         (front : List Entry) → AreItems front items → Tells error (first (field_rules front (shifted offset (entry_of field.now))))) }
 {
-    below::item_laws();
     match layer_in(field, offset)? {
         None => Ok(()),
         Some(place) => taker.take_item(alloc, place.payload, place.payload_at, place.tag_at),

@@ -8,7 +8,7 @@ ghost use Rattle.mvt_tile.specs.Tiles.{HasDistinctNames};
 ghost use Rattle.mvt_tile.specs.ValidTiles.{Valid};
 
 use crate::extraction::has_layer;
-use crate::layers::add_names;
+use crate::layers::{add_name, name_of};
 use crate::tile::Tile;
 use mvt_message::{Item, is_valid_item, validate_item};
 use std::alloc::{AllocError, Global};
@@ -34,7 +34,7 @@ pub fn validate(alloc: Global, tile: &Tile) -> Result<bool, AllocError>
         if !validate_item(alloc, item)? {
             return Ok(false);
         }
-        if !add_names(alloc, &mut names, item)? {
+        if !add_name(&mut names, name_of(alloc, item)?)? {
             return Ok(false);
         }
     }

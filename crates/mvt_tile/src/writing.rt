@@ -15,7 +15,6 @@ ghost use Rattle.mvt_tile.specs.Tiles.{IsTile};
 ghost use Rattle.mvt_tile.specs.ValidTiles.{Valid};
 ghost use Rattle.mvt_tile.specs.Writing.{IsWriteFault, IsWriteKind};
 
-use crate::below;
 use crate::numbers::tile;
 use crate::tile::Tile;
 use crate::write_error::WriteError;
@@ -37,7 +36,6 @@ pub fn encode(alloc: Global, tile: &Tile) -> Result<Vec<u8>, PutError>
     ensures reads { IfOk result (λ bytes. IsTile LIMIT bytes.items tile.now) }
     ensures too_large { IsErrOf result PutError.TooLarge → LIMIT < length (canonical tile.now) }
 {
-    below::writing_laws();
     encode_items(alloc, tile.items.as_slice())
 }
 
@@ -64,7 +62,6 @@ pub fn write_tile<W: Sink>(alloc: Global, tile: &Tile, writer: &mut W) -> Result
     ensures kind { IfErr result (λ error. IsWriteKind error (W.fault writer.new)) }
     ensures flushes { W.flushes writer.new ≡ W.flushes writer.old }
 {
-    below::writing_laws();
     let items = tile.items.as_slice();
     if !are_surely_small(items) {
         items_len(alloc, items)?;
@@ -79,7 +76,6 @@ fn encode_items(alloc: Global, items: &[Item]) -> Result<Vec<u8>, PutError>
     ensures small { IfOk result (λ bytes. length bytes.items ≤ LIMIT) }
     ensures too_large { IsErrOf result PutError.TooLarge → LIMIT < length (spelled (map item_field items.now)) }
 {
-    below::writing_laws();
     let mut out = Vec::new(alloc);
     for item in items {
         append_item(alloc, &mut out, item)?;
@@ -96,8 +92,6 @@ fn are_surely_small(items: &[Item]) -> bool
     ensures bound { IsTrue result ↔ (items_bound items.now ≤ LIMIT) }
     ensures small { IsTrue result → length (spelled (map item_field items.now)) ≤ LIMIT }
 {
-    below::writing_laws();
-    mvt_message::laws::bound_holds();
     room_behind_items(items).is_some()
 }
 
@@ -120,7 +114,6 @@ fn items_len(alloc: Global, items: &[Item]) -> Result<u64, PutError>
     ensures small { IfOk result (λ len. len ≤ LIMIT) }
     ensures too_large { IsErrOf result PutError.TooLarge → LIMIT < length (spelled (map item_field items.now)) }
 {
-    below::writing_laws();
     let mut total = 0;
     for item in items {
         total += layer_len(alloc, item)?;
@@ -138,7 +131,6 @@ fn layer_len(alloc: Global, item: &Item) -> Result<u64, PutError>
     ensures most { IfOk result (λ len. len ≤ LIMIT + 20) }
     ensures too_large { IsErrOf result PutError.TooLarge → LIMIT < length (canonical_item item.now) }
 {
-    below::writing_laws();
     let len = item_len(alloc, item)?;
     Ok(field_len(tile::LAYERS, len))
 }
@@ -160,8 +152,6 @@ fn write_items<W: Sink>(alloc: Global, items: &[Item], writer: &mut W) -> Result
     ensures kind { IfErr result (λ error. IsWriteKind error (W.fault writer.new)) }
     ensures flushes { W.flushes writer.new ≡ W.flushes writer.old }
 {
-    below::writing_laws();
-    mvt_io::laws::prefix_in_the_middle();
     for item in items {
         write_item(alloc, item, writer)?;
     }
@@ -169,6 +159,7 @@ fn write_items<W: Sink>(alloc: Global, items: &[Item], writer: &mut W) -> Result
 }
 
 /// Makes the field of an item, and writes it.
+#[tactic(auto, using(mvt_io::proofs::IoLaws::nothing_is_a_prefix))]
 fn write_item<W: Sink>(alloc: Global, item: &Item, writer: &mut W) -> Result<(), WriteError>
     requires { ValidItem item.now }
     ensures taken { OnOk result (Appends (W.taken writer.old) (W.taken writer.new)
@@ -184,7 +175,6 @@ fn write_item<W: Sink>(alloc: Global, item: &Item, writer: &mut W) -> Result<(),
     ensures kind { IfErr result (λ error. IsWriteKind error (W.fault writer.new)) }
     ensures flushes { W.flushes writer.new ≡ W.flushes writer.old }
 {
-    mvt_io::laws::nothing_is_a_prefix();
     let mut field = Vec::new(alloc);
     append_item(alloc, &mut field, item)?;
     match write_all(writer, field.as_slice()) {

@@ -32,10 +32,13 @@ pub record AreKept (names : List (List ℕ)) (items : List Item) : Type 0 where
 abbrev pub repeated_at : ℕ → ℕ → AFault
 repeated_at n at = record { layer = Some n; feature = None; at = at; cause = RepeatedName }
 
+-- the fault of a layer of this index and these names, behind others of those names
+abbrev pub name_fault : ℕ → List (List ℕ) → List (List ℕ) → ℕ → Option AFault
+name_fault n names given at = first (when (repeats names given) (repeated_at n at))
+
 -- the fault of a payload as a layer of this index tells it, or that of a repeated name
 abbrev pub payload_fault : ℕ → List (List ℕ) → List ℕ → ℕ → ℕ → Option AFault
-payload_fault n names d body at =
-    option_or (option_map (in_layer n) (item_fault d body at)) (first (when (repeats names (payload_names d)) (repeated_at n at)))
+payload_fault n names d body at = option_or (option_map (in_layer n) (item_fault d body at)) (name_fault n names (payload_names d) at)
 
 -- an error of a payload, as the layer of this index tells it
 abbrev pub told_in : ℕ → MessageError → DecodeError

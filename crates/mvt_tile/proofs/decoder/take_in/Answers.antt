@@ -8,16 +8,16 @@ returns-in_err-used-clause-fault c =
     let p = err_from_is_err_and c.from_residual.result c.from_residual.ensures.1 in
     let fits : c.args.offset + (length c.args.raw.now.items + length c.split_at.result.0.now) ≤ 67108864 = omega (arith, c.args.raw.now.ok.0) in
     rw (p.1, p.2)
-    (λ s live. live_fails c.item_laws.ensures c.split_laws.ensures 67108864 c.args.offset c.args.layers.now c.args.raw.now.items s c.args.piece.now c.split_at.result.0.now c.split_at.result.1.now _ c.in_err-used.ensures.fault (cut _ _ _ _ c.split_at.ensures.front c.split_at.ensures.back) fits live)
+    (λ s live. live_fails 67108864 c.args.offset c.args.layers.now c.args.raw.now.items s c.args.piece.now c.split_at.result.0.now c.split_at.result.1.now _ c.in_err-used.ensures.fault (cut _ _ _ _ c.split_at.ensures.front c.split_at.ensures.back) fits live)
 
 pub returns-then-not-is_empty-clause-fault : goal.returns-then-not-is_empty-clause-fault
 returns-then-not-is_empty-clause-fault c =
     let some : length c.split_at.result.1.now ≡ 0 → ⊥ = search rules in
     let full : c.args.offset + (length c.args.raw.now.items + length c.split_at.result.0.now) ≡ 67108864 = omega (arith, c.args.raw.now.ok.0, some) in
     rw c.outer.ensures
-    (λ s live. piece_too_large c.item_laws.ensures c.split_laws.ensures 67108864 c.args.offset c.args.layers.now c.swallow.new.layers c.args.raw.now.items c.swallow.new.raw.items s c.args.piece.now c.split_at.result.0.now c.split_at.result.1.now c.in_ok-used.used c.in_ok-used.ensures.judged c.in_ok-used.ensures.raw full (cut _ _ _ _ c.split_at.ensures.front c.split_at.ensures.back) some live)
+    (λ s live. piece_too_large 67108864 c.args.offset c.args.layers.now c.swallow.new.layers c.args.raw.now.items c.swallow.new.raw.items s c.args.piece.now c.split_at.result.0.now c.split_at.result.1.now c.in_ok-used.used c.in_ok-used.ensures.judged c.in_ok-used.ensures.raw full (cut _ _ _ _ c.split_at.ensures.front c.split_at.ensures.back) some live)
 
 pub returns-clause-live : goal.returns-clause-live
 returns-clause-live c =
     let fits : c.args.offset + (length c.args.raw.now.items + length c.split_at.result.0.now) ≤ 67108864 = omega (arith, c.args.raw.now.ok.0) in
-    λ s live. piece_fits c.item_laws.ensures c.split_laws.ensures 67108864 c.args.offset c.args.layers.now c.swallow.new.layers c.args.raw.now.items c.swallow.new.raw.items s c.args.piece.now c.split_at.result.0.now c.split_at.result.1.now c.in_ok-used.used c.in_ok-used.ensures.judged c.in_ok-used.ensures.raw fits (cut _ _ _ _ c.split_at.ensures.front c.split_at.ensures.back) (search rules) live
+    λ s live. piece_fits 67108864 c.args.offset c.args.layers.now c.swallow.new.layers c.args.raw.now.items c.swallow.new.raw.items s c.args.piece.now c.split_at.result.0.now c.split_at.result.1.now c.in_ok-used.used c.in_ok-used.ensures.judged c.in_ok-used.ensures.raw fits (cut _ _ _ _ c.split_at.ensures.front c.split_at.ensures.back) (search rules) live

@@ -34,8 +34,10 @@ one_more : (n name : List ℕ) (keys after : List (List ℕ))
 one_more n name keys after updated =
     sym (any_text n after) ∙ updated ∙ ap₂ (λ b held. cond b true held) (is_eq-slice_cmp name n ∙ turned name n) (any_text n keys) ∙ cond_or (bytes_eq n name) (list_any (bytes_eq n) keys)
 
-pub returns-clause-new : goal.returns-clause-new
-returns-clause-new c = new_name c.in_ok-insert.field-0 c.args.names.now.keys c.args.name c.in_ok-insert.ensures.added
+pub returns-in_ok-insert-in-Some-clause-new : goal.returns-in_ok-insert-in-Some-clause-new
+returns-in_ok-insert-in-Some-clause-new c =
+    rw c.in-Some.is (new_name c.in_ok-insert-in-Some.field-0 c.args.names.now.keys c.in-Some.name c.in_ok-insert-in-Some.ensures.added)
 
-pub returns-clause-named : goal.returns-clause-named
-returns-clause-named c = λ is_new n. one_more n c.args.name c.args.names.now.keys c.insert.new.self.keys (c.in_ok-insert.ensures.updates.0 n)
+pub returns-in_ok-insert-in-Some-clause-named : goal.returns-in_ok-insert-in-Some-clause-named
+returns-in_ok-insert-in-Some-clause-named c =
+    rw c.in-Some.is (λ is_new n. one_more n c.in-Some.name c.args.names.now.keys c.insert.new.self.keys (c.in_ok-insert-in-Some.ensures.updates.0 n))

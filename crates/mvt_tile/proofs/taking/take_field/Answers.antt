@@ -16,9 +16,9 @@ returns-in-None-clause-items g c = λ input items has.
 pub returns-in-Some-clause-items : goal.returns-in-Some-clause-items
 returns-in-Some-clause-items g c = λ input items has.
     let place = rw c.in-Some.is at c.in_ok-layer_in.ensures.place in
-    field_gives c.item_laws.ensures (g.T.Taker.has_taken input c.take_item.new.self) _ items c.args.offset (entry_of c.args.field.now) _ _ _ place (c.take_item.ensures.item input items has)
+    field_gives (g.T.Taker.has_taken input c.take_item.new.self) _ items c.args.offset (entry_of c.args.field.now) _ _ _ place (c.take_item.ensures.item input items has)
 
 pub returns-in-Some-clause-fault : goal.returns-in-Some-clause-fault
 returns-in-Some-clause-fault g c = λ input items has.
     let place = rw c.in-Some.is at c.in_ok-layer_in.ensures.place in
-    field_tells c.item_laws.ensures _ items c.args.offset (entry_of c.args.field.now) c.in-Some.place.payload.now c.in-Some.place.payload_at c.in-Some.place.tag_at place (c.take_item.ensures.fault input items has)
+    field_tells _ items c.args.offset (entry_of c.args.field.now) c.in-Some.place.payload.now c.in-Some.place.payload_at c.in-Some.place.tag_at place (c.take_item.ensures.fault input items has)

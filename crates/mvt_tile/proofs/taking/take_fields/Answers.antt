@@ -15,19 +15,19 @@ pub take_field-requires-clause-few : goal.take_field-requires-clause-few
 take_field-requires-clause-few g c =
     let (input, items, has, few) = c.requires.few in
     let so_far = c.loop-field.invariant input items has in
-    (input, so_far.0, so_far.1, omega (arith, few, so_far_count c.split_laws.ensures c.args.offset c.args.bytes.now items so_far.0 c.loop-field.field-iterator.to_come so_far.2))
+    (input, so_far.0, so_far.1, omega (arith, few, so_far_count c.args.offset c.args.bytes.now items so_far.0 c.loop-field.field-iterator.to_come so_far.2))
 
 pub take_field-requires-clause-place : goal.take_field-requires-clause-place
 take_field-requires-clause-place g c =
     let (input, items, has, few) = c.requires.few in
     let so_far = c.loop-field.invariant input items has in
-    omega (arith, (so_far_place c.split_laws.ensures c.args.offset c.args.bytes.now items so_far.0 c.loop-field.field-iterator.to_come c.next.new.self.to_come c.in-Ok.field so_far.2 (rw c.in-Ok.is at c.in-Some.ensures.steps).0).0)
+    omega (arith, (so_far_place c.args.offset c.args.bytes.now items so_far.0 c.loop-field.field-iterator.to_come c.next.new.self.to_come c.in-Ok.field so_far.2 (rw c.in-Ok.is at c.in-Some.ensures.steps).0).0)
 
 pub take_field-requires-clause-fits : goal.take_field-requires-clause-fits
 take_field-requires-clause-fits g c =
     let (input, items, has, few) = c.requires.few in
     let so_far = c.loop-field.invariant input items has in
-    omega (arith, (so_far_place c.split_laws.ensures c.args.offset c.args.bytes.now items so_far.0 c.loop-field.field-iterator.to_come c.next.new.self.to_come c.in-Ok.field so_far.2 (rw c.in-Ok.is at c.in-Some.ensures.steps).0).1)
+    omega (arith, (so_far_place c.args.offset c.args.bytes.now items so_far.0 c.loop-field.field-iterator.to_come c.next.new.self.to_come c.in-Ok.field so_far.2 (rw c.in-Ok.is at c.in-Some.ensures.steps).0).1)
 
 pub loop-field-preserved : goal.loop-field-preserved
 loop-field-preserved g c = λ input items has.
@@ -40,20 +40,20 @@ returns-in_err-take_field-in-Ok-clause-fault g c = λ input items has.
     let p = err_from_is_err_and c.from_residual.result c.from_residual.ensures.1 in
     let so_far = c.loop-field.invariant input items has in
     rw (p.1, p.2)
-    (so_far_fails c.item_laws.ensures c.split_laws.ensures c.args.offset c.args.bytes.now items so_far.0 c.loop-field.field-iterator.to_come c.next.new.self.to_come c.in-Ok.field _ so_far.2 (rw c.in-Ok.is at c.in-Some.ensures.steps).0 (c.in_err-take_field-in-Ok.ensures.fault input so_far.0 so_far.1))
+    (so_far_fails c.args.offset c.args.bytes.now items so_far.0 c.loop-field.field-iterator.to_come c.next.new.self.to_come c.in-Ok.field _ so_far.2 (rw c.in-Ok.is at c.in-Some.ensures.steps).0 (c.in_err-take_field-in-Ok.ensures.fault input so_far.0 so_far.1))
 
 pub returns-in-Err-clause-judged : goal.returns-in-Err-clause-judged
 returns-in-Err-clause-judged g c = λ input items has.
     let so_far = c.loop-field.invariant input items has in
     judged_there (g.T.Taker.has_taken input c.loop-field.taker) c.args.offset c.args.bytes.now items so_far.0 c.judge_rest.result so_far.1
-    (so_far_rest c.item_laws.ensures c.split_laws.ensures c.args.offset c.args.bytes.now items so_far.0 c.loop-field.field-iterator.to_come c.next.new.self.to_come c.in-Err.fault _ so_far.2 (rw c.in-Err.is at c.in-Some.ensures.steps).0 c.judge_rest.ensures.unfinished)
+    (so_far_rest c.args.offset c.args.bytes.now items so_far.0 c.loop-field.field-iterator.to_come c.next.new.self.to_come c.in-Err.fault _ so_far.2 (rw c.in-Err.is at c.in-Some.ensures.steps).0 c.judge_rest.ensures.unfinished)
 
 pub returns-in-Err-clause-fault : goal.returns-in-Err-clause-fault
 returns-in-Err-clause-fault g c = λ input items has.
     let so_far = c.loop-field.invariant input items has in
-    so_far_broken c.item_laws.ensures c.split_laws.ensures c.args.offset c.args.bytes.now items so_far.0 c.loop-field.field-iterator.to_come c.next.new.self.to_come c.in-Err.fault _ so_far.2 (rw c.in-Err.is at c.in-Some.ensures.steps).0 c.judge_rest.ensures.fault
+    so_far_broken c.args.offset c.args.bytes.now items so_far.0 c.loop-field.field-iterator.to_come c.next.new.self.to_come c.in-Err.fault _ so_far.2 (rw c.in-Err.is at c.in-Some.ensures.steps).0 c.judge_rest.ensures.fault
 
 pub returns-clause-judged : goal.returns-clause-judged
 returns-clause-judged g c = λ input items has.
     let so_far = c.loop-field.invariant input items has in
-    (so_far.0, so_far.1, so_far_ends c.split_laws.ensures c.args.offset c.args.bytes.now items so_far.0 c.loop-field.field-iterator.to_come c.next.new.self.to_come so_far.2 c.in-None.ensures.steps.0)
+    (so_far.0, so_far.1, so_far_ends c.args.offset c.args.bytes.now items so_far.0 c.loop-field.field-iterator.to_come c.next.new.self.to_come so_far.2 c.in-None.ensures.steps.0)

@@ -7,7 +7,7 @@ pub returns-in_err-append_item-clause-too_large : goal.returns-in_err-append_ite
 returns-in_err-append_item-clause-too_large c =
     let p = err_from_is_err_and c.from_residual.result c.from_residual.ensures.1 in
     λ h. (let large = c.in_err-append_item.ensures.too_large (let k = rw p.1 at h in let q = p.2 in cc) in
-    omega (arith, payload_within c.writing_laws.ensures c.args.items.now c.loop-item.item-index c.item-item.result c.loop-item-test.true c.item-item.is))
+    omega (arith, payload_within c.args.items.now c.loop-item.item-index c.item-item.result c.loop-item-test.true c.item-item.is))
 
 pub returns-then-len-gt-LIMIT-clause-too_large : goal.returns-then-len-gt-LIMIT-clause-too_large
 returns-then-len-gt-LIMIT-clause-too_large c = λ h.

@@ -7,7 +7,7 @@ pub returns-in_err-total-clause-too_large : goal.returns-in_err-total-clause-too
 returns-in_err-total-clause-too_large c =
     let p = err_from_is_err_and c.from_residual.result c.from_residual.ensures.1 in
     λ h. (let large = c.in_err-total.ensures.too_large (let k = rw p.1 at h in let q = p.2 in cc) in
-    omega (arith, payload_within c.writing_laws.ensures c.args.items.now c.loop-item.item-index c.item-item.result c.loop-item-test.true c.item-item.is))
+    omega (arith, payload_within c.args.items.now c.loop-item.item-index c.item-item.result c.loop-item-test.true c.item-item.is))
 
 pub returns-then-total-gt-LIMIT-clause-too_large : goal.returns-then-total-gt-LIMIT-clause-too_large
 returns-then-total-gt-LIMIT-clause-too_large c = λ h.

@@ -2,4 +2,4 @@ use Rattle.mvt_tile.proofs.DecoderLemmas.{live_start}
 use Rattle.mvt_tile.proofs.decoder.TileDecoder.new.Goals as goal
 
 pub returns-clause-stands : goal.returns-clause-stands
-returns-clause-stands c = rw (c.new.ensures, c.new-2.ensures.items) (live_start c.split_laws.ensures 67108864)
+returns-clause-stands c = rw (c.new.ensures, c.new-2.ensures.items) (live_start 67108864)

@@ -1,23 +1,18 @@
-use Rattle.std.proofs.Common.{◌≡◌, false, [], ◌∷◌, ap, sym, refl, ◌∙◌}
-use Rattle.std.proofs.lemmas.Bool.{not-true}
-use Rattle.mvt_message.specs.ItemRules.{payload_names}
-use Rattle.mvt_tile.specs.TileRules.{repeats}
-use Rattle.mvt_tile.proofs.NamedLemmas.{named_item, named_foreign, named_twice}
+use Rattle.std.proofs.Common.{[], ◌∷◌, ◌++◌, ap, sym, refl, ◌∙◌}
+use Rattle.std.proofs.lemmas.Result.{IfErr-weaker, on_ok_weaker}
+use Rattle.std.specs.Option.{option_to_list}
+use Rattle.mvt_message.proofs.MessageLaws.{item_names, item_or_fault_there}
+use Rattle.mvt_tile.proofs.JudgeLemmas.{tells_name}
 use Rattle.mvt_tile.proofs.judging.NamesTaker.take_item.Goals as goal
 
-pub returns-in_default-clause-item : goal.returns-in_default-clause-item
-returns-in_default-clause-item c = λ input items are.
-    let given : [] ≡ payload_names c.args.payload.now = rw c.in_default.is at c.in-Ok.ensures.names in
-    named_foreign c.item_laws.ensures c.args.self.now.count c.args.self.now.names.keys items c.args.payload.now c.args.payload_at c.args.tag_at are c.in-Ok.ensures.ok [] given refl
+pub returns-in_ok-text_of-in-Ok-clause-item : goal.returns-in_ok-text_of-in-Ok-clause-item
+returns-in_ok-text_of-in-Ok-clause-item c = λ input items are.
+    let d = c.args.payload.now in
+    let (item, is) = item_or_fault_there d c.args.payload_at c.args.tag_at c.in-Ok.ensures.ok in
+    let named = item_names d item is ∙ sym (ap option_to_list c.in_ok-text_of-in-Ok.ensures ∙ c.in-Ok.ensures.names) in
+    on_ok_weaker c.add.result (λ added. let new = added items item are named in (items ++ item ∷ [], new.0, (item, refl, is, new.1))) c.add.ensures.added
 
-pub returns-then-branch-clause-item : goal.returns-then-branch-clause-item
-returns-then-branch-clause-item c = λ input items are.
-    let given : c.in_ok-from_str.field-0 ∷ [] ≡ payload_names c.args.payload.now = ap (λ n. n ∷ []) c.in_ok-from_str.ensures.same ∙ rw c.in-Some.is at c.in-Ok.ensures.names in
-    let new : repeats c.args.self.now.names.keys (c.in_ok-from_str.field-0 ∷ []) ≡ false = not-true _ (sym c.in_ok-add_name.ensures.new ∙ c.if-branch.true) in
-    named_item c.item_laws.ensures c.args.self.now.count c.args.self.now.names.keys items c.args.payload.now c.args.payload_at c.args.tag_at are c.in-Ok.ensures.ok (c.in_ok-from_str.field-0 ∷ []) given c.add_name.new.names.keys new (c.in_ok-add_name.ensures.named c.if-branch.true)
-
-pub returns-clause-fault : goal.returns-clause-fault
-returns-clause-fault c = λ input items are.
-    let given : c.in_ok-from_str.field-0 ∷ [] ≡ payload_names c.args.payload.now = ap (λ n. n ∷ []) c.in_ok-from_str.ensures.same ∙ rw c.in-Some.is at c.in-Ok.ensures.names in
-    rw c.repeated_name.ensures
-    (named_twice c.item_laws.ensures c.args.self.now.count c.args.self.now.names.keys items c.args.payload.now c.args.payload_at c.args.tag_at are c.in-Ok.ensures.ok (c.in_ok-from_str.field-0 ∷ []) given c.in_ok-add_name.field-0 c.in_ok-add_name.ensures.new c.if-branch.false _ refl)
+pub returns-in_ok-text_of-in-Ok-clause-fault : goal.returns-in_ok-text_of-in-Ok-clause-fault
+returns-in_ok-text_of-in-Ok-clause-fault c = λ input items are.
+    let named = ap option_to_list c.in_ok-text_of-in-Ok.ensures ∙ c.in-Ok.ensures.names in
+    IfErr-weaker c.add.result _ _ (λ e told. tells_name e _ _ _ c.args.payload.now _ _ c.in-Ok.ensures.ok named (told items are)) c.add.ensures.fault

@@ -1,0 +1,41 @@
+-- What the public laws state, for the proofs of the crates above: a lemma for each clause.
+pub use Rattle.mvt_tile.proofs.CanonicalLemmas.{one_tile as one_tile_one, canonical_reads as one_tile_reads}
+pub use Rattle.mvt_tile.proofs.TileLemmas.{tile_ordered as fault_is_least_ordered}
+use Rattle.std.specs.Prelude.{List, None, Some, false, length, ℕ, ◌++◌, ◌<◌, ◌↔◌, ◌≡◌, ◌≤◌}
+use Rattle.mvt_base.proofs.ListLemmas.{all_weaker}
+use Rattle.mvt_base.specs.declared.TheConstants.{LIMIT}
+use Rattle.mvt_base.specs.Rules.{IsLeast}
+use Rattle.mvt_message.proofs.MessageLaws.{old_items_stay}
+use Rattle.mvt_message.specs.ValidItems.{ValidItem, WasValidItem}
+use Rattle.mvt_tile.specs.declared.fault.Fault.{Fault}
+use Rattle.mvt_tile.specs.declared.tile.Tile.{Tile}
+use Rattle.mvt_tile.specs.Faults.{is_open}
+use Rattle.mvt_tile.specs.TileRules.{tile_rules, fault_within}
+use Rattle.mvt_tile.specs.Tiles.{IsTile}
+use Rattle.mvt_tile.specs.ValidTiles.{Valid, WasValid}
+use Rattle.mvt_tile.proofs.StreamLemmas.{fault_stays as it_stays, fault_past_limit as past_limit}
+use Rattle.mvt_tile.proofs.TileLemmas.{tile_there, tile_clean, tile_once, tile_least}
+
+pub fault_stays : (s more : List ℕ) (f : Fault) → fault_within LIMIT s ≡ Some f → is_open f ≡ false
+    → fault_within LIMIT (s ++ more) ≡ Some f
+fault_stays = it_stays LIMIT
+
+pub fault_past_limit : (s : List ℕ) → LIMIT < length s
+    → (f : Fault) × (fault_within LIMIT s ≡ Some f) × (is_open f ≡ false)
+fault_past_limit = past_limit LIMIT
+
+pub tile_or_fault_there : (b : List ℕ) → fault_within LIMIT b ≡ None → (tile : Tile) × IsTile LIMIT b tile
+tile_or_fault_there = tile_there LIMIT
+
+pub tile_or_fault_clean : (b : List ℕ) (tile : Tile) → IsTile LIMIT b tile → fault_within LIMIT b ≡ None
+tile_or_fault_clean = tile_clean LIMIT
+
+pub tile_or_fault_once : (b : List ℕ) (s t : Tile) → IsTile LIMIT b s → IsTile LIMIT b t → s ≡ t
+tile_or_fault_once = tile_once LIMIT
+
+pub fault_is_least_least : (b : List ℕ) (f : Fault) → length b ≤ LIMIT
+    → (fault_within LIMIT b ≡ Some f) ↔ IsLeast (tile_rules b) f
+fault_is_least_least = tile_least LIMIT
+
+pub old_tiles_stay : (t : Tile) → WasValid t → Valid t
+old_tiles_stay t was = record { items = all_weaker WasValidItem ValidItem old_items_stay t.items was.items; names = was.names }
