@@ -3,10 +3,10 @@ use Rattle.std.proofs.Common.{◌≡◌, ℕ, ◌+◌, ◌<◌, List, [], ◌∷
 use Rattle.std.proofs.lemmas.List.{take_more}
 use Rattle.mvt_base.specs.Related.{AreRelated}
 use Rattle.mvt_base.proofs.ListLemmas.{related-append, related_once}
-use Rattle.mvt_attrs.specs.declared.value.Attribute.{Attribute}
 use Rattle.mvt_attrs.specs.declared.value.Value.{Value}
 use Rattle.mvt_attrs.specs.declared.resolving.TagError.{TagError}
 use Rattle.mvt_attrs.specs.declared.resolving.TagError.TheVariants as tag_errors
+use Rattle.mvt_attrs.proofs.AttrsLaws.{attributes_or_fault_clean, attributes_or_fault_once}
 use Rattle.mvt_attrs.specs.Tags.{Resolved}
 use Rattle.mvt_attrs.specs.TagRules.{tag_fault, Tells}
 use Rattle.mvt_geometry.specs.declared.shape.Point.{Point}
@@ -78,45 +78,39 @@ inner_last (a ∷ (b ∷ front)) p ring = ap (option_map (λ more. a ∷ more)) 
 some_same : {X : Type 0} → (o : Option X) (x y : X) → o ≡ Some x → o ≡ Some y → x ≡ y
 some_same o x y h k = same_Some x y (sym h ∙ k)
 
-abbrev pub Once : Type 0
-Once = (keys : List (List ℕ)) (values : List Value) (tags : List ℕ) (attributes others : List Attribute) → Resolved keys values tags attributes → Resolved keys values tags others → attributes ≡ others
-
-abbrev pub Clean : Type 0
-Clean = (keys : List (List ℕ)) (values : List Value) (tags : List ℕ) (attributes : List Attribute) → Resolved keys values tags attributes → tag_fault keys values tags ≡ None
-
 -- tags with a fault are no feature's
-pub tags_fail : Clean → (t : Table) (keys : List (List ℕ)) (values : List Value) (row : FeatureRow) (tags : List ℕ) (e : TagError) → part_of t.tags row.tags ≡ Some tags → Tells e (tag_fault keys values tags) → FailsAs (IsNone (IsFeature t keys values row)) (of_tags e)
-tags_fail clean t keys values row tags tag_errors.Memory tagged told = tt
-tags_fail clean t keys values row tags (tag_errors.Fault index cause) tagged told = λ f h.
+pub tags_fail : (t : Table) (keys : List (List ℕ)) (values : List Value) (row : FeatureRow) (tags : List ℕ) (e : TagError) → part_of t.tags row.tags ≡ Some tags → Tells e (tag_fault keys values tags) → FailsAs (IsNone (IsFeature t keys values row)) (of_tags e)
+tags_fail t keys values row tags tag_errors.Memory tagged told = tt
+tags_fail t keys values row tags (tag_errors.Fault index cause) tagged told = λ f h.
     let same : h.tags ≡ tags = some_same _ _ _ h.tagged tagged in
-    let none : tag_fault keys values tags ≡ None = clean keys values tags f.attributes (subst (λ x. Resolved keys values x f.attributes) same h.attributes) in
+    let none : tag_fault keys values tags ≡ None = attributes_or_fault_clean keys values tags f.attributes (subst (λ x. Resolved keys values x f.attributes) same h.attributes) in
     none-some _ (sym none ∙ told)
 
-feature_once : Once → (t : Table) (keys : List (List ℕ)) (values : List Value) (row : FeatureRow) (f g : Feature) → IsFeature t keys values row f → IsFeature t keys values row g → f ≡ g
-feature_once once t keys values row f g h k =
+feature_once : (t : Table) (keys : List (List ℕ)) (values : List Value) (row : FeatureRow) (f g : Feature) → IsFeature t keys values row f → IsFeature t keys values row g → f ≡ g
+feature_once t keys values row f g h k =
     let tags : h.tags ≡ k.tags = some_same _ _ _ h.tagged k.tagged in
-    let attributes : f.attributes ≡ g.attributes = once keys values k.tags f.attributes g.attributes (subst (λ tags. Resolved keys values tags f.attributes) tags h.attributes) k.attributes in
+    let attributes : f.attributes ≡ g.attributes = attributes_or_fault_once keys values k.tags f.attributes g.attributes (subst (λ tags. Resolved keys values tags f.attributes) tags h.attributes) k.attributes in
     let id : f.id ≡ g.id = some_same _ _ _ h.id k.id in
     let geometry : f.geometry ≡ g.geometry = some_same _ _ _ h.geometry k.geometry in
     ap (λ x. record f { id = x }) id ∙ ap (λ x. record f { id = g.id; attributes = x }) attributes ∙ ap (λ x. record f { id = g.id; attributes = g.attributes; geometry = x }) geometry
 
-layer_once : Once → (t : Table) (row : LayerRow) (a b : ALayer) → IsLayer t row a → IsLayer t row b → a ≡ b
-layer_once once t row a b h k =
+layer_once : (t : Table) (row : LayerRow) (a b : ALayer) → IsLayer t row a → IsLayer t row b → a ≡ b
+layer_once t row a b h k =
     let keys : h.keys ≡ k.keys = some_same _ _ _ h.has_keys k.has_keys in
     let values : h.values ≡ k.values = some_same _ _ _ h.has_values k.has_values in
     let rows : h.rows ≡ k.rows = some_same _ _ _ h.has_rows k.has_rows in
     let name : a.name ≡ b.name = some_same _ _ _ h.name k.name in
     let extent : a.extent ≡ b.extent = h.extent ∙ sym k.extent in
     let shown : AreRelated (IsFeature t k.keys k.values) k.rows a.features = subst (λ r. AreRelated (IsFeature t k.keys k.values) r a.features) rows (subst (λ v. AreRelated (IsFeature t k.keys v) h.rows a.features) values (subst (λ l. AreRelated (IsFeature t l h.values) h.rows a.features) keys h.features)) in
-    let features : a.features ≡ b.features = related_once (IsFeature t k.keys k.values) (feature_once once t k.keys k.values) k.rows a.features b.features shown k.features in
+    let features : a.features ≡ b.features = related_once (IsFeature t k.keys k.values) (feature_once t k.keys k.values) k.rows a.features b.features shown k.features in
     ap (λ x. record a { name = x }) name ∙ ap (λ x. record a { name = b.name; extent = x }) extent ∙ ap (λ x. record a { name = b.name; extent = b.extent; features = x }) features
 
-item_once : Once → (t : Table) (row : LayerRow) (a b : Item) → IsItem t row a → IsItem t row b → a ≡ b
-item_once once t row (Layer a) (Layer b) h k = ap Layer (layer_once once t row a b h.1 k.1)
-item_once once t row (Layer a) (Foreign version content) h k = absurd (k.0 h.0)
-item_once once t row (Foreign version content) (Layer b) h k = absurd (h.0 k.0)
-item_once once t row (Foreign version content) (Foreign other others) h k =
+item_once : (t : Table) (row : LayerRow) (a b : Item) → IsItem t row a → IsItem t row b → a ≡ b
+item_once t row (Layer a) (Layer b) h k = ap Layer (layer_once t row a b h.1 k.1)
+item_once t row (Layer a) (Foreign version content) h k = absurd (k.0 h.0)
+item_once t row (Foreign version content) (Layer b) h k = absurd (h.0 k.0)
+item_once t row (Foreign version content) (Foreign other others) h k =
     ap (λ v. Foreign v content) (h.1 ∙ sym k.1) ∙ ap (Foreign other) (some_same _ _ _ h.2 k.2)
 
-pub tile_once : Once → (t : Table) (a b : Tile) → IsTileOf t a → IsTileOf t b → a ≡ b
-tile_once once t a b h k = ap (λ x. record a { items = x }) (related_once (IsItem t) (item_once once t) t.layers a.items b.items h k)
+pub tile_once : (t : Table) (a b : Tile) → IsTileOf t a → IsTileOf t b → a ≡ b
+tile_once t a b h k = ap (λ x. record a { items = x }) (related_once (IsItem t) (item_once t) t.layers a.items b.items h k)

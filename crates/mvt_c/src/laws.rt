@@ -10,10 +10,7 @@ ghost use Rattle.mvt_c.specs.Written.{IsNoTile, IsTooLargeOfRows, IsWritten};
 /// The rows of a valid tile are that tile.
 pub fn rows_are_the_tile()
     ensures { (tile : Tile) → Valid tile → IsTileOf (rows_of tile) tile }
-{
-    mvt_attrs::laws::places_name();
-    mvt_message::laws::pools_of_features();
-}
+{}
 
 /// What `mvt_read` gives, `mvt_write` takes, and answers what `mvt_rewrite` answers for the bytes that were read.
 pub fn read_rows_are_written()
@@ -22,7 +19,4 @@ pub fn read_rows_are_written()
     ensures too_large { (input : List ℕ) (table : Table) → IsRead input table → IsTooLargeOfRows table
         → IsTooLarge input }
     ensures taken { (input : List ℕ) (table : Table) → IsRead input table → IsNoTile table → ⊥ }
-{
-    rows_are_the_tile();
-    mvt_attrs::laws::attributes_or_fault();
-}
+{}

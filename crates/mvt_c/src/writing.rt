@@ -25,7 +25,6 @@ pub extern "C" fn mvt_write(alloc: Global, rows: &Rows, out: &mut Bytes) -> u32
     ensures one { (tile other : Tile) → IsTileOf (table_of rows.now) tile → IsTileOf (table_of rows.now) other
         → tile ≡ other }
 {
-    mvt_attrs::laws::attributes_or_fault();
     match written(alloc, rows) {
         Ok(bytes) => {
             *out = Bytes {
@@ -41,7 +40,6 @@ pub(crate) fn written(alloc: Global, rows: &Rows) -> Result<Vec<u8>, Refusal>
     ensures done { IfOk result (λ made. IsWritten (table_of rows.now) made.items) }
     ensures refused { IfErr result (NotWritten (table_of rows.now)) }
 {
-    mvt_attrs::laws::attributes_or_fault();
     let tile = tile_of(alloc, rows)?;
     if !validate(alloc, &tile)? {
         return Err(Refusal::NoTile);

@@ -85,13 +85,6 @@ impl Table {
         ensures too_many { IsErrOf result PoolError.Full
             → AreTooMany (keys_of features.now) (values_of features.now) }
     {
-        // What the proof needs to know of pools; it does nothing.
-        mvt_attrs::laws::pools_by_parts();
-        mvt_attrs::laws::pools_grow();
-        mvt_attrs::laws::pool_entries();
-        mvt_attrs::laws::pools_hold();
-        mvt_attrs::laws::places_name();
-        mvt_attrs::laws::tags_stay();
         for feature in features {
             self.add_feature(feature, keys, values)?;
         }

@@ -49,8 +49,6 @@ fn feature(
     ensures none { IfErr result (FailsAs (IsNone (IsFeature (table_of rows.now) keys.old values.now row.now))) }
     ensures same { keys.new ≡ keys.old }
 {
-    // What the proof needs to know of attributes; it does nothing.
-    mvt_attrs::laws::attributes_or_fault();
     let Some(id) = id(row) else {
         return Err(Refusal::NoTile);
     };

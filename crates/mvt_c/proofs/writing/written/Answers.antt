@@ -7,6 +7,6 @@ use Rattle.mvt_c.proofs.writing.written.Goals as goal
 
 pub returns-then-not-branch-clause-refused : goal.returns-then-not-branch-clause-refused
 returns-then-not-branch-clause-refused c = λ tile is valid.
-    let same = tile_once c.attributes_or_fault.ensures.once (table_of c.args.rows.now) tile c.in_ok-tile.tile is c.in_ok-tile.ensures.tile in
+    let same = tile_once (table_of c.args.rows.now) tile c.in_ok-tile.tile is c.in_ok-tile.ensures.tile in
     let there = subst Valid same valid in
     false≢true (sym c.if-not-branch.true ∙ c.in_ok-validate.ensures.1 there)
