@@ -47,7 +47,8 @@ pub record Grown (old new : Table) : Type 0 where
   pub texts : Longer ℕ old.texts new.texts
 
 pub grown_not : (t : Table) → Grown t t
-grown_not t = record { features = same t.features; keys = same t.keys; values = same t.values; tags = same t.tags; parts = same t.parts; points = same t.points; integers = same t.integers; texts = same t.texts }
+grown_not t =
+    record { features = same _; keys = same _; values = same _; tags = same _; parts = same _; points = same _; integers = same _; texts = same _ }
 
 pub grown_more : (a b c : Table) → Grown a b → Grown b c → Grown a c
 grown_more a b c h k = record {
@@ -61,42 +62,52 @@ grown_more a b c h k = record {
   texts = longer_still a.texts b.texts c.texts h.texts k.texts;
 }
 
-pub grown_fold : {X : Type 0} → (f : Table → X → Table) → ((t : Table) (x : X) → Grown t (f t x)) → (t : Table) (xs : List X) → Grown t (fold f t xs)
+pub grown_fold : {X : Type 0} → (f : Table → X → Table) → ((t : Table) (x : X) → Grown t (f t x)) → (t : Table) (xs : List X)
+    → Grown t (fold f t xs)
 grown_fold f grows t [] = grown_not t
 grown_fold f grows t (x ∷ xs) = grown_more t (f t x) (fold f (f t x) xs) (grows t x) (grown_fold f grows (f t x) xs)
 
 pub key_grows : (t : Table) (key : List ℕ) → Grown t (with_key t key)
-key_grows t key = record { features = same t.features; keys = pushed t.keys _; values = same t.values; tags = same t.tags; parts = same t.parts; points = same t.points; integers = same t.integers; texts = pushed t.texts key }
+key_grows t key =
+    record { features = same _; keys = pushed _ _; values = same _; tags = same _; parts = same _; points = same _; integers = same _; texts = pushed _ key }
 
 pub value_grows : (t : Table) (v : Value) → Grown t (with_value t v)
-value_grows t (Text text) = record { features = same t.features; keys = same t.keys; values = pushed t.values _; tags = same t.tags; parts = same t.parts; points = same t.points; integers = same t.integers; texts = pushed t.texts text }
-value_grows t v = record { features = same t.features; keys = same t.keys; values = pushed t.values _; tags = same t.tags; parts = same t.parts; points = same t.points; integers = same t.integers; texts = same t.texts }
+value_grows t (Text text) =
+    record { features = same _; keys = same _; values = pushed _ _; tags = same _; parts = same _; points = same _; integers = same _; texts = pushed _ text }
+value_grows t v =
+    record { features = same _; keys = same _; values = pushed _ _; tags = same _; parts = same _; points = same _; integers = same _; texts = same _ }
 
 pub part_grows : (exterior : ℕ) (t : Table) (points : List Point) → Grown t (with_part exterior t points)
-part_grows exterior t points = record { features = same t.features; keys = same t.keys; values = same t.values; tags = same t.tags; parts = pushed t.parts _; points = pushed t.points _; integers = same t.integers; texts = same t.texts }
+part_grows exterior t points =
+    record { features = same _; keys = same _; values = same _; tags = same _; parts = pushed _ _; points = pushed _ _; integers = same _; texts = same _ }
 
 pub polygon_grows : (t : Table) (p : Polygon) → Grown t (with_polygon t p)
 polygon_grows t p =
-    grown_more t (with_part 1 t p.outer) (with_polygon t p) (part_grows 1 t p.outer) (grown_fold (with_part 0) (part_grows 0) (with_part 1 t p.outer) p.rest)
+    grown_more t (with_part 1 t p.outer) (with_polygon t p) (part_grows 1 t p.outer)
+    (grown_fold (with_part 0) (part_grows 0) (with_part 1 t p.outer) p.rest)
 
 pub geometry_grows : (t : Table) (g : Geometry) → Grown t (with_geometry t g)
-geometry_grows t (Unknown integers) = record { features = same t.features; keys = same t.keys; values = same t.values; tags = same t.tags; parts = same t.parts; points = same t.points; integers = pushed t.integers integers; texts = same t.texts }
+geometry_grows t (Unknown integers) =
+    record { features = same _; keys = same _; values = same _; tags = same _; parts = same _; points = same _; integers = pushed _ integers; texts = same _ }
 geometry_grows t (Points points) = part_grows 0 t points
 geometry_grows t (Lines lines) = grown_fold (with_part 0) (part_grows 0) t lines
 geometry_grows t (Polygons polygons) = grown_fold with_polygon polygon_grows t polygons
 
 -- what is there stays as it is
 pub text_stays : (old new : List ℕ) → Longer ℕ old new → (span : Span) → Stays (text_of old span) (text_of new span)
-text_stays old new h span = stays_then (part_of old span) (part_of new span) utf8_of utf8_of (part_stays old new h.more span h.is) (λ bytes s k. k)
+text_stays old new h span =
+    stays_then (part_of old span) (part_of new span) utf8_of utf8_of (part_stays old new h.more span h.is) (λ bytes s k. k)
 
 pub value_stays : (old new : List ℕ) → Longer ℕ old new → (row : ValueRow) → Stays (value_of old row) (value_of new row)
 value_stays old new h row =
     stays_if (row.kind == 1) _ _ _ _ (stays_map (text_of old row.text) (text_of new row.text) Text (text_stays old new h row.text)) (λ v k. k)
 
 pub line_stays : (old new : List PointRow) → Longer PointRow old new → (row : PartRow) → Stays (line_of old row) (line_of new row)
-line_stays old new h row = stays_map (part_of old row.points) (part_of new row.points) (λ rows. map point_of rows) (part_stays old new h.more row.points h.is)
+line_stays old new h row =
+    stays_map (part_of old row.points) (part_of new row.points) (λ rows. map point_of rows) (part_stays old new h.more row.points h.is)
 
-pub ring_stays : (old new : List PointRow) → Longer PointRow old new → (ps : List Polygon) (row : PartRow) → Stays (with_ring_row old ps row) (with_ring_row new ps row)
+pub ring_stays : (old new : List PointRow) → Longer PointRow old new → (ps : List Polygon) (row : PartRow)
+    → Stays (with_ring_row old ps row) (with_ring_row new ps row)
 ring_stays old new h ps row = stays_then (line_of old row) (line_of new row) _ _ (line_stays old new h row) (λ ring q k. k)
 
 points_stay : (old new : List PointRow) → Longer PointRow old new → (rows : List PartRow) → Stays (points_of old rows) (points_of new rows)
@@ -104,11 +115,14 @@ points_stay old new h [] = λ g k. k
 points_stay old new h (row ∷ []) = stays_map (line_of old row) (line_of new row) Points (line_stays old new h row)
 points_stay old new h (row ∷ (other ∷ rows)) = λ g k. k
 
-drawn_stays : (old new : List PointRow) → Longer PointRow old new → (kind : ℕ) (rows : List PartRow) → Stays (drawn_of old kind rows) (drawn_of new kind rows)
+drawn_stays : (old new : List PointRow) → Longer PointRow old new → (kind : ℕ) (rows : List PartRow)
+    → Stays (drawn_of old kind rows) (drawn_of new kind rows)
 drawn_stays old new h kind rows =
     stays_if (kind == 1) _ _ _ _ (points_stay old new h rows)
-    (stays_if (kind == 2) _ _ _ _ (stays_map (each (line_of old) rows) (each (line_of new) rows) Lines (each_stays (line_of old) (line_of new) (line_stays old new h) rows))
-    (stays_if (kind == 3) _ _ _ _ (stays_map (steps (with_ring_row old) [] rows) (steps (with_ring_row new) [] rows) Polygons (steps_stay (with_ring_row old) (with_ring_row new) (ring_stays old new h) [] rows)) (λ g k. k)))
+    (stays_if (kind == 2) _ _ _ _ (stays_map (each (line_of old) rows) (each (line_of new) rows) Lines
+    (each_stays (line_of old) (line_of new) (line_stays old new h) rows))
+    (stays_if (kind == 3) _ _ _ _ (stays_map (steps (with_ring_row old) [] rows) (steps (with_ring_row new) [] rows) Polygons
+    (steps_stay (with_ring_row old) (with_ring_row new) (ring_stays old new h) [] rows)) (λ g k. k)))
 
 geometry_stays : (t u : Table) → Grown t u → (row : FeatureRow) → Stays (geometry_of t row) (geometry_of u row)
 geometry_stays t u h row =
@@ -116,7 +130,8 @@ geometry_stays t u h row =
     (stays_map (part_of t.integers row.integers) (part_of u.integers row.integers) Unknown (part_stays t.integers u.integers h.integers.more row.integers h.integers.is))
     (stays_then (part_of t.parts row.parts) (part_of u.parts row.parts) (drawn_of t.points row.kind) (drawn_of u.points row.kind) (part_stays t.parts u.parts h.parts.more row.parts h.parts.is) (drawn_stays t.points u.points h.points row.kind))
 
-pub feature_stays : (keys : List (List ℕ)) (values : List Value) (t u : Table) → Grown t u → (row : FeatureRow) (f : Feature) → IsFeature t keys values row f → IsFeature u keys values row f
+pub feature_stays : (keys : List (List ℕ)) (values : List Value) (t u : Table) → Grown t u → (row : FeatureRow) (f : Feature)
+    → IsFeature t keys values row f → IsFeature u keys values row f
 feature_stays keys values t u h row f is = record {
   id = is.id;
   tags = is.tags;
@@ -130,12 +145,17 @@ layer_stays t u h row layer is = record {
   name = text_stays t.texts u.texts h.texts row.name layer.name is.name;
   extent = is.extent;
   keys = is.keys;
-  has_keys = stays_then (part_of t.keys row.keys) (part_of u.keys row.keys) (each (text_of t.texts)) (each (text_of u.texts)) (part_stays t.keys u.keys h.keys.more row.keys h.keys.is) (each_stays (text_of t.texts) (text_of u.texts) (text_stays t.texts u.texts h.texts)) is.keys is.has_keys;
+  has_keys = stays_then (part_of t.keys row.keys) (part_of u.keys row.keys) (each (text_of t.texts)) (each (text_of u.texts))
+      (part_stays t.keys u.keys h.keys.more row.keys h.keys.is)
+      (each_stays (text_of t.texts) (text_of u.texts) (text_stays t.texts u.texts h.texts)) is.keys is.has_keys;
   values = is.values;
-  has_values = stays_then (part_of t.values row.values) (part_of u.values row.values) (each (value_of t.texts)) (each (value_of u.texts)) (part_stays t.values u.values h.values.more row.values h.values.is) (each_stays (value_of t.texts) (value_of u.texts) (value_stays t.texts u.texts h.texts)) is.values is.has_values;
+  has_values = stays_then (part_of t.values row.values) (part_of u.values row.values) (each (value_of t.texts)) (each (value_of u.texts))
+      (part_stays t.values u.values h.values.more row.values h.values.is)
+      (each_stays (value_of t.texts) (value_of u.texts) (value_stays t.texts u.texts h.texts)) is.values is.has_values;
   rows = is.rows;
   has_rows = part_stays t.features u.features h.features.more row.features h.features.is is.rows is.has_rows;
-  features = related_weaker (IsFeature t is.keys is.values) (IsFeature u is.keys is.values) (feature_stays is.keys is.values t u h) is.rows layer.features is.features;
+  features = related_weaker (IsFeature t is.keys is.values) (IsFeature u is.keys is.values)
+      (feature_stays is.keys is.values t u h) is.rows layer.features is.features;
 }
 
 pub item_stays : (t u : Table) → Grown t u → (row : LayerRow) (item : Item) → IsItem t row item → IsItem u row item

@@ -15,7 +15,8 @@ use Rattle.mvt_c.specs.TileRows.{each, part_of, steps}
 abbrev pub Stays : {X : Type 0} → Option X → Option X → Type 0
 Stays {X} o q = (x : X) → o ≡ Some x → q ≡ Some x
 
-pub stays_then : {X Y : Type 0} → (o q : Option X) (f g : X → Option Y) → Stays o q → ((x : X) → Stays (f x) (g x)) → Stays (option_and_then f o) (option_and_then g q)
+pub stays_then : {X Y : Type 0} → (o q : Option X) (f g : X → Option Y) → Stays o q → ((x : X) → Stays (f x) (g x))
+    → Stays (option_and_then f o) (option_and_then g q)
 stays_then None q f g same more = λ y h. absurd (none-some y h)
 stays_then (Some x) q f g same more = λ y h. ap (option_and_then g) (same x refl) ∙ more x y h
 
@@ -33,33 +34,39 @@ each_stays f g more (x ∷ xs) =
     stays_then (f x) (g x) (λ y. option_map (λ ys. y ∷ ys) (each f xs)) (λ y. option_map (λ ys. y ∷ ys) (each g xs)) (more x)
     (λ y. stays_map (each f xs) (each g xs) (λ ys. y ∷ ys) (each_stays f g more xs))
 
-pub steps_stay : {X Y : Type 0} → (f g : Y → X → Option Y) → ((y : Y) (x : X) → Stays (f y x) (g y x)) → (y : Y) (xs : List X) → Stays (steps f y xs) (steps g y xs)
+pub steps_stay : {X Y : Type 0} → (f g : Y → X → Option Y) → ((y : Y) (x : X) → Stays (f y x) (g y x)) → (y : Y) (xs : List X)
+    → Stays (steps f y xs) (steps g y xs)
 steps_stay f g more y [] = λ z h. h
 steps_stay f g more y (x ∷ xs) =
     stays_then (f y x) (g y x) (λ z. steps f z xs) (λ z. steps g z xs) (more y x) (λ z. steps_stay f g more z xs)
 
-pub related_weaker : {X Y : Type 0} → (R S : X → Y → Type 0) → ((x : X) (y : Y) → R x y → S x y) → (xs : List X) (ys : List Y) → AreRelated R xs ys → AreRelated S xs ys
+pub related_weaker : {X Y : Type 0} → (R S : X → Y → Type 0) → ((x : X) (y : Y) → R x y → S x y) → (xs : List X) (ys : List Y)
+    → AreRelated R xs ys → AreRelated S xs ys
 related_weaker R S f [] [] h = tt
 related_weaker R S f [] (y ∷ ys) h = absurd h
 related_weaker R S f (x ∷ xs) [] h = absurd h
 related_weaker R S f (x ∷ xs) (y ∷ ys) h = (f x y h.0, related_weaker R S f xs ys h.1)
 
-pub each_related : {X Y : Type 0} → (f : X → Option Y) (xs : List X) (ys : List Y) → AreRelated (λ x y. f x ≡ Some y) xs ys → each f xs ≡ Some ys
+pub each_related : {X Y : Type 0} → (f : X → Option Y) (xs : List X) (ys : List Y) → AreRelated (λ x y. f x ≡ Some y) xs ys
+    → each f xs ≡ Some ys
 each_related f [] [] h = refl
 each_related f [] (y ∷ ys) h = absurd h
 each_related f (x ∷ xs) [] h = absurd h
 each_related f (x ∷ xs) (y ∷ ys) h =
     ap (option_and_then (λ z. option_map (λ zs. z ∷ zs) (each f xs))) h.0 ∙ ap (option_map (λ zs. y ∷ zs)) (each_related f xs ys h.1)
 
-pub steps_joined : {X Y : Type 0} → (f : Y → X → Option Y) (y : Y) (xs zs : List X) (now : Y) (r : Option Y) → steps f y xs ≡ Some now → steps f now zs ≡ r → steps f y (xs ++ zs) ≡ r
+pub steps_joined : {X Y : Type 0} → (f : Y → X → Option Y) (y : Y) (xs zs : List X) (now : Y) (r : Option Y) → steps f y xs ≡ Some now
+    → steps f now zs ≡ r → steps f y (xs ++ zs) ≡ r
 steps_joined f y [] zs now r so next = ap (λ s. steps f s zs) (same_Some y now so) ∙ next
 steps_joined f y (x ∷ xs) zs now r so next =
     and_then_to (f y x) (λ s. steps f s xs) (λ s. steps f s (xs ++ zs)) now r (λ s h. steps_joined f s xs zs now r h next) so
 
 -- where a part stands
-part_is : {X : Type 0} → (held front p back : List X) → held ≡ front ++ (p ++ back) → (start len : ℕ) → start ≡ length front → len ≡ length p → part_of held (record { start = start; len = len }) ≡ Some p
+part_is : {X : Type 0} → (held front p back : List X) → held ≡ front ++ (p ++ back) → (start len : ℕ) → start ≡ length front
+    → len ≡ length p → part_of held (record { start = start; len = len }) ≡ Some p
 part_is held front p back is start len from long =
-    let size : length held ≡ length front + (length p + length back) = ap length is ∙ length-append front (p ++ back) ∙ ap (λ n. length front + n) (length-append p back) in
+    let size : length held ≡ length front + (length p + length back) = ap length is ∙ length-append front (p ++ back)
+    ∙ ap (λ n. length front + n) (length-append p back) in
     let fits : start + len ≤ length held = omega arith in
     let n : start + len - start ≡ length p = omega arith in
     let behind_front : drop start held ≡ p ++ back = ap (drop start) is ∙ drop_at front (p ++ back) start (sym from) in
@@ -86,6 +93,8 @@ part_stays old new more span is p h =
     let size : length new ≡ length old + length more = ap length is ∙ length-append old more in
     let room : n ≤ length (drop span.start old) = omega (arith, length-drop span.start old) in
     let same : take n (drop span.start new) ≡ take n (drop span.start old) =
-    ap (λ l. take n (drop span.start l)) is ∙ ap (take n) (drop-append-le span.start old more (omega arith)) ∙ take-append-le n (drop span.start old) more room in
-    ap (λ c. if c then Some (slice_range new span.start (span.start + span.len)) else None) (le-leb (span.start + span.len) (length new) (omega arith))
+    ap (λ l. take n (drop span.start l)) is ∙ ap (take n) (drop-append-le span.start old more (omega arith))
+    ∙ take-append-le n (drop span.start old) more room in
+    ap (λ c. if c then Some (slice_range new span.start (span.start + span.len)) else None)
+    (le-leb (span.start + span.len) (length new) (omega arith))
     ∙ ap Some (same ∙ there.1)
