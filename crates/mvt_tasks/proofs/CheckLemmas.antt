@@ -77,13 +77,17 @@ counts_all Accepted = refl
 counts_all Refused = refl
 counts_all Unread = refl
 
-count_cons : (test : Verdict → Bool) (f : Checked) (files : List Checked) → count_of test (f ∷ files) ≡ cond (test (verdict_of f.reply)) 1 0 + count_of test files
+count_cons : (test : Verdict → Bool) (f : Checked) (files : List Checked)
+    → count_of test (f ∷ files) ≡ cond (test (verdict_of f.reply)) 1 0 + count_of test files
 count_cons test f files =
-    sum_by-append (λ (file : Checked). cond (test (verdict_of file.reply)) 1 0) (f ∷ []) files ∙ ap (λ n. n + count_of test files) (zero-add (cond (test (verdict_of f.reply)) 1 0))
+    sum_by-append (λ (file : Checked). cond (test (verdict_of file.reply)) 1 0) (f ∷ []) files
+    ∙ ap (λ n. n + count_of test files) (zero-add (cond (test (verdict_of f.reply)) 1 0))
 
-count_more : (test : Verdict → Bool) (files : List Checked) (f : Checked) → count_of test (files ++ f ∷ []) ≡ count_of test files + cond (test (verdict_of f.reply)) 1 0
+count_more : (test : Verdict → Bool) (files : List Checked) (f : Checked)
+    → count_of test (files ++ f ∷ []) ≡ count_of test files + cond (test (verdict_of f.reply)) 1 0
 count_more test files f =
-    sum_by-append (λ (file : Checked). cond (test (verdict_of file.reply)) 1 0) files (f ∷ []) ∙ ap (λ n. count_of test files + n) (zero-add (cond (test (verdict_of f.reply)) 1 0))
+    sum_by-append (λ (file : Checked). cond (test (verdict_of file.reply)) 1 0) files (f ∷ [])
+    ∙ ap (λ n. count_of test files + n) (zero-add (cond (test (verdict_of f.reply)) 1 0))
 
 one_more : (a r u x y z n : ℕ) → a + r + u ≡ 1 → x + y + z ≡ n → (a + x) + (r + y) + (u + z) ≡ suc n
 one_more a r u x y z n one rest = omega arith
@@ -91,10 +95,14 @@ one_more a r u x y z n one rest = omega arith
 pub tally_size : (files : List Checked) → (tally_of files).accepted + (tally_of files).refused + (tally_of files).unread ≡ length files
 tally_size [] = refl
 tally_size (f ∷ fs) =
-    let of_three : (a r u : ℕ) → a ≡ cond (is_accepted (verdict_of f.reply)) 1 0 + (tally_of fs).accepted → r ≡ cond (is_refused (verdict_of f.reply)) 1 0 + (tally_of fs).refused → u ≡ cond (is_unread (verdict_of f.reply)) 1 0 + (tally_of fs).unread → a + r + u ≡ suc (length fs) =
+    let of_three : (a r u : ℕ) → a ≡ cond (is_accepted (verdict_of f.reply)) 1 0 + (tally_of fs).accepted
+    → r ≡ cond (is_refused (verdict_of f.reply)) 1 0 + (tally_of fs).refused
+    → u ≡ cond (is_unread (verdict_of f.reply)) 1 0 + (tally_of fs).unread → a + r + u ≡ suc (length fs) =
     λ a r u is_a is_r is_u. ap₂ (λ (x y : ℕ). x + y) (ap₂ (λ (x y : ℕ). x + y) is_a is_r) is_u
-    ∙ one_more _ _ _ (tally_of fs).accepted (tally_of fs).refused (tally_of fs).unread (length fs) (counts_all (verdict_of f.reply)) (tally_size fs) in
-    of_three (count_of is_accepted (f ∷ fs)) (count_of is_refused (f ∷ fs)) (count_of is_unread (f ∷ fs)) (count_cons is_accepted f fs) (count_cons is_refused f fs) (count_cons is_unread f fs)
+    ∙ one_more _ _ _ (tally_of fs).accepted (tally_of fs).refused (tally_of fs).unread (length fs) (counts_all (verdict_of f.reply))
+    (tally_size fs) in
+    of_three (count_of is_accepted (f ∷ fs)) (count_of is_refused (f ∷ fs)) (count_of is_unread (f ∷ fs)) (count_cons is_accepted f fs)
+    (count_cons is_refused f fs) (count_cons is_unread f fs)
 
 -- ---- files
 
@@ -119,9 +127,11 @@ counted_more : (files : List Checked) (file : Checked) (old new : Tally) (verdic
     → old ≡ tally_of files → verdict ≡ verdict_of file.reply → IsAdded old new verdict → new ≡ tally_of (files ++ file ∷ [])
 counted_more files file old new verdict counted judged adds =
     let a : new.accepted ≡ count_of is_accepted (files ++ file ∷ []) =
-    adds.accepted ∙ ap₂ (λ (t : Tally) (v : Verdict). t.accepted + cond (is_accepted v) 1 0) counted judged ∙ sym (count_more is_accepted files file) in
+    adds.accepted ∙ ap₂ (λ (t : Tally) (v : Verdict). t.accepted + cond (is_accepted v) 1 0) counted judged
+    ∙ sym (count_more is_accepted files file) in
     let r : new.refused ≡ count_of is_refused (files ++ file ∷ []) =
-    adds.refused ∙ ap₂ (λ (t : Tally) (v : Verdict). t.refused + cond (is_refused v) 1 0) counted judged ∙ sym (count_more is_refused files file) in
+    adds.refused ∙ ap₂ (λ (t : Tally) (v : Verdict). t.refused + cond (is_refused v) 1 0) counted judged
+    ∙ sym (count_more is_refused files file) in
     let u : new.unread ≡ count_of is_unread (files ++ file ∷ []) =
     adds.unread ∙ ap₂ (λ (t : Tally) (v : Verdict). t.unread + cond (is_unread v) 1 0) counted judged ∙ sym (count_more is_unread files file) in
     ap₂ (λ (x : ℕ) (p : ℕ × ℕ). record { accepted = x; refused = p.0; unread = p.1 }) a (ap₂ (λ (y z : ℕ). (y, z)) r u)
@@ -137,11 +147,13 @@ said_more limit holds names name a b c old new verdict said one adds =
     let visits = λ (fs : List Checked). map (λ f. visit_of f.name f.reply) fs in
     let lines : (flat_map told_of files ++ []) ++ told_of file ≡ flat_map told_of (files ++ file ∷ []) ++ [] =
     ap (λ t. t ++ told_of file) (append-nil (flat_map told_of files))
-    ∙ sym (append-nil (flat_map told_of (files ++ file ∷ [])) ∙ flat_map-append told_of files (file ∷ []) ∙ ap (λ t. flat_map told_of files ++ t) (append-nil (told_of file))) in
+    ∙ sym (append-nil (flat_map told_of (files ++ file ∷ [])) ∙ flat_map-append told_of files (file ∷ [])
+    ∙ ap (λ t. flat_map told_of files ++ t) (append-nil (told_of file))) in
     record {
       files = files ++ file ∷ [];
       checked =
-          related-append (λ n (f : Checked). (f.name ≡ n) × IsSaid limit (holds n) f.reply) names files (name ∷ []) (file ∷ []) said.checked ((refl, one.checked), tt);
+          related-append (λ n (f : Checked). (f.name ≡ n) × IsSaid limit (holds n) f.reply) names files (name ∷ []) (file ∷ []) said.checked
+          ((refl, one.checked), tt);
       visited =
           subst (AddsAll a.visits c.visits) (sym (map-append (λ (f : Checked). visit_of f.name f.reply) files (file ∷ [])))
           (adds-trans a.visits b.visits c.visits (visits files) (visits (file ∷ [])) said.visited one.visited);
@@ -199,7 +211,8 @@ told_before (Err x) limit holds names a b failed errors tally said some =
 -- ---- a run that was over early
 
 -- what is said of a first part of the files, and then until the run was over
-takes_on : (x y z : Option (List ℕ)) (s t : List ℕ) (failure : Failure) → Appends x y s → TakesUntil y z t failure → TakesUntil x z (s ++ t) failure
+takes_on : (x y z : Option (List ℕ)) (s t : List ℕ) (failure : Failure) → Appends x y s → TakesUntil y z t failure
+    → TakesUntil x z (s ++ t) failure
 takes_on x y z s t Read first then = absurd then
 takes_on x y z s t Write first (n, small, then) = (
   length s + n,
@@ -226,7 +239,8 @@ cut_first limit holds names w failure is = record {
 }
 
 -- an end within a file, of which there is something to say
-pub cut_within : (limit : ℕ) (holds : List ℕ → Option (List ℕ)) (name : List ℕ) (w0 w1 : Option (List ℕ)) (failure : Failure) (reply : Option Reply)
+pub cut_within : (limit : ℕ) (holds : List ℕ → Option (List ℕ)) (name : List ℕ) (w0 w1 : Option (List ℕ)) (failure : Failure)
+    (reply : Option Reply)
     → IsSaid limit (holds name) reply → TakesUntil w0 w1 (written_of (record { name = name; reply = reply })) failure
     → IsCutShort limit holds (name ∷ []) w0 w1 failure
 cut_within limit holds name w0 w1 failure reply said takes =
@@ -256,7 +270,8 @@ cut_last limit holds names a b line tally w failure said takes = record {
 }
 
 -- an end at a file behind others
-pub cut_later : (limit : ℕ) (holds held : List ℕ → Option (List ℕ)) (all names : List (List ℕ)) (name shown : List ℕ) (behind : List (List ℕ))
+pub cut_later : (limit : ℕ) (holds held : List ℕ → Option (List ℕ)) (all names : List (List ℕ)) (name shown : List ℕ)
+    (behind : List (List ℕ))
     (a b : Moment) (line : List ℕ) (tally : Tally) (w : Option (List ℕ)) (failure : Failure)
     → IsSaidOf limit holds names a b line tally → IsCutShort limit held (shown ∷ []) b.output w failure → held ≡ holds → shown ≡ name
     → all ≡ names ++ name ∷ behind → IsCutShort limit holds all a.output w failure
@@ -277,33 +292,42 @@ cut_later limit holds held all names name shown behind a b line tally w failure 
           (takes_on a.output b.output w (flat_map written_of said.files) (flat_map written_of cut.files) failure said.written cut.taken);
     }
 
-pub cut_first_of : {T : Type 0} → (r : Result T Failure) (limit : ℕ) (holds : List ℕ → Option (List ℕ)) (names : List (List ℕ)) (w : Option (List ℕ))
+pub cut_first_of : {T : Type 0}
+    → (r : Result T Failure) (limit : ℕ) (holds : List ℕ → Option (List ℕ)) (names : List (List ℕ)) (w : Option (List ℕ))
     → IfErr r (λ failure. failure ≡ Memory) → IfErr r (IsCutShort limit holds names w w)
 cut_first_of (Ok x) limit holds names w is = tt
 cut_first_of (Err failure) limit holds names w is = cut_first limit holds names w failure is
 
-pub cut_within_of : {T : Type 0} → (r : Result T Failure) (limit : ℕ) (holds : List ℕ → Option (List ℕ)) (name : List ℕ) (w0 w1 : Option (List ℕ))
+pub cut_within_of : {T : Type 0}
+    → (r : Result T Failure) (limit : ℕ) (holds : List ℕ → Option (List ℕ)) (name : List ℕ) (w0 w1 : Option (List ℕ))
     (reply : Option Reply)
     → IsSaid limit (holds name) reply → IfErr r (TakesUntil w0 w1 (written_of (record { name = name; reply = reply })))
     → IfErr r (IsCutShort limit holds (name ∷ []) w0 w1)
 cut_within_of (Ok x) limit holds name w0 w1 reply said takes = tt
 cut_within_of (Err failure) limit holds name w0 w1 reply said takes = cut_within limit holds name w0 w1 failure reply said takes
 
-pub cut_unwritten : {T : Type 0} → (r : Result T Failure) (limit : ℕ) (holds : List ℕ → Option (List ℕ)) (names : List (List ℕ)) (a b : Moment)
+pub cut_unwritten : {T : Type 0}
+    → (r : Result T Failure) (limit : ℕ) (holds : List ℕ → Option (List ℕ)) (names : List (List ℕ)) (a b : Moment)
     (line : List ℕ) (tally : Tally)
-    → IsSaidOf limit holds names a b line tally → IfErr r (λ failure. failure ≡ Memory) → IfErr r (IsCutShort limit holds names a.output b.output)
+    → IsSaidOf limit holds names a b line tally → IfErr r (λ failure. failure ≡ Memory)
+    → IfErr r (IsCutShort limit holds names a.output b.output)
 cut_unwritten (Ok x) limit holds names a b line tally said is = tt
 cut_unwritten (Err failure) limit holds names a b line tally said is =
-    cut_last limit holds names a b line tally b.output failure said (subst (TakesUntil b.output b.output []) (sym is) (appends_nothing b.output))
+    cut_last limit holds names a b line tally b.output failure said
+    (subst (TakesUntil b.output b.output []) (sym is) (appends_nothing b.output))
 
-pub cut_unflushed : {T : Type 0} → (r : Result T Failure) (limit : ℕ) (holds : List ℕ → Option (List ℕ)) (names : List (List ℕ)) (a b : Moment)
+pub cut_unflushed : {T : Type 0}
+    → (r : Result T Failure) (limit : ℕ) (holds : List ℕ → Option (List ℕ)) (names : List (List ℕ)) (a b : Moment)
     (line : List ℕ) (tally : Tally) (w : Option (List ℕ))
-    → IsSaidOf limit holds names a b line tally → Keeps b.output w → IfErr r (λ failure. failure ≡ Write) → IfErr r (IsCutShort limit holds names a.output w)
+    → IsSaidOf limit holds names a b line tally → Keeps b.output w → IfErr r (λ failure. failure ≡ Write)
+    → IfErr r (IsCutShort limit holds names a.output w)
 cut_unflushed (Ok x) limit holds names a b line tally w said keeps is = tt
 cut_unflushed (Err failure) limit holds names a b line tally w said keeps is =
-    cut_last limit holds names a b line tally w failure said (subst (TakesUntil b.output w []) (sym is) (0, (omega arith), keeps_nothing b.output w keeps))
+    cut_last limit holds names a b line tally w failure said
+    (subst (TakesUntil b.output w []) (sym is) (0, (omega arith), keeps_nothing b.output w keeps))
 
-pub cut_later_of : {T : Type 0} → (r : Result T Failure) (limit : ℕ) (holds held : List ℕ → Option (List ℕ)) (all names : List (List ℕ)) (name shown : List ℕ)
+pub cut_later_of : {T : Type 0}
+    → (r : Result T Failure) (limit : ℕ) (holds held : List ℕ → Option (List ℕ)) (all names : List (List ℕ)) (name shown : List ℕ)
     (behind : List (List ℕ)) (a b : Moment) (line : List ℕ) (tally : Tally) (w : Option (List ℕ))
     → IsSaidOf limit holds names a b line tally → IfErr r (IsCutShort limit held (shown ∷ []) b.output w) → held ≡ holds → shown ≡ name
     → all ≡ names ++ name ∷ behind → IfErr r (IsCutShort limit holds all a.output w)

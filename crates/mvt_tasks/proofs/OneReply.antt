@@ -29,7 +29,8 @@ has_reply Rewrite input = told (bytes_reply LIMIT) input
 has_reply (Extract names) input = told (layers_reply LIMIT names) input
 
 told_once : (of_tile : Tile → Reply) (input : List ℕ) (a b : Reply) → IsTold LIMIT of_tile input a → IsTold LIMIT of_tile input b → a ≡ b
-told_once of_tile input a b (inl (s, is_s, a_is)) (inl (t, is_t, b_is)) = a_is ∙ ap of_tile (tile_or_fault_once input s t is_s is_t) ∙ sym b_is
+told_once of_tile input a b (inl (s, is_s, a_is)) (inl (t, is_t, b_is)) =
+    a_is ∙ ap of_tile (tile_or_fault_once input s t is_s is_t) ∙ sym b_is
 told_once of_tile input a b (inl (s, is_s, a_is)) (inr (f, is_f, b_is)) =
     let e : None ≡ Some f = sym (tile_or_fault_clean input s is_s) ∙ is_f in cc
 told_once of_tile input a b (inr (f, is_f, a_is)) (inl (t, is_t, b_is)) =
