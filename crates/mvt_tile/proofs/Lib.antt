@@ -1,21 +1,22 @@
-pub mod NameLemmas
-pub mod LayerLemmas
-pub mod ItemLemmas
-pub mod TileLemmas
-pub mod StreamLemmas
-pub mod CanonicalLemmas
-pub mod KeptLemmas
-pub mod ShiftLemmas
-pub mod JudgeLemmas
-pub mod NamedLemmas
-pub mod DecoderLemmas
-pub mod WholeLemmas
-pub mod TakingLemmas
-pub mod WritingLemmas
-pub mod BoundLemmas
-pub mod ComparingLemmas
-pub mod RoundTripLemmas
-pub mod ExtractionLemmas
-pub mod PickLemmas
-pub mod NoteLemmas
-pub mod SurveyLemmas
+pub mod TileLaws
+mod NameLemmas
+mod LayerLemmas
+mod ItemLemmas
+mod TileLemmas
+mod StreamLemmas
+mod CanonicalLemmas
+mod KeptLemmas
+mod ShiftLemmas
+mod JudgeLemmas
+mod NamedLemmas
+mod DecoderLemmas
+mod WholeLemmas
+mod TakingLemmas
+mod WritingLemmas
+mod BoundLemmas
+mod ComparingLemmas
+mod RoundTripLemmas
+mod ExtractionLemmas
+mod PickLemmas
+mod NoteLemmas
+mod SurveyLemmas

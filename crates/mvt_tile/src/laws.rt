@@ -9,7 +9,6 @@ ghost use Rattle.mvt_tile.specs.TileRules.{tile_rules, fault_within};
 ghost use Rattle.mvt_tile.specs.Tiles.{IsTile};
 ghost use Rattle.mvt_tile.specs.ValidTiles.{Valid, WasValid};
 
-use crate::below;
 use mvt_base::LIMIT;
 
 /// Two valid tiles within the limit with the same canonical bytes are equal, and these bytes are
@@ -17,19 +16,13 @@ use mvt_base::LIMIT;
 pub fn one_tile()
     ensures one { (s t : Tile) → Valid s → Valid t → length (canonical s) ≤ LIMIT → canonical s ≡ canonical t → s ≡ t }
     ensures reads { (t : Tile) → Valid t → length (canonical t) ≤ LIMIT → IsTile LIMIT (canonical t) t }
-{
-    below::item_laws();
-    below::split_laws();
-    below::writing_laws();
-}
+{}
 
 /// A fault stays, whatever bytes follow, but for a field that isn't finished.
 pub fn fault_stays()
     ensures { (s more : List ℕ) (f : Fault) → fault_within LIMIT s ≡ Some f → is_open f ≡ false
         → fault_within LIMIT (s ++ more) ≡ Some f }
-{
-    below::split_laws();
-}
+{}
 
 /// More bytes than the limit have a fault that stays.
 pub fn fault_past_limit()
@@ -42,24 +35,17 @@ pub fn tile_or_fault()
     ensures there { (b : List ℕ) → fault_within LIMIT b ≡ None → (tile : Tile) × IsTile LIMIT b tile }
     ensures clean { (b : List ℕ) (tile : Tile) → IsTile LIMIT b tile → fault_within LIMIT b ≡ None }
     ensures once { (b : List ℕ) (s t : Tile) → IsTile LIMIT b s → IsTile LIMIT b t → s ≡ t }
-{
-    below::item_laws();
-    below::split_laws();
-}
+{}
 
 /// The fault of bytes within the limit is that of the broken rule of least rank.
 pub fn fault_is_least()
     ensures ordered { (b : List ℕ) → AreOrdered (tile_rules b) }
     ensures least { (b : List ℕ) (f : Fault) → length b ≤ LIMIT
         → (fault_within LIMIT b ≡ Some f) ↔ IsLeast (tile_rules b) f }
-{
-    below::item_laws();
-}
+{}
 
 /// A tile that was valid under the first, narrower range of positions is valid. Its canonical bytes
 /// don't depend on the range.
 pub fn old_tiles_stay()
     ensures { (t : Tile) → WasValid t → Valid t }
-{
-    mvt_message::laws::old_items_stay();
-}
+{}
