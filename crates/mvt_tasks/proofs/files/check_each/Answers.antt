@@ -1,7 +1,7 @@
-use Rattle.std.proofs.Common.{rules, ◌≡◌, ◌++◌, ◌∷◌, [], length, map, take, drop, suc, string_bytes, sym, ap, ◌∙◌, arith}
+use Rattle.std.proofs.Common.{rules, ◌≡◌, ◌++◌, ◌∷◌, [], length, map, take, drop, suc, string_bytes, refl, sym, ap, ◌∙◌, arith}
 use Rattle.std.proofs.lemmas.List.{take_more, map-append, length-map, length-take}
 use Rattle.std.proofs.Math.Seq.{split_at}
-use Rattle.mvt_tasks.proofs.CheckLemmas.{cut_later_of, said_step, said_size, told_before}
+use Rattle.mvt_tasks.proofs.CheckLemmas.{cut_later_of, said_none, said_step, said_size, told_before}
 use Rattle.mvt_tasks.proofs.files.check_each.Goals as goal
 
 pub add-requires : goal.add-requires
@@ -10,6 +10,9 @@ add-requires g c =
     let count : length (map string_bytes (take c.loop-name.name-index c.args.names.now)) ≡ length (take c.loop-name.name-index c.args.names.now) = length-map (take c.loop-name.name-index c.args.names.now) string_bytes in
     let front = length-take c.loop-name.name-index c.args.names.now in
     omega arith
+
+pub loop-name-init : goal.loop-name-init
+loop-name-init g c = record { said = said_none _ _ _ _ c.none-tally.ensures; unflushed = refl; sound = refl; same = refl }
 
 pub loop-name-preserved : goal.loop-name-preserved
 loop-name-preserved g c = record {
