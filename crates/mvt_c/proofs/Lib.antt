@@ -1,10 +1,2 @@
-mod FeatureLemmas
-mod FoldLemmas
 mod NameLemmas
-mod EachLemmas
-mod TileLemmas
 mod AsBox
-mod RowLemmas
-mod GrowthLemmas
-mod TableLemmas
-mod RowsOfLemmas

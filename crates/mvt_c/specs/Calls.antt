@@ -3,12 +3,6 @@ use Rattle.std.specs.Prelude.{◌≡◌, ℕ, ◌<◌, ◌⊎◌, List, length, 
 use Rattle.mvt_base.specs.declared.TheConstants.{LIMIT}
 use Rattle.mvt_attrs.specs.declared.pool_error.PoolError.{PoolError}
 use Rattle.mvt_attrs.specs.declared.pool_error.PoolError.TheVariants as pools
-use Rattle.mvt_attrs.specs.declared.resolving.TagError.{TagError}
-use Rattle.mvt_attrs.specs.declared.resolving.TagError.TheVariants as tags
-use Rattle.mvt_attrs.specs.declared.value.Value.{Value}
-use Rattle.mvt_message.specs.declared.item.Item.{Item}
-use Rattle.mvt_message.specs.declared.item.Item.TheVariants.{Layer, Foreign}
-use Rattle.mvt_message.specs.CanonicalItems.{keys_of, values_of}
 use Rattle.mvt_message.specs.declared.put.PutError.{PutError}
 use Rattle.mvt_message.specs.declared.put.PutError.TheVariants as put
 use Rattle.mvt_tile.specs.declared.fault.DecodeError.{DecodeError}
@@ -21,14 +15,13 @@ use Rattle.mvt_tile.specs.CanonicalTiles.{canonical}
 use Rattle.mvt_tile.specs.Extraction.{pick, first_missing}
 use Rattle.mvt_tile.specs.TileRules.{fault_within}
 use Rattle.mvt_tile.specs.Tiles.{IsTile}
-use Rattle.mvt_tile.specs.ValidTiles.{Valid}
 use Rattle.serde_json.specs.Written.{compact_text}
 use Rattle.mvt_view.specs.JsonForms.{json}
 use Rattle.mvt_c.specs.declared.fault.Fault.{Fault}
 use Rattle.mvt_c.specs.declared.refusal.Refusal.{Refusal}
-use Rattle.mvt_c.specs.declared.refusal.Refusal.TheVariants.{Refused, Memory, TooLarge, NoLayer, BadName, NoTile}
+use Rattle.mvt_c.specs.declared.refusal.Refusal.TheVariants.{Refused, Memory, TooLarge, NoLayer, BadName}
 use Rattle.mvt_c.specs.Faults.{IsFault}
-use Rattle.mvt_c.specs.Tables.{Table, rows_of}
+use Rattle.mvt_rows.specs.Reading.{HasTooMany, IsTooLarge}
 
 abbrev pub status_of_refusal : Refusal → ℕ
 status_of_refusal (Refused fault) = 1
@@ -36,7 +29,6 @@ status_of_refusal Memory = 2
 status_of_refusal TooLarge = 3
 status_of_refusal NoLayer = 4
 status_of_refusal BadName = 5
-status_of_refusal NoTile = 6
 
 abbrev pub status_of : {A : Type 0} → Result A Refusal → ℕ
 status_of (Ok made) = 0
@@ -49,7 +41,6 @@ TellsFault Memory old new = new ≡ old
 TellsFault TooLarge old new = new ≡ old
 TellsFault NoLayer old new = new ≡ old
 TellsFault BadName old new = new ≡ old
-TellsFault NoTile old new = new ≡ old
 
 abbrev pub of_decode : DecodeError → Refusal
 of_decode decoding.Memory = Memory
@@ -68,18 +59,6 @@ abbrev pub of_pool : PoolError → Refusal
 of_pool pools.Memory = Memory
 of_pool pools.Full = TooLarge
 
-abbrev pub of_tags : TagError → Refusal
-of_tags tags.Memory = Memory
-of_tags (tags.Fault index cause) = NoTile
-
--- the bytes are a tile, and these are its canonical bytes
-abbrev pub IsRewritten : List ℕ → List ℕ → Type 0
-IsRewritten input made = (tile : Tile) × IsTile LIMIT input tile × (made ≡ canonical tile)
-
--- the bytes are a tile whose canonical bytes are more than the limit
-abbrev pub IsTooLarge : List ℕ → Type 0
-IsTooLarge input = (tile : Tile) × IsTile LIMIT input tile × (LIMIT < length (canonical tile))
-
 -- the bytes are a tile
 abbrev pub IsAccepted : List ℕ → Type 0
 IsAccepted input = (tile : Tile) × IsTile LIMIT input tile
@@ -95,7 +74,6 @@ RefusedAs input Memory = ⊤
 RefusedAs input TooLarge = IsTooLarge input
 RefusedAs input NoLayer = ⊥
 RefusedAs input BadName = ⊥
-RefusedAs input NoTile = ⊥
 
 -- the bytes are a tile, and these are the canonical bytes of its named layers
 abbrev pub IsExtracted : List ℕ → List (List ℕ) → List ℕ → Type 0
@@ -116,7 +94,6 @@ NotExtracted input names Memory = ⊤
 NotExtracted input names TooLarge = IsTooLargeOf input names
 NotExtracted input names NoLayer = LacksLayer input names
 NotExtracted input names BadName = ⊥
-NotExtracted input names NoTile = ⊥
 
 -- the bytes are a tile, and this is a text of it
 abbrev pub IsTextOf : (Tile → List ℕ) → List ℕ → List ℕ → Type 0
@@ -133,19 +110,6 @@ NotShown input Memory = ⊤
 NotShown input TooLarge = ⊥
 NotShown input NoLayer = ⊥
 NotShown input BadName = ⊥
-NotShown input NoTile = ⊥
-
--- the bytes are a tile, which can be written, and these are its rows
-abbrev pub IsRead : List ℕ → Table → Type 0
-IsRead input table = (tile : Tile) × IsTile LIMIT input tile × Valid tile × (table ≡ rows_of tile)
-
--- the features of a layer use more keys or values than the limit
-abbrev pub AreTooMany : List (List ℕ) → List Value → Type 0
-AreTooMany keys values = (LIMIT < length keys) ⊎ (LIMIT < length values)
-
-abbrev pub HasTooMany : Item → Type 0
-HasTooMany (Layer layer) = AreTooMany (keys_of layer.features) (values_of layer.features)
-HasTooMany (Foreign version content) = ⊥
 
 -- the bytes are a tile with such a layer
 abbrev pub IsTooLargeToRead : List ℕ → Type 0
@@ -158,4 +122,3 @@ NotRead input Memory = ⊤
 NotRead input TooLarge = IsTooLargeToRead input
 NotRead input NoLayer = ⊥
 NotRead input BadName = ⊥
-NotRead input NoTile = ⊥

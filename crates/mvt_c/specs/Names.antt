@@ -2,7 +2,7 @@
 use Rattle.std.specs.Prelude.{ℕ, List, map, Any, IsUtf8, ⊤}
 use Rattle.mvt_c.specs.declared.lent.Bytes.{Bytes}
 use Rattle.mvt_c.specs.declared.refusal.Refusal.{Refusal}
-use Rattle.mvt_c.specs.declared.refusal.Refusal.TheVariants.{Refused, Memory, TooLarge, NoLayer, BadName, NoTile}
+use Rattle.mvt_c.specs.declared.refusal.Refusal.TheVariants.{Refused, Memory, TooLarge, NoLayer, BadName}
 
 abbrev pub texts_of : List Bytes → List (List ℕ)
 texts_of names = map (λ (name : Bytes). name.bytes.now) names
@@ -14,4 +14,3 @@ HoldsNoText names Memory = ⊤
 HoldsNoText names TooLarge = ⊥
 HoldsNoText names NoLayer = ⊥
 HoldsNoText names BadName = Any (λ text. ¬ (IsUtf8 text)) (texts_of names)
-HoldsNoText names NoTile = ⊥

@@ -3,21 +3,13 @@ use Rattle.std.specs.Prelude.{◌≡◌, ◌≢◌, ℕ, ◌≤◌, List, bytes_
 use Rattle.mvt_tile.specs.declared.tile.Tile.{Tile}
 use Rattle.mvt_tile.specs.CanonicalTiles.{canonical}
 use Rattle.mvt_view.specs.Reports.{report_lines}
-use Rattle.mvt_view.specs.Svg.{svg}
-use Rattle.mvt_c.specs.declared.texts.Form.{Form}
-use Rattle.mvt_c.specs.declared.texts.Form.TheVariants.{Json, Picture, Report}
 use Rattle.mvt_c.specs.declared.fault.Fault.{Fault}
 use Rattle.mvt_c.specs.declared.lent.Bytes.{Bytes}
-use Rattle.mvt_c.specs.Calls.{IsTextOf, IsTold, json_line}
+use Rattle.mvt_c.specs.Calls.{IsTextOf, IsTold}
 
 -- what is said of a tile that is made of the bytes
 abbrev pub report_of : List ℕ → Tile → List ℕ
 report_of input tile = report_lines tile (bytes_eq input (canonical tile))
-
-abbrev pub text_in : Form → List ℕ → Tile → List ℕ
-text_in Json input tile = json_line tile
-text_in Picture input tile = svg tile
-text_in Report input tile = report_of input tile
 
 -- what a call that makes a text answers, and what it writes: the text where it is made, and the fault of a tile that is refused
 pub record IsShown (text_of : Tile → List ℕ) (input : List ℕ) (status : ℕ) (out new_out : Bytes) (fault new_fault : Fault) : Type 0 where

@@ -1,7 +1,8 @@
 //! The calls that make bytes of a tile's bytes.
 ghost use Rattle.std.specs.Prelude.{◌≡◌, ◌≢◌, ◌≤◌, map, string_bytes, Any, IsUtf8, IfOk, IfErr};
-ghost use Rattle.mvt_c.specs.Calls.{IsExtracted, IsRewritten, IsTold, IsTooLarge, IsTooLargeOf, LacksLayer, NotExtracted, RefusedAs};
+ghost use Rattle.mvt_c.specs.Calls.{IsExtracted, IsTold, IsTooLargeOf, LacksLayer, NotExtracted, RefusedAs};
 ghost use Rattle.mvt_c.specs.Names.{texts_of};
+ghost use Rattle.mvt_rows.specs.Reading.{IsRewritten, IsTooLarge};
 
 use crate::fault::Fault;
 use crate::lent::Bytes;

@@ -2,18 +2,18 @@
 //! answers an empty handle before it comes here.
 ghost use Rattle.std.specs.Prelude.{◌≡◌, ◌≢◌, ◌≤◌, [], ◌++◌, ℕ, List, IfOk, IfErr};
 ghost use Rattle.mvt_tile.specs.Streams.{StandsFor};
-ghost use Rattle.mvt_c.specs.Calls.{IsRead, IsTold, NotRead, NotShown, status_of_refusal};
-ghost use Rattle.mvt_c.specs.Lent.{table_of};
+ghost use Rattle.mvt_c.specs.Calls.{IsTold, NotRead, NotShown, status_of_refusal};
+ghost use Rattle.mvt_rows.specs.Lent.{table_of};
+ghost use Rattle.mvt_rows.specs.Reading.{IsRead};
 
 mod held;
 mod parts;
 
 use crate::fault::Fault;
 use crate::refusal::{Refusal, tell};
-use crate::rows::Rows;
-use crate::table::Table;
 use held::{Decoder, Held};
 use mvt_base::LIMIT;
+use mvt_rows::{Rows, Table};
 use mvt_tile::TileDecoder;
 use std::alloc::Global;
 use std::mem;

@@ -7,15 +7,9 @@
 mod calls;
 mod decoder;
 mod fault;
-mod laws;
 mod lent;
 mod names;
 mod reading;
 mod refusal;
-mod rows;
-mod table;
-#[cfg(test)]
-mod tests;
 mod texts;
-mod tiles;
 mod writing;

@@ -1,12 +1,12 @@
 //! A tile's bytes judged, and read as rows.
 ghost use Rattle.std.specs.Prelude.{◌≡◌, ◌≢◌, ◌≤◌, IfOk, IfErr, OnOk};
-ghost use Rattle.mvt_c.specs.Calls.{IsAccepted, IsRead, IsTold, IsTooLargeToRead, NotRead, NotShown};
-ghost use Rattle.mvt_c.specs.Lent.{table_of};
+ghost use Rattle.mvt_c.specs.Calls.{IsAccepted, IsTold, IsTooLargeToRead, NotRead, NotShown};
+ghost use Rattle.mvt_rows.specs.Lent.{table_of};
+ghost use Rattle.mvt_rows.specs.Reading.{IsRead};
 
 use crate::fault::Fault;
 use crate::refusal::{Refusal, tell};
-use crate::rows::Rows;
-use crate::table::Table;
+use mvt_rows::{Rows, Table};
 use mvt_tile::{decode, judge};
 use std::alloc::Global;
 

@@ -4,7 +4,7 @@ ghost use Rattle.mvt_c.specs.Calls.{status_of, status_of_refusal, TellsFault};
 
 use crate::fault::Fault;
 use crate::lent::Bytes;
-use mvt_attrs::{PoolError, TagError};
+use mvt_attrs::PoolError;
 use mvt_tile::{DecodeError, ExtractError, Fault as TileFault, PutError};
 use mvt_view::ViewError;
 use std::alloc::{AllocError, AllocFailed};
@@ -22,8 +22,6 @@ pub(crate) enum Refusal {
     NoLayer,
     /// A name that isn't UTF-8: 5.
     BadName,
-    /// Rows that are no tile: 6.
-    NoTile,
 }
 
 impl From<AllocError> for Refusal {
@@ -119,20 +117,6 @@ impl From<PoolError> for Refusal {
     }
 }
 
-impl From<TagError> for Refusal {
-    ghost use Rattle.std.specs.Prelude.{◌≡◌};
-    ghost use Rattle.mvt_c.specs.Calls.{of_tags};
-
-    ghost from_gives = { λ error refusal. refusal ≡ of_tags error };
-
-    fn from(error: TagError) -> Self {
-        match error {
-            TagError::Memory => Refusal::Memory,
-            TagError::Fault { .. } => Refusal::NoTile,
-        }
-    }
-}
-
 impl Refusal {
     pub(crate) fn status(self) -> u32
         ensures { result ≡ status_of_refusal self }
@@ -143,7 +127,6 @@ impl Refusal {
             Refusal::TooLarge => 3,
             Refusal::NoLayer => 4,
             Refusal::BadName => 5,
-            Refusal::NoTile => 6,
         }
     }
 }

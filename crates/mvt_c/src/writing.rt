@@ -1,15 +1,12 @@
 //! Rows written as a tile's bytes.
-ghost use Rattle.std.specs.Prelude.{◌≡◌, ◌≢◌, ◌⊎◌, IfOk, IfErr};
+ghost use Rattle.std.specs.Prelude.{◌≡◌, ◌≢◌, ◌⊎◌};
 ghost use Rattle.mvt_tile.specs.declared.tile.Tile.{Tile};
-ghost use Rattle.mvt_c.specs.Lent.{table_of};
-ghost use Rattle.mvt_c.specs.TileRows.{IsTileOf};
-ghost use Rattle.mvt_c.specs.Written.{IsNoTile, IsTooLargeOfRows, IsWritten, NotWritten};
+ghost use Rattle.mvt_rows.specs.Lent.{table_of};
+ghost use Rattle.mvt_rows.specs.TileRows.{IsTileOf};
+ghost use Rattle.mvt_rows.specs.Written.{IsNoTile, IsTooLargeOfRows, IsWritten};
 
 use crate::lent::Bytes;
-use crate::refusal::Refusal;
-use crate::rows::Rows;
-use crate::tiles::tile_of;
-use mvt_tile::{encode, validate};
+use mvt_rows::{Rows, RowsError, write_rows};
 use std::alloc::Global;
 
 /// The canonical bytes of the tile that rows are (`mvt_write`).
@@ -25,26 +22,15 @@ pub extern "C" fn mvt_write(alloc: Global, rows: &Rows, out: &mut Bytes) -> u32
     ensures one { (tile other : Tile) → IsTileOf (table_of rows.now) tile → IsTileOf (table_of rows.now) other
         → tile ≡ other }
 {
-    mvt_attrs::laws::attributes_or_fault();
-    match written(alloc, rows) {
+    match write_rows(alloc, rows) {
         Ok(bytes) => {
             *out = Bytes {
                 bytes: bytes.leak(),
             };
             0
         }
-        Err(refusal) => refusal.status(),
+        Err(RowsError::Memory) => 2,
+        Err(RowsError::TooLarge) => 3,
+        Err(RowsError::NoTile) => 6,
     }
-}
-
-pub(crate) fn written(alloc: Global, rows: &Rows) -> Result<Vec<u8>, Refusal>
-    ensures done { IfOk result (λ made. IsWritten (table_of rows.now) made.items) }
-    ensures refused { IfErr result (NotWritten (table_of rows.now)) }
-{
-    mvt_attrs::laws::attributes_or_fault();
-    let tile = tile_of(alloc, rows)?;
-    if !validate(alloc, &tile)? {
-        return Err(Refusal::NoTile);
-    }
-    Ok(encode(alloc, &tile)?)
 }

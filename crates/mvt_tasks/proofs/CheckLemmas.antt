@@ -17,7 +17,7 @@ use Rattle.mvt_tasks.specs.declared.tally.Tally.{Tally}
 use Rattle.mvt_tasks.specs.declared.tally.Verdict.{Verdict}
 use Rattle.mvt_tasks.specs.declared.tally.Verdict.TheVariants.{Accepted, Refused, Unread}
 use Rattle.mvt_tasks.specs.Visits.{AddsAll}
-use Rattle.mvt_tasks.specs.Checks.{AreChecked, Checked, IsCutShort, IsLater, IsSaid, IsSaidOf, IsSaidOfOne, TakesUntil, Tells, TellsSome, count_of, is_accepted, is_refused, is_unread, tally_of, told_of, verdict_of, visit_of, written_of}
+use Rattle.mvt_tasks.specs.Checks.{AreChecked, Checked, IsCutShort, IsLater, IsSaid, IsSaidOf, IsSaidOfOne, Moment, TakesUntil, Tells, TellsSome, count_of, is_accepted, is_refused, is_unread, tally_of, told_of, verdict_of, visit_of, written_of}
 
 -- ---- the error stream
 
@@ -77,13 +77,17 @@ counts_all Accepted = refl
 counts_all Refused = refl
 counts_all Unread = refl
 
-count_cons : (test : Verdict → Bool) (f : Checked) (files : List Checked) → count_of test (f ∷ files) ≡ cond (test (verdict_of f.reply)) 1 0 + count_of test files
+count_cons : (test : Verdict → Bool) (f : Checked) (files : List Checked)
+    → count_of test (f ∷ files) ≡ cond (test (verdict_of f.reply)) 1 0 + count_of test files
 count_cons test f files =
-    sum_by-append (λ (file : Checked). cond (test (verdict_of file.reply)) 1 0) (f ∷ []) files ∙ ap (λ n. n + count_of test files) (zero-add (cond (test (verdict_of f.reply)) 1 0))
+    sum_by-append (λ (file : Checked). cond (test (verdict_of file.reply)) 1 0) (f ∷ []) files
+    ∙ ap (λ n. n + count_of test files) (zero-add (cond (test (verdict_of f.reply)) 1 0))
 
-count_more : (test : Verdict → Bool) (files : List Checked) (f : Checked) → count_of test (files ++ f ∷ []) ≡ count_of test files + cond (test (verdict_of f.reply)) 1 0
+count_more : (test : Verdict → Bool) (files : List Checked) (f : Checked)
+    → count_of test (files ++ f ∷ []) ≡ count_of test files + cond (test (verdict_of f.reply)) 1 0
 count_more test files f =
-    sum_by-append (λ (file : Checked). cond (test (verdict_of file.reply)) 1 0) files (f ∷ []) ∙ ap (λ n. count_of test files + n) (zero-add (cond (test (verdict_of f.reply)) 1 0))
+    sum_by-append (λ (file : Checked). cond (test (verdict_of file.reply)) 1 0) files (f ∷ [])
+    ∙ ap (λ n. count_of test files + n) (zero-add (cond (test (verdict_of f.reply)) 1 0))
 
 one_more : (a r u x y z n : ℕ) → a + r + u ≡ 1 → x + y + z ≡ n → (a + x) + (r + y) + (u + z) ≡ suc n
 one_more a r u x y z n one rest = omega arith
@@ -91,87 +95,124 @@ one_more a r u x y z n one rest = omega arith
 pub tally_size : (files : List Checked) → (tally_of files).accepted + (tally_of files).refused + (tally_of files).unread ≡ length files
 tally_size [] = refl
 tally_size (f ∷ fs) =
-    let of_three : (a r u : ℕ) → a ≡ cond (is_accepted (verdict_of f.reply)) 1 0 + (tally_of fs).accepted → r ≡ cond (is_refused (verdict_of f.reply)) 1 0 + (tally_of fs).refused → u ≡ cond (is_unread (verdict_of f.reply)) 1 0 + (tally_of fs).unread → a + r + u ≡ suc (length fs) =
+    let of_three : (a r u : ℕ) → a ≡ cond (is_accepted (verdict_of f.reply)) 1 0 + (tally_of fs).accepted
+    → r ≡ cond (is_refused (verdict_of f.reply)) 1 0 + (tally_of fs).refused
+    → u ≡ cond (is_unread (verdict_of f.reply)) 1 0 + (tally_of fs).unread → a + r + u ≡ suc (length fs) =
     λ a r u is_a is_r is_u. ap₂ (λ (x y : ℕ). x + y) (ap₂ (λ (x y : ℕ). x + y) is_a is_r) is_u
-    ∙ one_more _ _ _ (tally_of fs).accepted (tally_of fs).refused (tally_of fs).unread (length fs) (counts_all (verdict_of f.reply)) (tally_size fs) in
-    of_three (count_of is_accepted (f ∷ fs)) (count_of is_refused (f ∷ fs)) (count_of is_unread (f ∷ fs)) (count_cons is_accepted f fs) (count_cons is_refused f fs) (count_cons is_unread f fs)
+    ∙ one_more _ _ _ (tally_of fs).accepted (tally_of fs).refused (tally_of fs).unread (length fs) (counts_all (verdict_of f.reply))
+    (tally_size fs) in
+    of_three (count_of is_accepted (f ∷ fs)) (count_of is_refused (f ∷ fs)) (count_of is_unread (f ∷ fs)) (count_cons is_accepted f fs)
+    (count_cons is_refused f fs) (count_cons is_unread f fs)
 
 -- ---- files
 
-pub said_none : (limit : ℕ) (holds : List ℕ → Option (List ℕ)) (v : Option (List Visit)) (w e : Option (List ℕ)) (n : ℕ) (tally : Tally)
-    → tally ≡ record { accepted = 0; refused = 0; unread = 0 } → IsSaidOf limit holds [] v v w w n n e e [] tally
-said_none limit holds v w e n tally is = record {
+pub said_none : (limit : ℕ) (holds : List ℕ → Option (List ℕ)) (now : Moment) (tally : Tally)
+    → tally ≡ record { accepted = 0; refused = 0; unread = 0 } → IsSaidOf limit holds [] now now [] tally
+said_none limit holds now tally is = record {
   files = [];
   checked = tt;
-  visited = adds_nothing v;
-  written = appends_nothing w;
-  told = tells_nothing n e;
+  visited = adds_nothing now.visits;
+  written = appends_nothing now.output;
+  told = tells_nothing now.failed now.errors;
   counted = is;
 }
 
+-- a tally with one verdict more
+pub record IsAdded (old new : Tally) (verdict : Verdict) : Type 0 where
+  pub accepted : new.accepted ≡ old.accepted + cond (is_accepted verdict) 1 0
+  pub refused : new.refused ≡ old.refused + cond (is_refused verdict) 1 0
+  pub unread : new.unread ≡ old.unread + cond (is_unread verdict) 1 0
+
+counted_more : (files : List Checked) (file : Checked) (old new : Tally) (verdict : Verdict)
+    → old ≡ tally_of files → verdict ≡ verdict_of file.reply → IsAdded old new verdict → new ≡ tally_of (files ++ file ∷ [])
+counted_more files file old new verdict counted judged adds =
+    let a : new.accepted ≡ count_of is_accepted (files ++ file ∷ []) =
+    adds.accepted ∙ ap₂ (λ (t : Tally) (v : Verdict). t.accepted + cond (is_accepted v) 1 0) counted judged
+    ∙ sym (count_more is_accepted files file) in
+    let r : new.refused ≡ count_of is_refused (files ++ file ∷ []) =
+    adds.refused ∙ ap₂ (λ (t : Tally) (v : Verdict). t.refused + cond (is_refused v) 1 0) counted judged
+    ∙ sym (count_more is_refused files file) in
+    let u : new.unread ≡ count_of is_unread (files ++ file ∷ []) =
+    adds.unread ∙ ap₂ (λ (t : Tally) (v : Verdict). t.unread + cond (is_unread v) 1 0) counted judged ∙ sym (count_more is_unread files file) in
+    ap₂ (λ (x : ℕ) (p : ℕ × ℕ). record { accepted = x; refused = p.0; unread = p.1 }) a (ap₂ (λ (y z : ℕ). (y, z)) r u)
+
 -- one file more
-pub said_more : (limit : ℕ) (holds : List ℕ → Option (List ℕ)) (names : List (List ℕ)) (name : List ℕ) (v0 v1 v2 : Option (List Visit)) (w0 w1 w2 : Option (List ℕ)) (f0 f1 f2 : ℕ) (e0 e1 e2 : Option (List ℕ)) (old new : Tally) (verdict : Verdict)
-    → IsSaidOf limit holds names v0 v1 w0 w1 f0 f1 e0 e1 [] old → IsSaidOfOne limit holds name v1 v2 w1 w2 f1 f2 e1 e2 verdict
-    → new.accepted ≡ old.accepted + cond (is_accepted verdict) 1 0 → new.refused ≡ old.refused + cond (is_refused verdict) 1 0 → new.unread ≡ old.unread + cond (is_unread verdict) 1 0
-    → IsSaidOf limit holds (names ++ name ∷ []) v0 v2 w0 w2 f0 f2 e0 e2 [] new
-said_more limit holds names name v0 v1 v2 w0 w1 w2 f0 f1 f2 e0 e1 e2 old new verdict said one is_a is_r is_u =
+pub said_more : (limit : ℕ) (holds : List ℕ → Option (List ℕ)) (names : List (List ℕ)) (name : List ℕ) (a b c : Moment)
+    (old new : Tally) (verdict : Verdict)
+    → IsSaidOf limit holds names a b [] old → IsSaidOfOne limit holds name b c verdict → IsAdded old new verdict
+    → IsSaidOf limit holds (names ++ name ∷ []) a c [] new
+said_more limit holds names name a b c old new verdict said one adds =
     let file : Checked = record { name = name; reply = one.reply } in
     let files = said.files in
     let visits = λ (fs : List Checked). map (λ f. visit_of f.name f.reply) fs in
+    let lines : (flat_map told_of files ++ []) ++ told_of file ≡ flat_map told_of (files ++ file ∷ []) ++ [] =
+    ap (λ t. t ++ told_of file) (append-nil (flat_map told_of files))
+    ∙ sym (append-nil (flat_map told_of (files ++ file ∷ [])) ∙ flat_map-append told_of files (file ∷ [])
+    ∙ ap (λ t. flat_map told_of files ++ t) (append-nil (told_of file))) in
     record {
       files = files ++ file ∷ [];
-      checked = related-append (λ n (f : Checked). (f.name ≡ n) × IsSaid limit (holds n) f.reply) names files (name ∷ []) (file ∷ []) said.checked ((refl, one.checked), tt);
-      visited = subst (AddsAll v0 v2) (sym (map-append (λ (f : Checked). visit_of f.name f.reply) files (file ∷ []))) (adds-trans v0 v1 v2 (visits files) (visits (file ∷ [])) said.visited one.visited);
-      written = subst (Appends w0 w2) (sym (flat_map-append written_of files (file ∷ []) ∙ ap (λ t. flat_map written_of files ++ t) (append-nil (written_of file)))) (Appends-trans w0 w1 w2 (flat_map written_of files) (written_of file) said.written one.written);
-      told = subst (Tells f0 f2 e0 e2) (ap (λ t. t ++ told_of file) (append-nil (flat_map told_of files)) ∙ sym (append-nil (flat_map told_of (files ++ file ∷ [])) ∙ flat_map-append told_of files (file ∷ []) ∙ ap (λ t. flat_map told_of files ++ t) (append-nil (told_of file))))
-          (tells-trans f0 f1 f2 e0 e1 e2 (flat_map told_of files ++ []) (told_of file) said.told one.told);
-      counted =
-          let a : new.accepted ≡ count_of is_accepted (files ++ file ∷ []) = is_a ∙ ap₂ (λ (t : Tally) (v : Verdict). t.accepted + cond (is_accepted v) 1 0) said.counted one.judged ∙ sym (count_more is_accepted files file) in
-          let r : new.refused ≡ count_of is_refused (files ++ file ∷ []) = is_r ∙ ap₂ (λ (t : Tally) (v : Verdict). t.refused + cond (is_refused v) 1 0) said.counted one.judged ∙ sym (count_more is_refused files file) in
-          let u : new.unread ≡ count_of is_unread (files ++ file ∷ []) = is_u ∙ ap₂ (λ (t : Tally) (v : Verdict). t.unread + cond (is_unread v) 1 0) said.counted one.judged ∙ sym (count_more is_unread files file) in
-          ap₂ (λ (x : ℕ) (p : ℕ × ℕ). record { accepted = x; refused = p.0; unread = p.1 }) a (ap₂ (λ (y z : ℕ). (y, z)) r u);
+      checked =
+          related-append (λ n (f : Checked). (f.name ≡ n) × IsSaid limit (holds n) f.reply) names files (name ∷ []) (file ∷ []) said.checked
+          ((refl, one.checked), tt);
+      visited =
+          subst (AddsAll a.visits c.visits) (sym (map-append (λ (f : Checked). visit_of f.name f.reply) files (file ∷ [])))
+          (adds-trans a.visits b.visits c.visits (visits files) (visits (file ∷ [])) said.visited one.visited);
+      written =
+          subst (Appends a.output c.output)
+          (sym (flat_map-append written_of files (file ∷ []) ∙ ap (λ t. flat_map written_of files ++ t) (append-nil (written_of file))))
+          (Appends-trans a.output b.output c.output (flat_map written_of files) (written_of file) said.written one.written);
+      told =
+          subst (Tells a.failed c.failed a.errors c.errors) lines
+          (tells-trans a.failed b.failed c.failed a.errors b.errors c.errors (flat_map told_of files ++ []) (told_of file) said.told one.told);
+      counted = counted_more files file old new verdict said.counted one.judged adds;
     }
 
 -- and the line that sums up
-pub said_summed : (limit : ℕ) (holds : List ℕ → Option (List ℕ)) (names : List (List ℕ)) (v0 v1 : Option (List Visit)) (w0 w1 w2 : Option (List ℕ)) (f0 f1 f2 : ℕ) (e0 e1 e2 : Option (List ℕ)) (line : List ℕ) (tally : Tally)
-    → IsSaidOf limit holds names v0 v1 w0 w1 f0 f1 e0 e1 [] tally → w2 ≡ w1 → Tells f1 f2 e1 e2 line → IsSaidOf limit holds names v0 v1 w0 w2 f0 f2 e0 e2 line tally
-said_summed limit holds names v0 v1 w0 w1 w2 f0 f1 f2 e0 e1 e2 line tally said same tells = record {
+pub said_summed : (limit : ℕ) (holds : List ℕ → Option (List ℕ)) (names : List (List ℕ)) (a b c : Moment) (line : List ℕ) (tally : Tally)
+    → IsSaidOf limit holds names a b [] tally → c.visits ≡ b.visits → c.output ≡ b.output → Tells b.failed c.failed b.errors c.errors line
+    → IsSaidOf limit holds names a c line tally
+said_summed limit holds names a b c line tally said visits output tells = record {
   files = said.files;
   checked = said.checked;
-  visited = said.visited;
-  written = subst (λ w. Appends w0 w (flat_map written_of said.files)) (sym same) said.written;
-  told = subst (Tells f0 f2 e0 e2) (ap (λ t. t ++ line) (append-nil (flat_map told_of said.files))) (tells-trans f0 f1 f2 e0 e1 e2 (flat_map told_of said.files ++ []) line said.told tells);
+  visited = subst (λ v. AddsAll a.visits v (map (λ (f : Checked). visit_of f.name f.reply) said.files)) (sym visits) said.visited;
+  written = subst (λ w. Appends a.output w (flat_map written_of said.files)) (sym output) said.written;
+  told =
+      subst (Tells a.failed c.failed a.errors c.errors) (ap (λ t. t ++ line) (append-nil (flat_map told_of said.files)))
+      (tells-trans a.failed b.failed c.failed a.errors b.errors c.errors (flat_map told_of said.files ++ []) line said.told tells);
   counted = said.counted;
 }
 
 -- so many files were counted as there are names
-pub said_size : (limit : ℕ) (holds : List ℕ → Option (List ℕ)) (names : List (List ℕ)) (v0 v1 : Option (List Visit)) (w0 w1 : Option (List ℕ)) (f0 f1 : ℕ) (e0 e1 : Option (List ℕ)) (line : List ℕ) (tally : Tally)
-    → IsSaidOf limit holds names v0 v1 w0 w1 f0 f1 e0 e1 line tally → tally.accepted + tally.refused + tally.unread ≡ length names
-said_size limit holds names v0 v1 w0 w1 f0 f1 e0 e1 line tally said =
+pub said_size : (limit : ℕ) (holds : List ℕ → Option (List ℕ)) (names : List (List ℕ)) (a b : Moment) (line : List ℕ) (tally : Tally)
+    → IsSaidOf limit holds names a b line tally → tally.accepted + tally.refused + tally.unread ≡ length names
+said_size limit holds names a b line tally said =
     ap (λ (t : Tally). t.accepted + t.refused + t.unread) said.counted ∙ tally_size said.files
     ∙ sym (length-related (λ n (f : Checked). (f.name ≡ n) × IsSaid limit (holds n) f.reply) names said.files said.checked)
 
-pub said_step : (limit : ℕ) (holds held : List ℕ → Option (List ℕ)) (all names : List (List ℕ)) (name shown : List ℕ) (v0 v1 v2 : Option (List Visit)) (w0 w1 w2 : Option (List ℕ)) (f0 f1 f2 : ℕ) (e0 e1 e2 : Option (List ℕ)) (old new : Tally) (verdict : Verdict)
-    → IsSaidOf limit holds names v0 v1 w0 w1 f0 f1 e0 e1 [] old → IsSaidOfOne limit held shown v1 v2 w1 w2 f1 f2 e1 e2 verdict → held ≡ holds → shown ≡ name → all ≡ names ++ name ∷ []
-    → new.accepted ≡ old.accepted + cond (is_accepted verdict) 1 0 → new.refused ≡ old.refused + cond (is_refused verdict) 1 0 → new.unread ≡ old.unread + cond (is_unread verdict) 1 0
-    → IsSaidOf limit holds all v0 v2 w0 w2 f0 f2 e0 e2 [] new
-said_step limit holds held all names name shown v0 v1 v2 w0 w1 w2 f0 f1 f2 e0 e1 e2 old new verdict said one same shows all_is is_a is_r is_u =
-    let here : IsSaidOfOne limit holds name v1 v2 w1 w2 f1 f2 e1 e2 verdict =
-    subst (λ (h : List ℕ → Option (List ℕ)). IsSaidOfOne limit h name v1 v2 w1 w2 f1 f2 e1 e2 verdict) same
-    (subst (λ (n : List ℕ). IsSaidOfOne limit held n v1 v2 w1 w2 f1 f2 e1 e2 verdict) shows one) in
-    subst (λ (ns : List (List ℕ)). IsSaidOf limit holds ns v0 v2 w0 w2 f0 f2 e0 e2 [] new) (sym all_is)
-    (said_more limit holds names name v0 v1 v2 w0 w1 w2 f0 f1 f2 e0 e1 e2 old new verdict said here is_a is_r is_u)
+pub said_step : (limit : ℕ) (holds held : List ℕ → Option (List ℕ)) (all names : List (List ℕ)) (name shown : List ℕ) (a b c : Moment)
+    (old new : Tally) (verdict : Verdict)
+    → IsSaidOf limit holds names a b [] old → IsSaidOfOne limit held shown b c verdict → held ≡ holds → shown ≡ name
+    → all ≡ names ++ name ∷ [] → IsAdded old new verdict → IsSaidOf limit holds all a c [] new
+said_step limit holds held all names name shown a b c old new verdict said one same shows all_is adds =
+    let here : IsSaidOfOne limit holds name b c verdict =
+    subst (λ (h : List ℕ → Option (List ℕ)). IsSaidOfOne limit h name b c verdict) same
+    (subst (λ (n : List ℕ). IsSaidOfOne limit held n b c verdict) shows one) in
+    subst (λ (ns : List (List ℕ)). IsSaidOf limit holds ns a c [] new) (sym all_is)
+    (said_more limit holds names name a b c old new verdict said here adds)
 
 -- what was told when an error came
-pub told_before : {T F : Type 0} → (r : Result T F) (limit : ℕ) (holds : List ℕ → Option (List ℕ)) (names : List (List ℕ)) (v0 v1 : Option (List Visit)) (w0 w1 : Option (List ℕ)) (f0 f1 f2 : ℕ) (e0 e1 e2 : Option (List ℕ)) (tally : Tally)
-    → IsSaidOf limit holds names v0 v1 w0 w1 f0 f1 e0 e1 [] tally → TellsSome f1 f2 e1 e2 → OnErr r (TellsSome f0 f2 e0 e2)
-told_before (Ok x) limit holds names v0 v1 w0 w1 f0 f1 f2 e0 e1 e2 tally said some = tt
-told_before (Err x) limit holds names v0 v1 w0 w1 f0 f1 f2 e0 e1 e2 tally said some = tells_more f0 f1 f2 e0 e1 e2 (flat_map told_of said.files ++ []) said.told some
+pub told_before : {T F : Type 0} → (r : Result T F) (limit : ℕ) (holds : List ℕ → Option (List ℕ)) (names : List (List ℕ)) (a b : Moment)
+    (failed : ℕ) (errors : Option (List ℕ)) (tally : Tally)
+    → IsSaidOf limit holds names a b [] tally → TellsSome b.failed failed b.errors errors → OnErr r (TellsSome a.failed failed a.errors errors)
+told_before (Ok x) limit holds names a b failed errors tally said some = tt
+told_before (Err x) limit holds names a b failed errors tally said some =
+    tells_more a.failed b.failed failed a.errors b.errors errors (flat_map told_of said.files ++ []) said.told some
 
 -- ---- a run that was over early
 
 -- what is said of a first part of the files, and then until the run was over
-takes_on : (x y z : Option (List ℕ)) (s t : List ℕ) (failure : Failure) → Appends x y s → TakesUntil y z t failure → TakesUntil x z (s ++ t) failure
+takes_on : (x y z : Option (List ℕ)) (s t : List ℕ) (failure : Failure) → Appends x y s → TakesUntil y z t failure
+    → TakesUntil x z (s ++ t) failure
 takes_on x y z s t Read first then = absurd then
 takes_on x y z s t Write first (n, small, then) = (
   length s + n,
@@ -198,8 +239,10 @@ cut_first limit holds names w failure is = record {
 }
 
 -- an end within a file, of which there is something to say
-pub cut_within : (limit : ℕ) (holds : List ℕ → Option (List ℕ)) (name : List ℕ) (w0 w1 : Option (List ℕ)) (failure : Failure) (reply : Option Reply)
-    → IsSaid limit (holds name) reply → TakesUntil w0 w1 (written_of (record { name = name; reply = reply })) failure → IsCutShort limit holds (name ∷ []) w0 w1 failure
+pub cut_within : (limit : ℕ) (holds : List ℕ → Option (List ℕ)) (name : List ℕ) (w0 w1 : Option (List ℕ)) (failure : Failure)
+    (reply : Option Reply)
+    → IsSaid limit (holds name) reply → TakesUntil w0 w1 (written_of (record { name = name; reply = reply })) failure
+    → IsCutShort limit holds (name ∷ []) w0 w1 failure
 cut_within limit holds name w0 w1 failure reply said takes =
     let file : Checked = record { name = name; reply = reply } in
     record {
@@ -212,22 +255,27 @@ cut_within limit holds name w0 w1 failure reply said takes =
     }
 
 -- an end after the last file
-pub cut_last : (limit : ℕ) (holds : List ℕ → Option (List ℕ)) (names : List (List ℕ)) (v0 v1 : Option (List Visit)) (w0 w1 w2 : Option (List ℕ)) (f0 f1 : ℕ) (e0 e1 : Option (List ℕ)) (line : List ℕ) (tally : Tally) (failure : Failure)
-    → IsSaidOf limit holds names v0 v1 w0 w1 f0 f1 e0 e1 line tally → TakesUntil w1 w2 [] failure → IsCutShort limit holds names w0 w2 failure
-cut_last limit holds names v0 v1 w0 w1 w2 f0 f1 e0 e1 line tally failure said takes = record {
+pub cut_last : (limit : ℕ) (holds : List ℕ → Option (List ℕ)) (names : List (List ℕ)) (a b : Moment) (line : List ℕ) (tally : Tally)
+    (w : Option (List ℕ)) (failure : Failure)
+    → IsSaidOf limit holds names a b line tally → TakesUntil b.output w [] failure → IsCutShort limit holds names a.output w failure
+cut_last limit holds names a b line tally w failure said takes = record {
   front = names;
   rest = [];
   files = said.files;
   of_names = sym (append-nil names);
   checked = said.checked;
-  taken = subst (λ text. TakesUntil w0 w2 text failure) (append-nil (flat_map written_of said.files)) (takes_on w0 w1 w2 (flat_map written_of said.files) [] failure said.written takes);
+  taken =
+      subst (λ text. TakesUntil a.output w text failure) (append-nil (flat_map written_of said.files))
+      (takes_on a.output b.output w (flat_map written_of said.files) [] failure said.written takes);
 }
 
 -- an end at a file behind others
-pub cut_later : (limit : ℕ) (holds held : List ℕ → Option (List ℕ)) (all names : List (List ℕ)) (name shown : List ℕ) (behind : List (List ℕ)) (v0 v1 : Option (List Visit)) (w0 w1 w2 : Option (List ℕ)) (f0 f1 : ℕ) (e0 e1 : Option (List ℕ)) (line : List ℕ) (tally : Tally) (failure : Failure)
-    → IsSaidOf limit holds names v0 v1 w0 w1 f0 f1 e0 e1 line tally → IsCutShort limit held (shown ∷ []) w1 w2 failure → held ≡ holds → shown ≡ name → all ≡ names ++ name ∷ behind
-    → IsCutShort limit holds all w0 w2 failure
-cut_later limit holds held all names name shown behind v0 v1 w0 w1 w2 f0 f1 e0 e1 line tally failure said cut same shows all_is =
+pub cut_later : (limit : ℕ) (holds held : List ℕ → Option (List ℕ)) (all names : List (List ℕ)) (name shown : List ℕ)
+    (behind : List (List ℕ))
+    (a b : Moment) (line : List ℕ) (tally : Tally) (w : Option (List ℕ)) (failure : Failure)
+    → IsSaidOf limit holds names a b line tally → IsCutShort limit held (shown ∷ []) b.output w failure → held ≡ holds → shown ≡ name
+    → all ≡ names ++ name ∷ behind → IsCutShort limit holds all a.output w failure
+cut_later limit holds held all names name shown behind a b line tally w failure said cut same shows all_is =
     let one : shown ∷ [] ≡ cut.front ++ cut.rest = cut.of_names in
     record {
       front = names ++ cut.front;
@@ -240,35 +288,49 @@ cut_later limit holds held all names name shown behind v0 v1 w0 w1 w2 f0 f1 e0 e
           related-append (λ n (f : Checked). (f.name ≡ n) × IsSaid limit (holds n) f.reply) names said.files cut.front cut.files said.checked
           (subst (λ (h : List ℕ → Option (List ℕ)). AreChecked limit h cut.front cut.files) same cut.checked);
       taken =
-          subst (λ text. TakesUntil w0 w2 text failure) (sym (flat_map-append written_of said.files cut.files))
-          (takes_on w0 w1 w2 (flat_map written_of said.files) (flat_map written_of cut.files) failure said.written cut.taken);
+          subst (λ text. TakesUntil a.output w text failure) (sym (flat_map-append written_of said.files cut.files))
+          (takes_on a.output b.output w (flat_map written_of said.files) (flat_map written_of cut.files) failure said.written cut.taken);
     }
 
-pub cut_first_of : {T : Type 0} → (r : Result T Failure) (limit : ℕ) (holds : List ℕ → Option (List ℕ)) (names : List (List ℕ)) (w : Option (List ℕ))
+pub cut_first_of : {T : Type 0}
+    → (r : Result T Failure) (limit : ℕ) (holds : List ℕ → Option (List ℕ)) (names : List (List ℕ)) (w : Option (List ℕ))
     → IfErr r (λ failure. failure ≡ Memory) → IfErr r (IsCutShort limit holds names w w)
 cut_first_of (Ok x) limit holds names w is = tt
 cut_first_of (Err failure) limit holds names w is = cut_first limit holds names w failure is
 
-pub cut_within_of : {T : Type 0} → (r : Result T Failure) (limit : ℕ) (holds : List ℕ → Option (List ℕ)) (name : List ℕ) (w0 w1 : Option (List ℕ)) (reply : Option Reply)
-    → IsSaid limit (holds name) reply → IfErr r (TakesUntil w0 w1 (written_of (record { name = name; reply = reply }))) → IfErr r (IsCutShort limit holds (name ∷ []) w0 w1)
+pub cut_within_of : {T : Type 0}
+    → (r : Result T Failure) (limit : ℕ) (holds : List ℕ → Option (List ℕ)) (name : List ℕ) (w0 w1 : Option (List ℕ))
+    (reply : Option Reply)
+    → IsSaid limit (holds name) reply → IfErr r (TakesUntil w0 w1 (written_of (record { name = name; reply = reply })))
+    → IfErr r (IsCutShort limit holds (name ∷ []) w0 w1)
 cut_within_of (Ok x) limit holds name w0 w1 reply said takes = tt
 cut_within_of (Err failure) limit holds name w0 w1 reply said takes = cut_within limit holds name w0 w1 failure reply said takes
 
-pub cut_unwritten : {T : Type 0} → (r : Result T Failure) (limit : ℕ) (holds : List ℕ → Option (List ℕ)) (names : List (List ℕ)) (v0 v1 : Option (List Visit)) (w0 w1 : Option (List ℕ)) (f0 f1 : ℕ) (e0 e1 : Option (List ℕ)) (line : List ℕ) (tally : Tally)
-    → IsSaidOf limit holds names v0 v1 w0 w1 f0 f1 e0 e1 line tally → IfErr r (λ failure. failure ≡ Memory) → IfErr r (IsCutShort limit holds names w0 w1)
-cut_unwritten (Ok x) limit holds names v0 v1 w0 w1 f0 f1 e0 e1 line tally said is = tt
-cut_unwritten (Err failure) limit holds names v0 v1 w0 w1 f0 f1 e0 e1 line tally said is =
-    cut_last limit holds names v0 v1 w0 w1 w1 f0 f1 e0 e1 line tally failure said (subst (TakesUntil w1 w1 []) (sym is) (appends_nothing w1))
+pub cut_unwritten : {T : Type 0}
+    → (r : Result T Failure) (limit : ℕ) (holds : List ℕ → Option (List ℕ)) (names : List (List ℕ)) (a b : Moment)
+    (line : List ℕ) (tally : Tally)
+    → IsSaidOf limit holds names a b line tally → IfErr r (λ failure. failure ≡ Memory)
+    → IfErr r (IsCutShort limit holds names a.output b.output)
+cut_unwritten (Ok x) limit holds names a b line tally said is = tt
+cut_unwritten (Err failure) limit holds names a b line tally said is =
+    cut_last limit holds names a b line tally b.output failure said
+    (subst (TakesUntil b.output b.output []) (sym is) (appends_nothing b.output))
 
-pub cut_unflushed : {T : Type 0} → (r : Result T Failure) (limit : ℕ) (holds : List ℕ → Option (List ℕ)) (names : List (List ℕ)) (v0 v1 : Option (List Visit)) (w0 w1 w2 : Option (List ℕ)) (f0 f1 : ℕ) (e0 e1 : Option (List ℕ)) (line : List ℕ) (tally : Tally)
-    → IsSaidOf limit holds names v0 v1 w0 w1 f0 f1 e0 e1 line tally → Keeps w1 w2 → IfErr r (λ failure. failure ≡ Write) → IfErr r (IsCutShort limit holds names w0 w2)
-cut_unflushed (Ok x) limit holds names v0 v1 w0 w1 w2 f0 f1 e0 e1 line tally said keeps is = tt
-cut_unflushed (Err failure) limit holds names v0 v1 w0 w1 w2 f0 f1 e0 e1 line tally said keeps is =
-    cut_last limit holds names v0 v1 w0 w1 w2 f0 f1 e0 e1 line tally failure said (subst (TakesUntil w1 w2 []) (sym is) (0, (omega arith), keeps_nothing w1 w2 keeps))
+pub cut_unflushed : {T : Type 0}
+    → (r : Result T Failure) (limit : ℕ) (holds : List ℕ → Option (List ℕ)) (names : List (List ℕ)) (a b : Moment)
+    (line : List ℕ) (tally : Tally) (w : Option (List ℕ))
+    → IsSaidOf limit holds names a b line tally → Keeps b.output w → IfErr r (λ failure. failure ≡ Write)
+    → IfErr r (IsCutShort limit holds names a.output w)
+cut_unflushed (Ok x) limit holds names a b line tally w said keeps is = tt
+cut_unflushed (Err failure) limit holds names a b line tally w said keeps is =
+    cut_last limit holds names a b line tally w failure said
+    (subst (TakesUntil b.output w []) (sym is) (0, (omega arith), keeps_nothing b.output w keeps))
 
-pub cut_later_of : {T : Type 0} → (r : Result T Failure) (limit : ℕ) (holds held : List ℕ → Option (List ℕ)) (all names : List (List ℕ)) (name shown : List ℕ) (behind : List (List ℕ)) (v0 v1 : Option (List Visit)) (w0 w1 w2 : Option (List ℕ)) (f0 f1 : ℕ) (e0 e1 : Option (List ℕ)) (line : List ℕ) (tally : Tally)
-    → IsSaidOf limit holds names v0 v1 w0 w1 f0 f1 e0 e1 line tally → IfErr r (IsCutShort limit held (shown ∷ []) w1 w2) → held ≡ holds → shown ≡ name → all ≡ names ++ name ∷ behind
-    → IfErr r (IsCutShort limit holds all w0 w2)
-cut_later_of (Ok x) limit holds held all names name shown behind v0 v1 w0 w1 w2 f0 f1 e0 e1 line tally said cut same shows all_is = tt
-cut_later_of (Err failure) limit holds held all names name shown behind v0 v1 w0 w1 w2 f0 f1 e0 e1 line tally said cut same shows all_is =
-    cut_later limit holds held all names name shown behind v0 v1 w0 w1 w2 f0 f1 e0 e1 line tally failure said cut same shows all_is
+pub cut_later_of : {T : Type 0}
+    → (r : Result T Failure) (limit : ℕ) (holds held : List ℕ → Option (List ℕ)) (all names : List (List ℕ)) (name shown : List ℕ)
+    (behind : List (List ℕ)) (a b : Moment) (line : List ℕ) (tally : Tally) (w : Option (List ℕ))
+    → IsSaidOf limit holds names a b line tally → IfErr r (IsCutShort limit held (shown ∷ []) b.output w) → held ≡ holds → shown ≡ name
+    → all ≡ names ++ name ∷ behind → IfErr r (IsCutShort limit holds all a.output w)
+cut_later_of (Ok x) limit holds held all names name shown behind a b line tally w said cut same shows all_is = tt
+cut_later_of (Err failure) limit holds held all names name shown behind a b line tally w said cut same shows all_is =
+    cut_later limit holds held all names name shown behind a b line tally w failure said cut same shows all_is

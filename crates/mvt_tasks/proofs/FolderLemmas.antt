@@ -9,7 +9,8 @@ found_head : {A : Type 0} (b : Bool) (x : A) (found : Option A) → cond b (Some
 found_head true x found is = cc
 found_head false x found is = is
 
-skips : {A : Type 0} (b : Bool) (x : A) (found : Option A) (y : A) (o : Option A) → cond b (Some x) o ≡ None → (o ≡ None → found ≡ Some y) → cond b (Some x) found ≡ Some y
+skips : {A : Type 0} (b : Bool) (x : A) (found : Option A) (y : A) (o : Option A) → cond b (Some x) o ≡ None → (o ≡ None → found ≡ Some y)
+    → cond b (Some x) found ≡ Some y
 skips true x found y o is rest = cc
 skips false x found y o is rest = rest is
 
@@ -18,19 +19,23 @@ at_last true x found is = refl
 at_last false x found is = cc
 
 -- behind a front in which none passes
-find_behind : {A : Type 0} (p : A → Bool) (front : List A) (x : A) (behind : List A) → find p front ≡ None → p x ≡ true → find p (front ++ x ∷ behind) ≡ Some x
+find_behind : {A : Type 0} (p : A → Bool) (front : List A) (x : A) (behind : List A) → find p front ≡ None → p x ≡ true
+    → find p (front ++ x ∷ behind) ≡ Some x
 find_behind p [] x behind none passes = at_last (p x) x (find p behind) passes
-find_behind p (y ∷ ys) x behind none passes = skips (p y) y (find p (ys ++ x ∷ behind)) x (find p ys) none (λ e. find_behind p ys x behind e passes)
+find_behind p (y ∷ ys) x behind none passes =
+    skips (p y) y (find p (ys ++ x ∷ behind)) x (find p ys) none (λ e. find_behind p ys x behind e passes)
 
 none_next : {A : Type 0} (p : A → Bool) (front : List A) (x : A) → find p front ≡ None → p x ≡ false → find p (front ++ x ∷ []) ≡ None
 none_next p [] x none fails = ap (λ b. cond b (Some x) None) fails
 none_next p (y ∷ ys) x none fails = none_after (p y) y (find p ys) (find p (ys ++ x ∷ [])) none (λ e. none_next p ys x e fails)
   where
-    none_after : {A : Type 0} (b : Bool) (y : A) (o found : Option A) → cond b (Some y) o ≡ None → (o ≡ None → found ≡ None) → cond b (Some y) found ≡ None
+    none_after : {A : Type 0} (b : Bool) (y : A) (o found : Option A) → cond b (Some y) o ≡ None → (o ≡ None → found ≡ None)
+        → cond b (Some y) found ≡ None
     none_after true y o found is rest = cc
     none_after false y o found is rest = rest is
 
-pub unnamed_next : (front : List MemoryFile) (file : MemoryFile) (name : List ℕ) → file_named front name ≡ None → bytes_eq file.name name ≡ false → file_named (front ++ file ∷ []) name ≡ None
+pub unnamed_next : (front : List MemoryFile) (file : MemoryFile) (name : List ℕ) → file_named front name ≡ None
+    → bytes_eq file.name name ≡ false → file_named (front ++ file ∷ []) name ≡ None
 unnamed_next front file name none fails = none_next (λ (f : MemoryFile). bytes_eq f.name name) front file none fails
 
 pub held_here : (all front : List MemoryFile) (file : MemoryFile) (behind : List MemoryFile) (name : List ℕ)
@@ -38,6 +43,7 @@ pub held_here : (all front : List MemoryFile) (file : MemoryFile) (behind : List
 held_here all front file behind name is none passes =
     ap (λ files. held_in files name) is ∙ ap bytes_of (find_behind (λ (f : MemoryFile). bytes_eq f.name name) front file behind none passes)
 
-pub held_read : (r : Result SourceState ErrorKind) (held bytes : Option (List ℕ)) → held ≡ bytes → IfOk r (λ (reader : SourceState). bytes ≡ Some reader.left) → IfOk r (λ (reader : SourceState). held ≡ Some reader.left)
+pub held_read : (r : Result SourceState ErrorKind) (held bytes : Option (List ℕ)) → held ≡ bytes
+    → IfOk r (λ (reader : SourceState). bytes ≡ Some reader.left) → IfOk r (λ (reader : SourceState). held ≡ Some reader.left)
 held_read (Ok reader) held bytes same is = same ∙ is
 held_read (Err kind) held bytes same is = tt

@@ -9,7 +9,7 @@ use Rattle.mvt_base.specs.Rules.{first}
 use Rattle.mvt_tile.specs.declared.fault.Fault.{Fault}
 use Rattle.mvt_tile.specs.TileRules.{fault_within, beyond, tile_rules}
 use Rattle.mvt_view.specs.FaultLines.{fault_line}
-use Rattle.mvt_view.specs.FieldLines.{fields_lines, fields_fault}
+use Rattle.mvt_view.proofs.ViewLaws.{front_tells_fault, front_tells_lines}
 use Rattle.mvt_tasks.specs.declared.reply.Reply.{Reply}
 use Rattle.mvt_tasks.specs.declared.task.Task.TheVariants.{Check}
 use Rattle.mvt_tasks.specs.Output.{IsReply, fields_reply}
@@ -41,25 +41,28 @@ fault-front limit input = judged-front limit input
 -- an input within the limit is the whole of it
 whole-front : (limit : ℕ) (input : List ℕ) → length (take (limit + 1) input) ≤ limit → take (limit + 1) input ≡ input
 whole-front limit input small =
-    take_all (limit + 1) input (let long : min (limit + 1) (length input) ≤ limit = subst (λ n. n ≤ limit) (length-take (limit + 1) input) small in omega arith)
+    take_all (limit + 1) input
+    (let long : min (limit + 1) (length input) ≤ limit = subst (λ n. n ≤ limit) (length-take (limit + 1) input) small in omega arith)
 
 pub listed : (limit : ℕ) (left : Option (List ℕ)) (bytes slice : List ℕ) (reply : Reply)
-    → ((n : ℕ) (input : List ℕ) → fields_lines n (take (n + 1) input) ≡ fields_lines n input)
-    → ((n : ℕ) (input : List ℕ) → fields_fault n (take (n + 1) input) ≡ fields_fault n input)
-    → IfSome left (λ input. bytes ≡ take (limit + 1) input) → slice ≡ bytes → reply ≡ fields_reply limit slice → IfSome left (λ input. reply ≡ fields_reply limit input)
-listed limit None bytes slice reply lines fault read same is = tt
-listed limit (Some input) bytes slice reply lines fault read same is =
+    → IfSome left (λ input. bytes ≡ take (limit + 1) input) → slice ≡ bytes → reply ≡ fields_reply limit slice
+    → IfSome left (λ input. reply ≡ fields_reply limit input)
+listed limit None bytes slice reply read same is = tt
+listed limit (Some input) bytes slice reply read same is =
     is ∙ ap (fields_reply limit) (same ∙ read)
-    ∙ ap₂ (λ text told. record { written = Some text; told = option_map (λ f. fault_line f ++ codes "\n") told }) (lines limit input) (fault limit input)
+    ∙ ap₂ (λ text told. record { written = Some text; told = option_map (λ f. fault_line f ++ codes "\n") told })
+    (front_tells_lines limit input) (front_tells_fault limit input)
 
-told-front : (limit : ℕ) (input : List ℕ) (reply : Reply) → IsReply limit Check (take (limit + 1) input) reply → IsReply limit Check input reply
+told-front : (limit : ℕ) (input : List ℕ) (reply : Reply) → IsReply limit Check (take (limit + 1) input) reply
+    → IsReply limit Check input reply
 told-front limit input reply (inl (tile, is_tile, is)) =
     let whole = whole-front limit input is_tile.small in
     subst (λ bytes. IsReply limit Check bytes reply) whole (inl (tile, is_tile, is))
 told-front limit input reply (inr (fault, first_is, is)) = inr (fault, sym (fault-front limit input) ∙ first_is, is)
 
 pub checked : (limit : ℕ) (left : Option (List ℕ)) (bytes slice : List ℕ) (reply : Reply)
-    → IfSome left (λ input. bytes ≡ take (limit + 1) input) → slice ≡ bytes → IsReply limit Check slice reply → IfSome left (λ input. IsReply limit Check input reply)
+    → IfSome left (λ input. bytes ≡ take (limit + 1) input) → slice ≡ bytes → IsReply limit Check slice reply
+    → IfSome left (λ input. IsReply limit Check input reply)
 checked limit None bytes slice reply read same is = tt
 checked limit (Some input) bytes slice reply read same is =
     told-front limit input reply (subst (λ b. IsReply limit Check b reply) (same ∙ read) is)

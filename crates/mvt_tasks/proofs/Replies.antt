@@ -17,48 +17,68 @@ use Rattle.mvt_tasks.specs.Failures.{IsRefusal}
 use Rattle.mvt_tasks.specs.Output.{IsReply, IsTold, Answers, PutsOut, done, refused, bytes_reply, layers_reply, layers_reply_or, missing_line}
 use Rattle.mvt_tasks.proofs.Picks.{missing_at, none_missing}
 
-pub answered : (limit : ℕ) (task : Task) (left : Option (List ℕ)) (reply : Reply) (told : Option (List ℕ)) (Untouched : Type 0) (Writes : List ℕ → Type 0)
-    → IfSome left (λ input. IsReply limit task input reply) → told ≡ reply.told → PutsOut Untouched Writes reply → IfSome left (Answers limit task told Untouched Writes)
+pub answered : (limit : ℕ) (task : Task) (left : Option (List ℕ)) (reply : Reply) (told : Option (List ℕ)) (Untouched : Type 0)
+    (Writes : List ℕ → Type 0)
+    → IfSome left (λ input. IsReply limit task input reply) → told ≡ reply.told → PutsOut Untouched Writes reply
+    → IfSome left (Answers limit task told Untouched Writes)
 answered limit task None reply told Untouched Writes is same put = tt
 answered limit task (Some input) reply told Untouched Writes is same put = (reply, is, same, put)
 
-pub done_put : (reply : Reply) (text : List ℕ) (Untouched : Type 0) (Writes : List ℕ → Type 0) → reply ≡ done text → Writes text → (None ≡ reply.told) × PutsOut Untouched Writes reply
+pub done_put : (reply : Reply) (text : List ℕ) (Untouched : Type 0) (Writes : List ℕ → Type 0) → reply ≡ done text → Writes text
+    → (None ≡ reply.told) × PutsOut Untouched Writes reply
 done_put reply text Untouched Writes is writes = (sym (ap (λ (r : Reply). r.told) is), subst (PutsOut Untouched Writes) (sym is) writes)
 
-pub refused_put : (reply : Reply) (line : List ℕ) (Untouched : Type 0) (Writes : List ℕ → Type 0) → reply ≡ refused line → Untouched → (Some line ≡ reply.told) × PutsOut Untouched Writes reply
+pub refused_put : (reply : Reply) (line : List ℕ) (Untouched : Type 0) (Writes : List ℕ → Type 0) → reply ≡ refused line → Untouched
+    → (Some line ≡ reply.told) × PutsOut Untouched Writes reply
 refused_put reply line Untouched Writes is same = (sym (ap (λ (r : Reply). r.told) is), subst (PutsOut Untouched Writes) (sym is) same)
 
 pub small_reply : (limit : ℕ) (tile : Tile) → length (canonical tile) ≤ limit → bytes_reply limit tile ≡ done (canonical tile)
 unfolding bytes_reply
-small_reply limit tile small = ap (λ (b : Bool). if b then refused (codes "mvt: result larger than 67108864 bytes\n") else done (canonical tile)) (let e : nat_lt limit (length (canonical tile)) ≡ false = grind (arith, nat_tests) in e)
+small_reply limit tile small =
+    ap (λ (b : Bool). if b then refused (codes "mvt: result larger than 67108864 bytes\n") else done (canonical tile))
+    (let e : nat_lt limit (length (canonical tile)) ≡ false = grind (arith, nat_tests) in e)
 
-pub large_reply : (limit : ℕ) (tile : Tile) → limit < length (canonical tile) → bytes_reply limit tile ≡ refused (codes "mvt: result larger than 67108864 bytes\n")
+pub large_reply : (limit : ℕ) (tile : Tile) → limit < length (canonical tile)
+    → bytes_reply limit tile ≡ refused (codes "mvt: result larger than 67108864 bytes\n")
 unfolding bytes_reply
-large_reply limit tile large = ap (λ (b : Bool). if b then refused (codes "mvt: result larger than 67108864 bytes\n") else done (canonical tile)) (let e : nat_lt limit (length (canonical tile)) ≡ true = grind (arith, nat_tests) in e)
+large_reply limit tile large =
+    ap (λ (b : Bool). if b then refused (codes "mvt: result larger than 67108864 bytes\n") else done (canonical tile))
+    (let e : nat_lt limit (length (canonical tile)) ≡ true = grind (arith, nat_tests) in e)
 
-pub picked_reply : (limit : ℕ) (tile picked : Tile) (names : List (List ℕ)) → first_missing tile names ≡ None → picked ≡ pick tile names → layers_reply limit names tile ≡ bytes_reply limit picked
+pub picked_reply : (limit : ℕ) (tile picked : Tile) (names : List (List ℕ)) → first_missing tile names ≡ None → picked ≡ pick tile names
+    → layers_reply limit names tile ≡ bytes_reply limit picked
 picked_reply limit tile picked names none is =
     ap (λ o. layers_reply_or o (bytes_reply limit (pick tile names))) (none_missing tile names none) ∙ ap (bytes_reply limit) (sym is)
 
-missing_or : (o : Option (List ℕ)) (line : List ℕ) (reply : Reply) → Some line ≡ option_map missing_line o → layers_reply_or o reply ≡ refused line
+missing_or : (o : Option (List ℕ)) (line : List ℕ) (reply : Reply) → Some line ≡ option_map missing_line o
+    → layers_reply_or o reply ≡ refused line
 missing_or None line reply is = cc
 missing_or (Some name) line reply is = ap refused (let e : missing_line name ≡ line = cc in e)
 
-pub missing_reply : (limit : ℕ) (tile : Tile) (names : List (List ℕ)) (i : ℕ) (line : List ℕ) → first_missing tile names ≡ Some i → Some line ≡ option_map missing_line (slice_get names i) → layers_reply limit names tile ≡ refused line
+pub missing_reply : (limit : ℕ) (tile : Tile) (names : List (List ℕ)) (i : ℕ) (line : List ℕ) → first_missing tile names ≡ Some i
+    → Some line ≡ option_map missing_line (slice_get names i) → layers_reply limit names tile ≡ refused line
 missing_reply limit tile names i line first is =
-    ap (λ o. layers_reply_or o (bytes_reply limit (pick tile names))) ((missing_at tile names i first).1) ∙ missing_or (slice_get names i) line (bytes_reply limit (pick tile names)) is
+    ap (λ o. layers_reply_or o (bytes_reply limit (pick tile names))) ((missing_at tile names i first).1)
+    ∙ missing_or (slice_get names i) line (bytes_reply limit (pick tile names)) is
 
-pub refused_told : (limit : ℕ) (of_tile : Tile → Reply) (input : List ℕ) (error : DecodeError) (line : List ℕ) → TellsInput error (fault_within limit input) → IsRefusal error line → IsTold limit of_tile input (refused line)
+pub refused_told : (limit : ℕ) (of_tile : Tile → Reply) (input : List ℕ) (error : DecodeError) (line : List ℕ)
+    → TellsInput error (fault_within limit input) → IsRefusal error line → IsTold limit of_tile input (refused line)
 refused_told limit of_tile input Memory line tells is = absurd is
 refused_told limit of_tile input (Fault fault) line tells is = inr (fault, tells, ap refused is)
 refused_told limit of_tile input (Read kind) line tells is = absurd is
 
-pub rewrite_refused : (limit : ℕ) (left : Option (List ℕ)) (error : DecodeError) (line : List ℕ) (Untouched : Type 0) (Writes : List ℕ → Type 0)
-    → IfSome left (λ input. TellsInput error (fault_within limit input)) → IsRefusal error line → Untouched → IfSome left (Answers limit Rewrite (Some line) Untouched Writes)
+pub rewrite_refused : (limit : ℕ) (left : Option (List ℕ)) (error : DecodeError) (line : List ℕ) (Untouched : Type 0)
+    (Writes : List ℕ → Type 0)
+    → IfSome left (λ input. TellsInput error (fault_within limit input)) → IsRefusal error line → Untouched
+    → IfSome left (Answers limit Rewrite (Some line) Untouched Writes)
 rewrite_refused limit None error line Untouched Writes tells is same = tt
-rewrite_refused limit (Some input) error line Untouched Writes tells is same = (refused line, refused_told limit (bytes_reply limit) input error line tells is, refl, same)
+rewrite_refused limit (Some input) error line Untouched Writes tells is same =
+    (refused line, refused_told limit (bytes_reply limit) input error line tells is, refl, same)
 
-pub extract_refused : (limit : ℕ) (names : List (List ℕ)) (left : Option (List ℕ)) (error : DecodeError) (line : List ℕ) (Untouched : Type 0) (Writes : List ℕ → Type 0)
-    → IfSome left (λ input. TellsInput error (fault_within limit input)) → IsRefusal error line → Untouched → IfSome left (Answers limit (Extract names) (Some line) Untouched Writes)
+pub extract_refused : (limit : ℕ) (names : List (List ℕ)) (left : Option (List ℕ)) (error : DecodeError) (line : List ℕ)
+    (Untouched : Type 0) (Writes : List ℕ → Type 0)
+    → IfSome left (λ input. TellsInput error (fault_within limit input)) → IsRefusal error line → Untouched
+    → IfSome left (Answers limit (Extract names) (Some line) Untouched Writes)
 extract_refused limit names None error line Untouched Writes tells is same = tt
-extract_refused limit names (Some input) error line Untouched Writes tells is same = (refused line, refused_told limit (layers_reply limit names) input error line tells is, refl, same)
+extract_refused limit names (Some input) error line Untouched Writes tells is same =
+    (refused line, refused_told limit (layers_reply limit names) input error line tells is, refl, same)

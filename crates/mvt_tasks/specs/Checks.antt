@@ -113,25 +113,34 @@ pub record Tells (failed_old failed_new : ℕ) (old new : Option (List ℕ)) (te
   pub counts : IsLater failed_old failed_new
   pub tells : NoneFailed failed_old failed_new → Appends old new text
 
+-- what is known at one moment of a run: of the visits of the folder, of the output, of the failed writes of the error stream,
+-- and of what this took
+pub record Moment : Type 0 where
+  pub visits : Option (List Visit)
+  pub output : Option (List ℕ)
+  pub failed : ℕ
+  pub errors : Option (List ℕ)
+
+abbrev pub moment : Option (List Visit) → Option (List ℕ) → ℕ → Option (List ℕ) → Moment
+moment visits output failed errors = record { visits = visits; output = output; failed = failed; errors = errors }
+
 -- the files of these names were checked, each once and in order, and all was put out that there is to say of them, and on
 -- the error stream one line more
-pub record IsSaidOf (limit : ℕ) (holds : List ℕ → Option (List ℕ)) (names : List (List ℕ)) (visits_old visits_new : Option (List Visit))
-    (output_old output_new : Option (List ℕ)) (failed_old failed_new : ℕ) (errors_old errors_new : Option (List ℕ)) (line : List ℕ) (tally : Tally) : Type 0 where
+pub record IsSaidOf (limit : ℕ) (holds : List ℕ → Option (List ℕ)) (names : List (List ℕ)) (old new : Moment) (line : List ℕ) (tally : Tally) : Type 0 where
   pub files : List Checked
   pub checked : AreChecked limit holds names files
-  pub visited : AddsAll visits_old visits_new (map (λ file. visit_of file.name file.reply) files)
-  pub written : Appends output_old output_new (flat_map written_of files)
-  pub told : Tells failed_old failed_new errors_old errors_new (flat_map told_of files ++ line)
+  pub visited : AddsAll old.visits new.visits (map (λ file. visit_of file.name file.reply) files)
+  pub written : Appends old.output new.output (flat_map written_of files)
+  pub told : Tells old.failed new.failed old.errors new.errors (flat_map told_of files ++ line)
   pub counted : tally ≡ tally_of files
 
 -- the same of one file
-pub record IsSaidOfOne (limit : ℕ) (holds : List ℕ → Option (List ℕ)) (name : List ℕ) (visits_old visits_new : Option (List Visit))
-    (output_old output_new : Option (List ℕ)) (failed_old failed_new : ℕ) (errors_old errors_new : Option (List ℕ)) (verdict : Verdict) : Type 0 where
+pub record IsSaidOfOne (limit : ℕ) (holds : List ℕ → Option (List ℕ)) (name : List ℕ) (old new : Moment) (verdict : Verdict) : Type 0 where
   pub reply : Option Reply
   pub checked : IsSaid limit (holds name) reply
-  pub visited : Adds visits_old visits_new (visit_of name reply)
-  pub written : Appends output_old output_new (written_of (record { name = name; reply = reply }))
-  pub told : Tells failed_old failed_new errors_old errors_new (told_of (record { name = name; reply = reply }))
+  pub visited : Adds old.visits new.visits (visit_of name reply)
+  pub written : Appends old.output new.output (written_of (record { name = name; reply = reply }))
+  pub told : Tells old.failed new.failed old.errors new.errors (told_of (record { name = name; reply = reply }))
   pub judged : verdict ≡ verdict_of reply
 
 -- a run ends before its last file only where a write failed, or for want of memory
@@ -161,10 +170,10 @@ TellsSome failed_old failed_new old new = (lines : List ℕ) × Tells failed_old
 
 -- all is said of the files of these names, the output was flushed once, and the status tells how they were judged; or the
 -- run was over before, with a front of this on the output, which the last line tells
-abbrev pub IsToldOfAll : ℕ → (List ℕ → Option (List ℕ)) → List (List ℕ) → Option (List Visit) → Option (List Visit) → Option (List ℕ) → Option (List ℕ) → ℕ → ℕ → Type 0
-    → ℕ → ℕ → Option (List ℕ) → Option (List ℕ) → ℕ → Type 0
+abbrev pub IsToldOfAll : ℕ → (List ℕ → Option (List ℕ)) → List (List ℕ) → Option (List Visit) → Option (List Visit)
+    → Option (List ℕ) → Option (List ℕ) → ℕ → ℕ → Type 0 → ℕ → ℕ → Option (List ℕ) → Option (List ℕ) → ℕ → Type 0
 IsToldOfAll limit holds names visits_old visits_new output_old output_new flushes_old flushes_new WriteFailed failed_old failed_new errors_old errors_new status =
-    ((tally : Tally) × IsSaidOf limit holds names visits_old visits_new output_old output_new failed_old failed_new errors_old errors_new (summary (length names) tally) tally
-    × (flushes_new ≡ counted flushes_old) × (status ≡ status_after tally))
+    ((tally : Tally) × IsSaidOf limit holds names (moment visits_old output_old failed_old errors_old) (moment visits_new output_new failed_new errors_new)
+    (summary (length names) tally) tally × (flushes_new ≡ counted flushes_old) × (status ≡ status_after tally))
     ⊎ ((failure : Failure) × IsOver WriteFailed failure × (status ≡ status_of failure) × IsCutShort limit holds names output_old output_new failure
     × ((lines : List ℕ) × (NoneFailed failed_old failed_new → Appends errors_old errors_new (lines ++ line_of failure))))

@@ -3,7 +3,7 @@ ghost use Rattle.std.specs.Prelude.{◌≡◌, ◌≢◌, ◌<◌, ◌⊎◌, []
 ghost use Rattle.std.specs.List.{flat_map};
 ghost use Rattle.std.specs.Io.KnownBytes.{Appends};
 ghost use Rattle.mvt_io.specs.Counts.{counted, HasFailed};
-ghost use Rattle.mvt_tasks.specs.Checks.{Checked, IsCutShort, IsOver, IsSaid, IsSaidOf, IsSaidOfOne, IsToldOfAll, TakesUntil, Tells, TellsSome, line_told, marked_text, status_after, summary, text_of, told_of, verdict_of, visit_of, written_of};
+ghost use Rattle.mvt_tasks.specs.Checks.{Checked, IsCutShort, IsOver, IsSaid, IsSaidOf, IsSaidOfOne, IsToldOfAll, TakesUntil, Tells, TellsSome, line_told, marked_text, moment, status_after, summary, text_of, told_of, verdict_of, visit_of, written_of};
 ghost use Rattle.mvt_tasks.specs.Visits.{Adds};
 
 use crate::checking::check;
@@ -47,8 +47,9 @@ fn check_all<F: Folder, W: Sink, E: Sink>(
     writer: &mut W,
     errors: &mut E,
 ) -> Result<Tally, Failure>
-    ensures said { IfOk result (λ tally. IsSaidOf LIMIT (F.holds folder.old) (map string_bytes names.now) (F.visits folder.old) (F.visits folder.new)
-        (W.taken writer.old) (W.taken writer.new) (E.failed errors.old) (E.failed errors.new) (E.taken errors.old) (E.taken errors.new) (summary (length (map string_bytes names.now)) tally) tally) }
+    ensures said { IfOk result (λ tally. IsSaidOf LIMIT (F.holds folder.old) (map string_bytes names.now)
+        (moment (F.visits folder.old) (W.taken writer.old) (E.failed errors.old) (E.taken errors.old))
+        (moment (F.visits folder.new) (W.taken writer.new) (E.failed errors.new) (E.taken errors.new)) (summary (length (map string_bytes names.now)) tally) tally) }
     ensures flushed { OnOk result (W.flushes writer.new ≡ counted (W.flushes writer.old)) }
     ensures sound { OnOk result (W.failed writer.new ≡ W.failed writer.old) }
     ensures failed { IfErr result (IsOver (HasFailed (W.failed writer.old) (W.failed writer.new))) }
@@ -69,8 +70,9 @@ fn check_each<F: Folder, W: Sink, E: Sink>(
     writer: &mut W,
     errors: &mut E,
 ) -> Result<Tally, Failure>
-    ensures said { IfOk result (IsSaidOf LIMIT (F.holds folder.old) (map string_bytes names.now) (F.visits folder.old) (F.visits folder.new)
-        (W.taken writer.old) (W.taken writer.new) (E.failed errors.old) (E.failed errors.new) (E.taken errors.old) (E.taken errors.new) []) }
+    ensures said { IfOk result (IsSaidOf LIMIT (F.holds folder.old) (map string_bytes names.now)
+        (moment (F.visits folder.old) (W.taken writer.old) (E.failed errors.old) (E.taken errors.old))
+        (moment (F.visits folder.new) (W.taken writer.new) (E.failed errors.new) (E.taken errors.new)) []) }
     ensures unflushed { OnOk result (W.flushes writer.new ≡ W.flushes writer.old) }
     ensures sound { OnOk result (W.failed writer.new ≡ W.failed writer.old) }
     ensures failed { IfErr result (IsOver (HasFailed (W.failed writer.old) (W.failed writer.new))) }
@@ -93,8 +95,9 @@ fn check_one<F: Folder, W: Sink, E: Sink>(
     writer: &mut W,
     errors: &mut E,
 ) -> Result<Verdict, Failure>
-    ensures said { IfOk result (λ verdict. IsSaidOfOne LIMIT (F.holds folder.old) name.now (F.visits folder.old) (F.visits folder.new)
-        (W.taken writer.old) (W.taken writer.new) (E.failed errors.old) (E.failed errors.new) (E.taken errors.old) (E.taken errors.new) verdict) }
+    ensures said { IfOk result (λ verdict. IsSaidOfOne LIMIT (F.holds folder.old) name.now
+        (moment (F.visits folder.old) (W.taken writer.old) (E.failed errors.old) (E.taken errors.old))
+        (moment (F.visits folder.new) (W.taken writer.new) (E.failed errors.new) (E.taken errors.new)) verdict) }
     ensures unflushed { OnOk result (W.flushes writer.new ≡ W.flushes writer.old) }
     ensures sound { OnOk result (W.failed writer.new ≡ W.failed writer.old) }
     ensures failed { IfErr result (IsOver (HasFailed (W.failed writer.old) (W.failed writer.new))) }

@@ -11,6 +11,4 @@ pub fn one_reply()
     ensures there { (task : ATask) (input : List ℕ) → (reply : AReply) × IsReply LIMIT task input reply }
     ensures once { (task : ATask) (input : List ℕ) (a b : AReply)
         → IsReply LIMIT task input a → IsReply LIMIT task input b → a ≡ b }
-{
-    mvt_tile::laws::tile_or_fault();
-}
+{}

@@ -25,7 +25,6 @@ pub fn list_fields<R: Source>(alloc: Global, reader: &mut R) -> Result<Reply, Fa
     ensures asked { R.asked reader.new ≤ max (R.asked reader.old) 65536 }
     ensures leaves { TakesAtMost (LIMIT + 1) (R.left reader.old) (R.left reader.new) }
 {
-    mvt_view::laws::front_tells();
     let input = read_up_to(alloc, reader, LIMIT as usize + 1)?;
     listed(alloc, &input)
 }

@@ -15,6 +15,8 @@ mod message;
 #[cfg(test)]
 mod pools;
 #[cfg(test)]
+mod rows;
+#[cfg(test)]
 mod tile;
 #[cfg(test)]
 mod view;

@@ -1,3 +1,4 @@
+pub mod ViewLaws
 mod EventLemmas
 mod FrontLemmas
 mod WalkLemmas

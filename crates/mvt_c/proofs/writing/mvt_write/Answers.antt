@@ -1,9 +1,15 @@
-use Rattle.mvt_c.specs.Lent.{table_of}
-use Rattle.mvt_c.proofs.TileLemmas.{tile_once}
+use Rattle.mvt_rows.proofs.RowsLaws.{rows_are_one_tile}
+use Rattle.mvt_rows.specs.Lent.{table_of}
 use Rattle.mvt_c.proofs.writing.mvt_write.Goals as goal
 
 pub returns-in-Ok-clause-one : goal.returns-in-Ok-clause-one
-returns-in-Ok-clause-one c = tile_once c.attributes_or_fault.ensures.once (table_of c.args.rows.now)
+returns-in-Ok-clause-one c = rows_are_one_tile (table_of c.args.rows.now)
 
-pub returns-in-Err-clause-one : goal.returns-in-Err-clause-one
-returns-in-Err-clause-one c = tile_once c.attributes_or_fault.ensures.once (table_of c.args.rows.now)
+pub returns-in-Err-Memory-clause-one : goal.returns-in-Err-Memory-clause-one
+returns-in-Err-Memory-clause-one c = rows_are_one_tile (table_of c.args.rows.now)
+
+pub returns-in-Err-TooLarge-clause-one : goal.returns-in-Err-TooLarge-clause-one
+returns-in-Err-TooLarge-clause-one c = rows_are_one_tile (table_of c.args.rows.now)
+
+pub returns-in-Err-NoTile-clause-one : goal.returns-in-Err-NoTile-clause-one
+returns-in-Err-NoTile-clause-one c = rows_are_one_tile (table_of c.args.rows.now)

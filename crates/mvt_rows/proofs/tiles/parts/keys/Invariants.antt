@@ -1,0 +1,6 @@
+use Rattle.std.proofs.Common.{◌≡◌, Some, take}
+use Rattle.mvt_rows.specs.TileRows.{each, text_of}
+use Rattle.mvt_rows.proofs.tiles.parts.keys.Given as goal
+
+abbrev pub invariant-loop-span : goal.invariant-loop-span
+invariant-loop-span l = each (text_of l.texts) (take l.span-index l.spans) ≡ Some l.keys.items

@@ -1,0 +1,16 @@
+-- The lists that C sees, as a table.
+use Rattle.mvt_rows.specs.declared.rows.Rows.{Rows}
+use Rattle.mvt_rows.specs.Tables.{Table}
+
+abbrev pub table_of : Rows → Table
+table_of rows = record {
+  layers = rows.layers.now;
+  features = rows.features.now;
+  keys = rows.keys.now;
+  values = rows.values.now;
+  tags = rows.tags.now;
+  parts = rows.parts.now;
+  points = rows.points.now;
+  integers = rows.integers.now;
+  texts = rows.texts.now;
+}

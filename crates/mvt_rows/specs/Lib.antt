@@ -1,0 +1,5 @@
+pub mod Tables
+pub mod Lent
+pub mod TileRows
+pub mod Written
+pub mod Reading

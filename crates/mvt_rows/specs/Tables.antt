@@ -1,0 +1,152 @@
+-- A tile as flat rows. Each row names the parts that belong to it by where they stand in the list of their kind; parts are
+-- appended in the order of the tile.
+use Rattle.std.specs.Prelude.{ℕ, ◌-◌, List, [], ◌∷◌, ◌++◌, length, map, unwrap_or, is_some, if◌then◌else◌}
+use Rattle.std.specs.Int.{w64, cast_unsigned}
+use Rattle.std.specs.List.{fold}
+use Rattle.mvt_attrs.specs.declared.value.Value.{Value}
+use Rattle.mvt_attrs.specs.declared.value.Value.TheVariants.{Text, Float, Double, Int, Uint, Sint, Bool as Truth}
+use Rattle.mvt_attrs.specs.TagPlaces.{tags_in}
+use Rattle.mvt_geometry.specs.declared.shape.Point.{Point}
+use Rattle.mvt_geometry.specs.declared.shape.Polygon.{Polygon}
+use Rattle.mvt_geometry.specs.declared.shape.Geometry.{Geometry}
+use Rattle.mvt_geometry.specs.declared.shape.Geometry.TheVariants.{Unknown, Points, Lines, Polygons}
+use Rattle.mvt_geometry.specs.Shape.{kind_of}
+use Rattle.mvt_feature.specs.declared.feature.Feature.{Feature}
+use Rattle.mvt_feature.specs.Canonical.{type_number}
+use Rattle.mvt_message.specs.declared.item.Item.{Item}
+use Rattle.mvt_message.specs.declared.item.Item.TheVariants.{Layer, Foreign}
+use Rattle.mvt_message.specs.declared.item.Layer.{Layer as ALayer}
+use Rattle.mvt_message.specs.CanonicalItems.{keys_of, values_of}
+use Rattle.mvt_tile.specs.declared.tile.Tile.{Tile}
+use Rattle.mvt_rows.specs.declared.rows.Span.{Span}
+use Rattle.mvt_rows.specs.declared.rows.LayerRow.{LayerRow}
+use Rattle.mvt_rows.specs.declared.rows.FeatureRow.{FeatureRow}
+use Rattle.mvt_rows.specs.declared.rows.ValueRow.{ValueRow}
+use Rattle.mvt_rows.specs.declared.rows.PartRow.{PartRow}
+use Rattle.mvt_rows.specs.declared.rows.PointRow.{PointRow}
+
+-- the lists of a tile's rows
+pub record Table : Type 0 where
+  pub layers : List LayerRow
+  pub features : List FeatureRow
+  pub keys : List Span
+  pub values : List ValueRow
+  pub tags : List ℕ
+  pub parts : List PartRow
+  pub points : List PointRow
+  pub integers : List ℕ
+  pub texts : List ℕ
+
+abbrev pub no_rows : Table
+no_rows = record { layers = []; features = []; keys = []; values = []; tags = []; parts = []; points = []; integers = []; texts = [] }
+
+-- where so many entries stand behind a list
+abbrev pub behind : {A : Type 0} → List A → ℕ → Span
+behind held count = record { start = length held; len = count }
+
+abbrev pub nowhere : Span
+nowhere = record { start = 0; len = 0 }
+
+-- a key, and a value with its kind's number
+abbrev pub with_key : Table → List ℕ → Table
+with_key t key = record t { keys = t.keys ++ behind t.texts (length key) ∷ []; texts = t.texts ++ key }
+
+abbrev pub number_row : ℕ → ℕ → ValueRow
+number_row kind bits = record { kind = kind; bits = bits; text = nowhere }
+
+abbrev pub with_number : Table → ℕ → ℕ → Table
+with_number t kind bits = record t { values = t.values ++ number_row kind bits ∷ [] }
+
+abbrev pub with_value : Table → Value → Table
+with_value t (Text text) = record t { values = t.values ++ record { kind = 1; bits = 0; text = behind t.texts (length text) } ∷ []; texts = t.texts ++ text }
+with_value t (Float bits) = with_number t 2 bits
+with_value t (Double bits) = with_number t 3 bits
+with_value t (Int z) = with_number t 4 (cast_unsigned w64 z)
+with_value t (Uint n) = with_number t 5 n
+with_value t (Sint z) = with_number t 6 (cast_unsigned w64 z)
+with_value t (Truth b) = with_number t 7 (if b then 1 else 0)
+
+-- a line, a ring or the points of a feature
+abbrev pub point_row : Point → PointRow
+point_row p = record { x = p.x; y = p.y }
+
+abbrev pub with_part : ℕ → Table → List Point → Table
+with_part exterior t points = record t {
+  parts = t.parts ++ record { exterior = exterior; points = behind t.points (length points) } ∷ [];
+  points = t.points ++ map point_row points;
+}
+
+abbrev pub with_polygon : Table → Polygon → Table
+with_polygon t p = fold (with_part 0) (with_part 1 t p.outer) p.rest
+
+abbrev pub with_geometry : Table → Geometry → Table
+with_geometry t (Unknown integers) = record t { integers = t.integers ++ integers }
+with_geometry t (Points points) = with_part 0 t points
+with_geometry t (Lines lines) = fold (with_part 0) t lines
+with_geometry t (Polygons polygons) = fold with_polygon t polygons
+
+-- what was added to a list
+abbrev pub added : {A : Type 0} → List A → List A → Span
+added old new = record { start = length old; len = length new - length old }
+
+-- the row of a feature that took a table from one state to another
+abbrev pub feature_row : Table → Table → Feature → FeatureRow
+feature_row old new f = record {
+  id = unwrap_or f.id 0;
+  has_id = if is_some f.id then 1 else 0;
+  kind = type_number (kind_of f.geometry);
+  tags = added old.tags new.tags;
+  parts = added old.parts new.parts;
+  integers = added old.integers new.integers;
+}
+
+-- a feature of a layer with these keys and values: its tags, its geometry and its row
+abbrev pub with_feature : List (List ℕ) → List Value → Table → Feature → Table
+with_feature keys values t f =
+    let drawn = with_geometry (record t { tags = t.tags ++ tags_in keys values f.attributes }) f.geometry in
+    record drawn { features = drawn.features ++ feature_row t drawn f ∷ [] }
+
+-- the row of a layer that took a table from one state to another
+abbrev pub layer_row : Table → Table → ALayer → LayerRow
+layer_row old new layer = record {
+  version = 2;
+  extent = layer.extent;
+  name = behind old.texts (length layer.name);
+  features = added old.features new.features;
+  keys = added old.keys new.keys;
+  values = added old.values new.values;
+  bytes = nowhere;
+}
+
+-- a layer: its name, its features, its keys and its values, each once in order of first use, and its row
+abbrev pub with_layer : Table → ALayer → Table
+with_layer t layer =
+    let keys = keys_of layer.features in
+    let values = values_of layer.features in
+    let shown = fold (with_feature keys values) (record t { texts = t.texts ++ layer.name }) layer.features in
+    let whole = fold with_value (fold with_key shown keys) values in
+    record whole { layers = whole.layers ++ layer_row t whole layer ∷ [] }
+
+-- the row of a layer of another version, with so many bytes
+abbrev pub foreign_row : Table → ℕ → ℕ → LayerRow
+foreign_row t version count = record {
+  version = version;
+  extent = 0;
+  name = nowhere;
+  features = nowhere;
+  keys = nowhere;
+  values = nowhere;
+  bytes = behind t.texts count;
+}
+
+abbrev pub with_foreign : Table → ℕ → List ℕ → Table
+with_foreign t version content =
+    record t { layers = t.layers ++ foreign_row t version (length content) ∷ []; texts = t.texts ++ content }
+
+abbrev pub with_item : Table → Item → Table
+with_item t (Layer layer) = with_layer t layer
+with_item t (Foreign version content) = with_foreign t version content
+
+-- the rows of a tile
+unfoldable pub rows_of : Tile → Table
+rows_of tile = fold with_item no_rows tile.items

@@ -1,0 +1,27 @@
+//! Laws about the definitions alone: functions without effect, whose contract is the law.
+ghost use Rattle.std.specs.Prelude.{◌≡◌, ℕ, List};
+ghost use Rattle.mvt_tile.specs.declared.tile.Tile.{Tile};
+ghost use Rattle.mvt_tile.specs.ValidTiles.{Valid};
+ghost use Rattle.mvt_rows.specs.Reading.{IsRead, IsRewritten, IsTooLarge};
+ghost use Rattle.mvt_rows.specs.Tables.{Table, rows_of};
+ghost use Rattle.mvt_rows.specs.TileRows.{IsTileOf};
+ghost use Rattle.mvt_rows.specs.Written.{IsNoTile, IsTooLargeOfRows, IsWritten};
+
+/// The rows of a valid tile are that tile.
+pub fn rows_are_the_tile()
+    ensures { (tile : Tile) → Valid tile → IsTileOf (rows_of tile) tile }
+{}
+
+/// Rows are one tile at most.
+pub fn rows_are_one_tile()
+    ensures { (table : Table) (tile other : Tile) → IsTileOf table tile → IsTileOf table other → tile ≡ other }
+{}
+
+/// Rows that were read can be written, and are written as the canonical bytes of the tile that was read.
+pub fn read_rows_are_written()
+    ensures written { (input made : List ℕ) (table : Table) → IsRead input table → IsWritten table made
+        → IsRewritten input made }
+    ensures too_large { (input : List ℕ) (table : Table) → IsRead input table → IsTooLargeOfRows table
+        → IsTooLarge input }
+    ensures taken { (input : List ℕ) (table : Table) → IsRead input table → IsNoTile table → ⊥ }
+{}

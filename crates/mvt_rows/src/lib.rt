@@ -1,0 +1,16 @@
+//! A tile as flat rows, and the tile that rows are: each row names the parts that belong to it by where they stand in the
+//! list of their kind. So code in any language follows a tile without calls.
+#![tactic(auto)]
+
+pub mod laws;
+mod rows;
+mod rows_error;
+mod table;
+mod tiles;
+mod writing;
+
+pub use rows::{FeatureRow, LayerRow, PartRow, PointRow, Rows, Span, ValueRow};
+pub use rows_error::RowsError;
+pub use table::Table;
+pub use tiles::tile_of;
+pub use writing::write_rows;

@@ -1,0 +1,228 @@
+//! The lists of a tile's rows, as they grow.
+ghost use Rattle.std.specs.Prelude.{◌≡◌, ◌++◌, ◌∷◌, ◌*◌, [], OnOk, map};
+ghost use Rattle.std.specs.List.{fold};
+ghost use Rattle.mvt_rows.specs.Lent.{table_of};
+ghost use Rattle.mvt_rows.specs.Tables.{no_rows, behind, with_part, with_polygon, with_geometry, with_key, with_value, with_number, point_row};
+
+mod layers;
+
+use crate::rows::{FeatureRow, LayerRow, PartRow, PointRow, Rows, Span, ValueRow};
+use mvt_attrs::{KeyPool, Value, ValuePool};
+use mvt_base::Items;
+use mvt_geometry::{Geometry, Point, Polygon};
+use std::alloc::{AllocError, Global};
+use std::marker::Model;
+
+/// The rows of a tile.
+#[derive(Drop)]
+pub struct Table {
+    layers: Vec<LayerRow>,
+    features: Vec<FeatureRow>,
+    keys: Vec<Span>,
+    values: Vec<ValueRow>,
+    tags: Vec<u32>,
+    parts: Vec<PartRow>,
+    points: Vec<PointRow>,
+    integers: Vec<u32>,
+    texts: Vec<u8>,
+}
+
+impl Model for Table {
+    ghost use Rattle.mvt_rows.specs.Tables.{Table as Rows};
+
+    ghost Value = { Rows };
+
+    ghost view = { λ t. record {
+      layers = t.layers.items;
+      features = t.features.items;
+      keys = t.keys.items;
+      values = t.values.items;
+      tags = t.tags.items;
+      parts = t.parts.items;
+      points = t.points.items;
+      integers = t.integers.items;
+      texts = t.texts.items;
+    } };
+}
+
+/// Where so many entries stand behind a list.
+fn behind_list(start: usize, len: usize) -> Span
+    ensures { result ≡ record { start = start; len = len } }
+{
+    Span {
+        start: start as u64,
+        len: len as u64,
+    }
+}
+
+impl Table {
+    pub(crate) fn new(alloc: Global) -> Self
+        ensures { result ≡ no_rows }
+    {
+        Table {
+            layers: Vec::new(alloc),
+            features: Vec::new(alloc),
+            keys: Vec::new(alloc),
+            values: Vec::new(alloc),
+            tags: Vec::new(alloc),
+            parts: Vec::new(alloc),
+            points: Vec::new(alloc),
+            integers: Vec::new(alloc),
+            texts: Vec::new(alloc),
+        }
+    }
+
+    /// The lists, handed out: they last until whoever has them frees them.
+    pub fn leak(self) -> Rows
+        ensures { table_of result ≡ self }
+    {
+        let Table {
+            layers,
+            features,
+            keys,
+            values,
+            tags,
+            parts,
+            points,
+            integers,
+            texts,
+        } = self;
+        Rows {
+            layers: layers.leak(),
+            features: features.leak(),
+            keys: keys.leak(),
+            values: values.leak(),
+            tags: tags.leak(),
+            parts: parts.leak(),
+            points: points.leak(),
+            integers: integers.leak(),
+            texts: texts.leak(),
+        }
+    }
+
+    /// Adds a line, a ring or the points of a feature.
+    fn add_part(&mut self, exterior: u32, points: &[Point]) -> Result<(), AllocError>
+        ensures { OnOk result (self.new ≡ with_part exterior self.old points.now) }
+    {
+        let points_at = behind_list(self.points.len(), points.len());
+        self.parts.push(PartRow {
+            exterior,
+            points: points_at,
+        })?;
+        append_points(&mut self.points, points)
+    }
+
+    fn add_parts(&mut self, lines: &[Items<Point>]) -> Result<(), AllocError>
+        ensures { OnOk result (self.new ≡ fold (with_part 0) self.old lines.now) }
+    {
+        for line in lines {
+            self.add_part(0, line.as_slice())?;
+        }
+        Ok(())
+    }
+
+    fn add_polygons(&mut self, polygons: &[Polygon]) -> Result<(), AllocError>
+        ensures { OnOk result (self.new ≡ fold with_polygon self.old polygons.now) }
+    {
+        for polygon in polygons {
+            self.add_part(1, polygon.outer.as_slice())?;
+            self.add_parts(polygon.rest.as_slice())?;
+        }
+        Ok(())
+    }
+
+    pub(crate) fn add_geometry(&mut self, geometry: &Geometry) -> Result<(), AllocError>
+        ensures { OnOk result (self.new ≡ with_geometry self.old geometry.now) }
+    {
+        match geometry {
+            Geometry::Unknown(integers) => self.integers.extend_from_slice(integers.as_slice()),
+            Geometry::Points(points) => self.add_part(0, points.as_slice()),
+            Geometry::Lines(lines) => self.add_parts(lines.as_slice()),
+            Geometry::Polygons(polygons) => self.add_polygons(polygons.as_slice()),
+        }
+    }
+
+    fn add_key(&mut self, key: &str) -> Result<(), AllocError>
+        ensures { OnOk result (self.new ≡ with_key self.old key.now) }
+    {
+        let text = behind_list(self.texts.len(), key.len());
+        self.keys.push(text)?;
+        self.texts.extend_from_slice(key.as_bytes())
+    }
+
+    fn add_number(&mut self, kind: u32, bits: u64) -> Result<(), AllocError>
+        ensures { OnOk result (self.new ≡ with_number self.old kind bits) }
+    {
+        self.values.push(ValueRow {
+            kind,
+            bits,
+            text: behind_list(0, 0),
+        })?;
+        Ok(())
+    }
+
+    fn add_text(&mut self, text: &str) -> Result<(), AllocError>
+        ensures { OnOk result (self.new ≡ with_value self.old (Value.Text text.now)) }
+    {
+        let place = behind_list(self.texts.len(), text.len());
+        self.values.push(ValueRow {
+            kind: 1,
+            bits: 0,
+            text: place,
+        })?;
+        self.texts.extend_from_slice(text.as_bytes())
+    }
+
+    fn add_value(&mut self, value: &Value) -> Result<(), AllocError>
+        ensures { OnOk result (self.new ≡ with_value self.old value.now) }
+    {
+        match value {
+            Value::Text(text) => self.add_text(text.as_str()),
+            Value::Float(bits) => self.add_number(2, u64::from(*bits)),
+            Value::Double(bits) => self.add_number(3, *bits),
+            Value::Int(number) => self.add_number(4, number.cast_unsigned()),
+            Value::Uint(number) => self.add_number(5, *number),
+            Value::Sint(number) => self.add_number(6, number.cast_unsigned()),
+            Value::Bool(truth) => self.add_number(7, u64::from(*truth)),
+        }
+    }
+
+    /// Adds the keys of a layer.
+    pub(crate) fn add_keys(&mut self, keys: &KeyPool) -> Result<(), AllocError>
+        ensures { OnOk result (self.new ≡ fold with_key self.old keys.now) }
+    {
+        for index in 0..keys.len() as u32 {
+            match keys.get(index) {
+                Some(key) => self.add_key(key)?,
+                None => unreachable!(),
+            }
+        }
+        Ok(())
+    }
+
+    /// Adds the values of a layer.
+    pub(crate) fn add_values(&mut self, values: &ValuePool) -> Result<(), AllocError>
+        ensures { OnOk result (self.new ≡ fold with_value self.old values.now) }
+    {
+        for index in 0..values.len() as u32 {
+            match values.get(index) {
+                Some(value) => self.add_value(value)?,
+                None => unreachable!(),
+            }
+        }
+        Ok(())
+    }
+}
+
+fn append_points(rows: &mut Vec<PointRow>, points: &[Point]) -> Result<(), AllocError>
+    ensures { OnOk result (rows.new.items ≡ rows.old.items ++ map point_row points.now) }
+{
+    rows.reserve(points.len())?;
+    for point in points {
+        rows.push(PointRow {
+            x: point.x,
+            y: point.y,
+        })?;
+    }
+    Ok(())
+}

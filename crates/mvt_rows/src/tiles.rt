@@ -1,0 +1,69 @@
+//! The tile that rows are.
+ghost use Rattle.std.specs.Prelude.{◌≡◌, Some, None, IfOk, IfErr};
+ghost use Rattle.mvt_base.specs.Related.{AreRelated};
+ghost use Rattle.mvt_rows.specs.Lent.{table_of};
+ghost use Rattle.mvt_rows.specs.Written.{FailsAs, IsNone};
+ghost use Rattle.mvt_rows.specs.TileRows.{IsItem, IsLayer, IsTileOf, keys_of, values_of};
+
+mod features;
+mod geometries;
+mod parts;
+mod values;
+
+use crate::rows::{LayerRow, Rows};
+use crate::rows_error::RowsError;
+use features::features;
+use mvt_base::Items;
+use mvt_message::{Item, Layer};
+use mvt_tile::Tile;
+use parts::{keys, part, text};
+use std::alloc::Global;
+use values::values;
+
+fn layer(alloc: Global, rows: &Rows, row: &LayerRow) -> Result<Layer, RowsError>
+    ensures layer { IfOk result (IsLayer (table_of rows.now) row.now) }
+    ensures none { IfErr result (FailsAs (IsNone (IsLayer (table_of rows.now) row.now))) }
+{
+    let name = text(alloc, rows.texts, row.name)?;
+    let keys = keys(alloc, rows.texts, part(rows.keys, row.keys)?)?;
+    let values = values(alloc, rows.texts, part(rows.values, row.values)?)?;
+    let of_layer = part(rows.features, row.features)?;
+    let features = features(alloc, rows, &keys, &values, of_layer)?;
+    Ok(Layer {
+        name,
+        extent: row.extent,
+        features: Items::new(features),
+    })
+}
+
+fn item(alloc: Global, rows: &Rows, row: &LayerRow) -> Result<Item, RowsError>
+    ensures item { IfOk result (IsItem (table_of rows.now) row.now) }
+    ensures none { IfErr result (FailsAs (IsNone (IsItem (table_of rows.now) row.now))) }
+{
+    if row.version == 2 {
+        return Ok(Item::Layer(layer(alloc, rows, row)?));
+    }
+    let bytes = part(rows.texts, row.bytes)?;
+    Ok(Item::Foreign {
+        version: row.version,
+        bytes: Items::new(Vec::from_slice(alloc, bytes)?),
+    })
+}
+
+/// The tile that rows are.
+///
+/// # Errors
+///
+/// Rows that are none; want of memory.
+pub fn tile_of(alloc: Global, rows: &Rows) -> Result<Tile, RowsError>
+    ensures tile { IfOk result (IsTileOf (table_of rows.now)) }
+    ensures none { IfErr result (FailsAs (IsNone (IsTileOf (table_of rows.now)))) }
+{
+    let mut items = Vec::with_capacity(alloc, rows.layers.len())?;
+    for row in rows.layers {
+        items.push(item(alloc, rows, row)?)?;
+    }
+    Ok(Tile {
+        items: Items::new(items),
+    })
+}
