@@ -15,7 +15,7 @@ loop-feature-init c = features_start c.args.features.now c.args.keys.now c.args.
 
 pub returns-in_err-append_feature-clause-too_large : goal.returns-in_err-append_feature-clause-too_large
 returns-in_err-append_feature-clause-too_large c = λ h.
-    let p = err_from_is_err_and c.from_residual.result c.from_residual.ensures.1 in
+    let p = err_from_is_err_and c.from_residual-in_err-append_feature.result c.from_residual-in_err-append_feature.ensures.1 in
     let e = c.in_err-append_feature.ensures in
     let told : Err (of_pool c.in_err-append_feature.field-0.0) ≡ Err TooLarge = ap Err (sym p.2) ∙ sym p.1 ∙ h in
     let full : of_pool c.in_err-append_feature.field-0.0 ≡ TooLarge = cc in
