@@ -6,7 +6,7 @@ ghost use Rattle.mvt_message.specs.ValidItems.{ValidItem, ValidLayer};
 
 use crate::item::{Item, Layer};
 use crate::layer_len::layer_len;
-use crate::put_layer::{put_extent, put_features, put_head, put_keys, put_values};
+use crate::put_layer::{FIRST_ROOM, put_extent, put_features, put_head, put_keys, put_values};
 use mvt_attrs::{KeyPool, PoolError, ValuePool};
 use mvt_base::LIMIT;
 use std::alloc::{AllocError, Global};
@@ -112,9 +112,9 @@ fn put_layer(alloc: Global, layer: &Layer) -> Result<Vec<u8>, PutError>
     ensures put { IfOk result (λ v. (v.items ≡ spelled (layer_fields layer.now)) × (length v.items ≤ LIMIT)) }
     ensures too_large { IsErrOf result PutError.TooLarge → LIMIT < length (spelled (layer_fields layer.now)) }
 {
+    let mut out = Vec::with_capacity(alloc, FIRST_ROOM)?;
     let mut keys = KeyPool::new(alloc);
     let mut values = ValuePool::new(alloc);
-    let mut out = Vec::new(alloc);
     put_parts(alloc, layer, &mut out, &mut keys, &mut values)?;
     Ok(out)
 }

@@ -14,6 +14,9 @@ use mvt_feature::{Feature, Scratch, append_feature, append_value, value_len};
 use mvt_wire::{Payload, put_field, put_field_head};
 use std::alloc::{AllocError, Global};
 
+/// So many bytes a payload has room for at first: a small one never grows.
+pub(crate) const FIRST_ROOM: usize = 256;
+
 /// Appends the version and the name.
 pub(crate) fn put_head(out: &mut Vec<u8>, name: &str) -> Result<(), AllocError>
     ensures { OnOk result (out.new.items ≡ out.old.items ++ spelled (head_fields name.now)) }
@@ -43,7 +46,7 @@ pub(crate) fn put_features(
         ⊎ (LIMIT ≤ length (keys_of features.now)) ⊎ (LIMIT ≤ length (values_of features.now)) }
 {
     let mut scratch = Scratch::new(alloc);
-    let mut payload = Vec::new(alloc);
+    let mut payload = Vec::with_capacity(alloc, FIRST_ROOM)?;
     for feature in features {
         payload.clear();
         append_feature(&mut payload, feature, keys, values, &mut scratch)?;

@@ -10,7 +10,7 @@ loop-feature-init c = features_start c.args.features.now c.args.out.now.items c.
 
 pub returns-in_err-append_feature-clause-too_large : goal.returns-in_err-append_feature-clause-too_large
 returns-in_err-append_feature-clause-too_large c = λ h.
-    let full = pool_full _ (exit_is c.from_residual.result c.from_residual.ensures.1 h) in
+    let full = pool_full _ (exit_is c.from_residual-in_err-append_feature.result c.from_residual-in_err-append_feature.ensures.1 h) in
     let many = c.in_err-append_feature.ensures.too_many (ap Err full) in
     inr (features_full LIMIT c.loop-feature.invariant c.loop-feature-test.true c.feature-item.is many)
 
