@@ -103,12 +103,11 @@ module _ {g : List ℕ} {k s t : ℕ} {c d : Point} (e : k % 3 ≡ 0) (r : Reach
 pub ring_left : (g : List ℕ) (s t : ℕ) (c d p : Point) (ps : List Point) (rs : List (List Point))
     → Left 3 (15 ∷ []) g s c ((p ∷ ps) ∷ rs) → drop t g ≡ strokes (15 ∷ []) (last_of p ps) rs → d ≡ last_of p ps
     → Left 3 (15 ∷ []) g t d rs
-ring_left g s t c d p ps rs left spelled last =
-    record {
-      are = left.are.1;
-      small_steps = subst (λ q. AreSteps q (joined rs)) (sym last) (steps-back c (p ∷ ps) (joined rs) left.small_steps);
-      spelled = spelled ∙ ap (λ q. strokes (15 ∷ []) q rs) (sym last);
-    }
+ring_left g s t c d p ps rs left spelled last = record {
+  are = left.are.1;
+  small_steps = subst (λ q. AreSteps q (joined rs)) (sym last) (steps-back c (p ∷ ps) (joined rs) left.small_steps);
+  spelled = spelled ∙ ap (λ q. strokes (15 ∷ []) q rs) (sym last);
+}
 
 -- a ring opens a polygon where none is open, or its area is positive
 pub opened_one : (n : ℕ) (ring : List Point) (rings : List (List Point)) → (n ≡ 0) ⊎ (pos 0 <ℤ area2 ring)

@@ -52,15 +52,14 @@ first_ring_is g k c p ps z o e f =
     ∙ ap (λ d. positions d (pairs_between c (p ∷ ps))) (sym o) ∙ positions-between c (p ∷ ps)
 
 no_rings : (g : List ℕ) (k s : ℕ) (c : Point) → length g ≤ s → FoundRings g k s c
-no_rings g k s c h =
-    record {
-      rings = [];
-      are = tt;
-      small_steps = tt;
-      spelled = drop_all s g h;
-      some = λ here. absurd (omega arith);
-      fine = λ z o. tt;
-    }
+no_rings g k s c h = record {
+  rings = [];
+  are = tt;
+  small_steps = tt;
+  spelled = drop_all s g h;
+  some = λ here. absurd (omega arith);
+  fine = λ z o. tt;
+}
 
 -- a ring with its ClosePath
 record Closed (g : List ℕ) (k s : ℕ) (c : Point) : Type 0 where
@@ -117,15 +116,14 @@ ring_found g k s c r e none here small =
 
 one_ring : (g : List ℕ) (k s : ℕ) (c : Point) → s < length g → (f : Closed g k s c)
     → FoundRings g (suc (suc (suc k))) f.end (last_of f.head f.tail) → FoundRings g k s c
-one_ring g k s c h f more =
-    record {
-      rings = (f.head ∷ f.tail) ∷ more.rings;
-      are = (f.is, more.are);
-      small_steps = steps-append c (f.head ∷ f.tail) (joined more.rings) f.small_steps more.small_steps;
-      spelled = f.spelled ∙ ap (λ xs. stroke (15 ∷ []) c (f.head ∷ f.tail) ++ xs) more.spelled;
-      some = λ here. omega arith;
-      fine = f.fine;
-    }
+one_ring g k s c h f more = record {
+  rings = (f.head ∷ f.tail) ∷ more.rings;
+  are = (f.is, more.are);
+  small_steps = steps-append c (f.head ∷ f.tail) (joined more.rings) f.small_steps more.small_steps;
+  spelled = f.spelled ∙ ap (λ xs. stroke (15 ∷ []) c (f.head ∷ f.tail) ++ xs) more.spelled;
+  some = λ here. omega arith;
+  fine = f.fine;
+}
 
 pub rings_found : (g : List ℕ) → geometry_fault kinds.Polygon g ≡ None → AreSmall g → (n k s : ℕ) (c : Point)
     → length g - s ≤ n → Reached kinds.Polygon g k s c → k % 3 ≡ 0 → FoundRings g k s c

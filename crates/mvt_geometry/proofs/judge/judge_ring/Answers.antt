@@ -42,10 +42,14 @@ returns-in_err-judge_header-clause-err c =
     rw (p.1, p.2) (λ k e r.
     let is_due = ring_due k e in
     let next = c.in_ok-first.ensures.ok k is_due.0 r in
-    let reached = reached_close e r next c.in_ok-count.ensures.ok n c.in_ok-count.ensures.count (take ((s + 1 + 2 * n) - (s + 1)) (drop (s + 1) g)) (ap (λ m. take m (drop (s + 1) g)) length_is) c.in_ok-last.ensures.ok c.in_ok-last.last c.in_ok-last.ensures.cursor in
+    let reached =
+    reached_close e r next c.in_ok-count.ensures.ok n c.in_ok-count.ensures.count
+    (take ((s + 1 + 2 * n) - (s + 1)) (drop (s + 1) g)) (ap (λ m. take m (drop (s + 1) g)) length_is)
+    c.in_ok-last.ensures.ok c.in_ok-last.last c.in_ok-last.ensures.cursor in
     header_stops reached ClosePath is_due.2 _ (c.in_err-judge_header.ensures.err (may_not_end kinds.Polygon (suc (suc k))) (λ end. must_draw kinds.Polygon (suc (suc k)) ClosePath is_due.2 (λ same. cc))))
 
-area_fits : (a b p q : ℤ) (n m : ℕ) → p ≡ a → q ≡ b → unsigned_abs a ≤ n * 2 ^ 62 → n ≤ m → m < 2 ^ 64 → unsigned_abs b ≤ 2 ^ 63 → FitsSigned w128 (p +ℤ q) × (to_z w128 (of_z w128 (p +ℤ q)) ≡ a +ℤ b)
+area_fits : (a b p q : ℤ) (n m : ℕ) → p ≡ a → q ≡ b → unsigned_abs a ≤ n * 2 ^ 62 → n ≤ m → m < 2 ^ 64
+    → unsigned_abs b ≤ 2 ^ 63 → FitsSigned w128 (p +ℤ q) × (to_z w128 (of_z w128 (p +ℤ q)) ≡ a +ℤ b)
 area_fits a b p q n m e f small few room edge =
     let fits : FitsSigned w128 (a +ℤ b) = fits_signed_from_abs w128 (a +ℤ b) (omega (arith, ints)) in
     rw (e, f) (fits, to_z-of_z w128 (a +ℤ b) fits)
@@ -66,7 +70,8 @@ overflow_add-area c =
     let n = c.in_ok-count.count in
     let p : to_z w128 (of_z w128 c.in_ok-last.path) ≡ c.in_ok-last.path = search rules in
     let q : to_z w128 (of_z w128 c.cross.result) ≡ c.cross.result = search rules in
-    let few : length (take ((s + 1 + 2 * n) - (s + 1)) (drop (s + 1) g)) ≤ 2 * n = omega (arith, length-take ((s + 1 + 2 * n) - (s + 1)) (drop (s + 1) g)) in
+    let few : length (take ((s + 1 + 2 * n) - (s + 1)) (drop (s + 1) g)) ≤ 2 * n =
+    omega (arith, length-take ((s + 1 + 2 * n) - (s + 1)) (drop (s + 1) g)) in
     let room : 2 * n < 2 ^ 64 = omega (arith, c.in_ok-count.ensures.ok.room, c.in_ok-count.ensures.count, c.type_inv.integers s) in
     (area_fits c.in_ok-last.path c.cross.result _ _ _ (2 * n) p q c.in_ok-last.ensures.small few room c.cross.ensures.small).0
 
@@ -77,13 +82,17 @@ returns-then-area-lt0-clause-err c = λ k e r.
     let n = c.in_ok-count.count in
     let p : to_z w128 (of_z w128 c.in_ok-last.path) ≡ c.in_ok-last.path = search rules in
     let q : to_z w128 (of_z w128 c.cross.result) ≡ c.cross.result = search rules in
-    let few : length (take ((s + 1 + 2 * n) - (s + 1)) (drop (s + 1) g)) ≤ 2 * n = omega (arith, length-take ((s + 1 + 2 * n) - (s + 1)) (drop (s + 1) g)) in
+    let few : length (take ((s + 1 + 2 * n) - (s + 1)) (drop (s + 1) g)) ≤ 2 * n =
+    omega (arith, length-take ((s + 1 + 2 * n) - (s + 1)) (drop (s + 1) g)) in
     let room : 2 * n < 2 ^ 64 = omega (arith, c.in_ok-count.ensures.ok.room, c.in_ok-count.ensures.count, c.type_inv.integers s) in
     let sum = area_fits c.in_ok-last.path c.cross.result _ _ _ (2 * n) p q c.in_ok-last.ensures.small few room c.cross.ensures.small in
     let area_is = sum.1 ∙ ap₂ (λ a b. a +ℤ b) c.in_ok-last.ensures.area c.cross.ensures.value in
     let length_is : (s + 1 + 2 * n) - (s + 1) ≡ 2 * n = omega arith in
     let next = c.in_ok-first.ensures.ok k (ring_due k e).0 r in
-    ring_stops e r next c.in_ok-count.ensures.ok n c.in_ok-count.ensures.count (take ((s + 1 + 2 * n) - (s + 1)) (drop (s + 1) g)) (ap (λ m. take m (drop (s + 1) g)) length_is) c.in_ok-last.ensures.ok c.in_ok-last.last c.in_ok-last.ensures.cursor c.in_ok-judge_header.ensures.ok (the_area c.in_ok-last.path c.cross.result) area_is c.if-pen-eq0.true (negative _ c.if-area-lt0.true)
+    ring_stops e r next c.in_ok-count.ensures.ok n c.in_ok-count.ensures.count
+    (take ((s + 1 + 2 * n) - (s + 1)) (drop (s + 1) g)) (ap (λ m. take m (drop (s + 1) g)) length_is) c.in_ok-last.ensures.ok
+    c.in_ok-last.last c.in_ok-last.ensures.cursor c.in_ok-judge_header.ensures.ok (the_area c.in_ok-last.path c.cross.result)
+    area_is c.if-pen-eq0.true (negative _ c.if-area-lt0.true)
 
 pub returns-clause-ok : goal.returns-clause-ok
 returns-clause-ok c = λ k e r.
@@ -92,14 +101,18 @@ returns-clause-ok c = λ k e r.
     let n = c.in_ok-count.count in
     let p : to_z w128 (of_z w128 c.in_ok-last.path) ≡ c.in_ok-last.path = search rules in
     let q : to_z w128 (of_z w128 c.cross.result) ≡ c.cross.result = search rules in
-    let few : length (take ((s + 1 + 2 * n) - (s + 1)) (drop (s + 1) g)) ≤ 2 * n = omega (arith, length-take ((s + 1 + 2 * n) - (s + 1)) (drop (s + 1) g)) in
+    let few : length (take ((s + 1 + 2 * n) - (s + 1)) (drop (s + 1) g)) ≤ 2 * n =
+    omega (arith, length-take ((s + 1 + 2 * n) - (s + 1)) (drop (s + 1) g)) in
     let room : 2 * n < 2 ^ 64 = omega (arith, c.in_ok-count.ensures.ok.room, c.in_ok-count.ensures.count, c.type_inv.integers s) in
     let sum = area_fits c.in_ok-last.path c.cross.result _ _ _ (2 * n) p q c.in_ok-last.ensures.small few room c.cross.ensures.small in
     let area_is = sum.1 ∙ ap₂ (λ a b. a +ℤ b) c.in_ok-last.ensures.area c.cross.ensures.value in
     let length_is : (s + 1 + 2 * n) - (s + 1) ≡ 2 * n = omega arith in
     let next = c.in_ok-first.ensures.ok k (ring_due k e).0 r in
     let fine : c.args.pen.at ≡ 0 → pos 0 ≤ℤ the_area c.in_ok-last.path c.cross.result = elim c.else-pen-eq0.branch [ else-pen-eq0-via-then-pen-eq0+else-area-lt0 w ↦ λ z. not_negative _ w.if-area-lt0.false | else-pen-eq0-via-else-pen-eq0 w ↦ λ z. absurd (w.if-pen-eq0.false z) ] in
-    ring_goes e r next c.in_ok-count.ensures.ok n c.in_ok-count.ensures.count (take ((s + 1 + 2 * n) - (s + 1)) (drop (s + 1) g)) (ap (λ m. take m (drop (s + 1) g)) length_is) c.in_ok-last.ensures.ok c.in_ok-last.last c.in_ok-last.ensures.cursor c.in_ok-judge_header.ensures.ok (the_area c.in_ok-last.path c.cross.result) area_is fine
+    ring_goes e r next c.in_ok-count.ensures.ok n c.in_ok-count.ensures.count
+    (take ((s + 1 + 2 * n) - (s + 1)) (drop (s + 1) g)) (ap (λ m. take m (drop (s + 1) g)) length_is) c.in_ok-last.ensures.ok
+    c.in_ok-last.last c.in_ok-last.ensures.cursor c.in_ok-judge_header.ensures.ok (the_area c.in_ok-last.path c.cross.result)
+    area_is fine
 
 pub returns-clause-ring : goal.returns-clause-ring
 returns-clause-ring c = λ k p ps more e r is small spelled.
@@ -108,11 +121,17 @@ returns-clause-ring c = λ k p ps more e r is small spelled.
     let n = c.in_ok-count.count in
     let path : to_z w128 (of_z w128 c.in_ok-last.path) ≡ c.in_ok-last.path = search rules in
     let edge : to_z w128 (of_z w128 c.cross.result) ≡ c.cross.result = search rules in
-    let few : length (take ((s + 1 + 2 * n) - (s + 1)) (drop (s + 1) g)) ≤ 2 * n = omega (arith, length-take ((s + 1 + 2 * n) - (s + 1)) (drop (s + 1) g)) in
+    let few : length (take ((s + 1 + 2 * n) - (s + 1)) (drop (s + 1) g)) ≤ 2 * n =
+    omega (arith, length-take ((s + 1 + 2 * n) - (s + 1)) (drop (s + 1) g)) in
     let room : 2 * n < 2 ^ 64 = omega (arith, c.in_ok-count.ensures.ok.room, c.in_ok-count.ensures.count, c.type_inv.integers s) in
-    let sum = area_fits c.in_ok-last.path c.cross.result _ _ _ (2 * n) path edge c.in_ok-last.ensures.small few room c.cross.ensures.small in
+    let sum =
+    area_fits c.in_ok-last.path c.cross.result _ _ _ (2 * n) path edge c.in_ok-last.ensures.small few room
+    c.cross.ensures.small in
     let area_is = sum.1 ∙ ap₂ (λ a b. a +ℤ b) c.in_ok-last.ensures.area c.cross.ensures.value in
     let length_is : (s + 1 + 2 * n) - (s + 1) ≡ 2 * n = omega arith in
     let next = c.in_ok-first.ensures.ok k (ring_due k e).0 r in
-    let passed = ring_passed e r next c.in_ok-count.ensures.ok n c.in_ok-count.ensures.count (take ((s + 1 + 2 * n) - (s + 1)) (drop (s + 1) g)) (ap (λ m. take m (drop (s + 1) g)) length_is) c.in_ok-last.ensures.ok c.in_ok-last.last c.in_ok-last.ensures.cursor p ps more is small spelled in
+    let passed =
+    ring_passed e r next c.in_ok-count.ensures.ok n c.in_ok-count.ensures.count
+    (take ((s + 1 + 2 * n) - (s + 1)) (drop (s + 1) g)) (ap (λ m. take m (drop (s + 1) g)) length_is)
+    c.in_ok-last.ensures.ok c.in_ok-last.last c.in_ok-last.ensures.cursor p ps more is small spelled in
     (area_is ∙ passed.0, passed.1, passed.2)
