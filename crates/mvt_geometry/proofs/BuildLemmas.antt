@@ -26,7 +26,8 @@ pub moved-path : (c : Point) (ps : List Point) → moved c (pairs_of (path_from 
 moved-path c ps = ap (moved c) (pairs-path c ps) ∙ moved-between c ps
 
 -- one more pair of a path
-pub record IsPushed (before : List Point) (from : Point) (parameters : List ℕ) (points : List Point) (c : Point) (rest : List ℕ) : Type 0 where
+pub record IsPushed (before : List Point) (from : Point) (parameters : List ℕ) (points : List Point) (c : Point)
+    (rest : List ℕ) : Type 0 where
   pub points_are : points ++ positions c (pairs_of rest) ≡ before ++ positions from (pairs_of parameters)
   pub end_is : moved c (pairs_of rest) ≡ moved from (pairs_of parameters)
   pub places : ArePlaces (positions c (pairs_of rest))
@@ -89,7 +90,8 @@ lines_front end c ints (p ∷ ps) ls a = record {
 }
 
 -- the parts of a line in front
-module _ {from : Point} {ints : List ℕ} {line : List Point} {more : List ℕ} (f : Front from ints line more) (front back : List ℕ) (front_part : front ≡ take 4 ints) (back_part : back ≡ drop 4 ints) where
+module _ {from : Point} {ints : List ℕ} {line : List Point} {more : List ℕ} (f : Front from ints line more)
+    (front back : List ℕ) (front_part : front ≡ take 4 ints) (back_part : back ≡ drop 4 ints) where
   pub front_are : front ≡ 9 ∷ (path_from from (f.head ∷ []) ++ ((2 + 8 * length f.tail) ∷ []))
   front_are = front_part ∙ ap (take 4) f.ints_are
 

@@ -64,7 +64,8 @@ module _ (line : Bool) (at : ℕ) (d : Pair) (to : Point) (x : d.dx ≢ 42949672
       )
       refl
 
-module _ (line : Bool) (at : ℕ) (d : Pair) (to : Point) (x : d.dx ≢ 4294967295) (y : d.dy ≢ 4294967295) (goes : (line && (eqb d.dx 0 && eqb d.dy 0)) ≡ false) where
+module _ (line : Bool) (at : ℕ) (d : Pair) (to : Point) (x : d.dx ≢ 4294967295) (y : d.dy ≢ 4294967295)
+    (goes : (line && (eqb d.dx 0 && eqb d.dy 0)) ≡ false) where
   moves : first {F = IndexedCause} (when (line && (eqb d.dx 0 && eqb d.dy 0)) (at, causes.ZeroSegment)) ≡ None
   moves = first-when_not {F = IndexedCause} _ (at, causes.ZeroSegment) goes
 

@@ -67,7 +67,8 @@ rings_have = record {
   may_draw = λ n h. let some : 1 < n = omega (arith, h) in grind (arith, nat_tests);
 }
 
-module _ {kind : Kind} {least : ℕ} (has : HasStrokes kind least) {g : List ℕ} {k s : ℕ} {c : Point} (r : Reached kind g k s c) (move : due kind k ≡ Some MoveTo) (line : due kind (suc k) ≡ Some LineTo) where
+module _ {kind : Kind} {least : ℕ} (has : HasStrokes kind least) {g : List ℕ} {k s : ℕ} {c : Point}
+    (r : Reached kind g k s c) (move : due kind k ≡ Some MoveTo) (line : due kind (suc k) ≡ Some LineTo) where
   -- a MoveTo and a LineTo that break no rule draw a line
   pub stroke_found : geometry_fault kind g ≡ None → s < length g → AreSmall g → FoundStroke kind least g k s c
   stroke_found none here small =
