@@ -295,7 +295,8 @@ unknown_calm g = refl
 
 pub at_first : {kind : Kind} {g : List ℕ} {k s : ℕ} {c : Point} → Reached kind g k s c → (k ≡ 0 → s ≡ 0) × (s ≡ 0 → k ≡ 0)
 at_first {kind} {g} {k} {s} r =
-    (λ e. sym (first_start kind g s (subst (λ n. start kind g n ≡ Some s) e r.stands.begins)), λ e. let least = start-least kind g k s r.stands.begins in omega arith)
+    let least = start-least kind g k s r.stands.begins in
+    (λ e. sym (first_start kind g s (subst (λ n. start kind g n ≡ Some s) e r.stands.begins)), λ e. omega arith)
 
 begins_at_none : (kind : Kind) (g : List ℕ) (s k : ℕ) → start kind g k ≡ Some s → 0 < s → 0 < k
 begins_at_none kind g s zero e h = let zero_is : 0 ≡ s = first_start kind g s e in omega arith
@@ -339,7 +340,7 @@ front_calm kind g k (suc j) none =
     let n : suc j + k ≡ suc (j + k) = omega arith in
     let more = subst (λ m. first (rules_of_first kind g m) ≡ None) n none in
     front_calm kind g k j
-    (option_or-nones _ _ (sym (first-append (rules_of_first kind g (j + k)) (under (j + k) (rules_at kind g (j + k) (start kind g (j + k))))) ∙ more)).0
+    (option_or-nones _ _ (sym (first-append (rules_of_first kind g (j + k)) _) ∙ more)).0
 
 pub reached_calm : {kind : Kind} {g : List ℕ} {k s : ℕ} {c : Point} → kind ≢ kinds.Unknown → geometry_fault kind g ≡ None
     → Reached kind g k s c → first (command_rules kind g k s) ≡ None

@@ -101,7 +101,10 @@ ring_fine g k s fine =
 
 pub fine_ring : (g : List ℕ) (s : ℕ) → first (wrong_ring kinds.Polygon g 2 s) ≡ None → pos 0 ≤ℤ area2 (first_ring g)
 unfolding wrong_ring
-fine_ring g s none = by_lt_z (area2 (first_ring g)) (pos 0) (λ h. let yes = first-when {F = IndexedCause} (lt_z (area2 (first_ring g)) (pos 0)) (s, causes.FirstRing) (less h) in absurd (not_both none yes)) (λ h. h)
+fine_ring g s none =
+    let area = area2 (first_ring g) in
+    by_lt_z area (pos 0)
+    (λ h. absurd (not_both none (first-when {F = IndexedCause} (lt_z area (pos 0)) (s, causes.FirstRing) (less h)))) (λ h. h)
   where
     not_both : {o : Option IndexedCause} {f : IndexedCause} → o ≡ None → o ≡ Some f → ⊥
     not_both e f = cc
