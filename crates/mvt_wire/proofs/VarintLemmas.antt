@@ -331,8 +331,9 @@ varint_past b i x nine within is large goes =
           let whole : x % 128 ≡ x = mod-eq_of_lt small in
           number_large b (omega (arith, number, step, here, whole)) ∙ past_ten b (omega arith))
       | inr big ↦
-          (let more : going_on (drop i b) ≡ suc (going_on (drop (i + 1) b)) = going_on-more b i within (subst (λ (k : ℕ). 128 ≤ k) is big) in
-          number_long b (omega arith) ∙ past_ten b (omega arith))
+          let more : going_on (drop i b) ≡ suc (going_on (drop (i + 1) b)) =
+          going_on-more b i within (subst (λ (k : ℕ). 128 ≤ k) is big) in
+          number_long b (omega arith) ∙ past_ten b (omega arith)
     ]
 
 -- the bytes end

@@ -28,9 +28,8 @@ loop-field-preserved c =
 pub returns-in-Err-with-clause-err : goal.returns-in-Err-with-clause-err
 returns-in-Err-with-clause-err c =
     let done = c.loop-field.invariant.0 in
-    let all =
-    (walk_step c.args.payload.now _ c.next.new.self.to_come done c.in-Ok.field c.loop-field.invariant.1 (rw c.in-Ok.is at c.in-Some.ensures.steps).0).fields
-    in
+    let step = (rw c.in-Ok.is at c.in-Some.ensures.steps).0 in
+    let all = (walk_step c.args.payload.now _ c.next.new.self.to_come done c.in-Ok.field c.loop-field.invariant.1 step).fields in
     let stays =
     known_with c.args.payload_at done (entry_of c.in-Ok.field) c.loop-field.known _ _ [] [] (Err c.in-Err-with.error)
     c.loop-field.invariant.2 tt tt tt tt tt c.in-Err-with.ensures.err in

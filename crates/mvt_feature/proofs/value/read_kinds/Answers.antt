@@ -38,9 +38,8 @@ loop-field-preserved c =
 pub returns-in-Err-meaning_of-clause-err : goal.returns-in-Err-meaning_of-clause-err
 returns-in-Err-meaning_of-clause-err c =
     let done = c.loop-field.invariant.0 in
-    let all =
-    (walk_step c.args.payload.now _ c.next.new.self.to_come done c.in-Ok.field c.loop-field.invariant.1 (rw c.in-Ok.is at c.in-Some.ensures.steps).0).fields
-    in
+    let step = (rw c.in-Ok.is at c.in-Some.ensures.steps).0 in
+    let all = (walk_step c.args.payload.now _ c.next.new.self.to_come done c.in-Ok.field c.loop-field.invariant.1 step).fields in
     c.rest_fault_or.ensures _
     (rw (c.fault_at-error.ensures, all)
     (so_far_stops c.args.payload_at done c.loop-field.kinds (entry_of c.in-Ok.field) c.in-Err-meaning_of.cause

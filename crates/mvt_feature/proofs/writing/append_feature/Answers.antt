@@ -10,7 +10,13 @@ returns-in_err-append_tags-clause-out_left c = kept_as_it_was c.from_residual.re
 pub returns-in_err-append_tags-clause-memory : goal.returns-in_err-append_tags-clause-memory
 returns-in_err-append_tags-clause-memory c =
     let p = err_from_is_err_and c.from_residual.result c.from_residual.ensures.1 in
-    λ h. (let m = c.in_err-append_tags.ensures.memory (let k = rw p.1 at h in let q = p.2 in cc) in (m.0, told_as _ _ c.as_slice.ensures _ _ _ _ m.0 m.1, full_as _ _ c.as_slice.ensures c.args.keys.now _ c.args.values.now _ m.0 m.3))
+    λ h. (
+    let m = c.in_err-append_tags.ensures.memory (let k = rw p.1 at h in let q = p.2 in cc) in (
+      m.0,
+      told_as _ _ c.as_slice.ensures _ _ _ _ m.0 m.1,
+      full_as _ _ c.as_slice.ensures c.args.keys.now _ c.args.values.now _ m.0 m.3,
+    )
+    )
 
 pub returns-in_err-append_geometry-clause-left : goal.returns-in_err-append_geometry-clause-left
 returns-in_err-append_geometry-clause-left c =
