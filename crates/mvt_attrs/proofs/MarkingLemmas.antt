@@ -11,7 +11,8 @@ use Rattle.std.proofs.lemmas.Map.{update_same, update_other}
 use Rattle.std.proofs.lemmas.Option.{slice_get_within, slice_get-get_or}
 use Rattle.std.proofs.lemmas.Slice.Eq.{bytes_eq-Decides}
 use Rattle.mvt_attrs.specs.declared.value.Attribute.{Attribute}
-use Rattle.mvt_attrs.specs.Inner.Marking.{IsGrouped, IsMarked, IsPlaceBehind, AreBelow, has_key}
+use Rattle.mvt_attrs.specs.Inner.Marking.{IsGrouped, IsMarked, IsPlaceBehind, AreBelow}
+use Rattle.mvt_attrs.specs.Tags.{has_key}
 
 -- the places of the first texts, and where each text is found among them
 pub record Found (texts : List (List ℕ)) (n : ℕ) (places : List ℕ) (find : List ℕ → Option ℕ) : Type 0 where

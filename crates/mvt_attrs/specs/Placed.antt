@@ -32,4 +32,6 @@ pub record AreTold (n : ℕ) (attributes : List Attribute) (keys keys_after : Li
 abbrev pub IsFullAt : ℕ → List Attribute → List (List ℕ) → List Value → Type 0
 IsFullAt n attributes keys values =
     (a : Attribute) × (slice_get attributes n ≡ Some a)
-    × (((length keys ≡ LIMIT) × (Contains keys a.key → ⊥)) ⊎ (Contains keys a.key × (length values ≡ LIMIT) × (Contains values a.value → ⊥)))
+    ×
+    (((length keys ≡ LIMIT) × (Contains keys a.key → ⊥)) ⊎
+    (Contains keys a.key × (length values ≡ LIMIT) × (Contains values a.value → ⊥)))

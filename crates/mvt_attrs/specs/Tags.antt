@@ -1,5 +1,6 @@
 -- Tags (4.4 Feature Attributes): pairs of an index of a key and an index of a value.
-use Rattle.std.specs.Prelude.{◌≡◌, ◌≢◌, ℕ, ◌+◌, ◌*◌, List, Some, length, slice_get, slice_index, AllPairs}
+use Rattle.std.specs.Prelude.{◌≡◌, ◌≢◌, ℕ, ◌+◌, ◌*◌, Bool, List, Some, length, slice_get, slice_index, bytes_eq, AllPairs}
+use Rattle.std.specs.List.{list_any}
 use Rattle.mvt_attrs.specs.declared.value.Value.{Value}
 use Rattle.mvt_attrs.specs.declared.value.Attribute.{Attribute}
 
@@ -12,6 +13,10 @@ pub record Names (keys : List (List ℕ)) (values : List Value) (tags : List ℕ
 -- no two attributes have one key
 abbrev pub HasDistinctKeys : List Attribute → Type 0
 HasDistinctKeys attributes = AllPairs (λ (a b : Attribute). a.key ≢ b.key) attributes
+
+-- whether an attribute has a key
+abbrev pub has_key : List ℕ → List Attribute → Bool
+has_key key attributes = list_any (λ (a : Attribute). bytes_eq a.key key) attributes
 
 -- a feature with these tags has these attributes
 pub record Resolved (keys : List (List ℕ)) (values : List Value) (tags : List ℕ) (attributes : List Attribute) : Type 0 where

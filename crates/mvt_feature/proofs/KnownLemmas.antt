@@ -30,7 +30,7 @@ joined_more k xs x =
     by_test true = append-nil (numbers_of x.content)
     by_test false = refl
 
-number_more : (k : ℕ) (xs : List Entry) (x : Entry)
+pub number_more : (k : ℕ) (xs : List Entry) (x : Entry)
     → number_in (last_only k (xs ++ x ∷ [])) ≡ (if x.number == k then number_of x.content else number_in (last_only k xs))
 number_more k xs x = ap number_in (last_only-more (λ (y : Entry). y.number) k xs x) ∙ by_test (x.number == k)
   where
@@ -69,10 +69,10 @@ unfolding feature_field_rules
 field_first payload_at x = first-told (fault_at (payload_at + x.at)) (feature_form_rules x.number x.content)
 
 -- a fault stays before the rules of later fields
-tells_first : (e : MessageError) (o : Option MessageFault) (p : Option MessageFault)
+pub tells_as : (e : MessageError) (o : Option MessageFault) (p : Option MessageFault)
     → ((f : MessageFault) → o ≡ Some f → p ≡ Some f) → TellsMessage e o → TellsMessage e p
-tells_first Memory o p keep h = tt
-tells_first (Fault feature at cause) o p keep h = keep _ h
+tells_as Memory o p keep h = tt
+tells_as (Fault feature at cause) o p keep h = keep _ h
 
 one_more : (payload_at : ℕ) (done : List Entry) (x : Entry) (more : List Entry) (f : MessageFault)
     → first (each (λ _. feature_field_rules payload_at) [] done) ≡ None
@@ -98,6 +98,6 @@ known_with payload_at done x old tags integers new_tags new_integers (Ok new) so
   known_more done x old new tags integers new_tags new_integers so_far.1 id kind tags_are integers_are,
 )
 known_with payload_at done x old tags integers new_tags new_integers (Err e) so_far clean id kind tags_are integers_are told_here =
-    λ more. tells_first e (option_map (fault_at (payload_at + x.at)) (first (feature_form_rules x.number x.content)))
+    λ more. tells_as e (option_map (fault_at (payload_at + x.at)) (first (feature_form_rules x.number x.content)))
     (first (each (λ _. feature_field_rules payload_at) [] ((done ++ x ∷ []) ++ more)))
     (λ f broken. one_more payload_at done x more f so_far.0 broken) told_here

@@ -11,11 +11,8 @@ use Rattle.std.proofs.lemmas.Map.Text.{is_eq-slice_cmp}
 use Rattle.std.proofs.lemmas.Slice.Eq.{bytes_eq-Decides}
 use Rattle.mvt_base.proofs.ListLemmas.{all_joined}
 use Rattle.mvt_attrs.specs.declared.value.Attribute.{Attribute}
-use Rattle.mvt_attrs.specs.Tags.{HasDistinctKeys}
+use Rattle.mvt_attrs.specs.Tags.{HasDistinctKeys, has_key}
 use Rattle.mvt_feature.specs.Valid.{ValidAttribute}
-
-abbrev pub has_key : List ℕ → List Attribute → Bool
-has_key key attributes = list_any (λ (a : Attribute). bytes_eq a.key key) attributes
 
 distinct_push : (xs : List Attribute) (a : Attribute) → HasDistinctKeys xs → has_key a.key xs ≡ false → HasDistinctKeys (xs ++ a ∷ [])
 distinct_push xs a h new =

@@ -1,5 +1,5 @@
 -- Values: the rules and the grammar say the same.
-use Rattle.std.proofs.Common.{◌≡◌, ℕ, ◌+◌, ◌≤◌, ◌==◌, ◌↔◌, inl, inr, Bool, true, false, not, nat_le, ℤ, List, [], ◌∷◌, Option, Some, None, refl, sym, ap, ◌∙◌, subst, arith, rules, if◌then◌else◌}
+use Rattle.std.proofs.Common.{◌≡◌, ℕ, zero, suc, ◌+◌, ◌≤◌, ◌==◌, ◌↔◌, inl, inr, Bool, true, false, not, nat_le, ℤ, List, [], ◌∷◌, Option, Some, None, refl, sym, ap, ◌∙◌, subst, arith, rules, if◌then◌else◌}
 use Rattle.std.specs.Int.{w64, cast_signed}
 use Rattle.std.specs.List.{AllByRecursion, list_all, last_or}
 use Rattle.std.specs.Option.{option_or}
@@ -81,32 +81,15 @@ module _ (payload : List ℕ) (payload_at tag_at : ℕ) (whole : (split payload)
 
 -- a fact for each of the seven numbers
 for_seven : (P : ℕ → Type 0) → P 1 → P 2 → P 3 → P 4 → P 5 → P 6 → P 7 → (n : ℕ) → 1 ≤ n → n ≤ 7 → P n
-for_seven P p1 p2 p3 p4 p5 p6 p7 n low high =
-    elim (cases_eq n 1) [
-      | inl e ↦ subst P (sym e) p1
-      | inr d1 ↦
-          elim (cases_eq n 2) [
-            | inl e ↦ subst P (sym e) p2
-            | inr d2 ↦
-                elim (cases_eq n 3) [
-                  | inl e ↦ subst P (sym e) p3
-                  | inr d3 ↦
-                      elim (cases_eq n 4) [
-                        | inl e ↦ subst P (sym e) p4
-                        | inr d4 ↦
-                            elim (cases_eq n 5) [
-                              | inl e ↦ subst P (sym e) p5
-                              | inr d5 ↦
-                                  elim (cases_eq n 6) [
-                                    | inl e ↦ subst P (sym e) p6
-                                    | inr d6 ↦
-                                        elim (cases_eq n 7) [ inl e ↦ subst P (sym e) p7 | inr d7 ↦ absurd (omega arith) ]
-                                  ]
-                            ]
-                      ]
-                ]
-          ]
-    ]
+for_seven P p1 p2 p3 p4 p5 p6 p7 zero low high = absurd (omega arith)
+for_seven P p1 p2 p3 p4 p5 p6 p7 (suc zero) low high = p1
+for_seven P p1 p2 p3 p4 p5 p6 p7 (suc (suc zero)) low high = p2
+for_seven P p1 p2 p3 p4 p5 p6 p7 (suc (suc (suc zero))) low high = p3
+for_seven P p1 p2 p3 p4 p5 p6 p7 (suc (suc (suc (suc zero)))) low high = p4
+for_seven P p1 p2 p3 p4 p5 p6 p7 (suc (suc (suc (suc (suc zero))))) low high = p5
+for_seven P p1 p2 p3 p4 p5 p6 p7 (suc (suc (suc (suc (suc (suc zero)))))) low high = p6
+for_seven P p1 p2 p3 p4 p5 p6 p7 (suc (suc (suc (suc (suc (suc (suc zero))))))) low high = p7
+for_seven P p1 p2 p3 p4 p5 p6 p7 (suc (suc (suc (suc (suc (suc (suc (suc n)))))))) low high = absurd (omega arith)
 
 -- a field's rules and its form
 clean_rules : (payload_at : ℕ) (x : Entry) → first (value_field_rules payload_at x) ≡ None

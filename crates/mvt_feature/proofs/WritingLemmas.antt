@@ -39,7 +39,8 @@ pub kept_as_it_was : {T E : Type 0} → (r : Result T E) (l : List ℕ) → OnEr
 kept_as_it_was r l = on_err r ([], sym (append-nil l))
 
 -- attributes that were passed on are all placed, and none is left to find a pool full
-module _ (attributes passed : List Attribute) (is : passed ≡ attributes) (keys new_keys : List (List ℕ)) (values new_values : List Value) where
+module _ (attributes passed : List Attribute) (is : passed ≡ attributes) (keys new_keys : List (List ℕ))
+    (values new_values : List Value) where
   pub all_placed : new_keys ≡ key_pool keys passed → new_values ≡ value_pool values passed
       → ArePlaced (length attributes) attributes keys new_keys values new_values
   all_placed keys_grown values_grown =

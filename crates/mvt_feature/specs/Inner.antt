@@ -32,7 +32,8 @@ value_of (meanings.Bool b) = values.Bool b
 abbrev pub AreKindsOf : List Entry → Kinds → Type 0
 AreKindsOf fields Nothing = fields ≡ []
 AreKindsOf fields (One number meaning) =
-    (are_one_kind fields ≡ true) × ((x : Entry) × ((last_or None fields ≡ Some x) × ((x.number ≡ number) × Means number x.content (value_of meaning))))
+    (are_one_kind fields ≡ true)
+    × ((x : Entry) × ((last_or None fields ≡ Some x) × ((x.number ≡ number) × Means number x.content (value_of meaning))))
 AreKindsOf fields Several = (fields ≢ []) × (are_one_kind fields ≡ false)
 
 abbrev pub AreKinds : List Entry → Kinds → Type 0

@@ -1,5 +1,5 @@
 //! Laws about the definitions alone: functions without effect, whose contract is the law.
-ghost use Rattle.std.specs.Prelude.{◌≡◌, ◌↔◌, ℕ, ◌+◌, ◌^◌, ◌<◌, ◌≤◌, List, [], ◌∷◌, ◌++◌, length, None, Some, Ok, Err, IsUtf8};
+ghost use Rattle.std.specs.Prelude.{◌≡◌, ◌==◌, ◌↔◌, ℕ, ◌+◌, ◌^◌, ◌<◌, ◌≤◌, List, [], ◌∷◌, ◌++◌, length, Option, None, Some, if◌then◌else◌, Ok, Err, IsUtf8};
 ghost use Rattle.std.specs.List.{AllByRecursion};
 ghost use Rattle.mvt_base.specs.Rules.{AreOrdered, IsLeast, each, first};
 ghost use Rattle.mvt_attrs.specs.declared.value.Value.{Value};
@@ -13,15 +13,17 @@ ghost use Rattle.mvt_wire.specs.Field.{Entry, entry_of};
 ghost use Rattle.mvt_wire.specs.Fields.{GivesEntry};
 ghost use Rattle.mvt_wire.specs.Spelling.{spelled};
 ghost use Rattle.mvt_wire.specs.Split.{Parts, Whole, split};
+ghost use Rattle.mvt_feature.specs.declared.message_error.MessageError.{MessageError};
 ghost use Rattle.mvt_feature.specs.Causes.{of_wire};
 ghost use Rattle.mvt_feature.specs.Canonical.{value_fields, feature_fields};
 ghost use Rattle.mvt_feature.specs.Bounds.{feature_bound};
-ghost use Rattle.mvt_feature.specs.Faults.{MessageFault, fault_at, rest_rules};
+ghost use Rattle.mvt_feature.specs.Faults.{MessageFault, TellsMessage, fault_at, rest_rules};
 ghost use Rattle.mvt_feature.specs.Forms.{Form, IsFirst, HaveForms, forms_rules};
 ghost use Rattle.mvt_feature.specs.Ranges.{AreBytes, IsInRange};
 ghost use Rattle.mvt_feature.specs.Valid.{ValidValue, ValidFeature};
-ghost use Rattle.mvt_feature.specs.Features.{IsFeatureOf};
+ghost use Rattle.mvt_feature.specs.Features.{IsFeatureOf, number_in, number_of};
 ghost use Rattle.mvt_feature.specs.FeatureRules.{feature_rules, feature_fault};
+ghost use Rattle.mvt_feature.specs.Selection.{last_only};
 ghost use Rattle.mvt_feature.specs.Values.{IsValueOf};
 ghost use Rattle.mvt_feature.specs.ValueIn.{value_in};
 ghost use Rattle.mvt_feature.specs.ValueRules.{value_rules, value_fault};
@@ -129,4 +131,16 @@ pub fn walks()
     ensures fault { (payload : List ℕ) (old new : Parts) (done : List Entry) (fault : WireFault) (payload_at : ℕ)
         → Walk payload old done → GivesEntry old (Some (Err fault)) new
         → first (rest_rules payload_at (split payload)) ≡ Some (fault_at (payload_at + fault.at) (of_wire fault.cause)) }
+{}
+
+/// An error that tells a fault of its own also tells it where it is the fault of more.
+pub fn tells_as()
+    ensures { (error : MessageError) (o p : Option MessageFault) → ((fault : MessageFault) → o ≡ Some fault → p ≡ Some fault)
+        → TellsMessage error o → TellsMessage error p }
+{}
+
+/// One more field is the last of its number.
+pub fn number_more()
+    ensures { (k : ℕ) (fields : List Entry) (x : Entry) → number_in (last_only k (fields ++ x ∷ []))
+        ≡ (if x.number == k then number_of x.content else number_in (last_only k fields)) }
 {}

@@ -1,8 +1,7 @@
 //! Which features can be written.
-ghost use Rattle.std.specs.Prelude.{◌≡◌, ◌↔◌, bytes_eq, IfOk, IsTrue};
-ghost use Rattle.std.specs.List.{AllByRecursion, list_any};
-ghost use Rattle.mvt_attrs.specs.declared.value.Attribute.{Attribute as OneAttribute};
-ghost use Rattle.mvt_attrs.specs.Tags.{HasDistinctKeys};
+ghost use Rattle.std.specs.Prelude.{◌≡◌, ◌↔◌, IfOk, IsTrue};
+ghost use Rattle.std.specs.List.{AllByRecursion};
+ghost use Rattle.mvt_attrs.specs.Tags.{HasDistinctKeys, has_key};
 ghost use Rattle.mvt_feature.specs.Valid.{ValidValue, ValidAttribute, ValidFeature};
 
 use crate::feature::Feature;
@@ -100,7 +99,7 @@ fn see_range(value: &Value)
 }
 
 fn has_key(attributes: &[Attribute], key: &str) -> bool
-    ensures { result ≡ list_any (λ (a : OneAttribute). bytes_eq a.key key.now) attributes.now }
+    ensures { result ≡ has_key key.now attributes.now }
 {
     attributes
         .iter()

@@ -26,7 +26,8 @@ pub moved-path : (c : Point) (ps : List Point) → moved c (pairs_of (path_from 
 moved-path c ps = ap (moved c) (pairs-path c ps) ∙ moved-between c ps
 
 -- one more pair of a path
-pub record IsPushed (before : List Point) (from : Point) (parameters : List ℕ) (points : List Point) (c : Point) (rest : List ℕ) : Type 0 where
+pub record IsPushed (before : List Point) (from : Point) (parameters : List ℕ) (points : List Point) (c : Point)
+    (rest : List ℕ) : Type 0 where
   pub points_are : points ++ positions c (pairs_of rest) ≡ before ++ positions from (pairs_of parameters)
   pub end_is : moved c (pairs_of rest) ≡ moved from (pairs_of parameters)
   pub places : ArePlaces (positions c (pairs_of rest))
@@ -68,30 +69,29 @@ pub record Front (from : Point) (ints : List ℕ) (line : List Point) (more : Li
 
 pub front_is : (from : Point) (ints : List ℕ) (line : List Point) (more : List ℕ) → IsFront from ints line more → Front from ints line more
 front_is from ints [] more f = absurd (omega (arith, f.is.enough))
-front_is from ints (p ∷ ps) more f =
-    record {
-      head = p;
-      tail = ps;
-      line_is = refl;
-      ints_are = f.spelled ∙ stroke-more [] from p ps more;
-      few = omega (arith, f.is.few);
-      places = f.is.places;
-    }
+front_is from ints (p ∷ ps) more f = record {
+  head = p;
+  tail = ps;
+  line_is = refl;
+  ints_are = f.spelled ∙ stroke-more [] from p ps more;
+  few = omega (arith, f.is.few);
+  places = f.is.places;
+}
 
 -- the first of some lines
 pub lines_front : (end : List ℕ) (c : Point) (ints : List ℕ) (l : List Point) (ls : List (List Point))
     → SpellLines end c ints (l ∷ ls) → IsFront c ints l (end ++ strokes end (last_of c l) ls)
 lines_front end c ints [] ls a = absurd (omega (arith, a.are.0.enough))
-lines_front end c ints (p ∷ ps) ls a =
-    record {
-      is = a.are.0;
-      spelled =
-          a.spelled ∙ stroke-more end c p ps (strokes end (last_of p ps) ls)
-          ∙ sym (stroke-more [] c p ps (end ++ strokes end (last_of p ps) ls));
-    }
+lines_front end c ints (p ∷ ps) ls a = record {
+  is = a.are.0;
+  spelled =
+      a.spelled ∙ stroke-more end c p ps (strokes end (last_of p ps) ls)
+      ∙ sym (stroke-more [] c p ps (end ++ strokes end (last_of p ps) ls));
+}
 
 -- the parts of a line in front
-module _ {from : Point} {ints : List ℕ} {line : List Point} {more : List ℕ} (f : Front from ints line more) (front back : List ℕ) (front_part : front ≡ take 4 ints) (back_part : back ≡ drop 4 ints) where
+module _ {from : Point} {ints : List ℕ} {line : List Point} {more : List ℕ} (f : Front from ints line more)
+    (front back : List ℕ) (front_part : front ≡ take 4 ints) (back_part : back ≡ drop 4 ints) where
   pub front_are : front ≡ 9 ∷ (path_from from (f.head ∷ []) ++ ((2 + 8 * length f.tail) ∷ []))
   front_are = front_part ∙ ap (take 4) f.ints_are
 
@@ -143,14 +143,13 @@ pub record FirstLine (end : List ℕ) (c : Point) (ints : List ℕ) (lines : Lis
 
 lines_first : (end : List ℕ) (c : Point) (ints : List ℕ) (l : List Point) (ls : List (List Point))
     → SpellLines end c ints (l ∷ ls) → FirstLine end c ints (l ∷ ls)
-lines_first end c ints l ls a =
-    record {
-      line = l;
-      others = ls;
-      lines_are = refl;
-      front = lines_front end c ints l ls a;
-      others_are = λ d rest e f. record { are = a.are.1; spelled = f ∙ ap (λ p. strokes end p ls) (sym e) };
-    }
+lines_first end c ints l ls a = record {
+  line = l;
+  others = ls;
+  lines_are = refl;
+  front = lines_front end c ints l ls a;
+  others_are = λ d rest e f. record { are = a.are.1; spelled = f ∙ ap (λ p. strokes end p ls) (sym e) };
+}
 
 pub rings_first : {ints : List ℕ} {rings : List (List Point)} → SpellRings ints rings → FirstLine (15 ∷ []) origin ints rings
 rings_first {rings = []} a = absurd (omega (arith, a.some))

@@ -186,7 +186,8 @@ chain_at kind g k s o c e f =
     (option_or (first (wrong_pairs d p g s)) (first (wrong_ring kind g k s))))
     e f
 
-module _ {kind : Kind} {g : List ℕ} {k s : ℕ} {c : Point} (r : Reached kind g k s c) (command : Command) (is_due : due kind k ≡ Some command) where
+module _ {kind : Kind} {g : List ℕ} {k s : ℕ} {c : Point} (r : Reached kind g k s c) (command : Command)
+    (is_due : due kind k ≡ Some command) where
   pub header_stops : (f : IndexedCause) → first (rows (header_rows (may_not_end kind k) kind (Some command) g s)) ≡ Some f
       → geometry_fault kind g ≡ Some f
   header_stops f e =
@@ -201,7 +202,8 @@ module _ {kind : Kind} {g : List ℕ} {k s : ℕ} {c : Point} (r : Reached kind 
       ∙ ap (λ o. option_or o (option_or (first (wrong_pairs (Some command) c g s)) (first (wrong_ring kind g k s))))
       (header_right (may_not_end kind k) kind command g s h)
 
-  module _ (h : IsHeader kind command g s) (n : ℕ) (count : n ≡ pair_count (Some command) (get_or g s 0 / 8)) (parameters : List ℕ) (behind : parameters ≡ take (2 * n) (drop (s + 1) g)) where
+  module _ (h : IsHeader kind command g s) (n : ℕ) (count : n ≡ pair_count (Some command) (get_or g s 0 / 8))
+      (parameters : List ℕ) (behind : parameters ≡ take (2 * n) (drop (s + 1) g)) where
     pub pairs_behind : pairs_of parameters ≡ pairs_at (Some command) g s
     pairs_behind = ap pairs_of behind ∙ pairs-take n (2 * n) (drop (s + 1) g) refl ∙ ap (λ m. take m (pairs_of (drop (s + 1) g))) count
 
@@ -293,7 +295,8 @@ unknown_calm g = refl
 
 pub at_first : {kind : Kind} {g : List ℕ} {k s : ℕ} {c : Point} → Reached kind g k s c → (k ≡ 0 → s ≡ 0) × (s ≡ 0 → k ≡ 0)
 at_first {kind} {g} {k} {s} r =
-    (λ e. sym (first_start kind g s (subst (λ n. start kind g n ≡ Some s) e r.stands.begins)), λ e. let least = start-least kind g k s r.stands.begins in omega arith)
+    let least = start-least kind g k s r.stands.begins in
+    (λ e. sym (first_start kind g s (subst (λ n. start kind g n ≡ Some s) e r.stands.begins)), λ e. omega arith)
 
 begins_at_none : (kind : Kind) (g : List ℕ) (s k : ℕ) → start kind g k ≡ Some s → 0 < s → 0 < k
 begins_at_none kind g s zero e h = let zero_is : 0 ≡ s = first_start kind g s e in omega arith
@@ -303,7 +306,8 @@ pub some_command : {kind : Kind} {g : List ℕ} {k s : ℕ} {c : Point} → Reac
 some_command {kind} {g} {k} {s} r h = begins_at_none kind g s k r.stands.begins h
 
 -- what holds of a command that breaks no rule
-module _ (kind : Kind) (g : List ℕ) (k s : ℕ) (c : Point) (stands : Stands kind g k s c) (command : Command) (is_due : due kind k ≡ Some command) (none : first (command_rules kind g k s) ≡ None) where
+module _ (kind : Kind) (g : List ℕ) (k s : ℕ) (c : Point) (stands : Stands kind g k s c) (command : Command)
+    (is_due : due kind k ≡ Some command) (none : first (command_rules kind g k s) ≡ None) where
   parts : (first (rows (header_rows (may_not_end kind k) kind (Some command) g s)) ≡ None)
       × (first (wrong_pairs (Some command) c g s) ≡ None) × (first (wrong_ring kind g k s) ≡ None)
   parts =
@@ -336,7 +340,7 @@ front_calm kind g k (suc j) none =
     let n : suc j + k ≡ suc (j + k) = omega arith in
     let more = subst (λ m. first (rules_of_first kind g m) ≡ None) n none in
     front_calm kind g k j
-    (option_or-nones _ _ (sym (first-append (rules_of_first kind g (j + k)) (under (j + k) (rules_at kind g (j + k) (start kind g (j + k))))) ∙ more)).0
+    (option_or-nones _ _ (sym (first-append (rules_of_first kind g (j + k)) _) ∙ more)).0
 
 pub reached_calm : {kind : Kind} {g : List ℕ} {k s : ℕ} {c : Point} → kind ≢ kinds.Unknown → geometry_fault kind g ≡ None
     → Reached kind g k s c → first (command_rules kind g k s) ≡ None

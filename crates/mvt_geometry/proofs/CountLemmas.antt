@@ -1,7 +1,6 @@
 -- How many lines or polygons the judge has passed: what is left of those that the integers draw.
-use Rattle.std.proofs.Common.{◌≡◌, ◌≢◌, ℕ, zero, suc, ◌+◌, ◌*◌, ◌/◌, ◌%◌, ◌<◌, ◌≤◌, true, List, [], ◌∷◌, ◌++◌, length, take, drop, get_or, None, ℤ, pos, ◌+ℤ◌, ◌<ℤ◌, ◌≤ℤ◌, refl, sym, ap, ap₂, subst, ◌∙◌, ◌⊎◌, inl, inr, arith, length-drop}
+use Rattle.std.proofs.Common.{◌≡◌, ◌≢◌, ℕ, zero, suc, ◌+◌, ◌*◌, ◌%◌, ◌<◌, ◌≤◌, List, [], ◌∷◌, ◌++◌, length, drop, ℤ, pos, ◌+ℤ◌, ◌<ℤ◌, ◌≤ℤ◌, refl, sym, ap, ap₂, subst, ◌∙◌, ◌⊎◌, inl, inr, arith, length-drop}
 use Rattle.std.specs.List.{AllByRecursion}
-use Rattle.mvt_base.specs.Rules.{first, each}
 use Rattle.mvt_geometry.specs.declared.shape.Point.{Point}
 use Rattle.mvt_geometry.specs.declared.shape.Geometry.{Geometry}
 use Rattle.mvt_geometry.specs.declared.shape.Geometry.TheVariants.{Unknown, Points, Lines, Polygons}
@@ -13,15 +12,14 @@ use Rattle.mvt_geometry.specs.Area.{cross, area2}
 use Rattle.mvt_geometry.specs.Valid.{IsStroke}
 use Rattle.mvt_geometry.specs.Drawing.{Draws, stroke, strokes}
 use Rattle.mvt_geometry.specs.Commands.{pairs_of, pairs_at, moved, positions}
-use Rattle.mvt_geometry.specs.Table.{pair_rules}
-use Rattle.mvt_geometry.specs.Inner.Judging.{IsHeader, Reached, edges, part_count}
+use Rattle.mvt_geometry.specs.Inner.Judging.{Reached, edges, part_count}
 use Rattle.mvt_geometry.specs.Inner.Strokes.{pairs_between}
 use Rattle.mvt_geometry.specs.Inner.Grouping.{groups_of, polygons_of}
 use Rattle.mvt_geometry.proofs.AreaLemmas.{area2-ring}
 use Rattle.mvt_geometry.proofs.CommandLemmas.{moves-are, cursor-next, pairs_behind}
 use Rattle.mvt_geometry.proofs.PathLemmas.{positions-between, moved-between}
 use Rattle.mvt_geometry.proofs.FoundLemmas.{front_of_rest}
-use Rattle.mvt_geometry.proofs.RingLemmas.{ring_due, reached_close}
+use Rattle.mvt_geometry.proofs.RingLemmas.{ReadsRing, ring_due, reached_close}
 use Rattle.mvt_geometry.proofs.StrokeLemmas.{lines_have, rings_have, stroke_drawn, steps-front, steps-back}
 use Rattle.mvt_geometry.proofs.LineLemmas.{line_due}
 use Rattle.mvt_geometry.proofs.PolygonLemmas.{stroke_closed}
@@ -78,21 +76,23 @@ abbrev pub polygons_left : ℕ → List (List Point) → ℕ
 polygons_left zero rings = length (polygons_of rings)
 polygons_left (suc n) rings = length (groups_of rings).polygons
 
-module _ {g : List ℕ} {k s t : ℕ} {c d : Point} (e : k % 3 ≡ 0) (r : Reached kinds.Polygon g k s c) (next : Reached kinds.Polygon g (suc k) t d) (line : IsHeader kinds.Polygon LineTo g t) (n : ℕ) (count : n ≡ get_or g t 0 / 8) (parameters : List ℕ) (behind : parameters ≡ take (2 * n) (drop (t + 1) g)) (none : first (each (pair_rules true (t + 1) d) [] (pairs_of parameters)) ≡ None) (last : Point) (last_is : last ≡ moved d (pairs_of parameters)) where
+module _ {g : List ℕ} {k s t n : ℕ} {c d last : Point} {parameters : List ℕ} (ring : ReadsRing g k s t n c d last parameters) where
   -- the ring that was passed, twice its area, and what is behind it
   pub ring_passed : (p : Point) (ps : List Point) (more : List ℕ) → IsStroke 3 (p ∷ ps) → AreSteps c (p ∷ ps)
       → drop s g ≡ stroke (15 ∷ []) c (p ∷ ps) ++ more
       → (edges d (positions d (pairs_of parameters)) +ℤ cross last d ≡ area2 (p ∷ ps)) × (drop (t + 1 + 2 * n + 1) g ≡ more)
       × (last ≡ last_of p ps)
   ring_passed p ps more is small spelled =
-      let is_due = ring_due k e in
-      let f = stroke_drawn rings_have r is_due.0 is_due.1 p ps (15 ∷ more) is small (spelled ∙ sym (stroke_closed c p ps more)) in
-      let same = one_place (reached_close e r next line n count parameters behind none last last_is) f.1 in
+      let is_due = ring_due k ring.third in
+      let f =
+      stroke_drawn rings_have ring.reached is_due.0 is_due.1 p ps (15 ∷ more) is small
+      (spelled ∙ sym (stroke_closed c p ps more)) in
+      let same = one_place (reached_close ring) f.1 in
       let pairs_are : pairs_of parameters ≡ pairs_between p ps =
-      pairs_behind next LineTo is_due.1 line n count parameters behind
-      ∙ sym (moves-are kinds.Polygon g (suc k) t next.stands.begins ∙ ap (λ o. pairs_at o g t) is_due.1) ∙ f.4 in
+      pairs_behind ring.next LineTo is_due.1 ring.line n ring.count parameters ring.behind
+      ∙ sym (moves-are kinds.Polygon g (suc k) t ring.next.stands.begins ∙ ap (λ o. pairs_at o g t) is_due.1) ∙ f.4 in
       let head_is : d ≡ p =
-      sym next.stands.cursor_is ∙ cursor-next kinds.Polygon g k ∙ ap₂ moved r.stands.cursor_is f.3
+      sym ring.next.stands.cursor_is ∙ cursor-next kinds.Polygon g k ∙ ap₂ moved ring.reached.stands.cursor_is f.3
       ∙ moved-between c (p ∷ []) in
       let tail_is : positions d (pairs_of parameters) ≡ ps = ap₂ positions head_is pairs_are ∙ positions-between p ps in (
         ap₂ (λ x y. x +ℤ y) (ap₂ edges head_is tail_is) (ap₂ cross same.1 head_is) ∙ sym (area2-ring p ps),
@@ -103,12 +103,11 @@ module _ {g : List ℕ} {k s t : ℕ} {c d : Point} (e : k % 3 ≡ 0) (r : Reach
 pub ring_left : (g : List ℕ) (s t : ℕ) (c d p : Point) (ps : List Point) (rs : List (List Point))
     → Left 3 (15 ∷ []) g s c ((p ∷ ps) ∷ rs) → drop t g ≡ strokes (15 ∷ []) (last_of p ps) rs → d ≡ last_of p ps
     → Left 3 (15 ∷ []) g t d rs
-ring_left g s t c d p ps rs left spelled last =
-    record {
-      are = left.are.1;
-      small_steps = subst (λ q. AreSteps q (joined rs)) (sym last) (steps-back c (p ∷ ps) (joined rs) left.small_steps);
-      spelled = spelled ∙ ap (λ q. strokes (15 ∷ []) q rs) (sym last);
-    }
+ring_left g s t c d p ps rs left spelled last = record {
+  are = left.are.1;
+  small_steps = subst (λ q. AreSteps q (joined rs)) (sym last) (steps-back c (p ∷ ps) (joined rs) left.small_steps);
+  spelled = spelled ∙ ap (λ q. strokes (15 ∷ []) q rs) (sym last);
+}
 
 -- a ring opens a polygon where none is open, or its area is positive
 pub opened_one : (n : ℕ) (ring : List Point) (rings : List (List Point)) → (n ≡ 0) ⊎ (pos 0 <ℤ area2 ring)

@@ -34,7 +34,9 @@ id_in MoveTo count = (omega arith, omega arith)
 id_in LineTo count = (omega arith, omega arith)
 id_in ClosePath count = (omega arith, omega arith)
 
-module _ {kind : Kind} {g : List ℕ} {k s : ℕ} {c : Point} (r : Reached kind g k s c) (command : Command) (is_due : due kind k ≡ Some command) (count : ℕ) (ps : List Point) (may : MayDraw kind command count c ps) (more : List ℕ) (spelled : drop s g ≡ (id_of command + 8 * count) ∷ (path_from c ps ++ more)) where
+module _ {kind : Kind} {g : List ℕ} {k s : ℕ} {c : Point} (r : Reached kind g k s c) (command : Command)
+    (is_due : due kind k ≡ Some command) (count : ℕ) (ps : List Point) (may : MayDraw kind command count c ps) (more : List ℕ)
+    (spelled : drop s g ≡ (id_of command + 8 * count) ∷ (path_from c ps ++ more)) where
   there : (s < length g) × (get_or g s 0 ≡ id_of command + 8 * count) × (drop (s + 1) g ≡ path_from c ps ++ more)
   there = front_of_rest g s (id_of command + 8 * count) (path_from c ps ++ more) spelled
 

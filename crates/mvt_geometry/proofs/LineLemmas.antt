@@ -35,14 +35,13 @@ no_lines g s c h = record { lines = []; are = tt; small_steps = tt; spelled = dr
 
 one_line : (g : List ℕ) (k s : ℕ) (c : Point) → s < length g → (f : FoundStroke kinds.LineString 2 g k s c)
     → FoundLines g f.end (last_of f.head f.tail) → FoundLines g s c
-one_line g k s c h f more =
-    record {
-      lines = (f.head ∷ f.tail) ∷ more.lines;
-      are = (f.is, more.are);
-      small_steps = steps-append c (f.head ∷ f.tail) (joined more.lines) f.small_steps more.small_steps;
-      spelled = f.spelled ∙ ap (λ xs. stroke [] c (f.head ∷ f.tail) ++ xs) more.spelled;
-      some = λ here. omega arith;
-    }
+one_line g k s c h f more = record {
+  lines = (f.head ∷ f.tail) ∷ more.lines;
+  are = (f.is, more.are);
+  small_steps = steps-append c (f.head ∷ f.tail) (joined more.lines) f.small_steps more.small_steps;
+  spelled = f.spelled ∙ ap (λ xs. stroke [] c (f.head ∷ f.tail) ++ xs) more.spelled;
+  some = λ here. omega arith;
+}
 
 pub lines_found : (g : List ℕ) → geometry_fault kinds.LineString g ≡ None → AreSmall g → (n k s : ℕ) (c : Point)
     → length g - s ≤ n → Reached kinds.LineString g k s c → k % 2 ≡ 0 → FoundLines g s c

@@ -52,15 +52,14 @@ first_ring_is g k c p ps z o e f =
     ∙ ap (λ d. positions d (pairs_between c (p ∷ ps))) (sym o) ∙ positions-between c (p ∷ ps)
 
 no_rings : (g : List ℕ) (k s : ℕ) (c : Point) → length g ≤ s → FoundRings g k s c
-no_rings g k s c h =
-    record {
-      rings = [];
-      are = tt;
-      small_steps = tt;
-      spelled = drop_all s g h;
-      some = λ here. absurd (omega arith);
-      fine = λ z o. tt;
-    }
+no_rings g k s c h = record {
+  rings = [];
+  are = tt;
+  small_steps = tt;
+  spelled = drop_all s g h;
+  some = λ here. absurd (omega arith);
+  fine = λ z o. tt;
+}
 
 -- a ring with its ClosePath
 record Closed (g : List ℕ) (k s : ℕ) (c : Point) : Type 0 where
@@ -117,15 +116,14 @@ ring_found g k s c r e none here small =
 
 one_ring : (g : List ℕ) (k s : ℕ) (c : Point) → s < length g → (f : Closed g k s c)
     → FoundRings g (suc (suc (suc k))) f.end (last_of f.head f.tail) → FoundRings g k s c
-one_ring g k s c h f more =
-    record {
-      rings = (f.head ∷ f.tail) ∷ more.rings;
-      are = (f.is, more.are);
-      small_steps = steps-append c (f.head ∷ f.tail) (joined more.rings) f.small_steps more.small_steps;
-      spelled = f.spelled ∙ ap (λ xs. stroke (15 ∷ []) c (f.head ∷ f.tail) ++ xs) more.spelled;
-      some = λ here. omega arith;
-      fine = f.fine;
-    }
+one_ring g k s c h f more = record {
+  rings = (f.head ∷ f.tail) ∷ more.rings;
+  are = (f.is, more.are);
+  small_steps = steps-append c (f.head ∷ f.tail) (joined more.rings) f.small_steps more.small_steps;
+  spelled = f.spelled ∙ ap (λ xs. stroke (15 ∷ []) c (f.head ∷ f.tail) ++ xs) more.spelled;
+  some = λ here. omega arith;
+  fine = f.fine;
+}
 
 pub rings_found : (g : List ℕ) → geometry_fault kinds.Polygon g ≡ None → AreSmall g → (n k s : ℕ) (c : Point)
     → length g - s ≤ n → Reached kinds.Polygon g k s c → k % 3 ≡ 0 → FoundRings g k s c
@@ -160,7 +158,9 @@ rings_drawn g ((p ∷ ps) ∷ rings) k s c r e some fine are small spelled =
     (spelled ∙ sym (stroke_closed c p ps behind)) in
     let may : MayDraw kinds.Polygon ClosePath 1 (last_of p ps) [] =
     record { allowed = refl; pairs = refl; places = tt; small_steps = tt; apart = λ e. cc } in
-    let fine_here : suc (suc k) ≡ 2 → pos 0 ≤ℤ area2 (first_ring g) = λ two. let z : k ≡ 0 = omega arith in subst (λ ring. pos 0 ≤ℤ area2 ring) (sym (first_ring_is g k c p ps z (fine z).0 f.3 f.4)) (fine z).1 in
+    let fine_here : suc (suc k) ≡ 2 → pos 0 ≤ℤ area2 (first_ring g) =
+    λ two. let z : k ≡ 0 = omega arith in
+    subst (λ ring. pos 0 ≤ℤ area2 ring) (sym (first_ring_is g k c p ps z (fine z).0 f.3 f.4)) (fine z).1 in
     let next = command_drawn f.1 ClosePath is_due.2 1 [] may behind f.2 (ring_fine g (suc (suc k)) f.0 fine_here) in
     rings_drawn g rings (suc (suc (suc k))) _ (last_of p ps) next (omega (arith, e)) (omega arith) (λ z. absurd (omega arith))
     are.1 (steps-back c (p ∷ ps) (joined rings) small) (rest_drawn f.1 ClosePath is_due.2 1 [] may behind f.2)

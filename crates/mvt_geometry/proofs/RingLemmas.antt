@@ -101,44 +101,62 @@ ring_fine g k s fine =
 
 pub fine_ring : (g : List ℕ) (s : ℕ) → first (wrong_ring kinds.Polygon g 2 s) ≡ None → pos 0 ≤ℤ area2 (first_ring g)
 unfolding wrong_ring
-fine_ring g s none = by_lt_z (area2 (first_ring g)) (pos 0) (λ h. let yes = first-when {F = IndexedCause} (lt_z (area2 (first_ring g)) (pos 0)) (s, causes.FirstRing) (less h) in absurd (not_both none yes)) (λ h. h)
+fine_ring g s none =
+    let area = area2 (first_ring g) in
+    by_lt_z area (pos 0)
+    (λ h. absurd (not_both none (first-when {F = IndexedCause} (lt_z area (pos 0)) (s, causes.FirstRing) (less h)))) (λ h. h)
   where
     not_both : {o : Option IndexedCause} {f : IndexedCause} → o ≡ None → o ≡ Some f → ⊥
     not_both e f = cc
 
--- a ring whose pairs break no rule, and whose ClosePath stands there
-module _ {g : List ℕ} {k s t : ℕ} {c d : Point} (e : k % 3 ≡ 0) (r : Reached kinds.Polygon g k s c) (next : Reached kinds.Polygon g (suc k) t d) (line : IsHeader kinds.Polygon LineTo g t) (n : ℕ) (count : n ≡ get_or g t 0 / 8) (parameters : List ℕ) (behind : parameters ≡ take (2 * n) (drop (t + 1) g)) (none : first (each (pair_rules true (t + 1) d) [] (pairs_of parameters)) ≡ None) (last : Point) (last_is : last ≡ moved d (pairs_of parameters)) where
+-- a ring whose pairs break no rule: a command leads to d, and the next over the parameters to the last point
+pub record ReadsRing (g : List ℕ) (k s t n : ℕ) (c d last : Point) (parameters : List ℕ) : Type 0 where
+  pub third : k % 3 ≡ 0
+  pub reached : Reached kinds.Polygon g k s c
+  pub next : Reached kinds.Polygon g (suc k) t d
+  pub line : IsHeader kinds.Polygon LineTo g t
+  pub count : n ≡ get_or g t 0 / 8
+  pub behind : parameters ≡ take (2 * n) (drop (t + 1) g)
+  pub none : first (each (pair_rules true (t + 1) d) [] (pairs_of parameters)) ≡ None
+  pub last_is : last ≡ moved d (pairs_of parameters)
+
+-- its ClosePath stands there
+module _ {g : List ℕ} {k s t n : ℕ} {c d last : Point} {parameters : List ℕ} (ring : ReadsRing g k s t n c d last parameters) where
   pub reached_close : Reached kinds.Polygon g (suc (suc k)) (t + 1 + 2 * n) last
   reached_close =
-      let is_due = ring_due k e in
-      goes_on next LineTo is_due.1 line n count parameters behind last last_is none (no_ring kinds.Polygon g (suc k) t (λ same. let two : Some LineTo ≡ Some ClosePath = sym is_due.1 ∙ same in cc))
+      let is_due = ring_due k ring.third in
+      goes_on ring.next LineTo is_due.1 ring.line n ring.count parameters ring.behind last ring.last_is ring.none
+      (no_ring kinds.Polygon g (suc k) t (λ same. let two : Some LineTo ≡ Some ClosePath = sym is_due.1 ∙ same in cc))
 
   ring_is : k ≡ 0 → area2 (first_ring g) ≡ edges d (positions d (pairs_of parameters)) +ℤ cross last d
   ring_is z =
       let start_is : moves kinds.Polygon g 1 ≡ pairs_of parameters =
-      moves-are kinds.Polygon g 1 t (subst (λ m. start kinds.Polygon g (suc m) ≡ Some t) z next.stands.begins)
-      ∙ sym (pairs_behind next LineTo (ring_due k e).1 line n count parameters behind) in
-      first_area (subst (λ m. Reached kinds.Polygon g m s c) z r) (subst (λ m. Reached kinds.Polygon g (suc m) t d) z next)
+      moves-are kinds.Polygon g 1 t (subst (λ m. start kinds.Polygon g (suc m) ≡ Some t) z ring.next.stands.begins)
+      ∙ sym (pairs_behind ring.next LineTo (ring_due k ring.third).1 ring.line n ring.count parameters ring.behind) in
+      first_area (subst (λ m. Reached kinds.Polygon g m s c) z ring.reached) (subst (λ m. Reached kinds.Polygon g (suc m) t d) z ring.next)
       (pairs_of parameters) start_is
-      ∙ ap (λ p. edges d (positions d (pairs_of parameters)) +ℤ cross p d) (sym last_is)
+      ∙ ap (λ p. edges d (positions d (pairs_of parameters)) +ℤ cross p d) (sym ring.last_is)
 
-  module _ (close : IsHeader kinds.Polygon ClosePath g (t + 1 + 2 * n)) (area : ℤ) (area_is : area ≡ edges d (positions d (pairs_of parameters)) +ℤ cross last d) where
+  module _ (close : IsHeader kinds.Polygon ClosePath g (t + 1 + 2 * n)) (area : ℤ)
+      (area_is : area ≡ edges d (positions d (pairs_of parameters)) +ℤ cross last d) where
     left : first (command_rules kinds.Polygon g (suc (suc k)) (t + 1 + 2 * n))
         ≡ first (wrong_ring kinds.Polygon g (suc (suc k)) (t + 1 + 2 * n))
-    left = rules_left reached_close ClosePath (ring_due k e).2 close 0 refl [] refl refl
+    left = rules_left reached_close ClosePath (ring_due k ring.third).2 close 0 refl [] refl refl
 
     pub ring_stops : s ≡ 0 → area <ℤ pos 0 → geometry_fault kinds.Polygon g ≡ Some (t + 1 + 2 * n, causes.FirstRing)
     ring_stops z negative =
-        let first_one = (at_first r).1 z in
+        let first_one = (at_first ring.reached).1 z in
         ring_fault reached_close (ap (λ m. suc (suc m)) first_one) left
         (subst (λ a. a <ℤ pos 0) (area_is ∙ sym (ring_is first_one)) negative)
 
     pub ring_goes : (s ≡ 0 → pos 0 ≤ℤ area) → Reached kinds.Polygon g (k + 3) (t + 1 + 2 * n + 1) last
     ring_goes fine =
-        let fine_two : suc (suc k) ≡ 2 → pos 0 ≤ℤ area2 (first_ring g) = λ two. let first_one : k ≡ 0 = omega arith in subst (λ a. pos 0 ≤ℤ a) (area_is ∙ sym (ring_is first_one)) (fine ((at_first r).0 first_one)) in
+        let fine_two : suc (suc k) ≡ 2 → pos 0 ≤ℤ area2 (first_ring g) =
+        λ two. let first_one : k ≡ 0 = omega arith in
+        subst (λ a. pos 0 ≤ℤ a) (area_is ∙ sym (ring_is first_one)) (fine ((at_first ring.reached).0 first_one)) in
         let three : suc (suc (suc k)) ≡ k + 3 = omega arith in
         let place : t + 1 + 2 * n + 1 + 2 * 0 ≡ t + 1 + 2 * n + 1 = omega arith in
         subst (λ m. Reached kinds.Polygon g m (t + 1 + 2 * n + 1) last) three
         (subst (λ m. Reached kinds.Polygon g (suc (suc (suc k))) m last) place
-        (goes_on reached_close ClosePath (ring_due k e).2 close 0 refl [] refl last refl refl
+        (goes_on reached_close ClosePath (ring_due k ring.third).2 close 0 refl [] refl last refl refl
         (ring_fine g (suc (suc k)) (t + 1 + 2 * n) fine_two)))

@@ -64,7 +64,8 @@ module _ (line : Bool) (at : ℕ) (d : Pair) (to : Point) (x : d.dx ≢ 42949672
       )
       refl
 
-module _ (line : Bool) (at : ℕ) (d : Pair) (to : Point) (x : d.dx ≢ 4294967295) (y : d.dy ≢ 4294967295) (goes : (line && (eqb d.dx 0 && eqb d.dy 0)) ≡ false) where
+module _ (line : Bool) (at : ℕ) (d : Pair) (to : Point) (x : d.dx ≢ 4294967295) (y : d.dy ≢ 4294967295)
+    (goes : (line && (eqb d.dx 0 && eqb d.dy 0)) ≡ false) where
   moves : first {F = IndexedCause} (when (line && (eqb d.dx 0 && eqb d.dy 0)) (at, causes.ZeroSegment)) ≡ None
   moves = first-when_not {F = IndexedCause} _ (at, causes.ZeroSegment) goes
 
@@ -105,7 +106,12 @@ module _ (line : Bool) (at : ℕ) (d : Pair) (to : Point) (x : d.dx ≢ 42949672
 
 inside_is : (z : ℤ) → is_outside wide z ≡ false → InRange z
 inside_is z e =
-    by_lt_z z (negsuc 2147483646) (λ low. let yes : is_outside wide z ≡ true = grind (arith, ints) in absurd (false≢true (sym e ∙ yes))) (λ low. by_lt_z (pos 2147483647) z (λ high. let yes : is_outside wide z ≡ true = grind (arith, ints) in absurd (false≢true (sym e ∙ yes))) (λ high. record { low = low; high = high }))
+    by_lt_z z (negsuc 2147483646)
+    (λ low. let yes : is_outside wide z ≡ true = grind (arith, ints) in absurd (false≢true (sym e ∙ yes)))
+    (λ low.
+    by_lt_z (pos 2147483647) z
+    (λ high. let yes : is_outside wide z ≡ true = grind (arith, ints) in absurd (false≢true (sym e ∙ yes)))
+    (λ high. record { low = low; high = high }))
 
 -- what holds of a step that breaks no rule
 pub step_gives : (line : Bool) (at : ℕ) (d : Pair) (to : Point) → first (step_rules line at d to) ≡ None

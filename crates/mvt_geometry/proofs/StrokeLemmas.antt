@@ -50,26 +50,25 @@ pub record HasStrokes (kind : Kind) (least : ℕ) : Type 0 where
   pub may_draw : (n : ℕ) → least ≤ suc n → is_allowed kind LineTo n ≡ true
 
 pub lines_have : HasStrokes kinds.LineString 2
-lines_have =
-    record {
-      known = λ same. cc;
-      moves_once = λ n e. exact_unsigned_eq n 1 e;
-      may_move = refl;
-      draws_enough = λ n e. let h : 0 < n = grind (arith, nat_tests) in omega (arith, h);
-      may_draw = λ n h. let some : 0 < n = omega (arith, h) in grind (arith, nat_tests);
-    }
+lines_have = record {
+  known = λ same. cc;
+  moves_once = λ n e. exact_unsigned_eq n 1 e;
+  may_move = refl;
+  draws_enough = λ n e. let h : 0 < n = grind (arith, nat_tests) in omega (arith, h);
+  may_draw = λ n h. let some : 0 < n = omega (arith, h) in grind (arith, nat_tests);
+}
 
 pub rings_have : HasStrokes kinds.Polygon 3
-rings_have =
-    record {
-      known = λ same. cc;
-      moves_once = λ n e. exact_unsigned_eq n 1 e;
-      may_move = refl;
-      draws_enough = λ n e. let h : 1 < n = grind (arith, nat_tests) in omega (arith, h);
-      may_draw = λ n h. let some : 1 < n = omega (arith, h) in grind (arith, nat_tests);
-    }
+rings_have = record {
+  known = λ same. cc;
+  moves_once = λ n e. exact_unsigned_eq n 1 e;
+  may_move = refl;
+  draws_enough = λ n e. let h : 1 < n = grind (arith, nat_tests) in omega (arith, h);
+  may_draw = λ n h. let some : 1 < n = omega (arith, h) in grind (arith, nat_tests);
+}
 
-module _ {kind : Kind} {least : ℕ} (has : HasStrokes kind least) {g : List ℕ} {k s : ℕ} {c : Point} (r : Reached kind g k s c) (move : due kind k ≡ Some MoveTo) (line : due kind (suc k) ≡ Some LineTo) where
+module _ {kind : Kind} {least : ℕ} (has : HasStrokes kind least) {g : List ℕ} {k s : ℕ} {c : Point}
+    (r : Reached kind g k s c) (move : due kind k ≡ Some MoveTo) (line : due kind (suc k) ≡ Some LineTo) where
   -- a MoveTo and a LineTo that break no rule draw a line
   pub stroke_found : geometry_fault kind g ≡ None → s < length g → AreSmall g → FoundStroke kind least g k s c
   stroke_found none here small =
@@ -111,8 +110,7 @@ module _ {kind : Kind} {least : ℕ} (has : HasStrokes kind least) {g : List ℕ
       → (end : ℕ) × Reached kind g (suc (suc k)) end (last_of p ps) × (drop end g ≡ more)
       × (moves kind g k ≡ pair_between c p ∷ []) × (moves kind g (suc k) ≡ pairs_between p ps) × (s < end)
   stroke_drawn p ps more is small spelled =
-      let may : MayDraw kind MoveTo 1 c (p ∷ []) =
-      record {
+      let may : MayDraw kind MoveTo 1 c (p ∷ []) = record {
         allowed = has.may_move;
         pairs = refl;
         places = (is.places.0, tt);
@@ -125,8 +123,7 @@ module _ {kind : Kind} {least : ℕ} (has : HasStrokes kind least) {g : List ℕ
       command_drawn r MoveTo move 1 (p ∷ []) may behind spelled_first
       (no_ring kind g k s (λ same. let two : Some MoveTo ≡ Some ClosePath = sym move ∙ same in cc)) in
       let rest = rest_drawn r MoveTo move 1 (p ∷ []) may behind spelled_first in
-      let may_line : MayDraw kind LineTo (length ps) p ps =
-      record {
+      let may_line : MayDraw kind LineTo (length ps) p ps = record {
         allowed = has.may_draw (length ps) is.enough;
         pairs = refl;
         places = is.places.1;

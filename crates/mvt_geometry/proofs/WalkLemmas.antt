@@ -45,7 +45,8 @@ walk_begins line begin from parameters = record { split = refl; cursor_is = refl
 abbrev pub first_pair : List ℕ → Pair
 first_pair rest = record { dx = get_or rest 0 0; dy = get_or rest 1 0 }
 
-module _ (line : Bool) (begin : ℕ) (from : Point) (parameters rest : List ℕ) (c : Point) (done : List Pair) (w : Walked line begin from parameters rest c done) (two : 2 ≤ length rest) where
+module _ (line : Bool) (begin : ℕ) (from : Point) (parameters rest : List ℕ) (c : Point) (done : List Pair)
+    (w : Walked line begin from parameters rest c done) (two : 2 ≤ length rest) where
   rule_here : (at : ℕ) → at ≡ begin + (length parameters - length rest)
       → pair_rules line begin from done (first_pair rest) ≡ step_rules line at (first_pair rest) (stepped c (first_pair rest))
   rule_here at e =

@@ -28,8 +28,7 @@ use Rattle.mvt_geometry.proofs.GroupLemmas.{rings_grouped}
 -- integers that draw a geometry have no fault
 points_faultless : (g : List ℕ) (ps : List Point) → IsValid (Points ps) → g ≡ drawn (Points ps) → geometry_fault kinds.Point g ≡ None
 points_faultless g ps valid spelled =
-    let may : MayDraw kinds.Point MoveTo (length ps) origin ps =
-    record {
+    let may : MayDraw kinds.Point MoveTo (length ps) origin ps = record {
       allowed = grind (arith, nat_tests, valid.0);
       pairs = refl;
       places = valid.2;

@@ -63,7 +63,9 @@ pairs_at command g s = take (pair_count command (slice_index g s / 8)) (pairs_of
 unfoldable pub start : Kind → List ℕ → ℕ → Option ℕ
 start kind g zero = Some 0
 start kind g (suc k) =
-    option_and_then (λ s. if nat_lt s (length g) then Some (s + 1 + 2 * pair_count (due kind k) (slice_index g s / 8)) else None) (start kind g k)
+    option_and_then
+    (λ s. if nat_lt s (length g) then Some (s + 1 + 2 * pair_count (due kind k) (slice_index g s / 8)) else None)
+    (start kind g k)
 
 -- the pairs of command k
 unfoldable pub moves : Kind → List ℕ → ℕ → List Pair

@@ -92,7 +92,8 @@ wrong_ring kind g k s =
 -- command k, which begins at s
 abbrev pub command_rows : Kind → List ℕ → ℕ → ℕ → List (ℕ × Rules IndexedCause)
 command_rows kind g k s =
-    header_rows (may_not_end kind k) kind (due kind k) g s ++ ((4, wrong_pairs (due kind k) (cursor kind g k) g s) ∷ (5, wrong_ring kind g k s) ∷ [])
+    header_rows (may_not_end kind k) kind (due kind k) g s ++
+    ((4, wrong_pairs (due kind k) (cursor kind g k) g s) ∷ (5, wrong_ring kind g k s) ∷ [])
 
 unfoldable pub command_rules : Kind → List ℕ → ℕ → ℕ → Rules IndexedCause
 command_rules kind g k s = rows (command_rows kind g k s)

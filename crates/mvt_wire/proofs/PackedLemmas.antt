@@ -180,7 +180,9 @@ all_ahead ns p = record { numbers = ns ++ p.numbers; rest = p.rest }
 pub read_more : (b rest read : List ℕ) (n k : ℕ) → packed b ≡ all_ahead read (packed rest) → number_at rest ≡ Ok (n, k)
     → packed b ≡ all_ahead (read ++ n ∷ []) (packed (drop k rest))
 read_more b rest read n k is e =
-    is ∙ ap (all_ahead read) (packed_step rest (n, k) e) ∙ ap (λ ns. let p : Numbers = record { numbers = ns; rest = (packed (drop k rest)).rest } in p) (sym (append_assoc read (n ∷ []) (packed (drop k rest)).numbers))
+    is ∙ ap (all_ahead read) (packed_step rest (n, k) e)
+    ∙ ap (λ ns. let p : Numbers = record { numbers = ns; rest = (packed (drop k rest)).rest } in p)
+    (sym (append_assoc read (n ∷ []) (packed (drop k rest)).numbers))
 
 pub read_clean : (read : List ℕ) (n : ℕ) → first (each small_rules [] read) ≡ None → IsSmall n
     → first (each small_rules [] (read ++ n ∷ [])) ≡ None

@@ -52,7 +52,8 @@ module _ {X P : Type 0} (next : ℕ → List ℕ → Result (X × ℕ) WireCause
 
   -- induction over the pieces
   module _ (Q : ℕ → List ℕ → P → Type 0) (stop : (at : ℕ) (b : List ℕ) (c : WireCause) → next at b ≡ Err c → Q at b (none at b))
-      (step : (at : ℕ) (b : List ℕ) (found : X × ℕ) → next at b ≡ Ok found → Q (at + found.1) (drop found.1 b) (all (at + found.1) (drop found.1 b))
+      (step : (at : ℕ) (b : List ℕ) (found : X × ℕ) → next at b ≡ Ok found
+      → Q (at + found.1) (drop found.1 b) (all (at + found.1) (drop found.1 b))
       → Q at b (ahead found.0 (all (at + found.1) (drop found.1 b)))) where
     induct_by : (at : ℕ) (b : List ℕ) (r : Result (X × ℕ) WireCause) → next at b ≡ r
         → ((at' : ℕ) (b' : List ℕ) → length b' < length b → Q at' b' (all at' b')) → Q at b (all at b)

@@ -191,7 +191,10 @@ short_zero_some n = omega arith
 pub short_within_some : (k n : ℕ) → 1 ≤ length (short_within k n)
 short_within_some zero n = short_zero_some n
 short_within_some (suc k) n =
-    elim (cases_lt n 128) [ inl small ↦ omega (arith, ap length (short_one (suc k) n small)) | inr large ↦ omega (arith, ap length (short_more k n large)) ]
+    elim (cases_lt n 128) [
+      | inl small ↦ omega (arith, ap length (short_one (suc k) n small))
+      | inr large ↦ omega (arith, ap length (short_more k n large))
+    ]
 
 pub short_within_most : (k n : ℕ) → length (short_within k n) ≤ suc k
 short_within_most zero n = short_zero n 0

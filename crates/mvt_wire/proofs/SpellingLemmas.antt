@@ -67,13 +67,12 @@ length-short_field number c = length-append (short (8 * number + wire_type c)) (
 
 -- where a short field stands
 abbrev entry_short : ℕ → Plain → Entry
-entry_short at f =
-    record {
-      at = at;
-      body = at + (length (short (8 * f.number + wire_type f.content)) + lead f.content);
-      number = f.number;
-      content = f.content;
-    }
+entry_short at f = record {
+  at = at;
+  body = at + (length (short (8 * f.number + wire_type f.content)) + lead f.content);
+  number = f.number;
+  content = f.content;
+}
 
 field_at_short : (at : ℕ) (f : Plain) → IsFit f → IsFieldAt at (short_field f.number f.content) (entry_short at f)
 field_at_short at f fit =

@@ -56,7 +56,9 @@ split_induct P stop step =
 pub split_place : (at : ℕ) (b : List ℕ) → (split_from at b).rest_at + length (split_from at b).rest ≡ at + length b
 split_place =
     split_induct (λ at b parts. parts.rest_at + length parts.rest ≡ at + length b) (λ at b c e. refl)
-    (λ at b found parts e more. let size = found_size at b found e in let rest = length-drop found.1 b in omega (arith, size.0, size.1, rest, more))
+    (λ at b found parts e more.
+    let size = found_size at b found e in
+    omega (arith, size.0, size.1, length-drop found.1 b, more))
 
 pub split_ends : (at : ℕ) (b : List ℕ) → at ≤ (split_from at b).rest_at
 split_ends =
@@ -133,10 +135,15 @@ front_within b more front back joined short =
 
 pub none_stays : (b more : List ℕ) → 10 ≤ length b → SpellsNone b → SpellsNone (b ++ more)
 none_stays b more long none front back n joined s =
-    none front (drop (length front) b) n (front_within b more front back joined (let ten : length front ≤ 10 = s.at_most_ten in omega arith)) s
+    let ten : length front ≤ 10 = s.at_most_ten in
+    none front (drop (length front) b) n (front_within b more front back joined (omega arith)) s
 
 pub long_cause : (b : List ℕ) → spell_cause b ≢ Truncated → 10 ≤ length b
-long_cause b other = elim (cases_lt (length b) 10) [ inl short ↦ absurd (other (ap (λ t. cond t Truncated VarintRange) (lt-ltb _ _ short))) | inr long ↦ long ]
+long_cause b other =
+    elim (cases_lt (length b) 10) [
+      | inl short ↦ absurd (other (ap (λ t. cond t Truncated VarintRange) (lt-ltb _ _ short)))
+      | inr long ↦ long
+    ]
 
 pub spell_cause_stays : (b more : List ℕ) → 10 ≤ length b → spell_cause b ≡ spell_cause (b ++ more)
 spell_cause_stays b more long =
@@ -192,7 +199,9 @@ split_joined at b more =
 pub split_count : (at : ℕ) (b : List ℕ) → length (split_from at b).fields + length (split_from at b).rest ≤ length b
 split_count =
     split_induct (λ at b parts. length parts.fields + length parts.rest ≤ length b) (λ at b c e. omega arith)
-    (λ at b found parts e more. let size = found_size at b found e in let rest = length-drop found.1 b in omega (arith, size.0, size.1, rest, more))
+    (λ at b found parts e more.
+    let size = found_size at b found e in
+    omega (arith, size.0, size.1, length-drop found.1 b, more))
 
 -- no field begins at the rest
 pub split_rest : (at : ℕ) (b : List ℕ) → StartsNoField (split_from at b).rest

@@ -80,14 +80,20 @@ pub going_on-before : (b : List ℕ) (i : ℕ) → i < going_on b → 128 ≤ ge
 unfolding going_on
 going_on-before [] i h = absurd (omega arith)
 going_on-before (x ∷ xs) i h =
-    elim (cases_lt x 128) [ inl small ↦ absurd (let none = rw (lt-ltb x 128 small) at h in omega arith) | inr large ↦ before_here xs x i large (rw (le-ltb x 128 large) at h) (going_on-before xs) ]
+    elim (cases_lt x 128) [
+      | inl small ↦ absurd (let none = rw (lt-ltb x 128 small) at h in omega arith)
+      | inr large ↦ before_here xs x i large (rw (le-ltb x 128 large) at h) (going_on-before xs)
+    ]
 
 -- the byte behind them doesn't
 pub going_on-at : (b : List ℕ) → going_on b < length b → get_or b (going_on b) 0 < 128
 unfolding going_on
 going_on-at [] h = absurd (omega arith)
 going_on-at (x ∷ xs) h =
-    elim (cases_lt x 128) [ inl small ↦ rw (lt-ltb x 128 small) small | inr large ↦ rw (le-ltb x 128 large) (going_on-at xs (let more = rw (le-ltb x 128 large) at h in omega arith)) ]
+    elim (cases_lt x 128) [
+      | inl small ↦ rw (lt-ltb x 128 small) small
+      | inr large ↦ rw (le-ltb x 128 large) (going_on-at xs (let more = rw (le-ltb x 128 large) at h in omega arith))
+    ]
 
 -- of a spelling with bytes behind it, all but one go on
 pub going_on_front : (front back : List ℕ) → 1 ≤ length front → ((i : ℕ) → i + 1 < length front → 128 ≤ get_or front i 0)
@@ -212,7 +218,10 @@ number_none b c e = (
 pub number_none_from : (b : List ℕ) → SpellsNone b → number_at b ≡ Err (spell_cause b)
 number_none_from b none =
     elim (cases_Bool (has_number b)) [
-      | inl t ↦ absurd (none (take (going_on b + 1) b) (drop (going_on b + 1) b) (number_of b) (sym (take-append-drop (going_on b + 1) b)) (ready_spells b (ready b t)))
+      | inl t ↦
+          absurd
+          (none (take (going_on b + 1) b) (drop (going_on b + 1) b) (number_of b) (sym (take-append-drop (going_on b + 1) b))
+          (ready_spells b (ready b t)))
       | inr f ↦ number_missing b f
     ]
 
@@ -256,7 +265,10 @@ group_width i x g =
     let place : i ≤ 9 = g.place in
     elim (cases_lt i 9) [
       | inl h ↦ (7, mod_below x 128 (omega arith), omega arith)
-      | inr h ↦ (1, (let nine : i ≡ 9 = omega arith in let last : x ≤ 1 = g.last nine in omega (arith, mod-eq_of_lt {n = x} {m = 128} (omega arith))), omega arith)
+      | inr h ↦
+          let nine : i ≡ 9 = omega arith in
+          let last : x ≤ 1 = g.last nine in
+          (1, omega (arith, mod-eq_of_lt {n = x} {m = 128} (omega arith)), omega arith)
     ]
 
 pub group_set : (b : List ℕ) (i v x : ℕ) → i < length b → x ≡ get_or b i 0 → IsGroup i x → v ≡ groups_from 0 (take i b)
@@ -319,8 +331,9 @@ varint_past b i x nine within is large goes =
           let whole : x % 128 ≡ x = mod-eq_of_lt small in
           number_large b (omega (arith, number, step, here, whole)) ∙ past_ten b (omega arith))
       | inr big ↦
-          (let more : going_on (drop i b) ≡ suc (going_on (drop (i + 1) b)) = going_on-more b i within (subst (λ (k : ℕ). 128 ≤ k) is big) in
-          number_long b (omega arith) ∙ past_ten b (omega arith))
+          let more : going_on (drop i b) ≡ suc (going_on (drop (i + 1) b)) =
+          going_on-more b i within (subst (λ (k : ℕ). 128 ≤ k) is big) in
+          number_long b (omega arith) ∙ past_ten b (omega arith)
     ]
 
 -- the bytes end

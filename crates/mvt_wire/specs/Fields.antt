@@ -32,7 +32,8 @@ abbrev pub GivesEntry : Parts → Option (Result Field WireFault) → Parts → 
 GivesEntry old None new = (old.fields ≡ []) × (old.rest ≡ []) × (new ≡ old)
 GivesEntry old (Some (Ok field)) new = (old ≡ behind (entry_of field) new) × EndsBy old.rest_at (entry_of field)
 GivesEntry old (Some (Err fault)) new =
-    (old.fields ≡ []) × (old.rest ≢ []) × (fault.at ≡ old.rest_at) × (fault.cause ≡ rest_cause old.rest) × (new.fields ≡ []) × (new.rest ≡ [])
+    (old.fields ≡ []) × (old.rest ≢ []) × (fault.at ≡ old.rest_at) × (fault.cause ≡ rest_cause old.rest) × (new.fields ≡ [])
+    × (new.rest ≡ [])
 
 -- a walk over the fields of a slice: the slice, and the split that is still to come
 pub record Ahead : Type 0 where

@@ -45,9 +45,11 @@ bytes_at b n =
 unfoldable pub load_at : ℕ → List ℕ → Result Load WireCause
 load_at w b =
     if w == 0 then (number_at b >>= λ n. Ok (record { content = varint n.0; start = 0; size = n.1 }))
-    else if w == 1 then (if nat_lt (length b) 8 then Err Truncated else Ok (record { content = fixed64 (little_number 8 b); start = 0; size = 8 }))
+    else if w == 1 then
+    (if nat_lt (length b) 8 then Err Truncated else Ok (record { content = fixed64 (little_number 8 b); start = 0; size = 8 }))
     else if w == 2 then (number_at b >>= bytes_at b)
-    else if w == 5 then (if nat_lt (length b) 4 then Err Truncated else Ok (record { content = fixed32 (little_number 4 b); start = 0; size = 4 }))
+    else if w == 5 then
+    (if nat_lt (length b) 4 then Err Truncated else Ok (record { content = fixed32 (little_number 4 b); start = 0; size = 4 }))
     else Err WireType
 
 -- the field of a tag and of the payload behind it, and its length

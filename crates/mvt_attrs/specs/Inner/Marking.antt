@@ -1,29 +1,27 @@
 -- How a key that a feature repeats is found: keys of one text have one place, and a feature marks the
 -- places that it has named.
-use Rattle.std.specs.Prelude.{◌≡◌, ◌⊎◌, ℕ, ◌+◌, ◌<◌, ◌==◌, Bool, List, length, Option, Some, slice_get, slice_index, bytes_eq}
-use Rattle.std.specs.List.{list_any}
+use Rattle.std.specs.Prelude.{◌≡◌, ◌⊎◌, ℕ, ◌+◌, ◌<◌, ◌==◌, List, length, Option, Some, slice_get, slice_index}
 use Rattle.std.specs.Borrow.{Bor}
 use Rattle.std.specs.Ordering.{nat_cmp}
 use Rattle.std.specs.Cmp.Lexicographic.{slice_cmp}
 use Rattle.std.specs.BTreeMap.{BTreeMap, get_by}
 use Rattle.mvt_attrs.specs.declared.value.Attribute.{Attribute}
+use Rattle.mvt_attrs.specs.Tags.{has_key}
 
 -- two keys have one place exactly where they are one text
 pub record IsGrouped (texts : List (List ℕ)) (places : List ℕ) : Type 0 where
   pub len : length places ≡ length texts
   pub within : (i : ℕ) → i < length texts → slice_index places i < length texts
-  pub together : (i j : ℕ) (a : List ℕ) → slice_get texts i ≡ Some a → slice_get texts j ≡ Some a → slice_index places i ≡ slice_index places j
-  pub apart : (i j : ℕ) (a b : List ℕ) → slice_get texts i ≡ Some a → slice_get texts j ≡ Some b → slice_index places i ≡ slice_index places j → a ≡ b
+  pub together : (i j : ℕ) (a : List ℕ) → slice_get texts i ≡ Some a → slice_get texts j ≡ Some a
+      → slice_index places i ≡ slice_index places j
+  pub apart : (i j : ℕ) (a b : List ℕ) → slice_get texts i ≡ Some a → slice_get texts j ≡ Some b
+      → slice_index places i ≡ slice_index places j → a ≡ b
 
 -- the place of the first text behind these places: that of an earlier one that is equal, or its index
 abbrev pub IsPlaceBehind : List (List ℕ) → List ℕ → ℕ → Type 0
 IsPlaceBehind texts places place =
     ((j : ℕ) × (j < length places) × (slice_get texts j ≡ slice_get texts (length places)) × (place ≡ slice_index places j))
     ⊎ (((j : ℕ) → j < length places → slice_get texts j ≡ slice_get texts (length places) → ⊥) × (place ≡ length places))
-
--- whether an attribute has a key
-abbrev pub has_key : List ℕ → List Attribute → Bool
-has_key key attributes = list_any (λ (a : Attribute). bytes_eq a.key key) attributes
 
 -- the places marked with this turn are those of the attributes' keys
 abbrev pub IsMarked : List (List ℕ) → List ℕ → List ℕ → ℕ → List Attribute → Type 0

@@ -33,7 +33,8 @@ pub record IsSpread {T : Type 0} (cmp : T → T → Ordering) (input : T → Lis
 
 -- the first of an entry's slots that is free, or none
 abbrev pub IsFreeSlot : List ℕ → ℕ → ℕ → Option ℕ → Type 0
-IsFreeSlot slots first second (Some slot) = (slot < length slots) × (slice_index slots slot ≡ 0) × ((slot ≡ first) ⊎ ((slice_index slots first ≢ 0) × (slot ≡ second)))
+IsFreeSlot slots first second (Some slot) =
+    (slot < length slots) × (slice_index slots slot ≡ 0) × ((slot ≡ first) ⊎ ((slice_index slots first ≢ 0) × (slot ≡ second)))
 IsFreeSlot slots first second None = (slice_index slots first ≢ 0) × (slice_index slots second ≢ 0)
 
 -- the same of an entry's two slots

@@ -18,30 +18,48 @@ loop-rest-init c = record {
 
 pub returns-then-key-texts-clause-err : goal.returns-then-key-texts-clause-err
 returns-then-key-texts-clause-err c =
-    rw c.fault-then-key-texts.ensures (key_stops c.args.texts.now c.args.places.now c.loop-rest.marks c.args.turn c.args.values c.args.tags.now c.loop-rest.rest.now c.loop-rest.invariant.marked c.if-tags-eq1.false c.in-len2-up.len_at_least c.if-key-texts.true)
+    rw c.fault-then-key-texts.ensures
+    (key_stops c.args.texts.now c.args.places.now c.loop-rest.marks c.args.turn c.args.values c.args.tags.now
+    c.loop-rest.rest.now c.loop-rest.invariant.marked c.if-tags-eq1.false c.in-len2-up.len_at_least c.if-key-texts.true)
 
 pub returns-then-value-values-clause-err : goal.returns-then-value-values-clause-err
 returns-then-value-values-clause-err c =
-    rw c.fault-then-value-values.ensures (value_stops c.args.texts.now c.args.places.now c.loop-rest.marks c.args.turn c.args.values c.args.tags.now c.loop-rest.rest.now c.loop-rest.invariant.marked c.if-tags-eq1.false c.in-len2-up.len_at_least c.if-key-texts.false c.if-value-values.true)
+    rw c.fault-then-value-values.ensures
+    (value_stops c.args.texts.now c.args.places.now c.loop-rest.marks c.args.turn c.args.values c.args.tags.now
+    c.loop-rest.rest.now c.loop-rest.invariant.marked c.if-tags-eq1.false c.in-len2-up.len_at_least c.if-key-texts.false
+    c.if-value-values.true)
 
 pub returns-then-not-mark-clause-err : goal.returns-then-not-mark-clause-err
 returns-then-not-mark-clause-err c =
-    rw c.fault-then-not-mark.ensures (repeat_stops c.args.texts.now c.args.places.now c.loop-rest.marks c.args.turn c.args.values c.args.tags.now c.loop-rest.rest.now c.loop-rest.invariant.marked c.if-tags-eq1.false c.in-len2-up.len_at_least c.if-key-texts.false c.if-value-values.false c.mark.result c.mark.ensures.new c.if-not-mark.true)
+    rw c.fault-then-not-mark.ensures
+    (repeat_stops c.args.texts.now c.args.places.now c.loop-rest.marks c.args.turn c.args.values c.args.tags.now
+    c.loop-rest.rest.now c.loop-rest.invariant.marked c.if-tags-eq1.false c.in-len2-up.len_at_least c.if-key-texts.false
+    c.if-value-values.false c.mark.result c.mark.ensures.new c.if-not-mark.true)
 
 pub loop-rest-preserved : goal.loop-rest-preserved
 loop-rest-preserved c =
     let texts = c.args.texts.now in
     let room : length c.loop-rest.marks ≡ length texts = omega (arith, c.requires.room) in
     let within = c.loop-rest.invariant.within in
-    let left : take (length c.loop-rest.rest.now - 2) (drop 2 c.loop-rest.rest.now) ≡ drop 2 c.loop-rest.rest.now = take_rest c.loop-rest.rest.now 2 in
+    let left : take (length c.loop-rest.rest.now - 2) (drop 2 c.loop-rest.rest.now) ≡ drop 2 c.loop-rest.rest.now =
+    take_rest c.loop-rest.rest.now 2 in
     record {
-      marked = subst (λ ms. MarkedSoFar texts c.args.places.now ms c.args.turn c.args.values c.args.tags.now (take (length c.loop-rest.rest.now - 2) (drop 2 c.loop-rest.rest.now))) (sym c.mark.ensures.marked)
-          (so_far_more texts c.args.places.now c.loop-rest.marks c.args.turn c.args.values c.args.tags.now c.loop-rest.rest.now c.loop-rest.invariant.marked c.if-tags-eq1.false c.in-len2-up.len_at_least c.if-key-texts.false c.if-value-values.false c.mark.result c.mark.ensures.new _ left c.requires.grouped room c.if-not-mark.false);
+      marked =
+          subst
+          (λ ms. MarkedSoFar texts c.args.places.now ms c.args.turn c.args.values c.args.tags.now
+          (take (length c.loop-rest.rest.now - 2) (drop 2 c.loop-rest.rest.now)))
+          (sym c.mark.ensures.marked)
+          (so_far_more texts c.args.places.now c.loop-rest.marks c.args.turn c.args.values c.args.tags.now c.loop-rest.rest.now
+          c.loop-rest.invariant.marked c.if-tags-eq1.false c.in-len2-up.len_at_least c.if-key-texts.false
+          c.if-value-values.false c.mark.result c.mark.ensures.new _ left c.requires.grouped room c.if-not-mark.false);
       below = subst (λ ms. AreBelow ms (c.args.turn + 1)) (sym c.mark.ensures.marked)
-          (below_more texts c.args.places.now c.loop-rest.marks c.args.turn c.args.values c.args.tags.now c.loop-rest.rest.now c.loop-rest.invariant.marked c.if-tags-eq1.false c.in-len2-up.len_at_least c.if-key-texts.false c.if-value-values.false c.mark.result c.mark.ensures.new c.requires.grouped room c.loop-rest.invariant.below);
+          (below_more texts c.args.places.now c.loop-rest.marks c.args.turn c.args.values c.args.tags.now c.loop-rest.rest.now
+          c.loop-rest.invariant.marked c.if-tags-eq1.false c.in-len2-up.len_at_least c.if-key-texts.false
+          c.if-value-values.false c.mark.result c.mark.ensures.new c.requires.grouped room c.loop-rest.invariant.below);
       within = rw left (omega (arith, length-drop 2 c.loop-rest.rest.now));
     }
 
 pub returns-clause-ok : goal.returns-clause-ok
 returns-clause-ok c =
-    so_far_ends c.args.texts.now c.args.places.now c.loop-rest.marks c.args.turn c.args.values c.args.tags.now c.loop-rest.rest.now c.loop-rest.invariant.marked c.if-tags-eq1.false c.in_default.len_below
+    so_far_ends c.args.texts.now c.args.places.now c.loop-rest.marks c.args.turn c.args.values c.args.tags.now
+    c.loop-rest.rest.now c.loop-rest.invariant.marked c.if-tags-eq1.false c.in_default.len_below

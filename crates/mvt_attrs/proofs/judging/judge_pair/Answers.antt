@@ -12,7 +12,8 @@ returns-then-key-texts-clause-err c =
     let tags = c.args.tags.now in
     let first : length tags - length tags ≡ 0 = omega arith in
     rw c.fault-then-key-texts.ensures (λ held e.
-    stops_without_key texts held tags tags [] (progress_none texts held tags) (λ odd. omega arith) (omega arith) (sym (slice_get_past texts _ c.if-key-texts.true))
+    stops_without_key texts held tags tags [] (progress_none texts held tags) (λ odd. omega arith) (omega arith)
+    (sym (slice_get_past texts _ c.if-key-texts.true))
     ∙ ap (λ n. Some (n, KeyIndex)) first)
 
 pub returns-then-value-values-clause-err : goal.returns-then-value-values-clause-err
@@ -22,7 +23,8 @@ returns-then-value-values-clause-err c =
     let first : length tags - length tags + 1 ≡ 1 = omega arith in
     let key = there texts _ c.if-key-texts.false in
     rw c.fault-then-value-values.ensures (λ held e.
-    stops_without_value texts held tags tags [] (progress_none texts held tags) (λ odd. omega arith) (omega arith) key.0 (sym key.1) (sym (slice_get_past held _ (rw e c.if-value-values.true)))
+    stops_without_value texts held tags tags [] (progress_none texts held tags) (λ odd. omega arith) (omega arith) key.0
+    (sym key.1) (sym (slice_get_past held _ (rw e c.if-value-values.true)))
     ∙ ap (λ n. Some (n, ValueIndex)) first)
 
 pub returns-in-empty-clause-ok : goal.returns-in-empty-clause-ok
@@ -42,5 +44,7 @@ returns-else-value-values-clause-ok c = λ held e.
     let key = there texts (get_or tags 0 0) c.if-key-texts.false in
     let within : get_or tags 1 0 < length held = rw e c.if-value-values.false in
     let value = there held (get_or tags 1 0) within in
-    let one = progress_more texts held tags tags [] (progress_none texts held tags) (λ odd. omega arith) (omega arith) key.0 (sym key.1) value.0 (sym value.1) (drop 2 tags) refl refl in
+    let one =
+    progress_more texts held tags tags [] (progress_none texts held tags) (λ odd. omega arith) (omega arith) key.0
+    (sym key.1) value.0 (sym value.1) (drop 2 tags) refl refl in
     read_faultless texts held tags (drop 2 tags) _ one (λ odd. omega arith) (omega (arith, length-drop 2 tags))

@@ -21,48 +21,74 @@ loop-attribute-init c = record {
 pub returns-clause-tags : goal.returns-clause-tags
 returns-clause-tags c =
     let all = c.loop-attribute.invariant in
-    all.tags ∙ ap (λ ts. c.args.tags.now.items ++ ts) (all_places c.args.keys.now c.loop-attribute.keys c.args.values.now c.loop-attribute.values all.so_far c.args.attributes.now c.loop-attribute.attribute-index c.loop-attribute-test.false all.keys all.values all.names)
+    all.tags
+    ∙ ap (λ ts. c.args.tags.now.items ++ ts)
+    (all_places c.args.keys.now c.loop-attribute.keys c.args.values.now c.loop-attribute.values all.so_far
+    c.args.attributes.now c.loop-attribute.attribute-index c.loop-attribute-test.false all.keys all.values all.names)
 
 pub returns-clause-names : goal.returns-clause-names
 returns-clause-names c =
     let all = c.loop-attribute.invariant in
-    all_named c.args.keys.now c.loop-attribute.keys c.args.values.now c.loop-attribute.values all.so_far c.args.attributes.now c.loop-attribute.attribute-index c.loop-attribute-test.false all.keys all.values all.names
+    all_named c.args.keys.now c.loop-attribute.keys c.args.values.now c.loop-attribute.values all.so_far c.args.attributes.now
+    c.loop-attribute.attribute-index c.loop-attribute-test.false all.keys all.values all.names
 
 pub loop-attribute-preserved : goal.loop-attribute-preserved
 loop-attribute-preserved c =
     let attributes = c.args.attributes.now in
     let i = c.loop-attribute.attribute-index in
     let a = c.attribute-item.result in
-    let key : IsPut c.loop-attribute.keys c.place_near.new.self a.key = record { kept = c.in_ok-key.ensures.kept; added = c.in_ok-key.ensures.added } in
-    let value : IsPut c.loop-attribute.values c.place_near-in-loop-attribute.new.self a.value = record { kept = c.in_ok-value.ensures.kept; added = c.in_ok-value.ensures.added } in
+    let key : IsPut c.loop-attribute.keys c.place_near.new.self a.key =
+    record { kept = c.in_ok-key.ensures.kept; added = c.in_ok-key.ensures.added } in
+    let value : IsPut c.loop-attribute.values c.place_near-in-loop-attribute.new.self a.value =
+    record { kept = c.in_ok-value.ensures.kept; added = c.in_ok-value.ensures.added } in
     let of_key : slice_get c.place_near.new.self c.in_ok-key.key ≡ Some a.key = c.in_ok-key.ensures.index in
     record {
       so_far = c.loop-attribute.invariant.so_far ++ c.in_ok-key.key ∷ (c.in_ok-value.value ∷ []);
-      tags = c.in_ok-extend_from_slice.ensures.items ∙ ap (λ ts. ts ++ c.in_ok-key.key ∷ (c.in_ok-value.value ∷ [])) c.loop-attribute.invariant.tags ∙ append_assoc c.args.tags.now.items c.loop-attribute.invariant.so_far (c.in_ok-key.key ∷ (c.in_ok-value.value ∷ []));
-      names = names_more c.loop-attribute.keys c.place_near.new.self c.loop-attribute.values c.place_near-in-loop-attribute.new.self c.loop-attribute.invariant.so_far attributes i a c.in_ok-key.key c.in_ok-value.value
+      tags =
+          c.in_ok-extend_from_slice.ensures.items
+          ∙ ap (λ ts. ts ++ c.in_ok-key.key ∷ (c.in_ok-value.value ∷ [])) c.loop-attribute.invariant.tags
+          ∙ append_assoc c.args.tags.now.items c.loop-attribute.invariant.so_far (c.in_ok-key.key ∷ (c.in_ok-value.value ∷ []));
+      names =
+          names_more c.loop-attribute.keys c.place_near.new.self c.loop-attribute.values c.place_near-in-loop-attribute.new.self
+          c.loop-attribute.invariant.so_far attributes i a c.in_ok-key.key c.in_ok-value.value
           c.loop-attribute.invariant.names c.loop-attribute-test.true c.attribute-item.is
-          (pool_longer bytes_eq bytes_eq-Decides (λ (b : Attribute). b.key) _ _ _ key) (pool_longer equal_values equal_values-Decides (λ (b : Attribute). b.value) _ _ _ value)
+          (pool_longer bytes_eq bytes_eq-Decides (λ (b : Attribute). b.key) _ _ _ key)
+          (pool_longer equal_values equal_values-Decides (λ (b : Attribute). b.value) _ _ _ value)
           of_key c.in_ok-value.ensures.index;
-      keys = pool_more bytes_eq bytes_eq-Decides (λ (b : Attribute). b.key) c.args.keys.now c.loop-attribute.keys _ attributes i a _ c.loop-attribute.invariant.keys c.loop-attribute-test.true c.attribute-item.is refl key;
-      values = pool_more equal_values equal_values-Decides (λ (b : Attribute). b.value) c.args.values.now c.loop-attribute.values _ attributes i a _ c.loop-attribute.invariant.values c.loop-attribute-test.true c.attribute-item.is refl value;
+      keys =
+          pool_more bytes_eq bytes_eq-Decides (λ (b : Attribute). b.key) c.args.keys.now c.loop-attribute.keys _ attributes i a
+          _ c.loop-attribute.invariant.keys c.loop-attribute-test.true c.attribute-item.is refl key;
+      values =
+          pool_more equal_values equal_values-Decides (λ (b : Attribute). b.value) c.args.values.now c.loop-attribute.values _
+          attributes i a _ c.loop-attribute.invariant.values c.loop-attribute-test.true c.attribute-item.is refl value;
     }
 
 pub returns-in_err-key-clause-tags_left : goal.returns-in_err-key-clause-tags_left
 returns-in_err-key-clause-tags_left c =
-    tags_left_at c.from_residual.result c.args.tags.now.items c.loop-attribute.tags.items c.loop-attribute.invariant.so_far c.loop-attribute.invariant.tags
+    tags_left_at c.from_residual.result c.args.tags.now.items c.loop-attribute.tags.items c.loop-attribute.invariant.so_far
+    c.loop-attribute.invariant.tags
 
 pub returns-in_err-value-clause-tags_left : goal.returns-in_err-value-clause-tags_left
 returns-in_err-value-clause-tags_left c =
-    tags_left_at c.from_residual-in_err-value.result c.args.tags.now.items c.loop-attribute.tags.items c.loop-attribute.invariant.so_far c.loop-attribute.invariant.tags
+    tags_left_at c.from_residual-in_err-value.result c.args.tags.now.items c.loop-attribute.tags.items
+    c.loop-attribute.invariant.so_far c.loop-attribute.invariant.tags
 
 pub returns-in_err-extend_from_slice-clause-tags_left : goal.returns-in_err-extend_from_slice-clause-tags_left
 returns-in_err-extend_from_slice-clause-tags_left c =
-    tags_left_at c.from_residual-in_err-extend_from_slice.result c.args.tags.now.items c.extend_from_slice.new.self.items c.loop-attribute.invariant.so_far
+    tags_left_at c.from_residual-in_err-extend_from_slice.result c.args.tags.now.items c.extend_from_slice.new.self.items
+    c.loop-attribute.invariant.so_far
     (c.in_err-extend_from_slice.ensures.items ∙ c.loop-attribute.invariant.tags)
 
 pub returns-in_err-key-clause-left : goal.returns-in_err-key-clause-left
 returns-in_err-key-clause-left c =
-    on_err c.from_residual.result (c.loop-attribute.attribute-index, record { within = omega arith; keys_are = inl (c.in_err-key.ensures.unchanged ∙ c.loop-attribute.invariant.keys); values_are = c.loop-attribute.invariant.values })
+    on_err c.from_residual.result (
+      c.loop-attribute.attribute-index,
+      record {
+        within = omega arith;
+        keys_are = inl (c.in_err-key.ensures.unchanged ∙ c.loop-attribute.invariant.keys);
+        values_are = c.loop-attribute.invariant.values;
+      },
+    )
 
 pub returns-in_err-key-clause-too_many : goal.returns-in_err-key-clause-too_many
 returns-in_err-key-clause-too_many c =
@@ -79,21 +105,27 @@ returns-in_err-key-clause-memory c =
     λ h. (
       c.loop-attribute.attribute-index,
       record { within = omega arith; keys_are = inl (stays ∙ all.keys); values_are = inl all.values },
-      told_tags c.args.keys.now c.loop-attribute.keys c.place_near.new.self c.args.values.now c.loop-attribute.values c.loop-attribute.values all.so_far c.args.tags.now.items c.loop-attribute.tags.items _
+      told_tags c.args.keys.now c.loop-attribute.keys c.place_near.new.self c.args.values.now c.loop-attribute.values
+          c.loop-attribute.values all.so_far c.args.tags.now.items c.loop-attribute.tags.items _
           all.keys all.values all.names (not_longer _ _ stays) (not_longer _ _ refl) all.tags,
-      not_full_at c.args.attributes.now c.loop-attribute.attribute-index c.attribute-item.result _ c.place_near.new.self c.loop-attribute.values c.attribute-item.is refl
+      not_full_at c.args.attributes.now c.loop-attribute.attribute-index c.attribute-item.result _ c.place_near.new.self
+          c.loop-attribute.values c.attribute-item.is refl
           (λ full. (let k = rw p.1 at h in let q = p.2 in let other = c.in_err-key.ensures.full.1 (subst (λ ks. (length ks ≡ LIMIT) × (Contains ks c.attribute-item.result.key → ⊥)) stays full) in cc))
           (λ there. (let found = c.in_err-key.ensures.present (subst (λ ks. Contains ks c.attribute-item.result.key) stays there) in cc)),
     )
 
 pub returns-in_err-value-clause-left : goal.returns-in_err-value-clause-left
 returns-in_err-value-clause-left c =
-    let key : IsPut c.loop-attribute.keys c.place_near.new.self c.attribute-item.result.key = record { kept = c.in_ok-key.ensures.kept; added = c.in_ok-key.ensures.added } in
+    let key : IsPut c.loop-attribute.keys c.place_near.new.self c.attribute-item.result.key =
+    record { kept = c.in_ok-key.ensures.kept; added = c.in_ok-key.ensures.added } in
     on_err c.from_residual-in_err-value.result (
       c.loop-attribute.attribute-index,
       record {
         within = omega arith;
-        keys_are = inr (keys_more c.args.keys.now c.loop-attribute.keys _ c.args.attributes.now c.loop-attribute.attribute-index c.attribute-item.result _ c.loop-attribute.invariant.keys c.loop-attribute-test.true c.attribute-item.is refl key);
+        keys_are =
+            inr
+            (keys_more c.args.keys.now c.loop-attribute.keys _ c.args.attributes.now c.loop-attribute.attribute-index
+            c.attribute-item.result _ c.loop-attribute.invariant.keys c.loop-attribute-test.true c.attribute-item.is refl key);
         values_are = c.in_err-value.ensures.unchanged ∙ c.loop-attribute.invariant.values;
       },
     )
@@ -111,17 +143,24 @@ returns-in_err-value-clause-memory c =
     let all = c.loop-attribute.invariant in
     let a = c.attribute-item.result in
     let stays = c.in_err-value.ensures.unchanged in
-    let key : IsPut c.loop-attribute.keys c.place_near.new.self c.attribute-item.result.key = record { kept = c.in_ok-key.ensures.kept; added = c.in_ok-key.ensures.added } in
+    let key : IsPut c.loop-attribute.keys c.place_near.new.self c.attribute-item.result.key =
+    record { kept = c.in_ok-key.ensures.kept; added = c.in_ok-key.ensures.added } in
     λ h. (
       c.loop-attribute.attribute-index,
       record {
         within = omega arith;
-        keys_are = inr (keys_more c.args.keys.now c.loop-attribute.keys _ c.args.attributes.now c.loop-attribute.attribute-index a _ all.keys c.loop-attribute-test.true c.attribute-item.is refl key);
+        keys_are =
+            inr
+            (keys_more c.args.keys.now c.loop-attribute.keys _ c.args.attributes.now c.loop-attribute.attribute-index a _
+            all.keys c.loop-attribute-test.true c.attribute-item.is refl key);
         values_are = inl (stays ∙ all.values);
       },
-      told_tags c.args.keys.now c.loop-attribute.keys c.place_near.new.self c.args.values.now c.loop-attribute.values c.place_near-in-loop-attribute.new.self all.so_far c.args.tags.now.items c.loop-attribute.tags.items _
-          all.keys all.values all.names (pool_longer bytes_eq bytes_eq-Decides (λ (b : Attribute). b.key) _ _ _ key) (not_longer _ _ stays) all.tags,
-      not_full_at c.args.attributes.now c.loop-attribute.attribute-index a _ c.place_near.new.self c.place_near-in-loop-attribute.new.self c.attribute-item.is refl
+      told_tags c.args.keys.now c.loop-attribute.keys c.place_near.new.self c.args.values.now c.loop-attribute.values
+          c.place_near-in-loop-attribute.new.self all.so_far c.args.tags.now.items c.loop-attribute.tags.items _
+          all.keys all.values all.names (pool_longer bytes_eq bytes_eq-Decides (λ (b : Attribute). b.key) _ _ _ key)
+          (not_longer _ _ stays) all.tags,
+      not_full_at c.args.attributes.now c.loop-attribute.attribute-index a _ c.place_near.new.self
+          c.place_near-in-loop-attribute.new.self c.attribute-item.is refl
           (λ full. full.1 (contains_at c.place_near.new.self c.in_ok-key.key c.attribute-item.result.key c.in_ok-key.ensures.index))
           (λ there full. (let k = rw p.1 at h in let q = p.2 in let other = c.in_err-value.ensures.full.1 (subst (λ vs. (length vs ≡ LIMIT) × (Contains vs a.value → ⊥)) stays full) in cc)),
     )
@@ -129,14 +168,21 @@ returns-in_err-value-clause-memory c =
 pub returns-in_err-extend_from_slice-clause-left : goal.returns-in_err-extend_from_slice-clause-left
 returns-in_err-extend_from_slice-clause-left c =
     let a = c.attribute-item.result in
-    let key : IsPut c.loop-attribute.keys c.place_near.new.self c.attribute-item.result.key = record { kept = c.in_ok-key.ensures.kept; added = c.in_ok-key.ensures.added } in
-    let value : IsPut c.loop-attribute.values c.place_near-in-loop-attribute.new.self a.value = record { kept = c.in_ok-value.ensures.kept; added = c.in_ok-value.ensures.added } in
+    let key : IsPut c.loop-attribute.keys c.place_near.new.self c.attribute-item.result.key =
+    record { kept = c.in_ok-key.ensures.kept; added = c.in_ok-key.ensures.added } in
+    let value : IsPut c.loop-attribute.values c.place_near-in-loop-attribute.new.self a.value =
+    record { kept = c.in_ok-value.ensures.kept; added = c.in_ok-value.ensures.added } in
     on_err c.from_residual-in_err-extend_from_slice.result (
       (c.loop-attribute.attribute-index + 1),
       record {
         within = omega arith;
-        keys_are = inl (keys_more c.args.keys.now c.loop-attribute.keys _ c.args.attributes.now c.loop-attribute.attribute-index a _ c.loop-attribute.invariant.keys c.loop-attribute-test.true c.attribute-item.is refl key);
-        values_are = values_more c.args.values.now c.loop-attribute.values _ c.args.attributes.now c.loop-attribute.attribute-index a c.loop-attribute.invariant.values c.loop-attribute-test.true c.attribute-item.is value;
+        keys_are =
+            inl
+            (keys_more c.args.keys.now c.loop-attribute.keys _ c.args.attributes.now c.loop-attribute.attribute-index a _
+            c.loop-attribute.invariant.keys c.loop-attribute-test.true c.attribute-item.is refl key);
+        values_are =
+            values_more c.args.values.now c.loop-attribute.values _ c.args.attributes.now c.loop-attribute.attribute-index a
+            c.loop-attribute.invariant.values c.loop-attribute-test.true c.attribute-item.is value;
       },
     )
 
@@ -144,19 +190,31 @@ pub returns-in_err-extend_from_slice-clause-memory : goal.returns-in_err-extend_
 returns-in_err-extend_from_slice-clause-memory c =
     let all = c.loop-attribute.invariant in
     let a = c.attribute-item.result in
-    let key : IsPut c.loop-attribute.keys c.place_near.new.self c.attribute-item.result.key = record { kept = c.in_ok-key.ensures.kept; added = c.in_ok-key.ensures.added } in
-    let value : IsPut c.loop-attribute.values c.place_near-in-loop-attribute.new.self a.value = record { kept = c.in_ok-value.ensures.kept; added = c.in_ok-value.ensures.added } in
+    let key : IsPut c.loop-attribute.keys c.place_near.new.self c.attribute-item.result.key =
+    record { kept = c.in_ok-key.ensures.kept; added = c.in_ok-key.ensures.added } in
+    let value : IsPut c.loop-attribute.values c.place_near-in-loop-attribute.new.self a.value =
+    record { kept = c.in_ok-value.ensures.kept; added = c.in_ok-value.ensures.added } in
     λ h. (
       c.loop-attribute.attribute-index,
       record {
         within = omega arith;
-        keys_are = inr (keys_more c.args.keys.now c.loop-attribute.keys _ c.args.attributes.now c.loop-attribute.attribute-index a _ all.keys c.loop-attribute-test.true c.attribute-item.is refl key);
-        values_are = inr (values_more c.args.values.now c.loop-attribute.values _ c.args.attributes.now c.loop-attribute.attribute-index a all.values c.loop-attribute-test.true c.attribute-item.is value);
+        keys_are =
+            inr
+            (keys_more c.args.keys.now c.loop-attribute.keys _ c.args.attributes.now c.loop-attribute.attribute-index a _
+            all.keys c.loop-attribute-test.true c.attribute-item.is refl key);
+        values_are =
+            inr
+            (values_more c.args.values.now c.loop-attribute.values _ c.args.attributes.now c.loop-attribute.attribute-index a
+            all.values c.loop-attribute-test.true c.attribute-item.is value);
       },
-      told_tags c.args.keys.now c.loop-attribute.keys c.place_near.new.self c.args.values.now c.loop-attribute.values c.place_near-in-loop-attribute.new.self all.so_far c.args.tags.now.items c.extend_from_slice.new.self.items _
-          all.keys all.values all.names (pool_longer bytes_eq bytes_eq-Decides (λ (b : Attribute). b.key) _ _ _ key) (pool_longer equal_values equal_values-Decides (λ (b : Attribute). b.value) _ _ _ value)
+      told_tags c.args.keys.now c.loop-attribute.keys c.place_near.new.self c.args.values.now c.loop-attribute.values
+          c.place_near-in-loop-attribute.new.self all.so_far c.args.tags.now.items c.extend_from_slice.new.self.items _
+          all.keys all.values all.names (pool_longer bytes_eq bytes_eq-Decides (λ (b : Attribute). b.key) _ _ _ key)
+          (pool_longer equal_values equal_values-Decides (λ (b : Attribute). b.value) _ _ _ value)
           (c.in_err-extend_from_slice.ensures.items ∙ all.tags),
-      not_full_at c.args.attributes.now c.loop-attribute.attribute-index a _ c.place_near.new.self c.place_near-in-loop-attribute.new.self c.attribute-item.is refl
+      not_full_at c.args.attributes.now c.loop-attribute.attribute-index a _ c.place_near.new.self
+          c.place_near-in-loop-attribute.new.self c.attribute-item.is refl
           (λ full. full.1 (contains_at c.place_near.new.self c.in_ok-key.key c.attribute-item.result.key c.in_ok-key.ensures.index))
-          (λ there full. full.1 (contains_at c.place_near-in-loop-attribute.new.self c.in_ok-value.value a.value c.in_ok-value.ensures.index)),
+          (λ there full.
+          full.1 (contains_at c.place_near-in-loop-attribute.new.self c.in_ok-value.value a.value c.in_ok-value.ensures.index)),
     )

@@ -6,5 +6,8 @@ use Rattle.mvt_attrs.proofs.pool.append.Goals as goal
 pub returns-clause-distinct : goal.returns-clause-distinct
 returns-clause-distinct g c =
     let entries = c.args.entries.now.items in
-    subst AreDistinct (sym (c.push_reserved.ensures.items ∙ ap (λ xs. xs ++ c.in_ok-copy.copy ∷ []) c.reserve.ensures.items ∙ ap (λ e. entries ++ e ∷ []) c.in_ok-copy.ensures))
+    subst AreDistinct
+    (sym
+    (c.push_reserved.ensures.items ∙ ap (λ xs. xs ++ c.in_ok-copy.copy ∷ []) c.reserve.ensures.items
+    ∙ ap (λ e. entries ++ e ∷ []) c.in_ok-copy.ensures))
     (distinct_more entries c.args.entry.now c.requires.distinct c.requires.new)

@@ -19,12 +19,16 @@ loop-rest-init c =
 
 pub bounds-texts-key : goal.bounds-texts-key
 bounds-texts-key c =
-    let front = named_front c.args.texts.now c.args.values.now c.loop-rest.rest.now c.loop-rest.invariant.0 c.in-len2-up.len_at_least c.loop-rest.invariant.1 in
+    let front =
+    named_front c.args.texts.now c.args.values.now c.loop-rest.rest.now c.loop-rest.invariant.0 c.in-len2-up.len_at_least
+    c.loop-rest.invariant.1 in
     slice_get_within c.args.texts.now (get_or c.loop-rest.rest.now 0 0) _ front.3.0
 
 pub bounds-values-value : goal.bounds-values-value
 bounds-values-value c =
-    let front = named_front c.args.texts.now c.args.values.now c.loop-rest.rest.now c.loop-rest.invariant.0 c.in-len2-up.len_at_least c.loop-rest.invariant.1 in
+    let front =
+    named_front c.args.texts.now c.args.values.now c.loop-rest.rest.now c.loop-rest.invariant.0 c.in-len2-up.len_at_least
+    c.loop-rest.invariant.1 in
     slice_get_within c.args.values.now (get_or c.loop-rest.rest.now 1 0) _ front.3.1
 
 pub loop-rest-preserved : goal.loop-rest-preserved
@@ -36,16 +40,24 @@ loop-rest-preserved c =
     let done = c.loop-rest.attributes.items in
     let front = named_front texts values rest c.loop-rest.invariant.0 c.in-len2-up.len_at_least c.loop-rest.invariant.1 in
     let a = front.0 in
-    let key : c.in_ok-copy.field-0 ≡ a.key = c.in_ok-copy.ensures.same ∙ here_is texts (get_or rest 0 0) _ a.key c.index-texts-key.is front.3.0 in
-    let value : c.in_ok-copy-2.field-0 ≡ a.value = c.in_ok-copy-2.ensures ∙ here_is values (get_or rest 1 0) _ a.value c.index-values-value.is front.3.1 in
-    let pushed : c.push-in-len2-up.new.self.items ≡ done ++ a ∷ [] = c.in_ok-push.ensures.items ∙ (λ j. done ++ record { key = key j; value = value j } ∷ []) in
-    let all : done ++ c.loop-rest.invariant.0 ≡ (done ++ a ∷ []) ++ front.1 = ap (λ xs. done ++ xs) front.2 ∙ sym (append_assoc done (a ∷ []) front.1) in (
+    let key : c.in_ok-copy.field-0 ≡ a.key =
+    c.in_ok-copy.ensures.same ∙ here_is texts (get_or rest 0 0) _ a.key c.index-texts-key.is front.3.0 in
+    let value : c.in_ok-copy-2.field-0 ≡ a.value =
+    c.in_ok-copy-2.ensures ∙ here_is values (get_or rest 1 0) _ a.value c.index-values-value.is front.3.1 in
+    let pushed : c.push-in-len2-up.new.self.items ≡ done ++ a ∷ [] =
+    c.in_ok-push.ensures.items ∙ (λ j. done ++ record { key = key j; value = value j } ∷ []) in
+    let all : done ++ c.loop-rest.invariant.0 ≡ (done ++ a ∷ []) ++ front.1 =
+    ap (λ xs. done ++ xs) front.2 ∙ sym (append_assoc done (a ∷ []) front.1) in (
       front.1,
       subst (λ left. AreRelated (NamesOne texts values) (pairs_of left) front.1) (sym (take_rest rest 2)) front.4,
-      subst (λ xs. Resolved texts values tags (xs ++ front.1)) (sym pushed) (subst (Resolved texts values tags) all c.loop-rest.invariant.2),
+      subst (λ xs. Resolved texts values tags (xs ++ front.1)) (sym pushed)
+          (subst (Resolved texts values tags) all c.loop-rest.invariant.2),
     )
 
 pub returns : goal.returns
 returns c =
-    let none = named_none c.args.texts.now c.args.values.now c.loop-rest.rest.now c.loop-rest.invariant.0 c.in_default.len_below c.loop-rest.invariant.1 in
-    subst (Resolved c.args.texts.now c.args.values.now c.args.tags.now) (ap (λ xs. c.loop-rest.attributes.items ++ xs) none ∙ append-nil c.loop-rest.attributes.items) c.loop-rest.invariant.2
+    let none =
+    named_none c.args.texts.now c.args.values.now c.loop-rest.rest.now c.loop-rest.invariant.0 c.in_default.len_below
+    c.loop-rest.invariant.1 in
+    subst (Resolved c.args.texts.now c.args.values.now c.args.tags.now)
+    (ap (λ xs. c.loop-rest.attributes.items ++ xs) none ∙ append-nil c.loop-rest.attributes.items) c.loop-rest.invariant.2

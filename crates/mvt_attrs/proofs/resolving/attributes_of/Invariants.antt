@@ -8,7 +8,8 @@ use Rattle.mvt_attrs.proofs.resolving.attributes_of.Given as goal
 
 abbrev pub invariant-loop-rest : goal.invariant-loop-rest
 invariant-loop-rest l =
-    (to_come : List Attribute) × AreRelated (NamesOne l.texts l.values) (pairs_of l.rest) to_come × Resolved l.texts l.values l.tags (l.attributes.items ++ to_come)
+    (to_come : List Attribute) × AreRelated (NamesOne l.texts l.values) (pairs_of l.rest) to_come
+    × Resolved l.texts l.values l.tags (l.attributes.items ++ to_come)
 
 abbrev pub decreases-loop-rest : goal.decreases-loop-rest
 decreases-loop-rest l = length l.rest

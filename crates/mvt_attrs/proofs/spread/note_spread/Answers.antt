@@ -15,12 +15,17 @@ returns-clause-added g c =
     let room = length slots in
     let order = get g.T.Ord.cmp c.args.spread.now.crowded in
     let slot = c.in-Some.slot in
-    let free : IsFreeFor input c.args.spread.now entry (Some slot) = subst (IsFreeFor input c.args.spread.now entry) c.in-Some.is c.requires.free in
+    let free : IsFreeFor input c.args.spread.now entry (Some slot) =
+    subst (IsFreeFor input c.args.spread.now entry) c.in-Some.is c.requires.free in
     let marked = slice_set slots slot (length entries + 1) in
     let kept : length marked ≡ room = length-set slots slot (length entries + 1) in
     record {
       room = omega (arith, kept, c.requires.known.room);
-      known = subst (λ n. (i : ℕ) (x : g.row.T.Denot) → slice_get (entries ++ entry ∷ []) i ≡ Some x → Stands entries entry (first_slot input n) (second_slot input n) slots order marked order i x) (sym kept)
+      known =
+          subst
+          (λ n. (i : ℕ) (x : g.row.T.Denot) → slice_get (entries ++ entry ∷ []) i ≡ Some x
+          → Stands entries entry (first_slot input n) (second_slot input n) slots order marked order i x)
+          (sym kept)
           (known_in_slot entries entry (first_slot input room) (second_slot input room) slots order c.requires.known.known slot free);
       sound = λ i x e. front_there entries entry i x (c.requires.known.sound i x e);
     }

@@ -7,22 +7,36 @@ use Rattle.mvt_feature.proofs.WalkLemmas.{walk_start, walk_step, walk_fault}
 use Rattle.mvt_feature.proofs.known.read_known.Goals as goal
 
 pub loop-field-init : goal.loop-field-init
-loop-field-init c =
-    ([], walk_start _ _ (ap (λ (a : Ahead). a.to_come) c.into_iter-field-iterator.ensures.into_iter_gives ∙ c.new-field-items.ensures.fields) (rw c.into_iter-field-iterator.ensures.into_iter_gives c.new-field-items.ensures.place), (refl, record { id = refl; kind = refl; tags_are = c.clear.ensures.items; integers_are = c.clear-2.ensures.items }))
+loop-field-init c = (
+  [],
+  walk_start _ _
+      (ap (λ (a : Ahead). a.to_come) c.into_iter-field-iterator.ensures.into_iter_gives ∙ c.new-field-items.ensures.fields)
+      (rw c.into_iter-field-iterator.ensures.into_iter_gives c.new-field-items.ensures.place),
+  (refl, record { id = refl; kind = refl; tags_are = c.clear.ensures.items; integers_are = c.clear-2.ensures.items }),
+)
 
 pub loop-field-preserved : goal.loop-field-preserved
 loop-field-preserved c =
     let done = c.loop-field.invariant.0 in
-    let step = c.in-Ok-with.ensures in
-    (done ++ entry_of c.in-Ok.field ∷ [], walk_step _ _ _ _ _ c.loop-field.invariant.1 (rw c.in-Ok.is at c.in-Some.ensures.steps).0, known_with c.args.payload_at done (entry_of c.in-Ok.field) c.loop-field.known _ _ _ _ (Ok c.in-Ok-with.more) c.loop-field.invariant.2 step.ok step.id step.kind step.tags step.integers tt)
+    let step = c.in-Ok-with.ensures in (
+      done ++ entry_of c.in-Ok.field ∷ [],
+      walk_step _ _ _ _ _ c.loop-field.invariant.1 (rw c.in-Ok.is at c.in-Some.ensures.steps).0,
+      known_with c.args.payload_at done (entry_of c.in-Ok.field) c.loop-field.known _ _ _ _ (Ok c.in-Ok-with.more)
+          c.loop-field.invariant.2 step.ok step.id step.kind step.tags step.integers tt,
+    )
 
 pub returns-in-Err-with-clause-err : goal.returns-in-Err-with-clause-err
 returns-in-Err-with-clause-err c =
     let done = c.loop-field.invariant.0 in
-    let all = (walk_step c.args.payload.now _ c.next.new.self.to_come done c.in-Ok.field c.loop-field.invariant.1 (rw c.in-Ok.is at c.in-Some.ensures.steps).0).fields in
-    let stays = known_with c.args.payload_at done (entry_of c.in-Ok.field) c.loop-field.known _ _ [] [] (Err c.in-Err-with.error) c.loop-field.invariant.2 tt tt tt tt tt c.in-Err-with.ensures.err in
+    let step = (rw c.in-Ok.is at c.in-Some.ensures.steps).0 in
+    let all = (walk_step c.args.payload.now _ c.next.new.self.to_come done c.in-Ok.field c.loop-field.invariant.1 step).fields in
+    let stays =
+    known_with c.args.payload_at done (entry_of c.in-Ok.field) c.loop-field.known _ _ [] [] (Err c.in-Err-with.error)
+    c.loop-field.invariant.2 tt tt tt tt tt c.in-Err-with.ensures.err in
     c.rest_fault_or.ensures _ (rw all (stays c.next.new.self.to_come.fields))
 
 pub returns-in-Err-clause-err : goal.returns-in-Err-clause-err
 returns-in-Err-clause-err c =
-    rw c.rest_fault.ensures (option_or-some _ _ _ (walk_fault _ _ c.next.new.self.to_come _ _ _ c.loop-field.invariant.1 (rw c.in-Err.is at c.in-Some.ensures.steps).0))
+    rw c.rest_fault.ensures
+    (option_or-some _ _ _
+    (walk_fault _ _ c.next.new.self.to_come _ _ _ c.loop-field.invariant.1 (rw c.in-Err.is at c.in-Some.ensures.steps).0))

@@ -6,4 +6,5 @@ use Rattle.mvt_feature.proofs.known.read_known.Given as goal
 
 abbrev pub invariant-loop-field : goal.invariant-loop-field
 invariant-loop-field l =
-    (done : List Entry) × Walk l.payload l.field-iterator.to_come done × IsKnownSoFar l.payload_at done (Ok l.known) l.scratch.tags.items l.scratch.integers.items
+    (done : List Entry) × Walk l.payload l.field-iterator.to_come done
+    × IsKnownSoFar l.payload_at done (Ok l.known) l.scratch.tags.items l.scratch.integers.items

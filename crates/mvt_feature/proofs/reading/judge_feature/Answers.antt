@@ -5,7 +5,8 @@ use Rattle.mvt_feature.proofs.reading.judge_feature.Goals as goal
 pub returns-in_err-known-clause-err : goal.returns-in_err-known-clause-err
 returns-in_err-known-clause-err c =
     let p = err_from_is_err_and c.from_residual.result c.from_residual.ensures.1 in
-    rw (p.1, p.2) (λ held e. known_told c.args.payload.now c.args.payload_at c.args.keys.now held c.in_err-known.field-0.0 c.in_err-known.ensures.err)
+    rw (p.1, p.2)
+    (λ held e. known_told c.args.payload.now c.args.payload_at c.args.keys.now held c.in_err-known.field-0.0 c.in_err-known.ensures.err)
 
 pub returns-in_err-judge_tags-clause-err : goal.returns-in_err-judge_tags-clause-err
 returns-in_err-judge_tags-clause-err c =

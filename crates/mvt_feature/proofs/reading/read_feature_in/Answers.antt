@@ -6,7 +6,9 @@ use Rattle.mvt_feature.proofs.reading.read_feature_in.Goals as goal
 pub returns-in_err-known-clause-err : goal.returns-in_err-known-clause-err
 returns-in_err-known-clause-err c =
     let p = err_from_is_err_and c.from_residual.result c.from_residual.ensures.1 in
-    rw (p.1, p.2) (known_told c.args.payload.now c.args.payload_at c.args.keys.now c.args.values.now c.in_err-known.field-0.0 c.in_err-known.ensures.err)
+    rw (p.1, p.2)
+    (known_told c.args.payload.now c.args.payload_at c.args.keys.now c.args.values.now c.in_err-known.field-0.0
+    c.in_err-known.ensures.err)
 
 pub returns-in_err-attributes-clause-err : goal.returns-in_err-attributes-clause-err
 returns-in_err-attributes-clause-err c =

@@ -1,8 +1,8 @@
 use Rattle.std.proofs.Common.{◌≡◌, ℕ, List, take}
 use Rattle.std.specs.List.{AllByRecursion}
-use Rattle.mvt_attrs.specs.Tags.{HasDistinctKeys}
+use Rattle.mvt_attrs.specs.Tags.{HasDistinctKeys, has_key}
 use Rattle.mvt_feature.specs.Valid.{ValidAttribute}
-use Rattle.mvt_feature.proofs.ValidLemmas.{has_key, holds_key}
+use Rattle.mvt_feature.proofs.ValidLemmas.{holds_key}
 use Rattle.mvt_feature.proofs.validity.have_keys_apart.Given as goal
 
 abbrev pub invariant-loop-attribute : goal.invariant-loop-attribute

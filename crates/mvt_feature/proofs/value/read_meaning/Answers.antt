@@ -11,7 +11,8 @@ returns-in_err-meaning-clause-err c =
 
 pub returns-in-One-clause-value : goal.returns-in-One-clause-value
 returns-in-One-clause-value c =
-    kinds_value c.args.payload.now c.args.payload_at _ _ c.in_ok-meaning.ensures.whole c.in_ok-meaning.ensures.ok (rw c.in-One.is at c.in_ok-meaning.ensures.kinds)
+    kinds_value c.args.payload.now c.args.payload_at _ _ c.in_ok-meaning.ensures.whole c.in_ok-meaning.ensures.ok
+    (rw c.in-One.is at c.in_ok-meaning.ensures.kinds)
 
 pub returns-in-One-clause-ok : goal.returns-in-One-clause-ok
 returns-in-One-clause-ok c =

@@ -9,12 +9,18 @@ use Rattle.mvt_feature.proofs.WalkLemmas.{walk_start, walk_step, walk_fault_fits
 use Rattle.mvt_feature.proofs.whole.rest_fault_or.Goals as goal
 
 pub loop-field-init : goal.loop-field-init
-loop-field-init c =
-    ([], walk_start _ _ (ap (λ (a : Ahead). a.to_come) c.into_iter-field-iterator.ensures.into_iter_gives ∙ c.new-field-items.ensures.fields) (rw c.into_iter-field-iterator.ensures.into_iter_gives c.new-field-items.ensures.place))
+loop-field-init c = (
+  [],
+  walk_start _ _
+      (ap (λ (a : Ahead). a.to_come) c.into_iter-field-iterator.ensures.into_iter_gives ∙ c.new-field-items.ensures.fields)
+      (rw c.into_iter-field-iterator.ensures.into_iter_gives c.new-field-items.ensures.place),
+)
 
 pub loop-field-preserved : goal.loop-field-preserved
-loop-field-preserved c =
-    (c.loop-field.invariant.0 ++ entry_of c.in-Ok.field-0 ∷ [], walk_step _ _ _ _ _ c.loop-field.invariant.1 (rw c.in-Ok.is at c.in-Some.ensures.steps).0)
+loop-field-preserved c = (
+  c.loop-field.invariant.0 ++ entry_of c.in-Ok.field-0 ∷ [],
+  walk_step _ _ _ _ _ c.loop-field.invariant.1 (rw c.in-Ok.is at c.in-Some.ensures.steps).0,
+)
 
 pub rest_fault-requires : goal.rest_fault-requires
 rest_fault-requires c =
@@ -22,9 +28,12 @@ rest_fault-requires c =
 
 pub returns-in-Err : goal.returns-in-Err
 returns-in-Err c = λ fault told_here.
-    rw c.rest_fault.ensures (option_or-some _ _ _ (walk_fault _ _ c.next.new.self.to_come _ _ _ c.loop-field.invariant.1 (rw c.in-Err.is at c.in-Some.ensures.steps).0))
+    rw c.rest_fault.ensures
+    (option_or-some _ _ _
+    (walk_fault _ _ c.next.new.self.to_come _ _ _ c.loop-field.invariant.1 (rw c.in-Err.is at c.in-Some.ensures.steps).0))
 
 pub returns : goal.returns
 returns c = λ fault told_here.
     let end = walk_end _ _ _ _ c.loop-field.invariant.1 c.in-None.ensures.steps.0 in
-    subst (λ o. TellsMessage c.args.error (option_or o fault)) (sym (rest_none c.args.payload_at (split c.args.payload.now) end.1)) told_here
+    subst (λ o. TellsMessage c.args.error (option_or o fault))
+    (sym (rest_none c.args.payload_at (split c.args.payload.now) end.1)) told_here

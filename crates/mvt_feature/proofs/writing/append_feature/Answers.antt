@@ -10,24 +10,40 @@ returns-in_err-append_tags-clause-out_left c = kept_as_it_was c.from_residual.re
 pub returns-in_err-append_tags-clause-memory : goal.returns-in_err-append_tags-clause-memory
 returns-in_err-append_tags-clause-memory c =
     let p = err_from_is_err_and c.from_residual.result c.from_residual.ensures.1 in
-    λ h. (let m = c.in_err-append_tags.ensures.memory (let k = rw p.1 at h in let q = p.2 in cc) in (m.0, told_as _ _ c.as_slice.ensures _ _ _ _ m.0 m.1, full_as _ _ c.as_slice.ensures c.args.keys.now _ c.args.values.now _ m.0 m.3))
+    λ h. (
+    let m = c.in_err-append_tags.ensures.memory (let k = rw p.1 at h in let q = p.2 in cc) in (
+      m.0,
+      told_as _ _ c.as_slice.ensures _ _ _ _ m.0 m.1,
+      full_as _ _ c.as_slice.ensures c.args.keys.now _ c.args.values.now _ m.0 m.3,
+    )
+    )
 
 pub returns-in_err-append_geometry-clause-left : goal.returns-in_err-append_geometry-clause-left
 returns-in_err-append_geometry-clause-left c =
     let e = c.in_ok-append_tags.ensures in
-    on_err c.from_residual-in_err-append_geometry.result (length c.args.feature.now.attributes, all_placed _ _ c.as_slice.ensures _ _ _ _ e.keys e.values)
+    on_err c.from_residual-in_err-append_geometry.result
+    (length c.args.feature.now.attributes, all_placed _ _ c.as_slice.ensures _ _ _ _ e.keys e.values)
 
 pub returns-in_err-append_geometry-clause-memory : goal.returns-in_err-append_geometry-clause-memory
 returns-in_err-append_geometry-clause-memory c = λ h.
-    let e = c.in_ok-append_tags.ensures in
-    (length c.args.feature.now.attributes, all_told _ _ c.as_slice.ensures _ _ _ _ e.keys e.values, none_full c.args.feature.now.attributes _ c.as_slice.ensures c.args.keys.now c.append_tags.new.keys c.args.values.now c.append_tags.new.values)
+    let e = c.in_ok-append_tags.ensures in (
+      length c.args.feature.now.attributes,
+      all_told _ _ c.as_slice.ensures _ _ _ _ e.keys e.values,
+      none_full c.args.feature.now.attributes _ c.as_slice.ensures c.args.keys.now c.append_tags.new.keys c.args.values.now
+          c.append_tags.new.values,
+    )
 
 pub returns-in_err-append_fields-clause-left : goal.returns-in_err-append_fields-clause-left
 returns-in_err-append_fields-clause-left c =
     let e = c.in_ok-append_tags.ensures in
-    on_err c.from_residual-in_err-append_fields.result (length c.args.feature.now.attributes, all_placed _ _ c.as_slice.ensures _ _ _ _ e.keys e.values)
+    on_err c.from_residual-in_err-append_fields.result
+    (length c.args.feature.now.attributes, all_placed _ _ c.as_slice.ensures _ _ _ _ e.keys e.values)
 
 pub returns-in_err-append_fields-clause-memory : goal.returns-in_err-append_fields-clause-memory
 returns-in_err-append_fields-clause-memory c = λ h.
-    let e = c.in_ok-append_tags.ensures in
-    (length c.args.feature.now.attributes, all_told _ _ c.as_slice.ensures _ _ _ _ e.keys e.values, none_full c.args.feature.now.attributes _ c.as_slice.ensures c.args.keys.now c.append_tags.new.keys c.args.values.now c.append_tags.new.values)
+    let e = c.in_ok-append_tags.ensures in (
+      length c.args.feature.now.attributes,
+      all_told _ _ c.as_slice.ensures _ _ _ _ e.keys e.values,
+      none_full c.args.feature.now.attributes _ c.as_slice.ensures c.args.keys.now c.append_tags.new.keys c.args.values.now
+          c.append_tags.new.values,
+    )

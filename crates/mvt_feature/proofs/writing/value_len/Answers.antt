@@ -14,15 +14,22 @@ returns-in-Double c = rw c.in-Double.is (fixed64_field_len 3 c.in-Double.field-0
 pub returns-in-Int : goal.returns-in-Int
 returns-in-Int c =
     let fits : FitsSigned w64 c.in-Int.number = search rules in
-    rw c.in-Int.is (varint_field_len 4 _ c.varint_len.result (lit< tt) (c.varint_len.ensures.len ∙ ap (λ n. length (short n)) (simp (to_z-of_z w64 c.in-Int.number fits) at c.cast_unsigned.ensures)))
+    rw c.in-Int.is
+    (varint_field_len 4 _ c.varint_len.result (lit< tt)
+    (c.varint_len.ensures.len
+    ∙ ap (λ n. length (short n)) (simp (to_z-of_z w64 c.in-Int.number fits) at c.cast_unsigned.ensures)))
 
 pub returns-in-Uint : goal.returns-in-Uint
-returns-in-Uint c = rw c.in-Uint.is (varint_field_len 5 c.in-Uint.number c.varint_len-in-Uint.result (lit< tt) c.varint_len-in-Uint.ensures.len)
+returns-in-Uint c =
+    rw c.in-Uint.is (varint_field_len 5 c.in-Uint.number c.varint_len-in-Uint.result (lit< tt) c.varint_len-in-Uint.ensures.len)
 
 pub returns-in-Sint : goal.returns-in-Sint
 returns-in-Sint c =
     let fits : FitsSigned w64 c.in-Sint.number = search rules in
-    rw c.in-Sint.is (varint_field_len 6 _ c.varint_len-in-Sint.result (lit< tt) (c.varint_len-in-Sint.ensures.len ∙ ap (λ n. length (short n)) (simp (to_z-of_z w64 c.in-Sint.number fits) at c.zigzag64.ensures)))
+    rw c.in-Sint.is
+    (varint_field_len 6 _ c.varint_len-in-Sint.result (lit< tt)
+    (c.varint_len-in-Sint.ensures.len
+    ∙ ap (λ n. length (short n)) (simp (to_z-of_z w64 c.in-Sint.number fits) at c.zigzag64.ensures)))
 
 pub returns-in-Bool : goal.returns-in-Bool
 returns-in-Bool c = rw c.in-Bool.is (short_field_len 7 _ (lit< tt) (small c.in-Bool.field-0))

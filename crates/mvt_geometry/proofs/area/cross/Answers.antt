@@ -19,7 +19,10 @@ returns-clause-value c =
     let from_y : to_z w32 (of_z w32 c.args.from.y) ≡ c.args.from.y = search rules in
     let to_x : to_z w32 (of_z w32 c.args.to.x) ≡ c.args.to.x = search rules in
     let to_y : to_z w32 (of_z w32 c.args.to.y) ≡ c.args.to.y = search rules in
-    rw (forth, back) (to_z-of_z w128 _ fits ∙ ap₂ (λ p q. p -ℤ q) (c.product.ensures.value ∙ ap₂ (λ a b. a *ℤ b) from_x to_y) (c.product-2.ensures.value ∙ ap₂ (λ a b. a *ℤ b) to_x from_y))
+    rw (forth, back)
+    (to_z-of_z w128 _ fits
+    ∙ ap₂ (λ p q. p -ℤ q) (c.product.ensures.value ∙ ap₂ (λ a b. a *ℤ b) from_x to_y)
+    (c.product-2.ensures.value ∙ ap₂ (λ a b. a *ℤ b) to_x from_y))
 
 pub returns-clause-small : goal.returns-clause-small
 returns-clause-small c =

@@ -17,12 +17,18 @@ loop-point-preserved c =
     let few : l.point-index < 2 ^ 64 - 1 = omega arith in
     let same : to_z w128 (of_z w128 c.cross-sum.result) ≡ c.cross-sum.result = search rules in
     let sum = summed (to_z w128 l.sum-bits) c.cross-sum.result _ l.point-index l.invariant.2 c.cross-sum.ensures.small few same in
-    let ring_end : Point = get_or ring (length ring - 1) (record { x = pos 0; y = pos 0 }) in
-    (sum.0 ∙ ap₂ (λ a b. a +ℤ b) l.invariant.0 (c.cross-sum.ensures.value ∙ ap (λ p. cross p here) l.invariant.1) ∙ sym (ap (edges ring_end) more ∙ edges-push ring_end (take l.point-index ring) here), sym (ap (last_of ring_end) more ∙ last_of-push ring_end (take l.point-index ring) here), sum.1)
+    let ring_end : Point = get_or ring (length ring - 1) (record { x = pos 0; y = pos 0 }) in (
+      sum.0 ∙ ap₂ (λ a b. a +ℤ b) l.invariant.0 (c.cross-sum.ensures.value ∙ ap (λ p. cross p here) l.invariant.1)
+          ∙ sym (ap (edges ring_end) more ∙ edges-push ring_end (take l.point-index ring) here),
+      sym (ap (last_of ring_end) more ∙ last_of-push ring_end (take l.point-index ring) here),
+      sum.1,
+    )
 
 pub returns : goal.returns
 returns c =
     let ring = c.args.ring.now in
     let d : Point = record { x = pos 0; y = pos 0 } in
     let some : 0 < length ring = omega arith in
-    c.loop-point.invariant.0 ∙ ap (edges (get_or ring (length ring - 1) d)) (take_all c.loop-point.point-index ring c.loop-point-test.false) ∙ whole_round ring d some
+    c.loop-point.invariant.0
+    ∙ ap (edges (get_or ring (length ring - 1) d)) (take_all c.loop-point.point-index ring c.loop-point-test.false)
+    ∙ whole_round ring d some

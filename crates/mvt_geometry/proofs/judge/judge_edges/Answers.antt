@@ -17,7 +17,8 @@ pub returns-in-Some-clause-err : goal.returns-in-Some-clause-err
 returns-in-Some-clause-err c =
     let l = c.loop-rest in
     let cursor : Point = record { x = to_z w32 l.x-bits; y = to_z w32 l.y-bits } in
-    walk_stops true c.args.begin c.args.from c.args.parameters.now l.rest.now cursor l.invariant.0 l.invariant.1 (omega (arith, c.in-len2-up.len_at_least)) _ _ refl c.in-Some.ensures.some
+    walk_stops true c.args.begin c.args.from c.args.parameters.now l.rest.now cursor l.invariant.0 l.invariant.1
+    (omega (arith, c.in-len2-up.len_at_least)) _ _ refl c.in-Some.ensures.some
 
 pub overflow_add-area : goal.overflow_add-area
 overflow_add-area c =
@@ -41,5 +42,9 @@ loop-rest-preserved c =
     let few : length inv.0 < 2 ^ 64 - 1 = omega (arith, inv.1.used, c.requires) in
     let same : to_z w128 (of_z w128 c.cross-area.result) ≡ c.cross-area.result = search rules in
     let sum = summed (to_z w128 l.area-bits) c.cross-area.result _ (length inv.0) inv.3 c.cross-area.ensures.small few same in
-    let more = edges_more_here true c.args.begin c.args.from c.args.parameters.now l.rest.now cursor inv.0 inv.1 two _ to_is in
-    (inv.0 ++ first_pair l.rest.now ∷ [], walk_steps true c.args.begin c.args.from c.args.parameters.now l.rest.now cursor inv.0 inv.1 two _ _ refl kept.0 to_is, sum.0 ∙ ap₂ (λ a b. a +ℤ b) inv.2 c.cross-area.ensures.value ∙ sym more, rw (length_push inv.0 (first_pair l.rest.now)) sum.1)
+    let more = edges_more_here true c.args.begin c.args.from c.args.parameters.now l.rest.now cursor inv.0 inv.1 two _ to_is in (
+      inv.0 ++ first_pair l.rest.now ∷ [],
+      walk_steps true c.args.begin c.args.from c.args.parameters.now l.rest.now cursor inv.0 inv.1 two _ _ refl kept.0 to_is,
+      sum.0 ∙ ap₂ (λ a b. a +ℤ b) inv.2 c.cross-area.ensures.value ∙ sym more,
+      rw (length_push inv.0 (first_pair l.rest.now)) sum.1,
+    )

@@ -13,7 +13,8 @@ returns-then-integer-id-clause-err c = λ must_not e.
     let g = c.args.integers.now in
     let within : c.args.at < length g = search rules in
     let read : c.in-Some.integer.now ≡ get_or g c.args.at 0 = search rules in
-    wrong_id must_not c.args.kind c.args.command g c.args.at within (λ same. c.if-integer-id.true (ap (λ n. n % 8) read ∙ same ∙ sym c.id.ensures))
+    wrong_id must_not c.args.kind c.args.command g c.args.at within
+    (λ same. c.if-integer-id.true (ap (λ n. n % 8) read ∙ same ∙ sym c.id.ensures))
 
 pub returns-then-not-allows-clause-err : goal.returns-then-not-allows-clause-err
 returns-then-not-allows-clause-err c = λ must_not e.

@@ -33,6 +33,10 @@ loop-pen-preserved c =
       omega (arith, c.loop-pen.invariant.1, c.in_ok-first.ensures.further, c.in_ok-pen.ensures.further),
       λ ls all.
           let left = c.loop-pen.invariant.2 ls all in
-          let some = some_left 2 [] g c.loop-pen.pen.at c.loop-pen.pen.cursor left.0 (omega arith) left.1 c.loop-pen-test.true in
-          (some.2, line_passed g k c.loop-pen.pen.at _ c.loop-pen.pen.cursor _ some.0 some.1 some.2 here c.loop-pen.invariant.0.1 (subst (Left 2 [] g c.loop-pen.pen.at c.loop-pen.pen.cursor) some.3 left.1) next, omega (arith, ap length some.3, left.2)),
+          let some = some_left 2 [] g c.loop-pen.pen.at c.loop-pen.pen.cursor left.0 (omega arith) left.1 c.loop-pen-test.true in (
+            some.2,
+            line_passed g k c.loop-pen.pen.at _ c.loop-pen.pen.cursor _ some.0 some.1 some.2 here c.loop-pen.invariant.0.1
+                (subst (Left 2 [] g c.loop-pen.pen.at c.loop-pen.pen.cursor) some.3 left.1) next,
+            omega (arith, ap length some.3, left.2),
+          ),
     )

@@ -9,7 +9,9 @@ use Rattle.mvt_geometry.proofs.judge.judge_lines.Given as goal
 abbrev pub invariant-loop-pen : goal.invariant-loop-pen
 invariant-loop-pen l =
     ((k : ℕ) × (k % 2 ≡ 0) × Reached kinds.LineString l.integers k l.pen.at l.pen.cursor) × (l.lines ≤ l.pen.at)
-    × ((ls : List (List Point)) → Left 2 [] l.integers 0 origin ls → (rest : List (List Point)) × Left 2 [] l.integers l.pen.at l.pen.cursor rest × (l.lines + length rest ≡ length ls))
+    ×
+    ((ls : List (List Point)) → Left 2 [] l.integers 0 origin ls
+    → (rest : List (List Point)) × Left 2 [] l.integers l.pen.at l.pen.cursor rest × (l.lines + length rest ≡ length ls))
 
 abbrev pub decreases-loop-pen : goal.decreases-loop-pen
 decreases-loop-pen l = length l.integers - l.pen.at

@@ -8,7 +8,8 @@ pub returns-in-Some-clause-err : goal.returns-in-Some-clause-err
 returns-in-Some-clause-err c =
     let l = c.loop-rest in
     let cursor : Point = record { x = to_z w32 l.x-bits; y = to_z w32 l.y-bits } in
-    walk_stops c.args.is_line c.args.begin c.args.from c.args.parameters.now l.rest.now cursor l.invariant.0 l.invariant.1 (omega (arith, c.in-len2-up.len_at_least)) _ _ refl c.in-Some.ensures.some
+    walk_stops c.args.is_line c.args.begin c.args.from c.args.parameters.now l.rest.now cursor l.invariant.0 l.invariant.1
+    (omega (arith, c.in-len2-up.len_at_least)) _ _ refl c.in-Some.ensures.some
 
 pub loop-rest-preserved : goal.loop-rest-preserved
 loop-rest-preserved c =

@@ -15,4 +15,5 @@ returns-then-pen-integers-clause-err c =
 
 pub returns-clause-ok : goal.returns-clause-ok
 returns-clause-ok c =
-    may_end (λ same. cc) (c.in_ok-pen.ensures.ok 0 refl (first_command kinds.Point c.args.integers.now)) c.if-pen-integers.false refl (λ same. cc)
+    may_end (λ same. cc) (c.in_ok-pen.ensures.ok 0 refl (first_command kinds.Point c.args.integers.now)) c.if-pen-integers.false
+    refl (λ same. cc)

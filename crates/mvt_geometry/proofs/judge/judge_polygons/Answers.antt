@@ -45,9 +45,11 @@ loop-pen-preserved c =
       (k + 3, omega (arith, third_is), c.in_ok-next.ensures.ok k third_is here),
       omega (arith, c.loop-pen.invariant.1, c.in_ok-next.ensures.further),
       λ rings all.
-          rings_step g c.loop-pen.pen.at c.in_ok-next.next.at c.loop-pen.pen.cursor c.in_ok-next.next.cursor n n c.in_ok-next.area rings c.loop-pen-test.true
+          rings_step g c.loop-pen.pen.at c.in_ok-next.next.at c.loop-pen.pen.cursor c.in_ok-next.next.cursor n n
+          c.in_ok-next.area rings c.loop-pen-test.true
           (λ p ps more is small spelled. c.in_ok-next.ensures.ring k p ps more third_is here is small spelled)
-          (λ ring rs same. joined_one n ring rs c.if-polygons-eq0.false (subst (λ z. z ≤ℤ pos 0) (area_is ∙ same) (not_positive _ c.if-area-gt0.false)))
+          (λ ring rs same. joined_one n ring rs c.if-polygons-eq0.false
+          (subst (λ z. z ≤ℤ pos 0) (area_is ∙ same) (not_positive _ c.if-area-gt0.false)))
           (c.loop-pen.invariant.2 rings all),
     )
 
@@ -62,7 +64,8 @@ loop-pen-preserved-then-polygons-eq0 c =
       (k + 3, omega (arith, third_is), c.in_ok-next.ensures.ok k third_is here),
       omega (arith, c.loop-pen.invariant.1, c.in_ok-next.ensures.further),
       λ rings all.
-          rings_step g c.loop-pen.pen.at c.in_ok-next.next.at c.loop-pen.pen.cursor c.in_ok-next.next.cursor n (n + 1) c.in_ok-next.area rings c.loop-pen-test.true
+          rings_step g c.loop-pen.pen.at c.in_ok-next.next.at c.loop-pen.pen.cursor c.in_ok-next.next.cursor n (n + 1)
+          c.in_ok-next.area rings c.loop-pen-test.true
           (λ p ps more is small spelled. c.in_ok-next.ensures.ring k p ps more third_is here is small spelled)
           (λ ring rs same. elim c.then-polygons-eq0.branch [
             | then-polygons-eq0-via-then-polygons-eq0 w ↦ opened_one n ring rs (inl w.if-polygons-eq0.true)

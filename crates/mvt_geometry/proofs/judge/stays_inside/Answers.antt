@@ -7,7 +7,10 @@ use Rattle.mvt_geometry.proofs.judge.stays_inside.Goals as goal
 
 pub returns : goal.returns
 returns c =
-    let by : c.unzigzag32.result ≡ unzig c.args.parameter = sym (zigzag_function_number c.unzigzag32.result) ∙ ap unzig c.unzigzag32.ensures in
-    let sum : to_z w64 (of_z w64 (to_z w64 (of_z w64 c.from.result) +ℤ to_z w64 (of_z w64 c.from-2.result))) ≡ c.args.from +ℤ c.unzigzag32.result = omega (arith, ints) in
+    let by : c.unzigzag32.result ≡ unzig c.args.parameter =
+    sym (zigzag_function_number c.unzigzag32.result) ∙ ap unzig c.unzigzag32.ensures in
+    let sum : to_z w64 (of_z w64 (to_z w64 (of_z w64 c.from.result) +ℤ to_z w64 (of_z w64 c.from-2.result)))
+    ≡ c.args.from +ℤ c.unzigzag32.result =
+    omega (arith, ints) in
     let to = sum ∙ ap (λ z. c.args.from +ℤ z) by in
     (λ t. subst InRange to (c.is_in_range.ensures.0 t), λ h. c.is_in_range.ensures.1 (subst InRange (sym to) h))

@@ -34,7 +34,8 @@ returns-then-not-stays_inside-2-clause-some c =
     let y : to_z w32 (of_z w32 c.args.from.y) ≡ c.args.from.y = search rules in
     let inside_x = rw x at c.stays_inside.ensures in
     let inside_y = rw y at c.stays_inside-2.ensures in
-    leaves_y _ _ _ _ c.if-dx-eq-REFUSED.false c.if-dy-eq-REFUSED.false goes (inside_x.0 c.if-not-stays_inside.false) (λ h. false≢true (sym c.if-not-stays_inside-2.true ∙ inside_y.1 h))
+    leaves_y _ _ _ _ c.if-dx-eq-REFUSED.false c.if-dy-eq-REFUSED.false goes (inside_x.0 c.if-not-stays_inside.false)
+    (λ h. false≢true (sym c.if-not-stays_inside-2.true ∙ inside_y.1 h))
 
 pub returns-clause-none : goal.returns-clause-none
 returns-clause-none c =
@@ -43,5 +44,6 @@ returns-clause-none c =
     let y : to_z w32 (of_z w32 c.args.from.y) ≡ c.args.from.y = search rules in
     let inside_x = rw x at c.stays_inside.ensures in
     let inside_y = rw y at c.stays_inside-2.ensures in
-    let place : IsPlace (stepped c.args.from (let d : Pair = record { dx = c.args.dx; dy = c.args.dy } in d)) = (inside_x.0 c.if-not-stays_inside.false, inside_y.0 c.if-not-stays_inside-2.false) in
+    let place : IsPlace (stepped c.args.from (let d : Pair = record { dx = c.args.dx; dy = c.args.dy } in d)) =
+    (inside_x.0 c.if-not-stays_inside.false, inside_y.0 c.if-not-stays_inside-2.false) in
     (step_right _ _ _ _ c.if-dx-eq-REFUSED.false c.if-dy-eq-REFUSED.false goes place, place)

@@ -21,7 +21,10 @@ returns-in_ok-push_path-in-Point c = λ geometry draws.
     let g = c.args.integers.now in
     let p = draws_points g geometry (subst (λ k. Draws k g geometry) c.in-Point.is draws) in
     let points = ap (λ xs. positions origin (pairs_of xs)) (take_rest g 1 ∙ p.3) ∙ positions-path origin p.0 in
-    ap Points (c.new-in-Point.ensures ∙ c.in_ok-push_path-in-Point.ensures.points ∙ ap₂ (λ xs ys. xs ++ ys) c.in_ok-points-in-Point.ensures.items points) ∙ sym p.1
+    ap Points
+    (c.new-in-Point.ensures ∙ c.in_ok-push_path-in-Point.ensures.points
+    ∙ ap₂ (λ xs ys. xs ++ ys) c.in_ok-points-in-Point.ensures.items points)
+    ∙ sym p.1
 
 pub build_lines-requires : goal.build_lines-requires
 build_lines-requires c =

@@ -14,8 +14,13 @@ loop-rest-preserved c = λ ls are.
     let some : 0 < length c.loop-rest.rest.now = search rules in
     let inv = c.loop-rest.invariant ls are in
     let f = more_lines inv.2 some in
-    let line = c.in_ok-line.ensures.line f.line _ f.front in
-    (f.others, ap (λ xs. xs ++ f.others) (c.in_ok-push.ensures.items ∙ ap (λ l. c.loop-rest.lines.items ++ l ∷ []) line.0) ∙ append_assoc c.loop-rest.lines.items (f.line ∷ []) f.others ∙ ap (λ xs. c.loop-rest.lines.items ++ xs) (sym f.lines_are) ∙ inv.1, f.others_are c.in_ok-line.line.end c.in_ok-line.line.behind.now line.1 line.2)
+    let line = c.in_ok-line.ensures.line f.line _ f.front in (
+      f.others,
+      ap (λ xs. xs ++ f.others) (c.in_ok-push.ensures.items ∙ ap (λ l. c.loop-rest.lines.items ++ l ∷ []) line.0)
+          ∙ append_assoc c.loop-rest.lines.items (f.line ∷ []) f.others ∙ ap (λ xs. c.loop-rest.lines.items ++ xs) (sym f.lines_are)
+          ∙ inv.1,
+      f.others_are c.in_ok-line.line.end c.in_ok-line.line.behind.now line.1 line.2,
+    )
 
 pub returns : goal.returns
 returns c = λ ls are.

@@ -7,7 +7,8 @@ use Rattle.mvt_geometry.proofs.read.build_polygons.Given as goal
 abbrev pub invariant-loop-rest : goal.invariant-loop-rest
 invariant-loop-rest l =
     (rings : List (List Point)) → SpellRings l.integers rings → (todo : List (List Point))
-    × (l.polygons.items ++ opened l.current.outer l.current.inner.items todo ≡ polygons_of rings) × SpellLines (15 ∷ []) l.cursor l.rest todo
+    × (l.polygons.items ++ opened l.current.outer l.current.inner.items todo ≡ polygons_of rings)
+    × SpellLines (15 ∷ []) l.cursor l.rest todo
 
 abbrev pub decreases-loop-rest : goal.decreases-loop-rest
 decreases-loop-rest l = length l.rest

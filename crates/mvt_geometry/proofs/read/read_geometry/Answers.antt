@@ -5,7 +5,8 @@ use Rattle.mvt_geometry.proofs.WholeLemmas.{drawn_faultless, faultless_drawn, al
 use Rattle.mvt_geometry.proofs.read.read_geometry.Goals as goal
 
 pub returns-in_err-count-clause-found : goal.returns-in_err-count-clause-found
-returns-in_err-count-clause-found c = λ g draws. absurd (apart _ (sym (drawn_faultless c.args.kind c.args.integers.now g draws) ∙ c.in_err-count.ensures.err))
+returns-in_err-count-clause-found c =
+    λ g draws. absurd (apart _ (sym (drawn_faultless c.args.kind c.args.integers.now g draws) ∙ c.in_err-count.ensures.err))
   where
     apart : (f : IndexedCause) → None ≡ Some f → ⊥
     apart f e = cc

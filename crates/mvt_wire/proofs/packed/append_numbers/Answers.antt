@@ -5,7 +5,8 @@ use Rattle.mvt_wire.proofs.packed.append_numbers.Goals as goal
 pub returns-then-number-clause-err : goal.returns-then-number-clause-err
 returns-then-number-clause-err c =
     let inv = c.loop-rest.invariant in
-    read_large c.args.bytes.now c.loop-rest.rest.now inv.read c.in-Ok.number c.in-Ok.size inv.split inv.clean (sym c.in-Ok.ensures.number) c.if-number.true
+    read_large c.args.bytes.now c.loop-rest.rest.now inv.read c.in-Ok.number c.in-Ok.size inv.split inv.clean
+    (sym c.in-Ok.ensures.number) c.if-number.true
 
 pub loop-rest-smaller : goal.loop-rest-smaller
 loop-rest-smaller c = read_smaller c.loop-rest.rest.now c.in-Ok.number c.in-Ok.size (sym c.in-Ok.ensures.number)
@@ -23,7 +24,9 @@ loop-rest-preserved c =
 pub returns-in-Err-clause-err : goal.returns-in-Err-clause-err
 returns-in-Err-clause-err c =
     let inv = c.loop-rest.invariant in
-    rw c.number_error.ensures (read_tells c.args.bytes.now c.loop-rest.rest.now inv.read c.in-Err.cause inv.split inv.clean (sym c.in-Err.ensures.number) (some_from_test _ _ c.is_empty.ensures c.loop-rest-test.true))
+    rw c.number_error.ensures
+    (read_tells c.args.bytes.now c.loop-rest.rest.now inv.read c.in-Err.cause inv.split inv.clean (sym c.in-Err.ensures.number)
+    (some_from_test _ _ c.is_empty.ensures c.loop-rest-test.true))
 
 pub returns-clause-ok : goal.returns-clause-ok
 returns-clause-ok c =
@@ -33,4 +36,7 @@ returns-clause-ok c =
 pub returns-clause-numbers : goal.returns-clause-numbers
 returns-clause-numbers c =
     let inv = c.loop-rest.invariant in
-    inv.items ∙ ap (λ ns. c.args.out.now.items ++ ns) (sym (read_all c.args.bytes.now c.loop-rest.rest.now inv.read inv.split inv.clean (nil_from_test _ _ c.is_empty.ensures c.loop-rest-test.false)).1)
+    inv.items
+    ∙ ap (λ ns. c.args.out.now.items ++ ns)
+    (sym
+    (read_all c.args.bytes.now c.loop-rest.rest.now inv.read inv.split inv.clean (nil_from_test _ _ c.is_empty.ensures c.loop-rest-test.false)).1)

@@ -6,7 +6,9 @@ use Rattle.mvt_wire.proofs.varint.long_varint_at.Goals.{else-i-eq9-via-then-i-eq
 pub returns-then-byte-gt1-clause-number : goal.returns-then-byte-gt1-clause-number
 returns-then-byte-gt1-clause-number c =
     let b = c.args.bytes.now in
-    sym (varint_past b c.loop-i.i (get_or b c.loop-i.i 0) c.if-i-eq9.true c.loop-i-test.true refl c.if-byte-gt1.true c.loop-i.invariant.goes_on)
+    sym
+    (varint_past b c.loop-i.i (get_or b c.loop-i.i 0) c.if-i-eq9.true c.loop-i-test.true refl c.if-byte-gt1.true
+    c.loop-i.invariant.goes_on)
 
 pub returns-then-byte-lt128-clause-number : goal.returns-then-byte-lt128-clause-number
 returns-then-byte-lt128-clause-number c =
@@ -16,7 +18,10 @@ returns-then-byte-lt128-clause-number c =
       place = inv.within;
       last = λ nine. elim c.else-i-eq9.branch [ else-i-eq9-via-then-i-eq9+else-byte-gt1 w ↦ w.if-byte-gt1.false | else-i-eq9-via-else-i-eq9 w ↦ absurd (w.if-i-eq9.false nine) ];
     } in
-    rw c.from.ensures (sym (varint_ends b c.loop-i.i c.loop-i.value (get_or b c.loop-i.i 0) c.loop-i-test.true refl c.if-byte-lt128.true group inv.goes_on inv.sum))
+    rw c.from.ensures
+    (sym
+    (varint_ends b c.loop-i.i c.loop-i.value (get_or b c.loop-i.i 0) c.loop-i-test.true refl c.if-byte-lt128.true group
+    inv.goes_on inv.sum))
 
 pub loop-i-preserved : goal.loop-i-preserved
 loop-i-preserved c =
@@ -34,4 +39,6 @@ loop-i-preserved c =
     }
 
 pub returns-clause-number : goal.returns-clause-number
-returns-clause-number c = let inv = c.loop-i.invariant in sym (varint_cut c.args.bytes.now c.loop-i.i inv.within c.loop-i-test.false inv.goes_on)
+returns-clause-number c =
+    let inv = c.loop-i.invariant in
+    sym (varint_cut c.args.bytes.now c.loop-i.i inv.within c.loop-i-test.false inv.goes_on)

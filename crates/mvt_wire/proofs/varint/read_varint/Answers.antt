@@ -6,10 +6,12 @@ pub returns-in-Ok-clause-number : goal.returns-in-Ok-clause-number
 returns-in-Ok-clause-number c = (number_seen c.args.bytes.now c.in-Ok.found.0 c.in-Ok.found.1 (sym c.in-Ok.ensures.number)).2
 
 pub returns-in-Ok-clause-only : goal.returns-in-Ok-clause-only
-returns-in-Ok-clause-only c = λ front back n joined s. ap Ok (same_found c.args.bytes.now front back c.in-Ok.found n (sym c.in-Ok.ensures.number) joined s)
+returns-in-Ok-clause-only c =
+    λ front back n joined s. ap Ok (same_found c.args.bytes.now front back c.in-Ok.found n (sym c.in-Ok.ensures.number) joined s)
 
 pub returns-in-Err-clause-only : goal.returns-in-Err-clause-only
-returns-in-Err-clause-only c = λ front back n joined s. absurd (none_found c.args.bytes.now front back c.in-Err.cause n (sym c.in-Err.ensures.number) joined s)
+returns-in-Err-clause-only c =
+    λ front back n joined s. absurd (none_found c.args.bytes.now front back c.in-Err.cause n (sym c.in-Err.ensures.number) joined s)
 
 pub returns-in-Err-clause-none : goal.returns-in-Err-clause-none
 returns-in-Err-clause-none c = (number_none c.args.bytes.now c.in-Err.cause (sym c.in-Err.ensures.number)).0

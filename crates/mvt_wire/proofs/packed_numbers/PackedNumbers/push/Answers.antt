@@ -13,5 +13,7 @@ invariant_of-self c =
 pub returns-clause-ok : goal.returns-clause-ok
 returns-clause-ok c =
     let small : c.from.result < 2 ^ 32 = omega (arith, c.ranges.number.fits, c.from.ensures) in
-    let more = more_seen c.put_varint.result c.self.inside.bytes.items c.put_varint.new.out.items c.args.self.now c.from.result small c.self.invariant c.self.view_is c.put_varint.ensures.ok in
+    let more =
+    more_seen c.put_varint.result c.self.inside.bytes.items c.put_varint.new.out.items c.args.self.now c.from.result small
+    c.self.invariant c.self.view_is c.put_varint.ensures.ok in
     subst (λ n. OnOk c.put_varint.result ((packed c.put_varint.new.out.items).numbers ≡ c.args.self.now ++ n ∷ [])) c.from.ensures more
