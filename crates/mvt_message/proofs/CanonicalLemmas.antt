@@ -199,7 +199,8 @@ layer_is xs keys values layer is name extent texts hold features =
     let messages = bytes_all (HasForm message) (feature_bytes keys values) layer.features (all_true layer.features) in
     let values_form = bytes_all (HasForm message) value_bytes values (all_true values) in
     let same_keys : keys_in xs ≡ keys = keys_are (only KEYS xs) keys at.keys_are in
-    let are = related_contents (feature_bytes keys values) (λ b f. IsFeatureOf b keys values f) (only FEATURES xs) layer.features at.features features in (
+    let is_feature : List ℕ → Feature → Type 0 = λ b f. IsFeatureOf b keys values f in
+    let are = related_contents (feature_bytes keys values) is_feature (only FEATURES xs) layer.features at.features features in (
       form_contents VERSION (HasForm uint32) xs (varint 2 ∷ []) at.version (lit< tt, tt),
       ap (λ l. number_in (last_or None l)) version.1 ∙ ap number_of version.2,
       record {
@@ -337,7 +338,8 @@ pub values_valid : (features : List Feature) → AllByRecursion ValidFeature fea
 unfolding values_of
 values_valid features valid =
     let attributes = attributes_of features in
-    let parts = all_weaker ValidAttribute (λ (a : Attribute). ValidValue a.value) (λ a h. h.1) attributes (attributes_valid features valid) in
+    let all = attributes_valid features valid in
+    let parts = all_weaker ValidAttribute (λ (a : Attribute). ValidValue a.value) (λ a h. h.1) attributes all in
     pool_valid ValidValue (λ (a : Attribute). a.value) (value_pool [] attributes) attributes parts (pool_entries_from_values [] attributes)
 
 -- attributes that are among the entries of the pools of a list

@@ -1,5 +1,5 @@
 -- Values and features that are counted, and kept where that is wanted.
-use Rattle.std.proofs.Common.{◌≡◌, ◌≢◌, ℕ, ◌+◌, ◌^◌, ◌<◌, Bool, true, false, List, [], ◌∷◌, ◌++◌, length, Option, None, Result, Ok, Err, OnOk, IfErr, refl, ap, subst, ◌∙◌, arith}
+use Rattle.std.proofs.Common.{◌≡◌, ◌≢◌, ℕ, ◌+◌, ◌^◌, ◌<◌, Bool, true, false, List, [], ◌∷◌, ◌++◌, length, Option, None, Result, Ok, Err, OnOk, IfErr, sym, ap, subst, ◌∙◌, arith}
 use Rattle.std.specs.Bool.{OnTrue}
 use Rattle.std.specs.Option.{option_map}
 use Rattle.std.proofs.lemmas.List.{length_push}
@@ -21,7 +21,9 @@ use Rattle.mvt_message.specs.declared.numbers.layer.TheConstants.{FEATURES, VALU
 use Rattle.mvt_message.specs.LayerFields.{bytes_of}
 use Rattle.mvt_message.specs.Inner.{values_fault, features_fault, AreHeld, AreValuesHeld, AreFeaturesHeld}
 use Rattle.mvt_message.specs.Items.{HoldsValue, HoldsFeature}
-use Rattle.mvt_message.proofs.ReadLemmas.{selected_few, values_skip, values_take, values_stop, features_skip, features_take, features_stop}
+use Rattle.mvt_message.specs.ItemRules.{value_rules_of, feature_rules_of}
+use Rattle.mvt_message.proofs.OrFaultLemmas.{value_first}
+use Rattle.mvt_message.proofs.ReadLemmas.{selected_few, selected_stops, so_far_skip, so_far_take, feature_told}
 
 pub on_true : (b : Bool) (P : Type 0) → P → OnTrue b P
 on_true true P h = h
@@ -49,7 +51,7 @@ module _ {keep : Bool} {payload_at : ℕ} {done : List Entry} {count : ℕ} {kep
   pub value_skipped : x.number ≢ VALUES → AreValuesHeld keep payload_at (done ++ x ∷ []) count kept
   value_skipped other = record {
     values = so_far.values;
-    so_far = values_skip payload_at done so_far.values x so_far.so_far other;
+    so_far = so_far_skip VALUES (λ _. value_rules_of payload_at) HoldsValue done so_far.values x so_far.so_far other;
     held = so_far.held;
   }
 
@@ -60,16 +62,20 @@ module _ {keep : Bool} {payload_at : ℕ} {done : List Entry} {count : ℕ} {kep
 
   pub value_stops : (more : List Entry) (e : MessageError) → x.number ≡ VALUES → TellsMessage e (fault_of_value payload_at x)
       → TellsMessage e (values_fault payload_at ((done ++ x ∷ []) ++ more))
-  value_stops more e is told_here = values_stop payload_at done so_far.values x more e so_far.so_far is told_here
+  value_stops more e is told_here =
+      let here = subst (TellsMessage e) (value_first _ _ _) told_here in
+      selected_stops VALUES (λ _. value_rules_of payload_at) e done x more is so_far.so_far.0 here
 
   pub value_held : (new : List Value) (value : Value) → x.number ≡ VALUES → IsValueOf (bytes_of x.content) value
       → fault_of_value payload_at x ≡ None → OnTrue keep (new ≡ kept ++ value ∷ [])
       → AreValuesHeld keep payload_at (done ++ x ∷ []) (count + 1) new
-  value_held new value is holds clean more = record {
-    values = so_far.values ++ value ∷ [];
-    so_far = values_take payload_at done so_far.values (so_far.values ++ value ∷ []) x value so_far.so_far is holds clean refl;
-    held = held_more keep so_far.values kept new count value so_far.held more;
-  }
+  value_held new value is holds clean more =
+      let none = sym (value_first _ _ _) ∙ clean in
+      record {
+        values = so_far.values ++ value ∷ [];
+        so_far = so_far_take VALUES (λ _. value_rules_of payload_at) HoldsValue done so_far.values x value so_far.so_far is none holds;
+        held = held_more keep so_far.values kept new count value so_far.held more;
+      }
 
   -- a value that was only judged
   pub value_judged : (r : Result (Unit {0}) MessageError) → keep ≡ false → x.number ≡ VALUES
@@ -90,7 +96,7 @@ module _ {keep : Bool} {payload_at : ℕ} {keys : List (List ℕ)} {values : Lis
   pub feature_skipped : x.number ≢ FEATURES → AreFeaturesHeld keep payload_at keys values (done ++ x ∷ []) count kept
   feature_skipped other = record {
     features = so_far.features;
-    so_far = features_skip payload_at keys values done so_far.features x so_far.so_far other;
+    so_far = so_far_skip FEATURES (feature_rules_of payload_at keys values) (HoldsFeature keys values) done so_far.features x so_far.so_far other;
     held = so_far.held;
   }
 
@@ -103,16 +109,23 @@ module _ {keep : Bool} {payload_at : ℕ} {keys : List (List ℕ)} {values : Lis
       → TellsMessage e (option_map (in_feature index) (feature_fault (bytes_of x.content) (payload_at + x.body) keys values))
       → TellsMessage e (features_fault payload_at keys values ((done ++ x ∷ []) ++ more))
   feature_stops more index e is index_is told_here =
-      features_stop payload_at keys values done so_far.features x more index e so_far.so_far is (index_is ∙ so_far.held.0) told_here
+      let earlier = only FEATURES done in
+      let count_is : index ≡ length earlier =
+      index_is ∙ so_far.held.0 ∙ sym (length-related (HoldsFeature keys values) earlier so_far.features so_far.so_far.1) in
+      let fault = feature_fault (bytes_of x.content) (payload_at + x.body) keys values in
+      let told = ap (λ n. option_map (in_feature n) fault) count_is ∙ sym (feature_told payload_at keys values earlier x) in
+      selected_stops FEATURES (feature_rules_of payload_at keys values) e done x more is so_far.so_far.0 (subst (TellsMessage e) told told_here)
 
   pub feature_held : (new : List Feature) (feature : Feature) → x.number ≡ FEATURES → IsFeatureOf (bytes_of x.content) keys values feature
       → feature_fault (bytes_of x.content) (payload_at + x.body) keys values ≡ None → OnTrue keep (new ≡ kept ++ feature ∷ [])
       → AreFeaturesHeld keep payload_at keys values (done ++ x ∷ []) (count + 1) new
   feature_held new feature is holds clean more =
-      let all = so_far.features ++ feature ∷ [] in
+      let earlier = only FEATURES done in
+      let none = feature_told payload_at keys values earlier x ∙ ap (option_map (in_feature (length earlier))) clean in
       record {
-        features = all;
-        so_far = features_take payload_at keys values done so_far.features all x feature so_far.so_far is holds clean refl;
+        features = so_far.features ++ feature ∷ [];
+        so_far = so_far_take FEATURES (feature_rules_of payload_at keys values) (HoldsFeature keys values) done so_far.features x feature
+            so_far.so_far is none holds;
         held = held_more keep so_far.features kept new count feature so_far.held more;
       }
 

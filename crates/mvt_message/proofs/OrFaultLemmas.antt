@@ -180,7 +180,8 @@ abbrev FaultBehind : ℕ → ℕ → List Entry → Bool → Option MessageFault
 FaultBehind payload_at tag_at xs two = if two then layer_fault payload_at tag_at xs else None
 
 pub head_clean : (payload : List ℕ) (payload_at tag_at : ℕ) → head_fault payload payload_at tag_at ≡ None
-    → ((split payload).rest ≡ []) × HaveForm VERSION (HasForm uint32) (split payload).fields × ((n : ℕ) × (version_in (split payload).fields ≡ Some n))
+    → ((split payload).rest ≡ []) × HaveForm VERSION (HasForm uint32) (split payload).fields
+    × ((n : ℕ) × (version_in (split payload).fields ≡ Some n))
 head_clean payload payload_at tag_at none =
     let xs = (split payload).fields in
     let parts = option_or-nones _ _ none in

@@ -8,7 +8,7 @@ use Rattle.std.proofs.lemmas.List.{map-append}
 use Rattle.std.proofs.lemmas.List.Elements.{filter-append}
 use Rattle.mvt_base.specs.Related.{AreRelated}
 use Rattle.mvt_base.specs.Rules.{Rules, each, first}
-use Rattle.mvt_base.proofs.ListLemmas.{related-append, length-related}
+use Rattle.mvt_base.proofs.ListLemmas.{related-append}
 use Rattle.mvt_base.proofs.RuleLemmas.{each_more, each_stops, first-told, first-when, first-when_not, option_or-none, option_or-nones, option_or-some}
 use Rattle.mvt_base.proofs.SelectionLemmas.{last_only-more}
 use Rattle.mvt_attrs.specs.declared.value.Value.{Value}
@@ -17,16 +17,13 @@ use Rattle.mvt_wire.specs.Field.{Entry}
 use Rattle.mvt_wire.specs.Fields.{GivesEntry}
 use Rattle.mvt_wire.specs.Split.{Parts, split}
 use Rattle.mvt_feature.specs.declared.cause.Cause.TheVariants.{NoVersion, NoName}
-use Rattle.mvt_feature.specs.declared.feature.Feature.{Feature}
 use Rattle.mvt_feature.specs.declared.message_error.MessageError.{MessageError}
 use Rattle.mvt_feature.specs.declared.message_error.MessageError.TheVariants.{Memory, Fault}
 use Rattle.mvt_feature.specs.Faults.{MessageFault, fault_at, in_feature, TellsMessage}
-use Rattle.mvt_feature.specs.Features.{IsFeatureOf, number_in, number_of}
+use Rattle.mvt_feature.specs.Features.{number_in, number_of}
 use Rattle.mvt_feature.specs.FeatureRules.{feature_rules, feature_fault}
 use Rattle.mvt_feature.specs.Forms.{uint32, form_rules, number_rules}
 use Rattle.mvt_feature.specs.Selection.{only, last_only}
-use Rattle.mvt_feature.specs.Values.{IsValueOf}
-use Rattle.mvt_feature.specs.ValueRules.{value_fault}
 use Rattle.mvt_feature.specs.Walks.{Walk}
 use Rattle.mvt_wire.proofs.WireLaws.{split_function_count}
 use Rattle.mvt_feature.proofs.FeatureLaws.{rests_none, rests_nothing, walks_end, walks_fault}
@@ -35,13 +32,13 @@ use Rattle.mvt_message.specs.declared.numbers.layer.TheConstants.{NAME, FEATURES
 use Rattle.mvt_message.specs.declared.item.Layer.{Layer as ALayer}
 use Rattle.mvt_message.specs.declared.item.Item.TheVariants.{Layer, Foreign}
 use Rattle.mvt_message.specs.LayerFields.{version_forms, layer_forms, bytes_of, version_in, is_two, name_in, extent_in, keys_in, values_in}
-use Rattle.mvt_message.specs.ItemRules.{version_rules, layer_field_rules, value_rules_of, feature_rules_of, item_fault, payload_names}
+use Rattle.mvt_message.specs.ItemRules.{version_rules, layer_field_rules, feature_rules_of, item_fault, payload_names}
 use Rattle.mvt_message.specs.Items.{HoldsValue, HoldsFeature, IsLayer, IsItem}
-use Rattle.mvt_message.specs.Inner.{rest_fault, versions_fault, forms_fault, no_name_fault, values_fault, features_fault, head_fault, layer_fault, IsVersionSoFar, OrFault, IsHead, name_after, extent_after, keys_at, AreValuesSoFar, AreFeaturesSoFar}
+use Rattle.mvt_message.specs.Inner.{rest_fault, versions_fault, forms_fault, no_name_fault, values_fault, features_fault, head_fault, layer_fault, IsVersionSoFar, OrFault, IsHead, name_after, extent_after, keys_at, AreValuesSoFar}
 use Rattle.mvt_message.proofs.ChainLemmas.{item_chain, layer_chain, tells_or, or_tells}
 use Rattle.mvt_message.proofs.FormLemmas.{versions_form}
 use Rattle.mvt_message.proofs.SaidLemmas.{values_said}
-use Rattle.mvt_message.proofs.OrFaultLemmas.{last_there, name_there, value_first, feature_first, version_there, head_clean, layer_from, layer_clean, item_of_layer, item_from}
+use Rattle.mvt_message.proofs.OrFaultLemmas.{last_there, name_there, feature_first, version_there, head_clean, layer_from, layer_clean, item_of_layer, item_from}
 
 -- a fault is told of whatever has it
 pub tells_as : (e : MessageError) (o p : Option MessageFault) → ((f : MessageFault) → o ≡ Some f → p ≡ Some f) → TellsMessage e o
@@ -60,63 +57,84 @@ only_skip k done x not_is =
     ∙ ap (λ b. only k done ++ (if b then x ∷ [] else [])) (ne_eqb x.number k not_is) ∙ append-nil (only k done)
 
 -- an element's fault stays whatever fields follow
-selected_stops : (k : ℕ) (rules : List Entry → Entry → Rules MessageFault) (e : MessageError) (done : List Entry) (x : Entry)
+pub selected_stops : (k : ℕ) (rules : List Entry → Entry → Rules MessageFault) (e : MessageError) (done : List Entry) (x : Entry)
     (more : List Entry) → x.number ≡ k → first (each rules [] (only k done)) ≡ None → TellsMessage e (first (rules (only k done) x))
     → TellsMessage e (first (each rules [] (only k ((done ++ x ∷ []) ++ more))))
 selected_stops k rules e done x more is clean told_here =
+    let parts : only k ((done ++ x ∷ []) ++ more) ≡ only k done ++ (x ∷ [] ++ only k more) =
+    filter-append (λ (y : Entry). y.number == k) (done ++ x ∷ []) more ∙ ap (λ xs. xs ++ only k more) (only_take k done x is)
+    ∙ append_assoc (only k done) (x ∷ []) (only k more) in
     tells_as e (first (rules (only k done) x)) _
-    (λ f broken. ap (λ xs. first (each rules [] xs))
-    (filter-append (λ (y : Entry). y.number == k) (done ++ x ∷ []) more ∙ ap (λ xs. xs ++ only k more) (only_take k done x is)
-    ∙ append_assoc (only k done) (x ∷ []) (only k more)) ∙ each_stops rules (only k done) x (only k more) f clean broken) told_here
+    (λ f broken. ap (λ xs. first (each rules [] xs)) parts ∙ each_stops rules (only k done) x (only k more) f clean broken) told_here
+
+each_told : (rules : Entry → Rules MessageFault) (e : MessageError) (done : List Entry) (x : Entry) (more : List Entry)
+    → first (each (λ _. rules) [] done) ≡ None → TellsMessage e (first (rules x))
+    → TellsMessage e (first (each (λ _. rules) [] ((done ++ x ∷ []) ++ more)))
+each_told rules e done x more clean told_here =
+    tells_as e (first (rules x)) _ (λ f broken. rw append_assoc (each_stops (λ _. rules) done x more f clean broken)) told_here
+
+-- the elements of a number so far break no rule, and are these
+abbrev pub AreSoFar : {Y : Type 0} → ℕ → (List Entry → Entry → Rules MessageFault) → (Entry → Y → Type 0) → List Entry → List Y → Type 0
+AreSoFar k rules Holds done ys = (first (each rules [] (only k done)) ≡ None) × AreRelated Holds (only k done) ys
+
+pub so_far_skip : {Y : Type 0} → (k : ℕ) (rules : List Entry → Entry → Rules MessageFault) (Holds : Entry → Y → Type 0)
+    (done : List Entry) (ys : List Y) (x : Entry) → AreSoFar k rules Holds done ys → x.number ≢ k
+    → AreSoFar k rules Holds (done ++ x ∷ []) ys
+so_far_skip k rules Holds done ys x so_far other =
+    subst (λ xs. (first (each rules [] xs) ≡ None) × AreRelated Holds xs ys) (sym (only_skip k done x other)) so_far
+
+pub so_far_take : {Y : Type 0} → (k : ℕ) (rules : List Entry → Entry → Rules MessageFault) (Holds : Entry → Y → Type 0)
+    (done : List Entry) (ys : List Y) (x : Entry) (y : Y) → AreSoFar k rules Holds done ys → x.number ≡ k
+    → first (rules (only k done) x) ≡ None → Holds x y → AreSoFar k rules Holds (done ++ x ∷ []) (ys ++ y ∷ [])
+so_far_take k rules Holds done ys x y so_far is clean holds =
+    let related = related-append Holds (only k done) ys (x ∷ []) (y ∷ []) so_far.1 (holds, tt) in
+    let none = each_more rules (only k done) x so_far.0 ∙ clean in
+    subst (λ xs. (first (each rules [] xs) ≡ None) × AreRelated Holds xs (ys ++ y ∷ [])) (sym (only_take k done x is)) (none, related)
 
 -- versions
 number_more : (k : ℕ) (done : List Entry) (x : Entry)
     → number_in (last_only k (done ++ x ∷ [])) ≡ (if x.number == k then number_of x.content else number_in (last_only k done))
 number_more k done x = ap number_in (last_only-more (λ (y : Entry). y.number) k done x) ∙ by_test (x.number == k)
   where
-    by_test : (b : Bool) → number_in (if b then Some x else last_only k done) ≡
-        (if b then number_of x.content else number_in (last_only k done))
+    by_test : (b : Bool) → number_in (if b then Some x else last_only k done)
+        ≡ (if b then number_of x.content else number_in (last_only k done))
     by_test true = refl
     by_test false = refl
 
-version_first : (payload_at : ℕ) (x : Entry)
-    → first (version_rules payload_at x) ≡ option_map (fault_at (payload_at + x.at))
-    (first (number_rules version_forms x.number x.content))
+version_first : (payload_at : ℕ) (x : Entry) (b : Bool) → (x.number == VERSION) ≡ b
+    → first (version_rules payload_at x) ≡ option_map (fault_at (payload_at + x.at)) (first (if b then form_rules uint32 x.content else []))
 unfolding version_rules
-version_first payload_at x = first-told (fault_at (payload_at + x.at)) (number_rules version_forms x.number x.content)
+version_first payload_at x b test =
+    first-told (fault_at (payload_at + x.at)) (number_rules version_forms x.number x.content)
+    ∙ ap (λ (t : Bool). option_map (fault_at (payload_at + x.at)) (first (if t then form_rules uint32 x.content else []))) test
+
+version_more : (done : List Entry) (x : Entry) (b : Bool) → (x.number == VERSION) ≡ b
+    → version_in (done ++ x ∷ []) ≡ (if b then number_of x.content else version_in done)
+version_more done x b test = number_more VERSION done x ∙ ap (λ (t : Bool). if t then number_of x.content else version_in done) test
 
 pub version_skip : (payload_at : ℕ) (done : List Entry) (v : Option ℕ) (x : Entry) → IsVersionSoFar payload_at done (Ok v)
     → x.number ≢ VERSION → IsVersionSoFar payload_at (done ++ x ∷ []) (Ok v)
 version_skip payload_at done v x so_far other =
     let test = ne_eqb x.number VERSION other in (
-      each_more (λ _. version_rules payload_at) done x so_far.0 ∙ version_first payload_at x
-          ∙ ap (λ (b : Bool). option_map (fault_at (payload_at + x.at)) (first (if b then form_rules uint32 x.content else []))) test,
-      so_far.1 ∙ sym (number_more VERSION done x ∙ ap (λ (b : Bool). if b then number_of x.content else version_in done) test),
+      each_more (λ _. version_rules payload_at) done x so_far.0 ∙ version_first payload_at x false test,
+      so_far.1 ∙ sym (version_more done x false test),
     )
 
 pub version_take : (payload_at : ℕ) (done : List Entry) (v : Option ℕ) (x : Entry) (n : ℕ) → IsVersionSoFar payload_at done (Ok v)
     → x.number ≡ VERSION → number_of x.content ≡ Some n → first (form_rules uint32 x.content) ≡ None
     → IsVersionSoFar payload_at (done ++ x ∷ []) (Ok (Some n))
 version_take payload_at done v x n so_far is number clean =
-    let test = eq-eqb x.number VERSION is in (
-      each_more (λ _. version_rules payload_at) done x so_far.0 ∙ version_first payload_at x
-          ∙ ap (λ (b : Bool). option_map (fault_at (payload_at + x.at)) (first (if b then form_rules uint32 x.content else []))) test
-          ∙ ap (option_map (fault_at (payload_at + x.at))) clean,
-      sym (number_more VERSION done x ∙ ap (λ (b : Bool). if b then number_of x.content else version_in done) test ∙ number),
-    )
+    let test = eq-eqb x.number VERSION is in
+    let none = version_first payload_at x true test ∙ ap (option_map (fault_at (payload_at + x.at))) clean in
+    (each_more (λ _. version_rules payload_at) done x so_far.0 ∙ none, sym (version_more done x true test ∙ number))
 
 pub version_stops : (payload_at : ℕ) (done : List Entry) (v : Option ℕ) (x : Entry) (e : MessageError)
     → IsVersionSoFar payload_at done (Ok v) → x.number ≡ VERSION
     → TellsMessage e (option_map (fault_at (payload_at + x.at)) (first (form_rules uint32 x.content))) → (more : List Entry)
     → TellsMessage e (versions_fault payload_at ((done ++ x ∷ []) ++ more))
 version_stops payload_at done v x e so_far is told_here more =
-    let test = eq-eqb x.number VERSION is in
-    tells_as e (option_map (fault_at (payload_at + x.at)) (first (form_rules uint32 x.content))) _
-    (λ f broken. rw append_assoc
-    (each_stops (λ _. version_rules payload_at) done x more f so_far.0
-    (version_first payload_at x
-    ∙ ap (λ (b : Bool). option_map (fault_at (payload_at + x.at)) (first (if b then form_rules uint32 x.content else []))) test
-    ∙ broken))) told_here
+    let here = subst (TellsMessage e) (sym (version_first payload_at x true (eq-eqb x.number VERSION is))) told_here in
+    each_told (version_rules payload_at) e done x more so_far.0 here
 
 -- a fault stays
 pub fault_stays : (fault : List Entry → Option MessageFault) (done : List Entry) (x : Entry) (e : MessageError)
@@ -158,8 +176,8 @@ version_clean payload_at done (Err e) whole stays = absurd (let clash : false �
 
 -- the head
 form_first : (payload_at : ℕ) (x : Entry)
-    → first (layer_field_rules payload_at x) ≡ option_map (fault_at (payload_at + x.at))
-    (first (number_rules layer_forms x.number x.content))
+    → first (layer_field_rules payload_at x)
+    ≡ option_map (fault_at (payload_at + x.at)) (first (number_rules layer_forms x.number x.content))
 unfolding layer_field_rules
 form_first payload_at x = first-told (fault_at (payload_at + x.at)) (number_rules layer_forms x.number x.content)
 
@@ -167,16 +185,16 @@ name_more : (done : List Entry) (x : Entry) → name_in (done ++ x ∷ []) ≡ n
 name_more done x =
     ap (option_map (λ (y : Entry). bytes_of y.content)) (last_only-more (λ (y : Entry). y.number) NAME done x) ∙ by_test (x.number == NAME)
   where
-    by_test : (b : Bool) → option_map (λ (y : Entry). bytes_of y.content) (if b then Some x else last_only NAME done) ≡
-        (if b then Some (bytes_of x.content) else name_in done)
+    by_test : (b : Bool) → option_map (λ (y : Entry). bytes_of y.content) (if b then Some x else last_only NAME done)
+        ≡ (if b then Some (bytes_of x.content) else name_in done)
     by_test true = refl
     by_test false = refl
 
 extent_more : (done : List Entry) (x : Entry) → extent_in (done ++ x ∷ []) ≡ extent_after (extent_in done) x.number x.content
 extent_more done x = ap (λ o. unwrap_or o 4096) (number_more EXTENT done x) ∙ by_test (x.number == EXTENT)
   where
-    by_test : (b : Bool) → unwrap_or (if b then number_of x.content else number_in (last_only EXTENT done)) 4096 ≡
-        (if b then unwrap_or (number_of x.content) 4096 else extent_in done)
+    by_test : (b : Bool) → unwrap_or (if b then number_of x.content else number_in (last_only EXTENT done)) 4096
+        ≡ (if b then unwrap_or (number_of x.content) 4096 else extent_in done)
     by_test true = refl
     by_test false = refl
 
@@ -206,78 +224,15 @@ pub head_stops : (payload_at : ℕ) (done : List Entry) (x : Entry) (e : Message
     → TellsMessage e (option_map (fault_at (payload_at + x.at)) (first (number_rules layer_forms x.number x.content)))
     → (more : List Entry) → TellsMessage e (forms_fault payload_at ((done ++ x ∷ []) ++ more))
 head_stops payload_at done x e clean told_here more =
-    tells_as e (option_map (fault_at (payload_at + x.at)) (first (number_rules layer_forms x.number x.content))) _
-    (λ f broken. rw append_assoc (each_stops (λ _. layer_field_rules payload_at) done x more f clean (form_first payload_at x ∙ broken)))
-    told_here
-
--- values
-pub values_skip : (payload_at : ℕ) (done : List Entry) (values : List Value) (x : Entry) → AreValuesSoFar payload_at done values
-    → x.number ≢ VALUES → AreValuesSoFar payload_at (done ++ x ∷ []) values
-values_skip payload_at done values x so_far other =
-    subst (λ xs. (first (each (λ _. value_rules_of payload_at) [] xs) ≡ None) × AreRelated HoldsValue xs values)
-    (sym (only_skip VALUES done x other)) so_far
-
-pub values_take : (payload_at : ℕ) (done : List Entry) (values new : List Value) (x : Entry) (value : Value)
-    → AreValuesSoFar payload_at done values → x.number ≡ VALUES → IsValueOf (bytes_of x.content) value
-    → value_fault (bytes_of x.content) (payload_at + x.body) (payload_at + x.at) ≡ None → new ≡ values ++ value ∷ []
-    → AreValuesSoFar payload_at (done ++ x ∷ []) new
-values_take payload_at done values new x value so_far is holds clean new_is =
-    subst (λ xs. (first (each (λ _. value_rules_of payload_at) [] xs) ≡ None) × AreRelated HoldsValue xs new)
-    (sym (only_take VALUES done x is)) (
-      each_more (λ _. value_rules_of payload_at) (only VALUES done) x so_far.0 ∙ sym (value_first _ _ _)
-          ∙ clean,
-      rw new_is (related-append HoldsValue (only VALUES done) values (x ∷ []) (value ∷ []) so_far.1 (holds, tt)),
-    )
-
-pub values_stop : (payload_at : ℕ) (done : List Entry) (values : List Value) (x : Entry) (more : List Entry) (e : MessageError)
-    → AreValuesSoFar payload_at done values → x.number ≡ VALUES
-    → TellsMessage e (value_fault (bytes_of x.content) (payload_at + x.body) (payload_at + x.at))
-    → TellsMessage e (values_fault payload_at ((done ++ x ∷ []) ++ more))
-values_stop payload_at done values x more e so_far is told_here =
-    selected_stops VALUES (λ _. value_rules_of payload_at) e done x more is so_far.0
-    (subst (TellsMessage e) (value_first (bytes_of x.content) (payload_at + x.body) (payload_at + x.at)) told_here)
+    each_told (layer_field_rules payload_at) e done x more clean (subst (TellsMessage e) (sym (form_first payload_at x)) told_here)
 
 -- features
-feature_told : (payload_at : ℕ) (keys : List (List ℕ)) (values : List Value) (earlier : List Entry) (x : Entry)
-    → first (feature_rules_of payload_at keys values earlier x) ≡ option_map (in_feature (length earlier))
-    (feature_fault (bytes_of x.content) (payload_at + x.body) keys values)
+pub feature_told : (payload_at : ℕ) (keys : List (List ℕ)) (values : List Value) (earlier : List Entry) (x : Entry)
+    → first (feature_rules_of payload_at keys values earlier x)
+    ≡ option_map (in_feature (length earlier)) (feature_fault (bytes_of x.content) (payload_at + x.body) keys values)
 feature_told payload_at keys values earlier x =
     first-told (in_feature (length earlier)) (feature_rules (bytes_of x.content) (payload_at + x.body) keys values)
     ∙ ap (option_map (in_feature (length earlier))) (sym (feature_first (bytes_of x.content) (payload_at + x.body) keys values))
-
-pub features_skip : (payload_at : ℕ) (keys : List (List ℕ)) (values : List Value) (done : List Entry) (features : List Feature)
-    (x : Entry) → AreFeaturesSoFar payload_at keys values done features → x.number ≢ FEATURES
-    → AreFeaturesSoFar payload_at keys values (done ++ x ∷ []) features
-features_skip payload_at keys values done features x so_far other =
-    subst (λ xs. (first (each (feature_rules_of payload_at keys values) [] xs) ≡ None)
-    × AreRelated (HoldsFeature keys values) xs features) (sym (only_skip FEATURES done x other)) so_far
-
-pub features_take : (payload_at : ℕ) (keys : List (List ℕ)) (values : List Value) (done : List Entry) (features new : List Feature)
-    (x : Entry) (feature : Feature) → AreFeaturesSoFar payload_at keys values done features → x.number ≡ FEATURES
-    → IsFeatureOf (bytes_of x.content) keys values feature → feature_fault (bytes_of x.content) (payload_at + x.body) keys values ≡ None
-    → new ≡ features ++ feature ∷ [] → AreFeaturesSoFar payload_at keys values (done ++ x ∷ []) new
-features_take payload_at keys values done features new x feature so_far is holds clean new_is =
-    subst (λ xs. (first (each (feature_rules_of payload_at keys values) [] xs) ≡ None) × AreRelated (HoldsFeature keys values) xs new)
-    (sym (only_take FEATURES done x is)) (
-      each_more (feature_rules_of payload_at keys values) (only FEATURES done) x so_far.0
-          ∙ feature_told payload_at keys values (only FEATURES done) x
-          ∙ ap (option_map (in_feature (length (only FEATURES done)))) clean,
-      rw new_is
-          (related-append (HoldsFeature keys values) (only FEATURES done) features (x ∷ []) (feature ∷ []) so_far.1 (holds, tt)),
-    )
-
-pub features_stop : (payload_at : ℕ) (keys : List (List ℕ)) (values : List Value) (done : List Entry) (features : List Feature)
-    (x : Entry) (more : List Entry) (index : ℕ) (e : MessageError) → AreFeaturesSoFar payload_at keys values done features
-    → x.number ≡ FEATURES → index ≡ length features
-    → TellsMessage e (option_map (in_feature index) (feature_fault (bytes_of x.content) (payload_at + x.body) keys values))
-    → TellsMessage e (features_fault payload_at keys values ((done ++ x ∷ []) ++ more))
-features_stop payload_at keys values done features x more index e so_far is index_is told_here =
-    let count : index ≡ length (only FEATURES done) = index_is
-    ∙ sym (length-related (HoldsFeature keys values) (only FEATURES done) features so_far.1) in
-    selected_stops FEATURES (feature_rules_of payload_at keys values) e done x more is so_far.0
-    (subst (TellsMessage e) (ap
-    (λ n. option_map (in_feature n) (feature_fault (bytes_of x.content) (payload_at + x.body) keys values)) count
-    ∙ sym (feature_told payload_at keys values (only FEATURES done) x)) told_here)
 
 only_few : (k : ℕ) (xs : List Entry) → length (only k xs) ≤ length xs
 only_few k [] = omega arith
@@ -291,8 +246,8 @@ pub selected_few : (payload : List ℕ) (to_come : Parts) (done : List Entry) (k
     → length (only k done) < 2 ^ 32
 selected_few payload to_come done k walk small =
     let few = only_few k done in
-    let all : length (split payload).fields ≡ length done + length to_come.fields = ap length walk.fields
-    ∙ length-append done to_come.fields in
+    let all : length (split payload).fields ≡ length done + length to_come.fields =
+    ap length walk.fields ∙ length-append done to_come.fields in
     let count = split_function_count payload in
     omega arith
 

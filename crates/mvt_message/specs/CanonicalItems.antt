@@ -46,7 +46,8 @@ extent_fields extent = plain EXTENT (varint extent) ∷ []
 -- the fields of a layer with these keys and values
 abbrev pub fields_with : List (List ℕ) → List Value → ALayer → List Plain
 fields_with keys values layer =
-    head_fields layer.name ++ (map (feature_field keys values) layer.features ++ (map key_field keys ++ (map value_field values ++ extent_fields layer.extent)))
+    head_fields layer.name
+    ++ (map (feature_field keys values) layer.features ++ (map key_field keys ++ (map value_field values ++ extent_fields layer.extent)))
 
 abbrev pub layer_fields : ALayer → List Plain
 layer_fields layer = fields_with (keys_of layer.features) (values_of layer.features) layer

@@ -47,7 +47,8 @@ features_fault payload_at keys values fields = first (each (feature_rules_of pay
 -- the fault up to the version, and that of a layer of version 2 behind it
 abbrev pub head_fault : List ℕ → ℕ → ℕ → Option MessageFault
 head_fault payload payload_at tag_at =
-    option_or (rest_fault payload payload_at) (option_or (versions_fault payload_at (split payload).fields) (no_version_fault tag_at (split payload).fields))
+    option_or (rest_fault payload payload_at)
+    (option_or (versions_fault payload_at (split payload).fields) (no_version_fault tag_at (split payload).fields))
 
 unfoldable pub layer_fault : ℕ → ℕ → List Entry → Option MessageFault
 layer_fault payload_at tag_at fields = first (rows (layer_table payload_at tag_at fields))

@@ -21,7 +21,8 @@ ValidLayer layer = IsUtf8 layer.name × (layer.extent < 2 ^ 32) × AllByRecursio
 -- the bytes of a layer of another version: they are fields, whose versions are in range
 abbrev pub AreOfVersion : ℕ → List ℕ → Type 0
 AreOfVersion version content =
-    (fields : List Entry) × Whole content fields × HaveForm VERSION (HasForm uint32) fields × (version_in fields ≡ Some version) × (version ≢ 2)
+    (fields : List Entry) × Whole content fields × HaveForm VERSION (HasForm uint32) fields
+    × (version_in fields ≡ Some version) × (version ≢ 2)
 
 unfoldable pub ValidItem : AnItem → Type 0
 ValidItem (Layer layer) = ValidLayer layer

@@ -91,7 +91,8 @@ fn append_feature(
     requires body { payload_at + (field.now.body + bytes_size (content_of field.now.payload)) < 2 ^ 64 }
     ensures ok { (held : List Value) (done : List Entry) → AreHeld keeps held values.now.count values.now.kept.items
         → AreFeaturesHeld keeps payload_at keys.old held done features.old.count features.old.kept.items
-        → OnOk result (AreFeaturesHeld keeps payload_at keys.old held (done ++ entry_of field.now ∷ []) features.new.count features.new.kept.items) }
+        → OnOk result (AreFeaturesHeld keeps payload_at keys.old held (done ++ entry_of field.now ∷ [])
+        features.new.count features.new.kept.items) }
     ensures err { (held : List Value) (done more : List Entry) → AreHeld keeps held values.now.count values.now.kept.items
         → AreFeaturesHeld keeps payload_at keys.old held done features.old.count features.old.kept.items
         → IfErr result (λ error. TellsMessage error

@@ -77,7 +77,8 @@ pub(crate) fn take_head<'a>(
     requires { payload_at + field.now.at < 2 ^ 64 }
     ensures { (done : List Entry)
         → IsHeadSoFar payload_at done fault.old (option_copied head.old.name) head.old.extent head.old.keys.items
-        → IsHeadSoFar payload_at (done ++ entry_of field.now ∷ []) fault.new (option_copied head.new.name) head.new.extent head.new.keys.items }
+        → IsHeadSoFar payload_at (done ++ entry_of field.now ∷ []) fault.new
+        (option_copied head.new.name) head.new.extent head.new.keys.items }
 {
     if fault.is_some() {
         return;

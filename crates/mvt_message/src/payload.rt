@@ -29,7 +29,8 @@ pub(crate) fn bytes_of<'a>(payload: &Payload<'a>) -> &'a [u8]
 #[inline(always)]
 pub(crate) fn check_bytes(payload: &Payload<'_>, at: u64) -> Result<(), MessageError>
     ensures ok { OnOk result (first (form_rules message (content_of payload.now)) ≡ None) }
-    ensures err { IfErr result (λ error. TellsMessage error (option_map (the_fault_at at) (first (form_rules message (content_of payload.now))))) }
+    ensures err { IfErr result (λ error. TellsMessage error
+        (option_map (the_fault_at at) (first (form_rules message (content_of payload.now))))) }
 {
     let Payload::Len(_) = payload else {
         return Err(fault_at(at, Cause::WrongType));
@@ -42,7 +43,8 @@ pub(crate) fn check_bytes(payload: &Payload<'_>, at: u64) -> Result<(), MessageE
 pub(crate) fn text_of<'a>(payload: &Payload<'a>, at: u64) -> Result<&'a str, MessageError>
     ensures text { IfOk result (λ text. text.now ≡ the_bytes_of (content_of payload.now)) }
     ensures ok { OnOk result (first (form_rules string (content_of payload.now)) ≡ None) }
-    ensures err { IfErr result (λ error. TellsMessage error (option_map (the_fault_at at) (first (form_rules string (content_of payload.now))))) }
+    ensures err { IfErr result (λ error. TellsMessage error
+        (option_map (the_fault_at at) (first (form_rules string (content_of payload.now))))) }
 {
     match mvt_feature::text_of(payload) {
         Ok(text) => Ok(text),
@@ -54,7 +56,8 @@ pub(crate) fn text_of<'a>(payload: &Payload<'a>, at: u64) -> Result<&'a str, Mes
 pub(crate) fn uint32_of(payload: &Payload<'_>, at: u64) -> Result<u32, MessageError>
     ensures number { IfOk result (λ n. number_of (content_of payload.now) ≡ Some n) }
     ensures ok { OnOk result (first (form_rules uint32 (content_of payload.now)) ≡ None) }
-    ensures err { IfErr result (λ error. TellsMessage error (option_map (the_fault_at at) (first (form_rules uint32 (content_of payload.now))))) }
+    ensures err { IfErr result (λ error. TellsMessage error
+        (option_map (the_fault_at at) (first (form_rules uint32 (content_of payload.now))))) }
     ensures fault { IfErr result IsFault }
 {
     let Payload::Varint(number) = payload else {

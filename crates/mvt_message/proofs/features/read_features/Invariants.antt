@@ -8,5 +8,6 @@ use Rattle.mvt_message.proofs.features.read_features.Given as goal
 abbrev pub invariant-loop-field : goal.invariant-loop-field
 invariant-loop-field l =
     (done : List Entry) × Walk l.payload l.field-iterator.to_come done
-    × ((held : List Value) → AreHeld l.keeps held l.values.count l.values.kept.items → AreFeaturesHeld l.keeps l.payload_at l.fn.keys held done l.features.count l.features.kept.items)
+    × ((held : List Value) → AreHeld l.keeps held l.values.count l.values.kept.items
+    → AreFeaturesHeld l.keeps l.payload_at l.fn.keys held done l.features.count l.features.kept.items)
     × (l.keys ≡ l.fn.keys)
