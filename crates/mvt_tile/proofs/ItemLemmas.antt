@@ -97,7 +97,7 @@ field_there front items x true e are none =
     let some = item_there (length (layers_of front)) (flat_map names_in items) held.0 x.body x.at (sym (first-behind front items x held.0 are e held.1) ∙ none) in
     (some.0 ∷ [], are_more front items x held.0 some.0 are e held.1 some.1 some.2)
 
-each_parts : {X F : Type 0} (rules : List X → X → Rules F) (front : List X) (x : X) (xs : List X) → first (each rules front (x ∷ xs)) ≡ option_or (first (rules front x)) (first (each rules (front ++ x ∷ []) xs))
+pub each_parts : {X F : Type 0} (rules : List X → X → Rules F) (front : List X) (x : X) (xs : List X) → first (each rules front (x ∷ xs)) ≡ option_or (first (rules front x)) (first (each rules (front ++ x ∷ []) xs))
 each_parts rules front x xs =
     first-append (under (length front) (rules front x)) (each rules (front ++ x ∷ []) xs) ∙ ap (λ o. option_or o (first (each rules (front ++ x ∷ []) xs))) (first-under (length front) (rules front x))
 
