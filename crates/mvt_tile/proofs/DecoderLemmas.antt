@@ -107,10 +107,12 @@ module _ (limit offset : ℕ) (items : List Item) (raw s : List ℕ) (live : IsL
         small = simp length-append (omega arith);
         rest = split_more_rest 0 s t ∙ ap (λ (p : Parts). p.rest) parts ∙ judged.rest ∙ sym is;
         place = split_more_place 0 s t ∙ ap (λ (p : Parts). p.rest_at) parts ∙ judged.place;
-        items_are = subst (λ xs. AreItems xs new) (sym (split_more_fields 0 s t ∙ ap (λ (p : Parts). (split s).fields ++ p.fields) parts)) now_are;
+        items_are = subst (λ xs. AreItems xs new)
+            (sym (split_more_fields 0 s t ∙ ap (λ (p : Parts). (split s).fields ++ p.fields) parts)) now_are;
         calm = subst IsCalm
             (sym (fault_more t fits
-            ∙ option_or-none (first (each field_rules (split s).fields q.fields)) (first (rest_rules q)) (fields_clean (split s).fields q.fields new now_are)))
+            ∙ option_or-none (first (each field_rules (split s).fields q.fields)) (first (rest_rules q))
+            (fields_clean (split s).fields q.fields new now_are)))
             (rest_calm q.rest_at q.rest (ap rest_cause judged.rest ∙ judged.unfinished));
       }
 
@@ -124,7 +126,8 @@ module _ (limit offset : ℕ) (items : List Item) (raw s : List ℕ) (live : IsL
   live_fault : first (tile_rules s) ≡ first (rest_rules_at offset raw)
   live_fault =
       first-tile s
-      ∙ option_or-none (first (each field_rules [] (split s).fields)) (first (rest_rules (split s))) (are_clean (split s).fields items live.items_are)
+      ∙ option_or-none (first (each field_rules [] (split s).fields)) (first (rest_rules (split s)))
+      (are_clean (split s).fields items live.items_are)
       ∙ ap₂ (λ a r. first (rest_rules_at a r)) live.place live.rest
 
   -- a stream that goes on behind the limit
@@ -161,7 +164,8 @@ module _ (limit offset : ℕ) (items : List Item) (raw s : List ℕ) (live : IsL
 pub cut : (piece front back : List ℕ) (n : ℕ) → front ≡ take n piece → back ≡ drop n piece → piece ≡ front ++ back
 cut piece front back n e f = sym (ap₂ (λ x y. x ++ y) e f ∙ take-append-drop n piece)
 
-left_length : (raw after t : List ℕ) (used : ℕ) → after ≡ drop used (raw ++ t) → used ≤ length (raw ++ t) → used + length after ≡ length raw + length t
+left_length : (raw after t : List ℕ) (used : ℕ) → after ≡ drop used (raw ++ t) → used ≤ length (raw ++ t)
+    → used + length after ≡ length raw + length t
 left_length raw after t used is within =
     let size : length after ≡ length (raw ++ t) - used = ap length is ∙ length-drop used (raw ++ t) in
     omega (arith, length-append raw t)
@@ -179,11 +183,13 @@ module _ (limit offset : ℕ) (items new : List Item) (raw after t : List ℕ) (
   piece_too_large s piece more joined full some live =
       let size = left_length raw after t used is judged.within in
       let longer = live_more limit offset items raw s live new after t used judged is (omega arith) in
-      subst (λ p. Tells (Fault (outer_fault (offset + used) TooLarge)) (fault_within limit p)) (append_assoc s t more ∙ ap (λ p. s ++ p) (sym joined))
+      subst (λ p. Tells (Fault (outer_fault (offset + used) TooLarge)) (fault_within limit p))
+      (append_assoc s t more ∙ ap (λ p. s ++ p) (sym joined))
       (live_too_large limit (offset + used) new after (s ++ t) longer more (omega arith) some)
 
 pub left_fits : (limit offset : ℕ) (bytes after : List ℕ) (items new : List Item) (used : ℕ)
-    → IsJudged offset bytes items new used → after ≡ drop used bytes → offset + length bytes ≤ limit → (offset + used) + length after ≤ limit
+    → IsJudged offset bytes items new used → after ≡ drop used bytes → offset + length bytes ≤ limit
+    → (offset + used) + length after ≤ limit
 left_fits limit offset bytes after items new used judged is fits =
     let within = judged.within in
     let size : length after ≡ length bytes - used = ap length is ∙ length-drop used bytes in

@@ -135,7 +135,8 @@ pub record JudgedSoFar (offset : ℕ) (b : List ℕ) (old now : List Item) (to_c
   pub items_are : (front : List Entry) → AreItems front old → AreItems (front ++ map (shifted offset) done) now
   pub few : length now ≤ length old + length done
 
-pub so_far_start : (offset : ℕ) (b : List ℕ) (items : List Item) (to_come : Parts) → to_come ≡ split b → JudgedSoFar offset b items items to_come
+pub so_far_start : (offset : ℕ) (b : List ℕ) (items : List Item) (to_come : Parts) → to_come ≡ split b
+    → JudgedSoFar offset b items items to_come
 so_far_start offset b items to_come all = record {
   done = [];
   fields = ap (λ (p : Parts). p.fields) (sym all);
@@ -159,7 +160,8 @@ module _ (offset : ℕ) (b : List ℕ) (old now : List Item) (before : Parts) (s
   pub so_far_count : length now ≤ length old + length b
   so_far_count =
       let count = split_function_count b in
-      let sum : length (split b).fields ≡ length so_far.done + length before.fields = ap length so_far.fields ∙ length-append so_far.done before.fields in
+      let sum : length (split b).fields ≡ length so_far.done + length before.fields =
+      ap length so_far.fields ∙ length-append so_far.done before.fields in
       omega (arith, count, sum, so_far.few)
 
   -- the next field
@@ -174,7 +176,8 @@ module _ (offset : ℕ) (b : List ℕ) (old now : List Item) (before : Parts) (s
         let ends : EndsBy before.rest_at x = step.1 in
         (omega (arith, ends.0), omega (arith, ends.1))
 
-    pub so_far_step : (after : List Item) → IsNext now (shifted offset x) after → length after ≤ length now + 1 → JudgedSoFar offset b old after to_come
+    pub so_far_step : (after : List Item) → IsNext now (shifted offset x) after → length after ≤ length now + 1
+        → JudgedSoFar offset b old after to_come
     so_far_step after next few = record {
       done = so_far.done ++ x ∷ [];
       fields = so_far.fields ∙ ap (λ (p : Parts). so_far.done ++ p.fields) step.0 ∙ sym (append_assoc so_far.done (x ∷ []) to_come.fields);
@@ -214,13 +217,15 @@ module _ (offset : ℕ) (b : List ℕ) (old now : List Item) (before : Parts) (s
       ap (λ (p : Parts). p.fields) (split_at_place offset b)
       ∙ ap (map (shifted offset)) (so_far.fields ∙ ap (λ xs. so_far.done ++ xs) none ∙ append-nil so_far.done)
 
-  judged_all : (used : ℕ) → before.fields ≡ [] → used ≡ (split b).rest_at → rest_cause (split b).rest ≡ wire.Truncated → IsJudged offset b old now used
+  judged_all : (used : ℕ) → before.fields ≡ [] → used ≡ (split b).rest_at → rest_cause (split b).rest ≡ wire.Truncated
+      → IsJudged offset b old now used
   judged_all used none is unfinished =
       let dropped : (split b).rest ≡ drop used b = rest_dropped b ∙ ap (λ n. drop n b) (sym is) in
       let within = place_within b in
       let count = split_function_count b in
       let place = split_steps_place 0 b in
-      let sum : length (split b).fields ≡ length so_far.done + length before.fields = ap length so_far.fields ∙ length-append so_far.done before.fields in
+      let sum : length (split b).fields ≡ length so_far.done + length before.fields =
+      ap length so_far.fields ∙ length-append so_far.done before.fields in
       let few = so_far.few in
       record {
         place = ap (λ (p : Parts). p.rest_at) (split_at_place offset b) ∙ ap (λ n. offset + n) (sym is);
@@ -241,7 +246,8 @@ module _ (offset : ℕ) (b : List ℕ) (old now : List Item) (before : Parts) (s
 
   -- the rest is unfinished, or at fault
   module _ (to_come : Parts) (fault : WireFault) (step : GivesEntry before (Some (Err fault)) to_come) where
-    pub so_far_rest : (r : Result ℕ DecodeError) → IfOk r (λ n. (n ≡ fault.at) × (fault.cause ≡ wire.Truncated)) → IfOk r (IsJudged offset b old now)
+    pub so_far_rest : (r : Result ℕ DecodeError) → IfOk r (λ n. (n ≡ fault.at) × (fault.cause ≡ wire.Truncated))
+        → IfOk r (IsJudged offset b old now)
     so_far_rest (Err e) h = tt
     so_far_rest (Ok n) h = judged_all n step.0 (h.0 ∙ step.2 ∙ so_far.place) (ap rest_cause (sym so_far.rest) ∙ sym step.3 ∙ h.1)
 
@@ -265,7 +271,8 @@ module _ (offset : ℕ) (b : List ℕ) (old now : List Item) (before : Parts) (s
         (told, shut_cause (offset + fault.at) fault.cause h.0))
 
 -- a field that holds no bytes
-pub not_bytes : (p : Payload) → ((n : ℕ) × (p ≡ Varint n)) ⊎ (((n : ℕ) × (p ≡ I64 n)) ⊎ ((n : ℕ) × (p ≡ I32 n))) → is_bytes (content_of p) ≡ false
+pub not_bytes : (p : Payload) → ((n : ℕ) × (p ≡ Varint n)) ⊎ (((n : ℕ) × (p ≡ I64 n)) ⊎ ((n : ℕ) × (p ≡ I32 n)))
+    → is_bytes (content_of p) ≡ false
 not_bytes p (inl h) = ap (λ x. is_bytes (content_of x)) h.1
 not_bytes p (inr (inl h)) = ap (λ x. is_bytes (content_of x)) h.1
 not_bytes p (inr (inr h)) = ap (λ x. is_bytes (content_of x)) h.1

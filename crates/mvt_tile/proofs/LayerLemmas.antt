@@ -19,7 +19,8 @@ cond_append false x xs ys = refl
 pub layers_of-append : (xs ys : List Entry) → layers_of (xs ++ ys) ≡ layers_of xs ++ layers_of ys
 layers_of-append [] ys = refl
 layers_of-append (x ∷ xs) ys =
-    ap (λ zs. cond (eqb x.number LAYERS) (x ∷ zs) zs) (layers_of-append xs ys) ∙ sym (cond_append (eqb x.number LAYERS) x (layers_of xs) (layers_of ys))
+    ap (λ zs. cond (eqb x.number LAYERS) (x ∷ zs) zs) (layers_of-append xs ys)
+    ∙ sym (cond_append (eqb x.number LAYERS) x (layers_of xs) (layers_of ys))
 
 cond_true : {A : Type 0} (b : Bool) (x y : A) → b ≡ true → cond b x y ≡ x
 cond_true true x y e = refl
@@ -39,18 +40,22 @@ layers_of-other x xs e = cond_false (eqb x.number LAYERS) (x ∷ layers_of xs) (
 pub field_other : (front : List Entry) (x : Entry) → eqb x.number LAYERS ≡ false → field_rules front x ≡ []
 unfolding field_rules
 field_other front x e =
-    cond_false (eqb x.number LAYERS) (cond (is_bytes x.content) (rows (layer_rules front x)) (under 0 (when true (outer_fault x.at WrongType)))) [] e
+    cond_false (eqb x.number LAYERS)
+    (cond (is_bytes x.content) (rows (layer_rules front x)) (under 0 (when true (outer_fault x.at WrongType)))) [] e
 
 field_layer : (front : List Entry) (x : Entry) → eqb x.number LAYERS ≡ true
     → field_rules front x ≡ cond (is_bytes x.content) (rows (layer_rules front x)) (under 0 (when true (outer_fault x.at WrongType)))
 unfolding field_rules
 field_layer front x e =
-    cond_true (eqb x.number LAYERS) (cond (is_bytes x.content) (rows (layer_rules front x)) (under 0 (when true (outer_fault x.at WrongType)))) [] e
+    cond_true (eqb x.number LAYERS)
+    (cond (is_bytes x.content) (rows (layer_rules front x)) (under 0 (when true (outer_fault x.at WrongType)))) [] e
 
 -- a layer field of another form
-pub first-wrong : (front : List Entry) (x : Entry) → eqb x.number LAYERS ≡ true → is_bytes x.content ≡ false → first (field_rules front x) ≡ Some (outer_fault x.at WrongType)
+pub first-wrong : (front : List Entry) (x : Entry) → eqb x.number LAYERS ≡ true → is_bytes x.content ≡ false
+    → first (field_rules front x) ≡ Some (outer_fault x.at WrongType)
 first-wrong front x e f =
-    ap first (field_layer front x e ∙ cond_false (is_bytes x.content) (rows (layer_rules front x)) (under 0 (when true (outer_fault x.at WrongType))) f)
+    ap first
+    (field_layer front x e ∙ cond_false (is_bytes x.content) (rows (layer_rules front x)) (under 0 (when true (outer_fault x.at WrongType))) f)
 
 first-of_rows : {F : Type 0} (a b : Rules F) → first (rows ((1, a) ∷ ((2, b) ∷ []))) ≡ option_or (first a) (first b)
 first-of_rows a b =
@@ -64,10 +69,15 @@ pub first-layer : (front : List Entry) (x : Entry) (d : List ℕ) → eqb x.numb
 first-layer front x d e held =
     let n = length (layers_of front) in
     let of_rows : first (field_rules front x) ≡ first (rows (layer_rules front x)) =
-    ap first (field_layer front x e ∙ cond_true (is_bytes x.content) (rows (layer_rules front x)) (under 0 (when true (outer_fault x.at WrongType))) (is_bytes_true x.content d held)) in
+    ap first
+    (field_layer front x e ∙ cond_true (is_bytes x.content) (rows (layer_rules front x)) (under 0 (when true (outer_fault x.at WrongType))) (is_bytes_true x.content d held)) in
     let parts : first (rows (layer_rules front x)) ≡ option_or (option_map (in_layer n) (first (item_rules (bytes_in x.content) x.body x.at))) (first (when (repeats (names_before front) (payload_names (bytes_in x.content))) (repeated_at n x.at))) =
-    first-of_rows (told (in_layer n) (item_rules (bytes_in x.content) x.body x.at)) (when (repeats (names_before front) (payload_names (bytes_in x.content))) (repeated_at n x.at))
-    ∙ ap (λ o. option_or o (first (when (repeats (names_before front) (payload_names (bytes_in x.content))) (repeated_at n x.at)))) (first-told (in_layer n) (item_rules (bytes_in x.content) x.body x.at)) in
+    first-of_rows (told (in_layer n) (item_rules (bytes_in x.content) x.body x.at))
+    (when (repeats (names_before front) (payload_names (bytes_in x.content))) (repeated_at n x.at))
+    ∙ ap (λ o. option_or o (first (when (repeats (names_before front) (payload_names (bytes_in x.content))) (repeated_at n x.at))))
+    (first-told (in_layer n) (item_rules (bytes_in x.content) x.body x.at)) in
     of_rows ∙ parts
-    ∙ ap (λ c. option_or (option_map (in_layer n) (first (item_rules (bytes_in c) x.body x.at))) (first (when (repeats (names_before front) (payload_names (bytes_in c))) (repeated_at n x.at)))) held
-    ∙ ap (λ o. option_or (option_map (in_layer n) o) (first (when (repeats (names_before front) (payload_names d)) (repeated_at n x.at)))) (sym (item_in_order_fault d x.body x.at))
+    ∙ ap
+    (λ c. option_or (option_map (in_layer n) (first (item_rules (bytes_in c) x.body x.at))) (first (when (repeats (names_before front) (payload_names (bytes_in c))) (repeated_at n x.at)))) held
+    ∙ ap (λ o. option_or (option_map (in_layer n) o) (first (when (repeats (names_before front) (payload_names d)) (repeated_at n x.at))))
+    (sym (item_in_order_fault d x.body x.at))

@@ -44,4 +44,5 @@ module _ (limit : ℕ) (b fitting beyond : List ℕ) (cut : b ≡ fitting ++ bey
       whole_truncated left = live_truncated limit used items (drop used fitting) b live (λ empty. omega (arith, length-drop used fitting))
 
       pub whole_tile : length fitting ≤ used → IsTile limit b (record { items = items })
-      whole_tile all = live_tile limit used items (drop used fitting) b live (nil_from_length (drop used fitting) (omega (arith, length-drop used fitting)))
+      whole_tile all =
+          live_tile limit used items (drop used fitting) b live (nil_from_length (drop used fitting) (omega (arith, length-drop used fitting)))

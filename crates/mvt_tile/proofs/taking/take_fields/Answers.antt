@@ -8,7 +8,8 @@ pub loop-field-init : goal.loop-field-init
 loop-field-init g c = λ input items has. (
   items,
   has,
-  so_far_start c.args.offset c.args.bytes.now items _ (ap (λ (a : Ahead). a.to_come) c.into_iter-field-iterator.ensures.into_iter_gives ∙ c.new-field-items.ensures.fields),
+  so_far_start c.args.offset c.args.bytes.now items _
+      (ap (λ (a : Ahead). a.to_come) c.into_iter-field-iterator.ensures.into_iter_gives ∙ c.new-field-items.ensures.fields),
 )
 
 pub take_field-requires-clause-few : goal.take_field-requires-clause-few
@@ -22,14 +23,16 @@ take_field-requires-clause-place g c =
     let (input, items, has, few) = c.requires.few in
     let (now, known, so_far) = c.loop-field.invariant input items has in
     let step = (rw c.in-Ok.is at c.in-Some.ensures.steps).0 in
-    omega (arith, (so_far_place c.args.offset c.args.bytes.now items now c.loop-field.field-iterator.to_come so_far c.next.new.self.to_come c.in-Ok.field step).0)
+    omega
+    (arith, (so_far_place c.args.offset c.args.bytes.now items now c.loop-field.field-iterator.to_come so_far c.next.new.self.to_come c.in-Ok.field step).0)
 
 pub take_field-requires-clause-fits : goal.take_field-requires-clause-fits
 take_field-requires-clause-fits g c =
     let (input, items, has, few) = c.requires.few in
     let (now, known, so_far) = c.loop-field.invariant input items has in
     let step = (rw c.in-Ok.is at c.in-Some.ensures.steps).0 in
-    omega (arith, (so_far_place c.args.offset c.args.bytes.now items now c.loop-field.field-iterator.to_come so_far c.next.new.self.to_come c.in-Ok.field step).1)
+    omega
+    (arith, (so_far_place c.args.offset c.args.bytes.now items now c.loop-field.field-iterator.to_come so_far c.next.new.self.to_come c.in-Ok.field step).1)
 
 pub loop-field-preserved : goal.loop-field-preserved
 loop-field-preserved g c = λ input items has.

@@ -37,5 +37,6 @@ returns-clause-tile g c = λ input has.
     let all = cut _ _ _ _ c.split_at.ensures.front c.split_at.ensures.back in
     let judged = c.in_ok-used.ensures.judged input [] has in
     let tile =
-    whole_tile 67108864 c.args.bytes.now front.now back.now all judged.0 c.in_ok-used.used judged.2 (search rules) (search rules) c.if-used-fitting.false in
+    whole_tile 67108864 c.args.bytes.now front.now back.now all judged.0 c.in_ok-used.used judged.2 (search rules)
+    (search rules) c.if-used-fitting.false in
     (record { items = judged.0 }, tile, judged.1)

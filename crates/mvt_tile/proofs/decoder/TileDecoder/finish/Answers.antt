@@ -8,7 +8,8 @@ returns-then-not-is_empty-clause-fault c =
     let inside = c.self.inside in
     rw c.outer.ensures
     (λ s stands. live_truncated 67108864 inside.offset inside.layers inside.raw.items s
-    (live_of 67108864 inside.failure inside.offset inside.layers inside.raw.items c.args.self s c.self.view_is c.in_default.is stands) (search rules))
+    (live_of 67108864 inside.failure inside.offset inside.layers inside.raw.items c.args.self s c.self.view_is c.in_default.is stands)
+    (search rules))
 
 pub returns-clause-tile : goal.returns-clause-tile
 returns-clause-tile c =
