@@ -2,7 +2,7 @@
 use Rattle.std.proofs.Common.{◌≡◌, ◌≢◌, ◌↔◌, ℕ, ◌+◌, ◌<◌, ◌≤◌, Bool, ◌==◌, List, [], ◌∷◌, ◌++◌, length, take, drop, get_or, Option, Some, None, Bor, refl, sym, ap, ◌∙◌, arith, append_assoc, append-nil}
 use Rattle.std.specs.Prelude.{IsTrue}
 use Rattle.std.proofs.lemmas.Bool.{eqb-true, eq-eqb}
-use Rattle.std.proofs.lemmas.List.{append_cancel_left}
+use Rattle.std.proofs.lemmas.List.{append_cancel_left, nil_from_length}
 use Rattle.mvt_message.specs.declared.item.Item.{Item}
 use Rattle.mvt_tile.specs.Inner.Comparing.{IsBehind}
 use Rattle.mvt_tile.proofs.WritingLemmas.{written, field_of, written_more, written_parts, written_all}
@@ -32,15 +32,11 @@ parts_differ items i item bytes rest h is so_far differs e =
     differs (written (drop (i + 1) items))
     (append_cancel_left (written (take i items)) rest (field_of item ++ written (drop (i + 1) items)) (sym so_far ∙ e ∙ written_parts items i item h is))
 
-pub none_left : (rest : List ℕ) → length rest ≡ 0 → rest ≡ []
-none_left [] e = refl
-none_left (x ∷ rest) e = absurd (omega arith)
-
 -- nothing is left, or something
 pub parts_end : (items : List Item) (i : ℕ) (bytes rest : List ℕ) (empty : Bool) → length items ≤ i → bytes ≡ written (take i items) ++ rest
     → empty ≡ (length rest == 0) → IsTrue empty ↔ (bytes ≡ written items)
 parts_end items i bytes rest empty past so_far is =
     let all : bytes ≡ written items ++ rest = so_far ∙ ap (λ b. b ++ rest) (written_all items i past) in (
-      λ yes. all ∙ ap (λ r. written items ++ r) (none_left rest (eqb-true (length rest) 0 (sym is ∙ yes))) ∙ append-nil (written items),
+      λ yes. all ∙ ap (λ r. written items ++ r) (nil_from_length rest (eqb-true (length rest) 0 (sym is ∙ yes))) ∙ append-nil (written items),
       λ e. is ∙ eq-eqb (length rest) 0 (ap length (append_cancel_left (written items) rest [] (sym all ∙ e ∙ sym (append-nil (written items))))),
     )

@@ -170,7 +170,8 @@ left_length raw after t used is within =
     let size : length after ≡ length (raw ++ t) - used = ap length is ∙ length-drop used (raw ++ t) in
     omega (arith, length-append raw t)
 
-module _ (limit offset : ℕ) (items new : List Item) (raw after t : List ℕ) (used : ℕ) (judged : IsJudged offset (raw ++ t) items new used) (is : after ≡ drop used (raw ++ t)) where
+module _ (limit offset : ℕ) (items new : List Item) (raw after t : List ℕ) (used : ℕ)
+    (judged : IsJudged offset (raw ++ t) items new used) (is : after ≡ drop used (raw ++ t)) where
   pub piece_fits : (s piece more : List ℕ) → piece ≡ t ++ more → offset + (length raw + length t) ≤ limit → length more ≡ 0
       → IsLive limit offset items raw s → IsLive limit (offset + used) new after (s ++ piece)
   piece_fits s piece [] joined fits none live =
@@ -208,7 +209,3 @@ pub live_of : (limit : ℕ) (failure : Option DecodeError) (offset : ℕ) (items
 live_of limit failure offset items raw d s is none stands =
     subst (λ o. StandsAs limit o (record { failure = failure; items = items; raw = raw; offset = offset }) s) none
     (subst (λ x. StandsFor limit x s) (sym is) stands)
-
-pub nil_from_length : (xs : List ℕ) → length xs ≡ 0 → xs ≡ []
-nil_from_length [] e = refl
-nil_from_length (x ∷ xs) e = absurd (omega arith)

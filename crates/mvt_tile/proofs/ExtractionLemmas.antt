@@ -11,19 +11,15 @@ use Rattle.mvt_base.proofs.ListLemmas.{all_joined}
 use Rattle.mvt_tile.specs.Extraction.{is_named}
 use Rattle.mvt_tile.specs.TileRules.{repeats}
 use Rattle.mvt_tile.specs.Tiles.{HasDistinctNames}
-use Rattle.mvt_tile.proofs.NameLemmas.{distinct_more, distinct_before}
+use Rattle.mvt_tile.proofs.NameLemmas.{distinct_more, distinct_before, or_right_false}
 
 pub any_named : (name : List ℕ) (items : List AnItem) → list_any (is_named name) items ≡ list_any (bytes_eq name) (flat_map names_in items)
 any_named name [] = refl
 any_named name (Layer l ∷ items) = ap (λ b. bytes_eq name l.name || b) (any_named name items)
 any_named name (Foreign version bytes ∷ items) = any_named name items
 
-or_false : (a : Bool) → (a || false) ≡ a
-or_false true = refl
-or_false false = refl
-
 pub repeats_named : (name : List ℕ) (items : List AnItem) → list_any (is_named name) items ≡ repeats (flat_map names_in items) (name ∷ [])
-repeats_named name items = any_named name items ∙ sym (or_false (list_any (bytes_eq name) (flat_map names_in items)))
+repeats_named name items = any_named name items ∙ sym (or_right_false (list_any (bytes_eq name) (flat_map names_in items)))
 
 pub any_mapped : {A B : Type 0} (f : A → B) (p : B → Bool) (xs : List A) → list_any (λ x. p (f x)) xs ≡ list_any p (map f xs)
 any_mapped f p [] = refl

@@ -13,7 +13,7 @@ use Rattle.mvt_message.specs.Items.{IsItem, names_in}
 use Rattle.mvt_message.proofs.MessageLaws.{item_names, item_or_fault_clean, item_or_fault_there}
 use Rattle.mvt_tile.specs.declared.numbers.tile.TheConstants.{LAYERS}
 use Rattle.mvt_tile.specs.Faults.{in_layer}
-use Rattle.mvt_tile.specs.Inner.Judging.{payload_fault, repeated_at}
+use Rattle.mvt_tile.specs.Inner.Judging.{name_fault, payload_fault, repeated_at}
 use Rattle.mvt_tile.specs.TileRules.{layers_of, bytes_in, payload_of, names_before, repeats, is_bytes, field_rules}
 use Rattle.mvt_tile.specs.Tiles.{HoldsItem, HasDistinctNames, AreItems}
 use Rattle.mvt_tile.proofs.NameLemmas.{distinct_more, distinct_before, distinct_none}
@@ -74,8 +74,7 @@ item_there : (n : ℕ) (names : List (List ℕ)) (d : List ℕ) (body at : ℕ) 
     → (item : Item) × IsItem d item × (repeats names (names_in item) ≡ false)
 item_there n names d body at e =
     let parts =
-    option_or-nones (option_map (in_layer n) (item_fault d body at))
-    (first (when (repeats names (payload_names d)) (repeated_at n at))) e in
+    option_or-nones (option_map (in_layer n) (item_fault d body at)) (name_fault n names (payload_names d) at) e in
     let some = item_or_fault_there d body at (none_mapped (in_layer n) (item_fault d body at) parts.0) in
     (some.0, some.1, ap (repeats names) (item_names d some.0 some.1) ∙ none_when (repeats names (payload_names d)) (repeated_at n at) parts.1)
 
@@ -83,7 +82,7 @@ pub item_clean : (n : ℕ) (names : List (List ℕ)) (d : List ℕ) (body at : �
     → repeats names (names_in item) ≡ false
     → payload_fault n names d body at ≡ None
 item_clean n names d body at item is new =
-    option_or-none (option_map (in_layer n) (item_fault d body at)) (first (when (repeats names (payload_names d)) (repeated_at n at)))
+    option_or-none (option_map (in_layer n) (item_fault d body at)) (name_fault n names (payload_names d) at)
     (ap (option_map (in_layer n)) (item_or_fault_clean d body at item is))
     ∙ first-when_not (repeats names (payload_names d)) (repeated_at n at) (ap (repeats names) (sym (item_names d item is)) ∙ new)
 
@@ -128,7 +127,8 @@ items_there (x ∷ xs) front items are none =
     (sym (each_parts field_rules front x xs) ∙ none) in
     let one = field_there front items x (eqb x.number LAYERS) refl are parts.0 in
     let others = items_there xs (front ++ x ∷ []) (items ++ one.0) one.1 parts.1 in
-    (one.0 ++ others.0, subst (λ ys. AreItems ys (items ++ (one.0 ++ others.0))) (append_assoc front (x ∷ []) xs) (subst (AreItems ((front ++ x ∷ []) ++ xs)) (append_assoc items one.0 others.0) others.1))
+    let all = subst (AreItems ((front ++ x ∷ []) ++ xs)) (append_assoc items one.0 others.0) others.1 in
+    (one.0 ++ others.0, subst (λ ys. AreItems ys (items ++ (one.0 ++ others.0))) (append_assoc front (x ∷ []) xs) all)
 
 -- what is to be shown of the fields behind some that are items
 abbrev IsCleanBehind : List Entry → Type 0

@@ -80,7 +80,8 @@ pub field_over : (items : List Item) (offset : ℕ) (x : Entry) → (x.number �
 field_over items offset x other front are = are_over front items (shifted offset x) are (ne_eqb x.number LAYERS other)
 
 -- where the item of a field is taken
-module _ (items : List Item) (offset : ℕ) (x : Entry) (d : List ℕ) (payload_at tag_at : ℕ) (place : IsPlaceOf offset x d payload_at tag_at) where
+module _ (items : List Item) (offset : ℕ) (x : Entry) (d : List ℕ) (payload_at tag_at : ℕ)
+    (place : IsPlaceOf offset x d payload_at tag_at) where
   is_layer : eqb x.number LAYERS ≡ true
   is_layer = eq-eqb x.number LAYERS place.is_layer
 

@@ -38,7 +38,7 @@ or_falses : (a b : Bool) → a ≡ false → b ≡ false → (a || b) ≡ false
 or_falses true b e f = cc
 or_falses false b e f = f
 
-or_right_false : (a : Bool) → (a || false) ≡ a
+pub or_right_false : (a : Bool) → (a || false) ≡ a
 or_right_false true = refl
 or_right_false false = refl
 

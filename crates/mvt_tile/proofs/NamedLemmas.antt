@@ -23,7 +23,8 @@ repeats_by : (names others given : List (List ℕ)) → ((n : List ℕ) → list
 repeats_by names others [] same = refl
 repeats_by names others (n ∷ given) same = ap₂ (λ a b. a || b) (same n) (repeats_by names others given same)
 
-module _ (count : ℕ) (names given : List (List ℕ)) (items : List Item) (added : Bool) (are : AreNamed count names items) (is : added ≡ not (repeats names given)) where
+module _ (count : ℕ) (names given : List (List ℕ)) (items : List Item) (added : Bool)
+    (are : AreNamed count names items) (is : added ≡ not (repeats names given)) where
   same : repeats names given ≡ repeats (flat_map names_in items) given
   same = repeats_by names (flat_map names_in items) given are.named
 

@@ -3,7 +3,7 @@ use Rattle.std.proofs.Common.{◌≡◌, ◌≢◌, ℕ, ◌+◌, ◌≤◌, Boo
 use Rattle.std.specs.List.{sum_by}
 use Rattle.std.proofs.lemmas.Bool.{eqb-true, eq-eqb, ne_eqb, false≢true}
 use Rattle.std.proofs.lemmas.Bool.Decides.{same_from_decides}
-use Rattle.std.proofs.lemmas.List.{append_cancel_left}
+use Rattle.std.proofs.lemmas.List.{append_cancel_left, nil_from_length}
 use Rattle.std.proofs.lemmas.List.Sums.{sum_by-append}
 use Rattle.std.proofs.lemmas.Slice.Eq.{bytes_eq-Decides}
 use Rattle.mvt_message.specs.declared.item.Item.{Item}
@@ -16,7 +16,6 @@ use Rattle.mvt_tile.specs.Inner.Comparing.{IsBehind}
 use Rattle.mvt_tile.specs.Inner.Surveying.{AreFound}
 use Rattle.mvt_tile.specs.Notes.{numbered, note_if, item_notes, notes_of}
 use Rattle.mvt_tile.specs.Survey.{feature_count, survey_of}
-use Rattle.mvt_tile.proofs.ComparingLemmas.{none_left}
 use Rattle.mvt_tile.proofs.NoteLemmas.{numbered-append}
 use Rattle.mvt_tile.proofs.WritingLemmas.{written, field_of, written-append, written_one}
 
@@ -32,7 +31,7 @@ behind_small limit input front (Some rest) small is = omega (arith, ap length is
 pub end_there : (input front rest : List ℕ) (end : Bool) → input ≡ front ++ rest → end ≡ (length rest == 0) → end ≡ bytes_eq input front
 end_there input front rest end is e =
     same_from_decides end (bytes_eq input front) (
-      λ yes. is ∙ ap (λ r. front ++ r) (none_left rest (eqb-true (length rest) 0 (sym e ∙ yes))) ∙ append-nil front,
+      λ yes. is ∙ ap (λ r. front ++ r) (nil_from_length rest (eqb-true (length rest) 0 (sym e ∙ yes))) ∙ append-nil front,
       λ same. e ∙ eq-eqb (length rest) 0 (ap length (append_cancel_left front rest [] (sym is ∙ same ∙ sym (append-nil front)))),
     ) (bytes_eq-Decides input front)
 

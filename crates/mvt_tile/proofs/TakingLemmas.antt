@@ -41,8 +41,8 @@ answers_err (Some x) r e h is = cc
 abbrev Feeds : ℕ → Decoding → Decoding → List ℕ → Type 0
 Feeds limit old new piece = (s : List ℕ) → StandsFor limit old s → StandsFor limit new (s ++ piece)
 
-pub taken_more : (limit : ℕ) (a b c : Option (List ℕ)) (old new : Decoding) (reads : ℕ) (buffer piece : List ℕ) (n : ℕ) (r : Result (Unit {0}) DecodeError)
-    → HasTaken limit a b old reads → Consumes b c (take n buffer)
+pub taken_more : (limit : ℕ) (a b c : Option (List ℕ)) (old new : Decoding) (reads : ℕ) (buffer piece : List ℕ) (n : ℕ)
+    (r : Result (Unit {0}) DecodeError) → HasTaken limit a b old reads → Consumes b c (take n buffer)
     → piece ≡ take n buffer → 0 < n → n ≤ length buffer → Feeds limit old new piece → Answers new.failure r → r ≡ Ok tt
     → HasTaken limit a c new (reads + 1)
 taken_more limit a b c old new reads buffer piece n r has consumed is some within feeds answers ok =
@@ -65,8 +65,8 @@ weaker_taken Memory o h = tt
 weaker_taken (Fault f) o h = h
 weaker_taken (Read k) o h = tt
 
-pub taken_fails : (limit : ℕ) (a b c : Option (List ℕ)) (old new : Decoding) (reads : ℕ) (buffer piece : List ℕ) (n size : ℕ) (r : Result (Unit {0}) DecodeError) (e : DecodeError)
-    → HasTaken limit a b old reads → Consumes b c (take n buffer)
+pub taken_fails : (limit : ℕ) (a b c : Option (List ℕ)) (old new : Decoding) (reads : ℕ) (buffer piece : List ℕ) (n size : ℕ)
+    (r : Result (Unit {0}) DecodeError) (e : DecodeError) → HasTaken limit a b old reads → Consumes b c (take n buffer)
     → piece ≡ take n buffer → size ≡ n → Feeds limit old new piece → Answers new.failure r → r ≡ Err e → HasStopped limit size a c e
 taken_fails limit a b c old new reads buffer piece n size r e has consumed is of_size feeds answers failed =
     let short : length piece ≤ size =

@@ -1,5 +1,6 @@
 -- Bytes that are judged as a whole.
 use Rattle.std.proofs.Common.{◌≡◌, ℕ, ◌+◌, ◌<◌, ◌≤◌, List, [], ◌++◌, length, drop, Option, Some, refl, subst, arith, length-drop}
+use Rattle.std.proofs.lemmas.List.{nil_from_length}
 use Rattle.mvt_message.specs.declared.item.Item.{Item}
 use Rattle.mvt_feature.specs.declared.cause.Cause.TheVariants.{Truncated, TooLarge}
 use Rattle.mvt_tile.specs.declared.fault.DecodeError.{DecodeError}
@@ -10,7 +11,7 @@ use Rattle.mvt_tile.specs.Inner.Judging.{IsJudged, TellsBehind}
 use Rattle.mvt_tile.specs.Streams.{IsLive, Tells, TellsAtEnd}
 use Rattle.mvt_tile.specs.TileRules.{fault_within}
 use Rattle.mvt_tile.specs.Tiles.{IsTile}
-use Rattle.mvt_tile.proofs.DecoderLemmas.{live_start, live_fails, live_truncated, live_tile, piece_fits, piece_too_large, nil_from_length}
+use Rattle.mvt_tile.proofs.DecoderLemmas.{live_start, live_fails, live_truncated, live_tile, piece_fits, piece_too_large}
 
 at_end : (e : DecodeError) (o : Option AFault) → Tells e o → TellsAtEnd e o
 at_end Memory o h = tt

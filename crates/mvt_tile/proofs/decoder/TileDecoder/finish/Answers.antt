@@ -1,6 +1,7 @@
 use Rattle.std.proofs.Common.{◌≡◌, length, rules}
 use Rattle.std.proofs.lemmas.Bool.Decides.{nat_tests}
-use Rattle.mvt_tile.proofs.DecoderLemmas.{live_of, live_truncated, live_tile, nil_from_length}
+use Rattle.std.proofs.lemmas.List.{nil_from_length}
+use Rattle.mvt_tile.proofs.DecoderLemmas.{live_of, live_truncated, live_tile}
 use Rattle.mvt_tile.proofs.decoder.TileDecoder.finish.Goals as goal
 
 pub returns-then-not-is_empty-clause-fault : goal.returns-then-not-is_empty-clause-fault
