@@ -4,10 +4,10 @@ use Rattle.std.specs.List.{flat_map}
 use Rattle.std.specs.Option.{option_or, option_map}
 use Rattle.std.proofs.lemmas.Bool.{eq-eqb, ne_eqb}
 use Rattle.std.proofs.lemmas.List.{map-append}
-use Rattle.mvt_base.specs.Rules.{when, under, each, first}
-use Rattle.mvt_base.proofs.RuleLemmas.{first-append, first-under, option_or-none, option_or-nones, each-append}
+use Rattle.mvt_base.specs.Rules.{each, first}
+use Rattle.mvt_base.proofs.RuleLemmas.{first-append, option_or-none, option_or-nones, each-append}
 use Rattle.mvt_base.proofs.ListLemmas.{length-related}
-use Rattle.mvt_wire.specs.Field.{Entry, Content, bytes, entry_of, content_of}
+use Rattle.mvt_wire.specs.Field.{Entry, Content, entry_of, content_of}
 use Rattle.mvt_wire.specs.declared.field.Payload.{Payload}
 use Rattle.mvt_wire.specs.declared.field.Payload.TheVariants.{Varint, I64, I32}
 use Rattle.mvt_wire.specs.Fields.{GivesEntry, EndsBy, bytes_size}
@@ -30,9 +30,9 @@ use Rattle.mvt_tile.specs.declared.fault.DecodeError.TheVariants.{Memory, Fault,
 use Rattle.mvt_tile.specs.declared.fault.Fault.{Fault as AFault}
 use Rattle.mvt_tile.specs.declared.numbers.tile.TheConstants.{LAYERS}
 use Rattle.mvt_tile.specs.Faults.{outer_fault, in_layer, is_open}
-use Rattle.mvt_tile.specs.Inner.Judging.{shifted, told_in, name_fault, payload_fault, repeated_at, fault_behind, IsJudged, IsPlaceOf, TakesItem, TellsBehind}
+use Rattle.mvt_tile.specs.Inner.Judging.{shifted, told_in, name_fault, payload_fault, fault_behind, IsJudged, IsPlaceOf, TakesItem, TellsBehind}
 use Rattle.mvt_tile.specs.Streams.{Tells}
-use Rattle.mvt_tile.specs.TileRules.{layers_of, is_bytes, field_rules, repeats, rest_rules, rest_rules_at}
+use Rattle.mvt_tile.specs.TileRules.{layers_of, is_bytes, field_rules, rest_rules, rest_rules_at}
 use Rattle.mvt_tile.specs.Tiles.{HoldsItem, AreItems}
 use Rattle.mvt_tile.proofs.LayerLemmas.{first-wrong}
 use Rattle.mvt_tile.proofs.ItemLemmas.{are_over, are_more, each_parts, first-behind, are_clean}
