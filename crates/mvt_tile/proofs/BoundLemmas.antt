@@ -22,7 +22,8 @@ field_most number d =
     let parts = length-append (short (length d)) d in
     omega (arith, short_lengths_field number (bytes d), parts, short_lengths_most (8 * number + 2), short_lengths_most (length d))
 
-pub items_length : (items : List Item) → AllByRecursion ValidItem items → items_bound items ≤ LIMIT → length (written items) ≤ items_bound items
+pub items_length : (items : List Item) → AllByRecursion ValidItem items → items_bound items ≤ LIMIT
+    → length (written items) ≤ items_bound items
 items_length [] valid small = omega arith
 items_length (item ∷ items) valid small =
     let sums = sum_by-cons field_bound item items in

@@ -39,7 +39,8 @@ fit_items (i ∷ items) h =
     (record { first = omega arith; last = lit< tt; content = omega (arith, h.0, within) }, fit_items items h.1)
 
 -- fields that are items, without their places
-held_items : (es : List Entry) (items : List Item) → map plain_of es ≡ map item_field items → HaveSmall items → AllByRecursion ValidItem items
+held_items : (es : List Entry) (items : List Item) → map plain_of es ≡ map item_field items → HaveSmall items
+    → AllByRecursion ValidItem items
     → AreRelated HoldsItem (layers_of es) items
 held_items [] [] e small valid = tt
 held_items [] (i ∷ items) e small valid = cc

@@ -45,64 +45,8 @@ rest_calm at (b ∷ bs) e f told =
     let is : outer_fault at (of_wire (rest_cause (b ∷ bs))) ≡ f = cc in
     ap is_open (sym is) ∙ ap (λ c. is_open (outer_fault at (of_wire c))) e
 
--- how long the stream is
-pub live_length : (limit offset : ℕ) (items : List Item) (raw s : List ℕ) → IsLive limit offset items raw s → length s ≡ offset + length raw
-live_length limit offset items raw s live =
-    let whole = split_steps_place 0 s in
-    let place = live.place in
-    omega (arith, ap length live.rest)
-
--- the split of the stream and more
-parts_more : (limit offset : ℕ) (items : List Item) (raw s : List ℕ) → IsLive limit offset items raw s → (t : List ℕ) → rest_with s t ≡ split_from offset (raw ++ t)
-parts_more limit offset items raw s live t = ap₂ (λ a r. split_from a (r ++ t)) live.place live.rest
-
--- the first fault of the stream and more
-fault_more : (limit offset : ℕ) (items : List Item) (raw s t : List ℕ) → IsLive limit offset items raw s → offset + (length raw + length t) ≤ limit
-    → fault_within limit (s ++ t) ≡ fault_behind (split s).fields (split_from offset (raw ++ t))
-fault_more limit offset items raw s t live fits =
-    let size = live_length limit offset items raw s live in
-    let small : length (s ++ t) ≤ limit = simp length-append (omega arith) in
-    fault_of_short limit (s ++ t) small ∙ first-more s t
-    ∙ option_or-none (first (each field_rules [] (split s).fields)) (fault_behind (split s).fields (rest_with s t)) (are_clean (split s).fields items live.items_are)
-    ∙ ap (fault_behind (split s).fields) (parts_more limit offset items raw s live t)
-
-pub live_more : (limit offset : ℕ) (items new : List Item) (raw after s t : List ℕ) (used : ℕ) → IsJudged offset (raw ++ t) items new used → after ≡ drop used (raw ++ t) → offset + (length raw + length t) ≤ limit
-    → IsLive limit offset items raw s → IsLive limit (offset + used) new after (s ++ t)
-live_more limit offset items new raw after s t used judged is fits live =
-    let size = live_length limit offset items raw s live in
-    let parts = parts_more limit offset items raw s live t in
-    let q = split_from offset (raw ++ t) in
-    let now_are : AreItems ((split s).fields ++ q.fields) new = judged.items_are (split s).fields live.items_are in
-    record {
-      small = simp length-append (omega arith);
-      rest = split_more_rest 0 s t ∙ ap (λ (p : Parts). p.rest) parts ∙ judged.rest ∙ sym is;
-      place = split_more_place 0 s t ∙ ap (λ (p : Parts). p.rest_at) parts ∙ judged.place;
-      items_are = subst (λ xs. AreItems xs new) (sym (split_more_fields 0 s t ∙ ap (λ (p : Parts). (split s).fields ++ p.fields) parts)) now_are;
-      calm = subst IsCalm
-          (sym (fault_more limit offset items raw s t live fits
-          ∙ option_or-none (first (each field_rules (split s).fields q.fields)) (first (rest_rules q)) (fields_clean (split s).fields q.fields new now_are)))
-          (rest_calm q.rest_at q.rest (ap rest_cause judged.rest ∙ judged.unfinished));
-    }
-
--- what can't be changed is told of each longer stream
-tells_stays : (limit : ℕ) (e : DecodeError) (s t : List ℕ) → Tells e (fault_within limit s) → Tells e (fault_within limit (s ++ t))
-tells_stays limit Memory s t h = tt
-tells_stays limit (Fault f) s t h = (fault_stays limit s t f h.0 h.1, h.1)
-tells_stays limit (Read k) s t h = absurd h
-
-pub live_fails : (limit offset : ℕ) (items : List Item) (raw s piece t beyond : List ℕ) (e : DecodeError) → TellsBehind e offset (raw ++ t) items → piece ≡ t ++ beyond → offset + (length raw + length t) ≤ limit
-    → IsLive limit offset items raw s → Tells e (fault_within limit (s ++ piece))
-live_fails limit offset items raw s piece t beyond e tells is fits live =
-    subst (λ p. Tells e (fault_within limit p)) (append_assoc s t beyond ∙ ap (λ p. s ++ p) (sym is))
-    (tells_stays limit e (s ++ t) beyond (subst (Tells e) (sym (fault_more limit offset items raw s t live fits)) (tells (split s).fields live.items_are)))
-
--- the first fault of the stream is that of its rest
-live_fault : (limit offset : ℕ) (items : List Item) (raw s : List ℕ) → IsLive limit offset items raw s → first (tile_rules s) ≡ first (rest_rules_at offset raw)
-live_fault limit offset items raw s live =
-    first-tile s ∙ option_or-none (first (each field_rules [] (split s).fields)) (first (rest_rules (split s))) (are_clean (split s).fields items live.items_are)
-    ∙ ap₂ (λ a r. first (rest_rules_at a r)) live.place live.rest
-
-too_large_behind : (limit offset : ℕ) (raw : List ℕ) → offset + length raw ≡ limit → IsCalm (first (rest_rules_at offset raw)) → beyond limit (first (rest_rules_at offset raw)) ≡ Some (outer_fault offset TooLarge)
+too_large_behind : (limit offset : ℕ) (raw : List ℕ) → offset + length raw ≡ limit → IsCalm (first (rest_rules_at offset raw))
+    → beyond limit (first (rest_rules_at offset raw)) ≡ Some (outer_fault offset TooLarge)
 too_large_behind limit offset [] size calm =
     let same : limit ≡ offset = omega arith in
     ap (λ n. Some (outer_fault n TooLarge)) same
@@ -110,71 +54,143 @@ too_large_behind limit offset (b ∷ bs) size calm =
     let f = outer_fault offset (of_wire (rest_cause (b ∷ bs))) in
     ap (λ t. Some (cond t (outer_fault offset TooLarge) f)) (calm f refl)
 
--- a stream that goes on behind the limit
-pub live_too_large : (limit offset : ℕ) (items : List Item) (raw s more : List ℕ) → offset + length raw ≡ limit → (length more ≡ 0 → ⊥)
-    → IsLive limit offset items raw s → Tells (Fault (outer_fault offset TooLarge)) (fault_within limit (s ++ more))
-live_too_large limit offset items raw s more full some live =
-    let size : length s ≡ limit = live_length limit offset items raw s live ∙ full in
-    let longer : limit < length (s ++ more) = simp length-append (omega arith) in
-    let is : first (tile_rules s) ≡ first (rest_rules_at offset raw) = live_fault limit offset items raw s live in
-    let calm : IsCalm (first (rest_rules_at offset raw)) = subst IsCalm (fault_of_short limit s live.small ∙ is) live.calm in (
-      fault_of_long limit (s ++ more) longer
-          ∙ ap (λ xs. beyond limit (first (tile_rules xs))) (ap (λ n. take n (s ++ more)) (sym size) ∙ take-append_seam s more)
-          ∙ ap (beyond limit) is ∙ too_large_behind limit offset raw full calm,
-      refl,
-    )
-
 open_cause : (at : ℕ) (c : WireCause) → is_open (outer_fault at (of_wire c)) ≡ true → of_wire c ≡ Truncated
 open_cause at wire.Truncated e = refl
 open_cause at wire.VarintRange e = cc
 open_cause at wire.FieldNumber e = cc
 open_cause at wire.WireType e = cc
 
-rest_open : (at : ℕ) (raw : List ℕ) → (length raw ≡ 0 → ⊥) → IsCalm (first (rest_rules_at at raw)) → first (rest_rules_at at raw) ≡ Some (outer_fault at Truncated)
+rest_open : (at : ℕ) (raw : List ℕ) → (length raw ≡ 0 → ⊥) → IsCalm (first (rest_rules_at at raw))
+    → first (rest_rules_at at raw) ≡ Some (outer_fault at Truncated)
 rest_open at [] some calm = absurd (some refl)
 rest_open at (b ∷ bs) some calm =
-    ap (λ c. Some (outer_fault at c)) (open_cause at (rest_cause (b ∷ bs)) (calm (outer_fault at (of_wire (rest_cause (b ∷ bs)))) refl))
+    let f = outer_fault at (of_wire (rest_cause (b ∷ bs))) in
+    ap (λ c. Some (outer_fault at c)) (open_cause at (rest_cause (b ∷ bs)) (calm f refl))
 
--- a stream that ends in a field
-pub live_truncated : (limit offset : ℕ) (items : List Item) (raw s : List ℕ) → (length raw ≡ 0 → ⊥) → IsLive limit offset items raw s → fault_within limit s ≡ Some (outer_fault offset Truncated)
-live_truncated limit offset items raw s some live =
-    let is : fault_within limit s ≡ first (rest_rules_at offset raw) = fault_of_short limit s live.small ∙ live_fault limit offset items raw s live in
-    is ∙ rest_open offset raw some (subst IsCalm is live.calm)
+-- what can't be changed is told of each longer stream
+tells_stays : (limit : ℕ) (e : DecodeError) (s t : List ℕ) → Tells e (fault_within limit s) → Tells e (fault_within limit (s ++ t))
+tells_stays limit Memory s t h = tt
+tells_stays limit (Fault f) s t h = (fault_stays limit s t f h.0 h.1, h.1)
+tells_stays limit (Read k) s t h = absurd h
 
--- a stream that ends behind a field is the tile
-pub live_tile : (limit offset : ℕ) (items : List Item) (raw s : List ℕ) → raw ≡ [] → IsLive limit offset items raw s → IsTile limit s (record { items = items })
-live_tile limit offset items raw s none live = record {
-  small = live.small;
-  fields = (split s).fields;
-  whole = subst (Split s (split s).fields) (live.rest ∙ none) (split_function_is s);
-  items = live.items_are.held;
-  distinct = live.items_are.distinct;
-}
+-- a decoder that stands for a stream
+module _ (limit offset : ℕ) (items : List Item) (raw s : List ℕ) (live : IsLive limit offset items raw s) where
+  live_length : length s ≡ offset + length raw
+  live_length =
+      let whole = split_steps_place 0 s in
+      let place = live.place in
+      omega (arith, ap length live.rest)
+
+  -- the split of the stream and more
+  parts_more : (t : List ℕ) → rest_with s t ≡ split_from offset (raw ++ t)
+  parts_more t = ap₂ (λ a r. split_from a (r ++ t)) live.place live.rest
+
+  -- the first fault of the stream and more
+  fault_more : (t : List ℕ) → offset + (length raw + length t) ≤ limit
+      → fault_within limit (s ++ t) ≡ fault_behind (split s).fields (split_from offset (raw ++ t))
+  fault_more t fits =
+      let size = live_length in
+      let small : length (s ++ t) ≤ limit = simp length-append (omega arith) in
+      fault_of_short limit (s ++ t) small ∙ first-more s t
+      ∙ option_or-none (first (each field_rules [] (split s).fields)) (fault_behind (split s).fields (rest_with s t))
+      (are_clean (split s).fields items live.items_are)
+      ∙ ap (fault_behind (split s).fields) (parts_more t)
+
+  live_more : (new : List Item) (after t : List ℕ) (used : ℕ) → IsJudged offset (raw ++ t) items new used → after ≡ drop used (raw ++ t)
+      → offset + (length raw + length t) ≤ limit → IsLive limit (offset + used) new after (s ++ t)
+  live_more new after t used judged is fits =
+      let size = live_length in
+      let parts = parts_more t in
+      let q = split_from offset (raw ++ t) in
+      let now_are : AreItems ((split s).fields ++ q.fields) new = judged.items_are (split s).fields live.items_are in
+      record {
+        small = simp length-append (omega arith);
+        rest = split_more_rest 0 s t ∙ ap (λ (p : Parts). p.rest) parts ∙ judged.rest ∙ sym is;
+        place = split_more_place 0 s t ∙ ap (λ (p : Parts). p.rest_at) parts ∙ judged.place;
+        items_are = subst (λ xs. AreItems xs new)
+            (sym (split_more_fields 0 s t ∙ ap (λ (p : Parts). (split s).fields ++ p.fields) parts)) now_are;
+        calm = subst IsCalm
+            (sym (fault_more t fits
+            ∙ option_or-none (first (each field_rules (split s).fields q.fields)) (first (rest_rules q))
+            (fields_clean (split s).fields q.fields new now_are)))
+            (rest_calm q.rest_at q.rest (ap rest_cause judged.rest ∙ judged.unfinished));
+      }
+
+  pub live_fails : (piece t beyond : List ℕ) (e : DecodeError) → TellsBehind e offset (raw ++ t) items → piece ≡ t ++ beyond
+      → offset + (length raw + length t) ≤ limit → Tells e (fault_within limit (s ++ piece))
+  live_fails piece t beyond e tells is fits =
+      subst (λ p. Tells e (fault_within limit p)) (append_assoc s t beyond ∙ ap (λ p. s ++ p) (sym is))
+      (tells_stays limit e (s ++ t) beyond (subst (Tells e) (sym (fault_more t fits)) (tells (split s).fields live.items_are)))
+
+  -- the first fault of the stream is that of its rest
+  live_fault : first (tile_rules s) ≡ first (rest_rules_at offset raw)
+  live_fault =
+      first-tile s
+      ∙ option_or-none (first (each field_rules [] (split s).fields)) (first (rest_rules (split s)))
+      (are_clean (split s).fields items live.items_are)
+      ∙ ap₂ (λ a r. first (rest_rules_at a r)) live.place live.rest
+
+  -- a stream that goes on behind the limit
+  live_too_large : (more : List ℕ) → offset + length raw ≡ limit → (length more ≡ 0 → ⊥)
+      → Tells (Fault (outer_fault offset TooLarge)) (fault_within limit (s ++ more))
+  live_too_large more full some =
+      let size : length s ≡ limit = live_length ∙ full in
+      let longer : limit < length (s ++ more) = simp length-append (omega arith) in
+      let calm : IsCalm (first (rest_rules_at offset raw)) = subst IsCalm (fault_of_short limit s live.small ∙ live_fault) live.calm in (
+        fault_of_long limit (s ++ more) longer
+            ∙ ap (λ xs. beyond limit (first (tile_rules xs))) (ap (λ n. take n (s ++ more)) (sym size) ∙ take-append_seam s more)
+            ∙ ap (beyond limit) live_fault ∙ too_large_behind limit offset raw full calm,
+        refl,
+      )
+
+  -- a stream that ends in a field
+  pub live_truncated : (length raw ≡ 0 → ⊥) → fault_within limit s ≡ Some (outer_fault offset Truncated)
+  live_truncated some =
+      let is : fault_within limit s ≡ first (rest_rules_at offset raw) = fault_of_short limit s live.small ∙ live_fault in
+      is ∙ rest_open offset raw some (subst IsCalm is live.calm)
+
+  -- a stream that ends behind a field is the tile
+  pub live_tile : raw ≡ [] → IsTile limit s (record { items = items })
+  live_tile none = record {
+    small = live.small;
+    fields = (split s).fields;
+    whole = subst (Split s (split s).fields) (live.rest ∙ none) (split_function_is s);
+    items = live.items_are.held;
+    distinct = live.items_are.distinct;
+  }
 
 -- a piece cut where the room ends
 
 pub cut : (piece front back : List ℕ) (n : ℕ) → front ≡ take n piece → back ≡ drop n piece → piece ≡ front ++ back
 cut piece front back n e f = sym (ap₂ (λ x y. x ++ y) e f ∙ take-append-drop n piece)
 
-left_length : (offset : ℕ) (raw after t : List ℕ) (used : ℕ) → after ≡ drop used (raw ++ t) → used ≤ length (raw ++ t) → used + length after ≡ length raw + length t
-left_length offset raw after t used is within =
+left_length : (raw after t : List ℕ) (used : ℕ) → after ≡ drop used (raw ++ t) → used ≤ length (raw ++ t)
+    → used + length after ≡ length raw + length t
+left_length raw after t used is within =
     let size : length after ≡ length (raw ++ t) - used = ap length is ∙ length-drop used (raw ++ t) in
     omega (arith, length-append raw t)
 
-pub piece_fits : (limit offset : ℕ) (items new : List Item) (raw after s piece t more : List ℕ) (used : ℕ) → IsJudged offset (raw ++ t) items new used → after ≡ drop used (raw ++ t) → offset + (length raw + length t) ≤ limit
-    → piece ≡ t ++ more → length more ≡ 0 → IsLive limit offset items raw s → IsLive limit (offset + used) new after (s ++ piece)
-piece_fits limit offset items new raw after s piece t [] used judged is fits joined none live =
-    subst (λ p. IsLive limit (offset + used) new after (s ++ p)) (sym (joined ∙ append-nil t)) (live_more limit offset items new raw after s t used judged is fits live)
-piece_fits limit offset items new raw after s piece t (b ∷ bs) used judged is fits joined none live = absurd (omega arith)
+module _ (limit offset : ℕ) (items new : List Item) (raw after t : List ℕ) (used : ℕ)
+    (judged : IsJudged offset (raw ++ t) items new used) (is : after ≡ drop used (raw ++ t)) where
+  pub piece_fits : (s piece more : List ℕ) → piece ≡ t ++ more → offset + (length raw + length t) ≤ limit → length more ≡ 0
+      → IsLive limit offset items raw s → IsLive limit (offset + used) new after (s ++ piece)
+  piece_fits s piece [] joined fits none live =
+      subst (λ p. IsLive limit (offset + used) new after (s ++ p)) (sym (joined ∙ append-nil t))
+      (live_more limit offset items raw s live new after t used judged is fits)
+  piece_fits s piece (b ∷ bs) joined fits none live = absurd (omega arith)
 
-pub piece_too_large : (limit offset : ℕ) (items new : List Item) (raw after s piece t more : List ℕ) (used : ℕ) → IsJudged offset (raw ++ t) items new used → after ≡ drop used (raw ++ t) → offset + (length raw + length t) ≡ limit
-    → piece ≡ t ++ more → (length more ≡ 0 → ⊥) → IsLive limit offset items raw s → Tells (Fault (outer_fault (offset + used) TooLarge)) (fault_within limit (s ++ piece))
-piece_too_large limit offset items new raw after s piece t more used judged is full joined some live =
-    let size = left_length offset raw after t used is judged.within in
-    subst (λ p. Tells (Fault (outer_fault (offset + used) TooLarge)) (fault_within limit p)) (append_assoc s t more ∙ ap (λ p. s ++ p) (sym joined))
-    (live_too_large limit (offset + used) new after (s ++ t) more (omega arith) some (live_more limit offset items new raw after s t used judged is (omega arith) live))
+  pub piece_too_large : (s piece more : List ℕ) → piece ≡ t ++ more → offset + (length raw + length t) ≡ limit → (length more ≡ 0 → ⊥)
+      → IsLive limit offset items raw s → Tells (Fault (outer_fault (offset + used) TooLarge)) (fault_within limit (s ++ piece))
+  piece_too_large s piece more joined full some live =
+      let size = left_length raw after t used is judged.within in
+      let longer = live_more limit offset items raw s live new after t used judged is (omega arith) in
+      subst (λ p. Tells (Fault (outer_fault (offset + used) TooLarge)) (fault_within limit p))
+      (append_assoc s t more ∙ ap (λ p. s ++ p) (sym joined))
+      (live_too_large limit (offset + used) new after (s ++ t) longer more (omega arith) some)
 
-pub left_fits : (limit offset : ℕ) (bytes after : List ℕ) (items new : List Item) (used : ℕ) → IsJudged offset bytes items new used → after ≡ drop used bytes → offset + length bytes ≤ limit → (offset + used) + length after ≤ limit
+pub left_fits : (limit offset : ℕ) (bytes after : List ℕ) (items new : List Item) (used : ℕ)
+    → IsJudged offset bytes items new used → after ≡ drop used bytes → offset + length bytes ≤ limit
+    → (offset + used) + length after ≤ limit
 left_fits limit offset bytes after items new used judged is fits =
     let within = judged.within in
     let size : length after ≡ length bytes - used = ap length is ∙ length-drop used bytes in
@@ -182,15 +198,14 @@ left_fits limit offset bytes after items new used judged is fits =
 
 -- what a decoder stands for, by its parts
 
-pub failed_stays : (limit : ℕ) (o : Option DecodeError) (d : Decoding) (e : DecodeError) (s t : List ℕ) → o ≡ Some e → StandsAs limit o d s → StandsAs limit o d (s ++ t)
+pub failed_stays : (limit : ℕ) (o : Option DecodeError) (d : Decoding) (e : DecodeError) (s t : List ℕ)
+    → o ≡ Some e → StandsAs limit o d s → StandsAs limit o d (s ++ t)
 failed_stays limit None d e s t is stands = cc
 failed_stays limit (Some x) d e s t is stands = (stands.0, tells_stays limit x s t stands.1)
 
-pub live_of : (limit : ℕ) (failure : Option DecodeError) (offset : ℕ) (items : List Item) (raw : List ℕ) (d : Decoding) (s : List ℕ) → (let d' : Decoding = record { failure = failure; items = items; raw = raw; offset = offset } in d') ≡ d → failure ≡ None → StandsFor limit d s
-    → IsLive limit offset items raw s
+pub live_of : (limit : ℕ) (failure : Option DecodeError) (offset : ℕ) (items : List Item) (raw : List ℕ) (d : Decoding) (s : List ℕ)
+    → (let d' : Decoding = record { failure = failure; items = items; raw = raw; offset = offset } in d') ≡ d → failure ≡ None
+    → StandsFor limit d s → IsLive limit offset items raw s
 live_of limit failure offset items raw d s is none stands =
-    subst (λ o. StandsAs limit o (record { failure = failure; items = items; raw = raw; offset = offset }) s) none (subst (λ x. StandsFor limit x s) (sym is) stands)
-
-pub nil_from_length : (xs : List ℕ) → length xs ≡ 0 → xs ≡ []
-nil_from_length [] e = refl
-nil_from_length (x ∷ xs) e = absurd (omega arith)
+    subst (λ o. StandsAs limit o (record { failure = failure; items = items; raw = raw; offset = offset }) s) none
+    (subst (λ x. StandsFor limit x s) (sym is) stands)

@@ -13,14 +13,15 @@ use Rattle.mvt_message.specs.Items.{IsItem, names_in}
 use Rattle.mvt_message.proofs.MessageLaws.{item_names, item_or_fault_clean, item_or_fault_there}
 use Rattle.mvt_tile.specs.declared.numbers.tile.TheConstants.{LAYERS}
 use Rattle.mvt_tile.specs.Faults.{in_layer}
-use Rattle.mvt_tile.specs.Inner.Judging.{payload_fault, repeated_at}
+use Rattle.mvt_tile.specs.Inner.Judging.{name_fault, payload_fault, repeated_at}
 use Rattle.mvt_tile.specs.TileRules.{layers_of, bytes_in, payload_of, names_before, repeats, is_bytes, field_rules}
 use Rattle.mvt_tile.specs.Tiles.{HoldsItem, HasDistinctNames, AreItems}
 use Rattle.mvt_tile.proofs.NameLemmas.{distinct_more, distinct_before, distinct_none}
 use Rattle.mvt_tile.proofs.LayerLemmas.{layers_of-append, layers_of-layer, layers_of-other, field_other, first-wrong, first-layer}
 
 -- the names of items are those of the payloads that they are read from
-names_read : (xs : List Entry) (items : List Item) → AreRelated HoldsItem xs items → flat_map (λ x. payload_names (payload_of x)) xs ≡ flat_map names_in items
+names_read : (xs : List Entry) (items : List Item) → AreRelated HoldsItem xs items
+    → flat_map (λ x. payload_names (payload_of x)) xs ≡ flat_map names_in items
 names_read [] [] h = refl
 names_read [] (i ∷ is) h = absurd h
 names_read (x ∷ xs) [] h = absurd h
@@ -34,9 +35,11 @@ pub are_none : AreItems [] []
 are_none = record { held = tt; distinct = distinct_none }
 
 -- a field that holds no layer
-pub are_over : (front : List Entry) (items : List Item) (x : Entry) → AreItems front items → eqb x.number LAYERS ≡ false → AreItems (front ++ x ∷ []) items
+pub are_over : (front : List Entry) (items : List Item) (x : Entry) → AreItems front items → eqb x.number LAYERS ≡ false
+    → AreItems (front ++ x ∷ []) items
 are_over front items x are e = record {
-  held = subst (λ xs. AreRelated HoldsItem xs items) (sym (layers_of-append front (x ∷ []) ∙ ap (λ xs. layers_of front ++ xs) (layers_of-other x [] e) ∙ append-nil (layers_of front))) are.held;
+  held = subst (λ xs. AreRelated HoldsItem xs items)
+      (sym (layers_of-append front (x ∷ []) ∙ ap (λ xs. layers_of front ++ xs) (layers_of-other x [] e) ∙ append-nil (layers_of front))) are.held;
   distinct = are.distinct;
 }
 
@@ -45,13 +48,15 @@ pub are_more : (front : List Entry) (items : List Item) (x : Entry) (d : List �
     → eqb x.number LAYERS ≡ true → x.content ≡ bytes d → IsItem d item → repeats (flat_map names_in items) (names_in item) ≡ false
     → AreItems (front ++ x ∷ []) (items ++ item ∷ [])
 are_more front items x d item are e held is new = record {
-  held = subst (λ xs. AreRelated HoldsItem xs (items ++ item ∷ [])) (sym (layers_of-append front (x ∷ []) ∙ ap (λ xs. layers_of front ++ xs) (layers_of-layer x [] e)))
+  held = subst (λ xs. AreRelated HoldsItem xs (items ++ item ∷ []))
+      (sym (layers_of-append front (x ∷ []) ∙ ap (λ xs. layers_of front ++ xs) (layers_of-layer x [] e)))
       (related-append HoldsItem (layers_of front) items (x ∷ []) (item ∷ []) are.held ((d, held, is), tt));
   distinct = distinct_more items item are.distinct new;
 }
 
 -- the fault of a field that holds bytes, behind items
-pub first-behind : (front : List Entry) (items : List Item) (x : Entry) (d : List ℕ) → AreItems front items → eqb x.number LAYERS ≡ true → x.content ≡ bytes d
+pub first-behind : (front : List Entry) (items : List Item) (x : Entry) (d : List ℕ) → AreItems front items → eqb x.number LAYERS ≡ true
+    → x.content ≡ bytes d
     → first (field_rules front x) ≡ payload_fault (length (layers_of front)) (flat_map names_in items) d x.body x.at
 first-behind front items x d are e held =
     first-layer front x d e held ∙ ap (λ ns. payload_fault (length (layers_of front)) ns d x.body x.at) (names_same front items are)
@@ -68,68 +73,90 @@ none_when true f e = cc
 item_there : (n : ℕ) (names : List (List ℕ)) (d : List ℕ) (body at : ℕ) → payload_fault n names d body at ≡ None
     → (item : Item) × IsItem d item × (repeats names (names_in item) ≡ false)
 item_there n names d body at e =
-    let parts = option_or-nones (option_map (in_layer n) (item_fault d body at)) (first (when (repeats names (payload_names d)) (repeated_at n at))) e in
+    let parts =
+    option_or-nones (option_map (in_layer n) (item_fault d body at)) (name_fault n names (payload_names d) at) e in
     let some = item_or_fault_there d body at (none_mapped (in_layer n) (item_fault d body at) parts.0) in
     (some.0, some.1, ap (repeats names) (item_names d some.0 some.1) ∙ none_when (repeats names (payload_names d)) (repeated_at n at) parts.1)
 
-pub item_clean : (n : ℕ) (names : List (List ℕ)) (d : List ℕ) (body at : ℕ) (item : Item) → IsItem d item → repeats names (names_in item) ≡ false
+pub item_clean : (n : ℕ) (names : List (List ℕ)) (d : List ℕ) (body at : ℕ) (item : Item) → IsItem d item
+    → repeats names (names_in item) ≡ false
     → payload_fault n names d body at ≡ None
 item_clean n names d body at item is new =
-    option_or-none (option_map (in_layer n) (item_fault d body at)) (first (when (repeats names (payload_names d)) (repeated_at n at)))
+    option_or-none (option_map (in_layer n) (item_fault d body at)) (name_fault n names (payload_names d) at)
     (ap (option_map (in_layer n)) (item_or_fault_clean d body at item is))
     ∙ first-when_not (repeats names (payload_names d)) (repeated_at n at) (ap (repeats names) (sym (item_names d item is)) ∙ new)
 
-wrong_none : (front : List Entry) (x : Entry) → eqb x.number LAYERS ≡ true → is_bytes x.content ≡ false → first (field_rules front x) ≡ None → ⊥
+wrong_none : (front : List Entry) (x : Entry) → eqb x.number LAYERS ≡ true → is_bytes x.content ≡ false → first (field_rules front x) ≡ None
+    → ⊥
 wrong_none front x e f none = let k = first-wrong front x e f in cc
 
-bytes_there : (front : List Entry) (x : Entry) (c : Content) → x.content ≡ c → eqb x.number LAYERS ≡ true → first (field_rules front x) ≡ None → (d : List ℕ) × (x.content ≡ bytes d)
+bytes_there : (front : List Entry) (x : Entry) (c : Content) → x.content ≡ c → eqb x.number LAYERS ≡ true
+    → first (field_rules front x) ≡ None → (d : List ℕ) × (x.content ≡ bytes d)
 bytes_there front x (varint n) held e none = absurd (wrong_none front x e (ap is_bytes held) none)
 bytes_there front x (fixed64 n) held e none = absurd (wrong_none front x e (ap is_bytes held) none)
 bytes_there front x (bytes d) held e none = (d, held)
 bytes_there front x (fixed32 n) held e none = absurd (wrong_none front x e (ap is_bytes held) none)
 
 -- behind items, a field without a fault is no layer, or one item more
-field_there : (front : List Entry) (items : List Item) (x : Entry) (b : Bool) → eqb x.number LAYERS ≡ b → AreItems front items → first (field_rules front x) ≡ None
+field_there : (front : List Entry) (items : List Item) (x : Entry) (b : Bool) → eqb x.number LAYERS ≡ b → AreItems front items
+    → first (field_rules front x) ≡ None
     → (more : List Item) × AreItems (front ++ x ∷ []) (items ++ more)
-field_there front items x false e are none = ([], subst (AreItems (front ++ x ∷ [])) (sym (append-nil items)) (are_over front items x are e))
+field_there front items x false e are none =
+    ([], subst (AreItems (front ++ x ∷ [])) (sym (append-nil items)) (are_over front items x are e))
 field_there front items x true e are none =
     let held = bytes_there front x x.content refl e none in
-    let some = item_there (length (layers_of front)) (flat_map names_in items) held.0 x.body x.at (sym (first-behind front items x held.0 are e held.1) ∙ none) in
+    let some =
+    item_there (length (layers_of front)) (flat_map names_in items) held.0 x.body x.at
+    (sym (first-behind front items x held.0 are e held.1) ∙ none) in
     (some.0 ∷ [], are_more front items x held.0 some.0 are e held.1 some.1 some.2)
 
-each_parts : {X F : Type 0} (rules : List X → X → Rules F) (front : List X) (x : X) (xs : List X) → first (each rules front (x ∷ xs)) ≡ option_or (first (rules front x)) (first (each rules (front ++ x ∷ []) xs))
+pub each_parts : {X F : Type 0} (rules : List X → X → Rules F) (front : List X) (x : X) (xs : List X)
+    → first (each rules front (x ∷ xs)) ≡ option_or (first (rules front x)) (first (each rules (front ++ x ∷ []) xs))
 each_parts rules front x xs =
-    first-append (under (length front) (rules front x)) (each rules (front ++ x ∷ []) xs) ∙ ap (λ o. option_or o (first (each rules (front ++ x ∷ []) xs))) (first-under (length front) (rules front x))
+    first-append (under (length front) (rules front x)) (each rules (front ++ x ∷ []) xs)
+    ∙ ap (λ o. option_or o (first (each rules (front ++ x ∷ []) xs))) (first-under (length front) (rules front x))
 
 -- fields without a fault are items
-pub items_there : (xs front : List Entry) (items : List Item) → AreItems front items → first (each field_rules front xs) ≡ None → (more : List Item) × AreItems (front ++ xs) (items ++ more)
-items_there [] front items are none = ([], subst (λ xs. AreItems xs (items ++ [])) (sym (append-nil front)) (subst (AreItems front) (sym (append-nil items)) are))
+pub items_there : (xs front : List Entry) (items : List Item) → AreItems front items → first (each field_rules front xs) ≡ None
+    → (more : List Item) × AreItems (front ++ xs) (items ++ more)
+items_there [] front items are none =
+    ([], subst (λ xs. AreItems xs (items ++ [])) (sym (append-nil front)) (subst (AreItems front) (sym (append-nil items)) are))
 items_there (x ∷ xs) front items are none =
-    let parts = option_or-nones (first (field_rules front x)) (first (each field_rules (front ++ x ∷ []) xs)) (sym (each_parts field_rules front x xs) ∙ none) in
+    let parts =
+    option_or-nones (first (field_rules front x)) (first (each field_rules (front ++ x ∷ []) xs))
+    (sym (each_parts field_rules front x xs) ∙ none) in
     let one = field_there front items x (eqb x.number LAYERS) refl are parts.0 in
     let others = items_there xs (front ++ x ∷ []) (items ++ one.0) one.1 parts.1 in
-    (one.0 ++ others.0, subst (λ ys. AreItems ys (items ++ (one.0 ++ others.0))) (append_assoc front (x ∷ []) xs) (subst (AreItems ((front ++ x ∷ []) ++ xs)) (append_assoc items one.0 others.0) others.1))
+    let all = subst (AreItems ((front ++ x ∷ []) ++ xs)) (append_assoc items one.0 others.0) others.1 in
+    (one.0 ++ others.0, subst (λ ys. AreItems ys (items ++ (one.0 ++ others.0))) (append_assoc front (x ∷ []) xs) all)
 
 -- what is to be shown of the fields behind some that are items
 abbrev IsCleanBehind : List Entry → Type 0
-IsCleanBehind xs = (front : List Entry) (items more : List Item) → AreItems front items → AreRelated HoldsItem (layers_of xs) more → HasDistinctNames (items ++ more) → first (each field_rules front xs) ≡ None
+IsCleanBehind xs =
+    (front : List Entry) (items more : List Item) → AreItems front items → AreRelated HoldsItem (layers_of xs) more
+    → HasDistinctNames (items ++ more) → first (each field_rules front xs) ≡ None
 
-clean_item : (x : Entry) (xs : List Entry) → IsCleanBehind xs → (front : List Entry) (items more : List Item) → AreItems front items → AreRelated HoldsItem (x ∷ layers_of xs) more → HasDistinctNames (items ++ more) → eqb x.number LAYERS ≡ true
+clean_item : (x : Entry) (xs : List Entry) → IsCleanBehind xs → (front : List Entry) (items more : List Item) → AreItems front items
+    → AreRelated HoldsItem (x ∷ layers_of xs) more → HasDistinctNames (items ++ more) → eqb x.number LAYERS ≡ true
     → option_or (first (field_rules front x)) (first (each field_rules (front ++ x ∷ []) xs)) ≡ None
 clean_item x xs after front items [] are related distinct e = absurd related
 clean_item x xs after front items (item ∷ more) are related distinct e =
     let d = related.0.0 in
     let new : repeats (flat_map names_in items) (names_in item) ≡ false = distinct_before items item more distinct in
-    let clean : first (field_rules front x) ≡ None = first-behind front items x d are e related.0.1 ∙ item_clean (length (layers_of front)) (flat_map names_in items) d x.body x.at item related.0.2 new in
+    let clean : first (field_rules front x) ≡ None =
+    first-behind front items x d are e related.0.1
+    ∙ item_clean (length (layers_of front)) (flat_map names_in items) d x.body x.at item related.0.2 new in
     option_or-none (first (field_rules front x)) (first (each field_rules (front ++ x ∷ []) xs)) clean
     ∙ after (front ++ x ∷ []) (items ++ item ∷ []) more (are_more front items x d item are e related.0.1 related.0.2 new) related.1
     (subst HasDistinctNames (sym (append_assoc items (item ∷ []) more)) distinct)
 
-clean_field : (x : Entry) (xs : List Entry) → IsCleanBehind xs → (front : List Entry) (items more : List Item) → AreItems front items → AreRelated HoldsItem (layers_of (x ∷ xs)) more → HasDistinctNames (items ++ more) → (b : Bool) → eqb x.number LAYERS ≡ b
+clean_field : (x : Entry) (xs : List Entry) → IsCleanBehind xs → (front : List Entry) (items more : List Item) → AreItems front items
+    → AreRelated HoldsItem (layers_of (x ∷ xs)) more → HasDistinctNames (items ++ more) → (b : Bool) → eqb x.number LAYERS ≡ b
     → option_or (first (field_rules front x)) (first (each field_rules (front ++ x ∷ []) xs)) ≡ None
 clean_field x xs after front items more are related distinct false e =
     option_or-none (first (field_rules front x)) (first (each field_rules (front ++ x ∷ []) xs)) (ap first (field_other front x e))
-    ∙ after (front ++ x ∷ []) items more (are_over front items x are e) (subst (λ ys. AreRelated HoldsItem ys more) (layers_of-other x xs e) related) distinct
+    ∙ after (front ++ x ∷ []) items more (are_over front items x are e)
+    (subst (λ ys. AreRelated HoldsItem ys more) (layers_of-other x xs e) related) distinct
 clean_field x xs after front items more are related distinct true e =
     clean_item x xs after front items more are (subst (λ ys. AreRelated HoldsItem ys more) (layers_of-layer x xs e) related) distinct e
 

@@ -1,6 +1,7 @@
 -- The rules of top-level fields, and the items that those without a fault are.
 use Rattle.std.proofs.Common.{◌≡◌, ℕ, Bool, true, false, cond, eqb, List, [], ◌∷◌, ◌++◌, length, Some, refl, sym, ap, ◌∙◌}
 use Rattle.std.specs.Option.{option_or, option_map}
+use Rattle.std.proofs.lemmas.Bool.{cond-true, cond-false}
 use Rattle.mvt_base.specs.Rules.{Rules, when, told, rows, under, first}
 use Rattle.mvt_base.proofs.RuleLemmas.{first-told, first-rows, option_or-right}
 use Rattle.mvt_wire.specs.Field.{Content, bytes, Entry}
@@ -9,8 +10,8 @@ use Rattle.mvt_message.specs.ItemRules.{item_rules, payload_names}
 use Rattle.mvt_message.proofs.MessageLaws.{item_in_order_fault}
 use Rattle.mvt_tile.specs.declared.numbers.tile.TheConstants.{LAYERS}
 use Rattle.mvt_tile.specs.Faults.{outer_fault, in_layer}
-use Rattle.mvt_tile.specs.Inner.Judging.{payload_fault, repeated_at}
-use Rattle.mvt_tile.specs.TileRules.{layers_of, bytes_in, names_before, repeats, layer_rules, is_bytes, field_rules}
+use Rattle.mvt_tile.specs.Inner.Judging.{name_fault, payload_fault, repeated_at}
+use Rattle.mvt_tile.specs.TileRules.{layers_of, bytes_in, payload_of, names_before, repeats, layer_rules, is_bytes, field_rules}
 
 cond_append : {A : Type 0} (b : Bool) (x : A) (xs ys : List A) → cond b (x ∷ xs) xs ++ ys ≡ cond b (x ∷ (xs ++ ys)) (xs ++ ys)
 cond_append true x xs ys = refl
@@ -19,38 +20,35 @@ cond_append false x xs ys = refl
 pub layers_of-append : (xs ys : List Entry) → layers_of (xs ++ ys) ≡ layers_of xs ++ layers_of ys
 layers_of-append [] ys = refl
 layers_of-append (x ∷ xs) ys =
-    ap (λ zs. cond (eqb x.number LAYERS) (x ∷ zs) zs) (layers_of-append xs ys) ∙ sym (cond_append (eqb x.number LAYERS) x (layers_of xs) (layers_of ys))
-
-cond_true : {A : Type 0} (b : Bool) (x y : A) → b ≡ true → cond b x y ≡ x
-cond_true true x y e = refl
-cond_true false x y e = cc
-
-cond_false : {A : Type 0} (b : Bool) (x y : A) → b ≡ false → cond b x y ≡ y
-cond_false true x y e = cc
-cond_false false x y e = refl
+    ap (λ zs. cond (eqb x.number LAYERS) (x ∷ zs) zs) (layers_of-append xs ys)
+    ∙ sym (cond_append (eqb x.number LAYERS) x (layers_of xs) (layers_of ys))
 
 pub layers_of-layer : (x : Entry) (xs : List Entry) → eqb x.number LAYERS ≡ true → layers_of (x ∷ xs) ≡ x ∷ layers_of xs
-layers_of-layer x xs e = cond_true (eqb x.number LAYERS) (x ∷ layers_of xs) (layers_of xs) e
+layers_of-layer x xs e = cond-true (eqb x.number LAYERS) (x ∷ layers_of xs) (layers_of xs) e
 
 pub layers_of-other : (x : Entry) (xs : List Entry) → eqb x.number LAYERS ≡ false → layers_of (x ∷ xs) ≡ layers_of xs
-layers_of-other x xs e = cond_false (eqb x.number LAYERS) (x ∷ layers_of xs) (layers_of xs) e
+layers_of-other x xs e = cond-false (eqb x.number LAYERS) (x ∷ layers_of xs) (layers_of xs) e
 
 -- a field that holds no layer has no rules
 pub field_other : (front : List Entry) (x : Entry) → eqb x.number LAYERS ≡ false → field_rules front x ≡ []
 unfolding field_rules
 field_other front x e =
-    cond_false (eqb x.number LAYERS) (cond (is_bytes x.content) (rows (layer_rules front x)) (under 0 (when true (outer_fault x.at WrongType)))) [] e
+    cond-false (eqb x.number LAYERS)
+    (cond (is_bytes x.content) (rows (layer_rules front x)) (under 0 (when true (outer_fault x.at WrongType)))) [] e
 
 field_layer : (front : List Entry) (x : Entry) → eqb x.number LAYERS ≡ true
     → field_rules front x ≡ cond (is_bytes x.content) (rows (layer_rules front x)) (under 0 (when true (outer_fault x.at WrongType)))
 unfolding field_rules
 field_layer front x e =
-    cond_true (eqb x.number LAYERS) (cond (is_bytes x.content) (rows (layer_rules front x)) (under 0 (when true (outer_fault x.at WrongType)))) [] e
+    cond-true (eqb x.number LAYERS)
+    (cond (is_bytes x.content) (rows (layer_rules front x)) (under 0 (when true (outer_fault x.at WrongType)))) [] e
 
 -- a layer field of another form
-pub first-wrong : (front : List Entry) (x : Entry) → eqb x.number LAYERS ≡ true → is_bytes x.content ≡ false → first (field_rules front x) ≡ Some (outer_fault x.at WrongType)
+pub first-wrong : (front : List Entry) (x : Entry) → eqb x.number LAYERS ≡ true → is_bytes x.content ≡ false
+    → first (field_rules front x) ≡ Some (outer_fault x.at WrongType)
 first-wrong front x e f =
-    ap first (field_layer front x e ∙ cond_false (is_bytes x.content) (rows (layer_rules front x)) (under 0 (when true (outer_fault x.at WrongType))) f)
+    ap first
+    (field_layer front x e ∙ cond-false (is_bytes x.content) (rows (layer_rules front x)) (under 0 (when true (outer_fault x.at WrongType))) f)
 
 first-of_rows : {F : Type 0} (a b : Rules F) → first (rows ((1, a) ∷ ((2, b) ∷ []))) ≡ option_or (first a) (first b)
 first-of_rows a b =
@@ -63,11 +61,19 @@ pub first-layer : (front : List Entry) (x : Entry) (d : List ℕ) → eqb x.numb
     → first (field_rules front x) ≡ payload_fault (length (layers_of front)) (names_before front) d x.body x.at
 first-layer front x d e held =
     let n = length (layers_of front) in
+    let names = names_before front in
+    let given = payload_names (payload_of x) in
     let of_rows : first (field_rules front x) ≡ first (rows (layer_rules front x)) =
-    ap first (field_layer front x e ∙ cond_true (is_bytes x.content) (rows (layer_rules front x)) (under 0 (when true (outer_fault x.at WrongType))) (is_bytes_true x.content d held)) in
-    let parts : first (rows (layer_rules front x)) ≡ option_or (option_map (in_layer n) (first (item_rules (bytes_in x.content) x.body x.at))) (first (when (repeats (names_before front) (payload_names (bytes_in x.content))) (repeated_at n x.at))) =
-    first-of_rows (told (in_layer n) (item_rules (bytes_in x.content) x.body x.at)) (when (repeats (names_before front) (payload_names (bytes_in x.content))) (repeated_at n x.at))
-    ∙ ap (λ o. option_or o (first (when (repeats (names_before front) (payload_names (bytes_in x.content))) (repeated_at n x.at)))) (first-told (in_layer n) (item_rules (bytes_in x.content) x.body x.at)) in
+    ap first
+    (field_layer front x e
+    ∙ cond-true (is_bytes x.content) (rows (layer_rules front x)) (under 0 (when true (outer_fault x.at WrongType)))
+    (is_bytes_true x.content d held)) in
+    let parts : first (rows (layer_rules front x))
+    ≡ option_or (option_map (in_layer n) (first (item_rules (payload_of x) x.body x.at))) (name_fault n names given x.at) =
+    first-of_rows (told (in_layer n) (item_rules (payload_of x) x.body x.at)) (when (repeats names given) (repeated_at n x.at))
+    ∙ ap (λ o. option_or o (name_fault n names given x.at)) (first-told (in_layer n) (item_rules (payload_of x) x.body x.at)) in
     of_rows ∙ parts
-    ∙ ap (λ c. option_or (option_map (in_layer n) (first (item_rules (bytes_in c) x.body x.at))) (first (when (repeats (names_before front) (payload_names (bytes_in c))) (repeated_at n x.at)))) held
-    ∙ ap (λ o. option_or (option_map (in_layer n) o) (first (when (repeats (names_before front) (payload_names d)) (repeated_at n x.at)))) (sym (item_in_order_fault d x.body x.at))
+    ∙ ap
+    (λ c. option_or (option_map (in_layer n) (first (item_rules (bytes_in c) x.body x.at))) (name_fault n names (payload_names (bytes_in c)) x.at))
+    held
+    ∙ ap (λ o. option_or (option_map (in_layer n) o) (name_fault n names (payload_names d) x.at)) (sym (item_in_order_fault d x.body x.at))

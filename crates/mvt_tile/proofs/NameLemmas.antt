@@ -16,7 +16,9 @@ use Rattle.mvt_tile.specs.TileRules.{repeats}
 use Rattle.mvt_tile.specs.Tiles.{HasDistinctNames}
 
 pub bytes_eq_comm : (a b : List ℕ) → bytes_eq a b ≡ bytes_eq b a
-bytes_eq_comm a b = same_from_decides (bytes_eq a b) (bytes_eq b a) (bytes_eq-Decides a b) (Decides-like (bytes_eq b a) (λ e. sym e) (λ e. sym e) (bytes_eq-Decides b a))
+bytes_eq_comm a b =
+    same_from_decides (bytes_eq a b) (bytes_eq b a) (bytes_eq-Decides a b)
+    (Decides-like (bytes_eq b a) (λ e. sym e) (λ e. sym e) (bytes_eq-Decides b a))
 
 bytes_eq_congr : (a b c : List ℕ) → bytes_eq a b ≡ true → bytes_eq a c ≡ bytes_eq b c
 bytes_eq_congr a b c e = ap (λ x. bytes_eq x c) ((bytes_eq-Decides a b).0 e)
@@ -36,25 +38,31 @@ or_falses : (a b : Bool) → a ≡ false → b ≡ false → (a || b) ≡ false
 or_falses true b e f = cc
 or_falses false b e f = f
 
-or_right_false : (a : Bool) → (a || false) ≡ a
+pub or_right_false : (a : Bool) → (a || false) ≡ a
 or_right_false true = refl
 or_right_false false = refl
 
-distinct_apart : (names : List (List ℕ)) (n : List ℕ) (more : List (List ℕ)) → IsDistinct bytes_eq (names ++ n ∷ more) → list_any (bytes_eq n) names ≡ false
+distinct_apart : (names : List (List ℕ)) (n : List ℕ) (more : List (List ℕ)) → IsDistinct bytes_eq (names ++ n ∷ more)
+    → list_any (bytes_eq n) names ≡ false
 distinct_apart [] n more h = refl
 distinct_apart (x ∷ xs) n more h =
-    let after : AllByRecursion (λ y. bytes_eq x y ≡ false) (n ∷ more) = all_right (λ y. bytes_eq x y ≡ false) xs (n ∷ more) (IsDistinct-head bytes_eq x (xs ++ n ∷ more) h) in
-    or_falses (bytes_eq n x) (list_any (bytes_eq n) xs) (bytes_eq_comm n x ∙ after.0) (distinct_apart xs n more (IsDistinct-tail bytes_eq x (xs ++ n ∷ more) h))
+    let after : AllByRecursion (λ y. bytes_eq x y ≡ false) (n ∷ more) =
+    all_right (λ y. bytes_eq x y ≡ false) xs (n ∷ more) (IsDistinct-head bytes_eq x (xs ++ n ∷ more) h) in
+    or_falses (bytes_eq n x) (list_any (bytes_eq n) xs) (bytes_eq_comm n x ∙ after.0)
+    (distinct_apart xs n more (IsDistinct-tail bytes_eq x (xs ++ n ∷ more) h))
 
-apart_before : (names : List (List ℕ)) (n : List ℕ) (more : List (List ℕ)) → AreApart (names ++ n ∷ more) → list_any (bytes_eq n) names ≡ false
-apart_before names n more apart = distinct_apart names n more (IsDistinct-from_AllPairs {eq = bytes_eq} bytes_eq-Decides (names ++ n ∷ more) apart)
+apart_before : (names : List (List ℕ)) (n : List ℕ) (more : List (List ℕ)) → AreApart (names ++ n ∷ more)
+    → list_any (bytes_eq n) names ≡ false
+apart_before names n more apart =
+    distinct_apart names n more (IsDistinct-from_AllPairs {eq = bytes_eq} bytes_eq-Decides (names ++ n ∷ more) apart)
 
 -- the names of one more item
 pub names_more : (items : List AnItem) (item : AnItem) → flat_map names_in (items ++ item ∷ []) ≡ flat_map names_in items ++ names_in item
 names_more items item = flat_map-append names_in items (item ∷ []) ∙ ap (λ ns. flat_map names_in items ++ ns) (append-nil (names_in item))
 
 -- an item whose name stands in none before it
-pub distinct_more : (items : List AnItem) (item : AnItem) → HasDistinctNames items → repeats (flat_map names_in items) (names_in item) ≡ false → HasDistinctNames (items ++ item ∷ [])
+pub distinct_more : (items : List AnItem) (item : AnItem) → HasDistinctNames items
+    → repeats (flat_map names_in items) (names_in item) ≡ false → HasDistinctNames (items ++ item ∷ [])
 distinct_more items (Layer l) distinct none =
     subst AreApart (sym (names_more items (Layer l)))
     (apart_push (flat_map names_in items) l.name distinct (sym (or_right_false (list_any (bytes_eq l.name) (flat_map names_in items))) ∙ none))
@@ -62,10 +70,12 @@ distinct_more items (Foreign version bytes) distinct none =
     subst AreApart (sym (names_more items (Foreign version bytes) ∙ append-nil (flat_map names_in items))) distinct
 
 -- the name of an item among distinct ones stands in none before it
-pub distinct_before : (items : List AnItem) (item : AnItem) (more : List AnItem) → HasDistinctNames (items ++ item ∷ more) → repeats (flat_map names_in items) (names_in item) ≡ false
+pub distinct_before : (items : List AnItem) (item : AnItem) (more : List AnItem) → HasDistinctNames (items ++ item ∷ more)
+    → repeats (flat_map names_in items) (names_in item) ≡ false
 distinct_before items (Layer l) more distinct =
     or_right_false (list_any (bytes_eq l.name) (flat_map names_in items))
-    ∙ apart_before (flat_map names_in items) l.name (flat_map names_in more) (subst AreApart (flat_map-append names_in items (Layer l ∷ more)) distinct)
+    ∙ apart_before (flat_map names_in items) l.name (flat_map names_in more)
+    (subst AreApart (flat_map-append names_in items (Layer l ∷ more)) distinct)
 distinct_before items (Foreign version bytes) more distinct = refl
 
 pub distinct_none : HasDistinctNames []

@@ -23,7 +23,8 @@ repeats_by : (names others given : List (List ℕ)) → ((n : List ℕ) → list
 repeats_by names others [] same = refl
 repeats_by names others (n ∷ given) same = ap₂ (λ a b. a || b) (same n) (repeats_by names others given same)
 
-module _ (count : ℕ) (names given : List (List ℕ)) (items : List Item) (added : Bool) (are : AreNamed count names items) (is : added ≡ not (repeats names given)) where
+module _ (count : ℕ) (names given : List (List ℕ)) (items : List Item) (added : Bool)
+    (are : AreNamed count names items) (is : added ≡ not (repeats names given)) where
   same : repeats names given ≡ repeats (flat_map names_in items) given
   same = repeats_by names (flat_map names_in items) given are.named
 
@@ -35,7 +36,8 @@ module _ (count : ℕ) (names given : List (List ℕ)) (items : List Item) (adde
     record {
       counted = omega (arith, are.counted, length-append items (item ∷ []));
       named = λ n. more n ∙ ap₂ (λ a b. a || b) (are.named n) (ap (list_any (bytes_eq n)) (sym named))
-          ∙ sym (ap (list_any (bytes_eq n)) (names_more items item) ∙ list_any-append (bytes_eq n) (flat_map names_in items) (names_in item));
+          ∙ sym
+          (ap (list_any (bytes_eq n)) (names_more items item) ∙ list_any-append (bytes_eq n) (flat_map names_in items) (names_in item));
     },
     ap (repeats (flat_map names_in items)) named ∙ sym same ∙ not-true (repeats names given) (sym is ∙ new),
   )
@@ -44,14 +46,16 @@ module _ (count : ℕ) (names given : List (List ℕ)) (items : List Item) (adde
   pub name_there : added ≡ false → repeats (flat_map names_in items) given ≡ true
   name_there no_more = sym same ∙ not-false (repeats names given) (sym is ∙ no_more)
 
-  pub name_again : (at : ℕ) → added ≡ false → Tells (Fault (repeated_at count at)) (name_fault (length items) (flat_map names_in items) given at)
+  pub name_again : (at : ℕ) → added ≡ false
+      → Tells (Fault (repeated_at count at)) (name_fault (length items) (flat_map names_in items) given at)
   name_again at no_more =
       subst (λ n. Tells (Fault (repeated_at n at)) (name_fault (length items) (flat_map names_in items) given at)) (sym are.counted)
       (first-when (repeats (flat_map names_in items) given) (repeated_at (length items) at) (name_there no_more), refl)
 
 -- items that are valid too
 
-pub kept_named : (count : ℕ) (names : List (List ℕ)) (items : List Item) → AreKept names items → count ≡ length items → AreNamed count names items
+pub kept_named : (count : ℕ) (names : List (List ℕ)) (items : List Item) → AreKept names items → count ≡ length items
+    → AreNamed count names items
 kept_named count names items kept counted = record { counted = counted; named = kept.named }
 
 pub kept_more : (count : ℕ) (names after : List (List ℕ)) (items longer : List Item) (item : Item) → AreKept names items → ValidItem item

@@ -11,7 +11,8 @@ use Rattle.mvt_tile.specs.declared.tile.Tile.{Tile}
 use Rattle.mvt_tile.specs.Extraction.{is_named, pick}
 use Rattle.mvt_tile.specs.ValidTiles.{Valid}
 
-all_kept : (b : Bool) (P : AnItem → Type 0) (x : AnItem) (xs : List AnItem) → P x → AllByRecursion P xs → AllByRecursion P (cond b (x ∷ xs) xs)
+all_kept : (b : Bool) (P : AnItem → Type 0) (x : AnItem) (xs : List AnItem) → P x → AllByRecursion P xs
+    → AllByRecursion P (cond b (x ∷ xs) xs)
 all_kept true P x xs h hs = (h, hs)
 all_kept false P x xs h hs = hs
 
@@ -23,7 +24,8 @@ none_named : (names : List (List ℕ)) (version : ℕ) (bytes : List ℕ) → li
 none_named [] version bytes = refl
 none_named (n ∷ names) version bytes = none_named names version bytes
 
-names_kept : (b : Bool) (x : AnItem) (xs : List AnItem) → flat_map names_in (cond b (x ∷ xs) xs) ≡ cond b (names_in x ++ flat_map names_in xs) (flat_map names_in xs)
+names_kept : (b : Bool) (x : AnItem) (xs : List AnItem)
+    → flat_map names_in (cond b (x ∷ xs) xs) ≡ cond b (names_in x ++ flat_map names_in xs) (flat_map names_in xs)
 names_kept true x xs = refl
 names_kept false x xs = refl
 
@@ -41,11 +43,13 @@ is_among names item = list_any (λ name. is_named name item) names
 abbrev is_one_of : List (List ℕ) → List ℕ → Bool
 is_one_of names other = list_any (λ name. bytes_eq name other) names
 
-names_filtered : (names : List (List ℕ)) (items : List AnItem) → flat_map names_in (filter (is_among names) items) ≡ filter (is_one_of names) (flat_map names_in items)
+names_filtered : (names : List (List ℕ)) (items : List AnItem)
+    → flat_map names_in (filter (is_among names) items) ≡ filter (is_one_of names) (flat_map names_in items)
 names_filtered names [] = refl
 names_filtered names (Layer l ∷ items) =
     names_kept (is_one_of names l.name) (Layer l) (filter (is_among names) items)
-    ∙ name_kept (is_one_of names l.name) l.name (flat_map names_in (filter (is_among names) items)) (filter (is_one_of names) (flat_map names_in items)) (names_filtered names items)
+    ∙ name_kept (is_one_of names l.name) l.name (flat_map names_in (filter (is_among names) items))
+    (filter (is_one_of names) (flat_map names_in items)) (names_filtered names items)
 names_filtered names (Foreign version bytes ∷ items) =
     names_kept (is_among names (Foreign version bytes)) (Foreign version bytes) (filter (is_among names) items)
     ∙ nothing_kept (is_among names (Foreign version bytes)) (flat_map names_in (filter (is_among names) items))
@@ -54,11 +58,13 @@ names_filtered names (Foreign version bytes ∷ items) =
 picked_valid : (tile : Tile) (names : List (List ℕ)) → Valid tile → Valid (pick tile names)
 picked_valid tile names valid = record {
   items = all_filtered ValidItem (is_among names) tile.items valid.items;
-  names = subst (AllPairs (λ a b. a ≢ b)) (sym (names_filtered names tile.items)) (AllPairs-filter (λ a b. a ≢ b) (is_one_of names) (flat_map names_in tile.items) valid.names);
+  names = subst (AllPairs (λ a b. a ≢ b)) (sym (names_filtered names tile.items))
+      (AllPairs-filter (λ a b. a ≢ b) (is_one_of names) (flat_map names_in tile.items) valid.names);
 }
 
 -- what was kept of all items is a valid tile
-pub kept_valid : (tile : Tile) (names : List (List ℕ)) (items picked : List AnItem) (i : ℕ) → items ≡ tile.items → length items ≤ i → picked ≡ filter (is_among names) (take i items) → Valid tile → Valid (record { items = picked })
+pub kept_valid : (tile : Tile) (names : List (List ℕ)) (items picked : List AnItem) (i : ℕ) → items ≡ tile.items → length items ≤ i
+    → picked ≡ filter (is_among names) (take i items) → Valid tile → Valid (record { items = picked })
 kept_valid tile names items picked i same past kept valid =
     let all : picked ≡ filter (is_among names) tile.items = kept ∙ ap (filter (is_among names)) (take_all i items past ∙ same) in
     subst (λ (xs : List AnItem). Valid (record { items = xs })) (sym all) (picked_valid tile names valid)

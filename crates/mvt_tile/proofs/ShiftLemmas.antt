@@ -16,7 +16,8 @@ shift_field offset at b e is = record {
   ends = add_assoc offset e.body _ ∙ ap (λ n. offset + n) is.ends ∙ sym (add_assoc offset at (length b));
 }
 
-shift_from : (offset at : ℕ) (es : List Entry) (b rest : List ℕ) → SplitFrom at b es rest → split_from (offset + at) b ≡ shift_parts offset (split_from at b)
+shift_from : (offset at : ℕ) (es : List Entry) (b rest : List ℕ) → SplitFrom at b es rest
+    → split_from (offset + at) b ≡ shift_parts offset (split_from at b)
 shift_from offset at [] b rest h =
     let starts : StartsNoField b = subst StartsNoField (sym h.0) h.1 in
     split_steps_none (offset + at) b starts ∙ ap (shift_parts offset) (sym (split_steps_none at b starts))
@@ -26,7 +27,8 @@ shift_from offset at (e ∷ es) b rest h =
     let is = h.3 in
     ap (split_from (offset + at)) h.2
     ∙ split_steps_field (offset + at) front back (shifted offset e) (shift_field offset at front e is)
-    ∙ ap (behind (shifted offset e)) (ap (λ n. split_from n back) (add_assoc offset at (length front)) ∙ shift_from offset (at + length front) es back rest h.4)
+    ∙ ap (behind (shifted offset e))
+    (ap (λ n. split_from n back) (add_assoc offset at (length front)) ∙ shift_from offset (at + length front) es back rest h.4)
     ∙ ap (shift_parts offset) (sym (ap (split_from at) h.2 ∙ split_steps_field at front back e is))
 
 -- the split of a slice at a place

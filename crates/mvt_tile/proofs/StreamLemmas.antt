@@ -28,26 +28,30 @@ option_or_assoc : {F : Type 0} (a b c : Option F) → option_or (option_or a b) 
 option_or_assoc None b c = refl
 option_or_assoc (Some x) b c = refl
 
-pub first-more : (s t : List ℕ) → first (tile_rules (s ++ t)) ≡ option_or (first (each field_rules [] (split s).fields)) (fault_behind (split s).fields (rest_with s t))
+pub first-more : (s t : List ℕ)
+    → first (tile_rules (s ++ t)) ≡ option_or (first (each field_rules [] (split s).fields)) (fault_behind (split s).fields (rest_with s t))
 first-more s t =
     let q = rest_with s t in
     first-tile (s ++ t)
     ∙ ap₂ option_or
     (ap (λ xs. first (each field_rules [] xs)) (split_more_fields 0 s t) ∙ ap first (each-append field_rules [] (split s).fields q.fields) ∙ first-append (each field_rules [] (split s).fields) (each field_rules (split s).fields q.fields))
     (ap₂ (λ at r. first (rest_rules_at at r)) (split_more_place 0 s t) (split_more_rest 0 s t))
-    ∙ option_or_assoc (first (each field_rules [] (split s).fields)) (first (each field_rules (split s).fields q.fields)) (first (rest_rules q))
+    ∙ option_or_assoc (first (each field_rules [] (split s).fields)) (first (each field_rules (split s).fields q.fields))
+    (first (rest_rules q))
 
 either_stays : {F : Type 0} (o p q : Option F) (f : F) → option_or o p ≡ Some f → (p ≡ Some f → q ≡ Some f) → option_or o q ≡ Some f
 either_stays None p q f e k = k e
 either_stays (Some x) p q f e k = e
 
 -- the fault of a rest that isn't Truncated stays, whatever comes
-rest_stays : (front : List Entry) (at : ℕ) (rest t : List ℕ) (f : Fault) → StartsNoField rest → first (rest_rules_at at rest) ≡ Some f → is_open f ≡ false
+rest_stays : (front : List Entry) (at : ℕ) (rest t : List ℕ) (f : Fault) → StartsNoField rest → first (rest_rules_at at rest) ≡ Some f
+    → is_open f ≡ false
     → fault_behind front (split_from at (rest ++ t)) ≡ Some f
 rest_stays front at [] t f starts e shut = cc
 rest_stays front at (b ∷ bs) t f starts e shut =
     let is : f ≡ outer_fault at (of_wire (rest_cause (b ∷ bs))) = cc in
-    let final : rest_cause (b ∷ bs) ≢ wire.Truncated = λ truncated. (let open_at : is_open (outer_fault at (of_wire (rest_cause (b ∷ bs)))) ≡ true = ap (λ c. is_open (outer_fault at (of_wire c))) truncated in let same = ap is_open is in cc) in
+    let final : rest_cause (b ∷ bs) ≢ wire.Truncated =
+    λ truncated. (let open_at : is_open (outer_fault at (of_wire (rest_cause (b ∷ bs)))) ≡ true = ap (λ c. is_open (outer_fault at (of_wire c))) truncated in let same = ap is_open is in cc) in
     let stays = front_stays_rest (b ∷ bs) t starts final in
     ap (fault_behind front) (split_steps_none at ((b ∷ bs) ++ t) stays.0)
     ∙ ap (λ c. Some (outer_fault at (of_wire c))) stays.1
@@ -56,7 +60,8 @@ rest_stays front at (b ∷ bs) t f starts e shut =
 pub tile_stays : (s t : List ℕ) (f : Fault) → first (tile_rules s) ≡ Some f → is_open f ≡ false → first (tile_rules (s ++ t)) ≡ Some f
 tile_stays s t f e shut =
     first-more s t
-    ∙ either_stays (first (each field_rules [] (split s).fields)) (first (rest_rules (split s))) (fault_behind (split s).fields (rest_with s t)) f (sym (first-tile s) ∙ e)
+    ∙ either_stays (first (each field_rules [] (split s).fields)) (first (rest_rules (split s)))
+    (fault_behind (split s).fields (rest_with s t)) f (sym (first-tile s) ∙ e)
     (λ told. rest_stays (split s).fields (split s).rest_at (split s).rest t f (split_steps_rest 0 s) told shut)
 
 beyond_stays : (limit : ℕ) (o : Option Fault) (f : Fault) → o ≡ Some f → is_open f ≡ false → beyond limit o ≡ Some f
@@ -70,7 +75,8 @@ fits limit s t h =
     let sum : limit ≡ length s + (limit - length s) = omega arith in
     ap (λ n. take n (s ++ t)) sum ∙ take-append-add s t (limit - length s)
 
-pub fault_stays : (limit : ℕ) (s t : List ℕ) (f : Fault) → fault_within limit s ≡ Some f → is_open f ≡ false → fault_within limit (s ++ t) ≡ Some f
+pub fault_stays : (limit : ℕ) (s t : List ℕ) (f : Fault) → fault_within limit s ≡ Some f → is_open f ≡ false
+    → fault_within limit (s ++ t) ≡ Some f
 fault_stays limit s t f e shut = by_length (ltb limit (length s)) refl (ltb limit (length (s ++ t))) refl
   where
     by_length : (a : Bool) → ltb limit (length s) ≡ a → (b : Bool) → ltb limit (length (s ++ t)) ≡ b → fault_within limit (s ++ t) ≡ Some f
@@ -78,11 +84,14 @@ fault_stays limit s t f e shut = by_length (ltb limit (length s)) refl (ltb limi
         let past : limit < length s = ltb-true limit (length s) long in
         let further : limit < length (s ++ t) = simp length-append (omega arith) in
         let within : limit ≤ length s = omega arith in
-        fault_of_long limit (s ++ t) further ∙ ap (λ xs. beyond limit (first (tile_rules xs))) (take-append-le limit s t within) ∙ sym (fault_of_long limit s past) ∙ e
+        fault_of_long limit (s ++ t) further ∙ ap (λ xs. beyond limit (first (tile_rules xs))) (take-append-le limit s t within)
+        ∙ sym (fault_of_long limit s past) ∙ e
     by_length false short true long =
         let small : length s ≤ limit = ltb-false limit (length s) short in
-        fault_of_long limit (s ++ t) (ltb-true limit (length (s ++ t)) long) ∙ ap (λ xs. beyond limit (first (tile_rules xs))) (fits limit s t small)
-        ∙ beyond_stays limit (first (tile_rules (s ++ take (limit - length s) t))) f (tile_stays s (take (limit - length s) t) f (sym (fault_of_short limit s small) ∙ e) shut) shut
+        fault_of_long limit (s ++ t) (ltb-true limit (length (s ++ t)) long)
+        ∙ ap (λ xs. beyond limit (first (tile_rules xs))) (fits limit s t small)
+        ∙ beyond_stays limit (first (tile_rules (s ++ take (limit - length s) t))) f
+        (tile_stays s (take (limit - length s) t) f (sym (fault_of_short limit s small) ∙ e) shut) shut
     by_length false short false also =
         fault_of_short limit (s ++ t) (ltb-false limit (length (s ++ t)) also)
         ∙ tile_stays s t f (sym (fault_of_short limit s (ltb-false limit (length s) short)) ∙ e) shut

@@ -3,7 +3,7 @@ use Rattle.std.proofs.Common.{◌≡◌, ◌≢◌, ℕ, ◌+◌, ◌≤◌, Boo
 use Rattle.std.specs.List.{sum_by}
 use Rattle.std.proofs.lemmas.Bool.{eqb-true, eq-eqb, ne_eqb, false≢true}
 use Rattle.std.proofs.lemmas.Bool.Decides.{same_from_decides}
-use Rattle.std.proofs.lemmas.List.{append_cancel_left}
+use Rattle.std.proofs.lemmas.List.{append_cancel_left, nil_from_length}
 use Rattle.std.proofs.lemmas.List.Sums.{sum_by-append}
 use Rattle.std.proofs.lemmas.Slice.Eq.{bytes_eq-Decides}
 use Rattle.mvt_message.specs.declared.item.Item.{Item}
@@ -16,13 +16,13 @@ use Rattle.mvt_tile.specs.Inner.Comparing.{IsBehind}
 use Rattle.mvt_tile.specs.Inner.Surveying.{AreFound}
 use Rattle.mvt_tile.specs.Notes.{numbered, note_if, item_notes, notes_of}
 use Rattle.mvt_tile.specs.Survey.{feature_count, survey_of}
-use Rattle.mvt_tile.proofs.ComparingLemmas.{none_left}
 use Rattle.mvt_tile.proofs.NoteLemmas.{numbered-append}
 use Rattle.mvt_tile.proofs.WritingLemmas.{written, field_of, written-append, written_one}
 
 -- what stands behind some bytes is no longer than all
 
-pub behind_small : (limit : ℕ) (input front : List ℕ) (behind : Option (Bor (List ℕ))) → length input ≤ limit → IsBehind input front behind → IfSome behind (λ rest. length rest.now ≤ limit)
+pub behind_small : (limit : ℕ) (input front : List ℕ) (behind : Option (Bor (List ℕ))) → length input ≤ limit → IsBehind input front behind
+    → IfSome behind (λ rest. length rest.now ≤ limit)
 behind_small limit input front None small is = tt
 behind_small limit input front (Some rest) small is = omega (arith, ap length is, length-append front rest.now)
 
@@ -31,7 +31,7 @@ behind_small limit input front (Some rest) small is = omega (arith, ap length is
 pub end_there : (input front rest : List ℕ) (end : Bool) → input ≡ front ++ rest → end ≡ (length rest == 0) → end ≡ bytes_eq input front
 end_there input front rest end is e =
     same_from_decides end (bytes_eq input front) (
-      λ yes. is ∙ ap (λ r. front ++ r) (none_left rest (eqb-true (length rest) 0 (sym e ∙ yes))) ∙ append-nil front,
+      λ yes. is ∙ ap (λ r. front ++ r) (nil_from_length rest (eqb-true (length rest) 0 (sym e ∙ yes))) ∙ append-nil front,
       λ same. e ∙ eq-eqb (length rest) 0 (ap length (append_cancel_left front rest [] (sym is ∙ same ∙ sym (append-nil front)))),
     ) (bytes_eq-Decides input front)
 
@@ -44,10 +44,13 @@ end_nowhere input front differs =
 
 -- one item more
 
-features_more : (items : List Item) (item : Item) → sum_by feature_count (items ++ item ∷ []) ≡ sum_by feature_count items + feature_count item
-features_more items item = sum_by-append feature_count items (item ∷ []) ∙ ap (λ n. sum_by feature_count items + n) (zero-add (feature_count item))
+features_more : (items : List Item) (item : Item)
+    → sum_by feature_count (items ++ item ∷ []) ≡ sum_by feature_count items + feature_count item
+features_more items item =
+    sum_by-append feature_count items (item ∷ []) ∙ ap (λ n. sum_by feature_count items + n) (zero-add (feature_count item))
 
-pub found_more : (limit : ℕ) (input : List ℕ) (old new : Findings) (items : List Item) (item : Item) (count index : ℕ) → AreFound limit input old items → length items ≡ index
+pub found_more : (limit : ℕ) (input : List ℕ) (old new : Findings) (items : List Item) (item : Item) (count index : ℕ)
+    → AreFound limit input old items → length items ≡ index
     → count ≡ feature_count item → count ≤ 18446744073709551615 → new.features ≡ old.features + count
     → IsBehind input (written items ++ field_of item) new.behind → new.notes.items ≡ old.notes.items ++ item_notes index item
     → AreFound limit input new (items ++ item ∷ [])
@@ -55,7 +58,8 @@ found_more limit input old new items item count index found at is most sum behin
   small = found.small;
   features = sum ∙ ap₂ (λ a b. a + b) found.features is ∙ sym (features_more items item);
   few = let before = found.few in omega (arith, length-append items (item ∷ []));
-  behind = subst (λ b. IsBehind input b new.behind) (ap (λ b. written items ++ b) (sym (written_one item)) ∙ sym (written-append items (item ∷ []))) behind;
+  behind = subst (λ b. IsBehind input b new.behind)
+      (ap (λ b. written items ++ b) (sym (written_one item)) ∙ sym (written-append items (item ∷ []))) behind;
   notes = noted ∙ ap (λ ns. ns ++ item_notes index item) found.notes
       ∙ ap (λ n. numbered item_notes 0 items ++ item_notes n item) (let place : index ≡ 0 + length items = omega arith in place)
       ∙ ap (λ ns. numbered item_notes 0 items ++ ns) (sym (append-nil (item_notes (0 + length items) item)))
@@ -64,18 +68,21 @@ found_more limit input old new items item count index found at is most sum behin
 
 -- of all items
 
-notes_end : (items : List Item) → numbered item_notes 0 items ++ note_if (eqb (length items) 0) NoLayers ≡ note_if (eqb (length items) 0) NoLayers ++ numbered item_notes 0 items
+notes_end : (items : List Item)
+    → numbered item_notes 0 items ++ note_if (eqb (length items) 0) NoLayers ≡ note_if (eqb (length items) 0) NoLayers ++ numbered item_notes 0 items
 notes_end [] = refl
 notes_end (item ∷ items) =
     let some : eqb (length (item ∷ items)) 0 ≡ false = ne_eqb (length (item ∷ items)) 0 (λ e. omega (arith, e)) in
     let noted = numbered item_notes 0 (item ∷ items) in
     ap (λ b. noted ++ note_if b NoLayers) some ∙ append-nil noted ∙ ap (λ b. note_if b NoLayers ++ noted) (sym some)
 
-pub noted_end : (tile : Tile) (layers : ℕ) (empty : Bool) (old new : List Note) → length tile.items ≡ layers → empty ≡ (layers == 0) → old ≡ numbered item_notes 0 tile.items → new ≡ old ++ note_if empty NoLayers → new ≡ notes_of tile
+pub noted_end : (tile : Tile) (layers : ℕ) (empty : Bool) (old new : List Note) → length tile.items ≡ layers → empty ≡ (layers == 0)
+    → old ≡ numbered item_notes 0 tile.items → new ≡ old ++ note_if empty NoLayers → new ≡ notes_of tile
 unfolding notes_of
 noted_end tile layers empty old new count is so_far e =
     e ∙ ap₂ (λ ns b. ns ++ note_if b NoLayers) so_far (is ∙ ap (λ n. eqb n 0) (sym count)) ∙ notes_end tile.items
 
-pub surveyed : (tile : Tile) (layers features : ℕ) (is answer : Bool) (notes : List Note) → length tile.items ≡ layers → features ≡ sum_by feature_count tile.items → is ≡ answer → notes ≡ notes_of tile
+pub surveyed : (tile : Tile) (layers features : ℕ) (is answer : Bool) (notes : List Note) → length tile.items ≡ layers
+    → features ≡ sum_by feature_count tile.items → is ≡ answer → notes ≡ notes_of tile
     → (let survey : Survey = record { layers = layers; features = features; is_canonical = is; notes = notes } in survey) ≡ survey_of tile answer
 surveyed tile layers features is answer notes count sum same noted = rw (sym count, sum, same, noted) refl

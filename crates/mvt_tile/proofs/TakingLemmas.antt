@@ -15,10 +15,12 @@ use Rattle.mvt_tile.specs.TileRules.{fault_within}
 use Rattle.mvt_tile.specs.Tiles.{IsTile}
 use Rattle.mvt_tile.proofs.StreamLemmas.{fault_stays, calm_front}
 
-pub taken_none : (limit : ℕ) (a : Option (List ℕ)) (decoder : Decoding) → decoder.failure ≡ None → StandsFor limit decoder [] → HasTaken limit a a decoder 0
+pub taken_none : (limit : ℕ) (a : Option (List ℕ)) (decoder : Decoding) → decoder.failure ≡ None → StandsFor limit decoder []
+    → HasTaken limit a a decoder 0
 taken_none limit a decoder alive stands = record { taken = []; consumed = Consumes-nil a; stands = stands; alive = alive; turns = omega arith }
 
-live_taken : (limit : ℕ) (decoder : Decoding) (s : List ℕ) → decoder.failure ≡ None → StandsFor limit decoder s → IsLive limit decoder.offset decoder.items decoder.raw s
+live_taken : (limit : ℕ) (decoder : Decoding) (s : List ℕ) → decoder.failure ≡ None → StandsFor limit decoder s
+    → IsLive limit decoder.offset decoder.items decoder.raw s
 live_taken limit decoder s alive stands = subst (λ o. StandsAs limit o decoder s) alive stands
 
 -- there are no more turns than bytes within the limit
@@ -39,8 +41,10 @@ answers_err (Some x) r e h is = cc
 abbrev Feeds : ℕ → Decoding → Decoding → List ℕ → Type 0
 Feeds limit old new piece = (s : List ℕ) → StandsFor limit old s → StandsFor limit new (s ++ piece)
 
-pub taken_more : (limit : ℕ) (a b c : Option (List ℕ)) (old new : Decoding) (reads : ℕ) (buffer piece : List ℕ) (n : ℕ) (r : Result (Unit {0}) DecodeError) → HasTaken limit a b old reads → Consumes b c (take n buffer)
-    → piece ≡ take n buffer → 0 < n → n ≤ length buffer → Feeds limit old new piece → Answers new.failure r → r ≡ Ok tt → HasTaken limit a c new (reads + 1)
+pub taken_more : (limit : ℕ) (a b c : Option (List ℕ)) (old new : Decoding) (reads : ℕ) (buffer piece : List ℕ) (n : ℕ)
+    (r : Result (Unit {0}) DecodeError) → HasTaken limit a b old reads → Consumes b c (take n buffer)
+    → piece ≡ take n buffer → 0 < n → n ≤ length buffer → Feeds limit old new piece → Answers new.failure r → r ≡ Ok tt
+    → HasTaken limit a c new (reads + 1)
 taken_more limit a b c old new reads buffer piece n r has consumed is some within feeds answers ok =
     let size : length piece ≡ n = ap length is ∙ (simp length-take (omega arith)) in
     let turns = has.turns in
@@ -52,7 +56,8 @@ taken_more limit a b c old new reads buffer piece n r has consumed is some withi
       turns = omega (arith, length-append has.taken piece);
     }
 
-tells_taken : (limit : ℕ) (decoder : Decoding) (s : List ℕ) (e : DecodeError) → decoder.failure ≡ Some e → StandsFor limit decoder s → Tells e (fault_within limit s)
+tells_taken : (limit : ℕ) (decoder : Decoding) (s : List ℕ) (e : DecodeError) → decoder.failure ≡ Some e → StandsFor limit decoder s
+    → Tells e (fault_within limit s)
 tells_taken limit decoder s e failed stands = (subst (λ o. StandsAs limit o decoder s) failed stands).1
 
 weaker_taken : (e : DecodeError) (o : Option AFault) → Tells e o → TellsTaken e o
@@ -60,20 +65,24 @@ weaker_taken Memory o h = tt
 weaker_taken (Fault f) o h = h
 weaker_taken (Read k) o h = tt
 
-pub taken_fails : (limit : ℕ) (a b c : Option (List ℕ)) (old new : Decoding) (reads : ℕ) (buffer piece : List ℕ) (n size : ℕ) (r : Result (Unit {0}) DecodeError) (e : DecodeError) → HasTaken limit a b old reads → Consumes b c (take n buffer)
+pub taken_fails : (limit : ℕ) (a b c : Option (List ℕ)) (old new : Decoding) (reads : ℕ) (buffer piece : List ℕ) (n size : ℕ)
+    (r : Result (Unit {0}) DecodeError) (e : DecodeError) → HasTaken limit a b old reads → Consumes b c (take n buffer)
     → piece ≡ take n buffer → size ≡ n → Feeds limit old new piece → Answers new.failure r → r ≡ Err e → HasStopped limit size a c e
 taken_fails limit a b c old new reads buffer piece n size r e has consumed is of_size feeds answers failed =
-    let short : length piece ≤ size = let count : length piece ≡ length (take n buffer) = ap length is in omega (arith, length-take n buffer) in
+    let short : length piece ≤ size =
+    let count : length piece ≡ length (take n buffer) = ap length is in omega (arith, length-take n buffer) in
     record {
       front = has.taken;
       back = piece;
       consumed = Consumes-trans a b c has.taken piece has.consumed (subst (Consumes b c) (sym is) consumed);
       few = short;
       calm = (live_taken limit old has.taken has.alive has.stands).calm;
-      told = weaker_taken e (fault_within limit (has.taken ++ piece)) (tells_taken limit new (has.taken ++ piece) e (answers_err new.failure r e answers failed) (feeds has.taken has.stands));
+      told = weaker_taken e (fault_within limit (has.taken ++ piece))
+          (tells_taken limit new (has.taken ++ piece) e (answers_err new.failure r e answers failed) (feeds has.taken has.stands));
     }
 
-pub taken_read : (limit size : ℕ) (a b c : Option (List ℕ)) (decoder : Decoding) (reads : ℕ) (k : ErrorKind) → HasTaken limit a b decoder reads → Keeps b c → HasStopped limit size a c (Read k)
+pub taken_read : (limit size : ℕ) (a b c : Option (List ℕ)) (decoder : Decoding) (reads : ℕ) (k : ErrorKind)
+    → HasTaken limit a b decoder reads → Keeps b c → HasStopped limit size a c (Read k)
 taken_read limit size a b c decoder reads k has kept = record {
   front = has.taken;
   back = [];
@@ -83,10 +92,12 @@ taken_read limit size a b c decoder reads k has kept = record {
   told = tt;
 }
 
-pub taken_end : (limit : ℕ) (a b c : Option (List ℕ)) (decoder : Decoding) (reads : ℕ) (n : ℕ) (buffer : List ℕ) → HasTaken limit a b decoder reads → Consumes b c (take n buffer) → n ≡ 0 → HasTaken limit a c decoder 0
+pub taken_end : (limit : ℕ) (a b c : Option (List ℕ)) (decoder : Decoding) (reads : ℕ) (n : ℕ) (buffer : List ℕ)
+    → HasTaken limit a b decoder reads → Consumes b c (take n buffer) → n ≡ 0 → HasTaken limit a c decoder 0
 taken_end limit a b c decoder reads n buffer has consumed none = record {
   taken = has.taken;
-  consumed = subst (Consumes a c) (append-nil has.taken) (Consumes-trans a b c has.taken [] has.consumed (subst (λ m. Consumes b c (take m buffer)) none consumed));
+  consumed = subst (Consumes a c) (append-nil has.taken)
+      (Consumes-trans a b c has.taken [] has.consumed (subst (λ m. Consumes b c (take m buffer)) none consumed));
   stands = has.stands;
   alive = has.alive;
   turns = omega arith;
@@ -94,7 +105,8 @@ taken_end limit a b c decoder reads n buffer has consumed none = record {
 
 -- of the whole call
 
-early_from : (limit size : ℕ) (a b : Option (List ℕ)) (front back : List ℕ) → Consumes a b (front ++ back) → length back ≤ size → IsCalm (fault_within limit front) → StopsEarly limit size a b
+early_from : (limit size : ℕ) (a b : Option (List ℕ)) (front back : List ℕ) → Consumes a b (front ++ back) → length back ≤ size
+    → IsCalm (fault_within limit front) → StopsEarly limit size a b
 early_from limit size None b front back consumed few calm = tt
 early_from limit size (Some xs) None front back consumed few calm = consumed
 early_from limit size (Some xs) (Some ys) front back consumed few calm =
@@ -107,21 +119,26 @@ early_from limit size (Some xs) (Some ys) front back consumed few calm =
           (calm_front limit (take (all - size) front) (drop (all - size) front) (subst (λ s. IsCalm (fault_within limit s)) (sym (take-append-drop (all - size) front)) calm)),
     )
 
-pub stopped_early : (limit given size : ℕ) (a b : Option (List ℕ)) (e : DecodeError) → given ≤ size → HasStopped limit given a b e → StopsEarly limit size a b
+pub stopped_early : (limit given size : ℕ) (a b : Option (List ℕ)) (e : DecodeError) → given ≤ size → HasStopped limit given a b e
+    → StopsEarly limit size a b
 stopped_early limit given size a b e within h =
     let few : length h.back ≤ given = h.few in
     early_from limit size a b h.front h.back h.consumed (omega arith) h.calm
 
-pub taken_early : (limit size : ℕ) (a b : Option (List ℕ)) (decoder : Decoding) (reads : ℕ) → HasTaken limit a b decoder reads → StopsEarly limit size a b
+pub taken_early : (limit size : ℕ) (a b : Option (List ℕ)) (decoder : Decoding) (reads : ℕ) → HasTaken limit a b decoder reads
+    → StopsEarly limit size a b
 taken_early limit size a b decoder reads has =
-    early_from limit size a b has.taken [] (subst (Consumes a b) (sym (append-nil has.taken)) has.consumed) (omega arith) (live_taken limit decoder has.taken has.alive has.stands).calm
+    early_from limit size a b has.taken [] (subst (Consumes a b) (sym (append-nil has.taken)) has.consumed) (omega arith)
+    (live_taken limit decoder has.taken has.alive has.stands).calm
 
-tells_input : (limit : ℕ) (e : DecodeError) (taken left input : List ℕ) → input ≡ taken ++ left → TellsTaken e (fault_within limit taken) → TellsInput e (fault_within limit input)
+tells_input : (limit : ℕ) (e : DecodeError) (taken left input : List ℕ) → input ≡ taken ++ left → TellsTaken e (fault_within limit taken)
+    → TellsInput e (fault_within limit input)
 tells_input limit Memory taken left input is h = tt
 tells_input limit (Fault f) taken left input is h = ap (fault_within limit) is ∙ fault_stays limit taken left f h.0 h.1
 tells_input limit (Read k) taken left input is h = tt
 
-pub stopped_told : (limit size : ℕ) (a b : Option (List ℕ)) (e : DecodeError) → HasStopped limit size a b e → IfSome a (λ input. TellsInput e (fault_within limit input))
+pub stopped_told : (limit size : ℕ) (a b : Option (List ℕ)) (e : DecodeError) → HasStopped limit size a b e
+    → IfSome a (λ input. TellsInput e (fault_within limit input))
 stopped_told limit size None b e h = tt
 stopped_told limit size (Some xs) None e h = absurd h.consumed
 stopped_told limit size (Some xs) (Some ys) e h = tells_input limit e (h.front ++ h.back) ys xs h.consumed h.told
@@ -129,8 +146,10 @@ stopped_told limit size (Some xs) (Some ys) e h = tells_input limit e (h.front +
 whole_taken : (xs ys taken : List ℕ) → xs ≡ taken ++ ys → ys ≡ [] → taken ≡ xs
 whole_taken xs ys taken is none = sym (is ∙ ap (λ l. taken ++ l) none ∙ append-nil taken)
 
-pub taken_tile : (limit : ℕ) (a b : Option (List ℕ)) (decoder : Decoding) (reads : ℕ) (r : Result Tile DecodeError) → HasTaken limit a b decoder reads → IsAtEnd b
-    → IfOk r (λ tile. (s : List ℕ) → StandsFor limit decoder s → IsTile limit s tile) → IfOk r (λ tile. IfSome a (λ input. IsTile limit input tile))
+pub taken_tile : (limit : ℕ) (a b : Option (List ℕ)) (decoder : Decoding) (reads : ℕ) (r : Result Tile DecodeError)
+    → HasTaken limit a b decoder reads → IsAtEnd b
+    → IfOk r (λ tile. (s : List ℕ) → StandsFor limit decoder s → IsTile limit s tile)
+    → IfOk r (λ tile. IfSome a (λ input. IsTile limit input tile))
 taken_tile limit a b decoder reads (Err e) has end h = tt
 taken_tile limit None b decoder reads (Ok t) has end h = tt
 taken_tile limit (Some xs) None decoder reads (Ok t) has end h = absurd has.consumed
@@ -142,13 +161,16 @@ at_end_input Memory o h = tt
 at_end_input (Fault f) o h = h
 at_end_input (Read k) o h = tt
 
-pub taken_fault : (limit : ℕ) (a b : Option (List ℕ)) (decoder : Decoding) (reads : ℕ) (r : Result Tile DecodeError) → HasTaken limit a b decoder reads → IsAtEnd b
-    → IfErr r (λ e. (s : List ℕ) → StandsFor limit decoder s → TellsAtEnd e (fault_within limit s)) → IfErr r (λ e. IfSome a (λ input. TellsInput e (fault_within limit input)))
+pub taken_fault : (limit : ℕ) (a b : Option (List ℕ)) (decoder : Decoding) (reads : ℕ) (r : Result Tile DecodeError)
+    → HasTaken limit a b decoder reads → IsAtEnd b
+    → IfErr r (λ e. (s : List ℕ) → StandsFor limit decoder s → TellsAtEnd e (fault_within limit s))
+    → IfErr r (λ e. IfSome a (λ input. TellsInput e (fault_within limit input)))
 taken_fault limit a b decoder reads (Ok t) has end h = tt
 taken_fault limit None b decoder reads (Err e) has end h = tt
 taken_fault limit (Some xs) None decoder reads (Err e) has end h = absurd has.consumed
 taken_fault limit (Some xs) (Some ys) decoder reads (Err e) has end h =
-    subst (λ s. TellsInput e (fault_within limit s)) (whole_taken xs ys has.taken has.consumed end) (at_end_input e (fault_within limit has.taken) (h has.taken has.stands))
+    subst (λ s. TellsInput e (fault_within limit s)) (whole_taken xs ys has.taken has.consumed end)
+    (at_end_input e (fault_within limit has.taken) (h has.taken has.stands))
 
 at_end_no_read : (e : DecodeError) (o : Option AFault) (P : Type 0) → TellsAtEnd e o → IsReadError e → P
 at_end_no_read Memory o P h k = absurd k
@@ -160,12 +182,14 @@ at_end_no_kind Memory o told h = tt
 at_end_no_kind (Fault f) o told h = tt
 at_end_no_kind (Read kind) o told h = absurd h
 
-pub taken_no_read : (limit : ℕ) (a b : Option (List ℕ)) (decoder : Decoding) (reads : ℕ) (r : Result Tile DecodeError) (P : Type 0) → HasTaken limit a b decoder reads
+pub taken_no_read : (limit : ℕ) (a b : Option (List ℕ)) (decoder : Decoding) (reads : ℕ) (r : Result Tile DecodeError) (P : Type 0)
+    → HasTaken limit a b decoder reads
     → IfErr r (λ e. (s : List ℕ) → StandsFor limit decoder s → TellsAtEnd e (fault_within limit s)) → IfErr r (λ e. IsReadError e → P)
 taken_no_read limit a b decoder reads (Ok t) P has h = tt
 taken_no_read limit a b decoder reads (Err e) P has h = at_end_no_read e (fault_within limit has.taken) P (h has.taken has.stands)
 
-pub taken_no_kind : (limit : ℕ) (a b : Option (List ℕ)) (decoder : Decoding) (reads : ℕ) (r : Result Tile DecodeError) (told : Option ErrorKind) → HasTaken limit a b decoder reads
+pub taken_no_kind : (limit : ℕ) (a b : Option (List ℕ)) (decoder : Decoding) (reads : ℕ) (r : Result Tile DecodeError) (told : Option ErrorKind)
+    → HasTaken limit a b decoder reads
     → IfErr r (λ e. (s : List ℕ) → StandsFor limit decoder s → TellsAtEnd e (fault_within limit s)) → IfErr r (λ e. IsKindOf e told)
 taken_no_kind limit a b decoder reads (Ok t) told has h = tt
 taken_no_kind limit a b decoder reads (Err e) told has h = at_end_no_kind e (fault_within limit has.taken) told (h has.taken has.stands)

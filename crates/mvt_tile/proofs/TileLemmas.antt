@@ -26,7 +26,8 @@ use Rattle.mvt_tile.specs.Tiles.{HoldsItem, AreItems, IsTile}
 use Rattle.mvt_tile.proofs.ItemLemmas.{are_none, items_there, are_clean}
 
 -- the first fault of a tile's table is that of a field, or of the rest
-pub first-tile : (b : List ℕ) → first (tile_rules b) ≡ option_or (first (each field_rules [] (split b).fields)) (first (rest_rules (split b)))
+pub first-tile : (b : List ℕ)
+    → first (tile_rules b) ≡ option_or (first (each field_rules [] (split b).fields)) (first (rest_rules (split b)))
 unfolding tile_rules
 first-tile b =
     let rest = rest_rules (split b) in
@@ -61,7 +62,9 @@ no_rest at (b ∷ bs) e = cc
 pub tile_there : (limit : ℕ) (b : List ℕ) → fault_within limit b ≡ None → (tile : Tile) × IsTile limit b tile
 tile_there limit b none =
     let small = short_there limit b (ltb limit (length b)) refl none in
-    let parts = option_or-nones (first (each field_rules [] (split b).fields)) (first (rest_rules (split b))) (sym (fault_of_short limit b small ∙ first-tile b) ∙ none) in
+    let parts =
+    option_or-nones (first (each field_rules [] (split b).fields)) (first (rest_rules (split b)))
+    (sym (fault_of_short limit b small ∙ first-tile b) ∙ none) in
     let items = items_there (split b).fields [] [] are_none parts.0 in (
       record { items = items.0 },
       record {
@@ -83,7 +86,8 @@ tile_items limit b tile is = record {
 pub tile_clean : (limit : ℕ) (b : List ℕ) (tile : Tile) → IsTile limit b tile → fault_within limit b ≡ None
 tile_clean limit b tile is =
     fault_of_short limit b is.small ∙ first-tile b
-    ∙ option_or-none (first (each field_rules [] (split b).fields)) (first (rest_rules (split b))) (are_clean (split b).fields tile.items (tile_items limit b tile is))
+    ∙ option_or-none (first (each field_rules [] (split b).fields)) (first (rest_rules (split b)))
+    (are_clean (split b).fields tile.items (tile_items limit b tile is))
     ∙ ap (λ r. first (rest_rules_at (split b).rest_at r)) (sym (split_function_only b [] is.fields is.whole).1)
 
 one_held : (x : Entry) (i j : Item) → HoldsItem x i → HoldsItem x j → i ≡ j
@@ -93,7 +97,9 @@ one_held x i j h k =
 
 pub tile_once : (limit : ℕ) (b : List ℕ) (s t : Tile) → IsTile limit b s → IsTile limit b t → s ≡ t
 tile_once limit b s t is_s is_t =
-    let same : s.items ≡ t.items = related_once HoldsItem one_held (layers_of (split b).fields) s.items t.items (tile_items limit b s is_s).held (tile_items limit b t is_t).held in
+    let same : s.items ≡ t.items =
+    related_once HoldsItem one_held (layers_of (split b).fields) s.items t.items (tile_items limit b s is_s).held
+    (tile_items limit b t is_t).held in
     ap (λ (items : List Item). let t : Tile = record { items = items } in t) same
 
 cond_ordered : {F : Type 0} (b : Bool) (xs ys : Rules F) → AreOrdered xs → AreOrdered ys → AreOrdered (cond b xs ys)
@@ -103,12 +109,14 @@ cond_ordered false xs ys h k = k
 field_ordered : (front : List Entry) (x : Entry) → AreOrdered (field_rules front x)
 unfolding field_rules
 field_ordered front x =
-    cond_ordered (eqb x.number LAYERS) (cond (is_bytes x.content) (rows (layer_rules front x)) (under 0 (when true (outer_fault x.at WrongType)))) []
+    cond_ordered (eqb x.number LAYERS)
+    (cond (is_bytes x.content) (rows (layer_rules front x)) (under 0 (when true (outer_fault x.at WrongType)))) []
     (cond_ordered (is_bytes x.content) (rows (layer_rules front x)) (under 0 (when true (outer_fault x.at WrongType)))
     (rows_ordered 1 (layer_rules front x) (
       omega arith,
       (
-        told_ordered (in_layer (length (layers_of front))) (item_rules (payload_of x) x.body x.at) (item_in_order_ordered (payload_of x) x.body x.at),
+        told_ordered (in_layer (length (layers_of front))) (item_rules (payload_of x) x.body x.at)
+            (item_in_order_ordered (payload_of x) x.body x.at),
         (omega arith, (when_ordered (repeats (names_before front) (payload_names (payload_of x))) (repeated_at (length (layers_of front)) x.at), tt)),
       ),
     ))
@@ -124,7 +132,8 @@ unfolding tile_rules
 tile_ordered b =
     let n = length (split b).fields in
     each_then field_rules [] (split b).fields (under n (under 0 (rest_rules (split b)))) field_ordered
-    (under_ordered n _ (under_ordered 0 (rest_rules (split b)) (rest_ordered (split b).rest_at (split b).rest))) (all_later (0 + n) n _ (omega arith) (under_from n _))
+    (under_ordered n _ (under_ordered 0 (rest_rules (split b)) (rest_ordered (split b).rest_at (split b).rest)))
+    (all_later (0 + n) n _ (omega arith) (under_from n _))
 
 pub tile_least : (limit : ℕ) (b : List ℕ) (f : Fault) → length b ≤ limit → (fault_within limit b ≡ Some f) ↔ IsLeast (tile_rules b) f
 tile_least limit b f small = (

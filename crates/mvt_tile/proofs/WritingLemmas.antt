@@ -28,21 +28,25 @@ field_of item = short_field LAYERS (bytes (canonical_item item))
 
 pub written-append : (xs ys : List Item) → written (xs ++ ys) ≡ written xs ++ written ys
 written-append xs ys =
-    ap spelled (map-append item_field xs ys) ∙ flat_map-append (λ (f : Plain). short_field f.number f.content) (map item_field xs) (map item_field ys)
+    ap spelled (map-append item_field xs ys)
+    ∙ flat_map-append (λ (f : Plain). short_field f.number f.content) (map item_field xs) (map item_field ys)
 
 pub written_one : (item : Item) → written (item ∷ []) ≡ field_of item
 written_one item = append-nil (field_of item)
 
-pub written_more : (items : List Item) (i : ℕ) (item : Item) → i < length items → item ≡ get_or items i item → written (take (i + 1) items) ≡ written (take i items) ++ field_of item
+pub written_more : (items : List Item) (i : ℕ) (item : Item) → i < length items → item ≡ get_or items i item
+    → written (take (i + 1) items) ≡ written (take i items) ++ field_of item
 written_more items i item h is =
-    ap written (take_more items i item h ∙ ap (λ x. take i items ++ x ∷ []) (sym is)) ∙ written-append (take i items) (item ∷ []) ∙ ap (λ b. written (take i items) ++ b) (written_one item)
+    ap written (take_more items i item h ∙ ap (λ x. take i items ++ x ∷ []) (sym is)) ∙ written-append (take i items) (item ∷ [])
+    ∙ ap (λ b. written (take i items) ++ b) (written_one item)
 
 -- the whole, round the field of one item
 pub written_parts : (items : List Item) (i : ℕ) (item : Item) → i < length items → item ≡ get_or items i item
     → written items ≡ written (take i items) ++ (field_of item ++ written (drop (i + 1) items))
 written_parts items i item h is =
     ap written (sym (take-append-drop (i + 1) items)) ∙ written-append (take (i + 1) items) (drop (i + 1) items)
-    ∙ ap (λ b. b ++ written (drop (i + 1) items)) (written_more items i item h is) ∙ append_assoc (written (take i items)) (field_of item) (written (drop (i + 1) items))
+    ∙ ap (λ b. b ++ written (drop (i + 1) items)) (written_more items i item h is)
+    ∙ append_assoc (written (take i items)) (field_of item) (written (drop (i + 1) items))
 
 pub written_all : (items : List Item) (i : ℕ) → length items ≤ i → written (take i items) ≡ written items
 written_all items i h = ap written (take_all i items h)
@@ -51,11 +55,13 @@ written_all items i h = ap written (take_all i items h)
 pub written_within : (items : List Item) (i : ℕ) → length (written (take i items)) ≤ length (written items)
 written_within items i =
     let whole : length (written items) ≡ length (written (take i items)) + length (written (drop i items)) =
-    ap length (ap written (sym (take-append-drop i items)) ∙ written-append (take i items) (drop i items)) ∙ length-append (written (take i items)) (written (drop i items)) in
+    ap length (ap written (sym (take-append-drop i items)) ∙ written-append (take i items) (drop i items))
+    ∙ length-append (written (take i items)) (written (drop i items)) in
     omega arith
 
 -- an item's payload has fewer bytes than the whole
-pub payload_within : (items : List Item) (i : ℕ) (item : Item) → i < length items → item ≡ get_or items i item → length (canonical_item item) ≤ length (written items)
+pub payload_within : (items : List Item) (i : ℕ) (item : Item) → i < length items → item ≡ get_or items i item
+    → length (canonical_item item) ≤ length (written items)
 payload_within items i item h is =
     let size = ap length (written_parts items i item h is) in
     let outer = length-append (written (take i items)) (field_of item ++ written (drop (i + 1) items)) in
@@ -73,7 +79,8 @@ pub canonical_is : (tile : Tile) (items : List Item) → items ≡ tile.items �
 unfolding canonical
 canonical_is tile items is = ap written (sym is)
 
-pub encoded_reads : {V E : Type 0} → (tile : Tile) (of : V → List ℕ) (r : Result V E) → Valid tile → IfOk r (λ b. of b ≡ canonical tile) → IfOk r (λ b. length (of b) ≤ LIMIT)
+pub encoded_reads : {V E : Type 0} → (tile : Tile) (of : V → List ℕ) (r : Result V E) → Valid tile → IfOk r (λ b. of b ≡ canonical tile)
+    → IfOk r (λ b. length (of b) ≤ LIMIT)
     → IfOk r (λ b. IsTile LIMIT (of b) tile)
 encoded_reads tile of (Err e) valid put small = tt
 encoded_reads tile of (Ok b) valid put small =

@@ -1,4 +1,4 @@
--- The bytes that a tile is written as: its items in order, each a field `layers`, with shortest spellings.
+-- The bytes that a tile is written as: its items in order, each a field of number LAYERS, with shortest spellings.
 use Rattle.std.specs.Prelude.{ℕ, List, map}
 use Rattle.mvt_wire.specs.Field.{bytes}
 use Rattle.mvt_wire.specs.Spelling.{Plain, spelled}

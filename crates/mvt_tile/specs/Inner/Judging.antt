@@ -32,7 +32,7 @@ pub record AreKept (names : List (List ℕ)) (items : List Item) : Type 0 where
 abbrev pub repeated_at : ℕ → ℕ → AFault
 repeated_at n at = record { layer = Some n; feature = None; at = at; cause = RepeatedName }
 
--- the fault of a layer of this index and these names, behind others of those names
+-- the fault of a layer of this index, where the names before it have one of its own
 abbrev pub name_fault : ℕ → List (List ℕ) → List (List ℕ) → ℕ → Option AFault
 name_fault n names given at = first (when (repeats names given) (repeated_at n at))
 

@@ -23,7 +23,8 @@ pub returns : goal.returns
 returns c =
     let size : length c.in-Ok.payload.items ≡ c.len.result = omega (arith, c.in-Ok.payload.ok.0) in
     let parts : short_field LAYERS (bytes (canonical_item c.args.item.now)) ≡ c.as_slice.result.now ++ c.in-Ok.payload.items =
-    ap (λ d. short_field LAYERS (bytes d)) (sym c.in-Ok.ensures.put.0) ∙ c.in_ok-head.ensures c.in-Ok.payload.items size ∙ ap (λ h. h ++ c.in-Ok.payload.items) (sym c.as_slice.ensures.value) in
+    ap (λ d. short_field LAYERS (bytes d)) (sym c.in-Ok.ensures.put.0) ∙ c.in_ok-head.ensures c.in-Ok.payload.items size
+    ∙ ap (λ h. h ++ c.in-Ok.payload.items) (sym c.as_slice.ensures.value) in
     behind_none c.args.bytes.now c.as_slice.result.now c.in-Ok.payload.items _ parts
     (strip_prefix_is Decides-eqb c.args.bytes.now c.as_slice.result.now None c.in-None.ensures.cases)
 
@@ -31,4 +32,5 @@ pub returns-in-Err-TooLarge : goal.returns-in-Err-TooLarge
 returns-in-Err-TooLarge c = λ more same.
     let d = canonical_item c.args.item.now in
     let all = length-append (short_field LAYERS (bytes d)) more in
-    omega (arith, ap length same, all, short_lengths_bytes LAYERS d, c.in-Err-TooLarge.ensures.too_large (ap Err c.in-Err-TooLarge.field-0-is), c.requires.small)
+    omega
+    (arith, ap length same, all, short_lengths_bytes LAYERS d, c.in-Err-TooLarge.ensures.too_large (ap Err c.in-Err-TooLarge.field-0-is), c.requires.small)

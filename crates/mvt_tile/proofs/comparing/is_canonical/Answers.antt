@@ -13,6 +13,8 @@ returns-in-None c =
 pub returns : goal.returns
 returns c =
     let items = c.as_slice-items.result.now in
-    let end = parts_end items c.loop-item.item-index c.args.bytes.now c.loop-item.rest.now c.is_empty.result (omega arith) c.loop-item.invariant.parts c.is_empty.ensures in
+    let end =
+    parts_end items c.loop-item.item-index c.args.bytes.now c.loop-item.rest.now c.is_empty.result
+    (omega arith) c.loop-item.invariant.parts c.is_empty.ensures in
     let is = canonical_is c.args.tile.now items c.as_slice-items.ensures in
     (λ yes. (end.0 yes ∙ sym is, omega arith), λ h. end.1 (h.0 ∙ is))

@@ -6,18 +6,27 @@ use Rattle.mvt_tile.proofs.decoder.take_in.Goals as goal
 pub returns-in_err-used-clause-fault : goal.returns-in_err-used-clause-fault
 returns-in_err-used-clause-fault c =
     let p = err_from_is_err_and c.from_residual.result c.from_residual.ensures.1 in
-    let fits : c.args.offset + (length c.args.raw.now.items + length c.split_at.result.0.now) ≤ 67108864 = omega (arith, c.args.raw.now.ok.0) in
+    let (front, back) = c.split_at.result in
+    let fits : c.args.offset + (length c.args.raw.now.items + length front.now) ≤ 67108864 = omega (arith, c.args.raw.now.ok.0) in
+    let all = cut _ _ _ _ c.split_at.ensures.front c.split_at.ensures.back in
     rw (p.1, p.2)
-    (λ s live. live_fails 67108864 c.args.offset c.args.layers.now c.args.raw.now.items s c.args.piece.now c.split_at.result.0.now c.split_at.result.1.now _ c.in_err-used.ensures.fault (cut _ _ _ _ c.split_at.ensures.front c.split_at.ensures.back) fits live)
+    (λ s live. live_fails 67108864 c.args.offset c.args.layers.now c.args.raw.now.items s live c.args.piece.now front.now back.now _ c.in_err-used.ensures.fault all fits)
 
 pub returns-then-not-is_empty-clause-fault : goal.returns-then-not-is_empty-clause-fault
 returns-then-not-is_empty-clause-fault c =
-    let some : length c.split_at.result.1.now ≡ 0 → ⊥ = search rules in
-    let full : c.args.offset + (length c.args.raw.now.items + length c.split_at.result.0.now) ≡ 67108864 = omega (arith, c.args.raw.now.ok.0, some) in
+    let (front, back) = c.split_at.result in
+    let some : length back.now ≡ 0 → ⊥ = search rules in
+    let full : c.args.offset + (length c.args.raw.now.items + length front.now) ≡ 67108864 = omega (arith, c.args.raw.now.ok.0, some) in
+    let all = cut _ _ _ _ c.split_at.ensures.front c.split_at.ensures.back in
     rw c.outer.ensures
-    (λ s live. piece_too_large 67108864 c.args.offset c.args.layers.now c.swallow.new.layers c.args.raw.now.items c.swallow.new.raw.items s c.args.piece.now c.split_at.result.0.now c.split_at.result.1.now c.in_ok-used.used c.in_ok-used.ensures.judged c.in_ok-used.ensures.raw full (cut _ _ _ _ c.split_at.ensures.front c.split_at.ensures.back) some live)
+    (λ s. piece_too_large 67108864 c.args.offset c.args.layers.now c.swallow.new.layers c.args.raw.now.items c.swallow.new.raw.items front.now c.in_ok-used.used
+    c.in_ok-used.ensures.judged c.in_ok-used.ensures.raw s c.args.piece.now back.now all full some)
 
 pub returns-clause-live : goal.returns-clause-live
 returns-clause-live c =
-    let fits : c.args.offset + (length c.args.raw.now.items + length c.split_at.result.0.now) ≤ 67108864 = omega (arith, c.args.raw.now.ok.0) in
-    λ s live. piece_fits 67108864 c.args.offset c.args.layers.now c.swallow.new.layers c.args.raw.now.items c.swallow.new.raw.items s c.args.piece.now c.split_at.result.0.now c.split_at.result.1.now c.in_ok-used.used c.in_ok-used.ensures.judged c.in_ok-used.ensures.raw fits (cut _ _ _ _ c.split_at.ensures.front c.split_at.ensures.back) (search rules) live
+    let (front, back) = c.split_at.result in
+    let fits : c.args.offset + (length c.args.raw.now.items + length front.now) ≤ 67108864 = omega (arith, c.args.raw.now.ok.0) in
+    let none : length back.now ≡ 0 = search rules in
+    let all = cut _ _ _ _ c.split_at.ensures.front c.split_at.ensures.back in
+    λ s. piece_fits 67108864 c.args.offset c.args.layers.now c.swallow.new.layers c.args.raw.now.items c.swallow.new.raw.items front.now c.in_ok-used.used
+    c.in_ok-used.ensures.judged c.in_ok-used.ensures.raw s c.args.piece.now back.now all fits none

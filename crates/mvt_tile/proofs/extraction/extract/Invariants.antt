@@ -4,4 +4,5 @@ use Rattle.mvt_tile.specs.Extraction.{is_named}
 use Rattle.mvt_tile.proofs.extraction.extract.Given as goal
 
 abbrev pub invariant-loop-item : goal.invariant-loop-item
-invariant-loop-item l = l.picked.items ≡ filter (λ item. list_any (λ name. is_named name item) (map string_bytes l.names)) (take l.item-index l.items)
+invariant-loop-item l =
+    l.picked.items ≡ filter (λ item. list_any (λ name. is_named name item) (map string_bytes l.names)) (take l.item-index l.items)

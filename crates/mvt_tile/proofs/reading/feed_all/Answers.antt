@@ -15,7 +15,8 @@ returns-in_err-feed-clause-stopped g c =
 
 pub loop-turn-preserved : goal.loop-turn-preserved
 loop-turn-preserved g c = record {
-  has = taken_more 67108864 _ _ _ _ _ _ c.read.new.buffer _ _ _ c.loop-turn.invariant.has c.in-Ok.ensures.bytes.0 refl (omega arith) c.in-Ok.ensures.within c.feed.ensures.stands c.feed.ensures.answer c.in_ok-feed.was;
+  has = taken_more 67108864 _ _ _ _ _ _ c.read.new.buffer _ _ _ c.loop-turn.invariant.has c.in-Ok.ensures.bytes.0 refl
+      (omega arith) c.in-Ok.ensures.within c.feed.ensures.stands c.feed.ensures.answer c.in_ok-feed.was;
   reads = search rules;
   asked = search rules;
   honest = search rules;

@@ -11,5 +11,6 @@ returns-clause-survey c =
       tile,
       taken.1,
       record { items = taken.2.2; names = taken.1.distinct },
-      c.in_ok-into_survey.ensures _ tile taken.2.1 (sym taken.2.0.counted) ∙ ap (λ b. survey_of tile (bytes_eq b (canonical tile))) (take_all c.min.result c.args.bytes.now (omega (arith, taken.1.small))),
+      c.in_ok-into_survey.ensures _ tile taken.2.1 (sym taken.2.0.counted)
+          ∙ ap (λ b. survey_of tile (bytes_eq b (canonical tile))) (take_all c.min.result c.args.bytes.now (omega (arith, taken.1.small))),
     )

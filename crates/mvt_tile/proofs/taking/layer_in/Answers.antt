@@ -8,4 +8,5 @@ returns-in-Len-clause-place c = record { is_layer = c.if-field-ne-LAYERS.false; 
 
 pub returns-in-Varint-clause-fault : goal.returns-in-Varint-clause-fault
 returns-in-Varint-clause-fault c =
-    rw c.outer.ensures (field_wrong c.args.offset (entry_of c.args.field.now) (content_of c.args.field.now.payload) c.if-field-ne-LAYERS.false refl (not_bytes c.args.field.now.payload c.in-Varint.is))
+    rw c.outer.ensures
+    (field_wrong c.args.offset (entry_of c.args.field.now) (content_of c.args.field.now.payload) c.if-field-ne-LAYERS.false refl (not_bytes c.args.field.now.payload c.in-Varint.is))

@@ -16,9 +16,12 @@ returns-in-None-clause-items g c = λ input items has.
 pub returns-in-Some-clause-items : goal.returns-in-Some-clause-items
 returns-in-Some-clause-items g c = λ input items has.
     let place = rw c.in-Some.is at c.in_ok-layer_in.ensures.place in
-    field_gives (g.T.Taker.has_taken input c.take_item.new.self) _ items c.args.offset (entry_of c.args.field.now) _ _ _ place (c.take_item.ensures.item input items has)
+    field_gives items c.args.offset (entry_of c.args.field.now) _ _ _ place (g.T.Taker.has_taken input c.take_item.new.self) _
+    (c.take_item.ensures.item input items has)
 
 pub returns-in-Some-clause-fault : goal.returns-in-Some-clause-fault
 returns-in-Some-clause-fault g c = λ input items has.
     let place = rw c.in-Some.is at c.in_ok-layer_in.ensures.place in
-    field_tells _ items c.args.offset (entry_of c.args.field.now) c.in-Some.place.payload.now c.in-Some.place.payload_at c.in-Some.place.tag_at place (c.take_item.ensures.fault input items has)
+    let given = c.in-Some.place in
+    field_tells items c.args.offset (entry_of c.args.field.now) given.payload.now given.payload_at given.tag_at place _
+    (c.take_item.ensures.fault input items has)

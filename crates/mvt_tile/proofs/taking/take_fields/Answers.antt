@@ -8,52 +8,62 @@ pub loop-field-init : goal.loop-field-init
 loop-field-init g c = λ input items has. (
   items,
   has,
-  so_far_start c.args.offset c.args.bytes.now items _ (ap (λ (a : Ahead). a.to_come) c.into_iter-field-iterator.ensures.into_iter_gives ∙ c.new-field-items.ensures.fields),
+  so_far_start c.args.offset c.args.bytes.now items _
+      (ap (λ (a : Ahead). a.to_come) c.into_iter-field-iterator.ensures.into_iter_gives ∙ c.new-field-items.ensures.fields),
 )
 
 pub take_field-requires-clause-few : goal.take_field-requires-clause-few
 take_field-requires-clause-few g c =
     let (input, items, has, few) = c.requires.few in
-    let so_far = c.loop-field.invariant input items has in
-    (input, so_far.0, so_far.1, omega (arith, few, so_far_count c.args.offset c.args.bytes.now items so_far.0 c.loop-field.field-iterator.to_come so_far.2))
+    let (now, known, so_far) = c.loop-field.invariant input items has in
+    (input, now, known, omega (arith, few, so_far_count c.args.offset c.args.bytes.now items now c.loop-field.field-iterator.to_come so_far))
 
 pub take_field-requires-clause-place : goal.take_field-requires-clause-place
 take_field-requires-clause-place g c =
     let (input, items, has, few) = c.requires.few in
-    let so_far = c.loop-field.invariant input items has in
-    omega (arith, (so_far_place c.args.offset c.args.bytes.now items so_far.0 c.loop-field.field-iterator.to_come c.next.new.self.to_come c.in-Ok.field so_far.2 (rw c.in-Ok.is at c.in-Some.ensures.steps).0).0)
+    let (now, known, so_far) = c.loop-field.invariant input items has in
+    let step = (rw c.in-Ok.is at c.in-Some.ensures.steps).0 in
+    omega
+    (arith, (so_far_place c.args.offset c.args.bytes.now items now c.loop-field.field-iterator.to_come so_far c.next.new.self.to_come c.in-Ok.field step).0)
 
 pub take_field-requires-clause-fits : goal.take_field-requires-clause-fits
 take_field-requires-clause-fits g c =
     let (input, items, has, few) = c.requires.few in
-    let so_far = c.loop-field.invariant input items has in
-    omega (arith, (so_far_place c.args.offset c.args.bytes.now items so_far.0 c.loop-field.field-iterator.to_come c.next.new.self.to_come c.in-Ok.field so_far.2 (rw c.in-Ok.is at c.in-Some.ensures.steps).0).1)
+    let (now, known, so_far) = c.loop-field.invariant input items has in
+    let step = (rw c.in-Ok.is at c.in-Some.ensures.steps).0 in
+    omega
+    (arith, (so_far_place c.args.offset c.args.bytes.now items now c.loop-field.field-iterator.to_come so_far c.next.new.self.to_come c.in-Ok.field step).1)
 
 pub loop-field-preserved : goal.loop-field-preserved
 loop-field-preserved g c = λ input items has.
-    let so_far = c.loop-field.invariant input items has in
-    let more = c.in_ok-take_field-in-Ok.ensures.items input so_far.0 so_far.1 in
-    (more.0, more.1, so_far_step c.args.offset c.args.bytes.now items so_far.0 more.0 _ _ c.in-Ok.field so_far.2 (rw c.in-Ok.is at c.in-Some.ensures.steps).0 more.3 more.2)
+    let (now, known, so_far) = c.loop-field.invariant input items has in
+    let more = c.in_ok-take_field-in-Ok.ensures.items input now known in
+    let step = (rw c.in-Ok.is at c.in-Some.ensures.steps).0 in
+    (more.0, more.1, so_far_step c.args.offset c.args.bytes.now items now _ so_far _ c.in-Ok.field step more.0 more.3 more.2)
 
 pub returns-in_err-take_field-in-Ok-clause-fault : goal.returns-in_err-take_field-in-Ok-clause-fault
 returns-in_err-take_field-in-Ok-clause-fault g c = λ input items has.
     let p = err_from_is_err_and c.from_residual.result c.from_residual.ensures.1 in
-    let so_far = c.loop-field.invariant input items has in
+    let (now, known, so_far) = c.loop-field.invariant input items has in
+    let step = (rw c.in-Ok.is at c.in-Some.ensures.steps).0 in
     rw (p.1, p.2)
-    (so_far_fails c.args.offset c.args.bytes.now items so_far.0 c.loop-field.field-iterator.to_come c.next.new.self.to_come c.in-Ok.field _ so_far.2 (rw c.in-Ok.is at c.in-Some.ensures.steps).0 (c.in_err-take_field-in-Ok.ensures.fault input so_far.0 so_far.1))
+    (so_far_fails c.args.offset c.args.bytes.now items now c.loop-field.field-iterator.to_come so_far c.next.new.self.to_come c.in-Ok.field step _
+    (c.in_err-take_field-in-Ok.ensures.fault input now known))
 
 pub returns-in-Err-clause-judged : goal.returns-in-Err-clause-judged
 returns-in-Err-clause-judged g c = λ input items has.
-    let so_far = c.loop-field.invariant input items has in
-    judged_there (g.T.Taker.has_taken input c.loop-field.taker) c.args.offset c.args.bytes.now items so_far.0 c.judge_rest.result so_far.1
-    (so_far_rest c.args.offset c.args.bytes.now items so_far.0 c.loop-field.field-iterator.to_come c.next.new.self.to_come c.in-Err.fault _ so_far.2 (rw c.in-Err.is at c.in-Some.ensures.steps).0 c.judge_rest.ensures.unfinished)
+    let (now, known, so_far) = c.loop-field.invariant input items has in
+    let step = (rw c.in-Err.is at c.in-Some.ensures.steps).0 in
+    judged_there (g.T.Taker.has_taken input c.loop-field.taker) c.args.offset c.args.bytes.now items now c.judge_rest.result known
+    (so_far_rest c.args.offset c.args.bytes.now items now c.loop-field.field-iterator.to_come so_far c.next.new.self.to_come c.in-Err.fault step _ c.judge_rest.ensures.unfinished)
 
 pub returns-in-Err-clause-fault : goal.returns-in-Err-clause-fault
 returns-in-Err-clause-fault g c = λ input items has.
-    let so_far = c.loop-field.invariant input items has in
-    so_far_broken c.args.offset c.args.bytes.now items so_far.0 c.loop-field.field-iterator.to_come c.next.new.self.to_come c.in-Err.fault _ so_far.2 (rw c.in-Err.is at c.in-Some.ensures.steps).0 c.judge_rest.ensures.fault
+    let (now, known, so_far) = c.loop-field.invariant input items has in
+    let step = (rw c.in-Err.is at c.in-Some.ensures.steps).0 in
+    so_far_broken c.args.offset c.args.bytes.now items now c.loop-field.field-iterator.to_come so_far c.next.new.self.to_come c.in-Err.fault step _ c.judge_rest.ensures.fault
 
 pub returns-clause-judged : goal.returns-clause-judged
 returns-clause-judged g c = λ input items has.
-    let so_far = c.loop-field.invariant input items has in
-    (so_far.0, so_far.1, so_far_ends c.args.offset c.args.bytes.now items so_far.0 c.loop-field.field-iterator.to_come c.next.new.self.to_come so_far.2 c.in-None.ensures.steps.0)
+    let (now, known, so_far) = c.loop-field.invariant input items has in
+    (now, known, so_far_ends c.args.offset c.args.bytes.now items now c.loop-field.field-iterator.to_come so_far c.next.new.self.to_come c.in-None.ensures.steps.0)

@@ -8,5 +8,6 @@ use Rattle.mvt_tile.proofs.validity.is_repeated.Goals as goal
 
 pub returns-in-Layer : goal.returns-in-Layer
 returns-in-Layer c =
-    c.has_layer.ensures ∙ ap (λ t. list_any (is_named t) c.args.before.now) c.as_str.ensures.text ∙ repeats_named c.in-Layer.layer.name c.args.before.now
+    c.has_layer.ensures ∙ ap (λ t. list_any (is_named t) c.args.before.now) c.as_str.ensures.text
+    ∙ repeats_named c.in-Layer.layer.name c.args.before.now
     ∙ ap (λ i. repeats (flat_map names_in c.args.before.now) (names_in i)) (sym c.in-Layer.is)

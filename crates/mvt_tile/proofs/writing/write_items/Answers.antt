@@ -8,7 +8,8 @@ pub returns-in_err-write_item-clause-never : goal.returns-in_err-write_item-clau
 returns-in_err-write_item-clause-never g c =
     let p = err_from_is_err_and c.from_residual.result c.from_residual.ensures.1 in
     λ h. (let large = c.in_err-write_item.ensures.too_large (let k = rw p.1 at h in let q = p.2 in cc) in
-    omega (arith, payload_within c.args.items.now c.loop-item.item-index c.item-item.result c.loop-item-test.true c.item-item.is, c.requires.small))
+    omega
+    (arith, payload_within c.args.items.now c.loop-item.item-index c.item-item.result c.loop-item-test.true c.item-item.is, c.requires.small))
 
 pub returns-in_err-write_item-clause-prefix : goal.returns-in_err-write_item-clause-prefix
 returns-in_err-write_item-clause-prefix g c =

@@ -15,7 +15,8 @@ returns-in_err-items_len-clause-too_large g c =
     )
 
 pub returns-clause-taken : goal.returns-clause-taken
-returns-clause-taken g c = rw (canonical_is c.args.tile.now c.as_slice-items.result.now c.as_slice-items.ensures) c.write_items.ensures.taken
+returns-clause-taken g c =
+    rw (canonical_is c.args.tile.now c.as_slice-items.result.now c.as_slice-items.ensures) c.write_items.ensures.taken
 
 pub returns-clause-small : goal.returns-clause-small
 returns-clause-small g c =
@@ -29,4 +30,5 @@ returns-clause-small g c =
         ]
 
 pub returns-clause-prefix : goal.returns-clause-prefix
-returns-clause-prefix g c = rw (canonical_is c.args.tile.now c.as_slice-items.result.now c.as_slice-items.ensures) c.write_items.ensures.prefix
+returns-clause-prefix g c =
+    rw (canonical_is c.args.tile.now c.as_slice-items.result.now c.as_slice-items.ensures) c.write_items.ensures.prefix

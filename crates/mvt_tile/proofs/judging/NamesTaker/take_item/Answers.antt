@@ -10,9 +10,11 @@ returns-in_ok-text_of-in-Ok-clause-item c = λ input items are.
     let d = c.args.payload.now in
     let (item, is) = item_or_fault_there d c.args.payload_at c.args.tag_at c.in-Ok.ensures.ok in
     let named = item_names d item is ∙ sym (ap option_to_list c.in_ok-text_of-in-Ok.ensures ∙ c.in-Ok.ensures.names) in
-    on_ok_weaker c.add.result (λ added. let new = added items item are named in (items ++ item ∷ [], new.0, (item, refl, is, new.1))) c.add.ensures.added
+    on_ok_weaker c.add.result
+    (λ added. let new = added items item are named in (items ++ item ∷ [], new.0, (item, refl, is, new.1))) c.add.ensures.added
 
 pub returns-in_ok-text_of-in-Ok-clause-fault : goal.returns-in_ok-text_of-in-Ok-clause-fault
 returns-in_ok-text_of-in-Ok-clause-fault c = λ input items are.
     let named = ap option_to_list c.in_ok-text_of-in-Ok.ensures ∙ c.in-Ok.ensures.names in
-    IfErr-weaker c.add.result _ _ (λ e told. tells_name e _ _ _ c.args.payload.now _ _ c.in-Ok.ensures.ok named (told items are)) c.add.ensures.fault
+    IfErr-weaker c.add.result _ _
+    (λ e told. tells_name e _ _ _ c.args.payload.now _ _ c.in-Ok.ensures.ok named (told items are)) c.add.ensures.fault

@@ -13,7 +13,8 @@ pub invariant_of-self-2 : goal.invariant_of-self-2
 invariant_of-self-2 c =
     let items = c.self.inside.items.items in
     let longer : c.push.new.self.items ≡ items ++ c.args.item ∷ [] = search rules in
-    let new = c.in_ok-add.ensures.added items c.args.item (kept_named _ _ _ c.self.invariant.0 c.self.invariant.1) (sym c.in_ok-name_of.ensures) in
+    let new =
+    c.in_ok-add.ensures.added items c.args.item (kept_named _ _ _ c.self.invariant.0 c.self.invariant.1) (sym c.in_ok-name_of.ensures) in
     (kept_more _ _ _ items _ c.args.item c.self.invariant.0 c.requires.valid longer new, new.0.counted ∙ ap length (sym longer))
 
 pub returns-clause-new : goal.returns-clause-new

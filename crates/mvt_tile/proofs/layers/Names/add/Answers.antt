@@ -10,4 +10,6 @@ returns-then-not-branch-clause-fault c = λ items are.
 pub returns-clause-added : goal.returns-clause-added
 returns-clause-added c = λ items item are named.
     let is_new = c.if-not-branch.false in
-    name_new c.args.self.now.count c.args.self.now.names.keys (option_to_list c.args.name) items _ are c.in_ok-add_name.ensures.new c.add_name.new.names.keys item named is_new (c.in_ok-add_name.ensures.named is_new)
+    name_new c.args.self.now.count c.args.self.now.names.keys
+    (option_to_list c.args.name) items _ are c.in_ok-add_name.ensures.new c.add_name.new.names.keys item named is_new
+    (c.in_ok-add_name.ensures.named is_new)

@@ -11,4 +11,5 @@ behind_next-requires-clause-small c =
 
 pub returns : goal.returns
 returns c = λ input items found count.
-    on_ok_weaker c.note_item.result (λ noted. found_more 67108864 input c.args.self.now (record { features = c.args.self.now.features + c.feature_count.result; behind = c.in_ok-self.field-0; notes = c.note_item.new.notes }) items c.args.item.now c.feature_count.result c.args.index found count c.feature_count.ensures (omega arith) refl (c.in_ok-self.ensures input (written items) found.behind) noted) c.note_item.ensures
+    on_ok_weaker c.note_item.result
+    (λ noted. found_more 67108864 input c.args.self.now (record { features = c.args.self.now.features + c.feature_count.result; behind = c.in_ok-self.field-0; notes = c.note_item.new.notes }) items c.args.item.now c.feature_count.result c.args.index found count c.feature_count.ensures (omega arith) refl (c.in_ok-self.ensures input (written items) found.behind) noted) c.note_item.ensures
