@@ -1,6 +1,6 @@
 -- The rules that bind the tags of a feature (4.4), as tables. A fault is an index into the tags and the
 -- rule that is broken there.
-use Rattle.std.specs.Prelude.{◌≡◌, ℕ, ◌+◌, ◌*◌, ◌%◌, ◌==◌, nat_le, Bool, false, ◌||◌, List, [], ◌∷◌, length, Option, Some, slice_get, bytes_eq, ⊤}
+use Rattle.std.specs.Prelude.{◌≡◌, ℕ, ◌+◌, ◌*◌, ◌%◌, ◌==◌, nat_le, Bool, false, ◌||◌, List, [], ◌∷◌, length, Option, Some, None, slice_get, bytes_eq}
 use Rattle.std.specs.List.{list_any}
 use Rattle.mvt_base.specs.Rules.{Rules, when, rows, each, first}
 use Rattle.mvt_attrs.specs.declared.value.Value.{Value}
@@ -51,7 +51,7 @@ tag_rules keys values tags = rows ((2, count_rules tags) ∷ ((3, pair_rules key
 unfoldable pub tag_fault : List (List ℕ) → List Value → List ℕ → Option (ℕ × TagCause)
 tag_fault keys values tags = first (tag_rules keys values tags)
 
--- an error tells this fault; want of memory says nothing of it
-abbrev pub Tells : TagError → Option (ℕ × TagCause) → Type 0
-Tells Memory fault = ⊤
-Tells (Fault index cause) fault = fault ≡ Some (index, cause)
+-- the fault that an error tells
+abbrev pub fault_of : TagError → Option (ℕ × TagCause)
+fault_of Memory = None
+fault_of (Fault index cause) = Some (index, cause)

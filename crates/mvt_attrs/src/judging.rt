@@ -1,7 +1,8 @@
 //! Whether tags name attributes: one pass over them, which builds nothing.
 ghost use Rattle.std.specs.Prelude.{◌≡◌, ◌+◌, ◌≤◌, List, length, None, IfErr, OnOk};
+ghost use Rattle.mvt_base.specs.Tells.{Tells};
 ghost use Rattle.mvt_attrs.specs.declared.value.Value.{Value};
-ghost use Rattle.mvt_attrs.specs.TagRules.{tag_fault, Tells};
+ghost use Rattle.mvt_attrs.specs.TagRules.{tag_fault, fault_of};
 ghost use Rattle.mvt_attrs.specs.Inner.Marking.{IsGrouped, AreBelow};
 
 use crate::layer_keys::{LayerKeys, make_ready, mark, next_turn};
@@ -25,7 +26,7 @@ pub fn judge_tags(
 ) -> Result<(), TagError>
     ensures ok { OnOk result ((held : List Value) → length held ≡ values → tag_fault keys.old held tags.now ≡ None) }
     ensures err { IfErr result (λ error. (held : List Value) → length held ≡ values
-        → Tells error (tag_fault keys.old held tags.now)) }
+        → Tells (fault_of error) (tag_fault keys.old held tags.now)) }
     ensures same { keys.new ≡ keys.old }
 {
     let texts = keys.texts;
@@ -51,7 +52,7 @@ fn judge_pair(texts: &[Text], values: usize, tags: &[u32]) -> Result<(), TagErro
     requires { length tags.now ≤ 2 }
     ensures ok { OnOk result ((held : List Value) → length held ≡ values → tag_fault texts.now held tags.now ≡ None) }
     ensures err { IfErr result (λ error. (held : List Value) → length held ≡ values
-        → Tells error (tag_fault texts.now held tags.now)) }
+        → Tells (fault_of error) (tag_fault texts.now held tags.now)) }
 {
     match tags {
         [] => Ok(()),
@@ -82,7 +83,7 @@ fn judge_marked(
     requires fresh { AreBelow marks.old turn }
     ensures ok { OnOk result ((held : List Value) → length held ≡ values → tag_fault texts.now held tags.now ≡ None) }
     ensures err { IfErr result (λ error. (held : List Value) → length held ≡ values
-        → Tells error (tag_fault texts.now held tags.now)) }
+        → Tells (fault_of error) (tag_fault texts.now held tags.now)) }
     ensures below { AreBelow marks.new (turn + 1) }
 {
     if tags.len() % 2 == 1 {

@@ -1,7 +1,8 @@
 //! Tags resolved to the attributes that they name.
 ghost use Rattle.std.specs.Prelude.{◌≡◌, length, None, IfOk, IfErr, OnOk};
+ghost use Rattle.mvt_base.specs.Tells.{Tells};
 ghost use Rattle.mvt_attrs.specs.Tags.{Resolved};
-ghost use Rattle.mvt_attrs.specs.TagRules.{tag_fault, Tells};
+ghost use Rattle.mvt_attrs.specs.TagRules.{tag_fault, fault_of};
 
 use crate::judging::judge_tags;
 use crate::layer_keys::LayerKeys;
@@ -102,7 +103,7 @@ pub fn resolve(
 ) -> Result<Vec<Attribute>, TagError>
     ensures attributes { IfOk result (λ found. Resolved keys.now values.now tags.now found.items) }
     ensures ok { OnOk result (tag_fault keys.now values.now tags.now ≡ None) }
-    ensures err { IfErr result (λ error. Tells error (tag_fault keys.now values.now tags.now)) }
+    ensures err { IfErr result (λ error. Tells (fault_of error) (tag_fault keys.now values.now tags.now)) }
 {
     resolve_in(alloc, &mut LayerKeys::new(alloc, keys), values, tags)
 }
@@ -120,7 +121,7 @@ pub fn resolve_in(
 ) -> Result<Vec<Attribute>, TagError>
     ensures attributes { IfOk result (λ found. Resolved keys.old values.now tags.now found.items) }
     ensures ok { OnOk result (tag_fault keys.old values.now tags.now ≡ None) }
-    ensures err { IfErr result (λ error. Tells error (tag_fault keys.old values.now tags.now)) }
+    ensures err { IfErr result (λ error. Tells (fault_of error) (tag_fault keys.old values.now tags.now)) }
     ensures same { keys.new ≡ keys.old }
 {
     judge_tags(alloc, keys, values.len(), tags)?;

@@ -3,6 +3,7 @@ use Rattle.std.proofs.Common.{◌≡◌, ℕ, ◌+◌, ◌^◌, ◌<◌, ◌==�
 use Rattle.std.specs.List.{AllByRecursion, flat_map}
 use Rattle.std.specs.Option.{option_or, option_map}
 use Rattle.std.proofs.lemmas.Bool.{eqb-true, ltb-true, lt-ltb, not-false}
+use Rattle.mvt_base.specs.Tells.{Tells}
 use Rattle.mvt_base.specs.Rules.{when, under, told, each, first}
 use Rattle.mvt_base.proofs.ListLemmas.{all_weaker, all_joined}
 use Rattle.mvt_base.proofs.RuleLemmas.{first-under, first-told, first-when_not, option_or-none, option_or-right, option_or-some}
@@ -11,7 +12,7 @@ use Rattle.mvt_attrs.specs.declared.value.Value.{Value}
 use Rattle.mvt_attrs.specs.declared.resolving.TagError.{TagError}
 use Rattle.mvt_attrs.specs.declared.resolving.TagError.TheVariants as tag_errors
 use Rattle.mvt_attrs.specs.Tags.{Resolved}
-use Rattle.mvt_attrs.specs.TagRules.{count_rules, pair_rules, tag_fault, Tells as TellsTags}
+use Rattle.mvt_attrs.specs.TagRules.{count_rules, pair_rules, tag_fault, fault_of as fault_of_tags}
 use Rattle.mvt_geometry.specs.declared.shape.Kind.{Kind}
 use Rattle.mvt_geometry.specs.declared.fault.GeometryError.{GeometryError}
 use Rattle.mvt_geometry.specs.declared.fault.GeometryError.TheVariants as geometry_errors
@@ -27,7 +28,7 @@ use Rattle.mvt_feature.specs.declared.feature.Feature.{Feature}
 use Rattle.mvt_feature.specs.declared.known.Known.{Known}
 use Rattle.mvt_feature.specs.declared.message_error.MessageError.{MessageError}
 use Rattle.mvt_feature.specs.Causes.{of_packed}
-use Rattle.mvt_feature.specs.Faults.{MessageFault, fault_at, rest_rules, TellsMessage}
+use Rattle.mvt_feature.specs.Faults.{MessageFault, fault_at, rest_rules, fault_of}
 use Rattle.mvt_feature.specs.Features.{AreNumbers, Joined, IsFeatureOf}
 use Rattle.mvt_feature.specs.FeatureRules.{numbers_of, joined, list_rules, feature_form_rules, feature_field_rules, tag_told, geometry_told, kind_in, feature_table, feature_rules, feature_fault}
 use Rattle.mvt_feature.specs.Inner.{IsKnown}
@@ -94,10 +95,10 @@ feature_chain payload payload_at keys values =
 
 -- the exits of `read_feature_in`
 pub known_told : (payload : List ℕ) (payload_at : ℕ) (keys : List (List ℕ)) (values : List Value) (e : MessageError)
-    → TellsMessage e (option_or (rest_fault payload payload_at) (fields_fault payload payload_at))
-    → TellsMessage e (feature_fault payload payload_at keys values)
+    → Tells (fault_of e) (option_or (rest_fault payload payload_at) (fields_fault payload payload_at))
+    → Tells (fault_of e) (feature_fault payload payload_at keys values)
 known_told payload payload_at keys values e h =
-    subst (λ o. TellsMessage e o) (sym (feature_chain payload payload_at keys values))
+    subst (λ o. Tells (fault_of e) o) (sym (feature_chain payload payload_at keys values))
     (tells_front e (rest_fault payload payload_at) (fields_fault payload payload_at)
     (option_or (tags_fault payload keys values) (drawing_fault payload)) h)
 
@@ -123,13 +124,13 @@ module _ {payload : List ℕ} {payload_at : ℕ} {known : Known} {tags integers 
       behind_fields ∙ option_or-none _ _ (ap (option_map tag_told) (tags_are ∙ resolved))
       ∙ ap (option_map geometry_told) (ap₂ geometry_fault (sym says.known_is.kind) (sym says.known_is.integers_are))
 
-  pub tags_told : (e : TagError) → TellsTags e (tag_fault keys values tags)
-      → TellsMessage (of_tag_error e) (feature_fault payload payload_at keys values)
+  pub tags_told : (e : TagError) → Tells (fault_of_tags e) (tag_fault keys values tags)
+      → Tells (fault_of (of_tag_error e)) (feature_fault payload payload_at keys values)
   tags_told tag_errors.Memory h = tt
   tags_told (tag_errors.Fault index cause) h = behind_fields ∙ option_or-some _ _ _ (ap (option_map tag_told) (tags_are ∙ h))
 
   pub drawing_told : (e : GeometryError) → tag_fault keys values tags ≡ None → TellsGeometry e (geometry_fault known.kind integers)
-      → TellsMessage (of_geometry_error e) (feature_fault payload payload_at keys values)
+      → Tells (fault_of (of_geometry_error e)) (feature_fault payload payload_at keys values)
   drawing_told geometry_errors.Memory resolved h = tt
   drawing_told (geometry_errors.Fault index cause) resolved h = behind_tags resolved ∙ ap (option_map geometry_told) h
 

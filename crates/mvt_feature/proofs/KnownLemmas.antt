@@ -5,6 +5,7 @@ use Rattle.std.specs.List.{flat_map}
 use Rattle.std.specs.Option.{option_map}
 use Rattle.std.proofs.lemmas.Grind.{flat_map-append}
 use Rattle.std.proofs.lemmas.List.Elements.{filter-append}
+use Rattle.mvt_base.specs.Tells.{Tells}
 use Rattle.mvt_base.specs.Rules.{each, first}
 use Rattle.mvt_base.proofs.RuleLemmas.{each_more, each_stops, first-told}
 use Rattle.mvt_base.proofs.SelectionLemmas.{last_only-more}
@@ -13,7 +14,7 @@ use Rattle.mvt_feature.specs.declared.numbers.feature.TheConstants.{ID, TAGS, TY
 use Rattle.mvt_feature.specs.declared.known.Known.{Known}
 use Rattle.mvt_feature.specs.declared.message_error.MessageError.{MessageError}
 use Rattle.mvt_feature.specs.declared.message_error.MessageError.TheVariants.{Memory, Fault}
-use Rattle.mvt_feature.specs.Faults.{MessageFault, fault_at, TellsMessage}
+use Rattle.mvt_feature.specs.Faults.{MessageFault, fault_at, fault_of}
 use Rattle.mvt_feature.specs.Features.{number_of, number_in, kind_of_type}
 use Rattle.mvt_feature.specs.FeatureRules.{numbers_of, joined, kind_in, feature_form_rules, feature_field_rules}
 use Rattle.mvt_feature.specs.Selection.{only, last_only}
@@ -70,7 +71,7 @@ field_first payload_at x = first-told (fault_at (payload_at + x.at)) (feature_fo
 
 -- a fault stays before the rules of later fields
 pub tells_as : (e : MessageError) (o : Option MessageFault) (p : Option MessageFault)
-    → ((f : MessageFault) → o ≡ Some f → p ≡ Some f) → TellsMessage e o → TellsMessage e p
+    → ((f : MessageFault) → o ≡ Some f → p ≡ Some f) → Tells (fault_of e) o → Tells (fault_of e) p
 tells_as Memory o p keep h = tt
 tells_as (Fault feature at cause) o p keep h = keep _ h
 
@@ -90,7 +91,7 @@ pub known_with : (payload_at : ℕ) (done : List Entry) (x : Entry) (old : Known
     → IfOk r (λ (k : Known). k.kind ≡ kind_after old.kind x.number x.content)
     → OnOk r (new_tags ≡ tags ++ numbers_at TAGS x.number x.content)
     → OnOk r (new_integers ≡ integers ++ numbers_at GEOMETRY x.number x.content)
-    → IfErr r (λ e. TellsMessage e (option_map (fault_at (payload_at + x.at)) (first (feature_form_rules x.number x.content))))
+    → IfErr r (λ e. Tells (fault_of e) (option_map (fault_at (payload_at + x.at)) (first (feature_form_rules x.number x.content))))
     → IsKnownSoFar payload_at (done ++ x ∷ []) r new_tags new_integers
 known_with payload_at done x old tags integers new_tags new_integers (Ok new) so_far clean id kind tags_are integers_are told_here = (
   each_more (λ _. feature_field_rules payload_at) done x so_far.0 ∙ field_first payload_at x

@@ -4,6 +4,7 @@ use Rattle.std.specs.Int.{w64, cast_signed}
 use Rattle.std.specs.List.{AllByRecursion, list_all, last_or}
 use Rattle.std.specs.Option.{option_or}
 use Rattle.std.proofs.lemmas.Bool.{eqb-true, eq-eqb, ne_eqb, cases_eq, and_parts, and_from, leb-true, le-leb, not-false, false_from_ne_true, both_ways}
+use Rattle.mvt_base.specs.Tells.{Tells}
 use Rattle.mvt_base.specs.Rules.{AreOrdered, IsLeast, when, each, first}
 use Rattle.mvt_base.proofs.RuleLemmas.{first-when, first-when_not, option_or-none, option_or-nones, option_or-right}
 use Rattle.mvt_base.proofs.ListLemmas.{all_weaker}
@@ -21,7 +22,7 @@ use Rattle.mvt_base.proofs.TableLemmas.{firsts, first-rows_all, when_none, none_
 use Rattle.mvt_base.proofs.SelectionLemmas.{only_number, only_all, last_of_all, last_there}
 use Rattle.mvt_feature.proofs.WalkLemmas.{rest_none, none_rest}
 use Rattle.mvt_feature.specs.declared.cause.Cause.TheVariants.{ValueKind}
-use Rattle.mvt_feature.specs.Faults.{MessageFault, fault_at, rest_rules, rest_rules_at, TellsMessage}
+use Rattle.mvt_feature.specs.Faults.{MessageFault, fault_at, rest_rules, rest_rules_at, fault_of}
 use Rattle.mvt_feature.specs.declared.message_error.MessageError.{MessageError}
 use Rattle.mvt_feature.specs.declared.message_error.MessageError.TheVariants.{Memory, Fault}
 use Rattle.mvt_feature.specs.Selection.{only, last_only}
@@ -47,18 +48,18 @@ front_some None (Some x) d f h = h
 front_some (Some x) b d f h = h
 
 -- a fault of the first rows
-pub tells_front : (e : MessageError) (a b d : Option MessageFault) → TellsMessage e (option_or a b)
-    → TellsMessage e (option_or a (option_or b d))
+pub tells_front : (e : MessageError) (a b d : Option MessageFault) → Tells (fault_of e) (option_or a b)
+    → Tells (fault_of e) (option_or a (option_or b d))
 tells_front Memory a b d h = tt
 tells_front (Fault feature at cause) a b d h = front_some a b d _ h
 
 pub tells_value : (payload : List ℕ) (payload_at tag_at : ℕ) (e : MessageError)
-    → TellsMessage e
+    → Tells (fault_of e)
     (option_or (first (rest_rules payload_at (split payload)))
     (first (each (λ _. value_field_rules payload_at) [] (split payload).fields)))
-    → TellsMessage e (value_fault payload payload_at tag_at)
+    → Tells (fault_of e) (value_fault payload payload_at tag_at)
 tells_value payload payload_at tag_at e h =
-    subst (λ o. TellsMessage e o) (sym (value_chain payload payload_at tag_at))
+    subst (λ o. Tells (fault_of e) o) (sym (value_chain payload payload_at tag_at))
     (tells_front e (first (rest_rules payload_at (split payload)))
     (first (each (λ _. value_field_rules payload_at) [] (split payload).fields))
     (option_or (first (when (not (are_one_kind (kinds (split payload).fields))) (fault_at tag_at ValueKind))) None) h)

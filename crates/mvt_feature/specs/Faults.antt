@@ -1,5 +1,5 @@
 -- A fault of a message: the feature in which it stands, its place and the broken rule.
-use Rattle.std.specs.Prelude.{◌≡◌, ℕ, ◌+◌, List, [], ◌∷◌, Option, Some, None, true, ⊤}
+use Rattle.std.specs.Prelude.{◌≡◌, ℕ, ◌+◌, List, [], ◌∷◌, Option, Some, None, true}
 use Rattle.mvt_base.specs.Rules.{Rules, when}
 use Rattle.mvt_wire.specs.Fronts.{rest_cause}
 use Rattle.mvt_wire.specs.Split.{Parts}
@@ -25,10 +25,10 @@ fault_at at cause = record { feature = None; at = at; cause = cause }
 abbrev pub in_feature : ℕ → MessageFault → MessageFault
 in_feature n fault = record { feature = Some n; at = fault.at; cause = fault.cause }
 
--- an error tells this fault; want of memory says nothing of it
-abbrev pub TellsMessage : MessageError → Option MessageFault → Type 0
-TellsMessage Memory fault = ⊤
-TellsMessage (Fault feature at cause) fault = fault ≡ Some (record { feature = feature; at = at; cause = cause })
+-- the fault that an error tells
+abbrev pub fault_of : MessageError → Option MessageFault
+fault_of Memory = None
+fault_of (Fault feature at cause) = Some (record { feature = feature; at = at; cause = cause })
 
 -- a payload, whose first byte stands at `payload_at`, has no bytes behind its fields
 abbrev pub rest_rules_at : ℕ → List ℕ → Rules MessageFault

@@ -1,13 +1,14 @@
 //! The known fields of a feature (Mapbox Vector Tile Specification 2.1, 4.1, message Feature).
 ghost use Rattle.std.specs.Prelude.{◌≡◌, ◌+◌, ◌^◌, ◌<◌, [], ◌++◌, length, Option, Some, None, IfOk, IfErr, OnOk};
 ghost use Rattle.std.specs.Option.{option_or, option_map};
+ghost use Rattle.mvt_base.specs.Tells.{Tells};
 ghost use Rattle.mvt_base.specs.Rules.{each, first};
 ghost use Rattle.mvt_wire.specs.Field.{content_of};
-ghost use Rattle.mvt_wire.specs.Packed.{PackedCause, TellsPacked};
+ghost use Rattle.mvt_wire.specs.Packed.{PackedCause, fault_of as packed_fault_of};
 ghost use Rattle.mvt_wire.specs.Split.{split};
 ghost use Rattle.mvt_feature.specs.declared.numbers.feature.TheConstants.{TAGS, GEOMETRY};
 ghost use Rattle.mvt_feature.specs.Causes.{of_packed};
-ghost use Rattle.mvt_feature.specs.Faults.{TellsMessage, fault_at as the_fault_at, rest_rules};
+ghost use Rattle.mvt_feature.specs.Faults.{fault_of, fault_at as the_fault_at, rest_rules};
 ghost use Rattle.mvt_feature.specs.Features.{number_of, kind_of_type};
 ghost use Rattle.mvt_feature.specs.FeatureRules.{numbers_of, list_rules, feature_form_rules, feature_field_rules};
 ghost use Rattle.mvt_feature.specs.Forms.{any_varint, geom_type, form_rules};
@@ -39,7 +40,7 @@ pub(crate) fn read_known(
     ensures whole { OnOk result ((split payload.now).rest ≡ []) }
     ensures ok { OnOk result (first (each (λ _. feature_field_rules payload_at) [] (split payload.now).fields) ≡ None) }
     ensures known { IfOk result (λ known. IsKnown (split payload.now).fields known scratch.new.tags.items scratch.new.integers.items) }
-    ensures err { IfErr result (λ error. TellsMessage error (option_or
+    ensures err { IfErr result (λ error. Tells (fault_of error) (option_or
         (first (rest_rules payload_at (split payload.now)))
         (first (each (λ _. feature_field_rules payload_at) [] (split payload.now).fields)))) }
 {
@@ -72,7 +73,7 @@ impl Known {
             (scratch.new.tags.items ≡ scratch.old.tags.items ++ numbers_at TAGS field.now.number (content_of field.now.payload)) }
         ensures integers { OnOk result
             (scratch.new.integers.items ≡ scratch.old.integers.items ++ numbers_at GEOMETRY field.now.number (content_of field.now.payload)) }
-        ensures err { IfErr result (λ error. TellsMessage error
+        ensures err { IfErr result (λ error. Tells (fault_of error)
             (option_map (the_fault_at at) (first (feature_form_rules field.now.number (content_of field.now.payload))))) }
     {
         let payload = &field.payload;
@@ -92,7 +93,7 @@ impl Known {
 fn id_of(payload: &Payload<'_>, at: u64) -> Result<u64, MessageError>
     ensures number { IfOk result (λ n. number_of (content_of payload.now) ≡ Some n) }
     ensures ok { OnOk result (first (form_rules any_varint (content_of payload.now)) ≡ None) }
-    ensures err { IfErr result (λ error. TellsMessage error (option_map (the_fault_at at) (first (form_rules any_varint (content_of payload.now))))) }
+    ensures err { IfErr result (λ error. Tells (fault_of error) (option_map (the_fault_at at) (first (form_rules any_varint (content_of payload.now))))) }
 {
     match varint_of(payload) {
         Ok(number) => Ok(number),
@@ -104,7 +105,7 @@ fn id_of(payload: &Payload<'_>, at: u64) -> Result<u64, MessageError>
 fn kind_of_payload(payload: &Payload<'_>, at: u64) -> Result<Kind, MessageError>
     ensures kind { IfOk result (λ kind. kind ≡ kind_of_type (number_of (content_of payload.now))) }
     ensures ok { OnOk result (first (form_rules geom_type (content_of payload.now)) ≡ None) }
-    ensures err { IfErr result (λ error. TellsMessage error (option_map (the_fault_at at) (first (form_rules geom_type (content_of payload.now))))) }
+    ensures err { IfErr result (λ error. Tells (fault_of error) (option_map (the_fault_at at) (first (form_rules geom_type (content_of payload.now))))) }
 {
     let Payload::Varint(number) = payload else {
         return Err(fault_at(at, Cause::WrongType));
@@ -127,7 +128,7 @@ fn append_numbers(
 ) -> Result<(), MessageError>
     ensures numbers { OnOk result (numbers.new.items ≡ numbers.old.items ++ numbers_of (content_of payload.now)) }
     ensures ok { OnOk result (first (list_rules (content_of payload.now)) ≡ None) }
-    ensures err { IfErr result (λ error. TellsMessage error (option_map (the_fault_at at) (first (list_rules (content_of payload.now))))) }
+    ensures err { IfErr result (λ error. Tells (fault_of error) (option_map (the_fault_at at) (first (list_rules (content_of payload.now))))) }
 {
     match payload {
         Payload::Varint(number) => {
@@ -148,8 +149,8 @@ fn append_numbers(
 
 /// A fault of packed numbers, told at the field's place.
 fn packed_fault(error: PackedError, at: u64) -> MessageError
-    ensures { (cause : Option PackedCause) → TellsPacked error cause
-        → TellsMessage result (option_map (λ c. the_fault_at at (of_packed c)) cause) }
+    ensures { (cause : Option PackedCause) → Tells (packed_fault_of error) cause
+        → Tells (fault_of result) (option_map (λ c. the_fault_at at (of_packed c)) cause) }
 {
     match error {
         PackedError::Memory => MessageError::Memory,

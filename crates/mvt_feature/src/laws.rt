@@ -1,6 +1,7 @@
 //! Laws about the definitions alone: functions without effect, whose contract is the law.
 ghost use Rattle.std.specs.Prelude.{◌≡◌, ◌==◌, ◌↔◌, ℕ, ◌+◌, ◌^◌, ◌<◌, ◌≤◌, List, [], ◌∷◌, ◌++◌, length, Option, None, Some, if◌then◌else◌, Ok, Err, IsUtf8};
 ghost use Rattle.std.specs.List.{AllByRecursion};
+ghost use Rattle.mvt_base.specs.Tells.{Tells};
 ghost use Rattle.mvt_base.specs.Rules.{AreOrdered, IsLeast, each, first};
 ghost use Rattle.mvt_attrs.specs.declared.value.Value.{Value};
 ghost use Rattle.mvt_feature.specs.declared.feature.Feature.{Feature};
@@ -17,7 +18,7 @@ ghost use Rattle.mvt_feature.specs.declared.message_error.MessageError.{MessageE
 ghost use Rattle.mvt_feature.specs.Causes.{of_wire};
 ghost use Rattle.mvt_feature.specs.Canonical.{value_fields, feature_fields};
 ghost use Rattle.mvt_feature.specs.Bounds.{feature_bound};
-ghost use Rattle.mvt_feature.specs.Faults.{MessageFault, TellsMessage, fault_at, rest_rules};
+ghost use Rattle.mvt_feature.specs.Faults.{MessageFault, fault_of, fault_at, rest_rules};
 ghost use Rattle.mvt_feature.specs.Forms.{Form, IsFirst, HaveForms, forms_rules};
 ghost use Rattle.mvt_feature.specs.Ranges.{AreBytes, IsInRange};
 ghost use Rattle.mvt_feature.specs.Valid.{ValidValue, ValidFeature};
@@ -136,7 +137,7 @@ pub fn walks()
 /// An error that tells a fault of its own also tells it where it is the fault of more.
 pub fn tells_as()
     ensures { (error : MessageError) (o p : Option MessageFault) → ((fault : MessageFault) → o ≡ Some fault → p ≡ Some fault)
-        → TellsMessage error o → TellsMessage error p }
+        → Tells (fault_of error) o → Tells (fault_of error) p }
 {}
 
 /// One more field is the last of its number.

@@ -1,7 +1,8 @@
 //! Reading features (Mapbox Vector Tile Specification 2.1, 4.1, message Feature).
 ghost use Rattle.std.specs.Prelude.{◌≡◌, ◌+◌, ◌^◌, ◌<◌, List, length, None, IfOk, IfErr, OnOk};
+ghost use Rattle.mvt_base.specs.Tells.{Tells};
 ghost use Rattle.mvt_attrs.specs.declared.value.Value.{Value};
-ghost use Rattle.mvt_feature.specs.Faults.{TellsMessage};
+ghost use Rattle.mvt_feature.specs.Faults.{fault_of};
 ghost use Rattle.mvt_feature.specs.Features.{IsFeatureOf};
 ghost use Rattle.mvt_feature.specs.FeatureRules.{feature_fault};
 
@@ -32,7 +33,7 @@ pub fn read_feature(
     requires { payload_at + length payload.now < 2 ^ 64 }
     ensures feature { IfOk result (IsFeatureOf payload.now keys.now values.now) }
     ensures ok { OnOk result (feature_fault payload.now payload_at keys.now values.now ≡ None) }
-    ensures err { IfErr result (λ error. TellsMessage error (feature_fault payload.now payload_at keys.now values.now)) }
+    ensures err { IfErr result (λ error. Tells (fault_of error) (feature_fault payload.now payload_at keys.now values.now)) }
 {
     let mut keys = LayerKeys::new(alloc, keys);
     let mut scratch = Scratch::new(alloc);
@@ -56,7 +57,7 @@ pub fn read_feature_in(
     requires { payload_at + length payload.now < 2 ^ 64 }
     ensures feature { IfOk result (IsFeatureOf payload.now keys.old values.now) }
     ensures ok { OnOk result (feature_fault payload.now payload_at keys.old values.now ≡ None) }
-    ensures err { IfErr result (λ error. TellsMessage error (feature_fault payload.now payload_at keys.old values.now)) }
+    ensures err { IfErr result (λ error. Tells (fault_of error) (feature_fault payload.now payload_at keys.old values.now)) }
     ensures same { keys.new ≡ keys.old }
 {
     let known = read_known(payload, payload_at, scratch)?;
@@ -87,7 +88,7 @@ pub fn judge_feature(
     ensures ok { OnOk result ((held : List Value) → length held ≡ values
         → feature_fault payload.now payload_at keys.old held ≡ None) }
     ensures err { IfErr result (λ error. (held : List Value) → length held ≡ values
-        → TellsMessage error (feature_fault payload.now payload_at keys.old held)) }
+        → Tells (fault_of error) (feature_fault payload.now payload_at keys.old held)) }
     ensures same { keys.new ≡ keys.old }
 {
     let known = read_known(payload, payload_at, scratch)?;

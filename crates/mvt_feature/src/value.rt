@@ -1,10 +1,11 @@
 //! Values (Mapbox Vector Tile Specification 2.1, 4.1, message Value).
 ghost use Rattle.std.specs.Prelude.{◌≡◌, ◌+◌, ◌^◌, ◌<◌, [], length, Some, None, true, false, IfOk, IfErr, OnOk, MatchOption};
 ghost use Rattle.std.specs.Option.{option_or};
+ghost use Rattle.mvt_base.specs.Tells.{Tells};
 ghost use Rattle.mvt_base.specs.Rules.{each, first};
 ghost use Rattle.mvt_wire.specs.Field.{entry_of, content_of, varint, fixed64, fixed32, bytes};
 ghost use Rattle.mvt_wire.specs.Split.{split};
-ghost use Rattle.mvt_feature.specs.Faults.{TellsMessage, rest_rules};
+ghost use Rattle.mvt_feature.specs.Faults.{fault_of, rest_rules};
 ghost use Rattle.mvt_feature.specs.Forms.{any_varint, float, double, string, form_rules, number_rules};
 ghost use Rattle.mvt_feature.specs.Values.{value_forms, Means, IsValueOf};
 ghost use Rattle.mvt_feature.specs.ValueRules.{is_kind, value_field_rules, value_fault};
@@ -38,7 +39,7 @@ pub fn read_value(
     requires { payload_at + length payload.now < 2 ^ 64 }
     ensures value { IfOk result (IsValueOf payload.now) }
     ensures ok { OnOk result (value_fault payload.now payload_at tag_at ≡ None) }
-    ensures err { IfErr result (λ error. TellsMessage error (value_fault payload.now payload_at tag_at)) }
+    ensures err { IfErr result (λ error. Tells (fault_of error) (value_fault payload.now payload_at tag_at)) }
 {
     Ok(read_meaning(payload, payload_at, tag_at)?.into_value(alloc)?)
 }
@@ -51,7 +52,7 @@ pub fn read_value(
 pub fn judge_value(payload: &[u8], payload_at: u64, tag_at: u64) -> Result<(), MessageError>
     requires { payload_at + length payload.now < 2 ^ 64 }
     ensures ok { OnOk result (value_fault payload.now payload_at tag_at ≡ None) }
-    ensures err { IfErr result (λ error. TellsMessage error (value_fault payload.now payload_at tag_at)) }
+    ensures err { IfErr result (λ error. Tells (fault_of error) (value_fault payload.now payload_at tag_at)) }
 {
     read_meaning(payload, payload_at, tag_at)?;
     Ok(())
@@ -63,7 +64,7 @@ fn read_meaning(payload: &[u8], payload_at: u64, tag_at: u64) -> Result<Meaning<
     requires { payload_at + length payload.now < 2 ^ 64 }
     ensures value { IfOk result (λ meaning. IsValueOf payload.now (value_of meaning)) }
     ensures ok { OnOk result (value_fault payload.now payload_at tag_at ≡ None) }
-    ensures err { IfErr result (λ error. TellsMessage error (value_fault payload.now payload_at tag_at)) }
+    ensures err { IfErr result (λ error. Tells (fault_of error) (value_fault payload.now payload_at tag_at)) }
 {
     match read_kinds(payload, payload_at)? {
         Kinds::One { meaning, .. } => Ok(meaning),
@@ -100,7 +101,7 @@ fn read_kinds(payload: &[u8], payload_at: u64) -> Result<Kinds<'_>, MessageError
     ensures whole { OnOk result ((split payload.now).rest ≡ []) }
     ensures ok { OnOk result (first (each (λ _. value_field_rules payload_at) [] (split payload.now).fields) ≡ None) }
     ensures kinds { IfOk result (AreKinds (split payload.now).fields) }
-    ensures err { IfErr result (λ error. TellsMessage error (option_or
+    ensures err { IfErr result (λ error. Tells (fault_of error) (option_or
         (first (rest_rules payload_at (split payload.now)))
         (first (each (λ _. value_field_rules payload_at) [] (split payload.now).fields)))) }
 {

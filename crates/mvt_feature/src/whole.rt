@@ -1,10 +1,11 @@
 //! Payloads that don't split wholly into fields.
 ghost use Rattle.std.specs.Prelude.{◌≡◌, ◌+◌, ◌^◌, ◌<◌, length, None, Option};
 ghost use Rattle.std.specs.Option.{option_or};
+ghost use Rattle.mvt_base.specs.Tells.{Tells};
 ghost use Rattle.mvt_base.specs.Rules.{first};
 ghost use Rattle.mvt_wire.specs.Split.{split};
 ghost use Rattle.mvt_feature.specs.Causes.{of_wire};
-ghost use Rattle.mvt_feature.specs.Faults.{MessageFault, TellsMessage, rest_rules};
+ghost use Rattle.mvt_feature.specs.Faults.{MessageFault, fault_of, rest_rules};
 
 use crate::cause::Cause;
 use crate::message_error::MessageError;
@@ -23,8 +24,8 @@ pub fn rest_fault(payload_at: u64, fault: WireFault) -> MessageError
 #[inline(never)]
 pub(crate) fn rest_fault_or(payload: &[u8], payload_at: u64, error: MessageError) -> MessageError
     requires { payload_at + length payload.now < 2 ^ 64 }
-    ensures { (fault : Option MessageFault) → TellsMessage error fault
-        → TellsMessage result (option_or (first (rest_rules payload_at (split payload.now))) fault) }
+    ensures { (fault : Option MessageFault) → Tells (fault_of error) fault
+        → Tells (fault_of result) (option_or (first (rest_rules payload_at (split payload.now))) fault) }
 {
     for field in Fields::new(payload) {
         match field {

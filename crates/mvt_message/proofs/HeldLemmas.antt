@@ -3,13 +3,14 @@ use Rattle.std.proofs.Common.{◌≡◌, ◌≢◌, ℕ, ◌+◌, ◌^◌, ◌<�
 use Rattle.std.specs.Bool.{OnTrue}
 use Rattle.std.specs.Option.{option_map}
 use Rattle.std.proofs.lemmas.List.{length_push}
+use Rattle.mvt_base.specs.Tells.{Tells}
 use Rattle.mvt_base.proofs.ListLemmas.{length-related}
 use Rattle.mvt_attrs.specs.declared.value.Value.{Value}
 use Rattle.mvt_wire.specs.Field.{Entry}
 use Rattle.mvt_wire.specs.Split.{Parts}
 use Rattle.mvt_feature.proofs.FeatureLaws.{value_or_fault_there}
 use Rattle.mvt_feature.specs.declared.message_error.MessageError.{MessageError}
-use Rattle.mvt_feature.specs.Faults.{MessageFault, TellsMessage, in_feature}
+use Rattle.mvt_feature.specs.Faults.{MessageFault, fault_of, in_feature}
 use Rattle.mvt_feature.specs.Selection.{only}
 use Rattle.mvt_feature.specs.Walks.{Walk}
 use Rattle.mvt_feature.specs.declared.feature.Feature.{Feature}
@@ -60,10 +61,10 @@ module _ {keep : Bool} {payload_at : ℕ} {done : List Entry} {count : ℕ} {kep
       let few = selected_few payload to_come done VALUES walk small in
       omega (arith, so_far.held.0, length-related HoldsValue (only VALUES done) so_far.values so_far.so_far.1)
 
-  pub value_stops : (more : List Entry) (e : MessageError) → x.number ≡ VALUES → TellsMessage e (fault_of_value payload_at x)
-      → TellsMessage e (values_fault payload_at ((done ++ x ∷ []) ++ more))
+  pub value_stops : (more : List Entry) (e : MessageError) → x.number ≡ VALUES → Tells (fault_of e) (fault_of_value payload_at x)
+      → Tells (fault_of e) (values_fault payload_at ((done ++ x ∷ []) ++ more))
   value_stops more e is told_here =
-      let here = subst (TellsMessage e) (value_first _ _ _) told_here in
+      let here = subst (Tells (fault_of e)) (value_first _ _ _) told_here in
       selected_stops VALUES (λ _. value_rules_of payload_at) e done x more is so_far.so_far.0 here
 
   pub value_held : (new : List Value) (value : Value) → x.number ≡ VALUES → IsValueOf (bytes_of x.content) value
@@ -86,8 +87,8 @@ module _ {keep : Bool} {payload_at : ℕ} {done : List Entry} {count : ℕ} {kep
       value_held kept there.0 is there.1 clean (on_false keep _ no_keep)
 
   pub value_blamed : (r : Result (Unit {0}) MessageError) (more : List Entry) → x.number ≡ VALUES
-      → IfErr r (λ e. TellsMessage e (fault_of_value payload_at x))
-      → IfErr r (λ e. TellsMessage e (values_fault payload_at ((done ++ x ∷ []) ++ more)))
+      → IfErr r (λ e. Tells (fault_of e) (fault_of_value payload_at x))
+      → IfErr r (λ e. Tells (fault_of e) (values_fault payload_at ((done ++ x ∷ []) ++ more)))
   value_blamed (Err e) more is told_here = value_stops more e is told_here
   value_blamed (Ok u) more is told_here = tt
 
@@ -106,15 +107,15 @@ module _ {keep : Bool} {payload_at : ℕ} {keys : List (List ℕ)} {values : Lis
       omega (arith, so_far.held.0, length-related (HoldsFeature keys values) (only FEATURES done) so_far.features so_far.so_far.1)
 
   pub feature_stops : (more : List Entry) (index : ℕ) (e : MessageError) → x.number ≡ FEATURES → index ≡ count
-      → TellsMessage e (option_map (in_feature index) (feature_fault (bytes_of x.content) (payload_at + x.body) keys values))
-      → TellsMessage e (features_fault payload_at keys values ((done ++ x ∷ []) ++ more))
+      → Tells (fault_of e) (option_map (in_feature index) (feature_fault (bytes_of x.content) (payload_at + x.body) keys values))
+      → Tells (fault_of e) (features_fault payload_at keys values ((done ++ x ∷ []) ++ more))
   feature_stops more index e is index_is told_here =
       let earlier = only FEATURES done in
       let count_is : index ≡ length earlier =
       index_is ∙ so_far.held.0 ∙ sym (length-related (HoldsFeature keys values) earlier so_far.features so_far.so_far.1) in
       let fault = feature_fault (bytes_of x.content) (payload_at + x.body) keys values in
       let told = ap (λ n. option_map (in_feature n) fault) count_is ∙ sym (feature_told payload_at keys values earlier x) in
-      selected_stops FEATURES (feature_rules_of payload_at keys values) e done x more is so_far.so_far.0 (subst (TellsMessage e) told told_here)
+      selected_stops FEATURES (feature_rules_of payload_at keys values) e done x more is so_far.so_far.0 (subst (Tells (fault_of e)) told told_here)
 
   pub feature_held : (new : List Feature) (feature : Feature) → x.number ≡ FEATURES → IsFeatureOf (bytes_of x.content) keys values feature
       → feature_fault (bytes_of x.content) (payload_at + x.body) keys values ≡ None → OnTrue keep (new ≡ kept ++ feature ∷ [])

@@ -6,6 +6,7 @@ use Rattle.std.specs.Result.{is_err}
 use Rattle.std.proofs.lemmas.Bool.{eq-eqb, ne_eqb}
 use Rattle.std.proofs.lemmas.List.{map-append}
 use Rattle.std.proofs.lemmas.List.Elements.{filter-append}
+use Rattle.mvt_base.specs.Tells.{Tells}
 use Rattle.mvt_base.specs.Related.{AreRelated}
 use Rattle.mvt_base.specs.Rules.{Rules, each, first}
 use Rattle.mvt_base.proofs.ListLemmas.{related-append}
@@ -19,7 +20,7 @@ use Rattle.mvt_wire.specs.Split.{Parts, split}
 use Rattle.mvt_feature.specs.declared.cause.Cause.TheVariants.{NoVersion, NoName}
 use Rattle.mvt_feature.specs.declared.message_error.MessageError.{MessageError}
 use Rattle.mvt_feature.specs.declared.message_error.MessageError.TheVariants.{Memory, Fault}
-use Rattle.mvt_feature.specs.Faults.{MessageFault, fault_at, in_feature, TellsMessage}
+use Rattle.mvt_feature.specs.Faults.{MessageFault, fault_at, in_feature, fault_of}
 use Rattle.mvt_feature.specs.Features.{number_in, number_of}
 use Rattle.mvt_feature.specs.FeatureRules.{feature_rules, feature_fault}
 use Rattle.mvt_feature.specs.Forms.{uint32, form_rules, number_rules}
@@ -41,8 +42,8 @@ use Rattle.mvt_message.proofs.SaidLemmas.{values_said}
 use Rattle.mvt_message.proofs.OrFaultLemmas.{last_there, name_there, feature_first, version_there, head_clean, layer_from, layer_clean, item_of_layer, item_from}
 
 -- a fault is told of whatever has it
-pub tells_as : (e : MessageError) (o p : Option MessageFault) → ((f : MessageFault) → o ≡ Some f → p ≡ Some f) → TellsMessage e o
-    → TellsMessage e p
+pub tells_as : (e : MessageError) (o p : Option MessageFault) → ((f : MessageFault) → o ≡ Some f → p ≡ Some f) → Tells (fault_of e) o
+    → Tells (fault_of e) p
 tells_as Memory o p keep h = tt
 tells_as (Fault feature at cause) o p keep h = keep _ h
 
@@ -58,8 +59,8 @@ only_skip k done x not_is =
 
 -- an element's fault stays whatever fields follow
 pub selected_stops : (k : ℕ) (rules : List Entry → Entry → Rules MessageFault) (e : MessageError) (done : List Entry) (x : Entry)
-    (more : List Entry) → x.number ≡ k → first (each rules [] (only k done)) ≡ None → TellsMessage e (first (rules (only k done) x))
-    → TellsMessage e (first (each rules [] (only k ((done ++ x ∷ []) ++ more))))
+    (more : List Entry) → x.number ≡ k → first (each rules [] (only k done)) ≡ None → Tells (fault_of e) (first (rules (only k done) x))
+    → Tells (fault_of e) (first (each rules [] (only k ((done ++ x ∷ []) ++ more))))
 selected_stops k rules e done x more is clean told_here =
     let parts : only k ((done ++ x ∷ []) ++ more) ≡ only k done ++ (x ∷ [] ++ only k more) =
     filter-append (λ (y : Entry). y.number == k) (done ++ x ∷ []) more ∙ ap (λ xs. xs ++ only k more) (only_take k done x is)
@@ -68,8 +69,8 @@ selected_stops k rules e done x more is clean told_here =
     (λ f broken. ap (λ xs. first (each rules [] xs)) parts ∙ each_stops rules (only k done) x (only k more) f clean broken) told_here
 
 each_told : (rules : Entry → Rules MessageFault) (e : MessageError) (done : List Entry) (x : Entry) (more : List Entry)
-    → first (each (λ _. rules) [] done) ≡ None → TellsMessage e (first (rules x))
-    → TellsMessage e (first (each (λ _. rules) [] ((done ++ x ∷ []) ++ more)))
+    → first (each (λ _. rules) [] done) ≡ None → Tells (fault_of e) (first (rules x))
+    → Tells (fault_of e) (first (each (λ _. rules) [] ((done ++ x ∷ []) ++ more)))
 each_told rules e done x more clean told_here =
     tells_as e (first (rules x)) _ (λ f broken. rw append_assoc (each_stops (λ _. rules) done x more f clean broken)) told_here
 
@@ -130,17 +131,17 @@ version_take payload_at done v x n so_far is number clean =
 
 pub version_stops : (payload_at : ℕ) (done : List Entry) (v : Option ℕ) (x : Entry) (e : MessageError)
     → IsVersionSoFar payload_at done (Ok v) → x.number ≡ VERSION
-    → TellsMessage e (option_map (fault_at (payload_at + x.at)) (first (form_rules uint32 x.content))) → (more : List Entry)
-    → TellsMessage e (versions_fault payload_at ((done ++ x ∷ []) ++ more))
+    → Tells (fault_of e) (option_map (fault_at (payload_at + x.at)) (first (form_rules uint32 x.content))) → (more : List Entry)
+    → Tells (fault_of e) (versions_fault payload_at ((done ++ x ∷ []) ++ more))
 version_stops payload_at done v x e so_far is told_here more =
-    let here = subst (TellsMessage e) (sym (version_first payload_at x true (eq-eqb x.number VERSION is))) told_here in
+    let here = subst (Tells (fault_of e)) (sym (version_first payload_at x true (eq-eqb x.number VERSION is))) told_here in
     each_told (version_rules payload_at) e done x more so_far.0 here
 
 -- a fault stays
 pub fault_stays : (fault : List Entry → Option MessageFault) (done : List Entry) (x : Entry) (e : MessageError)
-    → ((more : List Entry) → TellsMessage e (fault (done ++ more))) → (more : List Entry)
-    → TellsMessage e (fault ((done ++ x ∷ []) ++ more))
-fault_stays fault done x e stays more = subst (λ xs. TellsMessage e (fault xs)) (sym (append_assoc done (x ∷ []) more)) (stays (x ∷ more))
+    → ((more : List Entry) → Tells (fault_of e) (fault (done ++ more))) → (more : List Entry)
+    → Tells (fault_of e) (fault ((done ++ x ∷ []) ++ more))
+fault_stays fault done x e stays more = subst (λ xs. Tells (fault_of e) (fault xs)) (sym (append_assoc done (x ∷ []) more)) (stays (x ∷ more))
 
 -- where there is no fault, what the fields say holds
 pub or_clean : (fault : List Entry → Option MessageFault) (Say : List Entry → Type 0) (done : List Entry) (kept : Option MessageError)
@@ -155,8 +156,8 @@ or_said fault Say done (Some e) none h = absurd (let clash : false ≡ true = no
 
 -- at the end of a walk a fault is that of all fields
 pub or_told : (fault : List Entry → Option MessageFault) (done : List Entry) (e : MessageError)
-    → ((more : List Entry) → TellsMessage e (fault (done ++ more))) → TellsMessage e (fault done)
-or_told fault done e stays = subst (λ xs. TellsMessage e (fault xs)) (append-nil done) (stays [])
+    → ((more : List Entry) → Tells (fault_of e) (fault (done ++ more))) → Tells (fault_of e) (fault done)
+or_told fault done e stays = subst (λ xs. Tells (fault_of e) (fault xs)) (append-nil done) (stays [])
 
 -- the version so far with a field of another number, or behind a fault
 pub version_passes : (payload_at : ℕ) (done : List Entry) (v : Result (Option ℕ) MessageError) (x : Entry)
@@ -221,10 +222,10 @@ head_step payload_at done x name new_name extent new_extent keys new_keys so_far
 }
 
 pub head_stops : (payload_at : ℕ) (done : List Entry) (x : Entry) (e : MessageError) → forms_fault payload_at done ≡ None
-    → TellsMessage e (option_map (fault_at (payload_at + x.at)) (first (number_rules layer_forms x.number x.content)))
-    → (more : List Entry) → TellsMessage e (forms_fault payload_at ((done ++ x ∷ []) ++ more))
+    → Tells (fault_of e) (option_map (fault_at (payload_at + x.at)) (first (number_rules layer_forms x.number x.content)))
+    → (more : List Entry) → Tells (fault_of e) (forms_fault payload_at ((done ++ x ∷ []) ++ more))
 head_stops payload_at done x e clean told_here more =
-    each_told (layer_field_rules payload_at) e done x more clean (subst (TellsMessage e) (sym (form_first payload_at x)) told_here)
+    each_told (layer_field_rules payload_at) e done x more clean (subst (Tells (fault_of e)) (sym (form_first payload_at x)) told_here)
 
 -- features
 pub feature_told : (payload_at : ℕ) (keys : List (List ℕ)) (values : List Value) (earlier : List Entry) (x : Entry)
@@ -287,17 +288,17 @@ head_none payload payload_at tag_at rest clean version =
         cc
 
 pub head_versions : (payload : List ℕ) (payload_at tag_at : ℕ) (e : MessageError) → (split payload).rest ≡ []
-    → ((more : List Entry) → TellsMessage e (versions_fault payload_at ((split payload).fields ++ more)))
-    → TellsMessage e (head_fault payload payload_at tag_at)
+    → ((more : List Entry) → Tells (fault_of e) (versions_fault payload_at ((split payload).fields ++ more)))
+    → Tells (fault_of e) (head_fault payload payload_at tag_at)
 head_versions payload payload_at tag_at e rest stays =
     or_tells e (rest_fault payload payload_at) _ (rests_none payload_at (split payload) rest)
     (tells_or e (versions_fault payload_at (split payload).fields) _ (or_told (versions_fault payload_at) (split payload).fields e stays))
 
 -- the exits of `read_layer`
-pub forms_told : (payload_at tag_at : ℕ) (xs : List Entry) (e : MessageError) → TellsMessage e (forms_fault payload_at xs)
-    → TellsMessage e (layer_fault payload_at tag_at xs)
+pub forms_told : (payload_at tag_at : ℕ) (xs : List Entry) (e : MessageError) → Tells (fault_of e) (forms_fault payload_at xs)
+    → Tells (fault_of e) (layer_fault payload_at tag_at xs)
 forms_told payload_at tag_at xs e h =
-    subst (TellsMessage e) (sym (layer_chain payload_at tag_at xs)) (tells_or e (forms_fault payload_at xs) _ h)
+    subst (Tells (fault_of e)) (sym (layer_chain payload_at tag_at xs)) (tells_or e (forms_fault payload_at xs) _ h)
 
 name_some : (tag_at : ℕ) (xs : List Entry) (name : List ℕ) → Some name ≡ name_in xs → no_name_fault tag_at xs ≡ None
 name_some tag_at xs name is = first-when_not _ _ (name_there xs name (sym is))
@@ -312,11 +313,11 @@ name_told payload_at tag_at xs forms is =
     by_option (Some x) h = cc
 
 pub values_told : (payload_at tag_at : ℕ) (xs : List Entry) {name : List ℕ} (e : MessageError)
-    → forms_fault payload_at xs ≡ None → Some name ≡ name_in xs → TellsMessage e (values_fault payload_at xs)
-    → TellsMessage e (layer_fault payload_at tag_at xs)
+    → forms_fault payload_at xs ≡ None → Some name ≡ name_in xs → Tells (fault_of e) (values_fault payload_at xs)
+    → Tells (fault_of e) (layer_fault payload_at tag_at xs)
 values_told payload_at tag_at xs {name} e forms is h =
     let values = or_tells e (no_name_fault tag_at xs) _ (name_some tag_at xs name is) (tells_or e (values_fault payload_at xs) _ h) in
-    subst (TellsMessage e) (sym (layer_chain payload_at tag_at xs)) (or_tells e (forms_fault payload_at xs) _ forms values)
+    subst (Tells (fault_of e)) (sym (layer_chain payload_at tag_at xs)) (or_tells e (forms_fault payload_at xs) _ forms values)
 
 -- fields that break no rule before those of the features: the name, the keys and the values
 pub record IsClean (payload_at : ℕ) (xs : List Entry) (name : List ℕ) (keys : List (List ℕ)) (values : List Value) : Type 0 where
@@ -345,14 +346,14 @@ features_same {payload_at} {xs} {values} front =
     ap₂ (λ ks vs. features_fault payload_at ks vs xs) front.keys_are (sym same)
 
 pub features_told : {payload_at : ℕ} {xs : List Entry} {name : List ℕ} {keys : List (List ℕ)} {values : List Value} (tag_at : ℕ)
-    (e : MessageError) → IsClean payload_at xs name keys values → TellsMessage e (features_fault payload_at keys values xs)
-    → TellsMessage e (layer_fault payload_at tag_at xs)
+    (e : MessageError) → IsClean payload_at xs name keys values → Tells (fault_of e) (features_fault payload_at keys values xs)
+    → Tells (fault_of e) (layer_fault payload_at tag_at xs)
 features_told {payload_at} {xs} {name} tag_at e front h =
-    let here = subst (TellsMessage e) (features_same front) h in
+    let here = subst (Tells (fault_of e)) (features_same front) h in
     let features = tells_or e (features_fault payload_at (keys_in xs) (values_in xs) xs) None here in
     let behind = or_tells e (values_fault payload_at xs) _ front.none_broken features in
     let named = or_tells e (no_name_fault tag_at xs) _ (name_some tag_at xs name front.name_is) behind in
-    subst (TellsMessage e) (sym (layer_chain payload_at tag_at xs)) (or_tells e (forms_fault payload_at xs) _ front.forms named)
+    subst (Tells (fault_of e)) (sym (layer_chain payload_at tag_at xs)) (or_tells e (forms_fault payload_at xs) _ front.forms named)
 
 pub layer_ok : {payload_at : ℕ} {xs : List Entry} {name : List ℕ} {keys : List (List ℕ)} {values : List Value} (tag_at : ℕ)
     → IsClean payload_at xs name keys values → features_fault payload_at keys values xs ≡ None
@@ -371,19 +372,19 @@ layer_read {payload_at} {xs} {values} layer front extent features =
 pub as_two : (xs : List Entry) {n : ℕ} → version_in xs ≡ Some n → n ≡ 2 → version_in xs ≡ Some 2
 as_two xs is two = is ∙ ap Some two
 
-pub head_told : (payload : List ℕ) (payload_at tag_at : ℕ) (e : MessageError) → TellsMessage e (head_fault payload payload_at tag_at)
-    → TellsMessage e (item_fault payload payload_at tag_at)
+pub head_told : (payload : List ℕ) (payload_at tag_at : ℕ) (e : MessageError) → Tells (fault_of e) (head_fault payload payload_at tag_at)
+    → Tells (fault_of e) (item_fault payload payload_at tag_at)
 head_told payload payload_at tag_at e h =
-    subst (TellsMessage e) (sym (item_chain payload payload_at tag_at)) (tells_or e (head_fault payload payload_at tag_at) _ h)
+    subst (Tells (fault_of e)) (sym (item_chain payload payload_at tag_at)) (tells_or e (head_fault payload payload_at tag_at) _ h)
 
 pub head_whole : (payload : List ℕ) (payload_at tag_at : ℕ) → head_fault payload payload_at tag_at ≡ None → (split payload).rest ≡ []
 head_whole payload payload_at tag_at none = rests_nothing payload_at (split payload) (option_or-nones _ _ none).0
 
 pub layer_told : (payload : List ℕ) (payload_at tag_at : ℕ) (e : MessageError) → head_fault payload payload_at tag_at ≡ None
-    → version_in (split payload).fields ≡ Some 2 → TellsMessage e (layer_fault payload_at tag_at (split payload).fields)
-    → TellsMessage e (item_fault payload payload_at tag_at)
+    → version_in (split payload).fields ≡ Some 2 → Tells (fault_of e) (layer_fault payload_at tag_at (split payload).fields)
+    → Tells (fault_of e) (item_fault payload payload_at tag_at)
 layer_told payload payload_at tag_at e head version h =
-    subst (TellsMessage e) (sym (item_of_layer payload payload_at tag_at head version)) h
+    subst (Tells (fault_of e)) (sym (item_of_layer payload payload_at tag_at head version)) h
 
 pub layer_item : (payload : List ℕ) (payload_at tag_at : ℕ) (layer : ALayer) → head_fault payload payload_at tag_at ≡ None
     → version_in (split payload).fields ≡ Some 2 → IsLayer (split payload).fields layer → IsItem payload (Layer layer)

@@ -3,6 +3,7 @@ use Rattle.std.proofs.Common.{◌≡◌, ◌≢◌, ℕ, ◌^◌, ◌<◌, List,
 use Rattle.std.specs.Prelude.{IsUtf8, unwrap_or}
 use Rattle.std.specs.List.{AllByRecursion}
 use Rattle.std.specs.Option.{option_map}
+use Rattle.mvt_base.specs.Tells.{Tells}
 use Rattle.mvt_base.specs.Related.{AreRelated}
 use Rattle.mvt_base.proofs.ListLemmas.{all_weaker}
 use Rattle.mvt_base.proofs.SelectionLemmas.{only_number, only_all, last_selected}
@@ -11,7 +12,7 @@ use Rattle.mvt_wire.specs.Split.{Whole, split}
 use Rattle.mvt_feature.specs.declared.feature.Feature.{Feature}
 use Rattle.mvt_feature.specs.declared.message_error.MessageError.{MessageError}
 use Rattle.mvt_feature.specs.declared.message_error.MessageError.TheVariants.{Memory, Fault}
-use Rattle.mvt_feature.specs.Faults.{TellsMessage}
+use Rattle.mvt_feature.specs.Faults.{fault_of}
 use Rattle.mvt_feature.specs.Features.{number_in, number_of}
 use Rattle.mvt_feature.specs.Ranges.{AreBytes, IsInRange}
 use Rattle.mvt_feature.specs.Forms.{uint32, string, HasForm}
@@ -138,7 +139,7 @@ version_of payload version (xs, whole, forms, is, other) =
     (head_keeps payload 0 0 version (sym only.1) (subst (HaveForm VERSION (HasForm uint32)) only.0 forms) here, here, other)
 
 -- a fault of the head leaves no version
-pub no_version : (payload : List ℕ) (version : ℕ) (e : MessageError) → IsFault e → TellsMessage e (head_fault payload 0 0)
+pub no_version : (payload : List ℕ) (version : ℕ) (e : MessageError) → IsFault e → Tells (fault_of e) (head_fault payload 0 0)
     → AreOfVersion version payload → ⊥
 no_version payload version Memory is told_here of = is
 no_version payload version (Fault feature at cause) is told_here of = let clean = (version_of payload version of).0 in cc

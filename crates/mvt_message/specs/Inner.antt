@@ -2,6 +2,7 @@
 use Rattle.std.specs.Prelude.{◌≡◌, ℕ, ◌==◌, Bool, List, [], ◌∷◌, ◌++◌, length, Option, Some, None, Result, is_none, unwrap_or, ⊤, if◌then◌else◌}
 use Rattle.std.specs.Bool.{OnTrue}
 use Rattle.std.specs.Option.{option_or, option_copied}
+use Rattle.mvt_base.specs.Tells.{Tells}
 use Rattle.mvt_base.specs.Related.{AreRelated}
 use Rattle.mvt_base.specs.Rules.{when, rows, each, first}
 use Rattle.mvt_attrs.specs.declared.value.Value.{Value}
@@ -11,7 +12,7 @@ use Rattle.mvt_feature.specs.declared.cause.Cause.TheVariants.{NoVersion, NoName
 use Rattle.mvt_feature.specs.declared.feature.Feature.{Feature}
 use Rattle.mvt_feature.specs.declared.message_error.MessageError.{MessageError}
 use Rattle.mvt_feature.specs.declared.message_error.MessageError.TheVariants.{Memory, Fault}
-use Rattle.mvt_feature.specs.Faults.{MessageFault, TellsMessage, fault_at, rest_rules}
+use Rattle.mvt_feature.specs.Faults.{MessageFault, fault_of, fault_at, rest_rules}
 use Rattle.mvt_feature.specs.Features.{number_of}
 use Rattle.mvt_feature.specs.Walks.{IsSoFar}
 use Rattle.mvt_feature.specs.Selection.{only, last_only}
@@ -70,7 +71,7 @@ keys_at number content = if number == KEYS then bytes_of content ∷ [] else []
 -- what the fields so far say, or the first fault that they have, which stays whatever fields follow
 abbrev pub OrFault : (List Entry → Option MessageFault) → (List Entry → Type 0) → List Entry → Option MessageError → Type 0
 OrFault fault Say done None = Say done
-OrFault fault Say done (Some error) = (more : List Entry) → TellsMessage error (fault (done ++ more))
+OrFault fault Say done (Some error) = (more : List Entry) → Tells (fault_of error) (fault (done ++ more))
 
 -- the name, the extent and the keys by fields that break no rule
 pub record IsHead (payload_at : ℕ) (name : Option (List ℕ)) (extent : ℕ) (keys : List (List ℕ)) (fields : List Entry) : Type 0 where

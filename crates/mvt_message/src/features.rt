@@ -2,12 +2,13 @@
 ghost use Rattle.std.specs.Prelude.{◌≡◌, ◌+◌, ◌^◌, ◌<◌, List, [], ◌∷◌, ◌++◌, length, Option, None, IfOk, IfErr, OnOk};
 ghost use Rattle.std.specs.Bool.{OnTrue};
 ghost use Rattle.std.specs.Option.{option_map};
+ghost use Rattle.mvt_base.specs.Tells.{Tells};
 ghost use Rattle.mvt_base.specs.Related.{AreRelated};
 ghost use Rattle.mvt_attrs.specs.declared.value.Value.{Value};
 ghost use Rattle.mvt_wire.specs.Field.{Entry, entry_of, content_of};
 ghost use Rattle.mvt_wire.specs.Fields.{bytes_size};
 ghost use Rattle.mvt_wire.specs.Split.{split};
-ghost use Rattle.mvt_feature.specs.Faults.{MessageFault, TellsMessage, in_feature as the_in_feature};
+ghost use Rattle.mvt_feature.specs.Faults.{MessageFault, fault_of, in_feature as the_in_feature};
 ghost use Rattle.mvt_feature.specs.Selection.{only};
 ghost use Rattle.mvt_message.specs.declared.numbers.layer.TheConstants.{FEATURES};
 ghost use Rattle.mvt_message.specs.Items.{HoldsFeature};
@@ -50,7 +51,7 @@ pub(crate) fn read_features(
         × AreRelated (HoldsFeature keys.now held) (only FEATURES (split payload.now).fields) features
         × OnTrue keeps (found.items ≡ features)) }
     ensures err { (held : List Value) → AreHeld keeps held values.now.count values.now.kept.items
-        → IfErr result (λ error. TellsMessage error (features_fault payload_at keys.now held (split payload.now).fields)) }
+        → IfErr result (λ error. Tells (fault_of error) (features_fault payload_at keys.now held (split payload.now).fields)) }
 {
     let mut keys = LayerKeys::new(alloc, keys);
     let mut scratch = Scratch::new(alloc);
@@ -95,7 +96,7 @@ fn append_feature(
         features.new.count features.new.kept.items) }
     ensures err { (held : List Value) (done more : List Entry) → AreHeld keeps held values.now.count values.now.kept.items
         → AreFeaturesHeld keeps payload_at keys.old held done features.old.count features.old.kept.items
-        → IfErr result (λ error. TellsMessage error
+        → IfErr result (λ error. Tells (fault_of error)
         (features_fault payload_at keys.old held ((done ++ entry_of field.now ∷ []) ++ more))) }
     ensures same { keys.new ≡ keys.old }
 {
@@ -121,8 +122,8 @@ fn append_feature(
 
 /// An error in the feature of this index.
 fn in_feature(error: MessageError, index: u32) -> MessageError
-    ensures { (fault : Option MessageFault) → TellsMessage error fault
-        → TellsMessage result (option_map (the_in_feature index) fault) }
+    ensures { (fault : Option MessageFault) → Tells (fault_of error) fault
+        → Tells (fault_of result) (option_map (the_in_feature index) fault) }
 {
     match error {
         MessageError::Memory => MessageError::Memory,

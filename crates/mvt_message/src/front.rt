@@ -1,8 +1,9 @@
 //! What the fields of a layer say besides its features (Mapbox Vector Tile Specification 2.1, 4.1), found
 //! in one walk.
 ghost use Rattle.std.specs.Prelude.{◌≡◌, ◌+◌, ◌^◌, ◌<◌, length, Some, None, IfOk, IfErr, OnOk};
+ghost use Rattle.mvt_base.specs.Tells.{Tells};
 ghost use Rattle.mvt_wire.specs.Split.{split};
-ghost use Rattle.mvt_feature.specs.Faults.{TellsMessage};
+ghost use Rattle.mvt_feature.specs.Faults.{fault_of};
 ghost use Rattle.mvt_message.specs.LayerFields.{version_in};
 ghost use Rattle.mvt_message.specs.Inner.{head_fault, IsFront};
 
@@ -37,7 +38,7 @@ pub(crate) fn read_front<'a>(
     ensures version { IfOk result (λ found. version_in (split payload.now).fields ≡ Some found.0) }
     ensures front { IfOk result (λ found. IsFront keeps payload_at (split payload.now).fields found.1) }
     ensures ok { OnOk result (head_fault payload.now payload_at tag_at ≡ None) }
-    ensures err { IfErr result (λ error. TellsMessage error (head_fault payload.now payload_at tag_at)) }
+    ensures err { IfErr result (λ error. Tells (fault_of error) (head_fault payload.now payload_at tag_at)) }
 {
     let mut version = Ok(None);
     let mut head = Head::new(alloc);

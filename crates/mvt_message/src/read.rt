@@ -1,8 +1,9 @@
 //! Reading an item (Mapbox Vector Tile Specification 2.1, 4.1).
 ghost use Rattle.std.specs.Prelude.{◌≡◌, ◌+◌, ◌^◌, ◌<◌, ◌≤◌, [], length, true, Some, None, IfOk, IfErr, OnOk};
 ghost use Rattle.std.specs.Option.{option_copied, option_to_list};
+ghost use Rattle.mvt_base.specs.Tells.{Tells};
 ghost use Rattle.mvt_wire.specs.Split.{split};
-ghost use Rattle.mvt_feature.specs.Faults.{TellsMessage};
+ghost use Rattle.mvt_feature.specs.Faults.{fault_of};
 ghost use Rattle.mvt_message.specs.declared.item.Layer.{Layer as ALayer};
 ghost use Rattle.mvt_message.specs.ItemRules.{item_fault, payload_names};
 ghost use Rattle.mvt_message.specs.LayerFields.{name_in};
@@ -35,7 +36,7 @@ pub fn read_item(
     ensures ok { OnOk result (item_fault payload.now payload_at tag_at ≡ None) }
     ensures item { IfOk result (λ item. IsItem payload.now item) }
     ensures valid { IfOk result (λ item. ValidItem item) }
-    ensures fault { IfErr result (λ error. TellsMessage error (item_fault payload.now payload_at tag_at)) }
+    ensures fault { IfErr result (λ error. Tells (fault_of error) (item_fault payload.now payload_at tag_at)) }
 {
     let (version, front) = read_front(alloc, payload, payload_at, tag_at, true)?;
     if version == 2 {
@@ -61,7 +62,7 @@ pub fn judge_item<'a>(
     requires fits { payload_at + length payload.now < 2 ^ 64 }
     ensures ok { OnOk result (item_fault payload.now payload_at tag_at ≡ None) }
     ensures names { IfOk result (λ name. option_to_list (option_copied name) ≡ payload_names payload.now) }
-    ensures fault { IfErr result (λ error. TellsMessage error (item_fault payload.now payload_at tag_at)) }
+    ensures fault { IfErr result (λ error. Tells (fault_of error) (item_fault payload.now payload_at tag_at)) }
 {
     let (version, front) = read_front(alloc, payload, payload_at, tag_at, false)?;
     if version != 2 {
@@ -85,7 +86,7 @@ fn read_layer<'a>(
     requires front { IsFront true payload_at (split payload.now).fields front }
     ensures ok { OnOk result (layer_fault payload_at tag_at (split payload.now).fields ≡ None) }
     ensures layer { IfOk result (IsLayer (split payload.now).fields) }
-    ensures fault { IfErr result (λ error. TellsMessage error (layer_fault payload_at tag_at (split payload.now).fields)) }
+    ensures fault { IfErr result (λ error. Tells (fault_of error) (layer_fault payload_at tag_at (split payload.now).fields)) }
 {
     let parts = read_parts(alloc, payload, payload_at, tag_at, front, true)?;
     Ok(Layer {
@@ -120,7 +121,7 @@ fn read_parts<'a>(
     ensures name { IfOk result (λ parts. Some parts.name.now ≡ name_in (split payload.now).fields) }
     ensures layer { IfOk result (λ parts. (layer : ALayer) × IsLayer (split payload.now).fields layer
         × AreParts keeps layer parts.name.now parts.extent parts.features.items) }
-    ensures fault { IfErr result (λ error. TellsMessage error (layer_fault payload_at tag_at (split payload.now).fields)) }
+    ensures fault { IfErr result (λ error. Tells (fault_of error) (layer_fault payload_at tag_at (split payload.now).fields)) }
 {
     let Front {
         head,

@@ -1,8 +1,9 @@
 //! The values of a layer (Mapbox Vector Tile Specification 2.1, 4.1).
 ghost use Rattle.std.specs.Prelude.{◌≡◌, ◌+◌, ◌^◌, ◌<◌, List, [], ◌∷◌, ◌++◌, None, IfErr, OnOk};
+ghost use Rattle.mvt_base.specs.Tells.{Tells};
 ghost use Rattle.mvt_wire.specs.Field.{Entry, entry_of, content_of};
 ghost use Rattle.mvt_wire.specs.Fields.{bytes_size};
-ghost use Rattle.mvt_feature.specs.Faults.{TellsMessage};
+ghost use Rattle.mvt_feature.specs.Faults.{fault_of};
 ghost use Rattle.mvt_feature.specs.Selection.{only};
 ghost use Rattle.mvt_message.specs.Inner.{values_fault, AreValuesHeld, AreValuesSaid};
 
@@ -73,7 +74,7 @@ fn append_value(
     ensures ok { (done : List Entry) → AreValuesHeld keeps payload_at done values.old.count values.old.kept.items
         → OnOk result (AreValuesHeld keeps payload_at (done ++ entry_of field.now ∷ []) values.new.count values.new.kept.items) }
     ensures err { (done more : List Entry) → AreValuesHeld keeps payload_at done values.old.count values.old.kept.items
-        → IfErr result (λ error. TellsMessage error (values_fault payload_at ((done ++ entry_of field.now ∷ []) ++ more))) }
+        → IfErr result (λ error. Tells (fault_of error) (values_fault payload_at ((done ++ entry_of field.now ∷ []) ++ more))) }
 {
     if field.number != layer::VALUES {
         return Ok(());

@@ -1,8 +1,9 @@
 //! The version of a layer (Mapbox Vector Tile Specification 2.1, 4.1).
 ghost use Rattle.std.specs.Prelude.{◌≡◌, ℕ, ◌+◌, ◌^◌, ◌<◌, List, [], ◌∷◌, ◌++◌, length, Some, None, IfOk, IfErr, OnOk};
+ghost use Rattle.mvt_base.specs.Tells.{Tells};
 ghost use Rattle.mvt_wire.specs.Field.{Entry, entry_of};
 ghost use Rattle.mvt_wire.specs.Split.{split};
-ghost use Rattle.mvt_feature.specs.Faults.{TellsMessage};
+ghost use Rattle.mvt_feature.specs.Faults.{fault_of};
 ghost use Rattle.mvt_message.specs.LayerFields.{version_in};
 ghost use Rattle.mvt_message.specs.Inner.{head_fault, IsFault, IsVersionSoFar};
 
@@ -20,7 +21,7 @@ pub(crate) fn read_version(
     requires { payload_at + length payload.now < 2 ^ 64 }
     ensures version { IfOk result (λ version. version_in (split payload.now).fields ≡ Some version) }
     ensures ok { OnOk result (head_fault payload.now payload_at tag_at ≡ None) }
-    ensures err { IfErr result (λ error. TellsMessage error (head_fault payload.now payload_at tag_at)) }
+    ensures err { IfErr result (λ error. Tells (fault_of error) (head_fault payload.now payload_at tag_at)) }
     ensures fault { IfErr result IsFault }
 {
     let mut version = Ok(None);
@@ -68,7 +69,7 @@ pub(crate) fn version_of(
         → IsVersionSoFar payload_at (split payload).fields version → OnOk result (head_fault payload payload_at tag_at ≡ None) }
     ensures err { (payload : List ℕ) (payload_at : ℕ) → (split payload).rest ≡ []
         → IsVersionSoFar payload_at (split payload).fields version
-        → IfErr result (λ error. TellsMessage error (head_fault payload payload_at tag_at)) }
+        → IfErr result (λ error. Tells (fault_of error) (head_fault payload payload_at tag_at)) }
     ensures fault { IfErr version IsFault → IfErr result IsFault }
 {
     match version? {

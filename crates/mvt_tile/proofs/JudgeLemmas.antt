@@ -4,6 +4,7 @@ use Rattle.std.specs.List.{flat_map}
 use Rattle.std.specs.Option.{option_or, option_map}
 use Rattle.std.proofs.lemmas.Bool.{eq-eqb, ne_eqb}
 use Rattle.std.proofs.lemmas.List.{map-append}
+use Rattle.mvt_base.specs.Tells.{Tells}
 use Rattle.mvt_base.specs.Rules.{each, first}
 use Rattle.mvt_base.proofs.RuleLemmas.{first-append, option_or-none, option_or-nones, each-append}
 use Rattle.mvt_base.proofs.ListLemmas.{length-related}
@@ -17,7 +18,7 @@ use Rattle.mvt_wire.specs.declared.fault.WireFault.{WireFault}
 use Rattle.mvt_wire.specs.declared.fault.WireCause.TheVariants as wire
 use Rattle.mvt_wire.specs.declared.field.Field.{Field}
 use Rattle.mvt_feature.specs.Causes.{of_wire}
-use Rattle.mvt_feature.specs.Faults.{TellsMessage}
+use Rattle.mvt_feature.specs.Faults.{fault_of}
 use Rattle.mvt_feature.specs.declared.cause.Cause.TheVariants.{WrongType}
 use Rattle.mvt_feature.specs.declared.message_error.MessageError.{MessageError}
 use Rattle.mvt_feature.specs.declared.message_error.MessageError.TheVariants as message
@@ -52,7 +53,7 @@ tells_back e a b none h = subst (Tells e) (sym (option_or-none a b none)) h
 -- of a payload
 
 pub tells_payload : (e : MessageError) (n : ℕ) (names : List (List ℕ)) (d : List ℕ) (payload_at tag_at : ℕ)
-    → TellsMessage e (item_fault d payload_at tag_at) → Tells (told_in n e) (payload_fault n names d payload_at tag_at)
+    → Tells (fault_of e) (item_fault d payload_at tag_at) → Tells (told_in n e) (payload_fault n names d payload_at tag_at)
 tells_payload message.Memory n names d payload_at tag_at h = tt
 tells_payload (message.Fault feature at cause) n names d payload_at tag_at h =
     tells_front (told_in n (message.Fault feature at cause)) (option_map (in_layer n) (item_fault d payload_at tag_at))

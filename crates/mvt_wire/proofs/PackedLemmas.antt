@@ -6,6 +6,7 @@ use Rattle.std.proofs.lemmas.List.{length-append, length-drop, take-append-drop,
 use Rattle.std.proofs.lemmas.List.Concat.{flat_map-append}
 use Rattle.std.proofs.lemmas.List.Folds.{length-flat_map-take}
 use Rattle.std.proofs.Math.Seq.{drop-append_seam}
+use Rattle.mvt_base.specs.Tells.{Tells}
 use Rattle.mvt_base.specs.Rules.{Rules, when, under, each, first, AreOrdered}
 use Rattle.mvt_base.proofs.RuleLemmas.{first-append, first-under, first-when, first-when_not, option_or-nones, first_back, first_front, each_more, each_stops}
 use Rattle.mvt_base.proofs.OrderLemmas.{all_later, under_from, under_ordered, when_ordered}
@@ -15,7 +16,7 @@ use Rattle.mvt_wire.specs.declared.fault.WireCause.TheVariants.{Truncated, Varin
 use Rattle.mvt_wire.specs.Varint.{Spells, short}
 use Rattle.mvt_wire.specs.Fronts.{number_at}
 use Rattle.mvt_wire.specs.Inner.{error_of}
-use Rattle.mvt_wire.specs.Packed.{ArePacked, SplitNumbers, Numbers, ahead, packed_within, packed, PackedCause, truncated, varint_range, number_range, number_cause, is_nil, small_rules, packed_rules, TellsPacked}
+use Rattle.mvt_wire.specs.Packed.{ArePacked, SplitNumbers, Numbers, ahead, packed_within, packed, PackedCause, truncated, varint_range, number_range, number_cause, is_nil, small_rules, packed_rules, fault_of}
 use Rattle.mvt_wire.specs.Spelling.{short_numbers}
 use Rattle.mvt_wire.proofs.PieceLemmas.{Takes, all_step, induct}
 use Rattle.mvt_wire.proofs.VarintLemmas.{number_spelled, number_seen, number_none, number_none_from}
@@ -213,15 +214,15 @@ read_stops b rest read c is clean e some =
     ∙ rest_broken rest some
 
 tells_by : (t : Bool) (o : Option PackedCause) → o ≡ Some (cond t truncated varint_range)
-    → TellsPacked (error_of (cond t Truncated VarintRange)) o
+    → Tells (fault_of (error_of (cond t Truncated VarintRange))) o
 tells_by true o e = e
 tells_by false o e = e
 
 pub read_tells : (b rest read : List ℕ) (c : WireCause) → packed b ≡ all_ahead read (packed rest)
     → first (each small_rules [] read) ≡ None → number_at rest ≡ Err c → rest ≢ []
-    → TellsPacked (error_of c) (first (packed_rules b))
+    → Tells (fault_of (error_of c)) (first (packed_rules b))
 read_tells b rest read c is clean e some =
-    subst (λ (k : WireCause). TellsPacked (error_of k) (first (packed_rules b))) (sym (number_none rest c e).1)
+    subst (λ (k : WireCause). Tells (fault_of (error_of k)) (first (packed_rules b))) (sym (number_none rest c e).1)
     (tells_by (ltb (length rest) 10) _ (read_stops b rest read c is clean e some))
 
 pub read_all : (b rest read : List ℕ) → packed b ≡ all_ahead read (packed rest) → first (each small_rules [] read) ≡ None

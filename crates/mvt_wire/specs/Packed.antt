@@ -1,5 +1,5 @@
 -- Packed numbers: Protocol Buffers, Encoding, "Packed Repeated Fields".
-use Rattle.std.specs.Prelude.{◌≡◌, ℕ, zero, suc, ◌^◌, ◌<◌, Bool, true, false, not, List, [], ◌∷◌, ◌++◌, length, drop, Option, Some, Ok, Err, if◌then◌else◌, nat_lt, ⊤}
+use Rattle.std.specs.Prelude.{◌≡◌, ℕ, zero, suc, ◌^◌, ◌<◌, Bool, true, false, not, List, [], ◌∷◌, ◌++◌, length, drop, Option, Some, None, Ok, Err, if◌then◌else◌, nat_lt}
 use Rattle.mvt_base.specs.Rules.{Rules, when, under, each}
 use Rattle.mvt_wire.specs.declared.packed.PackedError.{PackedError}
 use Rattle.mvt_wire.specs.declared.packed.PackedError.TheVariants as errors
@@ -59,9 +59,9 @@ packed_rules b =
     each small_rules [] (packed b).numbers
     ++ under (length (packed b).numbers) (when (not (is_nil (packed b).rest)) (number_cause (packed b).rest))
 
--- an error tells the first broken rule, but for want of memory
-abbrev pub TellsPacked : PackedError → Option PackedCause → Type 0
-TellsPacked errors.Memory cause = ⊤
-TellsPacked errors.Truncated cause = cause ≡ Some truncated
-TellsPacked errors.VarintRange cause = cause ≡ Some varint_range
-TellsPacked errors.NumberRange cause = cause ≡ Some number_range
+-- the broken rule that an error tells
+abbrev pub fault_of : PackedError → Option PackedCause
+fault_of errors.Memory = None
+fault_of errors.Truncated = Some truncated
+fault_of errors.VarintRange = Some varint_range
+fault_of errors.NumberRange = Some number_range

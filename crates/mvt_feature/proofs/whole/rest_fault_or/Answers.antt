@@ -1,10 +1,11 @@
 use Rattle.std.proofs.Common.{[], ◌∷◌, ◌++◌, ◌∙◌, ap, sym, subst}
 use Rattle.std.specs.Option.{option_or}
+use Rattle.mvt_base.specs.Tells.{Tells}
 use Rattle.mvt_base.proofs.RuleLemmas.{option_or-some}
 use Rattle.mvt_wire.specs.Field.{entry_of}
 use Rattle.mvt_wire.specs.Fields.{Ahead}
 use Rattle.mvt_wire.specs.Split.{split}
-use Rattle.mvt_feature.specs.Faults.{TellsMessage}
+use Rattle.mvt_feature.specs.Faults.{fault_of}
 use Rattle.mvt_feature.proofs.WalkLemmas.{walk_start, walk_step, walk_fault_fits, walk_fault, walk_end, rest_none}
 use Rattle.mvt_feature.proofs.whole.rest_fault_or.Goals as goal
 
@@ -35,5 +36,5 @@ returns-in-Err c = λ fault told_here.
 pub returns : goal.returns
 returns c = λ fault told_here.
     let end = walk_end _ _ _ _ c.loop-field.invariant.1 c.in-None.ensures.steps.0 in
-    subst (λ o. TellsMessage c.args.error (option_or o fault))
+    subst (λ o. Tells (fault_of c.args.error) (option_or o fault))
     (sym (rest_none c.args.payload_at (split c.args.payload.now) end.1)) told_here
