@@ -8,7 +8,7 @@ use Rattle.mvt_attrs.specs.declared.resolving.TagError.{TagError}
 use Rattle.mvt_attrs.specs.declared.resolving.TagError.TheVariants as tag_errors
 use Rattle.mvt_attrs.proofs.AttrsLaws.{attributes_or_fault_clean, attributes_or_fault_once}
 use Rattle.mvt_attrs.specs.Tags.{Resolved}
-use Rattle.mvt_attrs.specs.TagRules.{tag_fault, Tells}
+use Rattle.mvt_attrs.specs.TagRules.{tag_fault, fault_of}
 use Rattle.mvt_geometry.specs.declared.shape.Point.{Point}
 use Rattle.mvt_geometry.specs.declared.shape.Polygon.{Polygon}
 use Rattle.mvt_feature.specs.declared.feature.Feature.{Feature}
@@ -27,6 +27,7 @@ use Rattle.mvt_rows.proofs.EachLemmas.{around}
 use Rattle.std.specs.Option.{option_map}
 use Rattle.std.specs.Result.{IfErr, IsErrAnd}
 use Rattle.std.proofs.lemmas.Option.{none-some, same_Some}
+use Rattle.mvt_base.specs.Tells.{Tells}
 
 pub fails_too : (P Q : Type 0) → (P → Q) → (r : RowsError) → FailsAs P r → FailsAs Q r
 fails_too P Q f Memory h = tt
@@ -87,7 +88,7 @@ some_same o x y h k = same_Some x y (sym h ∙ k)
 
 -- tags with a fault are no feature's
 pub tags_fail : (t : Table) (keys : List (List ℕ)) (values : List Value) (row : FeatureRow) (tags : List ℕ) (e : TagError)
-    → part_of t.tags row.tags ≡ Some tags → Tells e (tag_fault keys values tags)
+    → part_of t.tags row.tags ≡ Some tags → Tells (fault_of e) (tag_fault keys values tags)
     → FailsAs (IsNone (IsFeature t keys values row)) (of_tags e)
 tags_fail t keys values row tags tag_errors.Memory tagged told = tt
 tags_fail t keys values row tags (tag_errors.Fault index cause) tagged told = λ f h.

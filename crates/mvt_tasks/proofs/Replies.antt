@@ -3,12 +3,13 @@ use Rattle.std.proofs.Common.{◌≡◌, ℕ, ◌<◌, ◌≤◌, Bool, true, fa
 use Rattle.std.specs.Prelude.{IfSome}
 use Rattle.std.specs.Option.{option_map}
 use Rattle.std.proofs.lemmas.Bool.Decides.{nat_tests}
+use Rattle.mvt_base.specs.Tells.{Tells}
 use Rattle.mvt_tile.specs.declared.tile.Tile.{Tile}
 use Rattle.mvt_tile.specs.declared.fault.DecodeError.{DecodeError}
 use Rattle.mvt_tile.specs.declared.fault.DecodeError.TheVariants.{Memory, Fault, Read}
 use Rattle.mvt_tile.specs.CanonicalTiles.{canonical}
 use Rattle.mvt_tile.specs.Extraction.{pick, first_missing}
-use Rattle.mvt_tile.specs.Reading.{TellsInput}
+use Rattle.mvt_tile.specs.Reading.{fault_of}
 use Rattle.mvt_tile.specs.TileRules.{fault_within}
 use Rattle.mvt_tasks.specs.declared.reply.Reply.{Reply}
 use Rattle.mvt_tasks.specs.declared.task.Task.{Task}
@@ -62,14 +63,14 @@ missing_reply limit tile names i line first is =
     ∙ missing_or (slice_get names i) line (bytes_reply limit (pick tile names)) is
 
 pub refused_told : (limit : ℕ) (of_tile : Tile → Reply) (input : List ℕ) (error : DecodeError) (line : List ℕ)
-    → TellsInput error (fault_within limit input) → IsRefusal error line → IsTold limit of_tile input (refused line)
+    → Tells (fault_of error) (fault_within limit input) → IsRefusal error line → IsTold limit of_tile input (refused line)
 refused_told limit of_tile input Memory line tells is = absurd is
 refused_told limit of_tile input (Fault fault) line tells is = inr (fault, tells, ap refused is)
 refused_told limit of_tile input (Read kind) line tells is = absurd is
 
 pub rewrite_refused : (limit : ℕ) (left : Option (List ℕ)) (error : DecodeError) (line : List ℕ) (Untouched : Type 0)
     (Writes : List ℕ → Type 0)
-    → IfSome left (λ input. TellsInput error (fault_within limit input)) → IsRefusal error line → Untouched
+    → IfSome left (λ input. Tells (fault_of error) (fault_within limit input)) → IsRefusal error line → Untouched
     → IfSome left (Answers limit Rewrite (Some line) Untouched Writes)
 rewrite_refused limit None error line Untouched Writes tells is same = tt
 rewrite_refused limit (Some input) error line Untouched Writes tells is same =
@@ -77,7 +78,7 @@ rewrite_refused limit (Some input) error line Untouched Writes tells is same =
 
 pub extract_refused : (limit : ℕ) (names : List (List ℕ)) (left : Option (List ℕ)) (error : DecodeError) (line : List ℕ)
     (Untouched : Type 0) (Writes : List ℕ → Type 0)
-    → IfSome left (λ input. TellsInput error (fault_within limit input)) → IsRefusal error line → Untouched
+    → IfSome left (λ input. Tells (fault_of error) (fault_within limit input)) → IsRefusal error line → Untouched
     → IfSome left (Answers limit (Extract names) (Some line) Untouched Writes)
 extract_refused limit names None error line Untouched Writes tells is same = tt
 extract_refused limit names (Some input) error line Untouched Writes tells is same =

@@ -15,7 +15,7 @@ use Rattle.mvt_tile.specs.declared.fault.DecodeError.{DecodeError}
 use Rattle.mvt_tile.specs.declared.fault.DecodeError.TheVariants.{Memory, Fault, Read}
 use Rattle.mvt_tile.specs.Faults.{outer_fault, is_open}
 use Rattle.mvt_tile.specs.Inner.Judging.{fault_behind, IsJudged, TellsBehind}
-use Rattle.mvt_tile.specs.Streams.{IsCalm, IsLive, Tells, Decoding, StandsAs, StandsFor}
+use Rattle.mvt_tile.specs.Streams.{IsCalm, IsLive, TellsEarly, Decoding, StandsAs, StandsFor}
 use Rattle.mvt_tile.specs.TileRules.{field_rules, rest_rules_at, rest_rules, tile_rules, beyond, fault_within}
 use Rattle.mvt_tile.specs.Tiles.{AreItems, IsTile}
 use Rattle.mvt_tile.proofs.ItemLemmas.{are_none, are_clean}
@@ -68,7 +68,7 @@ rest_open at (b ∷ bs) some calm =
     ap (λ c. Some (outer_fault at c)) (open_cause at (rest_cause (b ∷ bs)) (calm f refl))
 
 -- what can't be changed is told of each longer stream
-tells_stays : (limit : ℕ) (e : DecodeError) (s t : List ℕ) → Tells e (fault_within limit s) → Tells e (fault_within limit (s ++ t))
+tells_stays : (limit : ℕ) (e : DecodeError) (s t : List ℕ) → TellsEarly e (fault_within limit s) → TellsEarly e (fault_within limit (s ++ t))
 tells_stays limit Memory s t h = tt
 tells_stays limit (Fault f) s t h = (fault_stays limit s t f h.0 h.1, h.1)
 tells_stays limit (Read k) s t h = absurd h
@@ -117,10 +117,10 @@ module _ (limit offset : ℕ) (items : List Item) (raw s : List ℕ) (live : IsL
       }
 
   pub live_fails : (piece t beyond : List ℕ) (e : DecodeError) → TellsBehind e offset (raw ++ t) items → piece ≡ t ++ beyond
-      → offset + (length raw + length t) ≤ limit → Tells e (fault_within limit (s ++ piece))
+      → offset + (length raw + length t) ≤ limit → TellsEarly e (fault_within limit (s ++ piece))
   live_fails piece t beyond e tells is fits =
-      subst (λ p. Tells e (fault_within limit p)) (append_assoc s t beyond ∙ ap (λ p. s ++ p) (sym is))
-      (tells_stays limit e (s ++ t) beyond (subst (Tells e) (sym (fault_more t fits)) (tells (split s).fields live.items_are)))
+      subst (λ p. TellsEarly e (fault_within limit p)) (append_assoc s t beyond ∙ ap (λ p. s ++ p) (sym is))
+      (tells_stays limit e (s ++ t) beyond (subst (TellsEarly e) (sym (fault_more t fits)) (tells (split s).fields live.items_are)))
 
   -- the first fault of the stream is that of its rest
   live_fault : first (tile_rules s) ≡ first (rest_rules_at offset raw)
@@ -132,7 +132,7 @@ module _ (limit offset : ℕ) (items : List Item) (raw s : List ℕ) (live : IsL
 
   -- a stream that goes on behind the limit
   live_too_large : (more : List ℕ) → offset + length raw ≡ limit → (length more ≡ 0 → ⊥)
-      → Tells (Fault (outer_fault offset TooLarge)) (fault_within limit (s ++ more))
+      → TellsEarly (Fault (outer_fault offset TooLarge)) (fault_within limit (s ++ more))
   live_too_large more full some =
       let size : length s ≡ limit = live_length ∙ full in
       let longer : limit < length (s ++ more) = simp length-append (omega arith) in
@@ -180,11 +180,11 @@ module _ (limit offset : ℕ) (items new : List Item) (raw after t : List ℕ) (
   piece_fits s piece (b ∷ bs) joined fits none live = absurd (omega arith)
 
   pub piece_too_large : (s piece more : List ℕ) → piece ≡ t ++ more → offset + (length raw + length t) ≡ limit → (length more ≡ 0 → ⊥)
-      → IsLive limit offset items raw s → Tells (Fault (outer_fault (offset + used) TooLarge)) (fault_within limit (s ++ piece))
+      → IsLive limit offset items raw s → TellsEarly (Fault (outer_fault (offset + used) TooLarge)) (fault_within limit (s ++ piece))
   piece_too_large s piece more joined full some live =
       let size = left_length raw after t used is judged.within in
       let longer = live_more limit offset items raw s live new after t used judged is (omega arith) in
-      subst (λ p. Tells (Fault (outer_fault (offset + used) TooLarge)) (fault_within limit p))
+      subst (λ p. TellsEarly (Fault (outer_fault (offset + used) TooLarge)) (fault_within limit p))
       (append_assoc s t more ∙ ap (λ p. s ++ p) (sym joined))
       (live_too_large limit (offset + used) new after (s ++ t) longer more (omega arith) some)
 

@@ -18,7 +18,7 @@ use Rattle.mvt_wire.specs.declared.fault.WireFault.{WireFault}
 use Rattle.mvt_wire.specs.declared.fault.WireCause.TheVariants as wire
 use Rattle.mvt_wire.specs.declared.field.Field.{Field}
 use Rattle.mvt_feature.specs.Causes.{of_wire}
-use Rattle.mvt_feature.specs.Faults.{fault_of}
+use Rattle.mvt_feature.specs.Faults.{fault_of as message_fault_of}
 use Rattle.mvt_feature.specs.declared.cause.Cause.TheVariants.{WrongType}
 use Rattle.mvt_feature.specs.declared.message_error.MessageError.{MessageError}
 use Rattle.mvt_feature.specs.declared.message_error.MessageError.TheVariants as message
@@ -32,7 +32,7 @@ use Rattle.mvt_tile.specs.declared.fault.Fault.{Fault as AFault}
 use Rattle.mvt_tile.specs.declared.numbers.tile.TheConstants.{LAYERS}
 use Rattle.mvt_tile.specs.Faults.{outer_fault, in_layer, is_open}
 use Rattle.mvt_tile.specs.Inner.Judging.{shifted, told_in, name_fault, payload_fault, fault_behind, IsJudged, IsPlaceOf, TakesItem, TellsBehind}
-use Rattle.mvt_tile.specs.Streams.{Tells}
+use Rattle.mvt_tile.specs.Streams.{TellsEarly}
 use Rattle.mvt_tile.specs.TileRules.{layers_of, is_bytes, field_rules, rest_rules, rest_rules_at}
 use Rattle.mvt_tile.specs.Tiles.{HoldsItem, AreItems}
 use Rattle.mvt_tile.proofs.LayerLemmas.{first-wrong}
@@ -41,19 +41,19 @@ use Rattle.mvt_tile.proofs.ShiftLemmas.{split_at_place, rest_dropped, place_with
 
 -- what an error tells of a part, it tells of the whole
 
-pub tells_front : (e : DecodeError) (a b : Option AFault) → Tells e a → Tells e (option_or a b)
+pub tells_front : (e : DecodeError) (a b : Option AFault) → TellsEarly e a → TellsEarly e (option_or a b)
 tells_front Memory a b h = tt
 tells_front (Fault f) None b h = absurd (let k = h.0 in cc)
 tells_front (Fault f) (Some g) b h = h
 tells_front (Read k) a b h = absurd h
 
-pub tells_back : (e : DecodeError) (a b : Option AFault) → a ≡ None → Tells e b → Tells e (option_or a b)
-tells_back e a b none h = subst (Tells e) (sym (option_or-none a b none)) h
+pub tells_back : (e : DecodeError) (a b : Option AFault) → a ≡ None → TellsEarly e b → TellsEarly e (option_or a b)
+tells_back e a b none h = subst (TellsEarly e) (sym (option_or-none a b none)) h
 
 -- of a payload
 
 pub tells_payload : (e : MessageError) (n : ℕ) (names : List (List ℕ)) (d : List ℕ) (payload_at tag_at : ℕ)
-    → Tells (fault_of e) (item_fault d payload_at tag_at) → Tells (told_in n e) (payload_fault n names d payload_at tag_at)
+    → Tells (message_fault_of e) (item_fault d payload_at tag_at) → TellsEarly (told_in n e) (payload_fault n names d payload_at tag_at)
 tells_payload message.Memory n names d payload_at tag_at h = tt
 tells_payload (message.Fault feature at cause) n names d payload_at tag_at h =
     tells_front (told_in n (message.Fault feature at cause)) (option_map (in_layer n) (item_fault d payload_at tag_at))
@@ -61,11 +61,11 @@ tells_payload (message.Fault feature at cause) n names d payload_at tag_at h =
 
 -- what is told of a name is told of a payload that has it, and no fault of its own
 pub tells_name : (e : DecodeError) (n : ℕ) (names given : List (List ℕ)) (d : List ℕ) (payload_at tag_at : ℕ)
-    → item_fault d payload_at tag_at ≡ None → given ≡ payload_names d → Tells e (name_fault n names given tag_at)
-    → Tells e (payload_fault n names d payload_at tag_at)
+    → item_fault d payload_at tag_at ≡ None → given ≡ payload_names d → TellsEarly e (name_fault n names given tag_at)
+    → TellsEarly e (payload_fault n names d payload_at tag_at)
 tells_name e n names given d payload_at tag_at none is told =
     tells_back e (option_map (in_layer n) (item_fault d payload_at tag_at)) (name_fault n names (payload_names d) tag_at)
-    (ap (option_map (in_layer n)) none) (subst (λ g. Tells e (name_fault n names g tag_at)) is told)
+    (ap (option_map (in_layer n)) none) (subst (λ g. TellsEarly e (name_fault n names g tag_at)) is told)
 
 -- of a field
 
@@ -75,7 +75,7 @@ IsNext old x new = (front : List Entry) → AreItems front old → AreItems (fro
 
 -- an error tells the fault of this field behind whatever fields are the items
 abbrev pub TellsOf : DecodeError → List Item → Entry → Type 0
-TellsOf e items x = (front : List Entry) → AreItems front items → Tells e (first (field_rules front x))
+TellsOf e items x = (front : List Entry) → AreItems front items → TellsEarly e (first (field_rules front x))
 
 pub field_over : (items : List Item) (offset : ℕ) (x : Entry) → (x.number ≡ LAYERS → ⊥) → IsNext items (shifted offset x) items
 field_over items offset x other front are = are_over front items (shifted offset x) are (ne_eqb x.number LAYERS other)
@@ -98,20 +98,20 @@ module _ (items : List Item) (offset : ℕ) (x : Entry) (d : List ℕ) (payload_
       (h.0, h.1, omega (arith, ap length taken.1, length-append items (taken.0 ∷ [])), next)
 
   pub field_tells : (r : Result (Unit {0}) DecodeError)
-      → IfErr r (λ e. Tells e (payload_fault (length items) (flat_map names_in items) d payload_at tag_at))
+      → IfErr r (λ e. TellsEarly e (payload_fault (length items) (flat_map names_in items) d payload_at tag_at))
       → IfErr r (λ e. TellsOf e items (shifted offset x))
   field_tells (Ok u) h = tt
   field_tells (Err e) h = λ front are.
       let names = flat_map names_in items in
-      let here : Tells e (payload_fault (length items) names d (offset + x.body) (offset + x.at)) =
-      subst (λ b. Tells e (payload_fault (length items) names d b (offset + x.at))) place.payload_at_is
-      (subst (λ o. Tells e (payload_fault (length items) names d payload_at o)) place.tag_at_is h) in
-      subst (Tells e) (sym (first-behind front items (shifted offset x) d are is_layer place.holds))
-      (subst (λ n. Tells e (payload_fault n names d (offset + x.body) (offset + x.at)))
+      let here : TellsEarly e (payload_fault (length items) names d (offset + x.body) (offset + x.at)) =
+      subst (λ b. TellsEarly e (payload_fault (length items) names d b (offset + x.at))) place.payload_at_is
+      (subst (λ o. TellsEarly e (payload_fault (length items) names d payload_at o)) place.tag_at_is h) in
+      subst (TellsEarly e) (sym (first-behind front items (shifted offset x) d are is_layer place.holds))
+      (subst (λ n. TellsEarly e (payload_fault n names d (offset + x.body) (offset + x.at)))
       (sym (length-related HoldsItem (layers_of front) items are.held)) here)
 
 pub field_wrong : (offset : ℕ) (x : Entry) (c : Content) → x.number ≡ LAYERS → x.content ≡ c → is_bytes c ≡ false → (front : List Entry)
-    → Tells (Fault (outer_fault (offset + x.at) WrongType)) (first (field_rules front (shifted offset x)))
+    → TellsEarly (Fault (outer_fault (offset + x.at) WrongType)) (first (field_rules front (shifted offset x)))
 field_wrong offset x c is_layer held other front =
     (first-wrong front (shifted offset x) (eq-eqb x.number LAYERS is_layer) (ap is_bytes held ∙ other), refl)
 
@@ -205,11 +205,11 @@ module _ (offset : ℕ) (b : List ℕ) (old now : List Item) (before : Parts) (s
         ∙ ap (map (shifted offset)) (so_far.fields ∙ ap (λ (p : Parts). so_far.done ++ p.fields) step.0)
         ∙ map-append (shifted offset) so_far.done (x ∷ to_come.fields) in
         tells_front e (first (each field_rules front parts.fields)) (first (rest_rules parts))
-        (subst (λ xs. Tells e (first (each field_rules front xs))) (sym is)
-        (subst (Tells e) (sym (each_behind front done (shifted offset x ∷ later)))
+        (subst (λ xs. TellsEarly e (first (each field_rules front xs))) (sym is)
+        (subst (TellsEarly e) (sym (each_behind front done (shifted offset x ∷ later)))
         (tells_back e (first (each field_rules front done)) (first (each field_rules (front ++ done) (shifted offset x ∷ later)))
         (fields_clean front done now now_are)
-        (subst (Tells e) (sym (each_parts field_rules (front ++ done) (shifted offset x) later))
+        (subst (TellsEarly e) (sym (each_parts field_rules (front ++ done) (shifted offset x) later))
         (tells_front e (first (field_rules (front ++ done) (shifted offset x)))
         (first (each field_rules ((front ++ done) ++ shifted offset x ∷ []) later)) (told (front ++ done) now_are))))))
 
@@ -267,7 +267,7 @@ module _ (offset : ℕ) (b : List ℕ) (old now : List Item) (before : Parts) (s
         let told : first (rest_rules parts) ≡ Some (outer_fault (offset + fault.at) cause) =
         ap₂ (λ a r. first (rest_rules_at a r)) at rest ∙ rest_told (offset + fault.at) before.rest step.1
         ∙ ap (λ c. Some (outer_fault (offset + fault.at) (of_wire c))) (sym step.3) in
-        subst (λ x. Tells x (fault_behind front parts)) (sym h.1)
+        subst (λ x. TellsEarly x (fault_behind front parts)) (sym h.1)
         (tells_back (Fault (outer_fault (offset + fault.at) cause)) (first (each field_rules front parts.fields)) (first (rest_rules parts))
         (ap (λ xs. first (each field_rules front xs)) (all_done step.0) ∙ fields_clean front done now (so_far.items_are front are))
         (told, shut_cause (offset + fault.at) fault.cause h.0))

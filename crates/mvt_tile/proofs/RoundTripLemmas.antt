@@ -1,11 +1,12 @@
 -- Canonical bytes are read as the tile, and as no fault.
 use Rattle.std.proofs.Common.{◌≡◌, ℕ, List, Option, Some, None, Result, Ok, Err, IfOk, IfErr, IfSome, subst}
 use Rattle.std.specs.Prelude.{MatchResult}
+use Rattle.mvt_base.specs.Tells.{Tells}
 use Rattle.mvt_base.specs.declared.TheConstants.{LIMIT}
 use Rattle.mvt_tile.specs.declared.fault.DecodeError.{DecodeError}
 use Rattle.mvt_tile.specs.declared.fault.DecodeError.TheVariants.{Memory, Fault, Read}
 use Rattle.mvt_tile.specs.declared.tile.Tile.{Tile}
-use Rattle.mvt_tile.specs.Reading.{ReadsBack, TellsInput}
+use Rattle.mvt_tile.specs.Reading.{ReadsBack, fault_of}
 use Rattle.mvt_tile.specs.TileRules.{fault_within}
 use Rattle.mvt_tile.specs.Tiles.{IsTile}
 use Rattle.mvt_tile.proofs.TileLemmas.{tile_clean, tile_once}
@@ -13,11 +14,11 @@ use Rattle.mvt_tile.proofs.TileLemmas.{tile_clean, tile_once}
 abbrev Reads : Result Tile DecodeError → Option (List ℕ) → Type 0
 Reads r left = IfOk r (λ t. IfSome left (λ input. IsTile LIMIT input t))
 
-abbrev Tells : Result Tile DecodeError → Option (List ℕ) → Type 0
-Tells r left = IfErr r (λ e. IfSome left (λ input. TellsInput e (fault_within LIMIT input)))
+abbrev TellsOfLeft : Result Tile DecodeError → Option (List ℕ) → Type 0
+TellsOfLeft r left = IfErr r (λ e. IfSome left (λ input. Tells (fault_of e) (fault_within LIMIT input)))
 
 pub reads_back : (bytes : List ℕ) (left : Option (List ℕ)) (tile : Tile) (r : Result Tile DecodeError)
-    → IsTile LIMIT bytes tile → left ≡ Some bytes → Reads r left → Tells r left → ReadsBack r tile
+    → IsTile LIMIT bytes tile → left ≡ Some bytes → Reads r left → TellsOfLeft r left → ReadsBack r tile
 reads_back bytes left tile (Ok t) is all read told =
     tile_once LIMIT bytes t tile (subst (λ o. IfSome o (λ input. IsTile LIMIT input t)) all read) is
 reads_back bytes left tile (Err Memory) is all read told = tt
@@ -27,8 +28,8 @@ reads_back bytes left tile (Err (Fault f)) is all read told =
     cc
 reads_back bytes left tile (Err (Read k)) is all read told = tt
 
-pub read_exactly : (left : Option (List ℕ)) (r : Result Tile DecodeError) → Reads r left → Tells r left
-    → IfSome left (λ input. MatchResult r (IsTile LIMIT input) (λ e. TellsInput e (fault_within LIMIT input)))
+pub read_exactly : (left : Option (List ℕ)) (r : Result Tile DecodeError) → Reads r left → TellsOfLeft r left
+    → IfSome left (λ input. MatchResult r (IsTile LIMIT input) (λ e. Tells (fault_of e) (fault_within LIMIT input)))
 read_exactly None r read told = tt
 read_exactly (Some input) (Ok t) read told = read
 read_exactly (Some input) (Err e) read told = told

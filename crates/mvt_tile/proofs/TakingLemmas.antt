@@ -8,9 +8,10 @@ use Rattle.mvt_tile.specs.declared.fault.DecodeError.TheVariants.{Memory, Fault,
 use Rattle.mvt_tile.specs.declared.fault.Fault.{Fault as AFault}
 use Rattle.mvt_tile.specs.declared.tile.Tile.{Tile}
 use Rattle.mvt_tile.specs.Inner.Taking.{HasTaken, HasStopped, TellsTaken}
-use Rattle.mvt_tile.specs.Reading.{StopsEarly, TellsInput, IsReadError, IsKindOf}
+use Rattle.mvt_tile.specs.Reading.{StopsEarly, fault_of, IsReadError, IsKindOf}
 use Rattle.std.specs.declared.io.ErrorKind.{ErrorKind}
-use Rattle.mvt_tile.specs.Streams.{Decoding, IsCalm, IsLive, StandsAs, StandsFor, Answers, Tells, TellsAtEnd}
+use Rattle.mvt_base.specs.Tells.{Tells}
+use Rattle.mvt_tile.specs.Streams.{Decoding, IsCalm, IsLive, StandsAs, StandsFor, Answers, TellsEarly, TellsAtEnd}
 use Rattle.mvt_tile.specs.TileRules.{fault_within}
 use Rattle.mvt_tile.specs.Tiles.{IsTile}
 use Rattle.mvt_tile.proofs.StreamLemmas.{fault_stays, calm_front}
@@ -57,10 +58,10 @@ taken_more limit a b c old new reads buffer piece n r has consumed is some withi
     }
 
 tells_taken : (limit : ℕ) (decoder : Decoding) (s : List ℕ) (e : DecodeError) → decoder.failure ≡ Some e → StandsFor limit decoder s
-    → Tells e (fault_within limit s)
+    → TellsEarly e (fault_within limit s)
 tells_taken limit decoder s e failed stands = (subst (λ o. StandsAs limit o decoder s) failed stands).1
 
-weaker_taken : (e : DecodeError) (o : Option AFault) → Tells e o → TellsTaken e o
+weaker_taken : (e : DecodeError) (o : Option AFault) → TellsEarly e o → TellsTaken e o
 weaker_taken Memory o h = tt
 weaker_taken (Fault f) o h = h
 weaker_taken (Read k) o h = tt
@@ -132,13 +133,13 @@ taken_early limit size a b decoder reads has =
     (live_taken limit decoder has.taken has.alive has.stands).calm
 
 tells_input : (limit : ℕ) (e : DecodeError) (taken left input : List ℕ) → input ≡ taken ++ left → TellsTaken e (fault_within limit taken)
-    → TellsInput e (fault_within limit input)
+    → Tells (fault_of e) (fault_within limit input)
 tells_input limit Memory taken left input is h = tt
 tells_input limit (Fault f) taken left input is h = ap (fault_within limit) is ∙ fault_stays limit taken left f h.0 h.1
 tells_input limit (Read k) taken left input is h = tt
 
 pub stopped_told : (limit size : ℕ) (a b : Option (List ℕ)) (e : DecodeError) → HasStopped limit size a b e
-    → IfSome a (λ input. TellsInput e (fault_within limit input))
+    → IfSome a (λ input. Tells (fault_of e) (fault_within limit input))
 stopped_told limit size None b e h = tt
 stopped_told limit size (Some xs) None e h = absurd h.consumed
 stopped_told limit size (Some xs) (Some ys) e h = tells_input limit e (h.front ++ h.back) ys xs h.consumed h.told
@@ -156,7 +157,7 @@ taken_tile limit (Some xs) None decoder reads (Ok t) has end h = absurd has.cons
 taken_tile limit (Some xs) (Some ys) decoder reads (Ok t) has end h =
     subst (λ s. IsTile limit s t) (whole_taken xs ys has.taken has.consumed end) (h has.taken has.stands)
 
-at_end_input : (e : DecodeError) (o : Option AFault) → TellsAtEnd e o → TellsInput e o
+at_end_input : (e : DecodeError) (o : Option AFault) → TellsAtEnd e o → Tells (fault_of e) o
 at_end_input Memory o h = tt
 at_end_input (Fault f) o h = h
 at_end_input (Read k) o h = tt
@@ -164,12 +165,12 @@ at_end_input (Read k) o h = tt
 pub taken_fault : (limit : ℕ) (a b : Option (List ℕ)) (decoder : Decoding) (reads : ℕ) (r : Result Tile DecodeError)
     → HasTaken limit a b decoder reads → IsAtEnd b
     → IfErr r (λ e. (s : List ℕ) → StandsFor limit decoder s → TellsAtEnd e (fault_within limit s))
-    → IfErr r (λ e. IfSome a (λ input. TellsInput e (fault_within limit input)))
+    → IfErr r (λ e. IfSome a (λ input. Tells (fault_of e) (fault_within limit input)))
 taken_fault limit a b decoder reads (Ok t) has end h = tt
 taken_fault limit None b decoder reads (Err e) has end h = tt
 taken_fault limit (Some xs) None decoder reads (Err e) has end h = absurd has.consumed
 taken_fault limit (Some xs) (Some ys) decoder reads (Err e) has end h =
-    subst (λ s. TellsInput e (fault_within limit s)) (whole_taken xs ys has.taken has.consumed end)
+    subst (λ s. Tells (fault_of e) (fault_within limit s)) (whole_taken xs ys has.taken has.consumed end)
     (at_end_input e (fault_within limit has.taken) (h has.taken has.stands))
 
 at_end_no_read : (e : DecodeError) (o : Option AFault) (P : Type 0) → TellsAtEnd e o → IsReadError e → P

@@ -8,12 +8,12 @@ use Rattle.mvt_tile.specs.declared.fault.DecodeError.TheVariants.{Memory, Fault,
 use Rattle.mvt_tile.specs.declared.fault.Fault.{Fault as AFault}
 use Rattle.mvt_tile.specs.Faults.{outer_fault}
 use Rattle.mvt_tile.specs.Inner.Judging.{IsJudged, TellsBehind}
-use Rattle.mvt_tile.specs.Streams.{IsLive, Tells, TellsAtEnd}
+use Rattle.mvt_tile.specs.Streams.{IsLive, TellsEarly, TellsAtEnd}
 use Rattle.mvt_tile.specs.TileRules.{fault_within}
 use Rattle.mvt_tile.specs.Tiles.{IsTile}
 use Rattle.mvt_tile.proofs.DecoderLemmas.{live_start, live_fails, live_truncated, live_tile, piece_fits, piece_too_large}
 
-at_end : (e : DecodeError) (o : Option AFault) → Tells e o → TellsAtEnd e o
+at_end : (e : DecodeError) (o : Option AFault) → TellsEarly e o → TellsAtEnd e o
 at_end Memory o h = tt
 at_end (Fault f) o h = h.0
 at_end (Read kind) o h = absurd h

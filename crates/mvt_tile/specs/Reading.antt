@@ -8,11 +8,11 @@ use Rattle.mvt_tile.specs.declared.tile.Tile.{Tile}
 use Rattle.mvt_tile.specs.Streams.{IsCalm}
 use Rattle.mvt_tile.specs.TileRules.{fault_within}
 
--- a fault is that of the input; the other errors say nothing of it
-abbrev pub TellsInput : DecodeError → Option AFault → Type 0
-TellsInput Memory fault = ⊤
-TellsInput (Fault f) fault = fault ≡ Some f
-TellsInput (Read kind) fault = ⊤
+-- the fault that an error tells
+abbrev pub fault_of : DecodeError → Option AFault
+fault_of Memory = None
+fault_of (Fault f) = Some f
+fault_of (Read kind) = None
 
 abbrev pub IsReadError : DecodeError → Type 0
 IsReadError Memory = ⊥

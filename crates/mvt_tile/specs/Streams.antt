@@ -29,10 +29,10 @@ pub record IsLive (limit offset : ℕ) (items : List Item) (raw stream : List �
   pub calm : IsCalm (fault_within limit stream)
 
 -- an error that no byte behind the stream can change; want of memory says nothing of the stream
-abbrev pub Tells : DecodeError → Option AFault → Type 0
-Tells Memory fault = ⊤
-Tells (Fault f) fault = (fault ≡ Some f) × (is_open f ≡ false)
-Tells (Read kind) fault = ⊥
+abbrev pub TellsEarly : DecodeError → Option AFault → Type 0
+TellsEarly Memory fault = ⊤
+TellsEarly (Fault f) fault = (fault ≡ Some f) × (is_open f ≡ false)
+TellsEarly (Read kind) fault = ⊥
 
 -- an error at the end of the stream
 abbrev pub TellsAtEnd : DecodeError → Option AFault → Type 0
@@ -42,7 +42,7 @@ TellsAtEnd (Read kind) fault = ⊥
 
 abbrev pub StandsAs : ℕ → Option DecodeError → Decoding → List ℕ → Type 0
 StandsAs limit None decoder stream = IsLive limit decoder.offset decoder.items decoder.raw stream
-StandsAs limit (Some error) decoder stream = (decoder.raw ≡ []) × Tells error (fault_within limit stream)
+StandsAs limit (Some error) decoder stream = (decoder.raw ≡ []) × TellsEarly error (fault_within limit stream)
 
 -- the decoder stands for this stream
 abbrev pub StandsFor : ℕ → Decoding → List ℕ → Type 0

@@ -1,7 +1,7 @@
 //! Reading a tile that comes in pieces.
 ghost use Rattle.std.specs.Prelude.{◌≡◌, ℕ, ◌+◌, ◌<◌, ◌≤◌, List, [], ◌++◌, length, drop, Option, None, IsSome, IfOk, IfErr, IfSome};
 ghost use Rattle.mvt_tile.specs.Inner.Judging.{IsJudged, TellsBehind};
-ghost use Rattle.mvt_tile.specs.Streams.{StandsFor, Answers, IsLive, Tells, TellsAtEnd};
+ghost use Rattle.mvt_tile.specs.Streams.{StandsFor, Answers, IsLive, TellsEarly, TellsAtEnd};
 ghost use Rattle.mvt_tile.specs.TileRules.{fault_within};
 ghost use Rattle.mvt_tile.specs.Tiles.{IsTile};
 ghost use Rattle.mvt_tile.specs.ValidTiles.{Valid};
@@ -162,7 +162,7 @@ fn take_in(
     ensures live { IfOk result (λ place. (s : List ℕ) → IsLive LIMIT offset layers.old raw.old.items s
         → IsLive LIMIT place layers.new raw.new.items (s ++ piece.now)) }
     ensures fault { IfErr result (λ error. (s : List ℕ) → IsLive LIMIT offset layers.old raw.old.items s
-        → Tells error (fault_within LIMIT (s ++ piece.now))) }
+        → TellsEarly error (fault_within LIMIT (s ++ piece.now))) }
 {
     let room = LIMIT as usize - (offset as usize + raw.len());
     let (fitting, beyond) = piece.split_at(room.min(piece.len()));

@@ -6,7 +6,7 @@ ghost use Rattle.std.specs.Option.{option_to_list};
 ghost use Rattle.mvt_message.specs.Items.{names_in};
 ghost use Rattle.mvt_message.specs.ValidItems.{ValidItem};
 ghost use Rattle.mvt_tile.specs.Inner.Judging.{AreNamed, IsJudged, TellsBehind, name_fault};
-ghost use Rattle.mvt_tile.specs.Streams.{Tells};
+ghost use Rattle.mvt_tile.specs.Streams.{TellsEarly};
 ghost use Rattle.mvt_tile.specs.TileRules.{repeats};
 ghost use Rattle.mvt_tile.specs.Tiles.{HasDistinctNames};
 
@@ -84,7 +84,7 @@ impl Layers {
         requires few { length self.old ≤ LIMIT }
         ensures items { OnOk result (self.new ≡ self.old ++ item ∷ []) }
         ensures new { OnOk result (repeats (flat_map names_in self.old) (names_in item) ≡ false) }
-        ensures fault { IfErr result (λ error. Tells error
+        ensures fault { IfErr result (λ error. TellsEarly error
             (name_fault (length self.old) (flat_map names_in self.old) (names_in item) tag_at)) }
     {
         let alloc = *self.items.allocator();
@@ -140,7 +140,7 @@ impl Names {
             → names_in item ≡ option_to_list name → AreNamed self.new.count self.new.names.keys (items ++ item ∷ [])
             × (repeats (flat_map names_in items) (names_in item) ≡ false)) }
         ensures fault { IfErr result (λ error. (items : List Item) → AreNamed self.old.count self.old.names.keys items
-            → Tells error (name_fault (length items) (flat_map names_in items) (option_to_list name) tag_at)) }
+            → TellsEarly error (name_fault (length items) (flat_map names_in items) (option_to_list name) tag_at)) }
         ensures same { OnErr result ((self.new.count ≡ self.old.count) × (self.new.names.keys ≡ self.old.names.keys)) }
     {
         if !add_name(&mut self.names, name)? {

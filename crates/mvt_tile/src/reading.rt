@@ -1,9 +1,10 @@
 //! Reading a tile from a reader.
 ghost use Rattle.std.specs.Prelude.{◌≡◌, ℕ, ◌+◌, ◌<◌, ◌≤◌, max, true, List, [], length, Err, None, IfOk, IfErr, IfSome, OnOk, OnErr};
 ghost use Rattle.std.specs.Io.KnownBytes.{IsAtEnd};
+ghost use Rattle.mvt_base.specs.Tells.{Tells};
 ghost use Rattle.mvt_io.specs.Counts.{HasFailed};
 ghost use Rattle.mvt_tile.specs.Inner.Taking.{HasTaken, HasStopped};
-ghost use Rattle.mvt_tile.specs.Reading.{IsReadError, IsKindOf, StopsEarly, TellsInput};
+ghost use Rattle.mvt_tile.specs.Reading.{IsReadError, IsKindOf, StopsEarly, fault_of};
 ghost use Rattle.mvt_tile.specs.Streams.{StandsFor};
 ghost use Rattle.mvt_tile.specs.TileRules.{fault_within};
 ghost use Rattle.mvt_tile.specs.Tiles.{IsTile};
@@ -32,7 +33,7 @@ pub fn read_tile<R: Source>(alloc: Global, reader: &mut R) -> Result<Tile, Decod
     ensures valid { IfOk result Valid }
     ensures end { OnOk result (IsAtEnd (R.left reader.new)) }
     ensures fault { IfErr result (λ error. IfSome (R.left reader.old)
-        (λ input. TellsInput error (fault_within LIMIT input))) }
+        (λ input. Tells (fault_of error) (fault_within LIMIT input))) }
     ensures early { StopsEarly LIMIT 65536 (R.left reader.old) (R.left reader.new) }
     ensures stops { StopsEarly LIMIT (R.given reader.new) (R.left reader.old) (R.left reader.new) }
     ensures reads { R.reads reader.new ≤ R.reads reader.old + MOST_READS }

@@ -1,10 +1,11 @@
 //! A tile written and read again.
 ghost use Rattle.std.specs.Prelude.{◌≡◌, ◌+◌, ◌<◌, ◌≤◌, max, true, length, Some, IfOk, IfErr, IfSome, IsErrOf, OnOk, OnErr, MatchResult};
 ghost use Rattle.std.specs.Io.KnownBytes.{Appends, IsAtEnd};
+ghost use Rattle.mvt_base.specs.Tells.{Tells};
 ghost use Rattle.mvt_io.specs.Counts.{HasFailed};
 ghost use Rattle.mvt_io.specs.Transfers.{TakesPrefix};
 ghost use Rattle.mvt_tile.specs.CanonicalTiles.{canonical};
-ghost use Rattle.mvt_tile.specs.Reading.{IsReadError, IsKindOf, ReadsBack, StopsEarly, TellsInput};
+ghost use Rattle.mvt_tile.specs.Reading.{IsReadError, IsKindOf, ReadsBack, StopsEarly, fault_of};
 ghost use Rattle.mvt_tile.specs.TileRules.{fault_within};
 ghost use Rattle.mvt_tile.specs.Tiles.{IsTile};
 ghost use Rattle.mvt_tile.specs.ValidTiles.{Valid};
@@ -42,7 +43,7 @@ pub fn write_and_read<W: Sink, R: Source>(
     ensures honest { OnOk result (W.failed writer.new ≡ W.failed writer.old) }
     ensures same { IfOk result (λ read. R.left reader.old ≡ Some (canonical tile.now) → ReadsBack read tile.now) }
     ensures exact { IfOk result (λ read. IfSome (R.left reader.old)
-        (λ input. MatchResult read (IsTile LIMIT input) (λ error. TellsInput error (fault_within LIMIT input)))) }
+        (λ input. MatchResult read (IsTile LIMIT input) (λ error. Tells (fault_of error) (fault_within LIMIT input)))) }
     ensures too_large { IsErrOf result WriteError.TooLarge
         → (LIMIT < length (canonical tile.now)) × (writer.new ≡ writer.old) }
 

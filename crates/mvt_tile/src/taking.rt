@@ -11,7 +11,7 @@ ghost use Rattle.mvt_tile.specs.declared.numbers.tile.TheConstants.{LAYERS};
 ghost use Rattle.mvt_tile.specs.declared.tile.Tile.{Tile};
 ghost use Rattle.mvt_tile.specs.Faults.{outer_fault};
 ghost use Rattle.mvt_tile.specs.Inner.Judging.{IsJudged, IsPlaceOf, TakesItem, TellsBehind, payload_fault, repeated_at, shifted, told_in};
-ghost use Rattle.mvt_tile.specs.Streams.{Tells, TellsAtEnd};
+ghost use Rattle.mvt_tile.specs.Streams.{TellsEarly, TellsAtEnd};
 ghost use Rattle.mvt_tile.specs.TileRules.{field_rules, fault_within};
 ghost use Rattle.mvt_tile.specs.Tiles.{AreItems, IsTile};
 
@@ -40,7 +40,7 @@ pub(crate) trait Taker {
         ensures item { (input : List ℕ) (items : List Item) → has_taken input self.old items → OnOk result
             ((new : List Item) × has_taken input self.new new × TakesItem items new payload.now) }
         ensures fault { (input : List ℕ) (items : List Item) → has_taken input self.old items → IfErr result
-            (λ error. Tells error (payload_fault (length items) (flat_map names_in items) payload.now payload_at tag_at)) };
+            (λ error. TellsEarly error (payload_fault (length items) (flat_map names_in items) payload.now payload_at tag_at)) };
 }
 
 /// Takes the items of a tile: all bytes, which stand at the front of an input.
@@ -120,7 +120,7 @@ fn layer_in<'a>(field: &Field<'a>, offset: u64) -> Result<Option<Place<'a>>, Dec
     ensures place { IfOk result (λ found. MatchOption found (field.now.number ≢ LAYERS)
         (λ place. IsPlaceOf offset (entry_of field.now) place.payload.now place.payload_at place.tag_at)) }
     ensures fault { IfErr result (λ error. (front : List Entry) →
-        Tells error (first (field_rules front (shifted offset (entry_of field.now))))) }
+        TellsEarly error (first (field_rules front (shifted offset (entry_of field.now))))) }
 {
     if field.number != tile::LAYERS {
         return Ok(None);
@@ -152,7 +152,7 @@ fn take_field<T: Taker>(
         × T.has_taken input taker.new new × (length new ≤ length items + 1)
         × ((front : List Entry) → AreItems front items → AreItems (front ++ shifted offset (entry_of field.now) ∷ []) new)) }
     ensures fault { (input : List ℕ) (items : List Item) → T.has_taken input taker.old items → IfErr result (λ error.
-        (front : List Entry) → AreItems front items → Tells error (first (field_rules front (shifted offset (entry_of field.now))))) }
+        (front : List Entry) → AreItems front items → TellsEarly error (first (field_rules front (shifted offset (entry_of field.now))))) }
 {
     match layer_in(field, offset)? {
         None => Ok(()),

@@ -21,7 +21,7 @@ use Rattle.mvt_tile.specs.declared.numbers.tile.TheConstants.{LAYERS}
 use Rattle.mvt_tile.specs.Faults.{in_layer}
 use Rattle.mvt_tile.specs.TileRules.{repeats, field_rules, rest_rules}
 use Rattle.mvt_tile.specs.Tiles.{AreItems, HasDistinctNames}
-use Rattle.mvt_tile.specs.Streams.{Tells}
+use Rattle.mvt_tile.specs.Streams.{TellsEarly}
 
 -- items, each valid, with the set of their names, which are distinct
 pub record AreKept (names : List (List ℕ)) (items : List Item) : Type 0 where
@@ -81,4 +81,4 @@ pub record IsJudged (offset : ℕ) (bytes : List ℕ) (old new : List Item) (use
 -- an error tells the fault of the bytes, behind whatever fields are the items
 abbrev pub TellsBehind : DecodeError → ℕ → List ℕ → List Item → Type 0
 TellsBehind error offset bytes items =
-    (front : List Entry) → AreItems front items → Tells error (fault_behind front (split_from offset bytes))
+    (front : List Entry) → AreItems front items → TellsEarly error (fault_behind front (split_from offset bytes))

@@ -4,7 +4,7 @@ use Rattle.std.specs.Io.KnownBytes.{Consumes}
 use Rattle.mvt_tile.specs.declared.fault.Fault.{Fault as AFault}
 use Rattle.mvt_tile.specs.declared.fault.DecodeError.{DecodeError}
 use Rattle.mvt_tile.specs.declared.fault.DecodeError.TheVariants.{Memory, Fault, Read}
-use Rattle.mvt_tile.specs.Streams.{Decoding, IsCalm, StandsFor, Tells}
+use Rattle.mvt_tile.specs.Streams.{Decoding, IsCalm, StandsFor, TellsEarly}
 use Rattle.mvt_tile.specs.TileRules.{fault_within}
 
 -- so many reads gave the bytes that the decoder stands for
@@ -18,7 +18,7 @@ pub record HasTaken (limit : ℕ) (before now : Option (List ℕ)) (decoder : De
 -- a fault that stays; the other errors say nothing
 abbrev pub TellsTaken : DecodeError → Option AFault → Type 0
 TellsTaken Memory fault = ⊤
-TellsTaken (Fault f) fault = Tells (Fault f) fault
+TellsTaken (Fault f) fault = TellsEarly (Fault f) fault
 TellsTaken (Read kind) fault = ⊤
 
 -- the call ended with an error, in the last piece that was read
