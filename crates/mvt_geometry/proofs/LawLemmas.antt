@@ -1,4 +1,4 @@
--- One geometry for integers, integers of 32 bits, and the first profile's range.
+-- One geometry for integers, integers of 32 bits, and the narrow range.
 use Rattle.std.proofs.Common.{◌≡◌, ℕ, ◌+◌, ◌*◌, ◌^◌, ◌<◌, List, [], ◌∷◌, ◌++◌, length, take, drop, ℤ, pos, negsuc, ◌-ℤ◌, ◌≤ℤ◌, refl, sym, ap, ap₂, subst, ◌∙◌, arith}
 use Rattle.std.specs.List.{AllByRecursion}
 use Rattle.std.proofs.lemmas.Int.{ints}
@@ -10,7 +10,7 @@ use Rattle.mvt_geometry.specs.declared.shape.Geometry.{Geometry}
 use Rattle.mvt_geometry.specs.declared.shape.Geometry.TheVariants.{Unknown, Points, Lines, Polygons}
 use Rattle.mvt_geometry.specs.declared.shape.Kind.{Kind}
 use Rattle.mvt_geometry.specs.Shape.{narrow, InRangeOf, InRange, IsPlaceOf, IsPlace, AreSteps, joined, origin, rings_of, kind_of, last_of}
-use Rattle.mvt_geometry.specs.Valid.{IsStrokeOf, IsStroke, IsValidOf, IsValid, IsOfFirstProfile}
+use Rattle.mvt_geometry.specs.Valid.{IsStrokeOf, IsStroke, IsValidOf, IsValid, IsValidNarrow}
 use Rattle.mvt_geometry.specs.Drawing.{path_from, path, strokes, drawn, DrawsOf, Draws, stroke}
 use Rattle.mvt_geometry.specs.Inner.Strokes.{AreSmall}
 use Rattle.mvt_geometry.specs.Inner.Grouping.{polygons_of}
@@ -121,7 +121,7 @@ drawn_small_lem (Points ps) v = (omega (arith, v.1), small_path origin ps v.3)
 drawn_small_lem (Lines ls) v = small_strokes 2 [] origin ls tt v.1 v.2
 drawn_small_lem (Polygons ps) v = small_strokes 3 (15 ∷ []) origin (rings_of ps) (omega arith, tt) v.1 v.2
 
--- the first profile's positions are in the wide range, and so are their differences
+-- positions of the narrow range are in the wide one, and so are their differences
 widened : (z : ℤ) → InRangeOf narrow z → InRange z
 widened z h =
     let low : negsuc 1073741823 ≤ℤ z = h.low in
@@ -157,11 +157,11 @@ origin_narrow = (
   record { low = omega (arith, ints); high = omega (arith, ints) },
 )
 
-pub first_profile_valid : (g : Geometry) → IsOfFirstProfile g → IsValid g
-first_profile_valid (Unknown u) v = v
-first_profile_valid (Points ps) v = (v.0, v.1, wide_places ps v.2, near_steps origin ps origin_narrow v.2)
-first_profile_valid (Lines ls) v = (v.0, wide_strokes 2 ls v.1, near_steps origin (joined ls) origin_narrow (joined_places 2 ls v.1))
-first_profile_valid (Polygons ps) v =
+pub narrow_valid : (g : Geometry) → IsValidNarrow g → IsValid g
+narrow_valid (Unknown u) v = v
+narrow_valid (Points ps) v = (v.0, v.1, wide_places ps v.2, near_steps origin ps origin_narrow v.2)
+narrow_valid (Lines ls) v = (v.0, wide_strokes 2 ls v.1, near_steps origin (joined ls) origin_narrow (joined_places 2 ls v.1))
+narrow_valid (Polygons ps) v =
     (v.0, wide_strokes 3 (rings_of ps) v.1, near_steps origin (joined (rings_of ps)) origin_narrow (joined_places 3 (rings_of ps) v.1))
 
 narrow_valid : (g : Geometry) → IsValidOf narrow g → IsValid g

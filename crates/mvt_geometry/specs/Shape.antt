@@ -41,7 +41,7 @@ pub record Range : Type 0 where
 abbrev pub wide : Range
 wide = record { low = negsuc 2147483646; high = pos 2147483647 }
 
--- the range of positions of the first profile: -2^30 to 2^30 - 1
+-- the narrow range of positions, -2^30 to 2^30 - 1: that of the first profile
 abbrev pub narrow : Range
 narrow = record { low = negsuc 1073741823; high = pos 1073741823 }
 

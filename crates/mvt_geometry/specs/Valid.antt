@@ -46,11 +46,11 @@ IsValidOf range (Polygons polygons) =
 abbrev pub IsValid : Geometry → Type 0
 IsValid g = IsValidOf wide g
 
--- what the first profile called valid: positions in its range, and nothing said of differences
-abbrev pub IsOfFirstProfile : Geometry → Type 0
-IsOfFirstProfile (Unknown integers) = AllByRecursion (λ n. n < 2 ^ 32) integers
-IsOfFirstProfile (Points points) =
+-- valid with positions in the narrow range, and nothing said of differences
+abbrev pub IsValidNarrow : Geometry → Type 0
+IsValidNarrow (Unknown integers) = AllByRecursion (λ n. n < 2 ^ 32) integers
+IsValidNarrow (Points points) =
     (0 < length points) × (length points < 2 ^ 29) × AllByRecursion (IsPlaceOf narrow) points
-IsOfFirstProfile (Lines lines) = (0 < length lines) × AllByRecursion (IsStrokeOf narrow 2) lines
-IsOfFirstProfile (Polygons polygons) =
+IsValidNarrow (Lines lines) = (0 < length lines) × AllByRecursion (IsStrokeOf narrow 2) lines
+IsValidNarrow (Polygons polygons) =
     Grouped (rings_of polygons) polygons × AllByRecursion (IsStrokeOf narrow 3) (rings_of polygons)

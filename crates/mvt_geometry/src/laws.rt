@@ -6,7 +6,7 @@ ghost use Rattle.mvt_wire.specs.Spelling.{short_numbers};
 ghost use Rattle.mvt_geometry.specs.declared.shape.Kind.{Kind};
 ghost use Rattle.mvt_geometry.specs.declared.shape.Geometry.{Geometry};
 ghost use Rattle.mvt_geometry.specs.Shape.{wide, narrow};
-ghost use Rattle.mvt_geometry.specs.Valid.{IsValid, IsOfFirstProfile};
+ghost use Rattle.mvt_geometry.specs.Valid.{IsValid, IsValidNarrow};
 ghost use Rattle.mvt_geometry.specs.Drawing.{drawn, Draws, DrawsOf};
 ghost use Rattle.mvt_geometry.specs.Bounds.{geometry_bound};
 ghost use Rattle.mvt_geometry.specs.Table.{IndexedCause, geometry_rules, geometry_fault};
@@ -48,9 +48,9 @@ pub fn bound_holds()
     ensures { (g : Geometry) → IsValid g → length (short_numbers (drawn g)) ≤ geometry_bound g }
 {}
 
-/// What the first profile called valid is valid.
+/// What is valid with positions in the narrow range, from -2^30 to 2^30 - 1, is valid.
 pub fn old_geometries_stay()
-    ensures { (g : Geometry) → IsOfFirstProfile g → IsValid g }
+    ensures { (g : Geometry) → IsValidNarrow g → IsValid g }
 {}
 
 /// What integers draw with positions in the narrow range, they draw.

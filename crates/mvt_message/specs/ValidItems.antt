@@ -2,7 +2,7 @@
 use Rattle.std.specs.Prelude.{◌≡◌, ◌≢◌, ℕ, ◌^◌, ◌<◌, List, Some, IfSome, IsUtf8}
 use Rattle.std.specs.List.{AllByRecursion}
 use Rattle.mvt_attrs.specs.Tags.{HasDistinctKeys}
-use Rattle.mvt_geometry.specs.Valid.{IsOfFirstProfile}
+use Rattle.mvt_geometry.specs.Valid.{IsValidNarrow}
 use Rattle.mvt_wire.specs.Field.{Entry}
 use Rattle.mvt_wire.specs.Split.{Whole}
 use Rattle.mvt_feature.specs.declared.feature.Feature.{Feature}
@@ -28,12 +28,12 @@ unfoldable pub ValidItem : AnItem → Type 0
 ValidItem (Layer layer) = ValidLayer layer
 ValidItem (Foreign version content) = AreOfVersion version content
 
--- valid under the first profile, which had a narrower range of positions
+-- valid with positions in the narrow range
 pub record WasValidFeature (f : Feature) : Type 0 where
   pub id : IfSome f.id (λ n. n < 2 ^ 64)
   pub attributes : AllByRecursion ValidAttribute f.attributes
   pub distinct : HasDistinctKeys f.attributes
-  pub drawn : IsOfFirstProfile f.geometry
+  pub drawn : IsValidNarrow f.geometry
 
 unfoldable pub WasValidItem : AnItem → Type 0
 WasValidItem (Layer layer) =

@@ -58,7 +58,7 @@ pub fn bound_holds()
         → length (canonical_item item) ≤ item_bound item }
 {}
 
-/// An item that was valid under the first range of positions is valid.
+/// An item that was valid with positions in the narrow range is valid.
 pub fn old_items_stay()
     ensures { (item : Item) → WasValidItem item → ValidItem item }
 {}
