@@ -157,11 +157,11 @@ origin_narrow = (
   record { low = omega (arith, ints); high = omega (arith, ints) },
 )
 
-pub narrow_valid : (g : Geometry) → IsValidNarrow g → IsValid g
-narrow_valid (Unknown u) v = v
-narrow_valid (Points ps) v = (v.0, v.1, wide_places ps v.2, near_steps origin ps origin_narrow v.2)
-narrow_valid (Lines ls) v = (v.0, wide_strokes 2 ls v.1, near_steps origin (joined ls) origin_narrow (joined_places 2 ls v.1))
-narrow_valid (Polygons ps) v =
+pub old_geometries_stay : (g : Geometry) → IsValidNarrow g → IsValid g
+old_geometries_stay (Unknown u) v = v
+old_geometries_stay (Points ps) v = (v.0, v.1, wide_places ps v.2, near_steps origin ps origin_narrow v.2)
+old_geometries_stay (Lines ls) v = (v.0, wide_strokes 2 ls v.1, near_steps origin (joined ls) origin_narrow (joined_places 2 ls v.1))
+old_geometries_stay (Polygons ps) v =
     (v.0, wide_strokes 3 (rings_of ps) v.1, near_steps origin (joined (rings_of ps)) origin_narrow (joined_places 3 (rings_of ps) v.1))
 
 narrow_valid : (g : Geometry) → IsValidOf narrow g → IsValid g
