@@ -5,3 +5,4 @@ pub mod GrowingLemmas
 pub mod TableLemmas
 pub mod SelectionLemmas
 pub mod ResultLemmas
+pub mod TellsLemmas

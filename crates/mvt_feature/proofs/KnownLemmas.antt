@@ -7,6 +7,7 @@ use Rattle.std.proofs.lemmas.Grind.{flat_map-append}
 use Rattle.std.proofs.lemmas.List.Elements.{filter-append}
 use Rattle.mvt_base.specs.Tells.{Tells}
 use Rattle.mvt_base.specs.Rules.{each, first}
+use Rattle.mvt_base.proofs.TellsLemmas.{tells_as}
 use Rattle.mvt_base.proofs.RuleLemmas.{each_more, each_stops, first-told}
 use Rattle.mvt_base.proofs.SelectionLemmas.{last_only-more}
 use Rattle.mvt_wire.specs.Field.{Entry}
@@ -69,12 +70,6 @@ pub field_first : (payload_at : ℕ) (x : Entry)
 unfolding feature_field_rules
 field_first payload_at x = first-told (fault_at (payload_at + x.at)) (feature_form_rules x.number x.content)
 
--- a fault stays before the rules of later fields
-pub tells_as : (e : MessageError) (o : Option MessageFault) (p : Option MessageFault)
-    → ((f : MessageFault) → o ≡ Some f → p ≡ Some f) → Tells (fault_of e) o → Tells (fault_of e) p
-tells_as Memory o p keep h = tt
-tells_as (Fault feature at cause) o p keep h = keep _ h
-
 one_more : (payload_at : ℕ) (done : List Entry) (x : Entry) (more : List Entry) (f : MessageFault)
     → first (each (λ _. feature_field_rules payload_at) [] done) ≡ None
     → option_map (fault_at (payload_at + x.at)) (first (feature_form_rules x.number x.content)) ≡ Some f
@@ -99,6 +94,6 @@ known_with payload_at done x old tags integers new_tags new_integers (Ok new) so
   known_more done x old new tags integers new_tags new_integers so_far.1 id kind tags_are integers_are,
 )
 known_with payload_at done x old tags integers new_tags new_integers (Err e) so_far clean id kind tags_are integers_are told_here =
-    λ more. tells_as e (option_map (fault_at (payload_at + x.at)) (first (feature_form_rules x.number x.content)))
+    λ more. tells_as (fault_of e) (option_map (fault_at (payload_at + x.at)) (first (feature_form_rules x.number x.content)))
     (first (each (λ _. feature_field_rules payload_at) [] ((done ++ x ∷ []) ++ more)))
     (λ f broken. one_more payload_at done x more f so_far.0 broken) told_here

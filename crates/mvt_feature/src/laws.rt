@@ -1,7 +1,6 @@
 //! Laws about the definitions alone: functions without effect, whose contract is the law.
-ghost use Rattle.std.specs.Prelude.{◌≡◌, ◌==◌, ◌↔◌, ℕ, ◌+◌, ◌^◌, ◌<◌, ◌≤◌, List, [], ◌∷◌, ◌++◌, length, Option, None, Some, if◌then◌else◌, Ok, Err, IsUtf8};
+ghost use Rattle.std.specs.Prelude.{◌≡◌, ◌==◌, ◌↔◌, ℕ, ◌+◌, ◌^◌, ◌<◌, ◌≤◌, List, [], ◌∷◌, ◌++◌, length, None, Some, if◌then◌else◌, Ok, Err, IsUtf8};
 ghost use Rattle.std.specs.List.{AllByRecursion};
-ghost use Rattle.mvt_base.specs.Tells.{Tells};
 ghost use Rattle.mvt_base.specs.Rules.{AreOrdered, IsLeast, each, first};
 ghost use Rattle.mvt_attrs.specs.declared.value.Value.{Value};
 ghost use Rattle.mvt_feature.specs.declared.feature.Feature.{Feature};
@@ -14,11 +13,10 @@ ghost use Rattle.mvt_wire.specs.Field.{Entry, entry_of};
 ghost use Rattle.mvt_wire.specs.Fields.{GivesEntry};
 ghost use Rattle.mvt_wire.specs.Spelling.{spelled};
 ghost use Rattle.mvt_wire.specs.Split.{Parts, Whole, split};
-ghost use Rattle.mvt_feature.specs.declared.message_error.MessageError.{MessageError};
 ghost use Rattle.mvt_feature.specs.Causes.{of_wire};
 ghost use Rattle.mvt_feature.specs.Canonical.{value_fields, feature_fields};
 ghost use Rattle.mvt_feature.specs.Bounds.{feature_bound};
-ghost use Rattle.mvt_feature.specs.Faults.{MessageFault, fault_of, fault_at, rest_rules};
+ghost use Rattle.mvt_feature.specs.Faults.{MessageFault, fault_at, rest_rules};
 ghost use Rattle.mvt_feature.specs.Forms.{Form, IsFirst, HaveForms, forms_rules};
 ghost use Rattle.mvt_feature.specs.Ranges.{AreBytes, IsInRange};
 ghost use Rattle.mvt_feature.specs.Valid.{ValidValue, ValidFeature};
@@ -132,12 +130,6 @@ pub fn walks()
     ensures fault { (payload : List ℕ) (old new : Parts) (done : List Entry) (fault : WireFault) (payload_at : ℕ)
         → Walk payload old done → GivesEntry old (Some (Err fault)) new
         → first (rest_rules payload_at (split payload)) ≡ Some (fault_at (payload_at + fault.at) (of_wire fault.cause)) }
-{}
-
-/// An error that tells a fault of its own also tells it where it is the fault of more.
-pub fn tells_as()
-    ensures { (error : MessageError) (o p : Option MessageFault) → ((fault : MessageFault) → o ≡ Some fault → p ≡ Some fault)
-        → Tells (fault_of error) o → Tells (fault_of error) p }
 {}
 
 /// One more field is the last of its number.

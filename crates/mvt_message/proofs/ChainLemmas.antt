@@ -1,14 +1,9 @@
 -- The fault of an item from its parts.
 use Rattle.std.proofs.Common.{◌≡◌, ℕ, Bool, true, false, List, [], Option, Some, None, refl, sym, ap, ◌∙◌, if◌then◌else◌}
 use Rattle.std.specs.Option.{option_or}
-use Rattle.mvt_base.specs.Tells.{Tells}
-use Rattle.mvt_base.proofs.RuleLemmas.{option_or-none, option_or-some}
 use Rattle.mvt_base.proofs.TableLemmas.{firsts, first-rows_all}
 use Rattle.mvt_wire.specs.Field.{Entry}
 use Rattle.mvt_wire.specs.Split.{split}
-use Rattle.mvt_feature.specs.declared.message_error.MessageError.{MessageError}
-use Rattle.mvt_feature.specs.declared.message_error.MessageError.TheVariants.{Memory, Fault}
-use Rattle.mvt_feature.specs.Faults.{MessageFault, fault_of}
 use Rattle.mvt_message.specs.ItemRules.{item_table, layer_table, item_rules, item_fault}
 use Rattle.mvt_message.specs.LayerFields.{version_in, is_two, keys_in, values_in}
 use Rattle.mvt_message.specs.Inner.{rest_fault, versions_fault, no_version_fault, forms_fault, no_name_fault, values_fault, features_fault, head_fault, layer_fault}
@@ -41,13 +36,3 @@ pub layer_chain : (payload_at tag_at : ℕ) (fields : List Entry)
     (option_or (values_fault payload_at fields) (option_or (features_fault payload_at (keys_in fields) (values_in fields) fields) None)))
 unfolding layer_fault
 layer_chain payload_at tag_at fields = first-rows_all (layer_table payload_at tag_at fields)
-
--- a fault that stands in front is that of the whole
-pub tells_or : (e : MessageError) (a b : Option MessageFault) → Tells (fault_of e) a → Tells (fault_of e) (option_or a b)
-tells_or Memory a b h = tt
-tells_or (Fault feature at cause) a b h = option_or-some a b _ h
-
--- and so is one behind parts without a fault
-pub or_tells : (e : MessageError) (a b : Option MessageFault) → a ≡ None → Tells (fault_of e) b → Tells (fault_of e) (option_or a b)
-or_tells Memory a b none h = tt
-or_tells (Fault feature at cause) a b none h = option_or-none a b none ∙ h

@@ -9,6 +9,7 @@ use Rattle.std.proofs.lemmas.List.Elements.{filter-append}
 use Rattle.mvt_base.specs.Tells.{Tells}
 use Rattle.mvt_base.specs.Related.{AreRelated}
 use Rattle.mvt_base.specs.Rules.{Rules, each, first}
+use Rattle.mvt_base.proofs.TellsLemmas.{tells_as, tells_or, or_tells}
 use Rattle.mvt_base.proofs.ListLemmas.{related-append}
 use Rattle.mvt_base.proofs.RuleLemmas.{each_more, each_stops, first-told, first-when, first-when_not, option_or-none, option_or-nones, option_or-some}
 use Rattle.mvt_base.proofs.SelectionLemmas.{last_only-more}
@@ -36,16 +37,10 @@ use Rattle.mvt_message.specs.LayerFields.{version_forms, layer_forms, bytes_of, 
 use Rattle.mvt_message.specs.ItemRules.{version_rules, layer_field_rules, feature_rules_of, item_fault, payload_names}
 use Rattle.mvt_message.specs.Items.{HoldsValue, HoldsFeature, IsLayer, IsItem}
 use Rattle.mvt_message.specs.Inner.{rest_fault, versions_fault, forms_fault, no_name_fault, values_fault, features_fault, head_fault, layer_fault, IsVersionSoFar, OrFault, IsHead, name_after, extent_after, keys_at, AreValuesSoFar}
-use Rattle.mvt_message.proofs.ChainLemmas.{item_chain, layer_chain, tells_or, or_tells}
+use Rattle.mvt_message.proofs.ChainLemmas.{item_chain, layer_chain}
 use Rattle.mvt_message.proofs.FormLemmas.{versions_form}
 use Rattle.mvt_message.proofs.SaidLemmas.{values_said}
 use Rattle.mvt_message.proofs.OrFaultLemmas.{last_there, name_there, feature_first, version_there, head_clean, layer_from, layer_clean, item_of_layer, item_from}
-
--- a fault is told of whatever has it
-pub tells_as : (e : MessageError) (o p : Option MessageFault) → ((f : MessageFault) → o ≡ Some f → p ≡ Some f) → Tells (fault_of e) o
-    → Tells (fault_of e) p
-tells_as Memory o p keep h = tt
-tells_as (Fault feature at cause) o p keep h = keep _ h
 
 -- the selected fields with one more
 only_take : (k : ℕ) (done : List Entry) (x : Entry) → x.number ≡ k → only k (done ++ x ∷ []) ≡ only k done ++ x ∷ []
@@ -65,14 +60,14 @@ selected_stops k rules e done x more is clean told_here =
     let parts : only k ((done ++ x ∷ []) ++ more) ≡ only k done ++ (x ∷ [] ++ only k more) =
     filter-append (λ (y : Entry). y.number == k) (done ++ x ∷ []) more ∙ ap (λ xs. xs ++ only k more) (only_take k done x is)
     ∙ append_assoc (only k done) (x ∷ []) (only k more) in
-    tells_as e (first (rules (only k done) x)) _
+    tells_as (fault_of e) (first (rules (only k done) x)) _
     (λ f broken. ap (λ xs. first (each rules [] xs)) parts ∙ each_stops rules (only k done) x (only k more) f clean broken) told_here
 
 each_told : (rules : Entry → Rules MessageFault) (e : MessageError) (done : List Entry) (x : Entry) (more : List Entry)
     → first (each (λ _. rules) [] done) ≡ None → Tells (fault_of e) (first (rules x))
     → Tells (fault_of e) (first (each (λ _. rules) [] ((done ++ x ∷ []) ++ more)))
 each_told rules e done x more clean told_here =
-    tells_as e (first (rules x)) _ (λ f broken. rw append_assoc (each_stops (λ _. rules) done x more f clean broken)) told_here
+    tells_as (fault_of e) (first (rules x)) _ (λ f broken. rw append_assoc (each_stops (λ _. rules) done x more f clean broken)) told_here
 
 -- the elements of a number so far break no rule, and are these
 abbrev pub AreSoFar : {Y : Type 0} → ℕ → (List Entry → Entry → Rules MessageFault) → (Entry → Y → Type 0) → List Entry → List Y → Type 0
@@ -291,14 +286,14 @@ pub head_versions : (payload : List ℕ) (payload_at tag_at : ℕ) (e : MessageE
     → ((more : List Entry) → Tells (fault_of e) (versions_fault payload_at ((split payload).fields ++ more)))
     → Tells (fault_of e) (head_fault payload payload_at tag_at)
 head_versions payload payload_at tag_at e rest stays =
-    or_tells e (rest_fault payload payload_at) _ (rests_none payload_at (split payload) rest)
-    (tells_or e (versions_fault payload_at (split payload).fields) _ (or_told (versions_fault payload_at) (split payload).fields e stays))
+    or_tells (fault_of e) (rest_fault payload payload_at) _ (rests_none payload_at (split payload) rest)
+    (tells_or (fault_of e) (versions_fault payload_at (split payload).fields) _ (or_told (versions_fault payload_at) (split payload).fields e stays))
 
 -- the exits of `read_layer`
 pub forms_told : (payload_at tag_at : ℕ) (xs : List Entry) (e : MessageError) → Tells (fault_of e) (forms_fault payload_at xs)
     → Tells (fault_of e) (layer_fault payload_at tag_at xs)
 forms_told payload_at tag_at xs e h =
-    subst (Tells (fault_of e)) (sym (layer_chain payload_at tag_at xs)) (tells_or e (forms_fault payload_at xs) _ h)
+    subst (Tells (fault_of e)) (sym (layer_chain payload_at tag_at xs)) (tells_or (fault_of e) (forms_fault payload_at xs) _ h)
 
 name_some : (tag_at : ℕ) (xs : List Entry) (name : List ℕ) → Some name ≡ name_in xs → no_name_fault tag_at xs ≡ None
 name_some tag_at xs name is = first-when_not _ _ (name_there xs name (sym is))
@@ -316,8 +311,8 @@ pub values_told : (payload_at tag_at : ℕ) (xs : List Entry) {name : List ℕ} 
     → forms_fault payload_at xs ≡ None → Some name ≡ name_in xs → Tells (fault_of e) (values_fault payload_at xs)
     → Tells (fault_of e) (layer_fault payload_at tag_at xs)
 values_told payload_at tag_at xs {name} e forms is h =
-    let values = or_tells e (no_name_fault tag_at xs) _ (name_some tag_at xs name is) (tells_or e (values_fault payload_at xs) _ h) in
-    subst (Tells (fault_of e)) (sym (layer_chain payload_at tag_at xs)) (or_tells e (forms_fault payload_at xs) _ forms values)
+    let values = or_tells (fault_of e) (no_name_fault tag_at xs) _ (name_some tag_at xs name is) (tells_or (fault_of e) (values_fault payload_at xs) _ h) in
+    subst (Tells (fault_of e)) (sym (layer_chain payload_at tag_at xs)) (or_tells (fault_of e) (forms_fault payload_at xs) _ forms values)
 
 -- fields that break no rule before those of the features: the name, the keys and the values
 pub record IsClean (payload_at : ℕ) (xs : List Entry) (name : List ℕ) (keys : List (List ℕ)) (values : List Value) : Type 0 where
@@ -350,10 +345,10 @@ pub features_told : {payload_at : ℕ} {xs : List Entry} {name : List ℕ} {keys
     → Tells (fault_of e) (layer_fault payload_at tag_at xs)
 features_told {payload_at} {xs} {name} tag_at e front h =
     let here = subst (Tells (fault_of e)) (features_same front) h in
-    let features = tells_or e (features_fault payload_at (keys_in xs) (values_in xs) xs) None here in
-    let behind = or_tells e (values_fault payload_at xs) _ front.none_broken features in
-    let named = or_tells e (no_name_fault tag_at xs) _ (name_some tag_at xs name front.name_is) behind in
-    subst (Tells (fault_of e)) (sym (layer_chain payload_at tag_at xs)) (or_tells e (forms_fault payload_at xs) _ front.forms named)
+    let features = tells_or (fault_of e) (features_fault payload_at (keys_in xs) (values_in xs) xs) None here in
+    let behind = or_tells (fault_of e) (values_fault payload_at xs) _ front.none_broken features in
+    let named = or_tells (fault_of e) (no_name_fault tag_at xs) _ (name_some tag_at xs name front.name_is) behind in
+    subst (Tells (fault_of e)) (sym (layer_chain payload_at tag_at xs)) (or_tells (fault_of e) (forms_fault payload_at xs) _ front.forms named)
 
 pub layer_ok : {payload_at : ℕ} {xs : List Entry} {name : List ℕ} {keys : List (List ℕ)} {values : List Value} (tag_at : ℕ)
     → IsClean payload_at xs name keys values → features_fault payload_at keys values xs ≡ None
@@ -375,7 +370,7 @@ as_two xs is two = is ∙ ap Some two
 pub head_told : (payload : List ℕ) (payload_at tag_at : ℕ) (e : MessageError) → Tells (fault_of e) (head_fault payload payload_at tag_at)
     → Tells (fault_of e) (item_fault payload payload_at tag_at)
 head_told payload payload_at tag_at e h =
-    subst (Tells (fault_of e)) (sym (item_chain payload payload_at tag_at)) (tells_or e (head_fault payload payload_at tag_at) _ h)
+    subst (Tells (fault_of e)) (sym (item_chain payload payload_at tag_at)) (tells_or (fault_of e) (head_fault payload payload_at tag_at) _ h)
 
 pub head_whole : (payload : List ℕ) (payload_at tag_at : ℕ) → head_fault payload payload_at tag_at ≡ None → (split payload).rest ≡ []
 head_whole payload payload_at tag_at none = rests_nothing payload_at (split payload) (option_or-nones _ _ none).0
