@@ -15,7 +15,8 @@ WORDS = {
     "mvt_geometry": "paths, rings",
     "mvt_feature": "values, features",
     "mvt_message": "layers",
-    "mvt_tile": "tiles, the decoder",
+    "mvt_model": "tiles as values, writing",
+    "mvt_tile": "reading, the decoder",
     "mvt_uses": "examples of callers",
     "mvt_view": "JSON, pictures, reports",
     "mvt_rows": "tiles as rows",
@@ -23,7 +24,10 @@ WORDS = {
     "mvt_cli": "the program mvt",
     "mvt_c": "the library for C",
     "mvt_bench": "what bench/ measures",
-    "mvt_tests": "tests of the libraries",
+    "mvt_part_tests": "tests up to mvt_geometry",
+    "mvt_layer_tests": "tests of layers",
+    "mvt_tile_tests": "tests of tiles",
+    "mvt_view_tests": "tests of texts and rows",
 }
 # Each crate's place from the left, in boxes; how high it stands follows from crates.txt.
 COLUMN = {
@@ -34,6 +38,7 @@ COLUMN = {
     "mvt_geometry": 0,
     "mvt_feature": 0.5,
     "mvt_message": 0.5,
+    "mvt_model": 1,
     "mvt_tile": 1,
     "mvt_uses": 3,
     "mvt_view": 1,
@@ -42,7 +47,10 @@ COLUMN = {
     "mvt_cli": 0,
     "mvt_c": 1,
     "mvt_bench": 2,
-    "mvt_tests": 3,
+    "mvt_part_tests": 3,
+    "mvt_layer_tests": 3,
+    "mvt_tile_tests": 0,
+    "mvt_view_tests": 3,
 }
 WIDE, HIGH, GAP, RISE = 176, 50, 24, 92
 

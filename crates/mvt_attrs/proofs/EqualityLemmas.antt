@@ -2,11 +2,6 @@
 use Rattle.std.proofs.Common.{◌≡◌, Decides, rules}
 use Rattle.mvt_attrs.specs.declared.value.Value.{Value}
 use Rattle.mvt_attrs.specs.Values.{equal_values}
-use Rattle.mvt_attrs.specs.contracts.value.ValuePartialEq.TheImpl.{ghosts}
-
--- the derived test
-pub derived-Decides : (x y : Value) → Decides (ghosts.eq x y) (x ≡ y)
-derived-Decides x y = search rules
 
 -- the test of the definitions
 pub equal_values-Decides : (x y : Value) → Decides (equal_values x y) (x ≡ y)

@@ -1,13 +1,14 @@
 -- First uses of a list, under a test that decides equality.
 use Rattle.std.proofs.Common.{◌≡◌, ◌≢◌, ℕ, zero, suc, ◌<◌, Bool, true, false, cond, not, ◌||◌, List, [], ◌∷◌, ◌++◌, length, get_or, filter, Some, Contains, Decides, slice_get, refl, sym, ap, subst, ◌∙◌, inl, inr, arith, length-append, append_assoc, append-nil}
 use Rattle.std.specs.List.{list_any}
-use Rattle.std.proofs.lemmas.Bool.{false≢true, both_ways, or_left, or_right, or_from, or_parts, or_cases, false_from_ne_true}
+use Rattle.std.proofs.lemmas.Bool.{false≢true, both_ways, or_from, or_parts, or_cases, false_from_ne_true}
 use Rattle.std.proofs.lemmas.List.{get_or_append_left, get_or_at}
 use Rattle.std.proofs.lemmas.List.Elements.{filter-append}
 use Rattle.std.proofs.lemmas.List.Quantifiers.{all_pairs_push}
 use Rattle.std.proofs.lemmas.Option.{slice_get_within, get_or_from_slice_get}
 use Rattle.mvt_attrs.specs.FirstUse.{first_use, AreDistinct}
 use Rattle.mvt_attrs.specs.TagPlaces.{place_in}
+use Rattle.mvt_attrs.proofs.PoolLemmas.{any_from_Contains}
 
 module _ {A : Type 0} (same : A → A → Bool) (decides : (x y : A) → Decides (same x y) (x ≡ y)) where
   -- whether a list has x
@@ -19,14 +20,6 @@ module _ {A : Type 0} (same : A → A → Bool) (decides : (x y : A) → Decides
   put pool x = cond (has x pool) pool (pool ++ x ∷ [])
 
   -- ---- what a list has
-
-  has-append : (x : A) (xs ys : List A) → has x (xs ++ ys) ≡ (has x xs || has x ys)
-  has-append x [] ys = refl
-  has-append x (y ∷ xs) ys = ap (λ b. same y x || b) (has-append x xs ys) ∙ or_joined (same y x) (has x xs) (has x ys)
-    where
-      or_joined : (a b c : Bool) → (a || (b || c)) ≡ ((a || b) || c)
-      or_joined true b c = refl
-      or_joined false b c = refl
 
   has-filter : (x y : A) → same x y ≡ false → (zs : List A) → has y (filter (λ z. not (same x z)) zs) ≡ has y zs
   has-filter x y other [] = refl
@@ -50,12 +43,8 @@ module _ {A : Type 0} (same : A → A → Bool) (decides : (x y : A) → Decides
       by false e rest = has-filter x y e (first_use same xs) ∙ rest
 
   pub has_from_Contains : (x : A) (ys : List A) → Contains ys x → has x ys ≡ true
-  has_from_Contains x ys h = at ys h.0 h.1 h.2
-    where
-      at : (ys : List A) (i : ℕ) → i < length ys → get_or ys i x ≡ x → has x ys ≡ true
-      at [] i within e = absurd (omega arith)
-      at (y ∷ ys) zero within e = or_left (same y x) (has x ys) ((decides y x).1 e)
-      at (y ∷ ys) (suc i) within e = or_right (same y x) (has x ys) (at ys i (omega arith) e)
+  has_from_Contains x ys h =
+      any_from_Contains x (λ y. same y x) (λ y. ((λ e. sym ((decides y x).0 e)), (λ e. (decides y x).1 (sym e)))) ys h
 
   pub Contains_from_has : (x : A) (ys : List A) → has x ys ≡ true → Contains ys x
   Contains_from_has x [] e = absurd (false≢true e)
@@ -64,9 +53,6 @@ module _ {A : Type 0} (same : A → A → Bool) (decides : (x y : A) → Decides
         | inl here ↦ (0, omega arith, (decides y x).0 here)
         | inr there ↦ (let h = Contains_from_has x ys there in (suc h.0, omega (arith, h.1), h.2))
       ]
-
-  has_not_from_absent : (x : A) (ys : List A) → (Contains ys x → ⊥) → has x ys ≡ false
-  has_not_from_absent x ys absent = false_from_ne_true (has x ys) (λ e. absent (Contains_from_has x ys e))
 
   apart_from_has : (x : A) (ys : List A) → has x ys ≡ false → (k : ℕ) (d : A) → k < length ys → get_or ys k d ≢ x
   apart_from_has x [] e k d within same_one = omega arith

@@ -1,11 +1,11 @@
 -- Keys in their groups, and the marks that a feature leaves at the places of its keys.
-use Rattle.std.proofs.Common.{◌≡◌, ℕ, ◌+◌, ◌<◌, ◌≤◌, ◌==◌, Bool, true, false, not, ◌||◌, List, [], ◌∷◌, ◌++◌, length, get_or, set, Option, Some, None, slice_get, bytes_eq, refl, sym, ap, subst, ◌∙◌, ⊎_elim, inl, inr, arith}
+use Rattle.std.proofs.Common.{◌≡◌, ℕ, ◌+◌, ◌<◌, ◌==◌, Bool, true, false, not, ◌||◌, List, [], ◌∷◌, ◌++◌, length, get_or, set, Option, Some, None, slice_get, bytes_eq, refl, sym, ap, subst, ◌∙◌, ⊎_elim, inl, inr, arith}
 use Rattle.std.specs.Map.{update}
 use Rattle.std.specs.Option.{unwrap_or}
 use Rattle.std.proofs.Math.Seq.{get_or-append_seam}
 use Rattle.std.proofs.Math.Bool.{or-true, or-false}
-use Rattle.std.proofs.lemmas.Bool.{eq-eqb, ne_eqb, not-true, not-false, cases_lt, cases_eq, false≢true}
-use Rattle.std.proofs.lemmas.List.{get_or-set_same, get_or-set_other, get_or_past, get_or_append_left, length_push}
+use Rattle.std.proofs.lemmas.Bool.{eq-eqb, ne_eqb, not-true, not-false, cases_eq, false≢true}
+use Rattle.std.proofs.lemmas.List.{get_or-set_same, get_or-set_other, get_or_append_left, length_push}
 use Rattle.std.proofs.lemmas.List.Folds.{list_any-append}
 use Rattle.std.proofs.lemmas.Map.{update_same, update_other}
 use Rattle.std.proofs.lemmas.Option.{slice_get_within, slice_get-get_or}
@@ -163,11 +163,6 @@ grouped texts n places find all done = record {
       let both : Some a ≡ Some b = sym here ∙ ap (slice_get texts) e ∙ there in
       cc;
 }
-
--- marks that are all cleared
-pub cleared_below : (marks : List ℕ) (n : ℕ) → length marks ≤ n → ((k : ℕ) → k < n → get_or marks k 0 ≡ 0) → AreBelow marks 1
-cleared_below marks n all clear = λ i.
-    ⊎_elim (λ (lt : i < n). omega (arith, clear i lt)) (λ (ge : n ≤ i). omega (arith, get_or_past marks i 0 (omega arith))) (cases_lt i n)
 
 pub below_set : (marks : List ℕ) (p turn : ℕ) → p < length marks → AreBelow marks (turn + 1) → AreBelow (set marks p turn) (turn + 1)
 below_set marks p turn lt below = λ i.

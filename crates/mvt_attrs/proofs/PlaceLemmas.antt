@@ -1,5 +1,5 @@
 -- Tags as places in pools, which stay when pools grow.
-use Rattle.std.proofs.Common.{◌≡◌, ℕ, zero, suc, ◌*◌, ◌%◌, ◌<◌, ◌≤◌, Bool, List, [], ◌∷◌, ◌++◌, length, map, Some, Contains, Decides, bytes_eq, slice_get, refl, sym, ap, subst, ◌∙◌, arith, length-append, append_assoc}
+use Rattle.std.proofs.Common.{◌≡◌, ℕ, ◌*◌, ◌%◌, ◌<◌, ◌≤◌, Bool, List, [], ◌∷◌, ◌++◌, length, map, Some, Contains, Decides, bytes_eq, slice_get, refl, sym, ap, subst, ◌∙◌, arith, length-append, append_assoc}
 use Rattle.std.specs.List.{AllByRecursion}
 use Rattle.std.proofs.lemmas.List.{map-append}
 use Rattle.std.proofs.lemmas.List.Elements.{Contains-append_right}
@@ -19,11 +19,7 @@ use Rattle.mvt_attrs.proofs.FirstUseLemmas.{has-first_use, has_from_Contains, Co
 use Rattle.std.proofs.lemmas.Option.{slice_get_within}
 use Rattle.mvt_attrs.proofs.TagLemmas.{NamesOne}
 use Rattle.mvt_attrs.proofs.ResolvedLemmas.{names_from_related, related_from_names}
-
-slice_get-front : {X : Type 0} (xs ys : List X) (i : ℕ) (x : X) → slice_get xs i ≡ Some x → slice_get (xs ++ ys) i ≡ Some x
-slice_get-front [] ys i x e = cc
-slice_get-front (w ∷ xs) ys zero x e = e
-slice_get-front (w ∷ xs) ys (suc i) x e = slice_get-front xs ys i x e
+use Rattle.mvt_attrs.proofs.PoolLemmas.{slice_get-front}
 
 even_from_names : (keys : List (List ℕ)) (values : List Value) (tags : List ℕ) (attributes : List Attribute)
     → Names keys values tags attributes → length tags % 2 ≡ 1 → ⊥

@@ -1,8 +1,9 @@
 -- A loop that places the keys and values of attributes in pools.
 use Rattle.std.proofs.Common.{◌≡◌, ℕ, ◌+◌, ◌<◌, ◌≤◌, Bool, List, [], ◌∷◌, ◌++◌, length, map, take, get_or, Some, Result, Ok, Err, Contains, Decides, bytes_eq, slice_get, OnErr, drop, inl, inr, refl, sym, ap, ap₂, subst, ◌∙◌, arith, append_assoc, append-nil, length-append}
-use Rattle.std.proofs.lemmas.List.{take_more, map_push, take_all, take-append-drop}
+use Rattle.std.proofs.lemmas.List.{map_push, take_all, take-append-drop}
 use Rattle.std.proofs.lemmas.Option.{slice_get_within, get_or_from_slice_get}
 use Rattle.mvt_base.specs.declared.TheConstants.{LIMIT}
+use Rattle.mvt_base.proofs.ListLemmas.{front_more}
 use Rattle.mvt_attrs.specs.Placed.{IsFullAt}
 use Rattle.mvt_attrs.specs.declared.value.Value.{Value}
 use Rattle.mvt_attrs.specs.declared.value.Attribute.{Attribute}
@@ -36,7 +37,7 @@ module _ {A : Type 0} (same : A → A → Bool) (decides : (x y : A) → Decides
       ∙ ap₂ (put same decides) so_far of_part
       ∙ sym (first_use-push same decides (held ++ map part (take i attributes)) (part a))
       ∙ ap (first_use same) (append_assoc held (map part (take i attributes)) (part a ∷ [])
-      ∙ ap (λ xs. held ++ xs) (sym (map_push part (take i attributes) a) ∙ ap (map part) (ap (λ b. take i attributes ++ b ∷ []) at ∙ sym (take_more attributes i a within))))
+      ∙ ap (λ xs. held ++ xs) (sym (map_push part (take i attributes) a) ∙ ap (map part) (sym (front_more attributes i a within at))))
 
   -- a pool that is full has met a new entry: the pool of all attributes is longer
   pub pool_passes : (held pool : List A) (attributes : List Attribute) (i : ℕ) (a : Attribute) (x : A) (limit : ℕ)
@@ -70,7 +71,7 @@ names_more keys keys_after values values_after tags attributes i a k v names wit
     (subst (λ vs. Names (keys ++ longer_keys.0) vs tags (take i attributes)) (sym longer_values.1)
     (names_longer keys longer_keys.0 values longer_values.0 tags (take i attributes) names)) in
     subst (λ as'. Names keys_after values_after (tags ++ k ∷ (v ∷ [])) as')
-    (ap (λ b. take i attributes ++ b ∷ []) at ∙ sym (take_more attributes i a within))
+    (sym (front_more attributes i a within at))
     (names_push keys_after values_after tags (take i attributes) k v a longer of_key of_value)
 
 pub names_none : (keys : List (List ℕ)) (values : List Value) → Names keys values [] []

@@ -56,10 +56,10 @@ pub last_there : {A : Type 0} → (xs : List A) (x : A) → slice_get (xs ++ x �
 last_there [] x = refl
 last_there (y ∷ xs) x = last_there xs x
 
-pub front_there : {A : Type 0} → (xs : List A) (y : A) (i : ℕ) (x : A) → slice_get xs i ≡ Some x → slice_get (xs ++ y ∷ []) i ≡ Some x
-front_there [] y i x e = cc
-front_there (w ∷ xs) y zero x e = e
-front_there (w ∷ xs) y (suc i) x e = front_there xs y i x e
+pub slice_get-front : {A : Type 0} → (xs ys : List A) (i : ℕ) (x : A) → slice_get xs i ≡ Some x → slice_get (xs ++ ys) i ≡ Some x
+slice_get-front [] ys i x e = cc
+slice_get-front (w ∷ xs) ys zero x e = e
+slice_get-front (w ∷ xs) ys (suc i) x e = slice_get-front xs ys i x e
 
 -- places that were found stay when another entry is added
 module _ {A : Type 0} (entries : List A) (new : A) where
@@ -69,7 +69,7 @@ module _ {A : Type 0} (entries : List A) (new : A) where
         | inl before ↦ absent before
         | inr same ↦ apart same
       ]
-  found_still x (Some i) apart at = front_there entries new i x at
+  found_still x (Some i) apart at = slice_get-front entries (new ∷ []) i x at
 
   -- places are those in a longer list once they have the new entry's
   pub placed_more : (here : A → Bool) → ((x : A) → Decides (here x) (new ≡ x)) → (old after : A → Option ℕ)

@@ -3,7 +3,7 @@ use Rattle.std.proofs.Common.{◌≡◌, ◌≢◌, ℕ, zero, suc, ◌+◌, Boo
 use Rattle.std.proofs.lemmas.Bool.{cond_both, both_ways}
 use Rattle.std.proofs.lemmas.List.{get_or-set_same, get_or-set_other}
 use Rattle.mvt_attrs.specs.Inner.Spreading.{IsOfOr, IsFreeSlot}
-use Rattle.mvt_attrs.proofs.PoolLemmas.{last_there, front_there}
+use Rattle.mvt_attrs.proofs.PoolLemmas.{last_there, slice_get-front}
 use Rattle.mvt_attrs.proofs.PlacingLemmas.{contains_at}
 
 -- what stands at an index of a longer list
@@ -94,7 +94,7 @@ module _ {A : Type 0} (entries : List A) (new : A) (first second : A → ℕ) (s
         cond_both (here x) (Some (length entries)) (old x) (λ o. o ≡ Some i → slice_get (entries ++ new ∷ []) i ≡ Some x)
         (λ same at. subst (λ o. o ≡ Some x) (ap (slice_get (entries ++ new ∷ [])) (some_once at))
         (last_there entries new ∙ ap Some ((decides x).0 same)))
-        (λ other at. front_there entries new i x (sound i x at)) (sym (updated x) ∙ e)
+        (λ other at. slice_get-front entries (new ∷ []) i x (sound i x at)) (sym (updated x) ∙ e)
       where
         some_once : {m n : ℕ} → Some m ≡ Some n → m ≡ n
         some_once e = cc

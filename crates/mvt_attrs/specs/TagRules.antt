@@ -1,6 +1,6 @@
 -- The rules that bind the tags of a feature (4.4), as tables. A fault is an index into the tags and the
 -- rule that is broken there.
-use Rattle.std.specs.Prelude.{◌≡◌, ℕ, ◌+◌, ◌*◌, ◌%◌, ◌==◌, nat_le, Bool, false, ◌||◌, List, [], ◌∷◌, length, Option, Some, None, slice_get, bytes_eq}
+use Rattle.std.specs.Prelude.{ℕ, ◌+◌, ◌*◌, ◌%◌, ◌==◌, nat_le, Bool, false, ◌||◌, List, [], ◌∷◌, length, Option, Some, None, slice_get, bytes_eq}
 use Rattle.std.specs.List.{list_any}
 use Rattle.mvt_base.specs.Rules.{Rules, when, rows, each, first}
 use Rattle.mvt_attrs.specs.declared.value.Value.{Value}

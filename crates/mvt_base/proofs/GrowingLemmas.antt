@@ -36,27 +36,33 @@ below_precedes n [] (r ∷ rs) h = absurd h
 below_precedes n (m ∷ ms) (r ∷ rs) h = (inl h, below_precedes n (m ∷ ms) rs h)
 
 -- a table in order whose ranks begin below n, and then rules under n
-pub then_under : {F : Type 0} → (n : ℕ) (rules later : Rules F) → AreOrdered rules → AllBelow n rules → AreOrdered later → AreOrdered (rules ++ under n later)
+pub then_under : {F : Type 0} → (n : ℕ) (rules later : Rules F) → AreOrdered rules → AllBelow n rules → AreOrdered later
+    → AreOrdered (rules ++ under n later)
 then_under n [] later h below k = under_ordered n later k
 then_under n (r ∷ rs) later h below k =
     (precedes-append r.0 rs (under n later) h.0 (below_precedes n r.0 later below.0), then_under n rs later h.1 below.1 k)
 
 -- rules of each element, and then those that begin after the last, are in order
-each_from : {X F : Type 0} → (rules : List X → X → Rules F) (front xs : List X) (later : Rules F) → AllFrom (length front + length xs) later → AllFrom (length front) (each rules front xs ++ later)
+each_from : {X F : Type 0} → (rules : List X → X → Rules F) (front xs : List X) (later : Rules F)
+    → AllFrom (length front + length xs) later → AllFrom (length front) (each rules front xs ++ later)
 each_from rules front [] later from = all_later (length front) (length front + 0) later (omega arith) from
 each_from rules front (x ∷ xs) later from =
     let size : length (front ++ x ∷ []) ≡ length front + 1 = length-append front (x ∷ []) in
-    let more : AllFrom (length (front ++ x ∷ []) + length xs) later = all_later _ (length front + suc (length xs)) later (omega arith) from in
+    let more : AllFrom (length (front ++ x ∷ []) + length xs) later =
+    all_later _ (length front + suc (length xs)) later (omega arith) from in
     subst (AllFrom (length front)) (sym (append_assoc (under (length front) (rules front x)) (each rules (front ++ x ∷ []) xs) later))
-    (from-append (length front) (under (length front) (rules front x)) (each rules (front ++ x ∷ []) xs ++ later) (under_from (length front) (rules front x))
+    (from-append (length front) (under (length front) (rules front x)) (each rules (front ++ x ∷ []) xs ++ later)
+    (under_from (length front) (rules front x))
     (all_later (length front) (length (front ++ x ∷ [])) _ (omega arith) (each_from rules (front ++ x ∷ []) xs later more)))
 
-pub each_then : {X F : Type 0} → (rules : List X → X → Rules F) (front xs : List X) (later : Rules F) → ((seen : List X) (x : X) → AreOrdered (rules seen x))
+pub each_then : {X F : Type 0} → (rules : List X → X → Rules F) (front xs : List X) (later : Rules F)
+    → ((seen : List X) (x : X) → AreOrdered (rules seen x))
     → AreOrdered later → AllFrom (length front + length xs) later → AreOrdered (each rules front xs ++ later)
 each_then rules front [] later ordered last from = last
 each_then rules front (x ∷ xs) later ordered last from =
     let size : length (front ++ x ∷ []) ≡ length front + 1 = length-append front (x ∷ []) in
-    let more : AllFrom (length (front ++ x ∷ []) + length xs) later = all_later _ (length front + suc (length xs)) later (omega arith) from in
+    let more : AllFrom (length (front ++ x ∷ []) + length xs) later =
+    all_later _ (length front + suc (length xs)) later (omega arith) from in
     subst AreOrdered (sym (append_assoc (under (length front) (rules front x)) (each rules (front ++ x ∷ []) xs) later))
     (under_then (length front) (rules front x) (each rules (front ++ x ∷ []) xs ++ later) (ordered front x)
     (each_then rules (front ++ x ∷ []) xs later ordered last more)

@@ -18,7 +18,8 @@ precedes_one_way (m ∷ ms) (n ∷ ns) (inl h) (inr k) = omega (arith, k.0)
 precedes_one_way (m ∷ ms) (n ∷ ns) (inr h) (inl k) = omega (arith, h.0)
 precedes_one_way (m ∷ ms) (n ∷ ns) (inr h) (inr k) = precedes_one_way ms ns h.1 k.1
 
-precedes_one : {F : Type 0} → (rank : List ℕ) (rules : Rules F) (other : List ℕ × F) → PrecedesAll rank rules → IsOneOf rules other → Precedes rank other.0
+precedes_one : {F : Type 0} → (rank : List ℕ) (rules : Rules F) (other : List ℕ × F) → PrecedesAll rank rules → IsOneOf rules other
+    → Precedes rank other.0
 precedes_one rank [] other all is = absurd is
 precedes_one {F = F} rank (r ∷ rs) other all (inl e) = subst (λ (s : List ℕ × F). Precedes rank s.0) e all.0
 precedes_one rank (r ∷ rs) other all (inr is) = precedes_one rank rs other all.1 is
@@ -82,21 +83,26 @@ precedes_later : {F : Type 0} → (m n : ℕ) (ms : List ℕ) (rules : Rules F) 
 precedes_later m n ms [] lt h = tt
 precedes_later m n ms (r ∷ rs) lt h = (one_precedes_later m n ms r.0 lt h.0, precedes_later m n ms rs lt h.1)
 
-pub precedes-append : {F : Type 0} → (rank : List ℕ) (xs ys : Rules F) → PrecedesAll rank xs → PrecedesAll rank ys → PrecedesAll rank (xs ++ ys)
+pub precedes-append : {F : Type 0} → (rank : List ℕ) (xs ys : Rules F) → PrecedesAll rank xs → PrecedesAll rank ys
+    → PrecedesAll rank (xs ++ ys)
 precedes-append rank [] ys h k = k
 precedes-append rank (x ∷ xs) ys h k = (h.0, precedes-append rank xs ys h.1 k)
 
 -- rules under n, and then a table in order whose ranks begin after n
-pub under_then : {F : Type 0} → (n : ℕ) (rules later : Rules F) → AreOrdered rules → AreOrdered later → AllFrom (suc n) later → AreOrdered (under n rules ++ later)
+pub under_then : {F : Type 0} → (n : ℕ) (rules later : Rules F) → AreOrdered rules → AreOrdered later → AllFrom (suc n) later
+    → AreOrdered (under n rules ++ later)
 under_then n [] later h k from = k
-under_then n (r ∷ rs) later h k from =
-    (precedes-append (n ∷ r.0) (under n rs) later (under_precedes n r.0 rs h.0) (precedes_later n (suc n) r.0 later (omega arith) from), under_then n rs later h.1 k from)
+under_then n (r ∷ rs) later h k from = (
+  precedes-append (n ∷ r.0) (under n rs) later (under_precedes n r.0 rs h.0) (precedes_later n (suc n) r.0 later (omega arith) from),
+  under_then n rs later h.1 k from,
+)
 
 pub when_ordered : {F : Type 0} → (b : Bool) (f : F) → AreOrdered (when b f)
 when_ordered true f = (tt, tt)
 when_ordered false f = tt
 
-told_precedes : {F G : Type 0} → (tell : F → G) (rank : List ℕ) (rules : Rules F) → PrecedesAll rank rules → PrecedesAll rank (told tell rules)
+told_precedes : {F G : Type 0} → (tell : F → G) (rank : List ℕ) (rules : Rules F) → PrecedesAll rank rules
+    → PrecedesAll rank (told tell rules)
 told_precedes tell rank [] h = tt
 told_precedes tell rank (r ∷ rs) h = (h.0, told_precedes tell rank rs h.1)
 
@@ -112,7 +118,8 @@ AreRowsFrom n (row ∷ table) = (n ≤ row.0) × (AreOrdered row.1 × AreRowsFro
 pub rows_from : {F : Type 0} → (n : ℕ) (table : List (ℕ × Rules F)) → AreRowsFrom n table → AllFrom n (rows table)
 rows_from n [] h = tt
 rows_from n (row ∷ table) h =
-    from-append n (under row.0 row.1) (rows table) (all_later n row.0 _ h.0 (under_from row.0 row.1)) (all_later n (suc row.0) _ (omega (arith, h.0)) (rows_from (suc row.0) table h.1.1))
+    from-append n (under row.0 row.1) (rows table) (all_later n row.0 _ h.0 (under_from row.0 row.1))
+    (all_later n (suc row.0) _ (omega (arith, h.0)) (rows_from (suc row.0) table h.1.1))
 
 pub rows_ordered : {F : Type 0} → (n : ℕ) (table : List (ℕ × Rules F)) → AreRowsFrom n table → AreOrdered (rows table)
 rows_ordered n [] h = tt
@@ -122,9 +129,13 @@ rows_ordered n (row ∷ table) h =
 each_from : {X F : Type 0} → (rules : List X → X → Rules F) (front xs : List X) → AllFrom (length front) (each rules front xs)
 each_from rules front [] = tt
 each_from rules front (x ∷ xs) =
-    from-append (length front) (under (length front) (rules front x)) (each rules (front ++ x ∷ []) xs) (under_from (length front) (rules front x)) (all_later (length front) (length (front ++ x ∷ [])) _ (simp length-append (omega arith)) (each_from rules (front ++ x ∷ []) xs))
+    from-append (length front) (under (length front) (rules front x)) (each rules (front ++ x ∷ []) xs)
+    (under_from (length front) (rules front x))
+    (all_later (length front) (length (front ++ x ∷ [])) _ (simp length-append (omega arith)) (each_from rules (front ++ x ∷ []) xs))
 
-pub each_ordered : {X F : Type 0} → (rules : List X → X → Rules F) (front xs : List X) → ((seen : List X) (x : X) → AreOrdered (rules seen x)) → AreOrdered (each rules front xs)
+pub each_ordered : {X F : Type 0} → (rules : List X → X → Rules F) (front xs : List X)
+    → ((seen : List X) (x : X) → AreOrdered (rules seen x)) → AreOrdered (each rules front xs)
 each_ordered rules front [] h = tt
 each_ordered rules front (x ∷ xs) h =
-    under_then (length front) (rules front x) (each rules (front ++ x ∷ []) xs) (h front x) (each_ordered rules (front ++ x ∷ []) xs h) (all_later (suc (length front)) (length (front ++ x ∷ [])) _ (simp length-append (omega arith)) (each_from rules (front ++ x ∷ []) xs))
+    under_then (length front) (rules front x) (each rules (front ++ x ∷ []) xs) (h front x) (each_ordered rules (front ++ x ∷ []) xs h)
+    (all_later (suc (length front)) (length (front ++ x ∷ [])) _ (simp length-append (omega arith)) (each_from rules (front ++ x ∷ []) xs))

@@ -15,7 +15,8 @@ pub first-told : {F G : Type 0} → (tell : F → G) (rules : Rules F) → first
 first-told tell [] = refl
 first-told tell (r ∷ rs) = refl
 
-pub first-rows : {F : Type 0} → (n : ℕ) (row : Rules F) (table : List (ℕ × Rules F)) → first (rows ((n, row) ∷ table)) ≡ option_or (first row) (first (rows table))
+pub first-rows : {F : Type 0} → (n : ℕ) (row : Rules F) (table : List (ℕ × Rules F))
+    → first (rows ((n, row) ∷ table)) ≡ option_or (first row) (first (rows table))
 first-rows n row table = first-append (under n row) (rows table) ∙ ap (λ o. option_or o (first (rows table))) (first-under n row)
 
 pub first-when : {F : Type 0} → (b : Bool) (f : F) → b ≡ true → first (when b f) ≡ Some f
@@ -49,31 +50,36 @@ pub first_front : {F : Type 0} → (xs ys : Rules F) (f : F) → first xs ≡ So
 first_front (x ∷ xs) ys f e = e
 first_front [] ys f e = cc
 
--- a table without a fault is empty
-pub first-none : {F : Type 0} → (rules : Rules F) → first rules ≡ None → rules ≡ []
-first-none [] e = refl
-first-none (r ∷ rs) e = cc
-
-pub each-append : {X F : Type 0} → (rules : List X → X → Rules F) (front xs ys : List X) → each rules front (xs ++ ys) ≡ each rules front xs ++ each rules (front ++ xs) ys
+pub each-append : {X F : Type 0} → (rules : List X → X → Rules F) (front xs ys : List X)
+    → each rules front (xs ++ ys) ≡ each rules front xs ++ each rules (front ++ xs) ys
 each-append rules front [] ys = rw append-nil refl
 each-append rules front (x ∷ xs) ys =
-    ap (λ rs. under (length front) (rules front x) ++ rs) (each-append rules (front ++ x ∷ []) xs ys ∙ ap (λ f. each rules (front ++ x ∷ []) xs ++ each rules f ys) (append_assoc front (x ∷ []) xs)) ∙ sym (append_assoc (under (length front) (rules front x)) (each rules (front ++ x ∷ []) xs) (each rules (front ++ x ∷ xs) ys))
+    ap (λ rs. under (length front) (rules front x) ++ rs)
+    (each-append rules (front ++ x ∷ []) xs ys
+    ∙ ap (λ f. each rules (front ++ x ∷ []) xs ++ each rules f ys) (append_assoc front (x ∷ []) xs))
+    ∙ sym (append_assoc (under (length front) (rules front x)) (each rules (front ++ x ∷ []) xs) (each rules (front ++ x ∷ xs) ys))
 
 pub option_or-right : {F : Type 0} → (o : Option F) → option_or o None ≡ o
 option_or-right None = refl
 option_or-right (Some f) = refl
 
+-- the fault of the first element, else that of those behind it
+pub each_first : {X F : Type 0} → (rules : List X → X → Rules F) (front : List X) (x : X) (xs : List X)
+    → first (each rules front (x ∷ xs)) ≡ option_or (first (rules front x)) (first (each rules (front ++ x ∷ []) xs))
+each_first rules front x xs =
+    first-append (under (length front) (rules front x)) (each rules (front ++ x ∷ []) xs)
+    ∙ ap (λ o. option_or o (first (each rules (front ++ x ∷ []) xs))) (first-under (length front) (rules front x))
+
 -- one more element, behind those that have no fault
-pub each_more : {X F : Type 0} → (rules : List X → X → Rules F) (xs : List X) (x : X) → first (each rules [] xs) ≡ None → first (each rules [] (xs ++ x ∷ [])) ≡ first (rules xs x)
+pub each_more : {X F : Type 0} → (rules : List X → X → Rules F) (xs : List X) (x : X) → first (each rules [] xs) ≡ None
+    → first (each rules [] (xs ++ x ∷ [])) ≡ first (rules xs x)
 each_more rules xs x e =
-    rw each-append (first_back (each rules [] xs) _ e ∙ first-append (under (length xs) (rules xs x)) [] ∙ option_or-right (first (under (length xs) (rules xs x))) ∙ first-under (length xs) (rules xs x))
+    rw each-append (first_back (each rules [] xs) _ e ∙ first-append (under (length xs) (rules xs x)) []
+    ∙ option_or-right (first (under (length xs) (rules xs x))) ∙ first-under (length xs) (rules xs x))
 
 -- the fault of an element behind those that have none is that of the whole list
-pub each_stops : {X F : Type 0} → (rules : List X → X → Rules F) (xs : List X) (x : X) (ys : List X) (f : F) → first (each rules [] xs) ≡ None → first (rules xs x) ≡ Some f → first (each rules [] (xs ++ x ∷ ys)) ≡ Some f
+pub each_stops : {X F : Type 0} → (rules : List X → X → Rules F) (xs : List X) (x : X) (ys : List X) (f : F)
+    → first (each rules [] xs) ≡ None → first (rules xs x) ≡ Some f → first (each rules [] (xs ++ x ∷ ys)) ≡ Some f
 each_stops rules xs x ys f none told_here =
-    rw each-append (first_back (each rules [] xs) _ none ∙ first_front (under (length xs) (rules xs x)) _ f (first-under (length xs) (rules xs x) ∙ told_here))
-
--- a front of a list without a fault has none
-pub each_front : {X F : Type 0} → (rules : List X → X → Rules F) (xs ys : List X) → first (each rules [] (xs ++ ys)) ≡ None → first (each rules [] xs) ≡ None
-each_front rules xs ys e =
-    (option_or-nones _ _ (sym (first-append (each rules [] xs) (each rules xs ys)) ∙ ap first (sym (each-append rules [] xs ys)) ∙ e)).0
+    rw each-append (first_back (each rules [] xs) _ none
+    ∙ first_front (under (length xs) (rules xs x)) _ f (first-under (length xs) (rules xs x) ∙ told_here))

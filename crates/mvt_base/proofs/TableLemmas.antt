@@ -4,7 +4,7 @@ use Rattle.std.specs.List.{AllByRecursion}
 use Rattle.std.specs.Option.{option_or, option_map}
 use Rattle.std.proofs.lemmas.Bool.{eqb-true}
 use Rattle.mvt_base.specs.Rules.{Rules, AreOrdered, when, rows, each, first}
-use Rattle.mvt_base.proofs.RuleLemmas.{first-append, first-under, first-rows, option_or-nones, option_or-none}
+use Rattle.mvt_base.proofs.RuleLemmas.{each_first, first-rows, option_or-nones, option_or-none}
 
 abbrev pub firsts : {F : Type 0} → List (ℕ × Rules F) → Option F
 firsts [] = None
@@ -23,19 +23,22 @@ when_none true f h = cc
 when_none false f h = refl
 
 -- rules that look at no earlier element: none is broken just where none is of any element
-pub none_each : {X F : Type 0} → (rules : X → Rules F) (front xs : List X) → first (each (λ _. rules) front xs) ≡ None → AllByRecursion (λ x. first (rules x) ≡ None) xs
+pub none_each : {X F : Type 0} → (rules : X → Rules F) (front xs : List X) → first (each (λ _. rules) front xs) ≡ None
+    → AllByRecursion (λ x. first (rules x) ≡ None) xs
 none_each rules front [] h = tt
 none_each rules front (x ∷ xs) h =
-    let parts = option_or-nones _ _ (sym (first-append _ (each (λ _. rules) (front ++ x ∷ []) xs)) ∙ h) in
-    (sym (first-under _ (rules x)) ∙ parts.0, none_each rules (front ++ x ∷ []) xs parts.1)
+    let parts = option_or-nones _ _ (sym (each_first (λ _. rules) front x xs) ∙ h) in
+    (parts.0, none_each rules (front ++ x ∷ []) xs parts.1)
 
-pub each_none : {X F : Type 0} → (rules : X → Rules F) (front xs : List X) → AllByRecursion (λ x. first (rules x) ≡ None) xs → first (each (λ _. rules) front xs) ≡ None
+pub each_none : {X F : Type 0} → (rules : X → Rules F) (front xs : List X) → AllByRecursion (λ x. first (rules x) ≡ None) xs
+    → first (each (λ _. rules) front xs) ≡ None
 each_none rules front [] h = refl
 each_none rules front (x ∷ xs) h =
-    first-append _ (each (λ _. rules) (front ++ x ∷ []) xs) ∙ option_or-none _ _ (first-under _ (rules x) ∙ h.0) ∙ each_none rules (front ++ x ∷ []) xs h.1
+    each_first (λ _. rules) front x xs ∙ option_or-none _ _ h.0 ∙ each_none rules (front ++ x ∷ []) xs h.1
 
 -- rules by a number
-pub by_number : {F : Type 0} → (n : ℕ) (a b : Rules F) (k : ℕ) → (n ≡ k → first a ≡ None) → first b ≡ None → first (if n == k then a else b) ≡ None
+pub by_number : {F : Type 0} → (n : ℕ) (a b : Rules F) (k : ℕ) → (n ≡ k → first a ≡ None) → first b ≡ None
+    → first (if n == k then a else b) ≡ None
 by_number n a b k h g = by_test (n == k) refl
   where
     by_test : (t : Bool) → (n == k) ≡ t → first (if t then a else b) ≡ None

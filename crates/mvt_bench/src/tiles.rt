@@ -3,7 +3,7 @@
 use mvt_base::LIMIT;
 use mvt_io::{Host, MemorySink};
 use mvt_message::{Item, read_item};
-use mvt_tile::{DecodeError, Tile, TileDecoder, decode, judge, write_tile};
+use mvt_tile::{DecodeError, Tile, TileDecoder, decode, feature_count, judge, write_tile};
 use std::alloc::Global;
 use std::{io, mem};
 
@@ -12,9 +12,7 @@ fn count(tile: &Tile) -> u64 {
     let items = tile.items.as_slice();
     let mut sum = 1 + items.len() as u64;
     for item in items {
-        if let Item::Layer(layer) = item {
-            sum = sum.wrapping_add(layer.features.as_slice().len() as u64);
-        }
+        sum = sum.wrapping_add(feature_count(item) as u64);
     }
     sum
 }

@@ -3,18 +3,18 @@ use Rattle.std.specs.Prelude.{◌≡◌, ℕ, ◌<◌, List, length, Any, Some, 
 use Rattle.mvt_base.specs.declared.TheConstants.{LIMIT}
 use Rattle.mvt_attrs.specs.declared.pool_error.PoolError.{PoolError}
 use Rattle.mvt_attrs.specs.declared.pool_error.PoolError.TheVariants as pools
-use Rattle.mvt_message.specs.declared.put.PutError.{PutError}
-use Rattle.mvt_message.specs.declared.put.PutError.TheVariants as put
+use Rattle.mvt_message.specs.declared.writing.PutError.{PutError}
+use Rattle.mvt_message.specs.declared.writing.PutError.TheVariants as put
 use Rattle.mvt_tile.specs.declared.fault.DecodeError.{DecodeError}
 use Rattle.mvt_tile.specs.declared.fault.DecodeError.TheVariants as decoding
 use Rattle.mvt_tile.specs.declared.extract_error.ExtractError.{ExtractError}
 use Rattle.mvt_tile.specs.declared.extract_error.ExtractError.TheVariants as extracting
 use Rattle.mvt_tile.specs.declared.fault.Fault.{Fault as TileFault}
-use Rattle.mvt_tile.specs.declared.tile.Tile.{Tile}
-use Rattle.mvt_tile.specs.CanonicalTiles.{canonical}
+use Rattle.mvt_model.specs.declared.tile.Tile.{Tile}
+use Rattle.mvt_model.specs.CanonicalTiles.{canonical}
 use Rattle.mvt_tile.specs.Extraction.{pick, first_missing}
 use Rattle.mvt_tile.specs.TileRules.{fault_within}
-use Rattle.mvt_tile.specs.Tiles.{IsTile}
+use Rattle.mvt_model.specs.Tiles.{IsTile}
 use Rattle.serde_json.specs.Written.{compact_text}
 use Rattle.mvt_view.specs.JsonForms.{json}
 use Rattle.mvt_c.specs.declared.fault.Fault.{Fault}

@@ -1,10 +1,7 @@
 -- What a run that does nothing leaves.
-use Rattle.std.proofs.Common.{ℕ, List, [], Option, Some, None, refl, sym, append-nil, arith}
+use Rattle.std.proofs.Common.{ℕ, List, [], Option, arith}
 use Rattle.std.proofs.KnownBytes.{Consumes-nil}
-use Rattle.std.specs.Io.KnownBytes.{Appends}
 use Rattle.mvt_io.specs.Transfers.{TakesAtMost}
-use Rattle.mvt_tasks.specs.declared.failure.Failure.TheVariants.{Memory}
-use Rattle.mvt_tasks.specs.Checks.{IsCutShort}
 use Rattle.mvt_tasks.specs.declared.task.Task.{Task}
 use Rattle.mvt_tasks.specs.declared.task.Task.TheVariants.{Fields, Show, Draw, Check, Rewrite, Extract}
 use Rattle.mvt_tasks.specs.Output.{IfReadWhole}
@@ -19,17 +16,3 @@ read_whole (Extract names) P p = tt
 
 pub nothing_taken : (task : Task) (most : ℕ) (left : Option (List ℕ)) → IfReadWhole task (TakesAtMost most left left)
 nothing_taken task most left = read_whole task (TakesAtMost most left left) ([], omega arith, Consumes-nil left)
-
-appends_nothing : (o : Option (List ℕ)) → Appends o o []
-appends_nothing None = tt
-appends_nothing (Some xs) = sym (append-nil xs)
-
-pub none_checked : (limit : ℕ) (holds : List ℕ → Option (List ℕ)) (names : List (List ℕ)) (taken : Option (List ℕ)) → IsCutShort limit holds names taken taken Memory
-none_checked limit holds names taken = record {
-  front = [];
-  rest = names;
-  files = [];
-  of_names = refl;
-  checked = tt;
-  taken = appends_nothing taken;
-}

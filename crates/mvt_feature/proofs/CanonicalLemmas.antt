@@ -6,7 +6,7 @@ use Rattle.std.specs.List.{AllByRecursion, last_or}
 use Rattle.std.proofs.Math.Facts.{Fits-of_z}
 use Rattle.std.proofs.lemmas.Int.{ints, to_z-of_z}
 use Rattle.mvt_base.specs.Rules.{first}
-use Rattle.mvt_base.proofs.ListLemmas.{all_joined}
+use Rattle.mvt_base.proofs.ListLemmas.{all_joined, mapped_one}
 use Rattle.mvt_base.proofs.TableLemmas.{each_none}
 use Rattle.mvt_base.proofs.SelectionLemmas.{all_only}
 use Rattle.mvt_attrs.specs.declared.value.Value.{Value}
@@ -24,21 +24,15 @@ use Rattle.mvt_feature.specs.declared.numbers.value.TheConstants.{STRING}
 use Rattle.mvt_feature.specs.declared.feature.Feature.{Feature}
 use Rattle.mvt_feature.specs.Canonical.{plain, field_of_value, value_fields, id_fields, tags_fields, type_number, drawing_fields, feature_fields}
 use Rattle.mvt_feature.specs.Features.{Joined, number_of, number_in, kind_numbered, kind_of_type, IsFeature, IsFeatureOf}
-use Rattle.mvt_feature.specs.Forms.{any_varint, geom_type, HasForm, number_rules}
+use Rattle.mvt_feature.specs.Forms.{any_varint, geom_type, HasForm, number_rules, string}
 use Rattle.mvt_feature.specs.Selection.{only}
 use Rattle.mvt_feature.specs.Valid.{ValidValue, ValidFeature}
 use Rattle.mvt_feature.specs.Values.{value_forms, Means, IsValue, IsValueOf}
 use Rattle.mvt_feature.specs.ValueRules.{kinds, are_one_kind, value_field_rules}
-use Rattle.mvt_feature.proofs.TextLemmas.{text_clean}
 use Rattle.mvt_feature.proofs.ValueLemmas.{value_from, rules_clean}
+use Rattle.mvt_feature.proofs.FormLemmas.{form_clean}
 use Rattle.mvt_geometry.proofs.GeometryLaws.{drawn_small}
 use Rattle.mvt_wire.proofs.WireLaws.{short_lengths_bytes, short_packed_packed, spelled_parts, spelled_whole_whole}
-
--- fields that are one plain field
-pub one_of : (xs : List Entry) (p : Plain) → map plain_of xs ≡ p ∷ [] → (x : Entry) × (xs ≡ x ∷ []) × (plain_of x ≡ p)
-one_of [] p h = cc
-one_of (x ∷ []) p h = (x, refl, cc)
-one_of (x ∷ y ∷ xs) p h = cc
 
 none_of : (xs : List Entry) → map plain_of xs ≡ [] → xs ≡ []
 none_of [] h = refl
@@ -47,7 +41,7 @@ none_of (x ∷ xs) h = cc
 -- ---- values
 
 value_clean : (v : Value) → ValidValue v → first (number_rules value_forms (field_of_value v).number (field_of_value v).content) ≡ None
-value_clean (Text text) h = text_clean text h
+value_clean (Text text) h = form_clean string (bytes text) h
 value_clean (Float bits) h = refl
 value_clean (Double bits) h = refl
 value_clean (Int z) h = refl
@@ -91,7 +85,7 @@ value_at at body v h =
 
 pub value_reads : (xs : List Entry) (v : Value) → map plain_of xs ≡ value_fields v → ValidValue v → IsValue xs v
 value_reads xs v is h =
-    let one = one_of xs (field_of_value v) is in
+    let one = mapped_one plain_of xs (field_of_value v) is in
     let x = one.0 in
     let same : x ≡ plain_at x.at x.body (field_of_value v) =
     ap (λ (p : Plain). plain_at x.at x.body p) one.2 in
@@ -178,14 +172,14 @@ integers_only (Some n) (t ∷ ts) kind integers = refl
 id_last : (xs : List Entry) (id : Option ℕ) → map plain_of xs ≡ id_fields id → number_in (last_or None xs) ≡ id
 id_last xs None h = rw (none_of xs h) refl
 id_last xs (Some n) h =
-    let one = one_of xs (plain ID (varint n)) h in
+    let one = mapped_one plain_of xs (plain ID (varint n)) h in
     ap (λ l. number_in (last_or None l)) one.1 ∙ ap (λ (p : Plain). number_of p.content) one.2
 
 id_forms : (xs : List Entry) (id : Option ℕ) → map plain_of xs ≡ id_fields id
     → AllByRecursion (λ (x : Entry). HasForm any_varint x.content) xs
 id_forms xs None h = rw (none_of xs h) tt
 id_forms xs (Some n) h =
-    let one = one_of xs (plain ID (varint n)) h in
+    let one = mapped_one plain_of xs (plain ID (varint n)) h in
     let form : HasForm any_varint one.0.content = subst (λ (p : Plain). HasForm any_varint p.content) (sym one.2) tt in
     let all : AllByRecursion (λ (x : Entry). HasForm any_varint x.content) (one.0 ∷ []) = (form, tt) in
     subst (AllByRecursion (λ (x : Entry). HasForm any_varint x.content)) (sym one.1) all
@@ -205,7 +199,7 @@ kind_back kinds.Polygon = refl
 type_forms : (xs : List Entry) (kind : Kind) → map plain_of xs ≡ plain TYPE (varint (type_number kind)) ∷ []
     → AllByRecursion (λ (x : Entry). HasForm geom_type x.content) xs
 type_forms xs kind h =
-    let one = one_of xs (plain TYPE (varint (type_number kind))) h in
+    let one = mapped_one plain_of xs (plain TYPE (varint (type_number kind))) h in
     let form : HasForm geom_type one.0.content = subst (λ (p : Plain). HasForm geom_type p.content) (sym one.2) (type_small kind) in
     let all : AllByRecursion (λ (x : Entry). HasForm geom_type x.content) (one.0 ∷ []) = (form, tt) in
     subst (AllByRecursion (λ (x : Entry). HasForm geom_type x.content)) (sym one.1) all
@@ -213,7 +207,7 @@ type_forms xs kind h =
 type_last : (xs : List Entry) (kind : Kind) → map plain_of xs ≡ plain TYPE (varint (type_number kind)) ∷ []
     → kind_of_type (number_in (last_or None xs)) ≡ kind
 type_last xs kind h =
-    let one = one_of xs (plain TYPE (varint (type_number kind))) h in
+    let one = mapped_one plain_of xs (plain TYPE (varint (type_number kind))) h in
     ap (λ l. kind_of_type (number_in (last_or None l))) one.1 ∙ ap (λ (p : Plain). kind_of_type (number_of p.content)) one.2
     ∙ kind_back kind
 
@@ -221,7 +215,7 @@ type_last xs kind h =
 packed_joined : (xs : List Entry) (k : ℕ) (ns : List ℕ) → AllByRecursion (λ n. n < 2 ^ 32) ns
     → map plain_of xs ≡ plain k (bytes (short_numbers ns)) ∷ [] → Joined xs ns
 packed_joined xs k ns small h =
-    let one = one_of xs (plain k (bytes (short_numbers ns))) h in
+    let one = mapped_one plain_of xs (plain k (bytes (short_numbers ns))) h in
     let content : one.0.content ≡ bytes (short_numbers ns) = ap (λ (p : Plain). p.content) one.2 in
     let joined : Joined (one.0 ∷ []) ns = (ns, [], sym (append-nil ns), rw content (short_packed_packed ns small), refl) in
     subst (λ ys. Joined ys ns) (sym one.1) joined

@@ -35,12 +35,12 @@ use Rattle.mvt_feature.specs.Inner.{IsKnown}
 use Rattle.mvt_feature.specs.Selection.{only, HaveForm}
 use Rattle.mvt_feature.specs.Forms.{any_varint, geom_type, HasForm, form_rules}
 use Rattle.mvt_feature.specs.Faults.{of_tag_error, of_geometry_error}
-use Rattle.mvt_feature.proofs.ValueLemmas.{tells_front, whole_split}
+use Rattle.mvt_feature.proofs.ValueLemmas.{tells_front}
 use Rattle.mvt_feature.proofs.FormLemmas.{has_form}
 use Rattle.mvt_feature.proofs.KnownLemmas.{field_first}
 use Rattle.mvt_feature.proofs.WalkLemmas.{rest_none}
 use Rattle.mvt_attrs.proofs.AttrsLaws.{fault_is_least_parts}
-use Rattle.mvt_wire.proofs.WireLaws.{packed_function_clean, packed_function_only}
+use Rattle.mvt_wire.proofs.WireLaws.{packed_function_clean, packed_function_only, split_function_whole}
 
 -- the fault of a feature from its parts
 abbrev pub rest_fault : List ℕ → ℕ → Option MessageFault
@@ -261,7 +261,7 @@ feature_from {payload} {payload_at} {known} {tags} {integers} says keys values f
     let xs = (split payload).fields in
     let is = says.known_is in (
       xs,
-      whole_split payload says.whole,
+      split_function_whole payload says.whole,
       record {
         forms = (id_form payload_at xs says.clean, (type_form payload_at xs says.clean, tt));
         id = id ∙ is.id;

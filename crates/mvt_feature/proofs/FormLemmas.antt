@@ -1,15 +1,15 @@
 -- The forms of fields and their rules say the same.
-use Rattle.std.proofs.Common.{◌≡◌, ℕ, ◌+◌, ◌^◌, ◌==◌, Bool, true, false, not, nat_lt, nat_le, List, [], ◌∷◌, None, refl, sym, ap, ◌∙◌, subst, rules}
+use Rattle.std.proofs.Common.{◌≡◌, ℕ, ◌+◌, ◌^◌, ◌==◌, Bool, true, false, not, nat_lt, nat_le, List, [], ◌∷◌, None, refl, sym, ap, ◌∙◌, subst, rules, Some}
 use Rattle.std.specs.Prelude.{IsUtf8}
 use Rattle.std.specs.List.{AllByRecursion}
 use Rattle.std.specs.Option.{option_map}
 use Rattle.std.specs.Str.{is_utf8}
-use Rattle.std.proofs.lemmas.Bool.{ltb-true, lt-ltb, leb-true, le-leb, not-false}
+use Rattle.std.proofs.lemmas.Bool.{ltb-true, lt-ltb, leb-true, le-leb, not-false, false_from_ne_true}
 use Rattle.std.proofs.lemmas.Str.{IsUtf8-from_is_utf8, is_utf8-from_IsUtf8}
 use Rattle.mvt_base.specs.Rules.{AreOrdered, when, each, first}
 use Rattle.mvt_base.proofs.ListLemmas.{all_weaker}
 use Rattle.mvt_base.proofs.OrderLemmas.{told_ordered, when_ordered}
-use Rattle.mvt_base.proofs.RuleLemmas.{first-told, first-when_not}
+use Rattle.mvt_base.proofs.RuleLemmas.{first-told, first-when_not, first-when}
 use Rattle.mvt_base.proofs.TableLemmas.{none_mapped, when_none, none_each, each_none, by_number, if_ordered}
 use Rattle.mvt_wire.specs.Field.{Content, varint, fixed64, bytes, fixed32, Entry}
 use Rattle.mvt_feature.specs.declared.cause.Cause.TheVariants.{WrongType, NumberRange, NotUtf8, GeomType}
@@ -40,6 +40,10 @@ form_clean double (fixed64 n) h = refl
 form_clean string (bytes d) h = first-when_not (not (is_utf8 d)) NotUtf8 (ap not (is_utf8-from_IsUtf8 d h))
 form_clean message (bytes d) h = refl
 form_clean form c h = absurd (search rules)
+
+pub text_broken : (d : List ℕ) → (IsUtf8 d → ⊥) → first (form_rules string (bytes d)) ≡ Some NotUtf8
+text_broken d h =
+    first-when (not (is_utf8 d)) NotUtf8 (ap not (false_from_ne_true (is_utf8 d) (λ e. h (IsUtf8-from_is_utf8 d e))))
 
 form_ordered : (form : Form) (c : Content) → AreOrdered (form_rules form c)
 form_ordered any_varint (varint n) = tt

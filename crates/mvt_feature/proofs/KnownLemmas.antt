@@ -1,5 +1,5 @@
 -- What is known of a feature, field by field.
-use Rattle.std.proofs.Common.{◌≡◌, ℕ, ◌+◌, ◌==◌, Bool, true, false, List, [], ◌∷◌, ◌++◌, Option, Some, None, Result, Ok, Err, refl, sym, ap, ◌∙◌, append_assoc, append-nil, if◌then◌else◌}
+use Rattle.std.proofs.Common.{◌≡◌, ℕ, ◌+◌, ◌==◌, Bool, true, false, List, [], ◌∷◌, ◌++◌, Some, None, Result, Ok, Err, refl, sym, ap, ◌∙◌, append_assoc, append-nil, if◌then◌else◌}
 use Rattle.std.specs.Prelude.{OnOk, IfOk, IfErr}
 use Rattle.std.specs.List.{flat_map}
 use Rattle.std.specs.Option.{option_map}
@@ -14,7 +14,6 @@ use Rattle.mvt_wire.specs.Field.{Entry}
 use Rattle.mvt_feature.specs.declared.numbers.feature.TheConstants.{ID, TAGS, TYPE, GEOMETRY}
 use Rattle.mvt_feature.specs.declared.known.Known.{Known}
 use Rattle.mvt_feature.specs.declared.message_error.MessageError.{MessageError}
-use Rattle.mvt_feature.specs.declared.message_error.MessageError.TheVariants.{Memory, Fault}
 use Rattle.mvt_feature.specs.Faults.{MessageFault, fault_at, fault_of}
 use Rattle.mvt_feature.specs.Features.{number_of, number_in, kind_of_type}
 use Rattle.mvt_feature.specs.FeatureRules.{numbers_of, joined, kind_in, feature_form_rules, feature_field_rules}

@@ -1,5 +1,4 @@
 pub mod FeatureLaws
-mod TextLemmas
 mod FormLemmas
 mod WalkLemmas
 mod KindLemmas

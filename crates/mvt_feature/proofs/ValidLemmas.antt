@@ -4,12 +4,12 @@ use Rattle.std.specs.Ordering.{is_eq, nat_cmp}
 use Rattle.std.specs.Cmp.Lexicographic.{slice_cmp}
 use Rattle.std.specs.List.{AllByRecursion, list_any}
 use Rattle.std.proofs.lemmas.Bool.{both_ways}
-use Rattle.std.proofs.lemmas.List.{take_more, get_or_default, length-take-le, get_or-take}
+use Rattle.std.proofs.lemmas.List.{get_or_default, length-take-le, get_or-take}
 use Rattle.std.proofs.lemmas.List.Folds.{Any-from_list_any, list_any_at, list_any_more}
 use Rattle.std.proofs.lemmas.List.Quantifiers.{all_pairs_push}
 use Rattle.std.proofs.lemmas.Map.Text.{is_eq-slice_cmp}
 use Rattle.std.proofs.lemmas.Slice.Eq.{bytes_eq-Decides}
-use Rattle.mvt_base.proofs.ListLemmas.{all_joined}
+use Rattle.mvt_base.proofs.ListLemmas.{all_joined, front_more}
 use Rattle.mvt_attrs.specs.declared.value.Attribute.{Attribute}
 use Rattle.mvt_attrs.specs.Tags.{HasDistinctKeys, has_key}
 use Rattle.mvt_feature.specs.Valid.{ValidAttribute}
@@ -24,14 +24,12 @@ distinct_push xs a h new =
 pub distinct_more : (xs : List Attribute) (i : ℕ) (a : Attribute) → i < length xs → a ≡ get_or xs i a
     → HasDistinctKeys (take i xs) → has_key a.key (take i xs) ≡ false → HasDistinctKeys (take (i + 1) xs)
 distinct_more xs i a inside at h new =
-    subst HasDistinctKeys (sym (take_more xs i a inside))
-    (distinct_push (take i xs) (get_or xs i a) h (ap (λ (x : Attribute). has_key x.key (take i xs)) (sym at) ∙ new))
+    subst HasDistinctKeys (sym (front_more xs i a inside at)) (distinct_push (take i xs) a h new)
 
 pub valid_more : (xs : List Attribute) (i : ℕ) (a : Attribute) → i < length xs → a ≡ get_or xs i a
     → AllByRecursion ValidAttribute (take i xs) → ValidAttribute a → AllByRecursion ValidAttribute (take (i + 1) xs)
 valid_more xs i a inside at h valid =
-    let one : AllByRecursion ValidAttribute (get_or xs i a ∷ []) = (subst ValidAttribute at valid, tt) in
-    subst (AllByRecursion ValidAttribute) (sym (take_more xs i a inside)) (all_joined ValidAttribute (take i xs) (get_or xs i a ∷ []) h one)
+    subst (AllByRecursion ValidAttribute) (sym (front_more xs i a inside at)) (all_joined ValidAttribute (take i xs) (a ∷ []) h (valid, tt))
 
 -- an attribute whose key stood before
 pub distinct_breaks : (xs : List Attribute) (i : ℕ) (a : Attribute) → i < length xs → a ≡ get_or xs i a

@@ -11,7 +11,7 @@ use Rattle.mvt_base.proofs.ListLemmas.{all_weaker}
 use Rattle.mvt_attrs.specs.declared.value.Value.{Value}
 use Rattle.mvt_attrs.specs.declared.value.Value.TheVariants.{Text, Float, Double, Int, Uint, Sint, Bool as Truth}
 use Rattle.mvt_wire.specs.Field.{Content, varint, fixed64, bytes, fixed32, Entry}
-use Rattle.mvt_wire.specs.Split.{Parts, Split, Whole, split}
+use Rattle.mvt_wire.specs.Split.{Parts, Whole, split}
 use Rattle.mvt_feature.specs.declared.numbers.value.TheConstants.{STRING, FLOAT, DOUBLE, INT, UINT, SINT, BOOL}
 use Rattle.mvt_wire.specs.Zigzag.{zig, unzig}
 use Rattle.mvt_feature.specs.declared.value.Meaning.{Meaning}
@@ -30,7 +30,7 @@ use Rattle.mvt_feature.specs.Forms.{any_varint, float, double, string, HasForm, 
 use Rattle.mvt_feature.specs.Values.{value_forms, IsKind, Means, IsValue, IsValueOf}
 use Rattle.mvt_feature.specs.ValueRules.{is_kind, kinds, are_one_kind, value_field_rules, value_table, value_rules, value_fault}
 use Rattle.mvt_feature.proofs.FormLemmas.{has_form, clean_at, told_clean, forms_have, forms_clean, forms_ordered}
-use Rattle.mvt_wire.proofs.WireLaws.{split_function_is, split_function_only, zigzag_function_number, zigzag_function_code}
+use Rattle.mvt_wire.proofs.WireLaws.{split_function_only, zigzag_function_number, zigzag_function_code, split_function_whole}
 
 -- the fields of a value have no fault
 abbrev pub ValuesClean : ℕ → List Entry → Type 0
@@ -198,9 +198,6 @@ value_from payload_at xs last v clean one is means =
     }
 
 -- a payload that splits wholly into these fields
-pub whole_split : (payload : List ℕ) → (split payload).rest ≡ [] → Whole payload (split payload).fields
-whole_split payload rest = subst (λ r. Split payload (split payload).fields r) rest (split_function_is payload)
-
 pub split_of : (payload : List ℕ) (xs : List Entry) → Whole payload xs → ((split payload).fields ≡ xs) × ((split payload).rest ≡ [])
 split_of payload xs whole = let only = split_function_only payload [] xs whole in (sym only.0, sym only.1)
 
@@ -210,7 +207,7 @@ pub kinds_value : (payload : List ℕ) (payload_at number : ℕ) (m : Meaning) �
     → IsValueOf payload (value_of m)
 kinds_value payload payload_at number m rest clean (one, (last, (is, (named, means)))) = (
   (split payload).fields,
-  whole_split payload rest,
+  split_function_whole payload rest,
   value_from payload_at (split payload).fields last (value_of m) clean one is
       (subst (λ n. Means n last.content (value_of m)) (sym named) means),
 )
@@ -295,7 +292,7 @@ value_there payload payload_at tag_at h =
     let kind = not-false (are_one_kind (kinds (split payload).fields)) one in
     let last = last_kind (kinds (split payload).fields) kind in
     let found = value_of_last payload_at (split payload).fields last.0 later.0 kind last.1 in
-    (found.0, ((split payload).fields, whole_split payload (none_rest payload_at (split payload) parts.0), found.1))
+    (found.0, ((split payload).fields, split_function_whole payload (none_rest payload_at (split payload) parts.0), found.1))
 
 -- the grammar keeps the rules
 all_one : (k : ℕ) (xs : List Entry) (last : Entry) → AllByRecursion (λ (y : Entry). y.number ≡ k) xs

@@ -1,5 +1,5 @@
 -- A fault of a message: the feature in which it stands, its place and the broken rule.
-use Rattle.std.specs.Prelude.{◌≡◌, ℕ, ◌+◌, List, [], ◌∷◌, Option, Some, None, true}
+use Rattle.std.specs.Prelude.{ℕ, ◌+◌, List, [], ◌∷◌, Option, Some, None, true}
 use Rattle.mvt_base.specs.Rules.{Rules, when}
 use Rattle.mvt_wire.specs.Fronts.{rest_cause}
 use Rattle.mvt_wire.specs.Split.{Parts}

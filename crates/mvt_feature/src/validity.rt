@@ -1,7 +1,8 @@
 //! Which features can be written.
-ghost use Rattle.std.specs.Prelude.{◌≡◌, ◌↔◌, IfOk, IsTrue};
+ghost use Rattle.std.specs.Prelude.{◌≡◌, ◌↔◌, ◌<◌, length, IfOk, OnErr, IsTrue};
 ghost use Rattle.std.specs.List.{AllByRecursion};
 ghost use Rattle.mvt_attrs.specs.Tags.{HasDistinctKeys, has_key};
+ghost use Rattle.mvt_feature.specs.declared.validity.TheConstants.{FEW};
 ghost use Rattle.mvt_feature.specs.Valid.{ValidValue, ValidAttribute, ValidFeature};
 
 use crate::feature::Feature;
@@ -25,9 +26,10 @@ pub fn is_valid_feature(feature: &Feature) -> bool
     have_distinct_keys(feature.attributes.as_slice()) && is_valid_geometry(&feature.geometry)
 }
 
-/// The same, in time that grows as that of sorting the keys. Few attributes need no memory.
+/// The same, in time that grows as that of sorting the keys. Up to 16 attributes need no memory.
 pub fn validate_feature(alloc: Global, feature: &Feature) -> Result<bool, AllocError>
-    ensures { IfOk result (λ valid. IsTrue valid ↔ ValidFeature feature.now) }
+    ensures valid { IfOk result (λ valid. IsTrue valid ↔ ValidFeature feature.now) }
+    ensures few { OnErr result (FEW < length feature.now.attributes) }
 {
     let attributes = feature.attributes.as_slice();
     if attributes.len() <= FEW {

@@ -1,10 +1,11 @@
 //! Values (Mapbox Vector Tile Specification 2.1, 4.1, message Value).
-ghost use Rattle.std.specs.Prelude.{◌≡◌, ◌+◌, ◌^◌, ◌<◌, [], length, Some, None, true, false, IfOk, IfErr, OnOk, MatchOption};
+ghost use Rattle.std.specs.Prelude.{◌≡◌, ◌+◌, ◌^◌, ◌<◌, ℕ, List, [], length, Some, None, true, false, IfOk, IfErr, IsErrOf, OnOk, OnErr, MatchOption};
 ghost use Rattle.std.specs.Option.{option_or};
 ghost use Rattle.mvt_base.specs.Tells.{Tells};
 ghost use Rattle.mvt_base.specs.Rules.{each, first};
 ghost use Rattle.mvt_wire.specs.Field.{entry_of, content_of, varint, fixed64, fixed32, bytes};
 ghost use Rattle.mvt_wire.specs.Split.{split};
+ghost use Rattle.mvt_attrs.specs.declared.value.Value.TheVariants as values;
 ghost use Rattle.mvt_feature.specs.Faults.{fault_of, rest_rules};
 ghost use Rattle.mvt_feature.specs.Forms.{any_varint, float, double, string, form_rules, number_rules};
 ghost use Rattle.mvt_feature.specs.Values.{value_forms, Means, IsValueOf};
@@ -40,6 +41,7 @@ pub fn read_value(
     ensures value { IfOk result (IsValueOf payload.now) }
     ensures ok { OnOk result (value_fault payload.now payload_at tag_at ≡ None) }
     ensures err { IfErr result (λ error. Tells (fault_of error) (value_fault payload.now payload_at tag_at)) }
+    ensures memory { IsErrOf result MessageError.Memory → (text : List ℕ) × IsValueOf payload.now (values.Text text) }
 {
     Ok(read_meaning(payload, payload_at, tag_at)?.into_value(alloc)?)
 }
@@ -53,6 +55,7 @@ pub fn judge_value(payload: &[u8], payload_at: u64, tag_at: u64) -> Result<(), M
     requires { payload_at + length payload.now < 2 ^ 64 }
     ensures ok { OnOk result (value_fault payload.now payload_at tag_at ≡ None) }
     ensures err { IfErr result (λ error. Tells (fault_of error) (value_fault payload.now payload_at tag_at)) }
+    ensures never { IsErrOf result MessageError.Memory → ⊥ }
 {
     read_meaning(payload, payload_at, tag_at)?;
     Ok(())
@@ -65,6 +68,7 @@ fn read_meaning(payload: &[u8], payload_at: u64, tag_at: u64) -> Result<Meaning<
     ensures value { IfOk result (λ meaning. IsValueOf payload.now (value_of meaning)) }
     ensures ok { OnOk result (value_fault payload.now payload_at tag_at ≡ None) }
     ensures err { IfErr result (λ error. Tells (fault_of error) (value_fault payload.now payload_at tag_at)) }
+    ensures never { IsErrOf result MessageError.Memory → ⊥ }
 {
     match read_kinds(payload, payload_at)? {
         Kinds::One { meaning, .. } => Ok(meaning),
@@ -104,6 +108,7 @@ fn read_kinds(payload: &[u8], payload_at: u64) -> Result<Kinds<'_>, MessageError
     ensures err { IfErr result (λ error. Tells (fault_of error) (option_or
         (first (rest_rules payload_at (split payload.now)))
         (first (each (λ _. value_field_rules payload_at) [] (split payload.now).fields)))) }
+    ensures never { IsErrOf result MessageError.Memory → ⊥ }
 {
     let mut kinds = Kinds::Nothing;
     for field in Fields::new(payload) {
@@ -136,7 +141,8 @@ impl<'a> Kinds<'a> {
 
 impl Meaning<'_> {
     fn into_value(self, alloc: Global) -> Result<Value, AllocError>
-        ensures { IfOk result (λ value. value ≡ value_of self.entry) }
+        ensures same { IfOk result (λ value. value ≡ value_of self.entry) }
+        ensures memory { OnErr result ((text : List ℕ) × (value_of self.entry ≡ values.Text text)) }
     {
         match self {
             Meaning::Text(text) => Ok(Value::Text(Text::from_str(alloc, text)?)),

@@ -1,5 +1,5 @@
 -- What the builder has made so far.
-use Rattle.std.proofs.Common.{◌≡◌, ℕ, ◌+◌, ◌-◌, ◌*◌, ◌/◌, ◌<◌, ◌≤◌, ◌^◌, List, [], ◌∷◌, ◌++◌, length, get_or, take, drop, refl, sym, ap, ap₂, subst, ◌∙◌, arith, append_assoc, append-nil, length-append}
+use Rattle.std.proofs.Common.{◌≡◌, ℕ, ◌+◌, ◌-◌, ◌*◌, ◌/◌, ◌<◌, ◌≤◌, ◌^◌, List, [], ◌∷◌, ◌++◌, length, get_or, take, drop, refl, sym, ap, ap₂, subst, ◌∙◌, arith, append_assoc, length-append}
 use Rattle.std.proofs.lemmas.List.{take_at, drop_at, take_rest}
 use Rattle.std.proofs.lemmas.Int.{ints}
 use Rattle.mvt_base.proofs.ListLemmas.{all_weaker}
@@ -17,7 +17,7 @@ use Rattle.mvt_geometry.proofs.PathLemmas.{pairs-path, positions-between, moved-
 use Rattle.mvt_geometry.proofs.StrokeLemmas.{stroke-more}
 use Rattle.mvt_geometry.proofs.GroupLemmas.{one_grouping}
 use Rattle.mvt_geometry.specs.Inner.Grouping.{polygons_of}
-use Rattle.mvt_geometry.proofs.WalkLemmas.{pairs_front, pairs_end, first_pair}
+use Rattle.mvt_geometry.proofs.WalkLemmas.{pairs_front, first_pair}
 
 pub positions-path : (c : Point) (ps : List Point) → positions c (pairs_of (path_from c ps)) ≡ ps
 positions-path c ps = ap (positions c) (pairs-path c ps) ∙ positions-between c ps
@@ -50,13 +50,6 @@ pushes {before} {from} {parameters} {points} {c} {rest} p two to is =
       places = (subst (λ ds. ArePlaces (positions c ds)) front p.places).1;
     } in
     rw (take_rest rest 2, is) here
-
-pub pushed : {before : List Point} {from : Point} {parameters : List ℕ} {points : List Point} {c : Point} {rest : List ℕ}
-    → IsPushed before from parameters points c rest → length rest < 2
-    → (points ≡ before ++ positions from (pairs_of parameters)) × (c ≡ moved from (pairs_of parameters))
-pushed {points = points} {c = c} {rest = rest} p few =
-    let none = pairs_end rest few in
-    (sym (append-nil points) ∙ ap (λ ds. points ++ positions c ds) (sym none) ∙ p.points_are, ap (moved c) (sym none) ∙ p.end_is)
 
 -- a line in front of the integers
 pub record Front (from : Point) (ints : List ℕ) (line : List Point) (more : List ℕ) : Type 0 where

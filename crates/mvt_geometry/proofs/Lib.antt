@@ -13,7 +13,7 @@ mod PolygonLemmas
 mod GroupLemmas
 mod WholeLemmas
 mod BuildLemmas
-mod PutLemmas
+mod WritingLemmas
 mod ValidLemmas
 mod OrderedLemmas
 mod LawLemmas

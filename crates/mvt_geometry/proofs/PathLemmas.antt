@@ -4,15 +4,15 @@ use Rattle.std.specs.Option.{option_or}
 use Rattle.std.specs.List.{AllByRecursion}
 use Rattle.std.proofs.lemmas.Bool.{cases_eq, ne_eqb, false≢true}
 use Rattle.std.proofs.lemmas.Int.{ints, to_z-of_z}
-use Rattle.mvt_base.specs.Rules.{Rules, first, under, each}
-use Rattle.mvt_base.proofs.RuleLemmas.{first-append, first-under, option_or-nones}
+use Rattle.mvt_base.specs.Rules.{first, each}
+use Rattle.mvt_base.proofs.RuleLemmas.{option_or-nones, each_first}
 use Rattle.mvt_wire.proofs.WireLaws.{zigzag_function_number, zigzag_function_code}
 use Rattle.mvt_wire.specs.Zigzag.{zig, unzig}
 use Rattle.mvt_geometry.specs.declared.shape.Point.{Point}
 use Rattle.mvt_geometry.specs.Shape.{InRange, IsPlace, AreSteps, Apart, last_of}
 use Rattle.mvt_geometry.specs.Drawing.{path_from}
 use Rattle.mvt_geometry.specs.Commands.{Pair, pairs_of, stepped, moved, positions}
-use Rattle.mvt_geometry.specs.Table.{IndexedCause, step_rules, pair_rules}
+use Rattle.mvt_geometry.specs.Table.{step_rules, pair_rules}
 use Rattle.mvt_geometry.specs.Inner.Strokes.{pair_between, pairs_between}
 use Rattle.mvt_geometry.proofs.StepLemmas.{step_right, step_gives}
 use Rattle.mvt_geometry.proofs.WalkLemmas.{moved-append, pair_rule}
@@ -50,10 +50,6 @@ positions-between c (p ∷ ps) =
     let here = stepped-between c p in
     ap₂ (λ (q : Point) (r : Point). q ∷ positions r (pairs_between p ps)) here here ∙ ap (λ qs. p ∷ qs) (positions-between p ps)
 
-pub between-positions : (c : Point) (ds : List Pair) → pairs_between c (positions c ds) ≡ ds
-between-positions c [] = refl
-between-positions c (d ∷ ds) = ap₂ (λ (e : Pair) es. e ∷ es) (between-stepped c d) (between-positions (stepped c d) ds)
-
 pub moved-between : (c : Point) (ps : List Point) → moved c (pairs_between c ps) ≡ last_of c ps
 moved-between c [] = refl
 moved-between c (p ∷ ps) = ap (λ q. moved q (pairs_between p ps)) (stepped-between c p) ∙ moved-between p ps
@@ -65,10 +61,6 @@ length-positions c (d ∷ ds) = ap suc (length-positions (stepped c d) ds)
 pub length-path : (c : Point) (ps : List Point) → length (path_from c ps) ≡ 2 * length ps
 length-path c [] = refl
 length-path c (p ∷ ps) = let more = length-path p ps in omega (arith, more)
-
-pub path-append : (c : Point) (ps qs : List Point) → path_from c (ps ++ qs) ≡ path_from c ps ++ path_from (last_of c ps) qs
-path-append c [] qs = refl
-path-append c (p ∷ ps) qs = ap (λ xs. zig (p.x -ℤ c.x) ∷ zig (p.y -ℤ c.y) ∷ xs) (path-append p ps qs)
 
 pub pairs-path : (c : Point) (ps : List Point) → pairs_of (path_from c ps) ≡ pairs_between c ps
 pairs-path c [] = refl
@@ -115,12 +107,6 @@ goes_away true p q apart = by_x (cases_eq (zig (q.x -ℤ p.x)) 0)
     by_x (inl x) = by_y x (cases_eq (zig (q.y -ℤ p.y)) 0)
     by_x (inr x) = rw (ne_eqb (zig (q.x -ℤ p.x)) 0 x) refl
 
-each_chain : (rules : List Pair → Pair → Rules IndexedCause) (front : List Pair) (d : Pair) (ds : List Pair)
-    → first (each rules front (d ∷ ds)) ≡ option_or (first (rules front d)) (first (each rules (front ++ d ∷ []) ds))
-each_chain rules front d ds =
-    first-append (under (length front) (rules front d)) (each rules (front ++ d ∷ []) ds)
-    ∙ ap (λ o. option_or o (first (each rules (front ++ d ∷ []) ds))) (first-under (length front) (rules front d))
-
 moved-push : (from : Point) (front : List Pair) (c : Point) (d : Pair) → moved from front ≡ c → moved from (front ++ d ∷ []) ≡ stepped c d
 moved-push from front c d e = moved-append from front (d ∷ []) ∙ ap (λ p. stepped p d) e
 
@@ -138,7 +124,7 @@ path_calm line at from front c (p ∷ ps) e places small apart =
     let calm =
     step_right line (at + 2 * length front) d p (step_accepted (p.x -ℤ c.x) small.0.0)
     (step_accepted (p.y -ℤ c.y) small.0.1) (goes_away line c p (λ is. (apart is).0)) places.0 in
-    each_chain (pair_rules line at from) front d (pairs_between p ps)
+    each_first (pair_rules line at from) front d (pairs_between p ps)
     ∙ ap₂ option_or (ap first rule ∙ calm)
     (path_calm line at from (front ++ d ∷ []) p ps here places.1 small.1 (λ is. (apart is).1))
 
@@ -177,7 +163,7 @@ pub calm_path : (line : Bool) (at : ℕ) (from : Point) (front : List Pair) (c :
     → AllByRecursion IsPlace (positions c ds) × AreSteps c (positions c ds) × (line ≡ true → Apart (c ∷ positions c ds))
 calm_path line at from front c [] e small none = (tt, tt, λ is. tt)
 calm_path line at from front c (d ∷ ds) e small none =
-    let parts = option_or-nones _ _ (sym (each_chain (pair_rules line at from) front d ds) ∙ none) in
+    let parts = option_or-nones _ _ (sym (each_first (pair_rules line at from) front d ds) ∙ none) in
     let rule = pair_rule line at from front d ∙ ap (step_rules line (at + 2 * length front) d) (ap (λ q. stepped q d) e) in
     let step = step_gives line (at + 2 * length front) d (stepped c d) (sym (ap first rule) ∙ parts.0) in
     let more = calm_path line at from (front ++ d ∷ []) (stepped c d) ds (moved-push from front c d e) small.1 parts.1 in

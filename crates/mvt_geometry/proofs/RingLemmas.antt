@@ -1,5 +1,5 @@
 -- A ring is three commands, and the first one's area is judged at its ClosePath.
-use Rattle.std.proofs.Common.{◌≡◌, ◌≢◌, ℕ, zero, suc, ◌+◌, ◌*◌, ◌/◌, ◌%◌, ◌≤◌, true, false, ◌&&◌, ◌==◌, eqb, List, [], ◌∷◌, ◌++◌, length, get_or, take, drop, Option, Some, None, ℤ, pos, ◌+ℤ◌, ◌≤ℤ◌, ◌<ℤ◌, refl, eq-eqb, ◌⊎◌, inl, inr, sym, ap, ap₂, subst, ◌∙◌, arith, length-drop}
+use Rattle.std.proofs.Common.{◌≡◌, ◌≢◌, ℕ, zero, suc, ◌+◌, ◌-◌, ◌*◌, ◌/◌, ◌%◌, ◌≤◌, true, false, ◌&&◌, ◌==◌, eqb, List, [], ◌∷◌, ◌++◌, length, get_or, take, drop, Option, Some, None, ℤ, pos, ◌+ℤ◌, ◌≤ℤ◌, ◌<ℤ◌, refl, eq-eqb, ◌⊎◌, inl, inr, sym, ap, ap₂, subst, ◌∙◌, arith, length-drop}
 use Rattle.std.proofs.Math.Bool.{or-true, and-false}
 use Rattle.std.specs.Int.Signed.{lt_z}
 use Rattle.std.proofs.lemmas.Bool.{ne_eqb, cases_eq}
@@ -47,10 +47,11 @@ pub header_pairs : {kind : Kind} {c : Command} {g : List ℕ} {s : ℕ} → IsHe
     → length (pairs_at (Some c) g s) ≡ pair_count (Some c) (get_or g s 0 / 8)
 header_pairs {kind} {c} {g} {s} h = length-pairs _ (drop (s + 1) g) (omega (arith, h.room, length-drop (s + 1) g))
 
-one_pair : (ds : List Pair) → length ds ≡ 1 → (d : Pair) × (ds ≡ d ∷ [])
-one_pair [] e = cc
-one_pair (d ∷ []) e = (d, refl)
-one_pair (d ∷ f ∷ ds) e = absurd (omega (arith, e))
+-- what a list of one thing holds
+pub one_thing : {X : Type 0} → (xs : List X) → length xs ≡ 1 → (x : X) × (xs ≡ x ∷ [])
+one_thing [] e = cc
+one_thing (x ∷ []) e = (x, refl)
+one_thing (x ∷ y ∷ xs) e = absurd (omega (arith, e))
 
 module _ {g : List ℕ} {s t : ℕ} {c d : Point} (r : Reached kinds.Polygon g 0 s c) (next : Reached kinds.Polygon g 1 t d) where
   -- the first command has one pair
@@ -59,7 +60,7 @@ module _ {g : List ℕ} {s t : ℕ} {c d : Point} (r : Reached kinds.Polygon g 0
       let h = header_kept kinds.Polygon g 0 s c r.stands MoveTo refl (kept_before r next) (λ e. refl) in
       let one : get_or g s 0 / 8 ≡ 1 = exact_unsigned_eq (get_or g s 0 / 8) 1 h.allowed in
       let here = moves-are kinds.Polygon g 0 s r.stands.begins in
-      let pair = one_pair (pairs_at (Some MoveTo) g s) (header_pairs h ∙ one) in (
+      let pair = one_thing (pairs_at (Some MoveTo) g s) (header_pairs h ∙ one) in (
         pair.0,
         here ∙ pair.1,
         sym next.stands.cursor_is ∙ cursor-next kinds.Polygon g 0 ∙ ap₂ moved (first_cursor kinds.Polygon g) (here ∙ pair.1),
@@ -119,6 +120,25 @@ pub record ReadsRing (g : List ℕ) (k s t n : ℕ) (c d last : Point) (paramete
   pub behind : parameters ≡ take (2 * n) (drop (t + 1) g)
   pub none : first (each (pair_rules true (t + 1) d) [] (pairs_of parameters)) ≡ None
   pub last_is : last ≡ moved d (pairs_of parameters)
+
+-- the parameters stand between the second command and the place that its count leads to
+pub reads_ring : (g : List ℕ) (k t n : ℕ) {s : ℕ} {c d last : Point} → k % 3 ≡ 0 → Reached kinds.Polygon g k s c
+    → Reached kinds.Polygon g (suc k) t d → IsHeader kinds.Polygon LineTo g t → n ≡ get_or g t 0 / 8
+    → first (each (pair_rules true (t + 1) d) [] (pairs_of (take ((t + 1 + 2 * n) - (t + 1)) (drop (t + 1) g)))) ≡ None
+    → last ≡ moved d (pairs_of (take ((t + 1 + 2 * n) - (t + 1)) (drop (t + 1) g)))
+    → ReadsRing g k s t n c d last (take ((t + 1 + 2 * n) - (t + 1)) (drop (t + 1) g))
+reads_ring g k t n third reached next line count none last_is =
+    let length_is : (t + 1 + 2 * n) - (t + 1) ≡ 2 * n = omega arith in
+    record {
+      third = third;
+      reached = reached;
+      next = next;
+      line = line;
+      count = count;
+      behind = ap (λ m. take m (drop (t + 1) g)) length_is;
+      none = none;
+      last_is = last_is;
+    }
 
 -- its ClosePath stands there
 module _ {g : List ℕ} {k s t n : ℕ} {c d last : Point} {parameters : List ℕ} (ring : ReadsRing g k s t n c d last parameters) where

@@ -69,40 +69,23 @@ module _ (line : Bool) (at : ℕ) (d : Pair) (to : Point) (x : d.dx ≢ 42949672
   moves : first {F = IndexedCause} (when (line && (eqb d.dx 0 && eqb d.dy 0)) (at, causes.ZeroSegment)) ≡ None
   moves = first-when_not {F = IndexedCause} _ (at, causes.ZeroSegment) goes
 
+  -- what is left to ask: whether the place is in range
+  place_rules : first (step_rules line at d to)
+      ≡ option_or (first (when (is_outside wide to.x) (at, causes.CoordinateRange)))
+      (option_or (first (when (is_outside wide to.y) (at + 1, causes.CoordinateRange))) None)
+  place_rules = rw (step_chain line at d to, x_accepted line at d to x, y_accepted line at d to x y, moves) refl
+
   pub leaves_x : (InRange to.x → ⊥) → first (step_rules line at d to) ≡ Some (at, causes.CoordinateRange)
-  leaves_x h =
-      rw (
-        step_chain line at d to,
-        x_accepted line at d to x,
-        y_accepted line at d to x y,
-        moves,
-        first-when {F = IndexedCause} _ (at, causes.CoordinateRange) (outside to.x h),
-      )
-      refl
+  leaves_x h = rw (place_rules, first-when {F = IndexedCause} _ (at, causes.CoordinateRange) (outside to.x h)) refl
+
+  y_rule : InRange to.x → first (step_rules line at d to) ≡ option_or (first (when (is_outside wide to.y) (at + 1, causes.CoordinateRange))) None
+  y_rule in_x = rw (place_rules, first-when_not {F = IndexedCause} _ (at, causes.CoordinateRange) (inside to.x in_x)) refl
 
   pub leaves_y : InRange to.x → (InRange to.y → ⊥) → first (step_rules line at d to) ≡ Some (at + 1, causes.CoordinateRange)
-  leaves_y in_x h =
-      rw (
-        step_chain line at d to,
-        x_accepted line at d to x,
-        y_accepted line at d to x y,
-        moves,
-        first-when_not {F = IndexedCause} _ (at, causes.CoordinateRange) (inside to.x in_x),
-        first-when {F = IndexedCause} _ (at + 1, causes.CoordinateRange) (outside to.y h),
-      )
-      refl
+  leaves_y in_x h = rw (y_rule in_x, first-when {F = IndexedCause} _ (at + 1, causes.CoordinateRange) (outside to.y h)) refl
 
   pub step_right : IsPlace to → first (step_rules line at d to) ≡ None
-  step_right h =
-      rw (
-        step_chain line at d to,
-        x_accepted line at d to x,
-        y_accepted line at d to x y,
-        moves,
-        first-when_not {F = IndexedCause} _ (at, causes.CoordinateRange) (inside to.x h.0),
-        first-when_not {F = IndexedCause} _ (at + 1, causes.CoordinateRange) (inside to.y h.1),
-      )
-      refl
+  step_right h = rw (y_rule h.0, first-when_not {F = IndexedCause} _ (at + 1, causes.CoordinateRange) (inside to.y h.1)) refl
 
 inside_is : (z : ℤ) → is_outside wide z ≡ false → InRange z
 inside_is z e =

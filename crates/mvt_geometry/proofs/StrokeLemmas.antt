@@ -15,7 +15,7 @@ use Rattle.mvt_geometry.specs.Table.{geometry_fault}
 use Rattle.mvt_geometry.specs.Inner.Judging.{Reached}
 use Rattle.mvt_geometry.specs.Inner.Strokes.{pair_between, pairs_between, MayDraw, AreSmall, FoundStroke}
 use Rattle.mvt_geometry.proofs.CommandLemmas.{no_ring}
-use Rattle.mvt_geometry.proofs.RingLemmas.{must_draw}
+use Rattle.mvt_geometry.proofs.RingLemmas.{must_draw, one_thing}
 use Rattle.mvt_geometry.proofs.FoundLemmas.{command_drawn, rest_drawn, moves_drawn, command_found}
 
 -- steps and neighbours of joined paths
@@ -35,11 +35,6 @@ steps-back c (p ∷ ps) qs h = steps-back p ps qs h.1
 pub stroke-more : (end : List ℕ) (c p : Point) (ps : List Point) (more : List ℕ)
     → stroke end c (p ∷ ps) ++ more ≡ 9 ∷ (path_from c (p ∷ []) ++ ((2 + 8 * length ps) ∷ (path_from p ps ++ (end ++ more))))
 stroke-more end c p ps more = ap (λ xs. 9 ∷ (path_from c (p ∷ []) ++ ((2 + 8 * length ps) ∷ xs))) (append_assoc (path_from p ps) end more)
-
-one_point : (ps : List Point) → length ps ≡ 1 → (p : Point) × (ps ≡ p ∷ [])
-one_point [] e = cc
-one_point (p ∷ []) e = (p, refl)
-one_point (p ∷ q ∷ ps) e = absurd (omega (arith, e))
 
 -- kinds whose geometries are lines or rings: which counts they allow
 pub record HasStrokes (kind : Kind) (least : ℕ) : Type 0 where
@@ -74,7 +69,7 @@ module _ {kind : Kind} {least : ℕ} (has : HasStrokes kind least) {g : List ℕ
   stroke_found none here small =
       let first_found = command_found r MoveTo move has.known none (λ e. absurd (omega (arith, e, here))) small in
       let count_one : first_found.count ≡ 1 = has.moves_once first_found.count first_found.may.allowed in
-      let one = one_point first_found.points (first_found.may.pairs ∙ count_one) in
+      let one = one_thing first_found.points (first_found.may.pairs ∙ count_one) in
       let p = one.0 in
       let next = subst (λ ps. Reached kind g (suc k) (s + 1 + 2 * length ps) (last_of c ps)) one.1 first_found.next in
       let found = command_found next LineTo line has.known none (λ e. must_draw kind (suc k) LineTo line (λ same. cc)) small in

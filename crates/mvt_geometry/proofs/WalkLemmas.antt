@@ -1,5 +1,5 @@
 -- A walk over pairs of parameters.
-use Rattle.std.proofs.Common.{◌≡◌, ℕ, ◌+◌, ◌-◌, ◌*◌, ◌<◌, ◌≤◌, Bool, List, [], ◌∷◌, ◌++◌, length, get_or, take, drop, length-drop, Some, None, ◌+ℤ◌, refl, sym, ap, ap₂, ◌∙◌, arith, append_assoc, append-nil, length-append}
+use Rattle.std.proofs.Common.{◌≡◌, ℕ, ◌+◌, ◌-◌, ◌*◌, ◌≤◌, Bool, List, [], ◌∷◌, ◌++◌, length, get_or, take, drop, length-drop, Some, None, ◌+ℤ◌, refl, sym, ap, ap₂, ◌∙◌, arith, append_assoc, length-append}
 use Rattle.std.proofs.lemmas.List.{take_rest}
 use Rattle.std.proofs.lemmas.Int.{ints}
 use Rattle.mvt_base.specs.Rules.{first, each}
@@ -14,10 +14,6 @@ pub moved-append : (c : Point) (ds es : List Pair) → moved c (ds ++ es) ≡ mo
 moved-append c [] es = refl
 moved-append c (d ∷ ds) es = moved-append (stepped c d) ds es
 
-pub positions-append : (c : Point) (ds es : List Pair) → positions c (ds ++ es) ≡ positions c ds ++ positions (moved c ds) es
-positions-append c [] es = refl
-positions-append c (d ∷ ds) es = ap (λ ps. stepped c d ∷ ps) (positions-append (stepped c d) ds es)
-
 pub edges-more : (c : Point) (ds : List Pair) (d : Pair)
     → edges c (positions c (ds ++ d ∷ [])) ≡ edges c (positions c ds) +ℤ cross (moved c ds) (stepped (moved c ds) d)
 edges-more c [] d = omega (arith, ints)
@@ -27,11 +23,6 @@ pub pairs_front : (xs : List ℕ) → 2 ≤ length xs → pairs_of xs ≡ record
 pairs_front [] h = absurd (omega (arith, h))
 pairs_front (x ∷ []) h = absurd (omega (arith, h))
 pairs_front (x ∷ y ∷ xs) h = refl
-
-pub pairs_end : (xs : List ℕ) → length xs < 2 → pairs_of xs ≡ []
-pairs_end [] h = refl
-pairs_end (x ∷ []) h = refl
-pairs_end (x ∷ y ∷ xs) h = absurd (omega (arith, h))
 
 pub pair_rule : (line : Bool) (begin : ℕ) (from : Point) (front : List Pair) (d : Pair)
     → pair_rules line begin from front d ≡ step_rules line (begin + 2 * length front) d (stepped (moved from front) d)
@@ -82,8 +73,3 @@ module _ (line : Bool) (begin : ℕ) (from : Point) (parameters rest : List ℕ)
       edges-more from done (first_pair rest)
       ∙ ap₂ (λ p q. edges from (positions from done) +ℤ cross p q) (sym w.cursor_is)
       (ap (λ p. stepped p (first_pair rest)) (sym w.cursor_is) ∙ sym is)
-
--- at the end the pairs are those done
-pub walk_ends : {line : Bool} {begin : ℕ} {from : Point} {parameters rest : List ℕ} {c : Point} {done : List Pair}
-    → Walked line begin from parameters rest c done → length rest < 2 → pairs_of parameters ≡ done
-walk_ends {rest} {done} w few = w.split ∙ ap (λ ds. done ++ ds) (pairs_end rest few) ∙ append-nil done

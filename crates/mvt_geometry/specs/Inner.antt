@@ -3,5 +3,5 @@ pub mod Judging
 pub mod Strokes
 pub mod Grouping
 pub mod Building
-pub mod Putting
+pub mod Writing
 pub mod Validity

@@ -1,5 +1,5 @@
 -- The canonical payload of an item takes no more bytes than its bound says, where that is within the limit.
-use Rattle.std.proofs.Common.{◌≡◌, ℕ, ◌+◌, ◌*◌, ◌^◌, ◌<◌, ◌≤◌, Bool, not, List, [], ◌∷◌, ◌++◌, length, map, refl, ap, ◌∙◌, arith, lit<, length-append}
+use Rattle.std.proofs.Common.{◌≡◌, ℕ, ◌+◌, ◌^◌, ◌<◌, ◌≤◌, Bool, not, List, [], ◌∷◌, ◌++◌, length, map, refl, ap, ◌∙◌, arith, lit<, length-append}
 use Rattle.std.specs.Prelude.{bytes_eq, filter}
 use Rattle.std.specs.List.{AllByRecursion, sum_by}
 use Rattle.std.proofs.lemmas.List.Filters.{sum_by-filter_both}
@@ -12,13 +12,12 @@ use Rattle.mvt_attrs.specs.TagPlaces.{tags_in, IsIn}
 use Rattle.mvt_attrs.specs.Values.{equal_values}
 use Rattle.mvt_wire.specs.Field.{bytes}
 use Rattle.mvt_wire.specs.Spelling.{Plain, short_field, spelled}
-use Rattle.mvt_wire.specs.Varint.{short}
 use Rattle.mvt_feature.specs.declared.feature.Feature.{Feature}
 use Rattle.mvt_feature.specs.Bounds.{feature_bound}
 use Rattle.mvt_feature.specs.Canonical.{feature_fields, value_fields}
 use Rattle.mvt_feature.specs.Valid.{ValidFeature}
 use Rattle.mvt_attrs.proofs.AttrsLaws.{places_name_small}
-use Rattle.mvt_wire.proofs.WireLaws.{short_lengths_field, short_lengths_most, short_lengths_one}
+use Rattle.mvt_wire.proofs.WireLaws.{bytes_lengths, short_lengths_most}
 use Rattle.mvt_feature.proofs.FeatureLaws.{bound_holds as feature_bound_holds}
 use Rattle.mvt_message.specs.declared.item.Item.{Item as AnItem}
 use Rattle.mvt_message.specs.declared.item.Layer.{Layer as ALayer}
@@ -98,21 +97,13 @@ features_sum (f ∷ features) =
 abbrev IsFineIn : List (List ℕ) → List Value → Feature → Type 0
 IsFineIn keys values f = ValidFeature f × AllByRecursion (λ tag. tag < 2 ^ 32) (tags_in keys values f.attributes)
 
-bytes_length : (number : ℕ) (d : List ℕ) → 8 * number + 2 < 128 → length (short_field number (bytes d)) ≤ 11 + length d
-bytes_length number d small =
-    let whole = short_lengths_field number (bytes d) in
-    let tag = short_lengths_one (8 * number + 2) small in
-    let size = short_lengths_most (length d) in
-    let parts = length-append (short (length d)) d in
-    omega (arith, whole, tag, size, parts)
-
 features_length : (keys : List (List ℕ)) (values : List Value) (features : List Feature) → AllByRecursion (IsFineIn keys values) features
     → length (spelled (map (feature_field keys values) features)) ≤ sum_by (λ f. 11 + feature_bound f) features
 features_length keys values [] fine = omega arith
 features_length keys values (f ∷ features) fine =
     let payload = spelled (feature_fields (tags_in keys values f.attributes) f) in
     let parts = length-append (short_field 2 (bytes payload)) (spelled (map (feature_field keys values) features)) in
-    let one = bytes_length 2 payload (lit< tt) in
+    let one = bytes_lengths 2 payload (lit< tt) in
     let few = feature_bound_holds keys values f fine.0.0.drawn fine.0.1 in
     let others = features_length keys values features fine.1 in
     let sums = sum_by-cons (λ g. 11 + feature_bound g) f features in
@@ -132,7 +123,7 @@ layer_length layer fine =
     let pools = length-append K (V ++ E) in
     let last = length-append V E in
     let head = head_len layer.name in
-    let name = bytes_length 1 layer.name (lit< tt) in
+    let name = bytes_lengths 1 layer.name (lit< tt) in
     let payloads = features_length (keys_of features) (values_of features) features fine in
     let entries = pools_length features in
     let sums = features_sum features in

@@ -4,10 +4,9 @@ use Rattle.std.specs.Prelude.{IsUtf8, Contains, unwrap_or, ⊤}
 use Rattle.std.specs.List.{AllByRecursion, last_or}
 use Rattle.std.specs.Option.{option_map}
 use Rattle.std.proofs.lemmas.Bool.{eq-eqb}
-use Rattle.std.proofs.lemmas.Grind.{flat_map-append}
 use Rattle.mvt_base.specs.declared.TheConstants.{LIMIT}
 use Rattle.mvt_base.specs.Related.{AreRelated}
-use Rattle.mvt_base.proofs.ListLemmas.{all_weaker, all_joined, all_left, all_right, all_mapped, all_unmapped}
+use Rattle.mvt_base.proofs.ListLemmas.{all_weaker, all_joined, all_left, all_right, all_mapped, all_unmapped, all_true, mapped_one}
 use Rattle.mvt_base.proofs.SelectionLemmas.{all_only}
 use Rattle.mvt_attrs.specs.declared.value.Attribute.{Attribute}
 use Rattle.mvt_attrs.specs.declared.value.Value.{Value}
@@ -23,7 +22,7 @@ use Rattle.mvt_feature.specs.Selection.{only, HaveForm}
 use Rattle.mvt_feature.specs.Valid.{ValidValue, ValidAttribute, ValidFeature}
 use Rattle.mvt_feature.specs.Values.{IsValueOf}
 use Rattle.mvt_attrs.proofs.AttrsLaws.{places_name_names, places_name_small, pool_entries_from_keys, pool_entries_from_values, pools_hold}
-use Rattle.mvt_wire.proofs.WireLaws.{short_lengths_bytes, spelled_whole_whole}
+use Rattle.mvt_wire.proofs.WireLaws.{short_lengths_bytes, spelled_parts, spelled_whole_whole}
 use Rattle.mvt_feature.proofs.FeatureLaws.{canonical_reads_feature, canonical_reads_value}
 use Rattle.mvt_message.specs.declared.numbers.layer.TheConstants.{NAME, FEATURES, KEYS, VALUES, EXTENT, VERSION}
 use Rattle.mvt_message.specs.declared.item.Item.{Item as AnItem}
@@ -112,12 +111,6 @@ tail_none k keys values features extent two three four =
     tail_contents k keys values features extent [] [] [] (contents_other FEATURES k (feature_bytes keys values) features two)
     (contents_other KEYS k same_bytes keys three) (contents_other VALUES k value_bytes values four)
 
--- the one field of a number
-one_content : (xs : List Entry) (c : Content) → map (λ (x : Entry). x.content) xs ≡ c ∷ [] → (x : Entry) × (xs ≡ x ∷ []) × (x.content ≡ c)
-one_content [] c h = cc
-one_content (x ∷ []) c h = (x, refl, cc)
-one_content (x ∷ y ∷ xs) c h = cc
-
 form_contents : (k : ℕ) (P : Content → Type 0) (xs : List Entry) (cs : List Content) → contents_of k xs ≡ cs
     → AllByRecursion P cs → HaveForm k P xs
 form_contents k P xs cs is all =
@@ -149,10 +142,6 @@ keys_are (x ∷ xs) (k ∷ ks) h =
 bytes_all : {Y : Type 0} → (P : Content → Type 0) (g : Y → List ℕ) (ys : List Y) → AllByRecursion (λ y. P (bytes (g y))) ys
     → AllByRecursion P (map (λ y. bytes (g y)) ys)
 bytes_all P g ys h = all_mapped (λ y. bytes (g y)) P ys h
-
-all_true : {Y : Type 0} → (ys : List Y) → AllByRecursion (λ _. ⊤) ys
-all_true [] = tt
-all_true (y ∷ ys) = (tt, all_true ys)
 
 -- what stands in the fields of each number
 record AreContents (keys : List (List ℕ)) (values : List Value) (layer : ALayer) (xs : List Entry) : Type 0 where
@@ -193,9 +182,10 @@ pub layer_is : (xs : List Entry) (keys : List (List ℕ)) (values : List Value) 
     → HaveForm VERSION (HasForm uint32) xs × (version_in xs ≡ Some 2) × IsLayer xs layer
 layer_is xs keys values layer is name extent texts hold features =
     let at = are_contents keys values layer xs is in
-    let version = one_content (only VERSION xs) (varint 2) at.version in
-    let the_name = one_content (only NAME xs) (bytes layer.name) at.name in
-    let the_extent = one_content (only EXTENT xs) (varint layer.extent) at.extent in
+    let content_of = λ (x : Entry). x.content in
+    let version = mapped_one content_of (only VERSION xs) (varint 2) at.version in
+    let the_name = mapped_one content_of (only NAME xs) (bytes layer.name) at.name in
+    let the_extent = mapped_one content_of (only EXTENT xs) (varint layer.extent) at.extent in
     let messages = bytes_all (HasForm message) (feature_bytes keys values) layer.features (all_true layer.features) in
     let values_form = bytes_all (HasForm message) value_bytes values (all_true values) in
     let same_keys : keys_in xs ≡ keys = keys_are (only KEYS xs) keys at.keys_are in
@@ -285,11 +275,8 @@ count_bytes k g (y ∷ ys) =
     let rest = count_bytes k g ys in
     omega (arith, size)
 
-pub spelled-append : (ps qs : List Plain) → spelled (ps ++ qs) ≡ spelled ps ++ spelled qs
-spelled-append ps qs = flat_map-append (λ (p : Plain). short_field p.number p.content) ps qs
-
 pub spelled_length : (ps qs : List Plain) → length (spelled (ps ++ qs)) ≡ length (spelled ps) + length (spelled qs)
-spelled_length ps qs = ap length (spelled-append ps qs) ∙ length-append (spelled ps) (spelled qs)
+spelled_length ps qs = ap length (spelled_parts ps qs) ∙ length-append (spelled ps) (spelled qs)
 
 -- each entry of the pools takes two bytes
 pub pools_within : (keys : List (List ℕ)) (values : List Value) (layer : ALayer)

@@ -34,10 +34,6 @@ pub on_false : (b : Bool) (P : Type 0) → b ≡ false → OnTrue b P
 on_false true P e = absurd (let clash : true ≡ false = e in cc)
 on_false false P e = tt
 
-pub from_true : (b : Bool) (P : Type 0) → b ≡ true → OnTrue b P → P
-from_true true P e h = h
-from_true false P e h = absurd (let clash : false ≡ true = e in cc)
-
 held_more : {A : Type 0} (keep : Bool) (things kept new : List A) (count : ℕ) (x : A) → AreHeld keep things count kept
     → OnTrue keep (new ≡ kept ++ x ∷ []) → AreHeld keep (things ++ x ∷ []) (count + 1) new
 held_more true things kept new count x held e = (omega (arith, length_push things x, held.0), e ∙ ap (λ xs. xs ++ x ∷ []) held.1)

@@ -6,6 +6,7 @@ mod OrFaultLemmas
 mod ReadLemmas
 mod ValidLemmas
 mod CanonicalLemmas
+mod PoolLemmas
 mod PutLemmas
 mod LenLemmas
 mod HeldLemmas

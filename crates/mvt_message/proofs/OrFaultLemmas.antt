@@ -13,7 +13,7 @@ use Rattle.mvt_base.proofs.TableLemmas.{when_none, none_each, each_none}
 use Rattle.mvt_base.proofs.SelectionLemmas.{last_selected}
 use Rattle.mvt_attrs.specs.declared.value.Value.{Value}
 use Rattle.mvt_wire.specs.Field.{Content, varint, fixed64, bytes, fixed32, Entry}
-use Rattle.mvt_wire.specs.Split.{Split, Whole, split}
+use Rattle.mvt_wire.specs.Split.{split}
 use Rattle.mvt_feature.specs.declared.cause.Cause.TheVariants.{NoVersion, NoName}
 use Rattle.mvt_feature.specs.declared.feature.Feature.{Feature}
 use Rattle.mvt_feature.specs.Faults.{MessageFault, fault_at, in_feature}
@@ -22,7 +22,7 @@ use Rattle.mvt_feature.specs.FeatureRules.{feature_rules, feature_fault}
 use Rattle.mvt_feature.specs.Forms.{uint32, HasForm}
 use Rattle.mvt_feature.specs.Selection.{only, last_only, HaveForm}
 use Rattle.mvt_feature.specs.ValueRules.{value_rules, value_fault}
-use Rattle.mvt_wire.proofs.WireLaws.{one_split, split_function_is, split_function_only}
+use Rattle.mvt_wire.proofs.WireLaws.{one_split, split_function_only, split_function_whole}
 use Rattle.mvt_feature.proofs.FeatureLaws.{feature_fault_is_least_ordered, feature_or_fault_clean, feature_or_fault_once, feature_or_fault_there, rests_none, rests_nothing, rests_ordered, value_fault_is_least_ordered, value_or_fault_clean, value_or_fault_once, value_or_fault_there}
 use Rattle.mvt_message.specs.declared.numbers.layer.TheConstants.{NAME, FEATURES, VALUES, VERSION}
 use Rattle.mvt_message.specs.declared.item.Item.{Item as AnItem}
@@ -193,13 +193,10 @@ head_clean payload payload_at tag_at none =
           (when_none (is_none (last_only VERSION xs)) (fault_at tag_at NoVersion) later.1),
     )
 
-pub whole_of : (payload : List ℕ) → (split payload).rest ≡ [] → Whole payload (split payload).fields
-whole_of payload rest = subst (λ r. Split payload (split payload).fields r) rest (split_function_is payload)
-
 pub item_from : (payload : List ℕ) (item : AnItem) → (split payload).rest ≡ [] → HaveForm VERSION (HasForm uint32) (split payload).fields
     → AreItem (split payload).fields payload item → IsItem payload item
 unfolding IsItem
-item_from payload item rest forms are = ((split payload).fields, whole_of payload rest, forms, are)
+item_from payload item rest forms are = ((split payload).fields, split_function_whole payload rest, forms, are)
 
 pub item_there : (payload : List ℕ) (payload_at tag_at : ℕ) → item_fault payload payload_at tag_at ≡ None
     → (item : AnItem) × IsItem payload item

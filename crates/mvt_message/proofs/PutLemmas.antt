@@ -1,13 +1,12 @@
 -- What is written of a layer so far.
 use Rattle.std.proofs.Common.{◌≡◌, ℕ, ◌+◌, ◌<◌, ◌≤◌, ◌⊎◌, inl, inr, List, [], ◌∷◌, ◌++◌, length, map, take, drop, get_or, slice_get, Some, Result, Err, refl, sym, ap, ap₂, ◌∙◌, subst, arith, append_assoc, append-nil, length-append}
 use Rattle.std.specs.List.{AllByRecursion}
-use Rattle.std.proofs.lemmas.Grind.{flat_map-append}
 use Rattle.std.specs.Result.{IsErrAnd}
 use Rattle.std.proofs.lemmas.Option.{slice_get_within, get_or_from_slice_get}
 use Rattle.std.proofs.lemmas.Result.{err_from_is_err_and}
-use Rattle.std.proofs.lemmas.List.{map-append, take-append-drop, take_more}
+use Rattle.std.proofs.lemmas.List.{map-append, take-append-drop}
 use Rattle.mvt_base.specs.declared.TheConstants.{LIMIT}
-use Rattle.mvt_base.proofs.ListLemmas.{all_weaker}
+use Rattle.mvt_base.proofs.ListLemmas.{all_weaker, front_more}
 use Rattle.mvt_attrs.specs.declared.pool_error.PoolError.{PoolError}
 use Rattle.mvt_attrs.specs.declared.pool_error.PoolError.TheVariants as pools
 use Rattle.mvt_attrs.specs.declared.value.Value.{Value}
@@ -21,13 +20,15 @@ use Rattle.mvt_wire.specs.Spelling.{Plain, short_field, spelled}
 use Rattle.mvt_feature.specs.declared.feature.Feature.{Feature}
 use Rattle.mvt_feature.specs.Canonical.{feature_fields}
 use Rattle.mvt_feature.specs.Valid.{ValidFeature}
-use Rattle.mvt_attrs.proofs.AttrsLaws.{pool_entries_distinct_keys, pool_entries_distinct_values, pools_by_parts_keys, pools_by_parts_values, pools_grow_keys, pools_grow_values, tags_stay}
+use Rattle.mvt_attrs.proofs.AttrsLaws.{tags_stay}
+use Rattle.mvt_wire.proofs.WireLaws.{spelled_parts}
 use Rattle.mvt_message.specs.declared.item.Layer.{Layer as ALayer}
-use Rattle.mvt_message.specs.declared.put.PutError.TheVariants.{TooLarge}
-use Rattle.mvt_message.specs.CanonicalItems.{attributes_of, keys_of, values_of, head_fields, feature_field, key_field, value_field, extent_fields, layer_fields}
+use Rattle.mvt_message.specs.declared.writing.PutError.TheVariants.{TooLarge}
+use Rattle.mvt_message.specs.CanonicalItems.{keys_of, values_of, head_fields, feature_field, key_field, value_field, extent_fields, layer_fields}
 use Rattle.mvt_message.specs.PutErrors.{of_pool}
 use Rattle.mvt_message.specs.ValidItems.{ValidLayer}
-use Rattle.mvt_message.proofs.CanonicalLemmas.{pools_within, spelled-append}
+use Rattle.mvt_message.proofs.CanonicalLemmas.{pools_within}
+use Rattle.mvt_message.proofs.PoolLemmas.{keys_more, values_more, keys_front, values_front, keys_beyond, values_beyond, keys_distinct, values_distinct}
 
 pub pool_full : (e : PoolError) → of_pool e ≡ TooLarge → e ≡ pools.Full
 pool_full pools.Memory h = cc
@@ -56,7 +57,7 @@ pub spelled_more : {Y : Type 0} → (g : Y → Plain) (ys : List Y) (y : Y) (sta
 spelled_more g ys y start =
     let one = short_field (g y).number (g y).content in
     let joined : spelled (map g (ys ++ y ∷ [])) ≡ spelled (map g ys) ++ (one ++ []) =
-    ap spelled (map-append g ys (y ∷ [])) ∙ spelled-append (map g ys) (g y ∷ []) in
+    ap spelled (map-append g ys (y ∷ [])) ∙ spelled_parts (map g ys) (g y ∷ []) in
     append_assoc start (spelled (map g ys)) one
     ∙ ap (λ l. start ++ l) (ap (λ l. spelled (map g ys) ++ l) (sym (append-nil one)) ∙ sym joined)
 
@@ -65,7 +66,7 @@ pub list_step : {Y : Type 0} → (g : Y → Plain) (ys : List Y) (i : ℕ) {y : 
     → new ≡ old ++ short_field (g y).number (g y).content → new ≡ start ++ spelled (map g (take (i + 1) ys))
 list_step g ys i {y} start within here was more =
     more ∙ ap (λ l. l ++ short_field (g y).number (g y).content) was ∙ spelled_more g (take i ys) y start
-    ∙ ap (λ l. start ++ spelled (map g l)) (ap (λ x. take i ys ++ x ∷ []) (sym here) ∙ sym (take_more ys i y within))
+    ∙ ap (λ l. start ++ spelled (map g l)) (sym (front_more ys i y within (sym here)))
 
 -- where the entry was looked up
 pub entry_step : {Y : Type 0} → (g : Y → Plain) (ys : List Y) (i : ℕ) {y : Y} (start : List ℕ) {old new : List ℕ}
@@ -73,47 +74,6 @@ pub entry_step : {Y : Type 0} → (g : Y → Plain) (ys : List Y) (i : ℕ) {y :
     → new ≡ old ++ short_field (g y).number (g y).content → new ≡ start ++ spelled (map g (take (i + 1) ys))
 entry_step g ys i {y} start at was more =
     list_step g ys i start (slice_get_within ys i y (sym at)) (get_or_from_slice_get ys i y y (sym at)) was more
-
--- pools of more features
-attributes-append : (fs gs : List Feature) → attributes_of (fs ++ gs) ≡ attributes_of fs ++ attributes_of gs
-attributes-append fs gs = flat_map-append (λ (f : Feature). f.attributes) fs gs
-
-attributes_more : (done : List Feature) (f : Feature) → attributes_of (done ++ f ∷ []) ≡ attributes_of done ++ f.attributes
-attributes_more done f = attributes-append done (f ∷ []) ∙ ap (λ l. attributes_of done ++ l) (append-nil f.attributes)
-
-keys_more : (done : List Feature) (f : Feature) (keys new : List (List ℕ)) → keys ≡ keys_of done
-    → new ≡ key_pool keys f.attributes → new ≡ keys_of (done ++ f ∷ [])
-unfolding keys_of
-keys_more done f keys new is more =
-    more ∙ ap (λ k. key_pool k f.attributes) is
-    ∙ pools_by_parts_keys [] (attributes_of done) f.attributes ∙ ap (key_pool []) (sym (attributes_more done f))
-
-values_more : (done : List Feature) (f : Feature) (values new : List Value) → values ≡ values_of done
-    → new ≡ value_pool values f.attributes → new ≡ values_of (done ++ f ∷ [])
-unfolding values_of
-values_more done f values new is more =
-    more ∙ ap (λ k. value_pool k f.attributes) is
-    ∙ pools_by_parts_values [] (attributes_of done) f.attributes ∙ ap (value_pool []) (sym (attributes_more done f))
-
-keys_front : (done rest : List Feature) → (added : List (List ℕ)) × (keys_of (done ++ rest) ≡ keys_of done ++ added)
-unfolding keys_of
-keys_front done rest =
-    let grown = pools_grow_keys [] (attributes_of done) (attributes_of rest) in
-    (grown.0, ap (key_pool []) (attributes-append done rest) ∙ grown.1)
-
-values_front : (done rest : List Feature) → (added : List Value) × (values_of (done ++ rest) ≡ values_of done ++ added)
-unfolding values_of
-values_front done rest =
-    let grown = pools_grow_values [] (attributes_of done) (attributes_of rest) in
-    (grown.0, ap (value_pool []) (attributes-append done rest) ∙ grown.1)
-
-keys_distinct : (done : List Feature) → AreDistinct (keys_of done)
-unfolding keys_of
-keys_distinct done = pool_entries_distinct_keys [] (attributes_of done)
-
-values_distinct : (done : List Feature) → AreDistinct (values_of done)
-unfolding values_of
-values_distinct done = pool_entries_distinct_values [] (attributes_of done)
 
 -- the tags of a feature name the same entries in the pools of all features
 tags_last : (features done rest : List Feature) (f : Feature) (keys : List (List ℕ)) (values : List Value)
@@ -144,10 +104,6 @@ unfolding keys_of values_of
 features_start features start no_keys no_values =
     record { keys_are = no_keys; values_are = no_values; out_is = sym (append-nil start) }
 
-front_more : (features : List Feature) (i : ℕ) (f : Feature) → i < length features → f ≡ get_or features i f
-    → take (i + 1) features ≡ take i features ++ f ∷ []
-front_more features i f within here = take_more features i f within ∙ ap (λ x. take i features ++ x ∷ []) (sym here)
-
 -- a feature whose entries are in pools, and its payload behind nothing
 pub record IsPlaced (f : Feature) (keys new_keys : List (List ℕ)) (values new_values : List Value) (payload : List ℕ) : Type 0 where
   pub keys_grow : new_keys ≡ key_pool keys f.attributes
@@ -176,9 +132,10 @@ features_step {features} {i} {f} {keys} {new_keys} {values} {new_values} {start}
     let done = take i features in
     let next = take (i + 1) features in
     let more = front_more features i f within here in
-    let keys_are : new_keys ≡ keys_of next = keys_more done f keys new_keys so_far.keys_are placed.keys_grow ∙ ap keys_of (sym more) in
+    let keys_are : new_keys ≡ keys_of next =
+    placed.keys_grow ∙ ap (λ k. key_pool k f.attributes) so_far.keys_are ∙ keys_more done f ∙ ap keys_of (sym more) in
     let values_are : new_values ≡ values_of next =
-    values_more done f values new_values so_far.values_are placed.values_grow ∙ ap values_of (sym more) in
+    placed.values_grow ∙ ap (λ v. value_pool v f.attributes) so_far.values_are ∙ values_more done f ∙ ap values_of (sym more) in
     let parts = sym (take-append-drop (i + 1) features) in
     let tags = tags_last features next (drop (i + 1) features) f new_keys new_values parts keys_are values_are placed.names in
     let whole = placed.payload_is ∙ ap (λ t. spelled (feature_fields t f)) tags in
@@ -197,7 +154,7 @@ front_long g ys i start bound long =
     let back = map g (drop i ys) in
     let parts : spelled (map g ys) ≡ spelled front ++ spelled back =
     ap (λ l. spelled (map g l)) (sym (take-append-drop i ys)) ∙ ap spelled (map-append g (take i ys) (drop i ys))
-    ∙ spelled-append front back in
+    ∙ spelled_parts front back in
     let size = ap length parts ∙ length-append (spelled front) (spelled back) in
     omega (arith, size)
 
@@ -213,39 +170,17 @@ features_long {features} {i} {start} bound so_far long =
     front_long field features i (length start) bound (omega (arith, size))
 
 -- pools that a feature takes past a bound are fronts of the pools of all features
-keys_pass : (features : List Feature) (i : ℕ) (f : Feature) (keys : List (List ℕ)) (bound : ℕ) → keys ≡ keys_of (take i features)
-    → i < length features → f ≡ get_or features i f → bound < length (key_pool keys f.attributes) → bound < length (keys_of features)
-keys_pass features i f keys bound is within here more =
-    let next = take (i + 1) features in
-    let now : key_pool keys f.attributes ≡ keys_of next =
-    keys_more (take i features) f keys _ is refl ∙ ap keys_of (sym (front_more features i f within here)) in
-    let later = keys_front next (drop (i + 1) features) in
-    let all : keys_of features ≡ key_pool keys f.attributes ++ later.0 =
-    ap keys_of (sym (take-append-drop (i + 1) features)) ∙ later.1 ∙ ap (λ k. k ++ later.0) (sym now) in
-    let size = ap length all ∙ length-append (key_pool keys f.attributes) later.0 in
-    omega (arith, size)
-
-values_pass : (features : List Feature) (i : ℕ) (f : Feature) (values : List Value) (bound : ℕ) → values ≡ values_of (take i features)
-    → i < length features → f ≡ get_or features i f → bound < length (value_pool values f.attributes) → bound < length (values_of features)
-values_pass features i f values bound is within here more =
-    let next = take (i + 1) features in
-    let now : value_pool values f.attributes ≡ values_of next =
-    values_more (take i features) f values _ is refl ∙ ap values_of (sym (front_more features i f within here)) in
-    let later = values_front next (drop (i + 1) features) in
-    let all : values_of features ≡ value_pool values f.attributes ++ later.0 =
-    ap values_of (sym (take-append-drop (i + 1) features)) ∙ later.1 ∙ ap (λ k. k ++ later.0) (sym now) in
-    let size = ap length all ∙ length-append (value_pool values f.attributes) later.0 in
-    omega (arith, size)
-
 pub features_full : {features : List Feature} {i : ℕ} {f : Feature} {keys : List (List ℕ)} {values : List Value}
     {start out : List ℕ} (bound : ℕ)
     → FeaturesSoFar features i keys values start out → i < length features → f ≡ get_or features i f
     → (bound < length (key_pool keys f.attributes)) ⊎ (bound < length (value_pool values f.attributes))
     → (bound ≤ length (keys_of features)) ⊎ (bound ≤ length (values_of features))
-features_full {features} {i} {f} {keys} bound so_far within here (inl more) =
-    let all = keys_pass features i f keys bound so_far.keys_are within here more in inl (omega arith)
-features_full {features} {i} {f} {values} bound so_far within here (inr more) =
-    let all = values_pass features i f values bound so_far.values_are within here more in inr (omega arith)
+features_full {features} {i} {f} bound so_far within here (inl more) =
+    let longer = subst (λ k. bound < length (key_pool k f.attributes)) so_far.keys_are more in
+    inl (let all = keys_beyond features i bound f within here longer in omega arith)
+features_full {features} {i} {f} bound so_far within here (inr more) =
+    let longer = subst (λ v. bound < length (value_pool v f.attributes)) so_far.values_are more in
+    inr (let all = values_beyond features i bound f within here longer in omega arith)
 
 -- the whole layer
 abbrev pub IsLong : ℕ → ℕ → List Feature → Type 0
@@ -277,10 +212,10 @@ layer_parts layer =
     let keys = map key_field (keys_of layer.features) in
     let values = map value_field (values_of layer.features) in
     let extent = extent_fields layer.extent in
-    let last = ap (λ l. spelled keys ++ l) (spelled-append values extent) in
-    let behind = ap (λ l. spelled features ++ l) (spelled-append keys (values ++ extent) ∙ last) in
-    spelled-append (head_fields layer.name) (features ++ (keys ++ (values ++ extent)))
-    ∙ ap (λ l. head_part layer ++ l) (spelled-append features (keys ++ (values ++ extent)) ∙ behind)
+    let last = ap (λ l. spelled keys ++ l) (spelled_parts values extent) in
+    let behind = ap (λ l. spelled features ++ l) (spelled_parts keys (values ++ extent) ∙ last) in
+    spelled_parts (head_fields layer.name) (features ++ (keys ++ (values ++ extent)))
+    ∙ ap (λ l. head_part layer ++ l) (spelled_parts features (keys ++ (values ++ extent)) ∙ behind)
 
 pub layer_long : (layer : ALayer) {features : List Feature} {start : ℕ} → features ≡ layer.features → start ≡ length (head_part layer)
     → IsLong LIMIT start features → LIMIT < length (spelled (layer_fields layer))

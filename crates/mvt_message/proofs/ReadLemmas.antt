@@ -20,7 +20,6 @@ use Rattle.mvt_wire.specs.Fields.{GivesEntry}
 use Rattle.mvt_wire.specs.Split.{Parts, split}
 use Rattle.mvt_feature.specs.declared.cause.Cause.TheVariants.{NoVersion, NoName}
 use Rattle.mvt_feature.specs.declared.message_error.MessageError.{MessageError}
-use Rattle.mvt_feature.specs.declared.message_error.MessageError.TheVariants.{Memory, Fault}
 use Rattle.mvt_feature.specs.Faults.{MessageFault, fault_at, in_feature, fault_of}
 use Rattle.mvt_feature.specs.Features.{number_in, number_of}
 use Rattle.mvt_feature.specs.FeatureRules.{feature_rules, feature_fault}
@@ -28,7 +27,7 @@ use Rattle.mvt_feature.specs.Forms.{uint32, form_rules, number_rules}
 use Rattle.mvt_feature.specs.Selection.{only, last_only}
 use Rattle.mvt_feature.specs.Walks.{Walk}
 use Rattle.mvt_wire.proofs.WireLaws.{split_function_count}
-use Rattle.mvt_feature.proofs.FeatureLaws.{rests_none, rests_nothing, walks_end, walks_fault}
+use Rattle.mvt_feature.proofs.FeatureLaws.{number_more, rests_none, rests_nothing, walks_end, walks_fault}
 use Rattle.mvt_feature.specs.Causes.{of_wire}
 use Rattle.mvt_message.specs.declared.numbers.layer.TheConstants.{NAME, FEATURES, KEYS, VALUES, EXTENT, VERSION}
 use Rattle.mvt_message.specs.declared.item.Layer.{Layer as ALayer}
@@ -88,15 +87,6 @@ so_far_take k rules Holds done ys x y so_far is clean holds =
     subst (λ xs. (first (each rules [] xs) ≡ None) × AreRelated Holds xs (ys ++ y ∷ [])) (sym (only_take k done x is)) (none, related)
 
 -- versions
-number_more : (k : ℕ) (done : List Entry) (x : Entry)
-    → number_in (last_only k (done ++ x ∷ [])) ≡ (if x.number == k then number_of x.content else number_in (last_only k done))
-number_more k done x = ap number_in (last_only-more (λ (y : Entry). y.number) k done x) ∙ by_test (x.number == k)
-  where
-    by_test : (b : Bool) → number_in (if b then Some x else last_only k done)
-        ≡ (if b then number_of x.content else number_in (last_only k done))
-    by_test true = refl
-    by_test false = refl
-
 version_first : (payload_at : ℕ) (x : Entry) (b : Bool) → (x.number == VERSION) ≡ b
     → first (version_rules payload_at x) ≡ option_map (fault_at (payload_at + x.at)) (first (if b then form_rules uint32 x.content else []))
 unfolding version_rules

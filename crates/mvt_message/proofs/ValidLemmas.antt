@@ -19,7 +19,7 @@ use Rattle.mvt_feature.specs.Forms.{uint32, string, HasForm}
 use Rattle.mvt_feature.specs.Selection.{only, last_only, HaveForm}
 use Rattle.mvt_feature.specs.Valid.{ValidValue, ValidFeature}
 use Rattle.mvt_geometry.proofs.GeometryLaws.{old_geometries_stay}
-use Rattle.mvt_wire.proofs.WireLaws.{split_function_only}
+use Rattle.mvt_wire.proofs.WireLaws.{split_function_only, split_function_whole}
 use Rattle.mvt_feature.proofs.FeatureLaws.{read_is_valid_feature, read_is_valid_fields, read_is_valid_value}
 use Rattle.mvt_message.specs.declared.numbers.layer.TheConstants.{NAME, FEATURES, KEYS, VALUES, EXTENT, VERSION}
 use Rattle.mvt_message.specs.declared.item.Item.{Item as AnItem}
@@ -29,7 +29,7 @@ use Rattle.mvt_message.specs.LayerFields.{bytes_of, version_in, name_in, extent_
 use Rattle.mvt_message.specs.Items.{HoldsValue, HoldsFeature, IsLayer, AreItem, IsItem}
 use Rattle.mvt_message.specs.ValidItems.{ValidLayer, AreOfVersion, ValidItem, WasValidFeature, WasValidItem}
 use Rattle.mvt_message.specs.Inner.{head_fault, IsFault}
-use Rattle.mvt_message.proofs.OrFaultLemmas.{head_clean, head_keeps, whole_of}
+use Rattle.mvt_message.proofs.OrFaultLemmas.{head_clean, head_keeps}
 
 pub old_feature : (f : Feature) → WasValidFeature f → ValidFeature f
 old_feature f was =
@@ -129,7 +129,7 @@ pub of_version : (payload : List ℕ) (version found : ℕ) → head_fault paylo
     → found ≡ version → version ≢ 2 → AreOfVersion version payload
 of_version payload version found head is same other =
     let parts = head_clean payload 0 0 head in
-    ((split payload).fields, whole_of payload parts.0, parts.1, is ∙ ap Some same, other)
+    ((split payload).fields, split_function_whole payload parts.0, parts.1, is ∙ ap Some same, other)
 
 pub version_of : (payload : List ℕ) (version : ℕ) → AreOfVersion version payload → (head_fault payload 0 0 ≡ None)
     × (version_in (split payload).fields ≡ Some version) × (version ≢ 2)

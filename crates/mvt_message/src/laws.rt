@@ -1,7 +1,8 @@
 //! Laws about the definitions alone: functions without effect, whose contract is the law.
-ghost use Rattle.std.specs.Prelude.{◌≡◌, ℕ, ◌≤◌, List, length, None, IsUtf8};
+ghost use Rattle.std.specs.Prelude.{◌≡◌, ℕ, ◌<◌, ◌≤◌, List, [], ◌∷◌, ◌++◌, length, take, get_or, None, IsUtf8};
 ghost use Rattle.std.specs.List.{AllByRecursion};
 ghost use Rattle.mvt_base.specs.Rules.{AreOrdered, first};
+ghost use Rattle.mvt_attrs.specs.Pools.{key_pool, value_pool};
 ghost use Rattle.mvt_attrs.specs.TagPlaces.{IsIn};
 ghost use Rattle.mvt_feature.specs.declared.feature.Feature.{Feature};
 ghost use Rattle.mvt_feature.specs.Valid.{ValidFeature, ValidValue};
@@ -50,6 +51,21 @@ pub fn pools_of_features()
         → AllByRecursion ValidValue (values_of features) }
     ensures held { (features : List Feature)
         → AllByRecursion (λ (f : Feature). AllByRecursion (IsIn (keys_of features) (values_of features)) f.attributes) features }
+{}
+
+/// Feature by feature the keys and the values grow: with one more feature, and where a feature takes them beyond a bound,
+/// those of all features are beyond it.
+pub fn pools_by_features()
+    ensures more_keys { (done : List Feature) (feature : Feature) →
+        key_pool (keys_of done) feature.attributes ≡ keys_of (done ++ feature ∷ []) }
+    ensures more_values { (done : List Feature) (feature : Feature) →
+        value_pool (values_of done) feature.attributes ≡ values_of (done ++ feature ∷ []) }
+    ensures beyond_keys { (features : List Feature) (i bound : ℕ) (feature : Feature) →
+        i < length features → feature ≡ get_or features i feature
+        → bound < length (key_pool (keys_of (take i features)) feature.attributes) → bound < length (keys_of features) }
+    ensures beyond_values { (features : List Feature) (i bound : ℕ) (feature : Feature) →
+        i < length features → feature ≡ get_or features i feature
+        → bound < length (value_pool (values_of (take i features)) feature.attributes) → bound < length (values_of features) }
 {}
 
 /// The canonical payload of an item takes no more bytes than its bound says, where that is within the limit.

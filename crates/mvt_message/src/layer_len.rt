@@ -10,7 +10,7 @@ ghost use Rattle.mvt_message.specs.ValidItems.{ValidLayer};
 
 use crate::item::Layer;
 use crate::numbers::layer;
-use crate::put::PutError;
+use crate::writing::PutError;
 use mvt_attrs::{KeyPool, ValuePool};
 use mvt_base::LIMIT;
 use mvt_feature::{Feature, Scratch, append_feature, value_len};

@@ -1,13 +1,9 @@
 -- What is made of a list entry by entry: of one more, or of none where one makes nothing.
-use Rattle.std.proofs.Common.{◌≡◌, ℕ, ◌+◌, ◌<◌, List, [], ◌∷◌, ◌++◌, length, take, drop, get_or, Option, Some, None, refl, sym, ap, ◌∙◌, add-one, drop-cons}
+use Rattle.std.proofs.Common.{◌≡◌, ℕ, ◌+◌, ◌<◌, List, [], ◌∷◌, ◌++◌, length, take, drop, get_or, Option, Some, None, refl, sym, ap, ◌∙◌}
 use Rattle.std.specs.Option.{option_map, option_and_then}
-use Rattle.std.proofs.lemmas.List.{take_more, take-append-drop}
+use Rattle.std.proofs.lemmas.List.{take_more}
+use Rattle.mvt_base.proofs.ListLemmas.{around}
 use Rattle.mvt_rows.specs.TileRows.{each, steps}
-
--- a list around one of its entries
-pub around : {X : Type 0} → (xs : List X) (i : ℕ) (d : X) → i < length xs → xs ≡ take i xs ++ get_or xs i d ∷ drop (i + 1) xs
-around xs i d within =
-    sym (take-append-drop i xs) ∙ ap (λ r. take i xs ++ r) (drop-cons xs i d within ∙ ap (λ n. get_or xs i d ∷ drop n xs) (sym (add-one i)))
 
 -- a chain of two calls, where the second makes what a further one starts from
 pub and_then_to : {X Y : Type 0} → (o : Option X) (f g : X → Option Y) (y : Y) (r : Option Y) → ((x : X) → f x ≡ Some y → g x ≡ r)
@@ -52,7 +48,8 @@ steps_push : {X Y : Type 0} → (f : Y → X → Option Y) (start : Y) (xs : Lis
 steps_push f start [] x back now r so_far next =
     let same : start ≡ now = cc in ap (λ y. option_and_then (λ next. steps f next back) (f y x)) same ∙ next
 steps_push f start (z ∷ xs) x back now r so_far next =
-    and_then_to (f start z) (λ y. steps f y xs) (λ y. steps f y (xs ++ x ∷ back)) now r (λ y h. steps_push f y xs x back now r h next) so_far
+    and_then_to (f start z) (λ y. steps f y xs) (λ y. steps f y (xs ++ x ∷ back)) now r
+    (λ y h. steps_push f y xs x back now r h next) so_far
 
 pub steps_more : {X Y : Type 0} → (f : Y → X → Option Y) (start : Y) (xs : List X) (i : ℕ) (d : X) (now next : Y)
     → steps f start (take i xs) ≡ Some now → i < length xs → f now (get_or xs i d) ≡ Some next → steps f start (take (i + 1) xs) ≡ Some next

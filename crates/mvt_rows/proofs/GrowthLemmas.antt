@@ -48,7 +48,16 @@ pub record Grown (old new : Table) : Type 0 where
 
 pub grown_not : (t : Table) → Grown t t
 grown_not t =
-    record { features = same _; keys = same _; values = same _; tags = same _; parts = same _; points = same _; integers = same _; texts = same _ }
+    record {
+      features = same _;
+      keys = same _;
+      values = same _;
+      tags = same _;
+      parts = same _;
+      points = same _;
+      integers = same _;
+      texts = same _;
+    }
 
 pub grown_more : (a b c : Table) → Grown a b → Grown b c → Grown a c
 grown_more a b c h k = record {
@@ -69,17 +78,53 @@ grown_fold f grows t (x ∷ xs) = grown_more t (f t x) (fold f (f t x) xs) (grow
 
 pub key_grows : (t : Table) (key : List ℕ) → Grown t (with_key t key)
 key_grows t key =
-    record { features = same _; keys = pushed _ _; values = same _; tags = same _; parts = same _; points = same _; integers = same _; texts = pushed _ key }
+    record {
+      features = same _;
+      keys = pushed _ _;
+      values = same _;
+      tags = same _;
+      parts = same _;
+      points = same _;
+      integers = same _;
+      texts = pushed _ key;
+    }
 
 pub value_grows : (t : Table) (v : Value) → Grown t (with_value t v)
 value_grows t (Text text) =
-    record { features = same _; keys = same _; values = pushed _ _; tags = same _; parts = same _; points = same _; integers = same _; texts = pushed _ text }
+    record {
+      features = same _;
+      keys = same _;
+      values = pushed _ _;
+      tags = same _;
+      parts = same _;
+      points = same _;
+      integers = same _;
+      texts = pushed _ text;
+    }
 value_grows t v =
-    record { features = same _; keys = same _; values = pushed _ _; tags = same _; parts = same _; points = same _; integers = same _; texts = same _ }
+    record {
+      features = same _;
+      keys = same _;
+      values = pushed _ _;
+      tags = same _;
+      parts = same _;
+      points = same _;
+      integers = same _;
+      texts = same _;
+    }
 
 pub part_grows : (exterior : ℕ) (t : Table) (points : List Point) → Grown t (with_part exterior t points)
 part_grows exterior t points =
-    record { features = same _; keys = same _; values = same _; tags = same _; parts = pushed _ _; points = pushed _ _; integers = same _; texts = same _ }
+    record {
+      features = same _;
+      keys = same _;
+      values = same _;
+      tags = same _;
+      parts = pushed _ _;
+      points = pushed _ _;
+      integers = same _;
+      texts = same _;
+    }
 
 pub polygon_grows : (t : Table) (p : Polygon) → Grown t (with_polygon t p)
 polygon_grows t p =
@@ -88,7 +133,16 @@ polygon_grows t p =
 
 pub geometry_grows : (t : Table) (g : Geometry) → Grown t (with_geometry t g)
 geometry_grows t (Unknown integers) =
-    record { features = same _; keys = same _; values = same _; tags = same _; parts = same _; points = same _; integers = pushed _ integers; texts = same _ }
+    record {
+      features = same _;
+      keys = same _;
+      values = same _;
+      tags = same _;
+      parts = same _;
+      points = same _;
+      integers = pushed _ integers;
+      texts = same _;
+    }
 geometry_grows t (Points points) = part_grows 0 t points
 geometry_grows t (Lines lines) = grown_fold (with_part 0) (part_grows 0) t lines
 geometry_grows t (Polygons polygons) = grown_fold with_polygon polygon_grows t polygons
@@ -100,7 +154,8 @@ text_stays old new h span =
 
 pub value_stays : (old new : List ℕ) → Longer ℕ old new → (row : ValueRow) → Stays (value_of old row) (value_of new row)
 value_stays old new h row =
-    stays_if (row.kind == 1) _ _ _ _ (stays_map (text_of old row.text) (text_of new row.text) Text (text_stays old new h row.text)) (λ v k. k)
+    stays_if (row.kind == 1) _ _ _ _ (stays_map (text_of old row.text) (text_of new row.text) Text (text_stays old new h row.text))
+    (λ v k. k)
 
 pub line_stays : (old new : List PointRow) → Longer PointRow old new → (row : PartRow) → Stays (line_of old row) (line_of new row)
 line_stays old new h row =
@@ -127,8 +182,10 @@ drawn_stays old new h kind rows =
 geometry_stays : (t u : Table) → Grown t u → (row : FeatureRow) → Stays (geometry_of t row) (geometry_of u row)
 geometry_stays t u h row =
     stays_if (row.kind == 0) _ _ _ _
-    (stays_map (part_of t.integers row.integers) (part_of u.integers row.integers) Unknown (part_stays t.integers u.integers h.integers.more row.integers h.integers.is))
-    (stays_then (part_of t.parts row.parts) (part_of u.parts row.parts) (drawn_of t.points row.kind) (drawn_of u.points row.kind) (part_stays t.parts u.parts h.parts.more row.parts h.parts.is) (drawn_stays t.points u.points h.points row.kind))
+    (stays_map (part_of t.integers row.integers) (part_of u.integers row.integers) Unknown
+    (part_stays t.integers u.integers h.integers.more row.integers h.integers.is))
+    (stays_then (part_of t.parts row.parts) (part_of u.parts row.parts) (drawn_of t.points row.kind) (drawn_of u.points row.kind)
+    (part_stays t.parts u.parts h.parts.more row.parts h.parts.is) (drawn_stays t.points u.points h.points row.kind))
 
 pub feature_stays : (keys : List (List ℕ)) (values : List Value) (t u : Table) → Grown t u → (row : FeatureRow) (f : Feature)
     → IsFeature t keys values row f → IsFeature u keys values row f

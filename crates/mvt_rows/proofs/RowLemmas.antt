@@ -79,7 +79,8 @@ part_behind front p len long = part_is (front ++ p) front p [] (ap (λ l. front 
 pub part_added : {X : Type 0} → (old new more : List X) → new ≡ old ++ more → part_of new (added old new) ≡ Some more
 part_added old new more is =
     let size = ap length is ∙ length-append old more in
-    part_is new old more [] (is ∙ ap (λ l. old ++ l) (sym (append-nil more))) (length old) (length new - length old) refl (omega (arith, size))
+    part_is new old more [] (is ∙ ap (λ l. old ++ l) (sym (append-nil more))) (length old) (length new - length old) refl
+    (omega (arith, size))
 
 found : {X : Type 0} → (c : Bool) (x p : X) → (if c then Some x else None) ≡ Some p → (c ≡ true) × (x ≡ p)
 found true x p h = (refl, same_Some x p h)

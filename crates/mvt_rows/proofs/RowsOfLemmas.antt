@@ -17,9 +17,9 @@ use Rattle.mvt_message.specs.declared.item.Layer.{Layer as ALayer}
 use Rattle.mvt_message.specs.CanonicalItems.{keys_of, values_of}
 use Rattle.mvt_message.specs.ValidItems.{ValidItem, ValidLayer}
 use Rattle.mvt_base.specs.declared.TheConstants.{LIMIT}
-use Rattle.mvt_tile.specs.declared.tile.Tile.{Tile}
-use Rattle.mvt_tile.specs.CanonicalTiles.{canonical}
-use Rattle.mvt_tile.specs.ValidTiles.{Valid}
+use Rattle.mvt_model.specs.declared.tile.Tile.{Tile}
+use Rattle.mvt_model.specs.CanonicalTiles.{canonical}
+use Rattle.mvt_model.specs.ValidTiles.{Valid}
 use Rattle.mvt_rows.specs.Reading.{IsRead, IsRewritten, IsTooLarge}
 use Rattle.mvt_rows.specs.Written.{IsNoTile, IsTooLargeOfRows, IsWritten}
 use Rattle.mvt_rows.proofs.TileLemmas.{tile_once}
@@ -31,24 +31,60 @@ use Rattle.mvt_rows.specs.Tables.{Table, no_rows, behind, with_key, with_value, 
 use Rattle.mvt_rows.specs.TileRows.{each, text_of, value_of, truth_of, IsFeature, IsLayer, IsItem, IsTileOf}
 use Rattle.mvt_rows.proofs.RowLemmas.{related_weaker, each_related, part_behind, part_added}
 use Rattle.mvt_rows.proofs.GrowthLemmas.{Grown, same, pushed, grown_more, grown_fold, key_grows, value_grows, geometry_grows, text_stays, value_stays, feature_stays, item_stays}
-use Rattle.mvt_rows.proofs.TableLemmas.{fold_keeps, rows_pushed, text_behind, value_row, value_push, value_keeps, value_holds, drawn, geometry_keeps}
+use Rattle.mvt_rows.proofs.TableLemmas.{Pushes, fold_keeps, rows_pushed, text_behind, value_row, value_push, value_keeps, value_holds, drawn, geometry_keeps}
 
 -- more rows of features, and of layers
 more_features : (t : Table) (rows : List FeatureRow) → Grown t (record t { features = t.features ++ rows })
 more_features t rows =
-    record { features = pushed _ rows; keys = same _; values = same _; tags = same _; parts = same _; points = same _; integers = same _; texts = same _ }
+    record {
+      features = pushed _ rows;
+      keys = same _;
+      values = same _;
+      tags = same _;
+      parts = same _;
+      points = same _;
+      integers = same _;
+      texts = same _;
+    }
 
 more_tags : (t : Table) (tags : List ℕ) → Grown t (record t { tags = t.tags ++ tags })
 more_tags t tags =
-    record { features = same _; keys = same _; values = same _; tags = pushed _ tags; parts = same _; points = same _; integers = same _; texts = same _ }
+    record {
+      features = same _;
+      keys = same _;
+      values = same _;
+      tags = pushed _ tags;
+      parts = same _;
+      points = same _;
+      integers = same _;
+      texts = same _;
+    }
 
 more_texts : (t : Table) (layers : List LayerRow) (text : List ℕ) → Grown t (record t { layers = layers; texts = t.texts ++ text })
 more_texts t layers text =
-    record { features = same _; keys = same _; values = same _; tags = same _; parts = same _; points = same _; integers = same _; texts = pushed _ text }
+    record {
+      features = same _;
+      keys = same _;
+      values = same _;
+      tags = same _;
+      parts = same _;
+      points = same _;
+      integers = same _;
+      texts = pushed _ text;
+    }
 
 more_layers : (t : Table) (layers : List LayerRow) → Grown t (record t { layers = layers })
 more_layers t layers =
-    record { features = same _; keys = same _; values = same _; tags = same _; parts = same _; points = same _; integers = same _; texts = same _ }
+    record {
+      features = same _;
+      keys = same _;
+      values = same _;
+      tags = same _;
+      parts = same _;
+      points = same _;
+      integers = same _;
+      texts = same _;
+    }
 
 -- a feature: its tags, its geometry and its row
 abbrev tagged_in : List (List ℕ) → List Value → Table → Feature → Table
@@ -147,10 +183,14 @@ features_of t layer valid =
     let keys = keys_of layer.features in
     let values = values_of layer.features in
     let shown = shown_in t layer in
-    let made = rows_pushed (with_feature keys values) (λ (t : Table). t.features) (row_in keys values)
-    (λ (f : Feature). ValidFeature f × AllByRecursion (IsIn keys values) f.attributes) (λ t. IsFeature t keys values)
-    (feature_grows keys values) (feature_stays keys values) (feature_push keys values) (feature_holds keys values)
-    (named_in t layer) layer.features
+    let pushes : Pushes (with_feature keys values) (λ (t : Table). t.features) (row_in keys values)
+    (λ (f : Feature). ValidFeature f × AllByRecursion (IsIn keys values) f.attributes) (λ t. IsFeature t keys values) = record {
+      grows = feature_grows keys values;
+      stays = feature_stays keys values;
+      push = feature_push keys values;
+      holds = feature_holds keys values;
+    } in
+    let made = rows_pushed pushes (named_in t layer) layer.features
     (all_both ValidFeature (λ (f : Feature). AllByRecursion
     (IsIn keys values) f.attributes) layer.features valid (pools_of_features_held layer.features)) in
     let left_by_keys = fold_keeps (λ (t : Table). t.features) with_key (λ t key. refl) shown keys in
@@ -159,7 +199,8 @@ features_of t layer valid =
       made.0,
       left_by_values ∙ left_by_keys ∙ made.1,
       related_weaker (IsFeature shown keys values) (IsFeature
-          (whole_in t layer) keys values) (feature_stays keys values shown (whole_in t layer) (shown_grows t layer)) made.0 layer.features made.2,
+          (whole_in t layer) keys values)
+          (feature_stays keys values shown (whole_in t layer) (shown_grows t layer)) made.0 layer.features made.2,
     )
 
 keys_are : (t : Table) (layer : ALayer) → AllByRecursion ValidFeature layer.features
@@ -169,15 +210,21 @@ keys_are t layer valid =
     let keys = keys_of layer.features in
     let keyed = keyed_in t layer in
     let whole = whole_in t layer in
-    let made = rows_pushed with_key (λ (t : Table). t.keys) (λ t key. behind t.texts (length key)) IsUtf8
-    (λ t span key. text_of t.texts span ≡ Some key) key_grows (λ t u grown span key is. text_stays t.texts u.texts grown.texts span key is)
-    (λ t key. refl) (λ t key is. text_behind t.texts key is) (shown_in t layer) keys (pools_of_features_keys layer.features valid) in
+    let pushes : Pushes with_key (λ (t : Table). t.keys) (λ t key. behind t.texts (length key)) IsUtf8
+    (λ t span key. text_of t.texts span ≡ Some key) = record {
+      grows = key_grows;
+      stays = λ t u grown span key is. text_stays t.texts u.texts grown.texts span key is;
+      push = λ t key. refl;
+      holds = λ t key is. text_behind t.texts key is;
+    } in
+    let made = rows_pushed pushes (shown_in t layer) keys (pools_of_features_keys layer.features valid) in
     let left = fold_keeps (λ (t : Table). t.keys) with_value (value_keeps (λ (t : Table). t.keys) (λ t rows texts. refl)) keyed
     (values_of layer.features) in (
       made.0,
       left ∙ made.1 ∙ ap (λ l. l ++ made.0) (ap (λ r. r.0) (features_keep t layer)),
       each_related (text_of whole.texts) made.0 keys
-          (related_weaker (λ span key. text_of keyed.texts span ≡ Some key) (λ span key. text_of whole.texts span ≡ Some key) (λ span key is. text_stays keyed.texts whole.texts
+          (related_weaker (λ span key. text_of keyed.texts span ≡ Some key) (λ span key. text_of whole.texts span ≡ Some key)
+          (λ span key is. text_stays keyed.texts whole.texts
           (keyed_grows t layer).texts span key is) made.0 keys made.2),
     )
 
@@ -187,10 +234,13 @@ values_are : (t : Table) (layer : ALayer) → AllByRecursion ValidFeature layer.
 values_are t layer valid =
     let values = values_of layer.features in
     let whole = whole_in t layer in
-    let made = rows_pushed with_value (λ (t : Table). t.values) value_row ValidValue
-    (λ t row value. value_of t.texts row ≡ Some value) value_grows
-    (λ t u grown row value is. value_stays t.texts u.texts grown.texts row value is) value_push value_holds (keyed_in t layer) values
-    (pools_of_features_values layer.features valid) in
+    let pushes : Pushes with_value (λ (t : Table). t.values) value_row ValidValue (λ t row value. value_of t.texts row ≡ Some value) = record {
+      grows = value_grows;
+      stays = λ t u grown row value is. value_stays t.texts u.texts grown.texts row value is;
+      push = value_push;
+      holds = value_holds;
+    } in
+    let made = rows_pushed pushes (keyed_in t layer) values (pools_of_features_values layer.features valid) in
     let left = fold_keeps (λ (t : Table). t.values) with_key (λ t key. refl) (shown_in t layer) (keys_of layer.features) in (
       made.0,
       made.1 ∙ ap (λ l. l ++ made.0) (left
@@ -248,8 +298,9 @@ item_holds t (Foreign version content) valid = (valid.4, refl, part_behind t.tex
 pub tile_holds : (tile : Tile) → Valid tile → IsTileOf (rows_of tile) tile
 unfolding rows_of
 tile_holds tile valid =
-    let made = rows_pushed with_item
-    (λ (t : Table). t.layers) item_row ValidItem IsItem item_grows item_stays item_push item_holds no_rows tile.items valid.items in
+    let pushes : Pushes with_item (λ (t : Table). t.layers) item_row ValidItem IsItem =
+    record { grows = item_grows; stays = item_stays; push = item_push; holds = item_holds } in
+    let made = rows_pushed pushes no_rows tile.items valid.items in
     subst (λ rows. AreRelated (IsItem (fold with_item no_rows tile.items)) rows tile.items) (sym made.1) made.2
 
 -- rows that were read are the tile that was read, and no other

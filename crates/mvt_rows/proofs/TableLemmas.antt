@@ -9,6 +9,7 @@ use Rattle.std.proofs.lemmas.Int.{to_z-of_z}
 use Rattle.std.proofs.lemmas.List.{length-map}
 use Rattle.std.proofs.lemmas.Str.{is_utf8-from_IsUtf8}
 use Rattle.mvt_base.specs.Related.{AreRelated}
+use Rattle.mvt_base.proofs.ListLemmas.{all_true}
 use Rattle.mvt_attrs.specs.declared.value.Value.{Value}
 use Rattle.mvt_attrs.specs.declared.value.Value.TheVariants.{Text, Float, Double, Int, Uint, Sint, Bool as Truth}
 use Rattle.mvt_geometry.specs.declared.shape.Point.{Point}
@@ -34,28 +35,30 @@ pub fold_keeps : {X B : Type 0} → (L : Table → B) (f : Table → X → Table
 fold_keeps L f keeps t [] = refl
 fold_keeps L f keeps t (x ∷ xs) = fold_keeps L f keeps (f t x) xs ∙ keeps t x
 
--- steps that each add a row of one entry: the rows are the entries, one by one
-pub rows_pushed : {X R : Type 0}
-    → (f : Table → X → Table) (L : Table → List R) (row : Table → X → R) (V : X → Type 0) (P : Table → R → X → Type 0)
-    → ((t : Table) (x : X) → Grown t (f t x)) → ((t u : Table) → Grown t u → (r : R) (x : X) → P t r x → P u r x)
-    → ((t : Table) (x : X) → L (f t x) ≡ L t ++ row t x ∷ []) → ((t : Table) (x : X) → V x → P (f t x) (row t x) x)
-    → (t : Table) (xs : List X) → AllByRecursion V xs
+-- steps that each add to a list a row of one entry, of which something holds as long as the table grows
+pub record Pushes {X R : Type 0} (f : Table → X → Table) (L : Table → List R) (row : Table → X → R) (V : X → Type 0)
+    (P : Table → R → X → Type 0) : Type 0 where
+  pub grows : (t : Table) (x : X) → Grown t (f t x)
+  pub stays : (t u : Table) → Grown t u → (r : R) (x : X) → P t r x → P u r x
+  pub push : (t : Table) (x : X) → L (f t x) ≡ L t ++ row t x ∷ []
+  pub holds : (t : Table) (x : X) → V x → P (f t x) (row t x) x
+
+-- the rows are the entries, one by one
+pub rows_pushed : {X R : Type 0} {f : Table → X → Table} {L : Table → List R} {row : Table → X → R} {V : X → Type 0}
+    {P : Table → R → X → Type 0}
+    → Pushes f L row V P → (t : Table) (xs : List X) → AllByRecursion V xs
     → (rows : List R) × (L (fold f t xs) ≡ L t ++ rows) × AreRelated (P (fold f t xs)) rows xs
-rows_pushed f L row V P grows stays push holds t [] all = ([], sym (append-nil (L t)), tt)
-rows_pushed f L row V P grows stays push holds t (x ∷ xs) all =
-    let rest = rows_pushed f L row V P grows stays push holds (f t x) xs all.1 in (
+rows_pushed {L = L} pushes t [] all = ([], sym (append-nil (L t)), tt)
+rows_pushed {f = f} {L = L} {row = row} pushes t (x ∷ xs) all =
+    let rest = rows_pushed pushes (f t x) xs all.1 in (
       row t x ∷ rest.0,
-      rest.1 ∙ ap (λ l. l ++ rest.0) (push t x) ∙ append_assoc (L t) (row t x ∷ []) rest.0,
+      rest.1 ∙ ap (λ l. l ++ rest.0) (pushes.push t x) ∙ append_assoc (L t) (row t x ∷ []) rest.0,
       (
-        stays (f t x) (fold f (f t x) xs)
-            (grown_fold f grows (f t x) xs) (row t x) x (holds t x all.0),
+        pushes.stays (f t x) (fold f (f t x) xs)
+            (grown_fold f pushes.grows (f t x) xs) (row t x) x (pushes.holds t x all.0),
         rest.2,
       ),
     )
-
-all_so : {X : Type 0} → (xs : List X) → AllByRecursion (λ x. ⊤) xs
-all_so [] = tt
-all_so (x ∷ xs) = (tt, all_so xs)
 
 -- texts and values
 pub text_behind : (front text : List ℕ) → IsUtf8 text → text_of (front ++ text) (behind front (length text)) ≡ Some text
@@ -114,9 +117,13 @@ parts_pushed : (t : Table) (lines : List (List Point))
     → (rows : List PartRow) × ((fold (with_part 0) t lines).parts ≡ t.parts ++ rows)
     × AreRelated (IsPart 0 (fold (with_part 0) t lines).points) rows lines
 parts_pushed t lines =
-    rows_pushed (with_part 0) (λ (t : Table). t.parts) (part_row 0) (λ x. ⊤) (λ (t : Table). IsPart 0 t.points) (part_grows 0)
-    (λ t u grown row line is. (is.0, line_stays t.points u.points grown.points row line is.1)) (λ t line. refl)
-    (λ t line h. (refl, line_behind 0 t line)) t lines (all_so lines)
+    let pushes : Pushes (with_part 0) (λ (t : Table). t.parts) (part_row 0) (λ x. ⊤) (λ (t : Table). IsPart 0 t.points) = record {
+      grows = part_grows 0;
+      stays = λ t u grown row line is. (is.0, line_stays t.points u.points grown.points row line is.1);
+      push = λ t line. refl;
+      holds = λ t line h. (refl, line_behind 0 t line);
+    } in
+    rows_pushed pushes t lines (all_true lines)
 
 ring_step : (points : List PointRow) (ps : List Polygon) (row : PartRow) (ring : List Point) (n : ℕ) (exterior : Bool)
     → line_of points row ≡ Some ring → row.exterior ≡ n → truth_of n ≡ Some exterior
@@ -169,14 +176,23 @@ polygons_steps t (p ∷ polygons) =
       first.0 ++ rest.0,
       rest.1 ∙ ap (λ l. l ++ rest.0) first.1 ∙ append_assoc t.parts first.0 rest.0,
       λ ps. steps_joined (with_ring_row points) ps first.0 rest.0 (ps ++ p ∷ []) (Some (ps ++ (p ∷ polygons)))
-          (steps_stay (with_ring_row now.points) (with_ring_row points) (ring_stays now.points points grown.points) ps first.0 (ps ++ p ∷ []) (first.2 ps))
+          (steps_stay (with_ring_row now.points) (with_ring_row points) (ring_stays now.points points grown.points) ps first.0
+          (ps ++ p ∷ []) (first.2 ps))
           (rest.2 (ps ++ p ∷ []) ∙ ap Some (append_assoc ps (p ∷ []) polygons)),
     )
 
 -- geometries
 pub drawn : (t : Table) (g : Geometry) (id has : ℕ) (tags : Span)
     → geometry_of (with_geometry t g)
-    (record { id = id; has_id = has; kind = type_number (kind_of g); tags = tags; parts = added t.parts (with_geometry t g).parts; integers = added t.integers (with_geometry t g).integers }) ≡ Some g
+    (record {
+      id = id;
+      has_id = has;
+      kind = type_number (kind_of g);
+      tags = tags;
+      parts =
+          added t.parts (with_geometry t g).parts;
+      integers = added t.integers (with_geometry t g).integers;
+    }) ≡ Some g
 drawn t (Unknown integers) id has tags = ap (option_map Unknown) (part_added t.integers (t.integers ++ integers) integers refl)
 drawn t (Points points) id has tags =
     let now = with_part 0 t points in
@@ -185,7 +201,8 @@ drawn t (Points points) id has tags =
 drawn t (Lines lines) id has tags =
     let now = fold (with_part 0) t lines in
     let rows = parts_pushed t lines in
-    let are = related_weaker (IsPart 0 now.points) (λ row line. line_of now.points row ≡ Some line) (λ row line is. is.1) rows.0 lines rows.2 in
+    let are = related_weaker (IsPart 0 now.points) (λ row line. line_of now.points row ≡ Some line)
+    (λ row line is. is.1) rows.0 lines rows.2 in
     ap (option_and_then (drawn_of now.points 2)) (part_added t.parts now.parts rows.0 rows.1)
     ∙ ap (option_map Lines) (each_related (line_of now.points) rows.0 lines are)
 drawn t (Polygons polygons) id has tags =

@@ -2,7 +2,7 @@
 use Rattle.std.proofs.Common.{◌≡◌, ℕ, ◌+◌, ◌<◌, List, [], ◌∷◌, ◌++◌, length, take, drop, get_or, Option, Some, None, Ok, Err, Result, refl, sym, ap, ◌∙◌, subst}
 use Rattle.std.proofs.lemmas.List.{take_more}
 use Rattle.mvt_base.specs.Related.{AreRelated}
-use Rattle.mvt_base.proofs.ListLemmas.{related-append, related_once}
+use Rattle.mvt_base.proofs.ListLemmas.{related-append, related_once, around}
 use Rattle.mvt_attrs.specs.declared.value.Value.{Value}
 use Rattle.mvt_attrs.specs.declared.resolving.TagError.{TagError}
 use Rattle.mvt_attrs.specs.declared.resolving.TagError.TheVariants as tag_errors
@@ -15,7 +15,7 @@ use Rattle.mvt_feature.specs.declared.feature.Feature.{Feature}
 use Rattle.mvt_message.specs.declared.item.Item.{Item}
 use Rattle.mvt_message.specs.declared.item.Item.TheVariants.{Layer, Foreign}
 use Rattle.mvt_message.specs.declared.item.Layer.{Layer as ALayer}
-use Rattle.mvt_tile.specs.declared.tile.Tile.{Tile}
+use Rattle.mvt_model.specs.declared.tile.Tile.{Tile}
 use Rattle.mvt_rows.specs.declared.rows_error.RowsError.{RowsError}
 use Rattle.mvt_rows.specs.declared.rows_error.RowsError.TheVariants.{Memory, TooLarge, NoTile}
 use Rattle.mvt_rows.specs.declared.rows.FeatureRow.{FeatureRow}
@@ -23,7 +23,6 @@ use Rattle.mvt_rows.specs.declared.rows.LayerRow.{LayerRow}
 use Rattle.mvt_rows.specs.Tables.{Table}
 use Rattle.mvt_rows.specs.TileRows.{part_of, IsFeature, IsLayer, IsItem, IsTileOf, with_inner}
 use Rattle.mvt_rows.specs.Written.{FailsAs, IsNone, of_tags}
-use Rattle.mvt_rows.proofs.EachLemmas.{around}
 use Rattle.std.specs.Option.{option_map}
 use Rattle.std.specs.Result.{IfErr, IsErrAnd}
 use Rattle.std.proofs.lemmas.Option.{none-some, same_Some}

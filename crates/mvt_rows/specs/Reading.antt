@@ -5,10 +5,10 @@ use Rattle.mvt_attrs.specs.declared.value.Value.{Value}
 use Rattle.mvt_message.specs.declared.item.Item.{Item}
 use Rattle.mvt_message.specs.declared.item.Item.TheVariants.{Layer, Foreign}
 use Rattle.mvt_message.specs.CanonicalItems.{keys_of, values_of}
-use Rattle.mvt_tile.specs.declared.tile.Tile.{Tile}
-use Rattle.mvt_tile.specs.CanonicalTiles.{canonical}
-use Rattle.mvt_tile.specs.Tiles.{IsTile}
-use Rattle.mvt_tile.specs.ValidTiles.{Valid}
+use Rattle.mvt_model.specs.declared.tile.Tile.{Tile}
+use Rattle.mvt_model.specs.CanonicalTiles.{canonical}
+use Rattle.mvt_model.specs.Tiles.{IsTile}
+use Rattle.mvt_model.specs.ValidTiles.{Valid}
 use Rattle.mvt_rows.specs.Tables.{Table, rows_of}
 
 -- the bytes are a tile, and these are its canonical bytes

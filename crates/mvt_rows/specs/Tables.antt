@@ -17,7 +17,7 @@ use Rattle.mvt_message.specs.declared.item.Item.{Item}
 use Rattle.mvt_message.specs.declared.item.Item.TheVariants.{Layer, Foreign}
 use Rattle.mvt_message.specs.declared.item.Layer.{Layer as ALayer}
 use Rattle.mvt_message.specs.CanonicalItems.{keys_of, values_of}
-use Rattle.mvt_tile.specs.declared.tile.Tile.{Tile}
+use Rattle.mvt_model.specs.declared.tile.Tile.{Tile}
 use Rattle.mvt_rows.specs.declared.rows.Span.{Span}
 use Rattle.mvt_rows.specs.declared.rows.LayerRow.{LayerRow}
 use Rattle.mvt_rows.specs.declared.rows.FeatureRow.{FeatureRow}
@@ -58,7 +58,8 @@ abbrev pub with_number : Table → ℕ → ℕ → Table
 with_number t kind bits = record t { values = t.values ++ number_row kind bits ∷ [] }
 
 abbrev pub with_value : Table → Value → Table
-with_value t (Text text) = record t { values = t.values ++ record { kind = 1; bits = 0; text = behind t.texts (length text) } ∷ []; texts = t.texts ++ text }
+with_value t (Text text) = record t
+    { values = t.values ++ record { kind = 1; bits = 0; text = behind t.texts (length text) } ∷ []; texts = t.texts ++ text }
 with_value t (Float bits) = with_number t 2 bits
 with_value t (Double bits) = with_number t 3 bits
 with_value t (Int z) = with_number t 4 (cast_unsigned w64 z)

@@ -3,11 +3,11 @@ use Rattle.std.specs.Prelude.{◌≡◌, ℕ, ◌<◌, List, length, ⊤}
 use Rattle.mvt_base.specs.declared.TheConstants.{LIMIT}
 use Rattle.mvt_attrs.specs.declared.resolving.TagError.{TagError}
 use Rattle.mvt_attrs.specs.declared.resolving.TagError.TheVariants as tags
-use Rattle.mvt_message.specs.declared.put.PutError.{PutError}
-use Rattle.mvt_message.specs.declared.put.PutError.TheVariants as put
-use Rattle.mvt_tile.specs.declared.tile.Tile.{Tile}
-use Rattle.mvt_tile.specs.CanonicalTiles.{canonical}
-use Rattle.mvt_tile.specs.ValidTiles.{Valid}
+use Rattle.mvt_message.specs.declared.writing.PutError.{PutError}
+use Rattle.mvt_message.specs.declared.writing.PutError.TheVariants as put
+use Rattle.mvt_model.specs.declared.tile.Tile.{Tile}
+use Rattle.mvt_model.specs.CanonicalTiles.{canonical}
+use Rattle.mvt_model.specs.ValidTiles.{Valid}
 use Rattle.mvt_rows.specs.declared.rows_error.RowsError.{RowsError}
 use Rattle.mvt_rows.specs.declared.rows_error.RowsError.TheVariants.{Memory, TooLarge, NoTile}
 use Rattle.mvt_rows.specs.Tables.{Table}

@@ -2,15 +2,18 @@
 use mvt_attrs::TagError;
 use mvt_tile::PutError;
 use std::alloc::{AllocError, AllocFailed};
+use thiserror::Error;
 
 /// Why nothing is made of rows.
-#[derive(Clone, Copy, Debug, PartialEq, Eq)]
+#[derive(Clone, Copy, Debug, Drop, Error, PartialEq, Eq)]
 pub enum RowsError {
-    /// A growth was refused memory.
+    #[error("out of memory")]
     Memory,
     /// The canonical bytes are more than the limit.
+    #[error("the tile is too large")]
     TooLarge,
-    /// The rows are no tile.
+    /// The rows are no tile, or none that is valid.
+    #[error("the rows are no tile")]
     NoTile,
 }
 

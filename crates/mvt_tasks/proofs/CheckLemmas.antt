@@ -4,7 +4,7 @@ use Rattle.std.proofs.lemmas.List.{map-append, length-append}
 use Rattle.std.proofs.Math.Seq.{take-append-add}
 use Rattle.std.proofs.lemmas.List.Sums.{sum_by-append}
 use Rattle.std.proofs.lemmas.Grind.{flat_map-append}
-use Rattle.std.proofs.KnownBytes.{Appends-trans}
+use Rattle.std.proofs.KnownBytes.{Appends-nil, Appends-trans}
 use Rattle.std.specs.List.{flat_map}
 use Rattle.std.specs.Io.KnownBytes.{Appends, Keeps}
 use Rattle.mvt_base.proofs.ListLemmas.{related-append, length-related}
@@ -21,12 +21,8 @@ use Rattle.mvt_tasks.specs.Checks.{AreChecked, Checked, IsCutShort, IsLater, IsS
 
 -- ---- the error stream
 
-appends_nothing : (o : Option (List ℕ)) → Appends o o []
-appends_nothing None = tt
-appends_nothing (Some xs) = sym (append-nil xs)
-
 pub tells_nothing : (n : ℕ) (o : Option (List ℕ)) → Tells n n o o []
-tells_nothing n o = record { counts = inl (omega arith); tells = λ none. appends_nothing o }
+tells_nothing n o = record { counts = inl (omega arith); tells = λ none. Appends-nil o }
 
 -- an error before anything was told
 pub tells_none : {A F : Type 0} (result : Result A F) (n : ℕ) (o : Option (List ℕ)) → OnErr result (TellsSome n n o o)
@@ -112,7 +108,7 @@ said_none limit holds now tally is = record {
   files = [];
   checked = tt;
   visited = adds_nothing now.visits;
-  written = appends_nothing now.output;
+  written = Appends-nil now.output;
   told = tells_nothing now.failed now.errors;
   counted = is;
 }
@@ -167,21 +163,6 @@ said_more limit holds names name a b c old new verdict said one adds =
       counted = counted_more files file old new verdict said.counted one.judged adds;
     }
 
--- and the line that sums up
-pub said_summed : (limit : ℕ) (holds : List ℕ → Option (List ℕ)) (names : List (List ℕ)) (a b c : Moment) (line : List ℕ) (tally : Tally)
-    → IsSaidOf limit holds names a b [] tally → c.visits ≡ b.visits → c.output ≡ b.output → Tells b.failed c.failed b.errors c.errors line
-    → IsSaidOf limit holds names a c line tally
-said_summed limit holds names a b c line tally said visits output tells = record {
-  files = said.files;
-  checked = said.checked;
-  visited = subst (λ v. AddsAll a.visits v (map (λ (f : Checked). visit_of f.name f.reply) said.files)) (sym visits) said.visited;
-  written = subst (λ w. Appends a.output w (flat_map written_of said.files)) (sym output) said.written;
-  told =
-      subst (Tells a.failed c.failed a.errors c.errors) (ap (λ t. t ++ line) (append-nil (flat_map told_of said.files)))
-      (tells-trans a.failed b.failed c.failed a.errors b.errors c.errors (flat_map told_of said.files ++ []) line said.told tells);
-  counted = said.counted;
-}
-
 -- so many files were counted as there are names
 pub said_size : (limit : ℕ) (holds : List ℕ → Option (List ℕ)) (names : List (List ℕ)) (a b : Moment) (line : List ℕ) (tally : Tally)
     → IsSaidOf limit holds names a b line tally → tally.accepted + tally.refused + tally.unread ≡ length names
@@ -227,15 +208,15 @@ keeps_nothing (Some xs) None keeps = absurd keeps
 keeps_nothing (Some xs) (Some ys) keeps = keeps ∙ sym (append-nil xs)
 
 -- an end before the first file
-pub cut_first : (limit : ℕ) (holds : List ℕ → Option (List ℕ)) (names : List (List ℕ)) (w : Option (List ℕ)) (failure : Failure)
-    → failure ≡ Memory → IsCutShort limit holds names w w failure
-cut_first limit holds names w failure is = record {
+pub cut_first : (limit : ℕ) (holds : List ℕ → Option (List ℕ)) (names : List (List ℕ)) (w : Option (List ℕ))
+    → IsCutShort limit holds names w w Memory
+cut_first limit holds names w = record {
   front = [];
   rest = names;
   files = [];
   of_names = refl;
   checked = tt;
-  taken = subst (TakesUntil w w []) (sym is) (appends_nothing w);
+  taken = Appends-nil w;
 }
 
 -- an end within a file, of which there is something to say
@@ -296,7 +277,7 @@ pub cut_first_of : {T : Type 0}
     → (r : Result T Failure) (limit : ℕ) (holds : List ℕ → Option (List ℕ)) (names : List (List ℕ)) (w : Option (List ℕ))
     → IfErr r (λ failure. failure ≡ Memory) → IfErr r (IsCutShort limit holds names w w)
 cut_first_of (Ok x) limit holds names w is = tt
-cut_first_of (Err failure) limit holds names w is = cut_first limit holds names w failure is
+cut_first_of (Err failure) limit holds names w is = subst (IsCutShort limit holds names w w) (sym is) (cut_first limit holds names w)
 
 pub cut_within_of : {T : Type 0}
     → (r : Result T Failure) (limit : ℕ) (holds : List ℕ → Option (List ℕ)) (name : List ℕ) (w0 w1 : Option (List ℕ))
@@ -314,7 +295,7 @@ pub cut_unwritten : {T : Type 0}
 cut_unwritten (Ok x) limit holds names a b line tally said is = tt
 cut_unwritten (Err failure) limit holds names a b line tally said is =
     cut_last limit holds names a b line tally b.output failure said
-    (subst (TakesUntil b.output b.output []) (sym is) (appends_nothing b.output))
+    (subst (TakesUntil b.output b.output []) (sym is) (Appends-nil b.output))
 
 pub cut_unflushed : {T : Type 0}
     → (r : Result T Failure) (limit : ℕ) (holds : List ℕ → Option (List ℕ)) (names : List (List ℕ)) (a b : Moment)

@@ -5,10 +5,6 @@ use Rattle.mvt_io.specs.Devices.{SourceState}
 use Rattle.mvt_tasks.specs.declared.memory.MemoryFile.{MemoryFile}
 use Rattle.mvt_tasks.specs.Folders.{bytes_of, file_named, held_in}
 
-found_head : {A : Type 0} (b : Bool) (x : A) (found : Option A) → cond b (Some x) found ≡ None → found ≡ None
-found_head true x found is = cc
-found_head false x found is = is
-
 skips : {A : Type 0} (b : Bool) (x : A) (found : Option A) (y : A) (o : Option A) → cond b (Some x) o ≡ None → (o ≡ None → found ≡ Some y)
     → cond b (Some x) found ≡ Some y
 skips true x found y o is rest = cc

@@ -1,11 +1,12 @@
 -- The first bytes of an input, one more than the limit, tell the same as the whole of it.
 use Rattle.std.proofs.Common.{◌≡◌, ℕ, ◌+◌, ◌≤◌, inl, inr, List, length, take, min, nat_lt, sym, ap, ap₂, subst, ◌∙◌, arith, Option, Some, None, Bool, true}
-use Rattle.std.proofs.lemmas.List.{length-take, take-take, take_all}
+use Rattle.std.proofs.lemmas.List.{length-take, take_all}
 use Rattle.std.proofs.lemmas.Bool.{cases_lt}
 use Rattle.std.proofs.lemmas.Bool.Decides.{nat_tests}
 use Rattle.std.specs.Prelude.{IfSome, ◌++◌, codes, if◌then◌else◌}
 use Rattle.std.specs.Option.{option_map}
 use Rattle.mvt_base.specs.Rules.{first}
+use Rattle.mvt_base.proofs.ListLemmas.{take_front, too_long}
 use Rattle.mvt_tile.specs.declared.fault.Fault.{Fault}
 use Rattle.mvt_tile.specs.TileRules.{fault_within, beyond, tile_rules}
 use Rattle.mvt_view.specs.FaultLines.{fault_line}
@@ -13,12 +14,6 @@ use Rattle.mvt_view.proofs.ViewLaws.{front_tells_fault, front_tells_lines}
 use Rattle.mvt_tasks.specs.declared.reply.Reply.{Reply}
 use Rattle.mvt_tasks.specs.declared.task.Task.TheVariants.{Check}
 use Rattle.mvt_tasks.specs.Output.{IsReply, fields_reply}
-
-take_front : (n : ℕ) (xs : List ℕ) → take n (take (n + 1) xs) ≡ take n xs
-take_front n xs = take-take n (n + 1) xs (omega arith)
-
-too_long : (n : ℕ) (xs : List ℕ) → nat_lt n (length (take (n + 1) xs)) ≡ nat_lt n (length xs)
-too_long n xs = simp length-take (grind (arith, nat_tests))
 
 abbrev judged : ℕ → List ℕ → Option Fault
 judged limit input = if nat_lt limit (length input) then beyond limit (first (tile_rules (take limit input))) else first (tile_rules input)

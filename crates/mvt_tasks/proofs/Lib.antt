@@ -1,3 +1,4 @@
+pub mod TasksLaws
 mod CheckLemmas
 mod FolderLemmas
 mod Fronts

@@ -3,9 +3,9 @@ use Rattle.std.proofs.Common.{◌≡◌, ℕ, List, Option, Some, None, inl, inr
 use Rattle.mvt_base.specs.declared.TheConstants.{LIMIT}
 use Rattle.mvt_tile.proofs.TileLaws.{tile_or_fault_clean, tile_or_fault_once, tile_or_fault_there}
 use Rattle.mvt_tile.specs.declared.fault.Fault.{Fault}
-use Rattle.mvt_tile.specs.declared.tile.Tile.{Tile}
+use Rattle.mvt_model.specs.declared.tile.Tile.{Tile}
 use Rattle.mvt_tile.specs.TileRules.{fault_within}
-use Rattle.mvt_tile.specs.Tiles.{IsTile}
+use Rattle.mvt_model.specs.Tiles.{IsTile}
 use Rattle.mvt_view.specs.FaultLines.{fault_line}
 use Rattle.mvt_tasks.specs.declared.reply.Reply.{Reply}
 use Rattle.mvt_tasks.specs.declared.task.Task.{Task}

@@ -4,26 +4,18 @@ use Rattle.std.specs.Prelude.{IfSome}
 use Rattle.std.specs.Option.{option_map}
 use Rattle.std.proofs.lemmas.Bool.Decides.{nat_tests}
 use Rattle.mvt_base.specs.Tells.{Tells}
-use Rattle.mvt_tile.specs.declared.tile.Tile.{Tile}
+use Rattle.mvt_model.specs.declared.tile.Tile.{Tile}
 use Rattle.mvt_tile.specs.declared.fault.DecodeError.{DecodeError}
 use Rattle.mvt_tile.specs.declared.fault.DecodeError.TheVariants.{Memory, Fault, Read}
-use Rattle.mvt_tile.specs.CanonicalTiles.{canonical}
+use Rattle.mvt_model.specs.CanonicalTiles.{canonical}
 use Rattle.mvt_tile.specs.Extraction.{pick, first_missing}
 use Rattle.mvt_tile.specs.Reading.{fault_of}
 use Rattle.mvt_tile.specs.TileRules.{fault_within}
 use Rattle.mvt_tasks.specs.declared.reply.Reply.{Reply}
-use Rattle.mvt_tasks.specs.declared.task.Task.{Task}
 use Rattle.mvt_tasks.specs.declared.task.Task.TheVariants.{Rewrite, Extract}
 use Rattle.mvt_tasks.specs.Failures.{IsRefusal}
-use Rattle.mvt_tasks.specs.Output.{IsReply, IsTold, Answers, PutsOut, done, refused, bytes_reply, layers_reply, layers_reply_or, missing_line}
+use Rattle.mvt_tasks.specs.Output.{IsTold, Answers, PutsOut, done, refused, bytes_reply, layers_reply, layers_reply_or, missing_line}
 use Rattle.mvt_tasks.proofs.Picks.{missing_at, none_missing}
-
-pub answered : (limit : ℕ) (task : Task) (left : Option (List ℕ)) (reply : Reply) (told : Option (List ℕ)) (Untouched : Type 0)
-    (Writes : List ℕ → Type 0)
-    → IfSome left (λ input. IsReply limit task input reply) → told ≡ reply.told → PutsOut Untouched Writes reply
-    → IfSome left (Answers limit task told Untouched Writes)
-answered limit task None reply told Untouched Writes is same put = tt
-answered limit task (Some input) reply told Untouched Writes is same put = (reply, is, same, put)
 
 pub done_put : (reply : Reply) (text : List ℕ) (Untouched : Type 0) (Writes : List ℕ → Type 0) → reply ≡ done text → Writes text
     → (None ≡ reply.told) × PutsOut Untouched Writes reply

@@ -3,9 +3,9 @@ ghost use Rattle.std.specs.Prelude.{◌≡◌, ◌+◌, ◌<◌, ◌≤◌, max,
 ghost use Rattle.std.specs.Io.KnownBytes.{Appends};
 ghost use Rattle.mvt_io.specs.Counts.{counted};
 ghost use Rattle.mvt_io.specs.Transfers.{TakesPrefix};
-ghost use Rattle.mvt_tile.specs.CanonicalTiles.{canonical};
+ghost use Rattle.mvt_model.specs.CanonicalTiles.{canonical};
 ghost use Rattle.mvt_tile.specs.Extraction.{pick};
-ghost use Rattle.mvt_tile.specs.ValidTiles.{Valid};
+ghost use Rattle.mvt_model.specs.ValidTiles.{Valid};
 ghost use Rattle.mvt_tasks.specs.Failures.{EndsFailed, IsCaused, LeavesOutput};
 ghost use Rattle.mvt_tasks.specs.Output.{Answers, IsFlushed, IsWhole, PutsOut, layers_reply, missing_line};
 

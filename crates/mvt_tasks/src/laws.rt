@@ -1,5 +1,7 @@
 //! Laws about the definitions alone: functions without effect, whose contract is the law.
-ghost use Rattle.std.specs.Prelude.{◌≡◌, ℕ, List};
+ghost use Rattle.std.specs.Prelude.{◌≡◌, ℕ, List, Option};
+ghost use Rattle.mvt_tasks.specs.Checks.{IsCutShort};
+ghost use Rattle.mvt_tasks.specs.declared.failure.Failure.TheVariants.{Memory as MemoryFailure};
 ghost use Rattle.mvt_tasks.specs.declared.reply.Reply.{Reply as AReply};
 ghost use Rattle.mvt_tasks.specs.declared.task.Task.{Task as ATask};
 ghost use Rattle.mvt_tasks.specs.Output.{IsReply};
@@ -11,4 +13,10 @@ pub fn one_reply()
     ensures there { (task : ATask) (input : List ℕ) → (reply : AReply) × IsReply LIMIT task input reply }
     ensures once { (task : ATask) (input : List ℕ) (a b : AReply)
         → IsReply LIMIT task input a → IsReply LIMIT task input b → a ≡ b }
+{}
+
+/// A check of files that was over before its first file, for want of memory, was cut short and put nothing out.
+pub fn cut_at_first()
+    ensures { (limit : ℕ) (holds : List ℕ → Option (List ℕ)) (names : List (List ℕ)) (output : Option (List ℕ))
+        → IsCutShort limit holds names output output MemoryFailure }
 {}

@@ -3,8 +3,8 @@ ghost use Rattle.std.specs.Prelude.{◌≡◌, ◌+◌, ◌≤◌, max, false, L
 ghost use Rattle.std.specs.Io.KnownBytes.{Appends};
 ghost use Rattle.mvt_io.specs.Counts.{counted};
 ghost use Rattle.mvt_io.specs.Transfers.{TakesPrefix};
-ghost use Rattle.mvt_tile.specs.CanonicalTiles.{canonical};
-ghost use Rattle.mvt_tile.specs.ValidTiles.{Valid};
+ghost use Rattle.mvt_model.specs.CanonicalTiles.{canonical};
+ghost use Rattle.mvt_model.specs.ValidTiles.{Valid};
 ghost use Rattle.mvt_tasks.specs.Failures.{EndsFailed, IsCaused, LeavesOutput};
 ghost use Rattle.mvt_tasks.specs.Output.{Answers, IsFlushed, IsWhole, PutsOut, bytes_reply};
 

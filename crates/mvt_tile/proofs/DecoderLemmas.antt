@@ -17,7 +17,7 @@ use Rattle.mvt_tile.specs.Faults.{outer_fault, is_open}
 use Rattle.mvt_tile.specs.Inner.Judging.{fault_behind, IsJudged, TellsBehind}
 use Rattle.mvt_tile.specs.Streams.{IsCalm, IsLive, TellsEarly, Decoding, StandsAs, StandsFor}
 use Rattle.mvt_tile.specs.TileRules.{field_rules, rest_rules_at, rest_rules, tile_rules, beyond, fault_within}
-use Rattle.mvt_tile.specs.Tiles.{AreItems, IsTile}
+use Rattle.mvt_model.specs.Tiles.{AreItems, IsTile}
 use Rattle.mvt_tile.proofs.ItemLemmas.{are_none, are_clean}
 use Rattle.mvt_tile.proofs.TileLemmas.{first-tile, fault_of_short, fault_of_long}
 use Rattle.mvt_tile.proofs.StreamLemmas.{rest_with, first-more, fault_stays}
@@ -68,7 +68,8 @@ rest_open at (b ∷ bs) some calm =
     ap (λ c. Some (outer_fault at c)) (open_cause at (rest_cause (b ∷ bs)) (calm f refl))
 
 -- what can't be changed is told of each longer stream
-tells_stays : (limit : ℕ) (e : DecodeError) (s t : List ℕ) → TellsEarly e (fault_within limit s) → TellsEarly e (fault_within limit (s ++ t))
+tells_stays : (limit : ℕ) (e : DecodeError) (s t : List ℕ) → TellsEarly e (fault_within limit s)
+    → TellsEarly e (fault_within limit (s ++ t))
 tells_stays limit Memory s t h = tt
 tells_stays limit (Fault f) s t h = (fault_stays limit s t f h.0 h.1, h.1)
 tells_stays limit (Read k) s t h = absurd h
@@ -187,14 +188,6 @@ module _ (limit offset : ℕ) (items new : List Item) (raw after t : List ℕ) (
       subst (λ p. TellsEarly (Fault (outer_fault (offset + used) TooLarge)) (fault_within limit p))
       (append_assoc s t more ∙ ap (λ p. s ++ p) (sym joined))
       (live_too_large limit (offset + used) new after (s ++ t) longer more (omega arith) some)
-
-pub left_fits : (limit offset : ℕ) (bytes after : List ℕ) (items new : List Item) (used : ℕ)
-    → IsJudged offset bytes items new used → after ≡ drop used bytes → offset + length bytes ≤ limit
-    → (offset + used) + length after ≤ limit
-left_fits limit offset bytes after items new used judged is fits =
-    let within = judged.within in
-    let size : length after ≡ length bytes - used = ap length is ∙ length-drop used bytes in
-    omega arith
 
 -- what a decoder stands for, by its parts
 

@@ -1,16 +1,16 @@
 -- Names that are looked for among items.
-use Rattle.std.proofs.Common.{◌≡◌, ℕ, ◌+◌, ◌<◌, ◌≤◌, Bool, true, false, cond, not, ◌||◌, List, [], ◌∷◌, ◌++◌, length, map, take, drop, get_or, filter, bytes_eq, Option, Some, None, refl, sym, ap, ap₂, subst, ◌∙◌, arith, append_assoc, take-append-drop, length-take}
-use Rattle.std.specs.List.{AllByRecursion, list_any, flat_map, position_from}
-use Rattle.std.proofs.lemmas.List.{take_more, take_all, map-append, length-map}
+use Rattle.std.proofs.Common.{◌≡◌, ℕ, ◌+◌, ◌<◌, ◌≤◌, Bool, true, false, cond, not, ◌||◌, List, [], ◌∷◌, ◌++◌, length, map, take, drop, get_or, filter, bytes_eq, Option, Some, None, refl, sym, ap, ap₂, subst, ◌∙◌, arith, length-take}
+use Rattle.std.specs.List.{list_any, flat_map, position_from}
+use Rattle.std.proofs.lemmas.List.{take_all, map-append, length-map}
 use Rattle.std.proofs.lemmas.List.Elements.{filter-append}
 use Rattle.std.proofs.lemmas.List.Folds.{list_any_at, list_any_more}
 use Rattle.mvt_message.specs.declared.item.Item.{Item as AnItem}
 use Rattle.mvt_message.specs.declared.item.Item.TheVariants.{Layer, Foreign}
 use Rattle.mvt_message.specs.Items.{names_in}
-use Rattle.mvt_base.proofs.ListLemmas.{all_joined}
+use Rattle.mvt_base.proofs.ListLemmas.{around, front_more}
 use Rattle.mvt_tile.specs.Extraction.{is_named}
 use Rattle.mvt_tile.specs.TileRules.{repeats}
-use Rattle.mvt_tile.specs.Tiles.{HasDistinctNames}
+use Rattle.mvt_model.specs.Tiles.{HasDistinctNames}
 use Rattle.mvt_tile.proofs.NameLemmas.{distinct_more, distinct_before, or_right_false}
 
 pub any_named : (name : List ℕ) (items : List AnItem) → list_any (is_named name) items ≡ list_any (bytes_eq name) (flat_map names_in items)
@@ -46,33 +46,25 @@ place_not p n (x ∷ xs) y none is =
 
 -- the element at an index, between those before it and those behind it
 pub at_index : {A : Type 0} (xs : List A) (i : ℕ) (x : A) → i < length xs → x ≡ get_or xs i x → xs ≡ take i xs ++ x ∷ drop (i + 1) xs
-at_index xs i x h is =
-    sym (take-append-drop (i + 1) xs) ∙ ap (λ ys. ys ++ drop (i + 1) xs) (take_more xs i x h ∙ ap (λ y. take i xs ++ y ∷ []) (sym is))
-    ∙ append_assoc (take i xs) (x ∷ []) (drop (i + 1) xs)
+at_index xs i x h is = around xs i x h ∙ ap (λ y. take i xs ++ y ∷ drop (i + 1) xs) (sym is)
 
 pub mapped_more : {A B : Type 0} (f : A → B) (xs : List A) (i : ℕ) (x : A) → i < length xs → x ≡ get_or xs i x
     → map f (take (i + 1) xs) ≡ map f (take i xs) ++ f x ∷ []
-mapped_more f xs i x h is = ap (map f) (take_more xs i x h ∙ ap (λ y. take i xs ++ y ∷ []) (sym is)) ∙ map-append f (take i xs) (x ∷ [])
+mapped_more f xs i x h is = ap (map f) (front_more xs i x h is) ∙ map-append f (take i xs) (x ∷ [])
 
 pub filter_more : {A : Type 0} (p : A → Bool) (xs : List A) (i : ℕ) (x : A) (b : Bool) → i < length xs → x ≡ get_or xs i x → p x ≡ b
     → filter p (take (i + 1) xs) ≡ filter p (take i xs) ++ cond b (x ∷ []) []
 filter_more p xs i x b h is e =
-    ap (filter p) (take_more xs i x h ∙ ap (λ y. take i xs ++ y ∷ []) (sym is)) ∙ filter-append p (take i xs) (x ∷ [])
+    ap (filter p) (front_more xs i x h is) ∙ filter-append p (take i xs) (x ∷ [])
     ∙ ap (λ c. filter p (take i xs) ++ cond c (x ∷ []) []) e
 
 -- valid items, one more
-
-pub all_more : {A : Type 0} (P : A → Type 0) (xs : List A) (i : ℕ) (x : A) → i < length xs → x ≡ get_or xs i x
-    → AllByRecursion P (take i xs) → P x → AllByRecursion P (take (i + 1) xs)
-all_more P xs i x h is all here =
-    subst (AllByRecursion P) (sym (take_more xs i x h ∙ ap (λ y. take i xs ++ y ∷ []) (sym is)))
-    (all_joined P (take i xs) (x ∷ []) all (here, tt))
 
 pub distinct_next : (items : List AnItem) (i : ℕ) (item : AnItem) (b : Bool) → i < length items → item ≡ get_or items i item
     → HasDistinctNames (take i items) → b ≡ repeats (flat_map names_in (take i items)) (names_in item) → b ≡ false
     → HasDistinctNames (take (i + 1) items)
 distinct_next items i item b h is distinct e new =
-    subst HasDistinctNames (sym (take_more items i item h ∙ ap (λ y. take i items ++ y ∷ []) (sym is)))
+    subst HasDistinctNames (sym (front_more items i item h is))
     (distinct_more (take i items) item distinct (sym e ∙ new))
 
 pub distinct_not : (items : List AnItem) (i : ℕ) (item : AnItem) (b : Bool) → i < length items → item ≡ get_or items i item

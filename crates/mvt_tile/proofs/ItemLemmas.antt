@@ -1,21 +1,22 @@
 -- Fields without a fault are items, and those of items have none.
-use Rattle.std.proofs.Common.{◌≡◌, ℕ, Bool, true, false, eqb, List, [], ◌∷◌, ◌++◌, length, Option, Some, None, refl, sym, ap, ap₂, subst, ◌∙◌, append_assoc, append-nil}
+use Rattle.std.proofs.Common.{◌≡◌, ℕ, Bool, true, false, eqb, List, [], ◌∷◌, ◌++◌, length, None, refl, sym, ap, ap₂, subst, ◌∙◌, append_assoc, append-nil}
 use Rattle.std.specs.List.{flat_map}
 use Rattle.std.specs.Option.{option_or, option_map}
-use Rattle.mvt_base.specs.Rules.{Rules, when, under, each, first}
+use Rattle.mvt_base.specs.Rules.{each, first}
 use Rattle.mvt_base.specs.Related.{AreRelated}
-use Rattle.mvt_base.proofs.RuleLemmas.{first-append, first-under, first-when_not, option_or-none, option_or-nones}
+use Rattle.mvt_base.proofs.RuleLemmas.{each_first, first-when_not, option_or-none, option_or-nones}
 use Rattle.mvt_base.proofs.ListLemmas.{related-append}
+use Rattle.mvt_base.proofs.TableLemmas.{none_mapped, when_none}
 use Rattle.mvt_wire.specs.Field.{Content, varint, fixed64, bytes, fixed32, Entry}
 use Rattle.mvt_message.specs.declared.item.Item.{Item}
 use Rattle.mvt_message.specs.ItemRules.{item_fault, payload_names}
 use Rattle.mvt_message.specs.Items.{IsItem, names_in}
 use Rattle.mvt_message.proofs.MessageLaws.{item_names, item_or_fault_clean, item_or_fault_there}
-use Rattle.mvt_tile.specs.declared.numbers.tile.TheConstants.{LAYERS}
+use Rattle.mvt_model.specs.declared.numbers.tile.TheConstants.{LAYERS}
 use Rattle.mvt_tile.specs.Faults.{in_layer}
 use Rattle.mvt_tile.specs.Inner.Judging.{name_fault, payload_fault, repeated_at}
-use Rattle.mvt_tile.specs.TileRules.{layers_of, bytes_in, payload_of, names_before, repeats, is_bytes, field_rules}
-use Rattle.mvt_tile.specs.Tiles.{HoldsItem, HasDistinctNames, AreItems}
+use Rattle.mvt_tile.specs.TileRules.{bytes_in, payload_of, names_before, repeats, is_bytes, field_rules}
+use Rattle.mvt_model.specs.Tiles.{layers_of, HoldsItem, HasDistinctNames, AreItems}
 use Rattle.mvt_tile.proofs.NameLemmas.{distinct_more, distinct_before, distinct_none}
 use Rattle.mvt_tile.proofs.LayerLemmas.{layers_of-append, layers_of-layer, layers_of-other, field_other, first-wrong, first-layer}
 
@@ -39,7 +40,8 @@ pub are_over : (front : List Entry) (items : List Item) (x : Entry) → AreItems
     → AreItems (front ++ x ∷ []) items
 are_over front items x are e = record {
   held = subst (λ xs. AreRelated HoldsItem xs items)
-      (sym (layers_of-append front (x ∷ []) ∙ ap (λ xs. layers_of front ++ xs) (layers_of-other x [] e) ∙ append-nil (layers_of front))) are.held;
+      (sym (layers_of-append front (x ∷ []) ∙ ap (λ xs. layers_of front ++ xs) (layers_of-other x [] e) ∙ append-nil (layers_of front)))
+      are.held;
   distinct = are.distinct;
 }
 
@@ -61,22 +63,18 @@ pub first-behind : (front : List Entry) (items : List Item) (x : Entry) (d : Lis
 first-behind front items x d are e held =
     first-layer front x d e held ∙ ap (λ ns. payload_fault (length (layers_of front)) ns d x.body x.at) (names_same front items are)
 
-none_mapped : {A B : Type 0} (f : A → B) (o : Option A) → option_map f o ≡ None → o ≡ None
-none_mapped f None e = refl
-none_mapped f (Some x) e = cc
-
-none_when : {F : Type 0} (b : Bool) (f : F) → first (when b f) ≡ None → b ≡ false
-none_when false f e = refl
-none_when true f e = cc
-
 -- a payload without a fault is an item, and its name is new
 item_there : (n : ℕ) (names : List (List ℕ)) (d : List ℕ) (body at : ℕ) → payload_fault n names d body at ≡ None
     → (item : Item) × IsItem d item × (repeats names (names_in item) ≡ false)
 item_there n names d body at e =
     let parts =
     option_or-nones (option_map (in_layer n) (item_fault d body at)) (name_fault n names (payload_names d) at) e in
-    let some = item_or_fault_there d body at (none_mapped (in_layer n) (item_fault d body at) parts.0) in
-    (some.0, some.1, ap (repeats names) (item_names d some.0 some.1) ∙ none_when (repeats names (payload_names d)) (repeated_at n at) parts.1)
+    let some = item_or_fault_there d body at (none_mapped (in_layer n) (item_fault d body at) parts.0) in (
+      some.0,
+      some.1,
+      ap (repeats names) (item_names d some.0 some.1)
+          ∙ when_none (repeats names (payload_names d)) (repeated_at n at) parts.1,
+    )
 
 pub item_clean : (n : ℕ) (names : List (List ℕ)) (d : List ℕ) (body at : ℕ) (item : Item) → IsItem d item
     → repeats names (names_in item) ≡ false
@@ -110,12 +108,6 @@ field_there front items x true e are none =
     (sym (first-behind front items x held.0 are e held.1) ∙ none) in
     (some.0 ∷ [], are_more front items x held.0 some.0 are e held.1 some.1 some.2)
 
-pub each_parts : {X F : Type 0} (rules : List X → X → Rules F) (front : List X) (x : X) (xs : List X)
-    → first (each rules front (x ∷ xs)) ≡ option_or (first (rules front x)) (first (each rules (front ++ x ∷ []) xs))
-each_parts rules front x xs =
-    first-append (under (length front) (rules front x)) (each rules (front ++ x ∷ []) xs)
-    ∙ ap (λ o. option_or o (first (each rules (front ++ x ∷ []) xs))) (first-under (length front) (rules front x))
-
 -- fields without a fault are items
 pub items_there : (xs front : List Entry) (items : List Item) → AreItems front items → first (each field_rules front xs) ≡ None
     → (more : List Item) × AreItems (front ++ xs) (items ++ more)
@@ -124,7 +116,7 @@ items_there [] front items are none =
 items_there (x ∷ xs) front items are none =
     let parts =
     option_or-nones (first (field_rules front x)) (first (each field_rules (front ++ x ∷ []) xs))
-    (sym (each_parts field_rules front x xs) ∙ none) in
+    (sym (each_first field_rules front x xs) ∙ none) in
     let one = field_there front items x (eqb x.number LAYERS) refl are parts.0 in
     let others = items_there xs (front ++ x ∷ []) (items ++ one.0) one.1 parts.1 in
     let all = subst (AreItems ((front ++ x ∷ []) ++ xs)) (append_assoc items one.0 others.0) others.1 in
@@ -164,7 +156,7 @@ clean_field x xs after front items more are related distinct true e =
 items_clean : (xs : List Entry) → IsCleanBehind xs
 items_clean [] front items more are related distinct = refl
 items_clean (x ∷ xs) front items more are related distinct =
-    each_parts field_rules front x xs ∙ clean_field x xs (items_clean xs) front items more are related distinct (eqb x.number LAYERS) refl
+    each_first field_rules front x xs ∙ clean_field x xs (items_clean xs) front items more are related distinct (eqb x.number LAYERS) refl
 
 pub are_clean : (xs : List Entry) (items : List Item) → AreItems xs items → first (each field_rules [] xs) ≡ None
 are_clean xs items are = items_clean xs [] [] items are_none are.held are.distinct

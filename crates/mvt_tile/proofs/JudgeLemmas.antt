@@ -4,24 +4,20 @@ use Rattle.std.specs.List.{flat_map}
 use Rattle.std.specs.Option.{option_or, option_map}
 use Rattle.std.proofs.lemmas.Bool.{eq-eqb, ne_eqb}
 use Rattle.std.proofs.lemmas.List.{map-append}
-use Rattle.mvt_base.specs.Tells.{Tells}
 use Rattle.mvt_base.specs.Rules.{each, first}
-use Rattle.mvt_base.proofs.RuleLemmas.{first-append, option_or-none, option_or-nones, each-append}
+use Rattle.mvt_base.proofs.RuleLemmas.{first-append, option_or-none, option_or-nones, each-append, each_first}
 use Rattle.mvt_base.proofs.ListLemmas.{length-related}
 use Rattle.mvt_wire.specs.Field.{Entry, Content, entry_of, content_of}
 use Rattle.mvt_wire.specs.declared.field.Payload.{Payload}
 use Rattle.mvt_wire.specs.declared.field.Payload.TheVariants.{Varint, I64, I32}
 use Rattle.mvt_wire.specs.Fields.{GivesEntry, EndsBy, bytes_size}
 use Rattle.mvt_wire.specs.Fronts.{rest_cause}
-use Rattle.mvt_wire.specs.Split.{Parts, split, split_from}
+use Rattle.mvt_wire.specs.Split.{Parts, split, split_from, shifted}
 use Rattle.mvt_wire.specs.declared.fault.WireFault.{WireFault}
 use Rattle.mvt_wire.specs.declared.fault.WireCause.TheVariants as wire
 use Rattle.mvt_wire.specs.declared.field.Field.{Field}
 use Rattle.mvt_feature.specs.Causes.{of_wire}
-use Rattle.mvt_feature.specs.Faults.{fault_of as message_fault_of}
 use Rattle.mvt_feature.specs.declared.cause.Cause.TheVariants.{WrongType}
-use Rattle.mvt_feature.specs.declared.message_error.MessageError.{MessageError}
-use Rattle.mvt_feature.specs.declared.message_error.MessageError.TheVariants as message
 use Rattle.mvt_message.specs.declared.item.Item.{Item}
 use Rattle.mvt_message.specs.ItemRules.{item_fault, payload_names}
 use Rattle.mvt_message.specs.Items.{names_in}
@@ -29,14 +25,14 @@ use Rattle.mvt_wire.proofs.WireLaws.{one_cause_end, split_function_count, split_
 use Rattle.mvt_tile.specs.declared.fault.DecodeError.{DecodeError}
 use Rattle.mvt_tile.specs.declared.fault.DecodeError.TheVariants.{Memory, Fault, Read}
 use Rattle.mvt_tile.specs.declared.fault.Fault.{Fault as AFault}
-use Rattle.mvt_tile.specs.declared.numbers.tile.TheConstants.{LAYERS}
+use Rattle.mvt_model.specs.declared.numbers.tile.TheConstants.{LAYERS}
 use Rattle.mvt_tile.specs.Faults.{outer_fault, in_layer, is_open}
-use Rattle.mvt_tile.specs.Inner.Judging.{shifted, told_in, name_fault, payload_fault, fault_behind, IsJudged, IsPlaceOf, TakesItem, TellsBehind}
+use Rattle.mvt_tile.specs.Inner.Judging.{name_fault, payload_fault, fault_behind, IsJudged, IsPlaceOf, TakesItem, TellsBehind}
 use Rattle.mvt_tile.specs.Streams.{TellsEarly}
-use Rattle.mvt_tile.specs.TileRules.{layers_of, is_bytes, field_rules, rest_rules, rest_rules_at}
-use Rattle.mvt_tile.specs.Tiles.{HoldsItem, AreItems}
+use Rattle.mvt_tile.specs.TileRules.{is_bytes, field_rules, rest_rules, rest_rules_at}
+use Rattle.mvt_model.specs.Tiles.{layers_of, HoldsItem, AreItems}
 use Rattle.mvt_tile.proofs.LayerLemmas.{first-wrong}
-use Rattle.mvt_tile.proofs.ItemLemmas.{are_over, are_more, each_parts, first-behind, are_clean}
+use Rattle.mvt_tile.proofs.ItemLemmas.{are_over, are_more, first-behind, are_clean}
 use Rattle.mvt_tile.proofs.ShiftLemmas.{split_at_place, rest_dropped, place_within}
 
 -- what an error tells of a part, it tells of the whole
@@ -51,13 +47,6 @@ pub tells_back : (e : DecodeError) (a b : Option AFault) → a ≡ None → Tell
 tells_back e a b none h = subst (TellsEarly e) (sym (option_or-none a b none)) h
 
 -- of a payload
-
-pub tells_payload : (e : MessageError) (n : ℕ) (names : List (List ℕ)) (d : List ℕ) (payload_at tag_at : ℕ)
-    → Tells (message_fault_of e) (item_fault d payload_at tag_at) → TellsEarly (told_in n e) (payload_fault n names d payload_at tag_at)
-tells_payload message.Memory n names d payload_at tag_at h = tt
-tells_payload (message.Fault feature at cause) n names d payload_at tag_at h =
-    tells_front (told_in n (message.Fault feature at cause)) (option_map (in_layer n) (item_fault d payload_at tag_at))
-    (name_fault n names (payload_names d) tag_at) (ap (option_map (in_layer n)) h, refl)
 
 -- what is told of a name is told of a payload that has it, and no fault of its own
 pub tells_name : (e : DecodeError) (n : ℕ) (names given : List (List ℕ)) (d : List ℕ) (payload_at tag_at : ℕ)
@@ -209,7 +198,7 @@ module _ (offset : ℕ) (b : List ℕ) (old now : List Item) (before : Parts) (s
         (subst (TellsEarly e) (sym (each_behind front done (shifted offset x ∷ later)))
         (tells_back e (first (each field_rules front done)) (first (each field_rules (front ++ done) (shifted offset x ∷ later)))
         (fields_clean front done now now_are)
-        (subst (TellsEarly e) (sym (each_parts field_rules (front ++ done) (shifted offset x) later))
+        (subst (TellsEarly e) (sym (each_first field_rules (front ++ done) (shifted offset x) later))
         (tells_front e (first (field_rules (front ++ done) (shifted offset x)))
         (first (each field_rules ((front ++ done) ++ shifted offset x ∷ []) later)) (told (front ++ done) now_are))))))
 

@@ -8,10 +8,11 @@ use Rattle.mvt_wire.specs.Field.{Content, bytes, Entry}
 use Rattle.mvt_feature.specs.declared.cause.Cause.TheVariants.{WrongType}
 use Rattle.mvt_message.specs.ItemRules.{item_rules, payload_names}
 use Rattle.mvt_message.proofs.MessageLaws.{item_in_order_fault}
-use Rattle.mvt_tile.specs.declared.numbers.tile.TheConstants.{LAYERS}
+use Rattle.mvt_model.specs.declared.numbers.tile.TheConstants.{LAYERS}
+use Rattle.mvt_model.specs.Tiles.{layers_of}
 use Rattle.mvt_tile.specs.Faults.{outer_fault, in_layer}
 use Rattle.mvt_tile.specs.Inner.Judging.{name_fault, payload_fault, repeated_at}
-use Rattle.mvt_tile.specs.TileRules.{layers_of, bytes_in, payload_of, names_before, repeats, layer_rules, is_bytes, field_rules}
+use Rattle.mvt_tile.specs.TileRules.{bytes_in, payload_of, names_before, repeats, layer_rules, is_bytes, field_rules}
 
 cond_append : {A : Type 0} (b : Bool) (x : A) (xs ys : List A) → cond b (x ∷ xs) xs ++ ys ≡ cond b (x ∷ (xs ++ ys)) (xs ++ ys)
 cond_append true x xs ys = refl
@@ -48,7 +49,8 @@ pub first-wrong : (front : List Entry) (x : Entry) → eqb x.number LAYERS ≡ t
     → first (field_rules front x) ≡ Some (outer_fault x.at WrongType)
 first-wrong front x e f =
     ap first
-    (field_layer front x e ∙ cond-false (is_bytes x.content) (rows (layer_rules front x)) (under 0 (when true (outer_fault x.at WrongType))) f)
+    (field_layer front x e ∙ cond-false (is_bytes x.content) (rows (layer_rules front x))
+    (under 0 (when true (outer_fault x.at WrongType))) f)
 
 first-of_rows : {F : Type 0} (a b : Rules F) → first (rows ((1, a) ∷ ((2, b) ∷ []))) ≡ option_or (first a) (first b)
 first-of_rows a b =
@@ -74,6 +76,7 @@ first-layer front x d e held =
     ∙ ap (λ o. option_or o (name_fault n names given x.at)) (first-told (in_layer n) (item_rules (payload_of x) x.body x.at)) in
     of_rows ∙ parts
     ∙ ap
-    (λ c. option_or (option_map (in_layer n) (first (item_rules (bytes_in c) x.body x.at))) (name_fault n names (payload_names (bytes_in c)) x.at))
+    (λ c. option_or (option_map (in_layer n) (first (item_rules (bytes_in c) x.body x.at)))
+    (name_fault n names (payload_names (bytes_in c)) x.at))
     held
     ∙ ap (λ o. option_or (option_map (in_layer n) o) (name_fault n names (payload_names d) x.at)) (sym (item_in_order_fault d x.body x.at))

@@ -8,12 +8,13 @@ use Rattle.std.proofs.lemmas.Grind.{flat_map-append}
 use Rattle.std.proofs.lemmas.Slice.Eq.{bytes_eq-Decides}
 use Rattle.std.proofs.lemmas.Map.Keys.{IsDistinct-head, IsDistinct-tail, IsDistinct-push}
 use Rattle.std.proofs.lemmas.Map.Made.{AllPairs-from_IsDistinct, IsDistinct-from_AllPairs}
+use Rattle.std.proofs.lemmas.Bool.{or_from}
 use Rattle.mvt_base.proofs.ListLemmas.{all_right}
 use Rattle.mvt_message.specs.declared.item.Item.{Item as AnItem}
 use Rattle.mvt_message.specs.declared.item.Item.TheVariants.{Layer, Foreign}
 use Rattle.mvt_message.specs.Items.{names_in}
 use Rattle.mvt_tile.specs.TileRules.{repeats}
-use Rattle.mvt_tile.specs.Tiles.{HasDistinctNames}
+use Rattle.mvt_model.specs.Tiles.{HasDistinctNames}
 
 pub bytes_eq_comm : (a b : List ℕ) → bytes_eq a b ≡ bytes_eq b a
 bytes_eq_comm a b =
@@ -34,10 +35,6 @@ apart_push names n apart none =
     AllPairs-from_IsDistinct {eq = bytes_eq} bytes_eq-Decides (names ++ n ∷ [])
     (IsDistinct-push bytes_equivalence names n (IsDistinct-from_AllPairs {eq = bytes_eq} bytes_eq-Decides names apart) none)
 
-or_falses : (a b : Bool) → a ≡ false → b ≡ false → (a || b) ≡ false
-or_falses true b e f = cc
-or_falses false b e f = f
-
 pub or_right_false : (a : Bool) → (a || false) ≡ a
 or_right_false true = refl
 or_right_false false = refl
@@ -48,7 +45,7 @@ distinct_apart [] n more h = refl
 distinct_apart (x ∷ xs) n more h =
     let after : AllByRecursion (λ y. bytes_eq x y ≡ false) (n ∷ more) =
     all_right (λ y. bytes_eq x y ≡ false) xs (n ∷ more) (IsDistinct-head bytes_eq x (xs ++ n ∷ more) h) in
-    or_falses (bytes_eq n x) (list_any (bytes_eq n) xs) (bytes_eq_comm n x ∙ after.0)
+    or_from (bytes_eq n x) (list_any (bytes_eq n) xs) (bytes_eq_comm n x ∙ after.0)
     (distinct_apart xs n more (IsDistinct-tail bytes_eq x (xs ++ n ∷ more) h))
 
 apart_before : (names : List (List ℕ)) (n : List ℕ) (more : List (List ℕ)) → AreApart (names ++ n ∷ more)
@@ -65,7 +62,8 @@ pub distinct_more : (items : List AnItem) (item : AnItem) → HasDistinctNames i
     → repeats (flat_map names_in items) (names_in item) ≡ false → HasDistinctNames (items ++ item ∷ [])
 distinct_more items (Layer l) distinct none =
     subst AreApart (sym (names_more items (Layer l)))
-    (apart_push (flat_map names_in items) l.name distinct (sym (or_right_false (list_any (bytes_eq l.name) (flat_map names_in items))) ∙ none))
+    (apart_push (flat_map names_in items) l.name distinct
+    (sym (or_right_false (list_any (bytes_eq l.name) (flat_map names_in items))) ∙ none))
 distinct_more items (Foreign version bytes) distinct none =
     subst AreApart (sym (names_more items (Foreign version bytes) ∙ append-nil (flat_map names_in items))) distinct
 

@@ -15,9 +15,6 @@ use Rattle.mvt_tile.specs.Streams.{TellsEarly}
 use Rattle.mvt_tile.specs.TileRules.{repeats}
 use Rattle.mvt_tile.proofs.NameLemmas.{distinct_more, names_more}
 
-pub named_none : (keys : List (List ℕ)) → keys ≡ [] → AreNamed 0 keys []
-named_none keys e = record { counted = refl; named = λ n. ap (list_any (bytes_eq n)) e }
-
 repeats_by : (names others given : List (List ℕ)) → ((n : List ℕ) → list_any (bytes_eq n) names ≡ list_any (bytes_eq n) others)
     → repeats names given ≡ repeats others given
 repeats_by names others [] same = refl

@@ -7,9 +7,9 @@ use Rattle.mvt_message.specs.declared.item.Item.{Item as AnItem}
 use Rattle.mvt_message.specs.declared.item.Item.TheVariants.{Layer, Foreign}
 use Rattle.mvt_message.specs.Items.{names_in}
 use Rattle.mvt_message.specs.ValidItems.{ValidItem}
-use Rattle.mvt_tile.specs.declared.tile.Tile.{Tile}
+use Rattle.mvt_model.specs.declared.tile.Tile.{Tile}
 use Rattle.mvt_tile.specs.Extraction.{is_named, pick}
-use Rattle.mvt_tile.specs.ValidTiles.{Valid}
+use Rattle.mvt_model.specs.ValidTiles.{Valid}
 
 all_kept : (b : Bool) (P : AnItem → Type 0) (x : AnItem) (xs : List AnItem) → P x → AllByRecursion P xs
     → AllByRecursion P (cond b (x ∷ xs) xs)
@@ -19,10 +19,6 @@ all_kept false P x xs h hs = hs
 all_filtered : (P : AnItem → Type 0) (p : AnItem → Bool) (xs : List AnItem) → AllByRecursion P xs → AllByRecursion P (filter p xs)
 all_filtered P p [] h = tt
 all_filtered P p (x ∷ xs) h = all_kept (p x) P x (filter p xs) h.0 (all_filtered P p xs h.1)
-
-none_named : (names : List (List ℕ)) (version : ℕ) (bytes : List ℕ) → list_any (λ name. is_named name (Foreign version bytes)) names ≡ false
-none_named [] version bytes = refl
-none_named (n ∷ names) version bytes = none_named names version bytes
 
 names_kept : (b : Bool) (x : AnItem) (xs : List AnItem)
     → flat_map names_in (cond b (x ∷ xs) xs) ≡ cond b (names_in x ++ flat_map names_in xs) (flat_map names_in xs)

@@ -34,7 +34,8 @@ first-more s t =
     let q = rest_with s t in
     first-tile (s ++ t)
     ∙ ap₂ option_or
-    (ap (λ xs. first (each field_rules [] xs)) (split_more_fields 0 s t) ∙ ap first (each-append field_rules [] (split s).fields q.fields) ∙ first-append (each field_rules [] (split s).fields) (each field_rules (split s).fields q.fields))
+    (ap (λ xs. first (each field_rules [] xs)) (split_more_fields 0 s t) ∙ ap first (each-append field_rules [] (split s).fields q.fields)
+    ∙ first-append (each field_rules [] (split s).fields) (each field_rules (split s).fields q.fields))
     (ap₂ (λ at r. first (rest_rules_at at r)) (split_more_place 0 s t) (split_more_rest 0 s t))
     ∙ option_or_assoc (first (each field_rules [] (split s).fields)) (first (each field_rules (split s).fields q.fields))
     (first (rest_rules q))
@@ -51,7 +52,8 @@ rest_stays front at [] t f starts e shut = cc
 rest_stays front at (b ∷ bs) t f starts e shut =
     let is : f ≡ outer_fault at (of_wire (rest_cause (b ∷ bs))) = cc in
     let final : rest_cause (b ∷ bs) ≢ wire.Truncated =
-    λ truncated. (let open_at : is_open (outer_fault at (of_wire (rest_cause (b ∷ bs)))) ≡ true = ap (λ c. is_open (outer_fault at (of_wire c))) truncated in let same = ap is_open is in cc) in
+    λ truncated. (let open_at : is_open (outer_fault at (of_wire (rest_cause (b ∷ bs)))) ≡ true =
+    ap (λ c. is_open (outer_fault at (of_wire c))) truncated in let same = ap is_open is in cc) in
     let stays = front_stays_rest (b ∷ bs) t starts final in
     ap (fault_behind front) (split_steps_none at ((b ∷ bs) ++ t) stays.0)
     ∙ ap (λ c. Some (outer_fault at (of_wire c))) stays.1

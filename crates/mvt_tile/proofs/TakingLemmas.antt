@@ -1,35 +1,22 @@
 -- A reader that feeds a decoder.
-use Rattle.std.proofs.Common.{◌≡◌, ℕ, ◌+◌, ◌-◌, ◌<◌, ◌≤◌, List, [], ◌++◌, length, take, drop, Option, Some, None, Result, Ok, Err, IfOk, IfErr, IfSome, refl, sym, ap, subst, ◌∙◌, arith, append-nil, length-append, length-take, take-append-drop}
+use Rattle.std.proofs.Common.{◌≡◌, ℕ, ◌+◌, ◌-◌, ◌<◌, ◌≤◌, List, [], ◌++◌, length, take, drop, Option, Some, None, Result, Ok, Err, IfSome, refl, sym, ap, subst, ◌∙◌, arith, append-nil, length-append, length-take, take-append-drop}
 use Rattle.std.proofs.lemmas.List.{take-append-le}
-use Rattle.std.specs.Io.KnownBytes.{Consumes, Keeps, IsAtEnd}
-use Rattle.std.proofs.KnownBytes.{Consumes-nil, Consumes-trans, Consumes-kept}
+use Rattle.std.specs.Io.KnownBytes.{Consumes, Keeps}
+use Rattle.std.proofs.KnownBytes.{Consumes-trans, Consumes-kept}
 use Rattle.mvt_tile.specs.declared.fault.DecodeError.{DecodeError}
 use Rattle.mvt_tile.specs.declared.fault.DecodeError.TheVariants.{Memory, Fault, Read}
 use Rattle.mvt_tile.specs.declared.fault.Fault.{Fault as AFault}
-use Rattle.mvt_tile.specs.declared.tile.Tile.{Tile}
 use Rattle.mvt_tile.specs.Inner.Taking.{HasTaken, HasStopped, TellsTaken}
-use Rattle.mvt_tile.specs.Reading.{StopsEarly, fault_of, IsReadError, IsKindOf}
+use Rattle.mvt_tile.specs.Reading.{StopsEarly, fault_of}
 use Rattle.std.specs.declared.io.ErrorKind.{ErrorKind}
 use Rattle.mvt_base.specs.Tells.{Tells}
-use Rattle.mvt_tile.specs.Streams.{Decoding, IsCalm, IsLive, StandsAs, StandsFor, Answers, TellsEarly, TellsAtEnd}
+use Rattle.mvt_tile.specs.Streams.{Decoding, IsCalm, IsLive, StandsAs, StandsFor, Answers, TellsEarly}
 use Rattle.mvt_tile.specs.TileRules.{fault_within}
-use Rattle.mvt_tile.specs.Tiles.{IsTile}
 use Rattle.mvt_tile.proofs.StreamLemmas.{fault_stays, calm_front}
-
-pub taken_none : (limit : ℕ) (a : Option (List ℕ)) (decoder : Decoding) → decoder.failure ≡ None → StandsFor limit decoder []
-    → HasTaken limit a a decoder 0
-taken_none limit a decoder alive stands = record { taken = []; consumed = Consumes-nil a; stands = stands; alive = alive; turns = omega arith }
 
 live_taken : (limit : ℕ) (decoder : Decoding) (s : List ℕ) → decoder.failure ≡ None → StandsFor limit decoder s
     → IsLive limit decoder.offset decoder.items decoder.raw s
 live_taken limit decoder s alive stands = subst (λ o. StandsAs limit o decoder s) alive stands
-
--- there are no more turns than bytes within the limit
-pub taken_turns : (limit : ℕ) (a b : Option (List ℕ)) (decoder : Decoding) (reads : ℕ) → HasTaken limit a b decoder reads → reads ≤ limit
-taken_turns limit a b decoder reads has =
-    let small = (live_taken limit decoder has.taken has.alive has.stands).small in
-    let turns = has.turns in
-    omega arith
 
 answers_ok : (o : Option DecodeError) (r : Result (Unit {0}) DecodeError) → Answers o r → r ≡ Ok tt → o ≡ None
 answers_ok None r h e = refl
@@ -93,17 +80,6 @@ taken_read limit size a b c decoder reads k has kept = record {
   told = tt;
 }
 
-pub taken_end : (limit : ℕ) (a b c : Option (List ℕ)) (decoder : Decoding) (reads : ℕ) (n : ℕ) (buffer : List ℕ)
-    → HasTaken limit a b decoder reads → Consumes b c (take n buffer) → n ≡ 0 → HasTaken limit a c decoder 0
-taken_end limit a b c decoder reads n buffer has consumed none = record {
-  taken = has.taken;
-  consumed = subst (Consumes a c) (append-nil has.taken)
-      (Consumes-trans a b c has.taken [] has.consumed (subst (λ m. Consumes b c (take m buffer)) none consumed));
-  stands = has.stands;
-  alive = has.alive;
-  turns = omega arith;
-}
-
 -- of the whole call
 
 early_from : (limit size : ℕ) (a b : Option (List ℕ)) (front back : List ℕ) → Consumes a b (front ++ back) → length back ≤ size
@@ -117,7 +93,8 @@ early_from limit size (Some xs) (Some ys) front back consumed few calm =
       front ++ back,
       consumed,
       subst (λ s. IsCalm (fault_within limit s)) (sym (take-append-le (all - size) front back within))
-          (calm_front limit (take (all - size) front) (drop (all - size) front) (subst (λ s. IsCalm (fault_within limit s)) (sym (take-append-drop (all - size) front)) calm)),
+          (calm_front limit (take (all - size) front) (drop (all - size) front)
+          (subst (λ s. IsCalm (fault_within limit s)) (sym (take-append-drop (all - size) front)) calm)),
     )
 
 pub stopped_early : (limit given size : ℕ) (a b : Option (List ℕ)) (e : DecodeError) → given ≤ size → HasStopped limit given a b e
@@ -143,54 +120,3 @@ pub stopped_told : (limit size : ℕ) (a b : Option (List ℕ)) (e : DecodeError
 stopped_told limit size None b e h = tt
 stopped_told limit size (Some xs) None e h = absurd h.consumed
 stopped_told limit size (Some xs) (Some ys) e h = tells_input limit e (h.front ++ h.back) ys xs h.consumed h.told
-
-whole_taken : (xs ys taken : List ℕ) → xs ≡ taken ++ ys → ys ≡ [] → taken ≡ xs
-whole_taken xs ys taken is none = sym (is ∙ ap (λ l. taken ++ l) none ∙ append-nil taken)
-
-pub taken_tile : (limit : ℕ) (a b : Option (List ℕ)) (decoder : Decoding) (reads : ℕ) (r : Result Tile DecodeError)
-    → HasTaken limit a b decoder reads → IsAtEnd b
-    → IfOk r (λ tile. (s : List ℕ) → StandsFor limit decoder s → IsTile limit s tile)
-    → IfOk r (λ tile. IfSome a (λ input. IsTile limit input tile))
-taken_tile limit a b decoder reads (Err e) has end h = tt
-taken_tile limit None b decoder reads (Ok t) has end h = tt
-taken_tile limit (Some xs) None decoder reads (Ok t) has end h = absurd has.consumed
-taken_tile limit (Some xs) (Some ys) decoder reads (Ok t) has end h =
-    subst (λ s. IsTile limit s t) (whole_taken xs ys has.taken has.consumed end) (h has.taken has.stands)
-
-at_end_input : (e : DecodeError) (o : Option AFault) → TellsAtEnd e o → Tells (fault_of e) o
-at_end_input Memory o h = tt
-at_end_input (Fault f) o h = h
-at_end_input (Read k) o h = tt
-
-pub taken_fault : (limit : ℕ) (a b : Option (List ℕ)) (decoder : Decoding) (reads : ℕ) (r : Result Tile DecodeError)
-    → HasTaken limit a b decoder reads → IsAtEnd b
-    → IfErr r (λ e. (s : List ℕ) → StandsFor limit decoder s → TellsAtEnd e (fault_within limit s))
-    → IfErr r (λ e. IfSome a (λ input. Tells (fault_of e) (fault_within limit input)))
-taken_fault limit a b decoder reads (Ok t) has end h = tt
-taken_fault limit None b decoder reads (Err e) has end h = tt
-taken_fault limit (Some xs) None decoder reads (Err e) has end h = absurd has.consumed
-taken_fault limit (Some xs) (Some ys) decoder reads (Err e) has end h =
-    subst (λ s. Tells (fault_of e) (fault_within limit s)) (whole_taken xs ys has.taken has.consumed end)
-    (at_end_input e (fault_within limit has.taken) (h has.taken has.stands))
-
-at_end_no_read : (e : DecodeError) (o : Option AFault) (P : Type 0) → TellsAtEnd e o → IsReadError e → P
-at_end_no_read Memory o P h k = absurd k
-at_end_no_read (Fault f) o P h k = absurd k
-at_end_no_read (Read kind) o P h k = absurd h
-
-at_end_no_kind : (e : DecodeError) (o : Option AFault) (told : Option ErrorKind) → TellsAtEnd e o → IsKindOf e told
-at_end_no_kind Memory o told h = tt
-at_end_no_kind (Fault f) o told h = tt
-at_end_no_kind (Read kind) o told h = absurd h
-
-pub taken_no_read : (limit : ℕ) (a b : Option (List ℕ)) (decoder : Decoding) (reads : ℕ) (r : Result Tile DecodeError) (P : Type 0)
-    → HasTaken limit a b decoder reads
-    → IfErr r (λ e. (s : List ℕ) → StandsFor limit decoder s → TellsAtEnd e (fault_within limit s)) → IfErr r (λ e. IsReadError e → P)
-taken_no_read limit a b decoder reads (Ok t) P has h = tt
-taken_no_read limit a b decoder reads (Err e) P has h = at_end_no_read e (fault_within limit has.taken) P (h has.taken has.stands)
-
-pub taken_no_kind : (limit : ℕ) (a b : Option (List ℕ)) (decoder : Decoding) (reads : ℕ) (r : Result Tile DecodeError) (told : Option ErrorKind)
-    → HasTaken limit a b decoder reads
-    → IfErr r (λ e. (s : List ℕ) → StandsFor limit decoder s → TellsAtEnd e (fault_within limit s)) → IfErr r (λ e. IsKindOf e told)
-taken_no_kind limit a b decoder reads (Ok t) told has h = tt
-taken_no_kind limit a b decoder reads (Err e) told has h = at_end_no_kind e (fault_within limit has.taken) told (h has.taken has.stands)

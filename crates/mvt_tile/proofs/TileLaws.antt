@@ -1,6 +1,7 @@
 -- What the public laws state, for the proofs of the crates above: a lemma for each clause.
-pub use Rattle.mvt_tile.proofs.CanonicalLemmas.{one_tile as one_tile_one, canonical_reads as one_tile_reads}
+pub use Rattle.mvt_model.proofs.ModelLaws.{canonical_reads as one_tile_reads}
 pub use Rattle.mvt_tile.proofs.TileLemmas.{tile_ordered as fault_is_least_ordered}
+use Rattle.std.proofs.Common.{subst, sym}
 use Rattle.std.specs.Prelude.{List, None, Some, false, length, ℕ, ◌++◌, ◌<◌, ◌↔◌, ◌≡◌, ◌≤◌}
 use Rattle.mvt_base.proofs.ListLemmas.{all_weaker}
 use Rattle.mvt_base.specs.declared.TheConstants.{LIMIT}
@@ -8,13 +9,19 @@ use Rattle.mvt_base.specs.Rules.{IsLeast}
 use Rattle.mvt_message.proofs.MessageLaws.{old_items_stay}
 use Rattle.mvt_message.specs.ValidItems.{ValidItem, WasValidItem}
 use Rattle.mvt_tile.specs.declared.fault.Fault.{Fault}
-use Rattle.mvt_tile.specs.declared.tile.Tile.{Tile}
+use Rattle.mvt_model.specs.declared.tile.Tile.{Tile}
 use Rattle.mvt_tile.specs.Faults.{is_open}
 use Rattle.mvt_tile.specs.TileRules.{tile_rules, fault_within}
-use Rattle.mvt_tile.specs.Tiles.{IsTile}
-use Rattle.mvt_tile.specs.ValidTiles.{Valid, WasValid}
+use Rattle.mvt_model.specs.CanonicalTiles.{canonical}
+use Rattle.mvt_model.specs.Tiles.{IsTile}
+use Rattle.mvt_model.specs.ValidTiles.{Valid, WasValid}
 use Rattle.mvt_tile.proofs.StreamLemmas.{fault_stays as it_stays, fault_past_limit as past_limit}
 use Rattle.mvt_tile.proofs.TileLemmas.{tile_there, tile_clean, tile_once, tile_least}
+
+pub one_tile_one : (s t : Tile) → Valid s → Valid t → length (canonical s) ≤ LIMIT → canonical s ≡ canonical t → s ≡ t
+one_tile_one s t valid_s valid_t small same =
+    tile_once LIMIT (canonical s) s t (one_tile_reads s valid_s small)
+    (subst (λ b. IsTile LIMIT b t) (sym same) (one_tile_reads t valid_t (subst (λ b. length b ≤ LIMIT) same small)))
 
 pub fault_stays : (s more : List ℕ) (f : Fault) → fault_within LIMIT s ≡ Some f → is_open f ≡ false
     → fault_within LIMIT (s ++ more) ≡ Some f

@@ -2,27 +2,28 @@
 use Rattle.std.proofs.Common.{◌≡◌, ℕ, eqb, ◌+◌, ◌<◌, ◌≤◌, ltb, Bool, true, false, cond, List, [], ◌∷◌, length, take, Option, Some, None, refl, sym, ap, subst, ◌∙◌, ◌↔◌, arith}
 use Rattle.std.specs.Option.{option_or}
 use Rattle.std.proofs.lemmas.Bool.{ltb-true, ltb-false, lt-ltb, le-ltb}
-use Rattle.mvt_base.specs.Rules.{Rules, when, rows, under, each, first, AreOrdered, IsLeast}
+use Rattle.mvt_base.specs.Rules.{when, rows, under, each, first, AreOrdered, IsLeast}
 use Rattle.mvt_base.proofs.RuleLemmas.{first-append, first-under, option_or-nones, option_or-none}
 use Rattle.mvt_base.proofs.OrderLemmas.{under_from, all_later, under_ordered, when_ordered, told_ordered, rows_ordered, first_is_least, least_is_first}
 use Rattle.mvt_base.proofs.GrowingLemmas.{each_then}
 use Rattle.mvt_base.proofs.ListLemmas.{related_once}
 use Rattle.mvt_base.specs.Related.{AreRelated}
+use Rattle.mvt_base.proofs.TableLemmas.{if_ordered}
 use Rattle.mvt_wire.specs.Field.{Entry, bytes}
-use Rattle.mvt_wire.specs.Split.{Split, split}
+use Rattle.mvt_wire.specs.Split.{split}
 use Rattle.mvt_feature.specs.declared.cause.Cause.TheVariants.{WrongType}
 use Rattle.mvt_message.specs.declared.item.Item.{Item}
 use Rattle.mvt_message.specs.ItemRules.{item_rules, payload_names}
 use Rattle.mvt_message.specs.Items.{IsItem}
-use Rattle.mvt_wire.proofs.WireLaws.{split_function_is, split_function_only}
+use Rattle.mvt_wire.proofs.WireLaws.{split_function_only, split_function_whole}
 use Rattle.mvt_message.proofs.MessageLaws.{item_in_order_ordered, one_item}
-use Rattle.mvt_tile.specs.declared.numbers.tile.TheConstants.{LAYERS}
+use Rattle.mvt_model.specs.declared.numbers.tile.TheConstants.{LAYERS}
 use Rattle.mvt_tile.specs.declared.fault.Fault.{Fault}
-use Rattle.mvt_tile.specs.declared.tile.Tile.{Tile}
+use Rattle.mvt_model.specs.declared.tile.Tile.{Tile}
 use Rattle.mvt_tile.specs.Faults.{outer_fault, in_layer}
 use Rattle.mvt_tile.specs.Inner.Judging.{repeated_at}
-use Rattle.mvt_tile.specs.TileRules.{layers_of, payload_of, names_before, repeats, layer_rules, is_bytes, field_rules, rest_rules_at, rest_rules, tile_rules, beyond, fault_within}
-use Rattle.mvt_tile.specs.Tiles.{HoldsItem, AreItems, IsTile}
+use Rattle.mvt_tile.specs.TileRules.{payload_of, names_before, repeats, layer_rules, is_bytes, field_rules, rest_rules_at, rest_rules, tile_rules, beyond, fault_within}
+use Rattle.mvt_model.specs.Tiles.{layers_of, HoldsItem, AreItems, IsTile}
 use Rattle.mvt_tile.proofs.ItemLemmas.{are_none, items_there, are_clean}
 
 -- the first fault of a tile's table is that of a field, or of the rest
@@ -70,7 +71,7 @@ tile_there limit b none =
       record {
         small = small;
         fields = (split b).fields;
-        whole = subst (Split b (split b).fields) (no_rest (split b).rest_at (split b).rest parts.1) (split_function_is b);
+        whole = split_function_whole b (no_rest (split b).rest_at (split b).rest parts.1);
         items = items.1.held;
         distinct = items.1.distinct;
       },
@@ -102,22 +103,25 @@ tile_once limit b s t is_s is_t =
     (tile_items limit b t is_t).held in
     ap (λ (items : List Item). let t : Tile = record { items = items } in t) same
 
-cond_ordered : {F : Type 0} (b : Bool) (xs ys : Rules F) → AreOrdered xs → AreOrdered ys → AreOrdered (cond b xs ys)
-cond_ordered true xs ys h k = h
-cond_ordered false xs ys h k = k
-
 field_ordered : (front : List Entry) (x : Entry) → AreOrdered (field_rules front x)
 unfolding field_rules
 field_ordered front x =
-    cond_ordered (eqb x.number LAYERS)
+    if_ordered (eqb x.number LAYERS)
     (cond (is_bytes x.content) (rows (layer_rules front x)) (under 0 (when true (outer_fault x.at WrongType)))) []
-    (cond_ordered (is_bytes x.content) (rows (layer_rules front x)) (under 0 (when true (outer_fault x.at WrongType)))
+    (if_ordered (is_bytes x.content) (rows (layer_rules front x)) (under 0 (when true (outer_fault x.at WrongType)))
     (rows_ordered 1 (layer_rules front x) (
       omega arith,
       (
         told_ordered (in_layer (length (layers_of front))) (item_rules (payload_of x) x.body x.at)
             (item_in_order_ordered (payload_of x) x.body x.at),
-        (omega arith, (when_ordered (repeats (names_before front) (payload_names (payload_of x))) (repeated_at (length (layers_of front)) x.at), tt)),
+        (
+          omega arith,
+          (
+            when_ordered (repeats (names_before front) (payload_names (payload_of x)))
+                (repeated_at (length (layers_of front)) x.at),
+            tt,
+          ),
+        ),
       ),
     ))
     (tt, tt))

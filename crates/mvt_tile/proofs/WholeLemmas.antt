@@ -10,7 +10,7 @@ use Rattle.mvt_tile.specs.Faults.{outer_fault}
 use Rattle.mvt_tile.specs.Inner.Judging.{IsJudged, TellsBehind}
 use Rattle.mvt_tile.specs.Streams.{IsLive, TellsEarly, TellsAtEnd}
 use Rattle.mvt_tile.specs.TileRules.{fault_within}
-use Rattle.mvt_tile.specs.Tiles.{IsTile}
+use Rattle.mvt_model.specs.Tiles.{IsTile}
 use Rattle.mvt_tile.proofs.DecoderLemmas.{live_start, live_fails, live_truncated, live_tile, piece_fits, piece_too_large}
 
 at_end : (e : DecodeError) (o : Option AFault) → TellsEarly e o → TellsAtEnd e o
@@ -46,4 +46,5 @@ module _ (limit : ℕ) (b fitting beyond : List ℕ) (cut : b ≡ fitting ++ bey
 
       pub whole_tile : length fitting ≤ used → IsTile limit b (record { items = items })
       whole_tile all =
-          live_tile limit used items (drop used fitting) b live (nil_from_length (drop used fitting) (omega (arith, length-drop used fitting)))
+          live_tile limit used items (drop used fitting) b live
+          (nil_from_length (drop used fitting) (omega (arith, length-drop used fitting)))

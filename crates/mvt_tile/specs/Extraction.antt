@@ -3,7 +3,7 @@ use Rattle.std.specs.Prelude.{◌≡◌, ℕ, Bool, false, not, List, filter, by
 use Rattle.std.specs.List.{list_any, position_from}
 use Rattle.mvt_message.specs.declared.item.Item.{Item}
 use Rattle.mvt_message.specs.declared.item.Item.TheVariants.{Layer, Foreign}
-use Rattle.mvt_tile.specs.declared.tile.Tile.{Tile}
+use Rattle.mvt_model.specs.declared.tile.Tile.{Tile}
 use Rattle.mvt_tile.specs.declared.extract_error.ExtractError.{ExtractError}
 use Rattle.mvt_tile.specs.declared.extract_error.ExtractError.TheVariants.{Memory, MissingLayer}
 

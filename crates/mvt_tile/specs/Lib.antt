@@ -1,13 +1,6 @@
 pub mod Faults
 pub mod TileRules
-pub mod Tiles
-pub mod CanonicalTiles
-pub mod Bounds
-pub mod ValidTiles
 pub mod Inner
 pub mod Streams
 pub mod Reading
-pub mod Writing
 pub mod Extraction
-pub mod Notes
-pub mod Survey

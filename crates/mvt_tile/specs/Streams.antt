@@ -7,7 +7,7 @@ use Rattle.mvt_tile.specs.declared.fault.DecodeError.{DecodeError}
 use Rattle.mvt_tile.specs.declared.fault.DecodeError.TheVariants.{Memory, Fault, Read}
 use Rattle.mvt_tile.specs.Faults.{is_open}
 use Rattle.mvt_tile.specs.TileRules.{fault_within}
-use Rattle.mvt_tile.specs.Tiles.{AreItems}
+use Rattle.mvt_model.specs.Tiles.{AreItems}
 
 -- a decoder: the error that it answers for good, the items so far, and the bytes behind the last whole field, with their place
 pub record Decoding : Type 0 where

@@ -9,13 +9,9 @@ use Rattle.mvt_feature.specs.declared.cause.Cause.TheVariants.{WrongType, Repeat
 use Rattle.mvt_feature.specs.Causes.{of_wire}
 use Rattle.mvt_message.specs.ItemRules.{item_rules, payload_names}
 use Rattle.mvt_tile.specs.declared.fault.Fault.{Fault}
-use Rattle.mvt_tile.specs.declared.numbers.tile.TheConstants.{LAYERS}
+use Rattle.mvt_model.specs.declared.numbers.tile.TheConstants.{LAYERS}
+use Rattle.mvt_model.specs.Tiles.{layers_of}
 use Rattle.mvt_tile.specs.Faults.{outer_fault, in_layer, is_open}
-
--- the fields that hold layers
-abbrev pub layers_of : List Entry → List Entry
-layers_of [] = []
-layers_of (x ∷ xs) = if x.number == LAYERS then x ∷ layers_of xs else layers_of xs
 
 -- the bytes of a field, or none
 abbrev pub bytes_in : Content → List ℕ

@@ -3,14 +3,14 @@ ghost use Rattle.std.specs.Prelude.{◌≡◌, ℕ, ◌+◌, ◌<◌, ◌≤◌,
 ghost use Rattle.mvt_tile.specs.Inner.Judging.{IsJudged, TellsBehind};
 ghost use Rattle.mvt_tile.specs.Streams.{StandsFor, Answers, IsLive, TellsEarly, TellsAtEnd};
 ghost use Rattle.mvt_tile.specs.TileRules.{fault_within};
-ghost use Rattle.mvt_tile.specs.Tiles.{IsTile};
-ghost use Rattle.mvt_tile.specs.ValidTiles.{Valid};
+ghost use Rattle.mvt_model.specs.Tiles.{IsTile};
+ghost use Rattle.mvt_model.specs.ValidTiles.{Valid};
 
 use crate::fault::{DecodeError, Fault};
 use crate::layers::Layers;
-use crate::tile::Tile;
 use mvt_base::{Items, LIMIT};
 use mvt_message::Cause;
+use mvt_model::Tile;
 use std::alloc::Global;
 use std::marker::Model;
 

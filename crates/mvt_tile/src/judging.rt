@@ -1,10 +1,10 @@
 //! Judging a tile without building one.
 ghost use Rattle.std.specs.Prelude.{◌≡◌, None, IfOk, IfErr, OnOk};
 ghost use Rattle.std.specs.Option.{option_copied};
-ghost use Rattle.mvt_tile.specs.declared.tile.Tile.{Tile};
+ghost use Rattle.mvt_model.specs.declared.tile.Tile.{Tile};
 ghost use Rattle.mvt_tile.specs.Streams.{TellsAtEnd};
 ghost use Rattle.mvt_tile.specs.TileRules.{fault_within};
-ghost use Rattle.mvt_tile.specs.Tiles.{IsTile};
+ghost use Rattle.mvt_model.specs.Tiles.{IsTile};
 
 use crate::fault::DecodeError;
 use crate::layers::Names;

@@ -2,12 +2,12 @@
 ghost use Rattle.std.specs.Prelude.{◌≡◌, ◌↔◌, ℕ, ◌<◌, ◌≤◌, List, ◌++◌, length, None, Some, false};
 ghost use Rattle.mvt_base.specs.Rules.{AreOrdered, IsLeast, first};
 ghost use Rattle.mvt_tile.specs.declared.fault.Fault.{Fault};
-ghost use Rattle.mvt_tile.specs.declared.tile.Tile.{Tile};
-ghost use Rattle.mvt_tile.specs.CanonicalTiles.{canonical};
+ghost use Rattle.mvt_model.specs.declared.tile.Tile.{Tile};
+ghost use Rattle.mvt_model.specs.CanonicalTiles.{canonical};
 ghost use Rattle.mvt_tile.specs.Faults.{is_open};
 ghost use Rattle.mvt_tile.specs.TileRules.{tile_rules, fault_within};
-ghost use Rattle.mvt_tile.specs.Tiles.{IsTile};
-ghost use Rattle.mvt_tile.specs.ValidTiles.{Valid, WasValid};
+ghost use Rattle.mvt_model.specs.Tiles.{IsTile};
+ghost use Rattle.mvt_model.specs.ValidTiles.{Valid, WasValid};
 
 use mvt_base::LIMIT;
 

@@ -8,7 +8,7 @@ ghost use Rattle.mvt_message.specs.ValidItems.{ValidItem};
 ghost use Rattle.mvt_tile.specs.Inner.Judging.{AreNamed, IsJudged, TellsBehind, name_fault};
 ghost use Rattle.mvt_tile.specs.Streams.{TellsEarly};
 ghost use Rattle.mvt_tile.specs.TileRules.{repeats};
-ghost use Rattle.mvt_tile.specs.Tiles.{HasDistinctNames};
+ghost use Rattle.mvt_model.specs.Tiles.{HasDistinctNames};
 
 use crate::fault::DecodeError;
 use crate::taking::{Taker, in_layer, repeated_name, take_fields};

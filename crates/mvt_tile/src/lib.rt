@@ -3,7 +3,6 @@
 //! What a tile is made of is handed up here, so a caller names this crate alone.
 #![tactic(auto)]
 
-mod comparing;
 mod decoder;
 mod extract_error;
 mod extraction;
@@ -11,20 +10,12 @@ mod fault;
 mod judging;
 pub mod laws;
 mod layers;
-mod note;
-mod noting;
-pub mod numbers;
 mod reading;
 mod round_trip;
-mod survey;
 mod surveying;
 mod taking;
-mod tile;
 mod validity;
-mod write_error;
-mod writing;
 
-pub use comparing::is_canonical;
 pub use decoder::{TileDecoder, decode};
 pub use extract_error::ExtractError;
 pub use extraction::extract;
@@ -35,13 +26,10 @@ pub use mvt_base::{Items, LIMIT, Text};
 pub use mvt_feature::{Cause, Feature};
 pub use mvt_geometry::{Geometry, Kind, Point, Polygon};
 pub use mvt_message::{Item, Layer, PutError};
-pub use note::Note;
-pub use noting::notes;
+pub use mvt_model::{
+    Note, Survey, Tile, WriteError, encode, feature_count, is_canonical, notes, numbers, write_tile,
+};
 pub use reading::{MOST_READS, read_tile};
 pub use round_trip::write_and_read;
-pub use survey::Survey;
 pub use surveying::survey_tile;
-pub use tile::Tile;
 pub use validity::{is_valid, validate};
-pub use write_error::WriteError;
-pub use writing::{encode, write_tile};

@@ -7,14 +7,14 @@ ghost use Rattle.mvt_tile.specs.Inner.Taking.{HasTaken, HasStopped};
 ghost use Rattle.mvt_tile.specs.Reading.{IsReadError, IsKindOf, StopsEarly, fault_of};
 ghost use Rattle.mvt_tile.specs.Streams.{StandsFor};
 ghost use Rattle.mvt_tile.specs.TileRules.{fault_within};
-ghost use Rattle.mvt_tile.specs.Tiles.{IsTile};
-ghost use Rattle.mvt_tile.specs.ValidTiles.{Valid};
+ghost use Rattle.mvt_model.specs.Tiles.{IsTile};
+ghost use Rattle.mvt_model.specs.ValidTiles.{Valid};
 
 use crate::decoder::TileDecoder;
 use crate::fault::DecodeError;
-use crate::tile::Tile;
 use mvt_base::LIMIT;
 use mvt_io::Source;
+use mvt_model::Tile;
 use std::alloc::Global;
 
 /// The most bytes that one read asks for.

@@ -4,20 +4,18 @@ ghost use Rattle.std.specs.Io.KnownBytes.{Appends, IsAtEnd};
 ghost use Rattle.mvt_base.specs.Tells.{Tells};
 ghost use Rattle.mvt_io.specs.Counts.{HasFailed};
 ghost use Rattle.mvt_io.specs.Transfers.{TakesPrefix};
-ghost use Rattle.mvt_tile.specs.CanonicalTiles.{canonical};
+ghost use Rattle.mvt_model.specs.CanonicalTiles.{canonical};
 ghost use Rattle.mvt_tile.specs.Reading.{IsReadError, IsKindOf, ReadsBack, StopsEarly, fault_of};
 ghost use Rattle.mvt_tile.specs.TileRules.{fault_within};
-ghost use Rattle.mvt_tile.specs.Tiles.{IsTile};
-ghost use Rattle.mvt_tile.specs.ValidTiles.{Valid};
-ghost use Rattle.mvt_tile.specs.Writing.{IsWriteFault, IsWriteKind};
+ghost use Rattle.mvt_model.specs.Tiles.{IsTile};
+ghost use Rattle.mvt_model.specs.ValidTiles.{Valid};
+ghost use Rattle.mvt_model.specs.Writing.{IsWriteFault, IsWriteKind};
 
 use crate::fault::DecodeError;
 use crate::reading::{MOST_READS, read_tile};
-use crate::tile::Tile;
-use crate::write_error::WriteError;
-use crate::writing::write_tile;
 use mvt_base::LIMIT;
 use mvt_io::{Sink, Source};
+use mvt_model::{Tile, WriteError, write_tile};
 use std::alloc::Global;
 
 /// Writes a tile, and then reads what a reader has left, which may be what the writer took: the same

@@ -4,21 +4,22 @@ ghost use Rattle.std.specs.List.{flat_map};
 ghost use Rattle.mvt_base.specs.Rules.{first};
 ghost use Rattle.mvt_wire.specs.Field.{Entry, entry_of};
 ghost use Rattle.mvt_wire.specs.Fields.{bytes_size};
+ghost use Rattle.mvt_wire.specs.Split.{shifted};
 ghost use Rattle.mvt_feature.specs.Causes.{of_wire};
 ghost use Rattle.mvt_message.specs.declared.item.Item.{Item};
 ghost use Rattle.mvt_message.specs.Items.{names_in};
-ghost use Rattle.mvt_tile.specs.declared.numbers.tile.TheConstants.{LAYERS};
-ghost use Rattle.mvt_tile.specs.declared.tile.Tile.{Tile};
+ghost use Rattle.mvt_model.specs.declared.numbers.tile.TheConstants.{LAYERS};
+ghost use Rattle.mvt_model.specs.declared.tile.Tile.{Tile};
 ghost use Rattle.mvt_tile.specs.Faults.{outer_fault};
-ghost use Rattle.mvt_tile.specs.Inner.Judging.{IsJudged, IsPlaceOf, TakesItem, TellsBehind, payload_fault, repeated_at, shifted, told_in};
+ghost use Rattle.mvt_tile.specs.Inner.Judging.{IsJudged, IsPlaceOf, TakesItem, TellsBehind, payload_fault, repeated_at, told_in};
 ghost use Rattle.mvt_tile.specs.Streams.{TellsEarly, TellsAtEnd};
 ghost use Rattle.mvt_tile.specs.TileRules.{field_rules, fault_within};
-ghost use Rattle.mvt_tile.specs.Tiles.{AreItems, IsTile};
+ghost use Rattle.mvt_model.specs.Tiles.{AreItems, IsTile};
 
 use crate::fault::{DecodeError, Fault};
-use crate::numbers::tile;
 use mvt_base::LIMIT;
 use mvt_message::{Cause, MessageError};
+use mvt_model::numbers::tile;
 use mvt_wire::{Field, Fields, Payload, WireCause, WireFault};
 use std::alloc::Global;
 

@@ -4,13 +4,13 @@ ghost use Rattle.std.specs.List.{AllByRecursion, flat_map};
 ghost use Rattle.mvt_message.specs.Items.{names_in};
 ghost use Rattle.mvt_message.specs.ValidItems.{ValidItem};
 ghost use Rattle.mvt_tile.specs.TileRules.{repeats};
-ghost use Rattle.mvt_tile.specs.Tiles.{HasDistinctNames};
-ghost use Rattle.mvt_tile.specs.ValidTiles.{Valid};
+ghost use Rattle.mvt_model.specs.Tiles.{HasDistinctNames};
+ghost use Rattle.mvt_model.specs.ValidTiles.{Valid};
 
 use crate::extraction::has_layer;
 use crate::layers::{add_name, name_of};
-use crate::tile::Tile;
 use mvt_message::{Item, is_valid_item, validate_item};
+use mvt_model::Tile;
 use std::alloc::{AllocError, Global};
 use std::collections::BTreeSet;
 

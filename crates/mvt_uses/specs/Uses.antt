@@ -5,9 +5,9 @@ use Rattle.mvt_geometry.specs.declared.shape.Point.{Point}
 use Rattle.mvt_geometry.specs.declared.shape.Geometry.TheVariants.{Points}
 use Rattle.mvt_message.specs.declared.item.Item.{Item}
 use Rattle.mvt_message.specs.declared.item.Item.TheVariants.{Layer, Foreign}
-use Rattle.mvt_tile.specs.declared.tile.Tile.{Tile}
+use Rattle.mvt_model.specs.declared.tile.Tile.{Tile}
 use Rattle.mvt_tile.specs.Extraction.{is_named}
-use Rattle.mvt_tile.specs.Tiles.{IsTile}
+use Rattle.mvt_model.specs.Tiles.{IsTile}
 
 abbrev pub features_of : Option Item → Option ℕ
 features_of None = None

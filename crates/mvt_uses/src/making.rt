@@ -1,6 +1,6 @@
 //! Make a tile, and write it.
 ghost use Rattle.std.specs.Prelude.{◌≡◌, IfOk, IfSome};
-ghost use Rattle.mvt_tile.specs.Tiles.{IsTile};
+ghost use Rattle.mvt_model.specs.Tiles.{IsTile};
 ghost use Rattle.mvt_uses.specs.Uses.{place_of};
 
 use mvt_tile::{

@@ -1,7 +1,7 @@
 //! Read a tile that comes in pieces.
 ghost use Rattle.std.specs.Prelude.{IfOk};
 ghost use Rattle.std.specs.List.{flat_map};
-ghost use Rattle.mvt_tile.specs.Tiles.{IsTile};
+ghost use Rattle.mvt_model.specs.Tiles.{IsTile};
 
 use mvt_tile::{DecodeError, LIMIT, Tile, TileDecoder};
 use std::alloc::Global;

@@ -1,16 +1,9 @@
 -- The first bytes of an input, one more than the limit, tell the same as the whole of it.
-use Rattle.std.proofs.Common.{◌≡◌, ℕ, ◌+◌, List, length, take, nat_lt, ap, ap₂, arith}
-use Rattle.std.proofs.lemmas.List.{length-take, take-take}
-use Rattle.std.proofs.lemmas.Bool.Decides.{nat_tests}
+use Rattle.std.proofs.Common.{◌≡◌, ℕ, ◌+◌, List, take, ap, ap₂}
 use Rattle.std.specs.List.{flat_map}
+use Rattle.mvt_base.proofs.ListLemmas.{take_front, too_long}
 use Rattle.mvt_wire.specs.Split.{split}
 use Rattle.mvt_view.specs.FieldLines.{field_line, fields_lines, fields_fault, rest_fault}
-
-take_front : (n : ℕ) (xs : List ℕ) → take n (take (n + 1) xs) ≡ take n xs
-take_front n xs = take-take n (n + 1) xs (omega arith)
-
-too_long : (n : ℕ) (xs : List ℕ) → nat_lt n (length (take (n + 1) xs)) ≡ nat_lt n (length xs)
-too_long n xs = simp length-take (grind (arith, nat_tests))
 
 pub fields_lines-front : (limit : ℕ) (input : List ℕ) → fields_lines limit (take (limit + 1) input) ≡ fields_lines limit input
 unfolding fields_lines

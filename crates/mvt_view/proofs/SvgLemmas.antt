@@ -1,6 +1,7 @@
 -- The pictures of a list of items, item by item.
 use Rattle.std.proofs.Common.{◌≡◌, ℕ, ◌+◌, ◌<◌, List, [], ◌∷◌, ◌++◌, length, take, get_or, sym, ap, ◌∙◌, append_assoc, append-nil, arith}
-use Rattle.std.proofs.lemmas.List.{take_more, length-take}
+use Rattle.std.proofs.lemmas.List.{length-take}
+use Rattle.mvt_base.proofs.ListLemmas.{front_more}
 use Rattle.mvt_message.specs.declared.item.Item.{Item}
 use Rattle.mvt_view.specs.Svg.{item_svg, items_svg}
 
@@ -17,6 +18,6 @@ items_more items i item start old new h is so_far e =
     let front = take i items in
     let len : 0 + length front ≡ i = omega (arith, length-take i items) in
     let more : items_svg 0 (take (i + 1) items) ≡ items_svg 0 front ++ item_svg i item =
-    ap (items_svg 0) (take_more items i item h ∙ ap (λ y. front ++ y ∷ []) (sym is)) ∙ items_svg-append 0 front (item ∷ [])
+    ap (items_svg 0) (front_more items i item h is) ∙ items_svg-append 0 front (item ∷ [])
     ∙ ap (λ k. items_svg 0 front ++ (item_svg k item ++ [])) len ∙ ap (λ t. items_svg 0 front ++ t) (append-nil (item_svg i item)) in
     e ∙ ap (λ t. t ++ item_svg i item) so_far ∙ append_assoc start (items_svg 0 front) (item_svg i item) ∙ ap (λ t. start ++ t) (sym more)

@@ -1,12 +1,11 @@
 //! The report on a tile that was accepted.
 ghost use Rattle.std.specs.Prelude.{◌≡◌, ◌++◌, OnOk, IfOk, string_bytes};
 ghost use Rattle.std.specs.List.{flat_map, sum_by};
-ghost use Rattle.mvt_tile.specs.Survey.{feature_count};
+ghost use Rattle.mvt_model.specs.Survey.{feature_count as the_feature_count};
 ghost use Rattle.mvt_view.specs.Reports.{head_line, note_line, report_lines, survey_lines};
 
 use crate::view_error::ViewError;
-use mvt_message::Item;
-use mvt_tile::{Items, Note, Survey, Tile, notes};
+use mvt_tile::{Items, Note, Survey, Tile, feature_count, notes};
 use std::alloc::{AllocError, Global};
 use std::fmt::Write;
 
@@ -19,7 +18,7 @@ pub fn report_text(alloc: Global, tile: &Tile, canonical: bool) -> Result<String
 {
     let survey = Survey {
         layers: tile.items.as_slice().len(),
-        features: count_features(tile),
+        features: all_features(tile),
         is_canonical: canonical,
         notes: Items::new(notes(alloc, tile)?),
     };
@@ -50,15 +49,13 @@ fn push_head(text: &mut String, survey: &Survey) -> Result<(), AllocError>
 }
 
 // The sum of so many lengths fits 128 bits; nothing bounds it by 64.
-fn count_features(tile: &Tile) -> u128
-    ensures { result ≡ sum_by feature_count tile.now.items }
+fn all_features(tile: &Tile) -> u128
+    ensures { result ≡ sum_by the_feature_count tile.now.items }
 {
     let items = tile.items.as_slice();
     let mut count: u128 = 0;
     for item in items {
-        if let Item::Layer(layer) = item {
-            count += layer.features.as_slice().len() as u128;
-        }
+        count += feature_count(item) as u128;
     }
     count
 }

@@ -7,7 +7,7 @@ use Rattle.mvt_wire.specs.declared.fault.WireCause.{WireCause}
 use Rattle.mvt_wire.specs.declared.fault.WireCause.TheVariants.{Truncated, VarintRange}
 use Rattle.mvt_wire.specs.Varint.{SpellsNone, spell_cause}
 use Rattle.mvt_wire.specs.Field.{Content, varint, fixed64, bytes, fixed32, StartsNoField, Entry, body_size, IsFieldAt}
-use Rattle.mvt_wire.specs.Fields.{bytes_size, EndsBy}
+use Rattle.mvt_wire.specs.Fields.{bytes_size}
 use Rattle.mvt_wire.specs.Fronts.{entry_at, rest_cause}
 use Rattle.mvt_wire.specs.Rest.{IsPayloadCause, no_type, no_varint, no_length, past_end, no_eight, no_four, IsRestCause, no_tag, no_number, no_payload}
 use Rattle.mvt_wire.specs.Split.{SplitFrom, Parts, behind, no_fields, split_within, split_from, shifted, shifted_parts}
@@ -104,16 +104,6 @@ bytes_size-le payload (varint n) = omega arith
 bytes_size-le payload (fixed64 n) = omega arith
 bytes_size-le payload (bytes d) = omega arith
 bytes_size-le payload (fixed32 n) = omega arith
-
--- a field ends where the rest begins, or before
-pub field_ends : (at k : ℕ) (b : List ℕ) (e : Entry) (place : ℕ) → 1 ≤ k → k ≤ length b → IsFieldAt at (take k b) e
-    → at + k ≤ place → EndsBy place e
-field_ends at k b e place some within f past =
-    let size : length (take k b) ≡ k = length-take-le k b within in
-    let begins : e.at ≡ at = f.begins in
-    let ends : e.body + body_size f.field.payload e.content ≡ at + length (take k b) = f.ends in
-    let least : bytes_size e.content ≤ body_size f.field.payload e.content = bytes_size-le f.field.payload e.content in
-    (omega arith, omega arith)
 
 -- ---- more bytes
 

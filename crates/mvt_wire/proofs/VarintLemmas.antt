@@ -63,13 +63,6 @@ unfolding going_on
 going_on-stop b i within small =
     ap going_on (drop_more b i 0 within) ∙ ap (λ t. cond t 0 (suc (going_on (drop (i + 1) b)))) (lt-ltb _ _ small)
 
-pub going_on-le : (b : List ℕ) → going_on b ≤ length b
-unfolding going_on
-going_on-le [] = omega arith
-going_on-le (x ∷ xs) =
-    let more : going_on xs ≤ length xs = going_on-le xs in
-    elim (cases_lt x 128) [ inl h ↦ rw (lt-ltb x 128 h) (omega arith) | inr h ↦ rw (le-ltb x 128 h) (omega arith) ]
-
 before_here : (xs : List ℕ) (x i : ℕ) → 128 ≤ x → i < suc (going_on xs) → ((k : ℕ) → k < going_on xs → 128 ≤ get_or xs k 0)
     → 128 ≤ get_or (x ∷ xs) i 0
 before_here xs x zero large h before = large

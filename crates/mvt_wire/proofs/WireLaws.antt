@@ -7,9 +7,9 @@ pub use Rattle.mvt_wire.proofs.SplitLemmas.{cause_stays as one_cause_stays, spli
 pub use Rattle.mvt_wire.proofs.PackedLemmas.{packed_is as packed_split_is, packed_clean as packed_function_clean, packed_are as packed_function_only, packed_ordered as packed_is_least_ordered, short_packed as short_packed_packed, short_most_small as short_lengths_five, five_each as packed_lengths}
 pub use Rattle.mvt_wire.proofs.SpellingLemmas.{whole_once as spelled_whole_only, length-short_field as short_lengths_field, bytes_longer as short_lengths_bytes, numbers_longer as short_lengths_numbers, spelled-append as spelled_parts, length-bytes as bytes_lengths}
 pub use Rattle.mvt_wire.proofs.ZigzagLemmas.{unzig-zig as zigzag_function_number, zig-unzig as zigzag_function_code}
-use Rattle.std.proofs.Common.{ap, sym, zero-add, ◌∙◌}
+use Rattle.std.proofs.Common.{ap, subst, sym, zero-add, ◌∙◌}
 use Rattle.std.specs.List.{AllByRecursion}
-use Rattle.std.specs.Prelude.{Err, List, Ok, Some, length, take, ℕ, ◌++◌, ◌+◌, ◌<◌, ◌^◌, ◌↔◌, ◌≡◌, ◌≢◌, ◌≤◌}
+use Rattle.std.specs.Prelude.{Err, List, [], Ok, Some, length, take, ℕ, ◌++◌, ◌+◌, ◌<◌, ◌^◌, ◌↔◌, ◌≡◌, ◌≢◌, ◌≤◌}
 use Rattle.mvt_base.proofs.OrderLemmas.{first_is_least, least_is_first}
 use Rattle.mvt_base.specs.Rules.{IsLeast, first}
 use Rattle.mvt_wire.proofs.FieldLemmas.{entry_cause, entry_found, entry_none, entry_none_from, entry_why, rest_cause_is}
@@ -22,7 +22,7 @@ use Rattle.mvt_wire.specs.Fronts.{entry_at, number_at, rest_cause}
 use Rattle.mvt_wire.specs.Packed.{ArePacked, PackedCause, SplitNumbers, packed, packed_rules}
 use Rattle.mvt_wire.specs.Rest.{IsRestCause}
 use Rattle.mvt_wire.specs.Spelling.{IsFit, IsWholeAs, Plain, short_field, short_numbers, spelled}
-use Rattle.mvt_wire.specs.Split.{Split, split, split_from}
+use Rattle.mvt_wire.specs.Split.{Split, Whole, split, split_from}
 use Rattle.mvt_wire.specs.Varint.{Spells}
 use Rattle.mvt_wire.specs.declared.fault.WireCause.{WireCause}
 use Rattle.mvt_wire.specs.declared.fault.WireCause.TheVariants.{Truncated}
@@ -72,6 +72,9 @@ split_function_count = λ b. split_count 0 b
 
 pub split_function_rest : (b : List ℕ) → StartsNoField (split b).rest
 split_function_rest = λ b. split_rest 0 b
+
+pub split_function_whole : (b : List ℕ) → (split b).rest ≡ [] → Whole b (split b).fields
+split_function_whole = λ b none. subst (Split b (split b).fields) none (split_is 0 b)
 
 pub front_stays_cause : (at : ℕ) (b more : List ℕ) (c : WireCause) → c ≢ Truncated
     → entry_at at b ≡ Err c → entry_at at (b ++ more) ≡ Err c

@@ -11,7 +11,7 @@ ghost use Rattle.mvt_wire.specs.Packed.{ArePacked, PackedCause, SplitNumbers, pa
 ghost use Rattle.mvt_wire.specs.Rest.{IsRestCause};
 ghost use Rattle.mvt_wire.specs.Spelling.{IsFit, IsWholeAs, Plain, short_field, short_numbers, short_payload, spelled};
 ghost use Rattle.mvt_wire.specs.Zigzag.{zig, unzig};
-ghost use Rattle.mvt_wire.specs.Split.{Split, split, split_from, behind, no_fields, shifted, shifted_parts};
+ghost use Rattle.mvt_wire.specs.Split.{Split, Whole, split, split_from, behind, no_fields, shifted, shifted_parts};
 
 /// At most one prefix of a list spells a number, and it spells one number.
 pub fn one_varint()
@@ -76,6 +76,7 @@ pub fn split_function()
         → c ≡ rest_cause (split b).rest }
     ensures count { (b : List ℕ) → length (split b).fields + length (split b).rest ≤ length b }
     ensures rest { (b : List ℕ) → StartsNoField (split b).rest }
+    ensures whole { (b : List ℕ) → (split b).rest ≡ [] → Whole b (split b).fields }
 {}
 
 /// A split goes step by step: the field at the front and then the split of what is behind it.

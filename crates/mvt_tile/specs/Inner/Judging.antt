@@ -17,10 +17,10 @@ use Rattle.mvt_message.specs.ValidItems.{ValidItem}
 use Rattle.mvt_tile.specs.declared.fault.Fault.{Fault as AFault}
 use Rattle.mvt_tile.specs.declared.fault.DecodeError.{DecodeError}
 use Rattle.mvt_tile.specs.declared.fault.DecodeError.TheVariants.{Memory, Fault}
-use Rattle.mvt_tile.specs.declared.numbers.tile.TheConstants.{LAYERS}
+use Rattle.mvt_model.specs.declared.numbers.tile.TheConstants.{LAYERS}
 use Rattle.mvt_tile.specs.Faults.{in_layer}
 use Rattle.mvt_tile.specs.TileRules.{repeats, field_rules, rest_rules}
-use Rattle.mvt_tile.specs.Tiles.{AreItems, HasDistinctNames}
+use Rattle.mvt_model.specs.Tiles.{AreItems, HasDistinctNames}
 use Rattle.mvt_tile.specs.Streams.{TellsEarly}
 
 -- items, each valid, with the set of their names, which are distinct
@@ -44,10 +44,6 @@ payload_fault n names d body at = option_or (option_map (in_layer n) (item_fault
 abbrev pub told_in : ℕ → MessageError → DecodeError
 told_in n message.Memory = Memory
 told_in n (message.Fault feature at cause) = Fault (record { layer = Some n; feature = feature; at = at; cause = cause })
-
--- a field of a slice that stands at this place of the input
-abbrev pub shifted : ℕ → Entry → Entry
-shifted offset x = record { at = offset + x.at; body = offset + x.body; number = x.number; content = x.content }
 
 -- the field of a slice that stands at this place of the input holds this layer's payload
 pub record IsPlaceOf (offset : ℕ) (x : Entry) (payload : List ℕ) (payload_at tag_at : ℕ) : Type 0 where

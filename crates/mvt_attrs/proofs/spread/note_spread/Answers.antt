@@ -2,7 +2,7 @@ use Rattle.std.proofs.Common.{◌≡◌, ◌+◌, ◌++◌, ◌∷◌, [], Some,
 use Rattle.std.proofs.lemmas.List.{length-set}
 use Rattle.std.specs.BTreeMap.{get}
 use Rattle.mvt_attrs.specs.Inner.Spreading.{first_slot, second_slot, IsFreeFor}
-use Rattle.mvt_attrs.proofs.PoolLemmas.{front_there}
+use Rattle.mvt_attrs.proofs.PoolLemmas.{slice_get-front}
 use Rattle.mvt_attrs.proofs.SpreadLemmas.{Stands, known_in_slot}
 use Rattle.mvt_attrs.proofs.spread.note_spread.Goals as goal
 
@@ -27,5 +27,5 @@ returns-clause-added g c =
           → Stands entries entry (first_slot input n) (second_slot input n) slots order marked order i x)
           (sym kept)
           (known_in_slot entries entry (first_slot input room) (second_slot input room) slots order c.requires.known.known slot free);
-      sound = λ i x e. front_there entries entry i x (c.requires.known.sound i x e);
+      sound = λ i x e. slice_get-front entries (entry ∷ []) i x (c.requires.known.sound i x e);
     }

@@ -27,14 +27,14 @@ pub rest_fault-requires : goal.rest_fault-requires
 rest_fault-requires c =
     walk_fault_fits _ _ c.next.new.self.to_come _ _ _ c.loop-field.invariant.1 (rw c.in-Err.is at c.in-Some.ensures.steps).0 c.requires
 
-pub returns-in-Err : goal.returns-in-Err
-returns-in-Err c = λ fault told_here.
+pub returns-in-Err-clause-told : goal.returns-in-Err-clause-told
+returns-in-Err-clause-told c = λ fault told_here.
     rw c.rest_fault.ensures
     (option_or-some _ _ _
     (walk_fault _ _ c.next.new.self.to_come _ _ _ c.loop-field.invariant.1 (rw c.in-Err.is at c.in-Some.ensures.steps).0))
 
-pub returns : goal.returns
-returns c = λ fault told_here.
+pub returns-clause-told : goal.returns-clause-told
+returns-clause-told c = λ fault told_here.
     let end = walk_end _ _ _ _ c.loop-field.invariant.1 c.in-None.ensures.steps.0 in
     subst (λ o. Tells (fault_of c.args.error) (option_or o fault))
     (sym (rest_none c.args.payload_at (split c.args.payload.now) end.1)) told_here

@@ -1,7 +1,8 @@
 use Rattle.std.proofs.Common.{sym, refl}
+use Rattle.std.proofs.lemmas.Bool.{OnTrue_at}
 use Rattle.mvt_wire.specs.Field.{entry_of}
 use Rattle.mvt_feature.proofs.FeatureLaws.{feature_or_fault_there}
-use Rattle.mvt_message.proofs.HeldLemmas.{on_true, on_false, from_true, feature_skipped, feature_stops, feature_held}
+use Rattle.mvt_message.proofs.HeldLemmas.{on_true, on_false, feature_skipped, feature_stops, feature_held}
 use Rattle.mvt_message.proofs.features.append_feature.Goals as goal
 
 pub returns-then-field-ne-FEATURES-clause-ok : goal.returns-then-field-ne-FEATURES-clause-ok
@@ -10,13 +11,13 @@ returns-then-field-ne-FEATURES-clause-ok c = λ held done are so_far.
 
 pub returns-in-Err-clause-err : goal.returns-in-Err-clause-err
 returns-in-Err-clause-err c = λ held done more are so_far.
-    let same = from_true c.args.keeps _ c.if-keeps.true are.1 in
+    let same = OnTrue_at c.if-keeps.true are.1 in
     feature_stops (entry_of c.args.field.now) so_far more _ _ c.if-field-ne-FEATURES.false refl
     (c.in_feature.ensures _ (rw (← same, ← c.deref.ensures.value, ← c.bytes_of-payload.ensures) c.in-Err.ensures.err))
 
 pub returns-then-keeps-clause-ok : goal.returns-then-keeps-clause-ok
 returns-then-keeps-clause-ok c = λ held done are so_far.
-    let same = from_true c.args.keeps _ c.if-keeps.true are.1 in
+    let same = OnTrue_at c.if-keeps.true are.1 in
     feature_held (entry_of c.args.field.now) so_far c.push.new.self.items c.in-Ok.feature c.if-field-ne-FEATURES.false
     (rw (← same, ← c.deref.ensures.value, ← c.bytes_of-payload.ensures) c.in-Ok.ensures.feature)
     (rw (← same, ← c.deref.ensures.value, ← c.bytes_of-payload.ensures) c.in-Ok.ensures.ok)

@@ -12,4 +12,5 @@ returns-in_err-item-clause-none c =
 pub loop-row-preserved : goal.loop-row-preserved
 loop-row-preserved c =
     let t = table_of c.args.rows.now in
-    related_more (IsItem t) t.layers c.loop-row.row-index _ _ _ _ c.loop-row.invariant c.loop-row-test.true c.in_ok-item.ensures.item c.in_ok-push.ensures.items
+    related_more (IsItem t) t.layers c.loop-row.row-index _ _ _ _ c.loop-row.invariant c.loop-row-test.true c.in_ok-item.ensures.item
+    c.in_ok-push.ensures.items

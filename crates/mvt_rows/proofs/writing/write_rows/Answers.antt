@@ -1,6 +1,6 @@
 use Rattle.std.proofs.Common.{sym, subst, ◌∙◌}
 use Rattle.std.proofs.lemmas.Bool.{false≢true}
-use Rattle.mvt_tile.specs.ValidTiles.{Valid}
+use Rattle.mvt_model.specs.ValidTiles.{Valid}
 use Rattle.mvt_rows.specs.Lent.{table_of}
 use Rattle.mvt_rows.proofs.TileLemmas.{tile_once}
 use Rattle.mvt_rows.proofs.writing.write_rows.Goals as goal

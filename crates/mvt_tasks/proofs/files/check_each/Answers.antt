@@ -1,6 +1,7 @@
 use Rattle.std.proofs.Common.{rules, ◌≡◌, ◌++◌, ◌∷◌, [], length, map, take, drop, suc, string_bytes, refl, sym, ap, ◌∙◌, arith}
-use Rattle.std.proofs.lemmas.List.{take_more, map-append, length-map, length-take}
+use Rattle.std.proofs.lemmas.List.{map-append, length-map, length-take}
 use Rattle.std.proofs.Math.Seq.{split_at}
+use Rattle.mvt_base.proofs.ListLemmas.{front_more}
 use Rattle.mvt_tasks.proofs.CheckLemmas.{cut_later_of, said_none, said_step, said_size, told_before}
 use Rattle.mvt_tasks.proofs.files.check_each.Goals as goal
 
@@ -18,7 +19,7 @@ pub loop-name-preserved : goal.loop-name-preserved
 loop-name-preserved g c = record {
   said =
       said_step _ _ _ _ _ (string_bytes c.name-item.result) _ _ _ _ _ _ _ c.loop-name.invariant.said c.in_ok-verdict.ensures.said c.loop-name.invariant.same c.as_str.ensures.value
-      (ap (map string_bytes) (take_more c.args.names.now c.loop-name.name-index c.name-item.result c.loop-name-test.true ∙ ap (λ y. take c.loop-name.name-index c.args.names.now ++ y ∷ []) (sym c.name-item.is))
+      (ap (map string_bytes) (front_more c.args.names.now c.loop-name.name-index c.name-item.result c.loop-name-test.true c.name-item.is)
       ∙ map-append string_bytes (take c.loop-name.name-index c.args.names.now) (c.name-item.result ∷ []))
       (record { accepted = c.add.ensures.accepted; refused = c.add.ensures.refused; unread = c.add.ensures.unread });
   unflushed = c.in_ok-verdict.ensures.unflushed ∙ c.loop-name.invariant.unflushed;

@@ -1,6 +1,6 @@
-use Rattle.std.proofs.Common.{rules, ◌≡◌, ◌++◌, ◌∷◌, [], None, true, false, bytes_eq, take, drop, suc, sym, ap, subst, ◌∙◌}
-use Rattle.std.proofs.lemmas.List.{take_more}
+use Rattle.std.proofs.Common.{rules, ◌≡◌, ◌++◌, ◌∷◌, None, true, false, bytes_eq, take, drop, suc, sym, ap, subst, ◌∙◌}
 use Rattle.std.proofs.Math.Seq.{split_at}
+use Rattle.mvt_base.proofs.ListLemmas.{front_more}
 use Rattle.mvt_tasks.specs.Folders.{file_named}
 use Rattle.mvt_tasks.proofs.FolderLemmas.{held_here, held_read, unnamed_next}
 use Rattle.mvt_tasks.proofs.memory.opened.Goals as goal
@@ -18,6 +18,6 @@ returns-then-eq-clause-bytes c =
 pub loop-file-preserved : goal.loop-file-preserved
 loop-file-preserved c =
     subst (λ files. file_named files c.args.name.now ≡ None)
-    (sym (take_more c.args.files.now c.loop-file.file-index c.file-item.result c.loop-file-test.true ∙ ap (λ y. take c.loop-file.file-index c.args.files.now ++ y ∷ []) (sym c.file-item.is)))
+    (sym (front_more c.args.files.now c.loop-file.file-index c.file-item.result c.loop-file-test.true c.file-item.is))
     (unnamed_next (take c.loop-file.file-index c.args.files.now) c.file-item.result c.args.name.now c.loop-file.invariant
     (let e : bytes_eq c.file-item.result.name c.args.name.now ≡ false = search rules in e))

@@ -10,7 +10,8 @@ returns-in_err-used-clause-fault c =
     let fits : c.args.offset + (length c.args.raw.now.items + length front.now) ≤ 67108864 = omega (arith, c.args.raw.now.ok.0) in
     let all = cut _ _ _ _ c.split_at.ensures.front c.split_at.ensures.back in
     rw (p.1, p.2)
-    (λ s live. live_fails 67108864 c.args.offset c.args.layers.now c.args.raw.now.items s live c.args.piece.now front.now back.now _ c.in_err-used.ensures.fault all fits)
+    (λ s live. live_fails 67108864 c.args.offset c.args.layers.now c.args.raw.now.items s live c.args.piece.now front.now back.now _
+    c.in_err-used.ensures.fault all fits)
 
 pub returns-then-not-is_empty-clause-fault : goal.returns-then-not-is_empty-clause-fault
 returns-then-not-is_empty-clause-fault c =
@@ -19,7 +20,8 @@ returns-then-not-is_empty-clause-fault c =
     let full : c.args.offset + (length c.args.raw.now.items + length front.now) ≡ 67108864 = omega (arith, c.args.raw.now.ok.0, some) in
     let all = cut _ _ _ _ c.split_at.ensures.front c.split_at.ensures.back in
     rw c.outer.ensures
-    (λ s. piece_too_large 67108864 c.args.offset c.args.layers.now c.swallow.new.layers c.args.raw.now.items c.swallow.new.raw.items front.now c.in_ok-used.used
+    (λ s. piece_too_large 67108864 c.args.offset c.args.layers.now c.swallow.new.layers c.args.raw.now.items c.swallow.new.raw.items
+    front.now c.in_ok-used.used
     c.in_ok-used.ensures.judged c.in_ok-used.ensures.raw s c.args.piece.now back.now all full some)
 
 pub returns-clause-live : goal.returns-clause-live
@@ -28,5 +30,6 @@ returns-clause-live c =
     let fits : c.args.offset + (length c.args.raw.now.items + length front.now) ≤ 67108864 = omega (arith, c.args.raw.now.ok.0) in
     let none : length back.now ≡ 0 = search rules in
     let all = cut _ _ _ _ c.split_at.ensures.front c.split_at.ensures.back in
-    λ s. piece_fits 67108864 c.args.offset c.args.layers.now c.swallow.new.layers c.args.raw.now.items c.swallow.new.raw.items front.now c.in_ok-used.used
+    λ s. piece_fits 67108864 c.args.offset c.args.layers.now c.swallow.new.layers c.args.raw.now.items c.swallow.new.raw.items front.now
+    c.in_ok-used.used
     c.in_ok-used.ensures.judged c.in_ok-used.ensures.raw s c.args.piece.now back.now all fits none

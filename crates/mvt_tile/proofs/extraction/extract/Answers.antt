@@ -14,10 +14,12 @@ returns-in_err-add_picked-clause-missing c =
 pub loop-item-preserved : goal.loop-item-preserved
 loop-item-preserved c =
     picked_more
-    (λ item. list_any (λ name. is_named name item) (map string_bytes c.args.names.now)) _ c.loop-item.item-index c.item-item.result _ _ c.loop-item-test.true c.item-item.is c.loop-item.invariant c.in_ok-add_picked.ensures
+    (λ item. list_any (λ name. is_named name item) (map string_bytes c.args.names.now)) _ c.loop-item.item-index c.item-item.result _ _
+    c.loop-item-test.true c.item-item.is c.loop-item.invariant c.in_ok-add_picked.ensures
 
 pub returns-clause-valid : goal.returns-clause-valid
 returns-clause-valid c =
     kept_valid c.args.tile.now
-    (map string_bytes c.args.names.now) c.as_slice-items.result.now c.new.result c.loop-item.item-index c.as_slice-items.ensures c.loop-item-test.false
+    (map string_bytes c.args.names.now) c.as_slice-items.result.now c.new.result c.loop-item.item-index c.as_slice-items.ensures
+    c.loop-item-test.false
     (c.new.ensures ∙ c.loop-item.invariant)

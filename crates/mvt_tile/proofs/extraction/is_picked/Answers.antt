@@ -6,12 +6,15 @@ use Rattle.mvt_tile.proofs.extraction.is_picked.Goals as goal
 pub returns-then-has_name : goal.returns-then-has_name
 returns-then-has_name c =
     any_here string_bytes
-    (λ name. is_named name c.args.item.now) c.args.names.now c.loop-name.name-index c.name-item.result c.has_name.result c.as_str.result.now c.loop-name-test.true c.name-item.is c.has_name.ensures c.as_str.ensures.value c.if-has_name.true
+    (λ name. is_named name c.args.item.now) c.args.names.now c.loop-name.name-index c.name-item.result c.has_name.result
+    c.as_str.result.now c.loop-name-test.true c.name-item.is c.has_name.ensures c.as_str.ensures.value c.if-has_name.true
 
 pub loop-name-preserved : goal.loop-name-preserved
 loop-name-preserved c =
     any_next string_bytes
-    (λ name. is_named name c.args.item.now) c.args.names.now c.loop-name.name-index c.name-item.result c.has_name.result c.as_str.result.now c.loop-name-test.true c.name-item.is c.has_name.ensures c.as_str.ensures.value c.if-has_name.false c.loop-name.invariant
+    (λ name. is_named name c.args.item.now) c.args.names.now c.loop-name.name-index c.name-item.result c.has_name.result
+    c.as_str.result.now c.loop-name-test.true c.name-item.is c.has_name.ensures c.as_str.ensures.value c.if-has_name.false
+    c.loop-name.invariant
 
 pub returns : goal.returns
 returns c =

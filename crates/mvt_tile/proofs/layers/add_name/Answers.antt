@@ -22,7 +22,8 @@ new_name : (added : Bool) (keys : List (List ℕ)) (name : List ℕ) → added �
 new_name added keys name e = e ∙ ap not (any_text name keys ∙ sym (or_right_false (list_any (bytes_eq name) keys)))
 
 one_more : (n name : List ℕ) (keys after : List (List ℕ))
-    → list_any (λ k. is_eq (slice_cmp nat_cmp n k)) after ≡ cond (is_eq (slice_cmp nat_cmp name n)) true (list_any (λ k. is_eq (slice_cmp nat_cmp n k)) keys)
+    → list_any (λ k. is_eq (slice_cmp nat_cmp n k)) after ≡ cond (is_eq (slice_cmp nat_cmp name n)) true
+    (list_any (λ k. is_eq (slice_cmp nat_cmp n k)) keys)
     → list_any (bytes_eq n) after ≡ (list_any (bytes_eq n) keys || list_any (bytes_eq n) (name ∷ []))
 one_more n name keys after updated =
     sym (any_text n after) ∙ updated ∙ ap₂ (λ b held. cond b true held) (is_eq-slice_cmp name n ∙ bytes_eq_comm name n) (any_text n keys)

@@ -11,7 +11,8 @@ pub returns-in_err-feed-clause-stopped : goal.returns-in_err-feed-clause-stopped
 returns-in_err-feed-clause-stopped g c =
     let p = err_from_is_err_and c.from_residual.result c.from_residual.ensures.1 in
     rw (p.1, p.2)
-    (taken_fails 67108864 _ _ _ _ _ _ c.read.new.buffer _ _ _ _ _ c.loop-turn.invariant.has c.in-Ok.ensures.bytes.0 refl c.in-Ok.ensures.given c.feed.ensures.stands c.feed.ensures.answer c.in_err-feed.was)
+    (taken_fails 67108864 _ _ _ _ _ _ c.read.new.buffer _ _ _ _ _ c.loop-turn.invariant.has c.in-Ok.ensures.bytes.0 refl
+    c.in-Ok.ensures.given c.feed.ensures.stands c.feed.ensures.answer c.in_err-feed.was)
 
 pub loop-turn-preserved : goal.loop-turn-preserved
 loop-turn-preserved g c = record {

@@ -10,8 +10,13 @@ returns-in_err-layer_in-clause-fault g c = λ input items has.
     rw (p.1, p.2) (λ front are. c.in_err-layer_in.ensures.fault front)
 
 pub returns-in-None-clause-items : goal.returns-in-None-clause-items
-returns-in-None-clause-items g c = λ input items has.
-    (items, has, omega arith, field_over items c.args.offset (entry_of c.args.field.now) (rw c.in-None.is at c.in_ok-layer_in.ensures.place))
+returns-in-None-clause-items g c = λ input items has. (
+  items,
+  has,
+  omega arith,
+  field_over items c.args.offset (entry_of c.args.field.now)
+      (rw c.in-None.is at c.in_ok-layer_in.ensures.place),
+)
 
 pub returns-in-Some-clause-items : goal.returns-in-Some-clause-items
 returns-in-Some-clause-items g c = λ input items has.

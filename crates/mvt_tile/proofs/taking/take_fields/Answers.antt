@@ -15,24 +15,38 @@ loop-field-init g c = λ input items has. (
 pub take_field-requires-clause-few : goal.take_field-requires-clause-few
 take_field-requires-clause-few g c =
     let (input, items, has, few) = c.requires.few in
-    let (now, known, so_far) = c.loop-field.invariant input items has in
-    (input, now, known, omega (arith, few, so_far_count c.args.offset c.args.bytes.now items now c.loop-field.field-iterator.to_come so_far))
+    let (now, known, so_far) = c.loop-field.invariant input items has in (
+      input,
+      now,
+      known,
+      omega (
+        arith,
+        few,
+        so_far_count c.args.offset c.args.bytes.now items now c.loop-field.field-iterator.to_come so_far,
+      ),
+    )
 
 pub take_field-requires-clause-place : goal.take_field-requires-clause-place
 take_field-requires-clause-place g c =
     let (input, items, has, few) = c.requires.few in
     let (now, known, so_far) = c.loop-field.invariant input items has in
     let step = (rw c.in-Ok.is at c.in-Some.ensures.steps).0 in
-    omega
-    (arith, (so_far_place c.args.offset c.args.bytes.now items now c.loop-field.field-iterator.to_come so_far c.next.new.self.to_come c.in-Ok.field step).0)
+    omega (
+      arith,
+      (so_far_place c.args.offset c.args.bytes.now items now c.loop-field.field-iterator.to_come so_far c.next.new.self.to_come
+          c.in-Ok.field step).0,
+    )
 
 pub take_field-requires-clause-fits : goal.take_field-requires-clause-fits
 take_field-requires-clause-fits g c =
     let (input, items, has, few) = c.requires.few in
     let (now, known, so_far) = c.loop-field.invariant input items has in
     let step = (rw c.in-Ok.is at c.in-Some.ensures.steps).0 in
-    omega
-    (arith, (so_far_place c.args.offset c.args.bytes.now items now c.loop-field.field-iterator.to_come so_far c.next.new.self.to_come c.in-Ok.field step).1)
+    omega (
+      arith,
+      (so_far_place c.args.offset c.args.bytes.now items now c.loop-field.field-iterator.to_come so_far c.next.new.self.to_come
+          c.in-Ok.field step).1,
+    )
 
 pub loop-field-preserved : goal.loop-field-preserved
 loop-field-preserved g c = λ input items has.
@@ -47,7 +61,8 @@ returns-in_err-take_field-in-Ok-clause-fault g c = λ input items has.
     let (now, known, so_far) = c.loop-field.invariant input items has in
     let step = (rw c.in-Ok.is at c.in-Some.ensures.steps).0 in
     rw (p.1, p.2)
-    (so_far_fails c.args.offset c.args.bytes.now items now c.loop-field.field-iterator.to_come so_far c.next.new.self.to_come c.in-Ok.field step _
+    (so_far_fails c.args.offset c.args.bytes.now items now c.loop-field.field-iterator.to_come so_far c.next.new.self.to_come c.in-Ok.field
+    step _
     (c.in_err-take_field-in-Ok.ensures.fault input now known))
 
 pub returns-in-Err-clause-judged : goal.returns-in-Err-clause-judged
@@ -55,15 +70,21 @@ returns-in-Err-clause-judged g c = λ input items has.
     let (now, known, so_far) = c.loop-field.invariant input items has in
     let step = (rw c.in-Err.is at c.in-Some.ensures.steps).0 in
     judged_there (g.T.Taker.has_taken input c.loop-field.taker) c.args.offset c.args.bytes.now items now c.judge_rest.result known
-    (so_far_rest c.args.offset c.args.bytes.now items now c.loop-field.field-iterator.to_come so_far c.next.new.self.to_come c.in-Err.fault step _ c.judge_rest.ensures.unfinished)
+    (so_far_rest c.args.offset c.args.bytes.now items now c.loop-field.field-iterator.to_come so_far c.next.new.self.to_come c.in-Err.fault
+    step _ c.judge_rest.ensures.unfinished)
 
 pub returns-in-Err-clause-fault : goal.returns-in-Err-clause-fault
 returns-in-Err-clause-fault g c = λ input items has.
     let (now, known, so_far) = c.loop-field.invariant input items has in
     let step = (rw c.in-Err.is at c.in-Some.ensures.steps).0 in
-    so_far_broken c.args.offset c.args.bytes.now items now c.loop-field.field-iterator.to_come so_far c.next.new.self.to_come c.in-Err.fault step _ c.judge_rest.ensures.fault
+    so_far_broken c.args.offset c.args.bytes.now items now c.loop-field.field-iterator.to_come so_far c.next.new.self.to_come
+    c.in-Err.fault step _ c.judge_rest.ensures.fault
 
 pub returns-clause-judged : goal.returns-clause-judged
 returns-clause-judged g c = λ input items has.
-    let (now, known, so_far) = c.loop-field.invariant input items has in
-    (now, known, so_far_ends c.args.offset c.args.bytes.now items now c.loop-field.field-iterator.to_come so_far c.next.new.self.to_come c.in-None.ensures.steps.0)
+    let (now, known, so_far) = c.loop-field.invariant input items has in (
+      now,
+      known,
+      so_far_ends c.args.offset c.args.bytes.now items now c.loop-field.field-iterator.to_come so_far c.next.new.self.to_come
+          c.in-None.ensures.steps.0,
+    )

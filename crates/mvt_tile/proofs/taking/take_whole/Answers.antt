@@ -29,7 +29,8 @@ returns-then-used-fitting-clause-fault g c =
     let all = cut _ _ _ _ c.split_at.ensures.front c.split_at.ensures.back in
     let judged = c.in_ok-used.ensures.judged input [] has in
     rw c.outer-then-used-fitting.ensures
-    (whole_truncated 67108864 c.args.bytes.now front.now back.now all judged.0 c.in_ok-used.used judged.2 (search rules) (search rules) c.if-used-fitting.true)
+    (whole_truncated 67108864 c.args.bytes.now front.now back.now all judged.0 c.in_ok-used.used judged.2 (search rules)
+    (search rules) c.if-used-fitting.true)
 
 pub returns-clause-tile : goal.returns-clause-tile
 returns-clause-tile g c = λ input has.

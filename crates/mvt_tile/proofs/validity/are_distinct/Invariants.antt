@@ -1,5 +1,5 @@
 use Rattle.std.proofs.Common.{take}
-use Rattle.mvt_tile.specs.Tiles.{HasDistinctNames}
+use Rattle.mvt_model.specs.Tiles.{HasDistinctNames}
 use Rattle.mvt_tile.proofs.validity.are_distinct.Given as goal
 
 abbrev pub invariant-loop-index : goal.invariant-loop-index

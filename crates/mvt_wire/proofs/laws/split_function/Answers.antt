@@ -1,4 +1,4 @@
-use Rattle.mvt_wire.proofs.WireLaws.{split_function_is, split_function_only, split_function_place, split_function_cause, split_function_count, split_function_rest}
+use Rattle.mvt_wire.proofs.WireLaws.{split_function_is, split_function_only, split_function_place, split_function_cause, split_function_count, split_function_rest, split_function_whole}
 use Rattle.mvt_wire.proofs.laws.split_function.Goals as goal
 
 pub returns-clause-is : goal.returns-clause-is
@@ -18,3 +18,6 @@ returns-clause-count c = split_function_count
 
 pub returns-clause-rest : goal.returns-clause-rest
 returns-clause-rest c = split_function_rest
+
+pub returns-clause-whole : goal.returns-clause-whole
+returns-clause-whole c = split_function_whole

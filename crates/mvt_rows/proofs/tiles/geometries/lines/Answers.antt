@@ -10,4 +10,5 @@ returns-in_err-line-clause-none c =
 
 pub loop-row-preserved : goal.loop-row-preserved
 loop-row-preserved c =
-    each_more (line_of c.args.points.now) c.args.rows.now c.loop-row.row-index _ _ _ _ c.loop-row.invariant c.loop-row-test.true c.in_ok-line.ensures.line c.in_ok-push.ensures.items
+    each_more (line_of c.args.points.now) c.args.rows.now c.loop-row.row-index _ _ _ _ c.loop-row.invariant c.loop-row-test.true
+    c.in_ok-line.ensures.line c.in_ok-push.ensures.items

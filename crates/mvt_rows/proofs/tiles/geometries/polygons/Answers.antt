@@ -11,4 +11,5 @@ returns-in_err-add_ring-clause-none c =
 
 pub loop-row-preserved : goal.loop-row-preserved
 loop-row-preserved c =
-    steps_more (with_ring_row c.args.points.now) [] c.args.rows.now c.loop-row.row-index _ _ _ c.loop-row.invariant c.loop-row-test.true c.in_ok-add_ring.ensures.added
+    steps_more (with_ring_row c.args.points.now) [] c.args.rows.now c.loop-row.row-index _ _ _ c.loop-row.invariant c.loop-row-test.true
+    c.in_ok-add_ring.ensures.added

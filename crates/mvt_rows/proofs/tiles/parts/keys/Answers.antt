@@ -10,4 +10,5 @@ returns-in_err-text-clause-none c =
 
 pub loop-span-preserved : goal.loop-span-preserved
 loop-span-preserved c =
-    each_more (text_of c.args.texts.now) c.args.spans.now c.loop-span.span-index _ _ _ _ c.loop-span.invariant c.loop-span-test.true c.in_ok-text.ensures.text c.in_ok-push.ensures.items
+    each_more (text_of c.args.texts.now) c.args.spans.now c.loop-span.span-index _ _ _ _ c.loop-span.invariant c.loop-span-test.true
+    c.in_ok-text.ensures.text c.in_ok-push.ensures.items

@@ -10,4 +10,5 @@ returns-in_err-value-clause-none c =
 
 pub loop-row-preserved : goal.loop-row-preserved
 loop-row-preserved c =
-    each_more (value_of c.args.texts.now) c.args.rows.now c.loop-row.row-index _ _ _ _ c.loop-row.invariant c.loop-row-test.true c.in_ok-value.ensures.value c.in_ok-push.ensures.items
+    each_more (value_of c.args.texts.now) c.args.rows.now c.loop-row.row-index _ _ _ _ c.loop-row.invariant c.loop-row-test.true
+    c.in_ok-value.ensures.value c.in_ok-push.ensures.items

@@ -20,4 +20,5 @@ invariant_of-self-2 c =
 pub returns-clause-new : goal.returns-clause-new
 returns-clause-new c =
     rw (← c.self.view_is)
-    (c.in_ok-add.ensures.added c.self.inside.items.items c.args.item (kept_named _ _ _ c.self.invariant.0 c.self.invariant.1) (sym c.in_ok-name_of.ensures)).1
+    (c.in_ok-add.ensures.added c.self.inside.items.items c.args.item (kept_named _ _ _ c.self.invariant.0 c.self.invariant.1)
+    (sym c.in_ok-name_of.ensures)).1

@@ -9,4 +9,5 @@ returns-in-Ok-clause-fault c = λ input items is.
     let item = c.in-Ok.item in
     let d = c.args.payload.now in
     rw (← is)
-    (IfErr-weaker c.add.result _ _ (λ e told. tells_name e _ _ (names_in item) d _ _ c.in-Ok.ensures.ok (item_names d item c.in-Ok.ensures.item) told) c.add.ensures.fault)
+    (IfErr-weaker c.add.result _ _
+    (λ e told. tells_name e _ _ (names_in item) d _ _ c.in-Ok.ensures.ok (item_names d item c.in-Ok.ensures.item) told) c.add.ensures.fault)

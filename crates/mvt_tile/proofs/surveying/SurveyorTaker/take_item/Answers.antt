@@ -18,6 +18,10 @@ returns-clause-item c = λ input items has.
     let item = c.in-Ok.item in
     let new = c.in_ok-add.ensures.added items item has.0 (sym c.in_ok-name_of.ensures) in (
       items ++ item ∷ [],
-      (new.0, c.in_ok-add-2.ensures input items has.1 (sym has.0.counted), all_joined ValidItem items (item ∷ []) has.2 (c.in-Ok.ensures.valid, tt)),
+      (
+        new.0,
+        c.in_ok-add-2.ensures input items has.1 (sym has.0.counted),
+        all_joined ValidItem items (item ∷ []) has.2 (c.in-Ok.ensures.valid, tt),
+      ),
       (item, refl, c.in-Ok.ensures.item, new.1),
     )

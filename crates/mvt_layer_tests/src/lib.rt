@@ -1,0 +1,8 @@
+//! The tests of features and layers: worked rows, each public call with ample memory, and refused
+//! growths. They call what is public, as any other crate does.
+#![tactic(auto)]
+
+#[cfg(test)]
+mod feature;
+#[cfg(test)]
+mod message;

@@ -1,0 +1,90 @@
+-- What is found of items, one after the other.
+use Rattle.std.proofs.Common.{◌≡◌, ◌≢◌, ℕ, ◌+◌, ◌≤◌, Bool, false, ◌==◌, eqb, List, [], ◌∷◌, ◌++◌, length, Option, Some, None, Bor, bytes_eq, IfSome, refl, sym, ap, ap₂, subst, ◌∙◌, arith, append-nil, length-append, zero-add}
+use Rattle.std.specs.List.{sum_by}
+use Rattle.std.proofs.lemmas.Bool.{eqb-true, eq-eqb, ne_eqb, false≢true}
+use Rattle.std.proofs.lemmas.Bool.Decides.{same_from_decides}
+use Rattle.std.proofs.lemmas.List.{append_cancel_left, nil_from_length}
+use Rattle.std.proofs.lemmas.List.Sums.{sum_by-append}
+use Rattle.std.proofs.lemmas.Slice.Eq.{bytes_eq-Decides}
+use Rattle.mvt_message.specs.declared.item.Item.{Item}
+use Rattle.mvt_model.specs.declared.note.Note.{Note}
+use Rattle.mvt_model.specs.declared.note.Note.TheVariants.{NoLayers}
+use Rattle.mvt_model.specs.declared.survey.Survey.{Survey}
+use Rattle.mvt_model.specs.declared.findings.Findings.{Findings}
+use Rattle.mvt_model.specs.declared.tile.Tile.{Tile}
+use Rattle.mvt_model.specs.Comparing.{IsBehind}
+use Rattle.mvt_model.specs.Findings.{AreFound}
+use Rattle.mvt_model.specs.Notes.{numbered, note_if, item_notes, notes_of}
+use Rattle.mvt_model.specs.Survey.{feature_count, survey_of}
+use Rattle.mvt_model.proofs.NoteLemmas.{numbered-append}
+use Rattle.mvt_model.proofs.WritingLemmas.{written, field_of, written-append, written_one}
+
+-- what stands behind some bytes is no longer than all
+
+pub behind_small : (limit : ℕ) (input front : List ℕ) (behind : Option (Bor (List ℕ))) → length input ≤ limit → IsBehind input front behind
+    → IfSome behind (λ rest. length rest.now ≤ limit)
+behind_small limit input front None small is = tt
+behind_small limit input front (Some rest) small is = omega (arith, ap length is, length-append front rest.now)
+
+-- nothing is left, or something, or the input begins otherwise
+
+pub end_there : (input front rest : List ℕ) (end : Bool) → input ≡ front ++ rest → end ≡ (length rest == 0) → end ≡ bytes_eq input front
+end_there input front rest end is e =
+    same_from_decides end (bytes_eq input front) (
+      λ yes. is ∙ ap (λ r. front ++ r) (nil_from_length rest (eqb-true (length rest) 0 (sym e ∙ yes))) ∙ append-nil front,
+      λ same. e ∙ eq-eqb (length rest) 0 (ap length (append_cancel_left front rest [] (sym is ∙ same ∙ sym (append-nil front)))),
+    ) (bytes_eq-Decides input front)
+
+pub end_nowhere : (input front : List ℕ) → ((more : List ℕ) → input ≢ front ++ more) → false ≡ bytes_eq input front
+end_nowhere input front differs =
+    same_from_decides false (bytes_eq input front) (
+      λ impossible. absurd (false≢true impossible),
+      λ same. absurd (differs [] (same ∙ sym (append-nil front))),
+    ) (bytes_eq-Decides input front)
+
+-- one item more
+
+features_more : (items : List Item) (item : Item)
+    → sum_by feature_count (items ++ item ∷ []) ≡ sum_by feature_count items + feature_count item
+features_more items item =
+    sum_by-append feature_count items (item ∷ []) ∙ ap (λ n. sum_by feature_count items + n) (zero-add (feature_count item))
+
+pub found_more : (limit : ℕ) (input : List ℕ) (old new : Findings) (items : List Item) (item : Item) (count index : ℕ)
+    → AreFound limit input old items → length items ≡ index
+    → count ≡ feature_count item → count ≤ 18446744073709551615 → new.features ≡ old.features + count
+    → IsBehind input (written items ++ field_of item) new.behind → new.notes.items ≡ old.notes.items ++ item_notes index item
+    → AreFound limit input new (items ++ item ∷ [])
+found_more limit input old new items item count index found at is most sum behind noted = record {
+  small = found.small;
+  features = sum ∙ ap₂ (λ a b. a + b) found.features is ∙ sym (features_more items item);
+  few = let before = found.few in omega (arith, length-append items (item ∷ []));
+  behind = subst (λ b. IsBehind input b new.behind)
+      (ap (λ b. written items ++ b) (sym (written_one item)) ∙ sym (written-append items (item ∷ []))) behind;
+  notes = noted ∙ ap (λ ns. ns ++ item_notes index item) found.notes
+      ∙ ap (λ n. numbered item_notes 0 items ++ item_notes n item) (let place : index ≡ 0 + length items = omega arith in place)
+      ∙ ap (λ ns. numbered item_notes 0 items ++ ns) (sym (append-nil (item_notes (0 + length items) item)))
+      ∙ sym (numbered-append item_notes 0 items (item ∷ []));
+}
+
+-- of all items
+
+notes_end : (items : List Item)
+    → numbered item_notes 0 items ++ note_if (eqb (length items) 0) NoLayers ≡ note_if
+    (eqb (length items) 0) NoLayers ++ numbered item_notes 0 items
+notes_end [] = refl
+notes_end (item ∷ items) =
+    let some : eqb (length (item ∷ items)) 0 ≡ false = ne_eqb (length (item ∷ items)) 0 (λ e. omega (arith, e)) in
+    let noted = numbered item_notes 0 (item ∷ items) in
+    ap (λ b. noted ++ note_if b NoLayers) some ∙ append-nil noted ∙ ap (λ b. note_if b NoLayers ++ noted) (sym some)
+
+pub noted_end : (tile : Tile) (layers : ℕ) (empty : Bool) (old new : List Note) → length tile.items ≡ layers → empty ≡ (layers == 0)
+    → old ≡ numbered item_notes 0 tile.items → new ≡ old ++ note_if empty NoLayers → new ≡ notes_of tile
+unfolding notes_of
+noted_end tile layers empty old new count is so_far e =
+    e ∙ ap₂ (λ ns b. ns ++ note_if b NoLayers) so_far (is ∙ ap (λ n. eqb n 0) (sym count)) ∙ notes_end tile.items
+
+pub surveyed : (tile : Tile) (layers features : ℕ) (is answer : Bool) (notes : List Note) → length tile.items ≡ layers
+    → features ≡ sum_by feature_count tile.items → is ≡ answer → notes ≡ notes_of tile
+    → (let survey : Survey = record { layers = layers; features = features; is_canonical = is; notes = notes } in survey) ≡ survey_of tile
+    answer
+surveyed tile layers features is answer notes count sum same noted = rw (sym count, sum, same, noted) refl

@@ -1,0 +1,89 @@
+-- Items written one after the other.
+use Rattle.std.proofs.Common.{◌≡◌, ℕ, ◌+◌, ◌<◌, ◌≤◌, List, [], ◌∷◌, ◌++◌, length, map, take, drop, get_or, Result, Ok, Err, OnOk, IfOk, refl, sym, ap, subst, ◌∙◌, arith, append_assoc, append-nil, length-append, take-append-drop}
+use Rattle.std.proofs.lemmas.List.{take_all, map-append}
+use Rattle.std.proofs.lemmas.Grind.{flat_map-append}
+use Rattle.mvt_base.specs.declared.TheConstants.{LIMIT}
+use Rattle.mvt_base.proofs.ListLemmas.{front_more}
+use Rattle.mvt_wire.specs.Field.{bytes}
+use Rattle.mvt_wire.specs.Spelling.{Plain, short_field, spelled}
+use Rattle.mvt_message.specs.declared.item.Item.{Item}
+use Rattle.mvt_message.specs.CanonicalItems.{canonical_item}
+use Rattle.mvt_message.specs.declared.writing.PutError.{PutError}
+use Rattle.mvt_message.specs.declared.writing.PutError.TheVariants as put
+use Rattle.mvt_wire.proofs.WireLaws.{short_lengths_bytes}
+use Rattle.mvt_model.specs.declared.numbers.tile.TheConstants.{LAYERS}
+use Rattle.mvt_model.specs.declared.write_error.WriteError.TheVariants as write
+use Rattle.mvt_model.specs.declared.tile.Tile.{Tile}
+use Rattle.mvt_model.specs.CanonicalTiles.{item_field, canonical}
+use Rattle.mvt_model.specs.Tiles.{IsTile}
+use Rattle.mvt_model.specs.ValidTiles.{Valid}
+use Rattle.mvt_model.specs.Writing.{write_error}
+use Rattle.mvt_model.proofs.CanonicalLemmas.{canonical_reads}
+
+abbrev pub written : List Item → List ℕ
+written items = spelled (map item_field items)
+
+abbrev pub field_of : Item → List ℕ
+field_of item = short_field LAYERS (bytes (canonical_item item))
+
+pub written-append : (xs ys : List Item) → written (xs ++ ys) ≡ written xs ++ written ys
+written-append xs ys =
+    ap spelled (map-append item_field xs ys)
+    ∙ flat_map-append (λ (f : Plain). short_field f.number f.content) (map item_field xs) (map item_field ys)
+
+pub written_one : (item : Item) → written (item ∷ []) ≡ field_of item
+written_one item = append-nil (field_of item)
+
+pub written_more : (items : List Item) (i : ℕ) (item : Item) → i < length items → item ≡ get_or items i item
+    → written (take (i + 1) items) ≡ written (take i items) ++ field_of item
+written_more items i item h is =
+    ap written (front_more items i item h is) ∙ written-append (take i items) (item ∷ [])
+    ∙ ap (λ b. written (take i items) ++ b) (written_one item)
+
+-- the whole, round the field of one item
+pub written_parts : (items : List Item) (i : ℕ) (item : Item) → i < length items → item ≡ get_or items i item
+    → written items ≡ written (take i items) ++ (field_of item ++ written (drop (i + 1) items))
+written_parts items i item h is =
+    ap written (sym (take-append-drop (i + 1) items)) ∙ written-append (take (i + 1) items) (drop (i + 1) items)
+    ∙ ap (λ b. b ++ written (drop (i + 1) items)) (written_more items i item h is)
+    ∙ append_assoc (written (take i items)) (field_of item) (written (drop (i + 1) items))
+
+pub written_all : (items : List Item) (i : ℕ) → length items ≤ i → written (take i items) ≡ written items
+written_all items i h = ap written (take_all i items h)
+
+-- a front of the items has no more bytes
+pub written_within : (items : List Item) (i : ℕ) → length (written (take i items)) ≤ length (written items)
+written_within items i =
+    let whole : length (written items) ≡ length (written (take i items)) + length (written (drop i items)) =
+    ap length (ap written (sym (take-append-drop i items)) ∙ written-append (take i items) (drop i items))
+    ∙ length-append (written (take i items)) (written (drop i items)) in
+    omega arith
+
+-- an item's payload has fewer bytes than the whole
+pub payload_within : (items : List Item) (i : ℕ) (item : Item) → i < length items → item ≡ get_or items i item
+    → length (canonical_item item) ≤ length (written items)
+payload_within items i item h is =
+    let size = ap length (written_parts items i item h is) in
+    let outer = length-append (written (take i items)) (field_of item ++ written (drop (i + 1) items)) in
+    let inner = length-append (field_of item) (written (drop (i + 1) items)) in
+    let longer = short_lengths_bytes LAYERS (canonical_item item) in
+    omega arith
+
+pub canonical_is : (tile : Tile) (items : List Item) → items ≡ tile.items → canonical tile ≡ written items
+unfolding canonical
+canonical_is tile items is = ap written (sym is)
+
+pub encoded_reads : {V E : Type 0} → (tile : Tile) (of : V → List ℕ) (r : Result V E) → Valid tile → IfOk r (λ b. of b ≡ canonical tile)
+    → IfOk r (λ b. length (of b) ≤ LIMIT)
+    → IfOk r (λ b. IsTile LIMIT (of b) tile)
+encoded_reads tile of (Err e) valid put small = tt
+encoded_reads tile of (Ok b) valid put small =
+    subst (λ s. IsTile LIMIT s tile) (sym put) (canonical_reads tile valid (subst (λ s. length s ≤ LIMIT) put small))
+
+pub on_ok : {T E P : Type 0} (r : Result T E) → P → OnOk r P
+on_ok (Ok x) p = p
+on_ok (Err e) p = tt
+
+pub put_large : (e : PutError) → write_error e ≡ write.TooLarge → e ≡ put.TooLarge
+put_large put.Memory h = cc
+put_large put.TooLarge h = refl

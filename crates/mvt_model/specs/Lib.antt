@@ -1,0 +1,9 @@
+pub mod Tiles
+pub mod CanonicalTiles
+pub mod ValidTiles
+pub mod Bounds
+pub mod Writing
+pub mod Comparing
+pub mod Notes
+pub mod Survey
+pub mod Findings

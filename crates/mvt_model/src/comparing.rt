@@ -1,0 +1,70 @@
+//! Whether bytes are the canonical bytes of a tile.
+ghost use Rattle.std.specs.Prelude.{◌≡◌, ◌↔◌, ◌≤◌, ◌++◌, ℕ, List, length, IfOk, IsTrue};
+ghost use Rattle.mvt_wire.specs.Field.{bytes as in_bytes};
+ghost use Rattle.mvt_wire.specs.Spelling.{short_field};
+ghost use Rattle.mvt_message.specs.CanonicalItems.{canonical_item};
+ghost use Rattle.mvt_message.specs.ValidItems.{ValidItem};
+ghost use Rattle.mvt_model.specs.declared.numbers.tile.TheConstants.{LAYERS};
+ghost use Rattle.mvt_model.specs.CanonicalTiles.{canonical};
+ghost use Rattle.mvt_model.specs.Comparing.{IsBehind};
+ghost use Rattle.mvt_model.specs.ValidTiles.{Valid};
+
+use crate::numbers::tile;
+use crate::tile::Tile;
+use mvt_base::LIMIT;
+use mvt_message::{Item, PutError, put_item};
+use mvt_wire::put_varint;
+use std::alloc::{AllocError, Global};
+
+/// Whether these are the bytes that `encode` makes of a tile. One item's bytes are made at a time,
+/// up to the first difference.
+pub fn is_canonical(alloc: Global, tile: &Tile, bytes: &[u8]) -> Result<bool, AllocError>
+    requires { Valid tile.now }
+    ensures { IfOk result (λ yes. IsTrue yes ↔ ((bytes.now ≡ canonical tile.now) × (length bytes.now ≤ LIMIT))) }
+{
+    if bytes.len() as u64 > LIMIT {
+        return Ok(false);
+    }
+    let items = tile.items.as_slice();
+    let mut rest = bytes;
+    for item in items {
+        match behind_item(alloc, item, rest)? {
+            Some(behind) => rest = behind,
+            None => return Ok(false),
+        }
+    }
+    Ok(rest.is_empty())
+}
+
+/// What stands behind the field of an item, where that is at the front of some bytes.
+pub(crate) fn behind_item<'b>(
+    alloc: Global,
+    item: &Item,
+    bytes: &'b [u8],
+) -> Result<Option<&'b [u8]>, AllocError>
+    requires valid { ValidItem item.now }
+    requires small { length bytes.now ≤ LIMIT }
+    ensures { IfOk result (IsBehind bytes.now (short_field LAYERS (in_bytes (canonical_item item.now)))) }
+{
+    let payload = match put_item(alloc, item) {
+        Ok(payload) => payload,
+        Err(PutError::TooLarge) => return Ok(None),
+        Err(PutError::Memory) => return Err(AllocError),
+    };
+    let head = field_head(alloc, payload.len())?;
+    match bytes.strip_prefix(head.as_slice()) {
+        Some(body) => Ok(body.strip_prefix(payload.as_slice())),
+        None => Ok(None),
+    }
+}
+
+/// The tag and the length of an item's field.
+fn field_head(alloc: Global, len: usize) -> Result<Vec<u8>, AllocError>
+    ensures { IfOk result (λ head. (d : List ℕ) → length d ≡ len
+        → short_field LAYERS (in_bytes d) ≡ head.items ++ d) }
+{
+    let mut head = Vec::new(alloc);
+    put_varint(&mut head, 8 * tile::LAYERS as u64 + 2)?;
+    put_varint(&mut head, len as u64)?;
+    Ok(head)
+}

@@ -1,0 +1,13 @@
+//! Laws about the definitions alone: functions without effect, whose contract is the law.
+ghost use Rattle.std.specs.Prelude.{◌≤◌, length};
+ghost use Rattle.mvt_model.specs.declared.tile.Tile.{Tile};
+ghost use Rattle.mvt_model.specs.CanonicalTiles.{canonical};
+ghost use Rattle.mvt_model.specs.Tiles.{IsTile};
+ghost use Rattle.mvt_model.specs.ValidTiles.{Valid};
+
+use mvt_base::LIMIT;
+
+/// The canonical bytes of a valid tile, within the limit, are that tile.
+pub fn canonical_reads()
+    ensures { (t : Tile) → Valid t → length (canonical t) ≤ LIMIT → IsTile LIMIT (canonical t) t }
+{}

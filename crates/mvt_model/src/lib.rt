@@ -1,0 +1,23 @@
+//! A tile as a value: its canonical bytes and the writing of them, what is noted of it, and what a
+//! survey says of it. Tiles are read in mvt_tile, which hands up what is here.
+#![tactic(auto)]
+
+mod comparing;
+mod findings;
+pub mod laws;
+mod note;
+mod noting;
+pub mod numbers;
+mod survey;
+mod tile;
+mod write_error;
+mod writing;
+
+pub use comparing::is_canonical;
+pub use findings::{Findings, feature_count};
+pub use note::Note;
+pub use noting::notes;
+pub use survey::Survey;
+pub use tile::Tile;
+pub use write_error::WriteError;
+pub use writing::{encode, write_tile};

@@ -1,0 +1,196 @@
+//! Writing a tile as its canonical bytes.
+ghost use Rattle.std.specs.Prelude.{◌≡◌, ◌↔◌, ◌+◌, ◌<◌, ◌≤◌, ◌++◌, true, length, map, IfOk, IfErr, IfSome, IfNone, IsErrOf, IsTrue, OnOk, OnErr};
+ghost use Rattle.std.specs.Io.KnownBytes.{Appends};
+ghost use Rattle.std.specs.List.{AllByRecursion};
+ghost use Rattle.mvt_io.specs.Counts.{HasFailed};
+ghost use Rattle.mvt_io.specs.Transfers.{TakesPrefix};
+ghost use Rattle.mvt_wire.specs.Field.{bytes};
+ghost use Rattle.mvt_wire.specs.Spelling.{short_field, spelled};
+ghost use Rattle.mvt_message.specs.CanonicalItems.{canonical_item};
+ghost use Rattle.mvt_message.specs.ValidItems.{ValidItem};
+ghost use Rattle.mvt_model.specs.declared.numbers.tile.TheConstants.{LAYERS};
+ghost use Rattle.mvt_model.specs.Bounds.{items_bound};
+ghost use Rattle.mvt_model.specs.CanonicalTiles.{canonical, item_field};
+ghost use Rattle.mvt_model.specs.Tiles.{IsTile};
+ghost use Rattle.mvt_model.specs.ValidTiles.{Valid};
+ghost use Rattle.mvt_model.specs.Writing.{IsWriteFault, IsWriteKind};
+
+use crate::numbers::tile;
+use crate::tile::Tile;
+use crate::write_error::WriteError;
+use mvt_base::LIMIT;
+use mvt_io::{Sink, write_all};
+use mvt_message::{Item, PutError, item_len, put_item, room_behind_item};
+use mvt_wire::{Payload, field_len, put_field};
+use std::alloc::Global;
+
+/// The canonical bytes of a tile.
+///
+/// # Errors
+///
+/// Want of memory; TooLarge for more bytes than the limit.
+pub fn encode(alloc: Global, tile: &Tile) -> Result<Vec<u8>, PutError>
+    requires { Valid tile.now }
+    ensures put { IfOk result (λ bytes. bytes.items ≡ canonical tile.now) }
+    ensures small { IfOk result (λ bytes. length bytes.items ≤ LIMIT) }
+    ensures reads { IfOk result (λ bytes. IsTile LIMIT bytes.items tile.now) }
+    ensures too_large { IsErrOf result PutError.TooLarge → LIMIT < length (canonical tile.now) }
+{
+    encode_items(alloc, tile.items.as_slice())
+}
+
+/// Has a writer take the canonical bytes of a tile: one item after the other is made and written. Where
+/// a quick bound of their length is beyond the limit, the lengths of all items are added up first. The
+/// writer isn't flushed.
+///
+/// # Errors
+///
+/// TooLarge for more bytes than the limit, of which none is written; a write that failed; want of
+/// memory. The writer has then taken a front of the bytes.
+pub fn write_tile<W: Sink>(alloc: Global, tile: &Tile, writer: &mut W) -> Result<(), WriteError>
+    requires { Valid tile.now }
+    ensures taken { OnOk result (Appends (W.taken writer.old) (W.taken writer.new) (canonical tile.now)) }
+    ensures small { OnOk result (length (canonical tile.now) ≤ LIMIT) }
+    ensures honest { OnOk result (W.failed writer.new ≡ W.failed writer.old) }
+    ensures too_large { IsErrOf result WriteError.TooLarge
+        → (LIMIT < length (canonical tile.now)) × (writer.new ≡ writer.old) }
+    ensures prefix { OnErr result (TakesPrefix (W.taken writer.old) (W.taken writer.new) (canonical tile.now)) }
+    ensures failed { IfErr result (λ error. IsWriteFault error
+        → HasFailed (W.failed writer.old) (W.failed writer.new)) }
+    ensures ended { IfErr result (λ error. IsWriteFault error → W.ended writer.new ≡ true) }
+    ensures sound { IfErr result (λ error. (IsWriteFault error → ⊥) → W.failed writer.new ≡ W.failed writer.old) }
+    ensures kind { IfErr result (λ error. IsWriteKind error (W.fault writer.new)) }
+    ensures flushes { W.flushes writer.new ≡ W.flushes writer.old }
+{
+    let items = tile.items.as_slice();
+    if !are_surely_small(items) {
+        items_len(alloc, items)?;
+    }
+    write_items(alloc, items, writer)
+}
+
+/// The canonical bytes of items.
+fn encode_items(alloc: Global, items: &[Item]) -> Result<Vec<u8>, PutError>
+    requires { AllByRecursion ValidItem items.now }
+    ensures put { IfOk result (λ bytes. bytes.items ≡ spelled (map item_field items.now)) }
+    ensures small { IfOk result (λ bytes. length bytes.items ≤ LIMIT) }
+    ensures too_large { IsErrOf result PutError.TooLarge → LIMIT < length (spelled (map item_field items.now)) }
+{
+    let mut out = Vec::new(alloc);
+    for item in items {
+        append_item(alloc, &mut out, item)?;
+        if out.len() as u64 > LIMIT {
+            return Err(PutError::TooLarge);
+        }
+    }
+    Ok(out)
+}
+
+/// Whether items have no more canonical bytes than the limit by a quick bound of their number.
+fn are_surely_small(items: &[Item]) -> bool
+    requires { AllByRecursion ValidItem items.now }
+    ensures bound { IsTrue result ↔ (items_bound items.now ≤ LIMIT) }
+    ensures small { IsTrue result → length (spelled (map item_field items.now)) ≤ LIMIT }
+{
+    room_behind_items(items).is_some()
+}
+
+/// What is left of the limit behind items, by that bound.
+fn room_behind_items(items: &[Item]) -> Option<u64>
+    ensures some { IfSome result (λ left. left + items_bound items.now ≡ LIMIT) }
+    ensures none { IfNone result (LIMIT < items_bound items.now) }
+{
+    let mut left = LIMIT;
+    for item in items {
+        left = room_behind_item(item, left.checked_sub(20)?)?;
+    }
+    Some(left)
+}
+
+/// How many canonical bytes items have.
+fn items_len(alloc: Global, items: &[Item]) -> Result<u64, PutError>
+    requires { AllByRecursion ValidItem items.now }
+    ensures len { IfOk result (λ len. len ≡ length (spelled (map item_field items.now))) }
+    ensures small { IfOk result (λ len. len ≤ LIMIT) }
+    ensures too_large { IsErrOf result PutError.TooLarge → LIMIT < length (spelled (map item_field items.now)) }
+{
+    let mut total = 0;
+    for item in items {
+        total += layer_len(alloc, item)?;
+        if total > LIMIT {
+            return Err(PutError::TooLarge);
+        }
+    }
+    Ok(total)
+}
+
+/// How many bytes the field of an item has.
+fn layer_len(alloc: Global, item: &Item) -> Result<u64, PutError>
+    requires { ValidItem item.now }
+    ensures len { IfOk result (λ len. len ≡ length (short_field LAYERS (bytes (canonical_item item.now)))) }
+    ensures most { IfOk result (λ len. len ≤ LIMIT + 20) }
+    ensures too_large { IsErrOf result PutError.TooLarge → LIMIT < length (canonical_item item.now) }
+{
+    let len = item_len(alloc, item)?;
+    Ok(field_len(tile::LAYERS, len))
+}
+
+/// Writes items one after the other.
+fn write_items<W: Sink>(alloc: Global, items: &[Item], writer: &mut W) -> Result<(), WriteError>
+    requires valid { AllByRecursion ValidItem items.now }
+    requires small { length (spelled (map item_field items.now)) ≤ LIMIT }
+    ensures taken { OnOk result
+        (Appends (W.taken writer.old) (W.taken writer.new) (spelled (map item_field items.now))) }
+    ensures honest { OnOk result (W.failed writer.new ≡ W.failed writer.old) }
+    ensures never { IsErrOf result WriteError.TooLarge → ⊥ }
+    ensures prefix { OnErr result
+        (TakesPrefix (W.taken writer.old) (W.taken writer.new) (spelled (map item_field items.now))) }
+    ensures failed { IfErr result (λ error. IsWriteFault error
+        → HasFailed (W.failed writer.old) (W.failed writer.new)) }
+    ensures ended { IfErr result (λ error. IsWriteFault error → W.ended writer.new ≡ true) }
+    ensures sound { IfErr result (λ error. (IsWriteFault error → ⊥) → W.failed writer.new ≡ W.failed writer.old) }
+    ensures kind { IfErr result (λ error. IsWriteKind error (W.fault writer.new)) }
+    ensures flushes { W.flushes writer.new ≡ W.flushes writer.old }
+{
+    for item in items {
+        write_item(alloc, item, writer)?;
+    }
+    Ok(())
+}
+
+/// Makes the field of an item, and writes it.
+#[tactic(auto, using(mvt_io::proofs::IoLaws::nothing_is_a_prefix))]
+fn write_item<W: Sink>(alloc: Global, item: &Item, writer: &mut W) -> Result<(), WriteError>
+    requires { ValidItem item.now }
+    ensures taken { OnOk result (Appends (W.taken writer.old) (W.taken writer.new)
+        (short_field LAYERS (bytes (canonical_item item.now)))) }
+    ensures honest { OnOk result (W.failed writer.new ≡ W.failed writer.old) }
+    ensures too_large { IsErrOf result WriteError.TooLarge → LIMIT < length (canonical_item item.now) }
+    ensures prefix { OnErr result (TakesPrefix (W.taken writer.old) (W.taken writer.new)
+        (short_field LAYERS (bytes (canonical_item item.now)))) }
+    ensures failed { IfErr result (λ error. IsWriteFault error
+        → HasFailed (W.failed writer.old) (W.failed writer.new)) }
+    ensures ended { IfErr result (λ error. IsWriteFault error → W.ended writer.new ≡ true) }
+    ensures sound { IfErr result (λ error. (IsWriteFault error → ⊥) → W.failed writer.new ≡ W.failed writer.old) }
+    ensures kind { IfErr result (λ error. IsWriteKind error (W.fault writer.new)) }
+    ensures flushes { W.flushes writer.new ≡ W.flushes writer.old }
+{
+    let mut field = Vec::new(alloc);
+    append_item(alloc, &mut field, item)?;
+    match write_all(writer, field.as_slice()) {
+        Ok(()) => Ok(()),
+        Err(kind) => Err(WriteError::Write(kind)),
+    }
+}
+
+/// Appends the field of an item.
+fn append_item(alloc: Global, out: &mut Vec<u8>, item: &Item) -> Result<(), PutError>
+    requires { ValidItem item.now }
+    ensures put { OnOk result
+        (out.new.items ≡ out.old.items ++ short_field LAYERS (bytes (canonical_item item.now))) }
+    ensures too_large { IsErrOf result PutError.TooLarge → LIMIT < length (canonical_item item.now) }
+{
+    let payload = put_item(alloc, item)?;
+    put_field(out, tile::LAYERS, &Payload::Len(payload.as_slice()))?;
+    Ok(())
+}

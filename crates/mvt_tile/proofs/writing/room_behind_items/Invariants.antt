@@ -1,8 +1,0 @@
-use Rattle.std.proofs.Common.{◌≡◌, ◌+◌, take}
-use Rattle.std.specs.List.{sum_by}
-use Rattle.mvt_base.specs.declared.TheConstants.{LIMIT}
-use Rattle.mvt_tile.specs.Bounds.{field_bound}
-use Rattle.mvt_tile.proofs.writing.room_behind_items.Given as goal
-
-abbrev pub invariant-loop-item : goal.invariant-loop-item
-invariant-loop-item l = l.left + sum_by field_bound (take l.item-index l.items) ≡ LIMIT
