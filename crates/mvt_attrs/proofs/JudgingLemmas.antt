@@ -22,7 +22,8 @@ pub so_far_none : (keys : List (List ℕ)) (places marks : List ℕ) (turn count
 so_far_none keys places marks turn count tags below =
     λ values e. ([], progress_none keys values tags, marked_none keys places marks turn below)
 
-module _ (keys : List (List ℕ)) (places marks : List ℕ) (turn count : ℕ) (tags rest : List ℕ) (so_far : MarkedSoFar keys places marks turn count tags rest) (even : length tags % 2 ≡ 1 → ⊥) where
+module _ (keys : List (List ℕ)) (places marks : List ℕ) (turn count : ℕ) (tags rest : List ℕ)
+    (so_far : MarkedSoFar keys places marks turn count tags rest) (even : length tags % 2 ≡ 1 → ⊥) where
   module _ (more : 2 ≤ length rest) where
     pub key_stops : length keys ≤ get_or rest 0 0 → (values : List Value) → length values ≡ count
         → tag_fault keys values tags ≡ Some (length tags - length rest, KeyIndex)
@@ -38,7 +39,8 @@ module _ (keys : List (List ℕ)) (places marks : List ℕ) (turn count : ℕ) (
           stops_without_value keys values tags rest (so_far values e).0 (so_far values e).1 even more key.0 (sym key.1)
           (sym (slice_get_past values (get_or rest 1 0) (omega arith)))
 
-      module _ (value_within : get_or rest 1 0 < count) (new : Bool) (is : new ≡ not (get_or marks (get_or places (get_or rest 0 0) 0) 0 == turn)) where
+      module _ (value_within : get_or rest 1 0 < count) (new : Bool)
+          (is : new ≡ not (get_or marks (get_or places (get_or rest 0 0) 0) 0 == turn)) where
         pub repeat_stops : new ≡ false → (values : List Value) → length values ≡ count
             → tag_fault keys values tags ≡ Some (length tags - length rest, RepeatedKey)
         repeat_stops no_new = λ values e.

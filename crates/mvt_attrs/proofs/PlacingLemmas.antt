@@ -103,7 +103,8 @@ not_full_at attributes i a key keys values at of_key no_key no_value full =
     let same_value : full.0.value ≡ a.value = ap (λ (b : Attribute). b.value) is in
     elim full.2 [
       | inl key_full ↦ no_key (key_full.0, λ there. key_full.1 (subst (Contains keys) (sym same_key) there))
-      | inr value_full ↦ no_value (subst (Contains keys) same_key value_full.0) (value_full.1, λ there. value_full.2 (subst (Contains values) (sym same_value) there))
+      | inr value_full ↦ no_value (subst (Contains keys) same_key value_full.0)
+          (value_full.1, λ there. value_full.2 (subst (Contains values) (sym same_value) there))
     ]
 
 pub contains_at : {A : Type 0} (xs : List A) (i : ℕ) (x : A) → slice_get xs i ≡ Some x → Contains xs x
@@ -142,7 +143,8 @@ pub told_tags : (held_keys keys keys_after : List (List ℕ)) (held_values value
     → keys ≡ key_pool held_keys attributes → values ≡ value_pool held_values attributes → Names keys values tags attributes
     → (more : List (List ℕ)) × (keys_after ≡ keys ++ more) → (further : List Value) × (values_after ≡ values ++ further)
     → new ≡ old ++ tags → new ≡ old ++ tags_in keys_after values_after attributes
-told_tags held_keys keys keys_after held_values values values_after tags old new attributes of_keys of_values names more_keys more_values is =
+told_tags held_keys keys keys_after held_values values values_after tags old new attributes of_keys of_values names
+    more_keys more_values is =
     let distinct_keys : AreDistinct keys = subst AreDistinct (sym of_keys) (first_use-distinct bytes_eq bytes_eq-Decides _) in
     let distinct_values : AreDistinct values = subst AreDistinct (sym of_values) (first_use-distinct equal_values equal_values-Decides _) in
     is ∙ ap (λ ts. old ++ ts) (names_places keys more_keys.0 values more_values.0 tags attributes distinct_keys distinct_values names

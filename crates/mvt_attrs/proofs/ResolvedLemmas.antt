@@ -41,7 +41,8 @@ new_among : (front : List Attribute) (a : Attribute) (back : List Attribute) →
 new_among front a back distinct =
     test_from_apart a.key front (λ k d within e.
     distinct k (length front) d within (omega (arith, length-append front (a ∷ back)))
-    (ap (λ (b : Attribute). b.key) (get_or_append_left front (a ∷ back) d k within) ∙ e ∙ ap (λ (b : Attribute). b.key) (sym (get_or_at front a back d (length front) refl))))
+    (ap (λ (b : Attribute). b.key) (get_or_append_left front (a ∷ back) d k within) ∙ e
+        ∙ ap (λ (b : Attribute). b.key) (sym (get_or_at front a back d (length front) refl))))
 
 -- ---- tags by places and by pairs
 
@@ -210,7 +211,8 @@ one_named keys values tags attributes others h k =
 
 -- ---- the end of the reading
 
-module _ (keys : List (List ℕ)) (values : List Value) (tags rest : List ℕ) (attributes : List Attribute) (read : Progress keys values tags rest attributes)
+module _ (keys : List (List ℕ)) (values : List Value) (tags rest : List ℕ) (attributes : List Attribute)
+    (read : Progress keys values tags rest attributes)
     (even : length tags % 2 ≡ 1 → ⊥) (short : length rest < 2) where
   all_done : read.done ≡ pairs_of tags
   all_done = sym (read.pairs ∙ ap (λ ps. read.done ++ ps) (no_pair_left rest short) ∙ append-nil read.done)

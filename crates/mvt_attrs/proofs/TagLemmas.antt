@@ -32,7 +32,8 @@ pub progress_none : (keys : List (List ℕ)) (values : List Value) (tags : List 
 progress_none keys values tags = record { done = []; pairs = refl; count = omega arith; entries = tt; clean = refl }
 
 -- a key that pairs before name is one of their attributes' keys
-pub repeats-related : (keys : List (List ℕ)) (values : List Value) (done : List (ℕ × ℕ)) (attributes : List Attribute) (index : ℕ) (key : List ℕ)
+pub repeats-related : (keys : List (List ℕ)) (values : List Value) (done : List (ℕ × ℕ)) (attributes : List Attribute)
+    (index : ℕ) (key : List ℕ)
     → AreRelated (NamesOne keys values) done attributes → slice_get keys index ≡ Some key
     → list_any (λ (earlier : ℕ × ℕ). name_one_key keys earlier.0 index) done ≡ list_any (λ (a : Attribute). bytes_eq a.key key) attributes
 repeats-related keys values [] [] index key related at = refl
@@ -134,7 +135,8 @@ tag_fault-odd keys values tags odd =
     ∙ option_or-some _ _ _ (first-when (length tags % 2 == 1) (length tags, OddTags) (eq-eqb (length tags % 2) 1 odd))
 
 -- how reading goes on, and where it stops
-module _ (keys : List (List ℕ)) (values : List Value) (tags rest : List ℕ) (attributes : List Attribute) (so_far : Progress keys values tags rest attributes) where
+module _ (keys : List (List ℕ)) (values : List Value) (tags rest : List ℕ) (attributes : List Attribute)
+    (so_far : Progress keys values tags rest attributes) where
   abbrev pair_here : ℕ × ℕ
   pair_here = (get_or rest 0 0, get_or rest 1 0)
 

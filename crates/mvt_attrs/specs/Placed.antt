@@ -17,7 +17,8 @@ pub record IsPlaced {A : Type 0} (old new : List A) (x : A) (result : Result ℕ
   pub full : IsErrOf result Full ↔ ((length old ≡ LIMIT) × (¬ (Contains old x)))
 
 -- both entries of the first n attributes are placed, and perhaps the key of the next
-pub record ArePlaced (n : ℕ) (attributes : List Attribute) (keys keys_after : List (List ℕ)) (values values_after : List Value) : Type 0 where
+pub record ArePlaced (n : ℕ) (attributes : List Attribute) (keys keys_after : List (List ℕ))
+    (values values_after : List Value) : Type 0 where
   pub within : n ≤ length attributes
   pub keys_are : (keys_after ≡ key_pool keys (take n attributes)) ⊎ (keys_after ≡ key_pool keys (take (n + 1) attributes))
   pub values_are : values_after ≡ value_pool values (take n attributes)

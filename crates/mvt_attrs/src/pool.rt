@@ -34,7 +34,8 @@ impl<T: Entry> Model for Pool<T> {
 
     ghost view = { λ p. p.entries.items };
 
-    ghost invariant = { λ p. (length p.entries.items ≤ LIMIT) × AreDistinct p.entries.items × Knows T.cmp T.hash_input p.finder p.entries.items };
+    ghost invariant = { λ p. (length p.entries.items ≤ LIMIT) × AreDistinct p.entries.items
+        × Knows T.cmp T.hash_input p.finder p.entries.items };
 }
 
 impl<T: Entry> Pool<T> {

@@ -41,7 +41,8 @@ pub(crate) fn find_spread<T: Entry>(spread: &Spread<T>, entries: &[T], entry: &T
 #[inline(never)]
 fn find_second<T: Entry>(spread: &Spread<T>, entries: &[T], entry: &T) -> Spot
     requires known { IsSpread T.cmp T.hash_input spread.now entries.now }
-    requires first { IsToldBy spread.now.slots.items (first_slot T.hash_input (length spread.now.slots.items) entry.now) entries.now entry.now None }
+    requires first { IsToldBy spread.now.slots.items
+        (first_slot T.hash_input (length spread.now.slots.items) entry.now) entries.now entry.now None }
     ensures { IsSpotOf entries.now entry.now (IsFreeFor T.hash_input spread.now entry.now) result }
 {
     let slots = spread.slots.as_slice();

@@ -12,8 +12,8 @@ use std::sync::ArcStr;
 
 /// A text that contracts see as its bytes, which are UTF-8.
 ///
-/// Up to `ROOM` bytes lie in the value itself; a longer text is one block of memory, which its
-/// copies share. So a copy of a text never copies a long text's bytes.
+/// Up to `ROOM` bytes lie in the value itself; a longer text is a `String` that its copies share. So
+/// a copy of a text never copies a long text's bytes.
 #[derive(Drop)]
 pub struct Text {
     repr: Repr,

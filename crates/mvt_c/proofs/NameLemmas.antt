@@ -9,4 +9,5 @@ pub bad_name : (names : List Bytes) (i : ℕ) (d : Bytes) → i < length names �
     → Any (λ text. IsUtf8 text → ⊥) (texts_of names)
 bad_name names i d within bad =
     let f = λ (name : Bytes). name.bytes.now in
-    (i, f (get_or names i d), subst (λ n. i < n) (sym (length-map names f)) within, get_or-map f names i d (f (get_or names i d)) within, bad)
+    (i, f (get_or names i d), subst (λ n. i < n) (sym (length-map names f)) within, get_or-map f names i d
+        (f (get_or names i d)) within, bad)

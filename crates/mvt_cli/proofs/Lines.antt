@@ -48,15 +48,18 @@ bare_alone name word (inr (inr (inr (inl h)))) = ap (λ w. fault_of mvt (name �
 bare_alone name word (inr (inr (inr (inr h)))) = ap (λ w. fault_of mvt (name ∷ w ∷ [])) h ∙ rewrite_alone name
 
 -- a list that isn't empty is given to clap
-pub given_to_clap : {A : Type 0} → (text : A → List ℕ) (words : List A) → (length words == 0) ≡ false → faults_in (map text words) ≡ fault_of mvt (map text words)
+pub given_to_clap : {A : Type 0} → (text : A → List ℕ) (words : List A) → (length words == 0) ≡ false
+    → faults_in (map text words) ≡ fault_of mvt (map text words)
 given_to_clap text [] e = cc
 given_to_clap text (w ∷ ws) e = refl
 
-entered_by_clap : {A : Type 0} → (text : A → List ℕ) (words : List A) → (length words == 0) ≡ false → subcommand_in (map text words) ≡ subcommand_of mvt (map text words)
+entered_by_clap : {A : Type 0} → (text : A → List ℕ) (words : List A) → (length words == 0) ≡ false
+    → subcommand_in (map text words) ≡ subcommand_of mvt (map text words)
 entered_by_clap text [] e = cc
 entered_by_clap text (w ∷ ws) e = refl
 
-pub entered : {A : Type 0} → (a : App) (text : A → List ℕ) (words : List A) (m : ArgMatches) → a ≡ mvt → (length words == 0) ≡ false → HasMatchesOf a (map text words) m → subcommand_rows_of m ≡ subcommand_in (map text words)
+pub entered : {A : Type 0} → (a : App) (text : A → List ℕ) (words : List A) (m : ArgMatches) → a ≡ mvt
+    → (length words == 0) ≡ false → HasMatchesOf a (map text words) m → subcommand_rows_of m ≡ subcommand_in (map text words)
 entered a text words m is some has =
     (has (ap is_simple is ∙ mvt_simple)).1 ∙ ap (λ (x : App). subcommand_of x (map text words)) is ∙ sym (entered_by_clap text words some)
 
@@ -66,13 +69,17 @@ some_fault [] e (inl memory) other is = other memory
 some_fault [] e (inr among) other is = among
 some_fault (k ∷ ks) e h other is = cc
 
-pub accepted : {A : Type 0} → (a : App) (text : A → List ℕ) (words : List A) → a ≡ mvt → (length words == 0) ≡ false → (is_simple_and_free a ≡ true → fault_of a (map text words) ≡ []) → faults_in (map text words) ≡ []
+pub accepted : {A : Type 0} → (a : App) (text : A → List ℕ) (words : List A) → a ≡ mvt → (length words == 0) ≡ false
+    → (is_simple_and_free a ≡ true → fault_of a (map text words) ≡ []) → faults_in (map text words) ≡ []
 accepted a text words is some none =
     given_to_clap text words some ∙ ap (λ (x : App). fault_of x (map text words)) (sym is) ∙ none (ap is_simple_and_free is ∙ mvt_free)
 
-pub refused : {A : Type 0} → (a : App) (text : A → List ℕ) (words : List A) (e : Error) → a ≡ mvt → (length words == 0) ≡ false → (is_simple_and_free a ≡ true → HasKind (fault_of a (map text words)) e) → kind_of e ≢ OutOfMemory → faults_in (map text words) ≢ []
+pub refused : {A : Type 0} → (a : App) (text : A → List ℕ) (words : List A) (e : Error) → a ≡ mvt
+    → (length words == 0) ≡ false → (is_simple_and_free a ≡ true → HasKind (fault_of a (map text words)) e)
+    → kind_of e ≢ OutOfMemory → faults_in (map text words) ≢ []
 refused a text words e is some kinds other none =
-    some_fault (fault_of a (map text words)) e (kinds (ap is_simple_and_free is ∙ mvt_free)) other (ap (λ (x : App). fault_of x (map text words)) is ∙ sym (given_to_clap text words some) ∙ none)
+    some_fault (fault_of a (map text words)) e (kinds (ap is_simple_and_free is ∙ mvt_free)) other
+        (ap (λ (x : App). fault_of x (map text words)) is ∙ sym (given_to_clap text words some) ∙ none)
 
 pub plain_taken : (words : List (List ℕ)) → IsPlainLine words → faults_in words ≡ []
 plain_taken [] h = refl

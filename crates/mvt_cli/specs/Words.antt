@@ -40,7 +40,8 @@ unfolding extract_app check_app
 mvt =
     with_subcommand
     (with_bare
-    (with_subcommand (with_bare (with_bare (with_bare (new_app (codes "mvt")) (codes "fields")) (codes "show")) (codes "draw")) check_app.top)
+    (with_subcommand (with_bare (with_bare (with_bare (new_app (codes "mvt")) (codes "fields")) (codes "show"))
+        (codes "draw")) check_app.top)
     (codes "rewrite"))
     extract_app.top
 
@@ -92,7 +93,8 @@ files_in words = files_of_subcommand (subcommand_in words)
 
 -- the subcommands that take no words of their own
 abbrev pub IsBare : List ℕ → Type 0
-IsBare word = (word ≡ codes "fields") ⊎ ((word ≡ codes "show") ⊎ ((word ≡ codes "draw") ⊎ ((word ≡ codes "check") ⊎ (word ≡ codes "rewrite"))))
+IsBare word = (word ≡ codes "fields")
+    ⊎ ((word ≡ codes "show") ⊎ ((word ≡ codes "draw") ⊎ ((word ≡ codes "check") ⊎ (word ≡ codes "rewrite"))))
 
 -- a line that is never refused: nothing, the program's name, or its name and a subcommand without
 -- names

@@ -28,7 +28,8 @@ pub fn run<F: Folder, R: Source, W: Sink, E: Sink>(
     writer: &mut W,
     errors: &mut E,
 ) -> u8
-    ensures output { files_in (map string_bytes words.now) ≡ [] → result < 2 → IfSome (R.left reader.old) (Gives LIMIT (task_in (map string_bytes words.now)) result
+    ensures output { files_in (map string_bytes words.now) ≡ [] → result < 2 → IfSome (R.left reader.old)
+        (Gives LIMIT (task_in (map string_bytes words.now)) result
         (writer.new ≡ writer.old)
         (λ text. Appends (W.taken writer.old) (W.taken writer.new) text
         × (W.flushes writer.new ≡ counted (W.flushes writer.old)))
@@ -36,13 +37,15 @@ pub fn run<F: Folder, R: Source, W: Sink, E: Sink>(
         (λ line. NoneFailed (E.failed errors.old) (E.failed errors.new)
         → Appends (E.taken errors.old) (E.taken errors.new) line)) }
     ensures flushed { files_in (map string_bytes words.now) ≡ [] → result ≡ 0 → W.flushes writer.new ≡ counted (W.flushes writer.old) }
-    ensures once { files_in (map string_bytes words.now) ≡ [] → result ≡ 1 → (writer.new ≡ writer.old) ⊎ (W.flushes writer.new ≡ counted (W.flushes writer.old)) }
+    ensures once { files_in (map string_bytes words.now) ≡ [] → result ≡ 1 → (writer.new ≡ writer.old)
+        ⊎ (W.flushes writer.new ≡ counted (W.flushes writer.old)) }
 
     // A status of 3 or 4 is that of a failure: its line, its cause, and what it leaves of the output.
     ensures failed { files_in (map string_bytes words.now) ≡ [] → 2 < result → (failure : Failure) × (result ≡ status_of failure)
         × (NoneFailed (E.failed errors.old) (E.failed errors.new)
         → Appends (E.taken errors.old) (E.taken errors.new) (line_of failure))
-        × IsCaused ((EndsFailed (R.failed reader.old) (R.failed reader.new) (R.ended reader.new)) × (W.failed writer.new ≡ W.failed writer.old))
+        × IsCaused ((EndsFailed (R.failed reader.old) (R.failed reader.new) (R.ended reader.new))
+            × (W.failed writer.new ≡ W.failed writer.old))
         ((R.failed reader.new ≡ R.failed reader.old) × (EndsFailed (W.failed writer.old) (W.failed writer.new) (W.ended writer.new)))
         ((R.failed reader.new ≡ R.failed reader.old) × (W.failed writer.new ≡ W.failed writer.old)) failure
         × LeavesOutput (is_made_whole (task_in (map string_bytes words.now))) (writer.new ≡ writer.old)
@@ -55,7 +58,8 @@ pub fn run<F: Folder, R: Source, W: Sink, E: Sink>(
     // Files are each told of under their names, in order, and the reader is left as it was.
     ensures files { files_in (map string_bytes words.now) ≢ [] → faults_in (map string_bytes words.now) ≡ []
         → IsToldOfAll LIMIT (F.holds folder.old) (files_in (map string_bytes words.now)) (F.visits folder.old) (F.visits folder.new)
-        (W.taken writer.old) (W.taken writer.new) (W.flushes writer.old) (W.flushes writer.new) (HasFailed (W.failed writer.old) (W.failed writer.new))
+        (W.taken writer.old) (W.taken writer.new) (W.flushes writer.old) (W.flushes writer.new)
+            (HasFailed (W.failed writer.old) (W.failed writer.new))
         (E.failed errors.old) (E.failed errors.new) (E.taken errors.old) (E.taken errors.new) result }
     ensures unread { files_in (map string_bytes words.now) ≢ [] → reader.new ≡ reader.old }
     ensures unopened { files_in (map string_bytes words.now) ≡ [] → folder.new ≡ folder.old }

@@ -72,7 +72,8 @@ impl Known {
         ensures tags { OnOk result
             (scratch.new.tags.items ≡ scratch.old.tags.items ++ numbers_at TAGS field.now.number (content_of field.now.payload)) }
         ensures integers { OnOk result
-            (scratch.new.integers.items ≡ scratch.old.integers.items ++ numbers_at GEOMETRY field.now.number (content_of field.now.payload)) }
+            (scratch.new.integers.items ≡ scratch.old.integers.items ++ numbers_at GEOMETRY field.now.number
+                (content_of field.now.payload)) }
         ensures err { IfErr result (λ error. Tells (fault_of error)
             (option_map (the_fault_at at) (first (feature_form_rules field.now.number (content_of field.now.payload))))) }
     {
@@ -93,7 +94,9 @@ impl Known {
 fn id_of(payload: &Payload<'_>, at: u64) -> Result<u64, MessageError>
     ensures number { IfOk result (λ n. number_of (content_of payload.now) ≡ Some n) }
     ensures ok { OnOk result (first (form_rules any_varint (content_of payload.now)) ≡ None) }
-    ensures err { IfErr result (λ error. Tells (fault_of error) (option_map (the_fault_at at) (first (form_rules any_varint (content_of payload.now))))) }
+    ensures err { IfErr result
+        (λ error. Tells (fault_of error)
+        (option_map (the_fault_at at) (first (form_rules any_varint (content_of payload.now))))) }
 {
     match varint_of(payload) {
         Ok(number) => Ok(number),
@@ -105,7 +108,8 @@ fn id_of(payload: &Payload<'_>, at: u64) -> Result<u64, MessageError>
 fn kind_of_payload(payload: &Payload<'_>, at: u64) -> Result<Kind, MessageError>
     ensures kind { IfOk result (λ kind. kind ≡ kind_of_type (number_of (content_of payload.now))) }
     ensures ok { OnOk result (first (form_rules geom_type (content_of payload.now)) ≡ None) }
-    ensures err { IfErr result (λ error. Tells (fault_of error) (option_map (the_fault_at at) (first (form_rules geom_type (content_of payload.now))))) }
+    ensures err { IfErr result
+        (λ error. Tells (fault_of error) (option_map (the_fault_at at) (first (form_rules geom_type (content_of payload.now))))) }
 {
     let Payload::Varint(number) = payload else {
         return Err(fault_at(at, Cause::WrongType));
@@ -128,7 +132,8 @@ fn append_numbers(
 ) -> Result<(), MessageError>
     ensures numbers { OnOk result (numbers.new.items ≡ numbers.old.items ++ numbers_of (content_of payload.now)) }
     ensures ok { OnOk result (first (list_rules (content_of payload.now)) ≡ None) }
-    ensures err { IfErr result (λ error. Tells (fault_of error) (option_map (the_fault_at at) (first (list_rules (content_of payload.now))))) }
+    ensures err { IfErr result
+        (λ error. Tells (fault_of error) (option_map (the_fault_at at) (first (list_rules (content_of payload.now))))) }
 {
     match payload {
         Payload::Varint(number) => {

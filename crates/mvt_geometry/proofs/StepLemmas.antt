@@ -78,7 +78,8 @@ module _ (line : Bool) (at : ℕ) (d : Pair) (to : Point) (x : d.dx ≢ 42949672
   pub leaves_x : (InRange to.x → ⊥) → first (step_rules line at d to) ≡ Some (at, causes.CoordinateRange)
   leaves_x h = rw (place_rules, first-when {F = IndexedCause} _ (at, causes.CoordinateRange) (outside to.x h)) refl
 
-  y_rule : InRange to.x → first (step_rules line at d to) ≡ option_or (first (when (is_outside wide to.y) (at + 1, causes.CoordinateRange))) None
+  y_rule : InRange to.x → first (step_rules line at d to) ≡ option_or
+      (first (when (is_outside wide to.y) (at + 1, causes.CoordinateRange))) None
   y_rule in_x = rw (place_rules, first-when_not {F = IndexedCause} _ (at, causes.CoordinateRange) (inside to.x in_x)) refl
 
   pub leaves_y : InRange to.x → (InRange to.y → ⊥) → first (step_rules line at d to) ≡ Some (at + 1, causes.CoordinateRange)

@@ -18,9 +18,11 @@ front_given left all front rest at n is e h =
     sym (ap₂ (λ x y. x ++ y) there gone ∙ take-append-drop n left)
 
 -- one more piece was taken from a reader
-pub TakesAtMost-more : (most n : ℕ) (a b c : Option (List ℕ)) (bytes buffer : List ℕ) → Consumes a b bytes → Consumes b c (take n buffer) → length bytes + n ≤ most → TakesAtMost most a c
+pub TakesAtMost-more : (most n : ℕ) (a b c : Option (List ℕ)) (bytes buffer : List ℕ) → Consumes a b bytes
+    → Consumes b c (take n buffer) → length bytes + n ≤ most → TakesAtMost most a c
 TakesAtMost-more most n a b c bytes buffer before piece few =
-    (bytes ++ take n buffer, omega (arith, length-append bytes (take n buffer), length-take n buffer), Consumes-trans a b c bytes (take n buffer) before piece)
+    (bytes ++ take n buffer, omega (arith, length-append bytes (take n buffer), length-take n buffer),
+        Consumes-trans a b c bytes (take n buffer) before piece)
 
 -- the writer took a front of the bytes, and this rest is to come
 pub record TakesFront (old now : Option (List ℕ)) (bytes rest : List ℕ) : Type 0 where
@@ -35,7 +37,8 @@ pub TakesFront-more : (a b c : Option (List ℕ)) (bytes rest : List ℕ) (n : �
     → Appends b c (take n rest) → n ≤ length rest → TakesFront a c bytes (take (length rest - n) (drop n rest))
 TakesFront-more a b c bytes rest n f more h = record {
   front = f.front ++ take n rest;
-  splits = f.splits ∙ ap (λ r. f.front ++ r) (back rest n h) ∙ sym (append_assoc f.front (take n rest) (take (length rest - n) (drop n rest)));
+  splits = f.splits ∙ ap (λ r. f.front ++ r) (back rest n h)
+      ∙ sym (append_assoc f.front (take n rest) (take (length rest - n) (drop n rest)));
   taken = Appends-trans a b c f.front (take n rest) f.taken more;
 }
 

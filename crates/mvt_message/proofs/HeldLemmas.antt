@@ -93,7 +93,8 @@ module _ {keep : Bool} {payload_at : ℕ} {keys : List (List ℕ)} {values : Lis
   pub feature_skipped : x.number ≢ FEATURES → AreFeaturesHeld keep payload_at keys values (done ++ x ∷ []) count kept
   feature_skipped other = record {
     features = so_far.features;
-    so_far = so_far_skip FEATURES (feature_rules_of payload_at keys values) (HoldsFeature keys values) done so_far.features x so_far.so_far other;
+    so_far = so_far_skip FEATURES (feature_rules_of payload_at keys values) (HoldsFeature keys values) done
+        so_far.features x so_far.so_far other;
     held = so_far.held;
   }
 
@@ -111,7 +112,8 @@ module _ {keep : Bool} {payload_at : ℕ} {keys : List (List ℕ)} {values : Lis
       index_is ∙ so_far.held.0 ∙ sym (length-related (HoldsFeature keys values) earlier so_far.features so_far.so_far.1) in
       let fault = feature_fault (bytes_of x.content) (payload_at + x.body) keys values in
       let told = ap (λ n. option_map (in_feature n) fault) count_is ∙ sym (feature_told payload_at keys values earlier x) in
-      selected_stops FEATURES (feature_rules_of payload_at keys values) e done x more is so_far.so_far.0 (subst (Tells (fault_of e)) told told_here)
+      selected_stops FEATURES (feature_rules_of payload_at keys values) e done x more is so_far.so_far.0
+          (subst (Tells (fault_of e)) told told_here)
 
   pub feature_held : (new : List Feature) (feature : Feature) → x.number ≡ FEATURES → IsFeatureOf (bytes_of x.content) keys values feature
       → feature_fault (bytes_of x.content) (payload_at + x.body) keys values ≡ None → OnTrue keep (new ≡ kept ++ feature ∷ [])

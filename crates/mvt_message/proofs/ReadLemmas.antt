@@ -126,7 +126,8 @@ version_stops payload_at done v x e so_far is told_here more =
 pub fault_stays : (fault : List Entry → Option MessageFault) (done : List Entry) (x : Entry) (e : MessageError)
     → ((more : List Entry) → Tells (fault_of e) (fault (done ++ more))) → (more : List Entry)
     → Tells (fault_of e) (fault ((done ++ x ∷ []) ++ more))
-fault_stays fault done x e stays more = subst (λ xs. Tells (fault_of e) (fault xs)) (sym (append_assoc done (x ∷ []) more)) (stays (x ∷ more))
+fault_stays fault done x e stays more = subst (λ xs. Tells (fault_of e) (fault xs))
+    (sym (append_assoc done (x ∷ []) more)) (stays (x ∷ more))
 
 -- where there is no fault, what the fields say holds
 pub or_clean : (fault : List Entry → Option MessageFault) (Say : List Entry → Type 0) (done : List Entry) (kept : Option MessageError)
@@ -277,7 +278,8 @@ pub head_versions : (payload : List ℕ) (payload_at tag_at : ℕ) (e : MessageE
     → Tells (fault_of e) (head_fault payload payload_at tag_at)
 head_versions payload payload_at tag_at e rest stays =
     or_tells (fault_of e) (rest_fault payload payload_at) _ (rests_none payload_at (split payload) rest)
-    (tells_or (fault_of e) (versions_fault payload_at (split payload).fields) _ (or_told (versions_fault payload_at) (split payload).fields e stays))
+    (tells_or (fault_of e) (versions_fault payload_at (split payload).fields) _
+        (or_told (versions_fault payload_at) (split payload).fields e stays))
 
 -- the exits of `read_layer`
 pub forms_told : (payload_at tag_at : ℕ) (xs : List Entry) (e : MessageError) → Tells (fault_of e) (forms_fault payload_at xs)
@@ -301,7 +303,8 @@ pub values_told : (payload_at tag_at : ℕ) (xs : List Entry) {name : List ℕ} 
     → forms_fault payload_at xs ≡ None → Some name ≡ name_in xs → Tells (fault_of e) (values_fault payload_at xs)
     → Tells (fault_of e) (layer_fault payload_at tag_at xs)
 values_told payload_at tag_at xs {name} e forms is h =
-    let values = or_tells (fault_of e) (no_name_fault tag_at xs) _ (name_some tag_at xs name is) (tells_or (fault_of e) (values_fault payload_at xs) _ h) in
+    let values = or_tells (fault_of e) (no_name_fault tag_at xs) _ (name_some tag_at xs name is)
+        (tells_or (fault_of e) (values_fault payload_at xs) _ h) in
     subst (Tells (fault_of e)) (sym (layer_chain payload_at tag_at xs)) (or_tells (fault_of e) (forms_fault payload_at xs) _ forms values)
 
 -- fields that break no rule before those of the features: the name, the keys and the values
@@ -338,7 +341,8 @@ features_told {payload_at} {xs} {name} tag_at e front h =
     let features = tells_or (fault_of e) (features_fault payload_at (keys_in xs) (values_in xs) xs) None here in
     let behind = or_tells (fault_of e) (values_fault payload_at xs) _ front.none_broken features in
     let named = or_tells (fault_of e) (no_name_fault tag_at xs) _ (name_some tag_at xs name front.name_is) behind in
-    subst (Tells (fault_of e)) (sym (layer_chain payload_at tag_at xs)) (or_tells (fault_of e) (forms_fault payload_at xs) _ front.forms named)
+    subst (Tells (fault_of e)) (sym (layer_chain payload_at tag_at xs))
+        (or_tells (fault_of e) (forms_fault payload_at xs) _ front.forms named)
 
 pub layer_ok : {payload_at : ℕ} {xs : List Entry} {name : List ℕ} {keys : List (List ℕ)} {values : List Value} (tag_at : ℕ)
     → IsClean payload_at xs name keys values → features_fault payload_at keys values xs ≡ None
@@ -360,7 +364,8 @@ as_two xs is two = is ∙ ap Some two
 pub head_told : (payload : List ℕ) (payload_at tag_at : ℕ) (e : MessageError) → Tells (fault_of e) (head_fault payload payload_at tag_at)
     → Tells (fault_of e) (item_fault payload payload_at tag_at)
 head_told payload payload_at tag_at e h =
-    subst (Tells (fault_of e)) (sym (item_chain payload payload_at tag_at)) (tells_or (fault_of e) (head_fault payload payload_at tag_at) _ h)
+    subst (Tells (fault_of e)) (sym (item_chain payload payload_at tag_at))
+        (tells_or (fault_of e) (head_fault payload payload_at tag_at) _ h)
 
 pub head_whole : (payload : List ℕ) (payload_at tag_at : ℕ) → head_fault payload payload_at tag_at ≡ None → (split payload).rest ≡ []
 head_whole payload payload_at tag_at none = rests_nothing payload_at (split payload) (option_or-nones _ _ none).0

@@ -129,7 +129,8 @@ counted_more files file old new verdict counted judged adds =
     adds.refused ∙ ap₂ (λ (t : Tally) (v : Verdict). t.refused + cond (is_refused v) 1 0) counted judged
     ∙ sym (count_more is_refused files file) in
     let u : new.unread ≡ count_of is_unread (files ++ file ∷ []) =
-    adds.unread ∙ ap₂ (λ (t : Tally) (v : Verdict). t.unread + cond (is_unread v) 1 0) counted judged ∙ sym (count_more is_unread files file) in
+    adds.unread ∙ ap₂ (λ (t : Tally) (v : Verdict). t.unread + cond (is_unread v) 1 0) counted judged
+        ∙ sym (count_more is_unread files file) in
     ap₂ (λ (x : ℕ) (p : ℕ × ℕ). record { accepted = x; refused = p.0; unread = p.1 }) a (ap₂ (λ (y z : ℕ). (y, z)) r u)
 
 -- one file more
@@ -159,7 +160,8 @@ said_more limit holds names name a b c old new verdict said one adds =
           (Appends-trans a.output b.output c.output (flat_map written_of files) (written_of file) said.written one.written);
       told =
           subst (Tells a.failed c.failed a.errors c.errors) lines
-          (tells-trans a.failed b.failed c.failed a.errors b.errors c.errors (flat_map told_of files ++ []) (told_of file) said.told one.told);
+          (tells-trans a.failed b.failed c.failed a.errors b.errors c.errors (flat_map told_of files ++ [])
+              (told_of file) said.told one.told);
       counted = counted_more files file old new verdict said.counted one.judged adds;
     }
 
@@ -184,7 +186,8 @@ said_step limit holds held all names name shown a b c old new verdict said one s
 -- what was told when an error came
 pub told_before : {T F : Type 0} → (r : Result T F) (limit : ℕ) (holds : List ℕ → Option (List ℕ)) (names : List (List ℕ)) (a b : Moment)
     (failed : ℕ) (errors : Option (List ℕ)) (tally : Tally)
-    → IsSaidOf limit holds names a b [] tally → TellsSome b.failed failed b.errors errors → OnErr r (TellsSome a.failed failed a.errors errors)
+    → IsSaidOf limit holds names a b [] tally → TellsSome b.failed failed b.errors errors
+        → OnErr r (TellsSome a.failed failed a.errors errors)
 told_before (Ok x) limit holds names a b failed errors tally said some = tt
 told_before (Err x) limit holds names a b failed errors tally said some =
     tells_more a.failed b.failed failed a.errors b.errors errors (flat_map told_of said.files ++ []) said.told some
@@ -266,7 +269,8 @@ cut_later limit holds held all names name shown behind a b line tally w failure 
           all_is ∙ ap (λ n. names ++ n ∷ behind) (sym shows) ∙ ap (λ ns. names ++ (ns ++ behind)) one
           ∙ ap (λ ns. names ++ ns) (append_assoc cut.front cut.rest behind) ∙ sym (append_assoc names cut.front (cut.rest ++ behind));
       checked =
-          related-append (λ n (f : Checked). (f.name ≡ n) × IsSaid limit (holds n) f.reply) names said.files cut.front cut.files said.checked
+          related-append (λ n (f : Checked). (f.name ≡ n) × IsSaid limit (holds n) f.reply) names said.files cut.front
+              cut.files said.checked
           (subst (λ (h : List ℕ → Option (List ℕ)). AreChecked limit h cut.front cut.files) same cut.checked);
       taken =
           subst (λ text. TakesUntil a.output w text failure) (sym (flat_map-append written_of said.files cut.files))

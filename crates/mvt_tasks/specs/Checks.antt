@@ -30,7 +30,8 @@ IsSaid limit held (Some reply) = IfSome held (λ input. IsReply limit Check inpu
 
 -- each name's file, in order, with its reply
 abbrev pub AreChecked : ℕ → (List ℕ → Option (List ℕ)) → List (List ℕ) → List Checked → Type 0
-AreChecked limit holds names files = AreRelated (λ name (file : Checked). (file.name ≡ name) × IsSaid limit (holds name) file.reply) names files
+AreChecked limit holds names files =
+    AreRelated (λ name (file : Checked). (file.name ≡ name) × IsSaid limit (holds name) file.reply) names files
 
 -- a file without a reply is one that couldn't be read
 abbrev pub visit_of : List ℕ → Option Reply → Visit
@@ -126,7 +127,8 @@ moment visits output failed errors = record { visits = visits; output = output; 
 
 -- the files of these names were checked, each once and in order, and all was put out that there is to say of them, and on
 -- the error stream one line more
-pub record IsSaidOf (limit : ℕ) (holds : List ℕ → Option (List ℕ)) (names : List (List ℕ)) (old new : Moment) (line : List ℕ) (tally : Tally) : Type 0 where
+pub record IsSaidOf (limit : ℕ) (holds : List ℕ → Option (List ℕ)) (names : List (List ℕ)) (old new : Moment)
+    (line : List ℕ) (tally : Tally) : Type 0 where
   pub files : List Checked
   pub checked : AreChecked limit holds names files
   pub visited : AddsAll old.visits new.visits (map (λ file. visit_of file.name file.reply) files)
@@ -156,7 +158,8 @@ TakesUntil old new text Write = TakesPrefix old new text
 TakesUntil old new text Memory = Appends old new text
 
 -- a run that was over early: the files of a front of the names were checked, in order, and what there is to say of them was taken
-pub record IsCutShort (limit : ℕ) (holds : List ℕ → Option (List ℕ)) (names : List (List ℕ)) (output_old output_new : Option (List ℕ)) (failure : Failure) : Type 0 where
+pub record IsCutShort (limit : ℕ) (holds : List ℕ → Option (List ℕ)) (names : List (List ℕ))
+    (output_old output_new : Option (List ℕ)) (failure : Failure) : Type 0 where
   pub front : List (List ℕ)
   pub rest : List (List ℕ)
   pub files : List Checked
@@ -172,8 +175,11 @@ TellsSome failed_old failed_new old new = (lines : List ℕ) × Tells failed_old
 -- run was over before, with a front of this on the output, which the last line tells
 abbrev pub IsToldOfAll : ℕ → (List ℕ → Option (List ℕ)) → List (List ℕ) → Option (List Visit) → Option (List Visit)
     → Option (List ℕ) → Option (List ℕ) → ℕ → ℕ → Type 0 → ℕ → ℕ → Option (List ℕ) → Option (List ℕ) → ℕ → Type 0
-IsToldOfAll limit holds names visits_old visits_new output_old output_new flushes_old flushes_new WriteFailed failed_old failed_new errors_old errors_new status =
-    ((tally : Tally) × IsSaidOf limit holds names (moment visits_old output_old failed_old errors_old) (moment visits_new output_new failed_new errors_new)
+IsToldOfAll limit holds names visits_old visits_new output_old output_new flushes_old flushes_new WriteFailed
+    failed_old failed_new errors_old errors_new status =
+    ((tally : Tally) × IsSaidOf limit holds names (moment visits_old output_old failed_old errors_old)
+        (moment visits_new output_new failed_new errors_new)
     (summary (length names) tally) tally × (flushes_new ≡ counted flushes_old) × (status ≡ status_after tally))
-    ⊎ ((failure : Failure) × IsOver WriteFailed failure × (status ≡ status_of failure) × IsCutShort limit holds names output_old output_new failure
+    ⊎ ((failure : Failure) × IsOver WriteFailed failure × (status ≡ status_of failure)
+        × IsCutShort limit holds names output_old output_new failure
     × ((lines : List ℕ) × (NoneFailed failed_old failed_new → Appends errors_old errors_new (lines ++ line_of failure))))

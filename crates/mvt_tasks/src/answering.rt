@@ -35,7 +35,9 @@ pub fn answer<R: Source, W: Sink>(
         × (W.flushes writer.new ≡ counted (W.flushes writer.old))))) }
     ensures flushed { IfOk result (IsFlushed (writer.new ≡ writer.old)
         (W.flushes writer.new ≡ counted (W.flushes writer.old))) }
-    ensures caused { IfErr result (IsCaused ((EndsFailed (R.failed reader.old) (R.failed reader.new) (R.ended reader.new)) × (W.failed writer.new ≡ W.failed writer.old))
+    ensures caused { IfErr result
+        (IsCaused ((EndsFailed (R.failed reader.old) (R.failed reader.new) (R.ended reader.new))
+        × (W.failed writer.new ≡ W.failed writer.old))
         ((R.failed reader.new ≡ R.failed reader.old) × (EndsFailed (W.failed writer.old) (W.failed writer.new) (W.ended writer.new)))
         ((R.failed reader.new ≡ R.failed reader.old) × (W.failed writer.new ≡ W.failed writer.old))) }
     ensures sound { OnOk result ((R.failed reader.new ≡ R.failed reader.old) × (W.failed writer.new ≡ W.failed writer.old)) }

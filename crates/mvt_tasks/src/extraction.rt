@@ -31,7 +31,9 @@ pub fn extract_layers<R: Source, W: Sink>(
         × (W.flushes writer.new ≡ counted (W.flushes writer.old))))) }
     ensures flushed { IfOk result (IsFlushed (writer.new ≡ writer.old)
         (W.flushes writer.new ≡ counted (W.flushes writer.old))) }
-    ensures caused { IfErr result (IsCaused ((EndsFailed (R.failed reader.old) (R.failed reader.new) (R.ended reader.new)) × (W.failed writer.new ≡ W.failed writer.old))
+    ensures caused { IfErr result
+        (IsCaused ((EndsFailed (R.failed reader.old) (R.failed reader.new) (R.ended reader.new))
+        × (W.failed writer.new ≡ W.failed writer.old))
         ((R.failed reader.new ≡ R.failed reader.old) × (EndsFailed (W.failed writer.old) (W.failed writer.new) (W.ended writer.new)))
         ((R.failed reader.new ≡ R.failed reader.old) × (W.failed writer.new ≡ W.failed writer.old))) }
     ensures sound { OnOk result ((R.failed reader.new ≡ R.failed reader.old) × (W.failed writer.new ≡ W.failed writer.old)) }
@@ -59,7 +61,9 @@ fn put_layers<W: Sink>(
         × (W.flushes writer.new ≡ counted (W.flushes writer.old))) (layers_reply LIMIT (map string_bytes names.now) tile.now)) }
     ensures flushed { IfOk result (IsFlushed (writer.new ≡ writer.old)
         (W.flushes writer.new ≡ counted (W.flushes writer.old))) }
-    ensures caused { IfErr result (IsCaused ⊥ (EndsFailed (W.failed writer.old) (W.failed writer.new) (W.ended writer.new)) (W.failed writer.new ≡ W.failed writer.old)) }
+    ensures caused { IfErr result
+        (IsCaused ⊥ (EndsFailed (W.failed writer.old) (W.failed writer.new) (W.ended writer.new))
+        (W.failed writer.new ≡ W.failed writer.old)) }
     ensures honest { OnOk result (W.failed writer.new ≡ W.failed writer.old) }
     ensures partly { IfErr result (LeavesOutput false (writer.new ≡ writer.old)
         (TakesPrefix (W.taken writer.old) (W.taken writer.new) (canonical (pick tile.now (map string_bytes names.now))))) }

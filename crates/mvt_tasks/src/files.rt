@@ -27,7 +27,8 @@ pub fn check_files<F: Folder, W: Sink, E: Sink>(
     errors: &mut E,
 ) -> u8
     ensures told { IsToldOfAll LIMIT (F.holds folder.old) (map string_bytes names.now) (F.visits folder.old) (F.visits folder.new)
-        (W.taken writer.old) (W.taken writer.new) (W.flushes writer.old) (W.flushes writer.new) (HasFailed (W.failed writer.old) (W.failed writer.new))
+        (W.taken writer.old) (W.taken writer.new) (W.flushes writer.old) (W.flushes writer.new)
+            (HasFailed (W.failed writer.old) (W.failed writer.new))
         (E.failed errors.old) (E.failed errors.new) (E.taken errors.old) (E.taken errors.new) result }
     ensures sound { result < 2 → W.failed writer.new ≡ W.failed writer.old }
 {
@@ -49,12 +50,14 @@ fn check_all<F: Folder, W: Sink, E: Sink>(
 ) -> Result<Tally, Failure>
     ensures said { IfOk result (λ tally. IsSaidOf LIMIT (F.holds folder.old) (map string_bytes names.now)
         (moment (F.visits folder.old) (W.taken writer.old) (E.failed errors.old) (E.taken errors.old))
-        (moment (F.visits folder.new) (W.taken writer.new) (E.failed errors.new) (E.taken errors.new)) (summary (length (map string_bytes names.now)) tally) tally) }
+        (moment (F.visits folder.new) (W.taken writer.new) (E.failed errors.new) (E.taken errors.new))
+            (summary (length (map string_bytes names.now)) tally) tally) }
     ensures flushed { OnOk result (W.flushes writer.new ≡ counted (W.flushes writer.old)) }
     ensures sound { OnOk result (W.failed writer.new ≡ W.failed writer.old) }
     ensures failed { IfErr result (IsOver (HasFailed (W.failed writer.old) (W.failed writer.new))) }
     ensures partly { OnErr result (TellsSome (E.failed errors.old) (E.failed errors.new) (E.taken errors.old) (E.taken errors.new)) }
-    ensures cut { IfErr result (IsCutShort LIMIT (F.holds folder.old) (map string_bytes names.now) (W.taken writer.old) (W.taken writer.new)) }
+    ensures cut { IfErr result (IsCutShort LIMIT (F.holds folder.old) (map string_bytes names.now)
+        (W.taken writer.old) (W.taken writer.new)) }
 {
     let tally = check_each(alloc, names, folder, writer, errors)?;
     let line = tally.line(alloc, names.len())?;
@@ -77,7 +80,8 @@ fn check_each<F: Folder, W: Sink, E: Sink>(
     ensures sound { OnOk result (W.failed writer.new ≡ W.failed writer.old) }
     ensures failed { IfErr result (IsOver (HasFailed (W.failed writer.old) (W.failed writer.new))) }
     ensures partly { OnErr result (TellsSome (E.failed errors.old) (E.failed errors.new) (E.taken errors.old) (E.taken errors.new)) }
-    ensures cut { IfErr result (IsCutShort LIMIT (F.holds folder.old) (map string_bytes names.now) (W.taken writer.old) (W.taken writer.new)) }
+    ensures cut { IfErr result (IsCutShort LIMIT (F.holds folder.old) (map string_bytes names.now)
+        (W.taken writer.old) (W.taken writer.new)) }
 {
     let mut tally = Tally::none();
     for name in names {

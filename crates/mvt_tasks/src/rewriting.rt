@@ -27,7 +27,9 @@ pub fn rewrite<R: Source, W: Sink>(
         × (W.flushes writer.new ≡ counted (W.flushes writer.old))))) }
     ensures flushed { IfOk result (IsFlushed (writer.new ≡ writer.old)
         (W.flushes writer.new ≡ counted (W.flushes writer.old))) }
-    ensures caused { IfErr result (IsCaused ((EndsFailed (R.failed reader.old) (R.failed reader.new) (R.ended reader.new)) × (W.failed writer.new ≡ W.failed writer.old))
+    ensures caused { IfErr result
+        (IsCaused ((EndsFailed (R.failed reader.old) (R.failed reader.new) (R.ended reader.new))
+        × (W.failed writer.new ≡ W.failed writer.old))
         ((R.failed reader.new ≡ R.failed reader.old) × (EndsFailed (W.failed writer.old) (W.failed writer.new) (W.ended writer.new)))
         ((R.failed reader.new ≡ R.failed reader.old) × (W.failed writer.new ≡ W.failed writer.old))) }
     ensures sound { OnOk result ((R.failed reader.new ≡ R.failed reader.old) × (W.failed writer.new ≡ W.failed writer.old)) }
@@ -55,7 +57,9 @@ pub(crate) fn put_tile<W: Sink>(
         × (W.flushes writer.new ≡ counted (W.flushes writer.old))) (bytes_reply LIMIT tile.now)) }
     ensures flushed { IfOk result (IsFlushed (writer.new ≡ writer.old)
         (W.flushes writer.new ≡ counted (W.flushes writer.old))) }
-    ensures caused { IfErr result (IsCaused ⊥ (EndsFailed (W.failed writer.old) (W.failed writer.new) (W.ended writer.new)) (W.failed writer.new ≡ W.failed writer.old)) }
+    ensures caused { IfErr result
+        (IsCaused ⊥ (EndsFailed (W.failed writer.old) (W.failed writer.new) (W.ended writer.new))
+        (W.failed writer.new ≡ W.failed writer.old)) }
     ensures honest { OnOk result (W.failed writer.new ≡ W.failed writer.old) }
     ensures partly { IfErr result (LeavesOutput false (writer.new ≡ writer.old)
         (TakesPrefix (W.taken writer.old) (W.taken writer.new) (canonical tile.now))) }

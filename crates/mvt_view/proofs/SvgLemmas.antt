@@ -10,10 +10,13 @@ items_svg-append n [] ys = ap (λ k. items_svg k ys) (let e : n ≡ n + 0 = omeg
 items_svg-append n (x ∷ xs) ys =
     ap (λ t. item_svg n x ++ t) (items_svg-append (n + 1) xs ys)
     ∙ sym (append_assoc (item_svg n x) (items_svg (n + 1) xs) (items_svg (n + 1 + length xs) ys))
-    ∙ ap (λ k. (item_svg n x ++ items_svg (n + 1) xs) ++ items_svg k ys) (let e : n + 1 + length xs ≡ n + length (x ∷ xs) = omega arith in e)
+    ∙ ap (λ k. (item_svg n x ++ items_svg (n + 1) xs) ++ items_svg k ys)
+        (let e : n + 1 + length xs ≡ n + length (x ∷ xs) = omega arith in e)
 
 -- one item more
-pub items_more : (items : List Item) (i : ℕ) (item : Item) (start old new : List ℕ) → i < length items → item ≡ get_or items i item → old ≡ start ++ items_svg 0 (take i items) → new ≡ old ++ item_svg i item → new ≡ start ++ items_svg 0 (take (i + 1) items)
+pub items_more : (items : List Item) (i : ℕ) (item : Item) (start old new : List ℕ) → i < length items
+    → item ≡ get_or items i item → old ≡ start ++ items_svg 0 (take i items) → new ≡ old ++ item_svg i item
+    → new ≡ start ++ items_svg 0 (take (i + 1) items)
 items_more items i item start old new h is so_far e =
     let front = take i items in
     let len : 0 + length front ≡ i = omega (arith, length-take i items) in

@@ -21,7 +21,8 @@ pub record Listed (limit : ℕ) (input : List ℕ) (to_come : Parts) (lines : Li
   pub place : to_come.rest_at ≡ (front_parts limit input).rest_at
   pub told_so_far : lines ≡ flat_map field_line done
 
-pub listed_start : (limit : ℕ) (input front : List ℕ) (to_come : Parts) (lines : List ℕ) → front ≡ take limit input → to_come ≡ split front → lines ≡ [] → Listed limit input to_come lines
+pub listed_start : (limit : ℕ) (input front : List ℕ) (to_come : Parts) (lines : List ℕ) → front ≡ take limit input
+    → to_come ≡ split front → lines ≡ [] → Listed limit input to_come lines
 listed_start limit input front to_come lines is all none = record {
   done = [];
   fields = ap (λ (p : Parts). p.fields) (ap split (sym is) ∙ sym all);
@@ -30,37 +31,52 @@ listed_start limit input front to_come lines is all none = record {
   told_so_far = none;
 }
 
-pub listed_step : (limit : ℕ) (input : List ℕ) (old new : Parts) (lines after : List ℕ) (field : Field) → Listed limit input old lines → GivesEntry old (Some (Ok field)) new → after ≡ lines ++ field_line (entry_of field) → Listed limit input new after
+pub listed_step : (limit : ℕ) (input : List ℕ) (old new : Parts) (lines after : List ℕ) (field : Field)
+    → Listed limit input old lines → GivesEntry old (Some (Ok field)) new → after ≡ lines ++ field_line
+    (entry_of field) → Listed limit input new after
 listed_step limit input old new lines after field so_far step is = record {
   done = so_far.done ++ entry_of field ∷ [];
-  fields = so_far.fields ∙ ap (λ (p : Parts). so_far.done ++ p.fields) step.0 ∙ sym (append_assoc so_far.done (entry_of field ∷ []) new.fields);
+  fields = so_far.fields ∙ ap (λ (p : Parts). so_far.done ++ p.fields) step.0
+      ∙ sym (append_assoc so_far.done (entry_of field ∷ []) new.fields);
   rest = sym (ap (λ (p : Parts). p.rest) step.0) ∙ so_far.rest;
   place = sym (ap (λ (p : Parts). p.rest_at) step.0) ∙ so_far.place;
-  told_so_far = is ∙ ap (λ l. l ++ field_line (entry_of field)) so_far.told_so_far ∙ sym (flat_map-append field_line so_far.done (entry_of field ∷ []) ∙ ap (λ l. flat_map field_line so_far.done ++ l) (append-nil (field_line (entry_of field))));
+  told_so_far = is ∙ ap (λ l. l ++ field_line (entry_of field)) so_far.told_so_far
+      ∙ sym (flat_map-append field_line so_far.done (entry_of field ∷ [])
+      ∙ ap (λ l. flat_map field_line so_far.done ++ l) (append-nil (field_line (entry_of field))));
 }
 
-all_told : (limit : ℕ) (input : List ℕ) (old : Parts) (lines : List ℕ) → Listed limit input old lines → old.fields ≡ [] → lines ≡ fields_lines limit input
+all_told : (limit : ℕ) (input : List ℕ) (old : Parts) (lines : List ℕ) → Listed limit input old lines
+    → old.fields ≡ [] → lines ≡ fields_lines limit input
 unfolding fields_lines
 all_told limit input old lines so_far none =
     so_far.told_so_far ∙ ap (flat_map field_line) (sym (so_far.fields ∙ ap (λ l. so_far.done ++ l) none ∙ append-nil so_far.done))
 
-fault_of_rest : (limit : ℕ) (longer : Bool) (at : ℕ) (rest : List ℕ) → rest ≢ [] → rest_fault limit longer at rest ≡ Some (told longer at (rest_cause rest))
+fault_of_rest : (limit : ℕ) (longer : Bool) (at : ℕ) (rest : List ℕ) → rest ≢ [] → rest_fault limit longer at rest
+    ≡ Some (told longer at (rest_cause rest))
 fault_of_rest limit longer at [] some = absurd (some refl)
 fault_of_rest limit longer at (b ∷ bs) some = refl
 
-the_fault : (limit : ℕ) (input : List ℕ) (old : Parts) (lines : List ℕ) (longer : Bool) → Listed limit input old lines → longer ≡ nat_lt limit (length input) → rest_fault limit longer old.rest_at old.rest ≡ fields_fault limit input
+the_fault : (limit : ℕ) (input : List ℕ) (old : Parts) (lines : List ℕ) (longer : Bool) → Listed limit input old lines
+    → longer ≡ nat_lt limit (length input) → rest_fault limit longer old.rest_at old.rest ≡ fields_fault limit input
 unfolding fields_fault
 the_fault limit input old lines longer so_far is =
     ap (λ l. rest_fault limit l old.rest_at old.rest) is ∙ ap₂ (rest_fault limit (nat_lt limit (length input))) so_far.place so_far.rest
 
-pub listed_fault : (limit : ℕ) (input : List ℕ) (old new : Parts) (lines : List ℕ) (longer : Bool) (fault : WireFault) (f : Fault) → Listed limit input old lines → GivesEntry old (Some (Err fault)) new → longer ≡ nat_lt limit (length input) → f ≡ told longer fault.at fault.cause → (lines ≡ fields_lines limit input) × (Some f ≡ fields_fault limit input)
+pub listed_fault : (limit : ℕ) (input : List ℕ) (old new : Parts) (lines : List ℕ) (longer : Bool) (fault : WireFault)
+    (f : Fault) → Listed limit input old lines → GivesEntry old (Some (Err fault)) new → longer ≡ nat_lt limit
+    (length input) → f ≡ told longer fault.at fault.cause → (lines ≡ fields_lines limit input)
+    × (Some f ≡ fields_fault limit input)
 listed_fault limit input old new lines longer fault f so_far step is f_is =
-    (all_told limit input old lines so_far step.0, ap Some (f_is ∙ ap₂ (told longer) step.2 step.3) ∙ sym (fault_of_rest limit longer old.rest_at old.rest step.1) ∙ the_fault limit input old lines longer so_far is)
+    (all_told limit input old lines so_far step.0, ap Some (f_is ∙ ap₂ (told longer) step.2 step.3)
+        ∙ sym (fault_of_rest limit longer old.rest_at old.rest step.1) ∙ the_fault limit input old lines longer so_far is)
 
 behind_limit : (limit : ℕ) (longer : Bool) (at : ℕ) → then_some longer (outer_fault limit TooLarge) ≡ rest_fault limit longer at []
 behind_limit limit true at = refl
 behind_limit limit false at = refl
 
-pub listed_end : (limit : ℕ) (input : List ℕ) (old new : Parts) (lines : List ℕ) (longer : Bool) (o : Option Fault) → Listed limit input old lines → GivesEntry old None new → longer ≡ nat_lt limit (length input) → o ≡ then_some longer (outer_fault limit TooLarge) → (lines ≡ fields_lines limit input) × (o ≡ fields_fault limit input)
+pub listed_end : (limit : ℕ) (input : List ℕ) (old new : Parts) (lines : List ℕ) (longer : Bool) (o : Option Fault)
+    → Listed limit input old lines → GivesEntry old None new → longer ≡ nat_lt limit (length input)
+    → o ≡ then_some longer (outer_fault limit TooLarge) → (lines ≡ fields_lines limit input) × (o ≡ fields_fault limit input)
 listed_end limit input old new lines longer o so_far step is o_is =
-    (all_told limit input old lines so_far step.0, o_is ∙ behind_limit limit longer old.rest_at ∙ ap (rest_fault limit longer old.rest_at) (sym step.1) ∙ the_fault limit input old lines longer so_far is)
+    (all_told limit input old lines so_far step.0, o_is ∙ behind_limit limit longer old.rest_at
+        ∙ ap (rest_fault limit longer old.rest_at) (sym step.1) ∙ the_fault limit input old lines longer so_far is)

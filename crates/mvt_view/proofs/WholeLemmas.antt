@@ -62,7 +62,8 @@ geometry_whole (Lines ls) = or_from _ _ (each_whole line_json line_whole ls) ref
 geometry_whole (Polygons ps) = or_from _ _ (each_whole polygon_json polygon_whole ps) refl
 
 feature_whole : (f : Feature) → has_float (feature_json f) ≡ false
-feature_whole f = or_from _ _ (each_whole attribute_json attribute_whole f.attributes) (or_from _ _ (geometry_whole f.geometry) (or_from _ _ (id_whole f.id) refl))
+feature_whole f = or_from _ _ (each_whole attribute_json attribute_whole f.attributes)
+    (or_from _ _ (geometry_whole f.geometry) (or_from _ _ (id_whole f.id) refl))
 
 pub title_whole : (f : Feature) → has_float (title_json f) ≡ false
 title_whole f = or_from _ _ (each_whole attribute_json attribute_whole f.attributes) (or_from _ _ (id_whole f.id) refl)

@@ -32,7 +32,8 @@ positive : (z : ℤ) → lt_z (pos 0) z ≡ true → pos 0 <ℤ z
 positive z e = by_lt_z (pos 0) z (λ h. h) (λ h. let no : lt_z (pos 0) z ≡ false = grind (arith, ints) in absurd (false≢true (sym no ∙ e)))
 
 not_positive : (z : ℤ) → lt_z (pos 0) z ≡ false → z ≤ℤ pos 0
-not_positive z e = by_lt_z (pos 0) z (λ h. let yes : lt_z (pos 0) z ≡ true = grind (arith, ints) in absurd (false≢true (sym e ∙ yes))) (λ h. h)
+not_positive z e = by_lt_z (pos 0) z (λ h. let yes : lt_z (pos 0) z ≡ true = grind (arith, ints) in
+    absurd (false≢true (sym e ∙ yes))) (λ h. h)
 
 pub loop-pen-preserved : goal.loop-pen-preserved
 loop-pen-preserved c =
@@ -69,7 +70,8 @@ loop-pen-preserved-then-polygons-eq0 c =
           (λ p ps more is small spelled. c.in_ok-next.ensures.ring k p ps more third_is here is small spelled)
           (λ ring rs same. elim c.then-polygons-eq0.branch [
             | then-polygons-eq0-via-then-polygons-eq0 w ↦ opened_one n ring rs (inl w.if-polygons-eq0.true)
-            | then-polygons-eq0-via-else-polygons-eq0+then-area-gt0 w ↦ opened_one n ring rs (inr (subst (λ z. pos 0 <ℤ z) (area_is ∙ same) (positive _ w.if-area-gt0.true)))
+            | then-polygons-eq0-via-else-polygons-eq0+then-area-gt0 w ↦ opened_one n ring rs
+                (inr (subst (λ z. pos 0 <ℤ z) (area_is ∙ same) (positive _ w.if-area-gt0.true)))
           ])
           (c.loop-pen.invariant.2 rings all),
     )

@@ -7,4 +7,5 @@ use Rattle.mvt_tasks.proofs.checking.checked.Goals as goal
 pub returns-in-Ok-clause-reply : goal.returns-in-Ok-clause-reply
 returns-in-Ok-clause-reply c =
     let (tile, is_tile, valid, is) = c.in-Ok.ensures.survey in
-    IfOk-weaker c.reported.result _ _ (λ reply told. inl (tile, is_tile, told ∙ ap (λ survey. done (survey_lines survey)) is)) c.reported.ensures.reply
+    IfOk-weaker c.reported.result _ _
+        (λ reply told. inl (tile, is_tile, told ∙ ap (λ survey. done (survey_lines survey)) is)) c.reported.ensures.reply

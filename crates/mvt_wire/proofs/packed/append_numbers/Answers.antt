@@ -31,7 +31,8 @@ returns-in-Err-clause-err c =
 pub returns-clause-ok : goal.returns-clause-ok
 returns-clause-ok c =
     let inv = c.loop-rest.invariant in
-    (read_all c.args.bytes.now c.loop-rest.rest.now inv.read inv.split inv.clean (nil_from_test _ _ c.is_empty.ensures c.loop-rest-test.false)).0
+    (read_all c.args.bytes.now c.loop-rest.rest.now inv.read inv.split inv.clean
+        (nil_from_test _ _ c.is_empty.ensures c.loop-rest-test.false)).0
 
 pub returns-clause-numbers : goal.returns-clause-numbers
 returns-clause-numbers c =
@@ -39,4 +40,5 @@ returns-clause-numbers c =
     inv.items
     ∙ ap (λ ns. c.args.out.now.items ++ ns)
     (sym
-    (read_all c.args.bytes.now c.loop-rest.rest.now inv.read inv.split inv.clean (nil_from_test _ _ c.is_empty.ensures c.loop-rest-test.false)).1)
+    (read_all c.args.bytes.now c.loop-rest.rest.now inv.read inv.split inv.clean
+        (nil_from_test _ _ c.is_empty.ensures c.loop-rest-test.false)).1)
