@@ -13,7 +13,7 @@ use crate::numbers::tile;
 use crate::tile::Tile;
 use mvt_base::LIMIT;
 use mvt_message::{Item, PutError, put_item};
-use mvt_wire::put_varint;
+use mvt_wire::put_field_head;
 use std::alloc::{AllocError, Global};
 
 /// Whether these are the bytes that `encode` makes of a tile. One item's bytes are made at a time,
@@ -64,7 +64,6 @@ fn field_head(alloc: Global, len: usize) -> Result<Vec<u8>, AllocError>
         → short_field LAYERS (in_bytes d) ≡ head.items ++ d) }
 {
     let mut head = Vec::new(alloc);
-    put_varint(&mut head, 8 * tile::LAYERS as u64 + 2)?;
-    put_varint(&mut head, len as u64)?;
+    put_field_head(&mut head, tile::LAYERS, len as u64)?;
     Ok(head)
 }

@@ -1,7 +1,8 @@
 //! The notes of a tile.
-ghost use Rattle.std.specs.Prelude.{◌≡◌, ◌==◌, ℕ, ◌+◌, ◌++◌, length, Some, None, IfOk, OnOk, nat_eq, if◌then◌else◌};
-ghost use Rattle.std.specs.HashMap.{get};
+ghost use Rattle.std.specs.Prelude.{◌≡◌, ◌==◌, ℕ, ◌+◌, ◌++◌, length, Some, None, IfOk, OnOk, if◌then◌else◌};
+ghost use Rattle.std.specs.BTreeMap.{get};
 ghost use Rattle.std.specs.Option.{option_or};
+ghost use Rattle.std.specs.Ordering.{nat_cmp};
 ghost use Rattle.mvt_geometry.specs.Shape.{rings_of};
 ghost use Rattle.mvt_model.specs.Notes.{numbered, note_if as the_note_if, is_closed as the_is_closed, ring_notes, geometry_notes, is_id, id_note, earlier_note, layer_notes, item_notes, notes_of};
 
@@ -12,7 +13,7 @@ use mvt_feature::Feature;
 use mvt_geometry::{Geometry, Point, Polygon, twice_area};
 use mvt_message::Item;
 use std::alloc::{AllocError, Global};
-use std::collections::HashMap;
+use std::collections::BTreeMap;
 
 /// What is noted of a tile, in the order of its layers, features and rings.
 pub fn notes(alloc: Global, tile: &Tile) -> Result<Vec<Note>, AllocError>
@@ -66,7 +67,7 @@ fn note_layer(
     ensures { OnOk result (notes.new.items ≡ notes.old.items ++ layer_notes index features.now) }
 {
     note_if(notes, features.is_empty(), Note::NoFeatures(index))?;
-    let mut ids = HashMap::new(alloc);
+    let mut ids = BTreeMap::new(alloc);
     for (number, feature) in features.iter().enumerate() {
         note_id(notes, &mut ids, index, number, feature.id)?;
         note_geometry(notes, index, number, &feature.geometry)?;
@@ -77,14 +78,14 @@ fn note_layer(
 /// Notes an id that an earlier feature has; the first feature of an id is kept.
 fn note_id(
     notes: &mut Vec<Note>,
-    ids: &mut HashMap<u64, usize>,
+    ids: &mut BTreeMap<u64, usize>,
     layer: usize,
     feature: usize,
     id: Option<u64>,
 ) -> Result<(), AllocError>
-    ensures notes { OnOk result (notes.new.items ≡ notes.old.items ++ id_note layer feature (get nat_eq ids.old) id) }
-    ensures ids { OnOk result ((q : ℕ) → get nat_eq ids.new q
-        ≡ option_or (get nat_eq ids.old q) (if is_id q id then Some feature else None)) }
+    ensures notes { OnOk result (notes.new.items ≡ notes.old.items ++ id_note layer feature (get nat_cmp ids.old) id) }
+    ensures ids { OnOk result ((q : ℕ) → get nat_cmp ids.new q
+        ≡ option_or (get nat_cmp ids.old q) (if is_id q id then Some feature else None)) }
 {
     match id {
         None => Ok(()),
@@ -94,14 +95,14 @@ fn note_id(
 
 fn keep_id(
     notes: &mut Vec<Note>,
-    ids: &mut HashMap<u64, usize>,
+    ids: &mut BTreeMap<u64, usize>,
     layer: usize,
     feature: usize,
     id: u64,
 ) -> Result<(), AllocError>
-    ensures notes { OnOk result (notes.new.items ≡ notes.old.items ++ earlier_note layer feature (get nat_eq ids.old id)) }
-    ensures ids { OnOk result ((q : ℕ) → get nat_eq ids.new q
-        ≡ option_or (get nat_eq ids.old q) (if q == id then Some feature else None)) }
+    ensures notes { OnOk result (notes.new.items ≡ notes.old.items ++ earlier_note layer feature (get nat_cmp ids.old id)) }
+    ensures ids { OnOk result ((q : ℕ) → get nat_cmp ids.new q
+        ≡ option_or (get nat_cmp ids.old q) (if q == id then Some feature else None)) }
 {
     if let Some(earlier) = ids.get(&id).copied() {
         notes.push(Note::RepeatedId(layer, feature, earlier))?;

@@ -38,13 +38,14 @@ pub struct TileDecoder {
 
 impl Model for TileDecoder {
     ghost use Rattle.std.specs.Prelude.{ℕ, ◌+◌, ◌≤◌, length, IfNone};
+    ghost use Rattle.mvt_base.specs.declared.TheConstants.{LIMIT};
     ghost use Rattle.mvt_tile.specs.Streams.{Decoding};
 
     ghost Value = { Decoding };
 
     ghost view = { λ d. record { failure = d.failure; items = d.layers; raw = d.raw.items; offset = d.offset } };
 
-    ghost invariant = { λ d. IfNone d.failure ((length d.layers ≤ d.offset) × (d.offset + length d.raw.items ≤ 67108864)) };
+    ghost invariant = { λ d. IfNone d.failure ((length d.layers ≤ d.offset) × (d.offset + length d.raw.items ≤ LIMIT)) };
 }
 
 impl TileDecoder {

@@ -1,5 +1,6 @@
-use Rattle.std.proofs.Common.{arith, nat_eq, cond, Some, None, ap, ◌∙◌, sym}
-use Rattle.std.specs.HashMap.{get}
+use Rattle.std.proofs.Common.{arith, cond, Some, None, ap, ◌∙◌, sym}
+use Rattle.std.specs.BTreeMap.{get}
+use Rattle.std.specs.Ordering.{nat_cmp}
 use Rattle.std.specs.Option.{option_or}
 use Rattle.mvt_model.specs.Notes.{feature_notes, is_id}
 use Rattle.mvt_model.proofs.NoteLemmas.{noted_more, feature_noted, first_of_more}
@@ -15,7 +16,7 @@ loop-number-preserved c =
           c.index-features-number.is
           (omega arith) c.loop-number.invariant.notes
           (feature_noted c.args.index k c.args.features.now f
-          (get nat_eq c.loop-number.ids) _ _ _ c.loop-number.invariant.ids c.in_ok-note_id.ensures.notes c.in_ok-note_geometry.ensures);
+          (get nat_cmp c.loop-number.ids) _ _ _ c.loop-number.invariant.ids c.in_ok-note_id.ensures.notes c.in_ok-note_geometry.ensures);
       ids = λ q. c.in_ok-note_id.ensures.ids q ∙ ap (λ o. option_or o (cond (is_id q f.id) (Some k) None)) (c.loop-number.invariant.ids q)
           ∙ sym (first_of_more q c.args.features.now k f c.loop-number-test.true c.index-features-number.is);
     }
