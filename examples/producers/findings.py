@@ -22,7 +22,8 @@ mvt = top / "crates/mvt_cli/out/mvt_cli"
 
 PACKAGES = {"gdal": ("GDAL", "gdal-bin"), "postgis": ("PostGIS", "postgresql-15-postgis-3"),
             "tilemaker": ("tilemaker", "tilemaker"), "mapserver": ("MapServer", "mapserver-bin")}
-REFUSED = re.compile(r"(.*): layer (\S+) feature (\S+) at (\d+): \d+ (\w+)")
+REFUSED = re.compile(r"(.*): layer (\S+) feature (\S+) at (\d+): (\d+) (\w+)")
+NUMBERS = {}  # of the causes that were told
 
 
 def producer(set_name):
@@ -47,7 +48,9 @@ def check(files):
         if ": note " in line:
             file, note = line.split(": note ")
             notes[note.split()[0]].add(file)
-    refused = {m[1]: (m[2], m[3], int(m[4]), m[5]) for m in map(REFUSED.fullmatch, run.stderr.splitlines()) if m}
+    told = [m for m in map(REFUSED.fullmatch, run.stderr.splitlines()) if m]
+    NUMBERS.update({m[6]: m[5] for m in told})
+    refused = {m[1]: (m[2], m[3], int(m[4]), m[6]) for m in told}
     return notes, refused
 
 
@@ -118,7 +121,7 @@ def section(key, kind, cases, pictures):
         lines[-1] += f" In {corners:,} of them the point stands at a corner of the tile with its margin."
     lines += ["", f"The smallest, feature {feature.where[1]} of layer `{feature.layer}` of `{tile}`:", ""]
     lines += ["    " + " ".join(map(str, feature.integers)), ""]
-    lines.append(f"- `mvt check`, of the feature alone: `layer 0 feature 0 at {at}: {cause}`.")
+    lines.append(f"- `mvt check`, of the feature alone: `layer 0 feature 0 at {at}: {NUMBERS[cause]} {cause}`.")
     if cause == "FirstRing":
         lines[-1] += f" Its first ring {feature.first_ring()} has {ring_area(feature.first_ring()):,} as twice its area."
     elif cause == "ZeroSegment":
