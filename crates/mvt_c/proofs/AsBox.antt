@@ -12,8 +12,11 @@ use Rattle.mvt_c.specs.contracts.decoder.parts.Parts as Parts
 use Rattle.mvt_c.specs.contracts.decoder.held.Held as Held
 
 abbrev pub E : Bx
-E = record { row = Decoder.the_row; laws = decoder.the_row_laws;
-    al = record { row = Heap.the_row; laws = heap.the_row_laws; g = ghosts; d = dict; drops = impl [] tnil dnil } }
+E = record {
+  row = Decoder.the_row;
+  laws = decoder.the_row_laws;
+  al = record { row = Heap.the_row; laws = heap.the_row_laws; g = ghosts; d = dict; drops = impl [] tnil dnil };
+}
 
 abbrev pub FromParts : Slot 0
 FromParts = plain (λ _. Parts.the_row Decoder.the_row Heap.the_row ghosts)

@@ -1,5 +1,5 @@
 -- What the calls answer.
-use Rattle.std.specs.Prelude.{◌≡◌, ℕ, ◌<◌, List, length, Any, Some, Result, Ok, Err, ⊤}
+use Rattle.std.specs.Prelude.{◌≡◌, ℕ, ◌<◌, List, length, Any, Option, None, Some, Result, Ok, Err, ⊤}
 use Rattle.mvt_base.specs.declared.TheConstants.{LIMIT}
 use Rattle.mvt_attrs.specs.declared.pool_error.PoolError.{PoolError}
 use Rattle.mvt_attrs.specs.declared.pool_error.PoolError.TheVariants as pools
@@ -47,6 +47,11 @@ of_decode decoding.Memory = Memory
 of_decode (decoding.Fault fault) = Refused fault
 of_decode (decoding.Read kind) = Memory
 
+-- the status of a decoder: 0, or that of the error that it keeps
+abbrev pub status_of_failure : Option DecodeError → ℕ
+status_of_failure None = 0
+status_of_failure (Some error) = status_of_refusal (of_decode error)
+
 abbrev pub of_put : PutError → Refusal
 of_put put.Memory = Memory
 of_put put.TooLarge = TooLarge
@@ -75,13 +80,17 @@ RefusedAs input TooLarge = IsTooLarge input
 RefusedAs input NoLayer = ⊥
 RefusedAs input BadName = ⊥
 
--- the bytes are a tile, and these are the canonical bytes of its named layers
-abbrev pub IsExtracted : List ℕ → List (List ℕ) → List ℕ → Type 0
-IsExtracted input names made = (tile : Tile) × IsTile LIMIT input tile × (made ≡ canonical (pick tile names))
+-- the bytes are this tile, and each name is that of a layer of version 2
+abbrev pub IsTileWith : List ℕ → Tile → List (List ℕ) → Type 0
+IsTileWith input tile names = IsTile LIMIT input tile × (first_missing tile names ≡ None)
 
--- the canonical bytes of the named layers are more than the limit
+-- the bytes are a tile with a layer of each name, and these are the canonical bytes of those layers
+abbrev pub IsExtracted : List ℕ → List (List ℕ) → List ℕ → Type 0
+IsExtracted input names made = (tile : Tile) × IsTileWith input tile names × (made ≡ canonical (pick tile names))
+
+-- the bytes are a tile with a layer of each name, and the canonical bytes of those layers are more than the limit
 abbrev pub IsTooLargeOf : List ℕ → List (List ℕ) → Type 0
-IsTooLargeOf input names = (tile : Tile) × IsTile LIMIT input tile × (LIMIT < length (canonical (pick tile names)))
+IsTooLargeOf input names = (tile : Tile) × IsTileWith input tile names × (LIMIT < length (canonical (pick tile names)))
 
 -- the bytes are a tile, and no layer of version 2 has one of the names
 abbrev pub LacksLayer : List ℕ → List (List ℕ) → Type 0

@@ -1,5 +1,5 @@
 //! The calls that make bytes of a tile's bytes.
-ghost use Rattle.std.specs.Prelude.{◌≡◌, ◌≢◌, ◌≤◌, map, string_bytes, Any, IsUtf8, IfOk, IfErr};
+ghost use Rattle.std.specs.Prelude.{◌≡◌, ◌≢◌, ◌≤◌, map, string_bytes, All, Any, IsUtf8, IfOk, IfErr};
 ghost use Rattle.mvt_c.specs.Calls.{IsExtracted, IsTold, IsTooLargeOf, LacksLayer, NotExtracted, RefusedAs};
 ghost use Rattle.mvt_c.specs.Names.{texts_of};
 ghost use Rattle.mvt_rows.specs.Reading.{IsRewritten, IsTooLarge};
@@ -51,6 +51,8 @@ pub extern "C" fn mvt_extract(
     ensures too_large { result ≡ 3 → IsTooLargeOf bytes.now (texts_of names.now) }
     ensures missing { result ≡ 4 → LacksLayer bytes.now (texts_of names.now) }
     ensures bad_name { result ≡ 5 → Any (λ text. IsUtf8 text → ⊥) (texts_of names.now) }
+    // The names are looked at before the bytes.
+    ensures names { result ≢ 2 → result ≢ 5 → All IsUtf8 (texts_of names.now) }
     ensures few { result ≤ 5 }
     ensures out_kept { result ≢ 0 → out.new ≡ out.old }
     ensures fault_kept { result ≢ 1 → fault.new ≡ fault.old }

@@ -1,8 +1,10 @@
 //! A decoder that lives across calls: C keeps a handle, hands it to each call and takes it back. `library/free.c`
 //! answers an empty handle before it comes here.
-ghost use Rattle.std.specs.Prelude.{◌≡◌, ◌≢◌, ◌≤◌, [], ◌++◌, ℕ, List, IfOk, IfErr};
-ghost use Rattle.mvt_tile.specs.Streams.{StandsFor};
-ghost use Rattle.mvt_c.specs.Calls.{IsTold, NotRead, NotShown, status_of_refusal};
+ghost use Rattle.std.specs.Prelude.{◌≡◌, ◌≢◌, ◌≤◌, [], ◌++◌, ℕ, List, None, IsSome, IfOk, IfErr, IfSome};
+ghost use Rattle.mvt_tile.specs.Streams.{IsCalm, StandsFor};
+ghost use Rattle.mvt_tile.specs.TileRules.{fault_within};
+ghost use Rattle.mvt_c.specs.Calls.{IsAccepted, IsTold, IsTooLargeToRead, NotRead, NotShown};
+ghost use Rattle.mvt_c.specs.Calls.{of_decode, status_of, status_of_failure, status_of_refusal};
 ghost use Rattle.mvt_rows.specs.Lent.{table_of};
 ghost use Rattle.mvt_rows.specs.Reading.{IsRead};
 
@@ -30,7 +32,9 @@ fn keep(held: Held, out: &mut Held)
 #[unsafe(no_mangle)]
 pub extern "C" fn mvt_held_new(alloc: Global, out: &mut Held) -> u32
     ensures made { result ≡ 0 → StandsFor LIMIT out.new.decoder.inner [] }
+    ensures fresh { result ≡ 0 → out.new.decoder.inner.failure ≡ None }
     ensures known { result ≢ 0 → result ≡ 2 }
+    ensures out_kept { result ≢ 0 → out.new ≡ out.old }
 {
     let decoder = Decoder {
         inner: TileDecoder::new(alloc),
@@ -56,6 +60,11 @@ pub extern "C" fn mvt_held_feed(
         → StandsFor LIMIT again.new.decoder.inner (s ++ piece.now) }
     ensures refused { result ≡ 1 → (s : List ℕ) → StandsFor LIMIT held.decoder.inner s
         → IsTold (s ++ piece.now) fault.new }
+    // No fault so far, but that of a field that isn't finished.
+    ensures live { result ≡ 0 → (s : List ℕ) → StandsFor LIMIT held.decoder.inner s
+        → IsCalm (fault_within LIMIT (s ++ piece.now)) }
+    ensures status { result ≡ status_of_failure again.new.decoder.inner.failure }
+    ensures sticky { IsSome held.decoder.inner.failure → again.new.decoder ≡ held.decoder }
     ensures few { result ≤ 2 }
     ensures fault_kept { result ≢ 1 → fault.new ≡ fault.old }
 {
@@ -72,6 +81,8 @@ fn fed(decoder: &mut TileDecoder, piece: &[u8]) -> Result<(), Refusal>
     ensures stands { (s : List ℕ) → StandsFor LIMIT decoder.old s → StandsFor LIMIT decoder.new (s ++ piece.now) }
     ensures refused { IfErr result (λ refusal. (s : List ℕ) → StandsFor LIMIT decoder.old s
         → NotShown (s ++ piece.now) refusal) }
+    ensures status { status_of result ≡ status_of_failure decoder.new.failure }
+    ensures sticky { IsSome decoder.old.failure → decoder.new ≡ decoder.old }
     ensures few { IfErr result (λ refusal. status_of_refusal refusal ≤ 2) }
 {
     decoder.feed(piece)?;
@@ -88,6 +99,11 @@ pub extern "C" fn mvt_held_finish(
 ) -> u32
     ensures done { result ≡ 0 → (s : List ℕ) → StandsFor LIMIT held.decoder.inner s → IsRead s (table_of out.new) }
     ensures refused { result ≡ 1 → (s : List ℕ) → StandsFor LIMIT held.decoder.inner s → IsTold s fault.new }
+    ensures too_large { result ≡ 3 → (s : List ℕ) → StandsFor LIMIT held.decoder.inner s → IsTooLargeToRead s }
+    // A decoder that hasn't failed wants memory for the rows of a tile alone.
+    ensures memory { result ≡ 2 → held.decoder.inner.failure ≡ None → (s : List ℕ) → StandsFor LIMIT held.decoder.inner s
+        → IsAccepted s }
+    ensures kept { IfSome held.decoder.inner.failure (λ error. result ≡ status_of_refusal (of_decode error)) }
     ensures few { result ≤ 3 }
     ensures out_kept { result ≢ 0 → out.new ≡ out.old }
     ensures fault_kept { result ≢ 1 → fault.new ≡ fault.old }
@@ -104,6 +120,9 @@ pub extern "C" fn mvt_held_finish(
 fn finished(alloc: Global, decoder: Decoder) -> Result<Table, Refusal>
     ensures done { IfOk result (λ table. (s : List ℕ) → StandsFor LIMIT decoder.inner s → IsRead s table) }
     ensures refused { IfErr result (λ refusal. (s : List ℕ) → StandsFor LIMIT decoder.inner s → NotRead s refusal) }
+    ensures memory { status_of result ≡ 2 → decoder.inner.failure ≡ None → (s : List ℕ) → StandsFor LIMIT decoder.inner s
+        → IsAccepted s }
+    ensures kept { IfSome decoder.inner.failure (λ error. status_of result ≡ status_of_refusal (of_decode error)) }
     ensures few { IfErr result (λ refusal. status_of_refusal refusal ≤ 3) }
 {
     let Decoder { inner } = decoder;
