@@ -20,9 +20,11 @@ front_given left all front rest at n is e h =
 -- one more piece was taken from a reader
 pub TakesAtMost-more : (most n : ℕ) (a b c : Option (List ℕ)) (bytes buffer : List ℕ) → Consumes a b bytes
     → Consumes b c (take n buffer) → length bytes + n ≤ most → TakesAtMost most a c
-TakesAtMost-more most n a b c bytes buffer before piece few =
-    (bytes ++ take n buffer, omega (arith, length-append bytes (take n buffer), length-take n buffer),
-        Consumes-trans a b c bytes (take n buffer) before piece)
+TakesAtMost-more most n a b c bytes buffer before piece few = (
+  bytes ++ take n buffer,
+  omega (arith, length-append bytes (take n buffer), length-take n buffer),
+  Consumes-trans a b c bytes (take n buffer) before piece,
+)
 
 -- the writer took a front of the bytes, and this rest is to come
 pub record TakesFront (old now : Option (List ℕ)) (bytes rest : List ℕ) : Type 0 where

@@ -235,7 +235,7 @@ values_are t layer valid =
     let values = values_of layer.features in
     let whole = whole_in t layer in
     let pushes : Pushes with_value (λ (t : Table). t.values) value_row ValidValue
-        (λ t row value. value_of t.texts row ≡ Some value) = record {
+    (λ t row value. value_of t.texts row ≡ Some value) = record {
       grows = value_grows;
       stays = λ t u grown row value is. value_stays t.texts u.texts grown.texts row value is;
       push = value_push;

@@ -20,7 +20,9 @@ sends_items f (x ∷ xs) old last new sent ended = (sent.0, sent.1, sends_items 
 pub sends_each : {A : Type 0} (f : A → Data) (xs ys : List A) (n i : ℕ) (old first last new : Log) → ys ≡ xs
     → n ≡ length xs → length ys ≤ i → Logs old first (seq_begins (Some n)) → WritesEach (λ x. SendsValue (f x))
     (take i ys) first last → Logs last new seq_ends → SendsValue (each f xs) old new
-sends_each f xs ys n i old first last new same len all begun sent ended =
-    (first, subst (λ m. Logs old first (seq_begins (Some m))) (len ∙ sym (items_len-map f xs)) begun,
-        sends_items f xs first last new (subst (λ zs. WritesEach (λ x. SendsValue (f x)) zs first last)
-        (take_all i ys all ∙ same) sent) ended)
+sends_each f xs ys n i old first last new same len all begun sent ended = (
+  first,
+  subst (λ m. Logs old first (seq_begins (Some m))) (len ∙ sym (items_len-map f xs)) begun,
+  sends_items f xs first last new (subst (λ zs. WritesEach (λ x. SendsValue (f x)) zs first last)
+      (take_all i ys all ∙ same) sent) ended,
+)

@@ -11,7 +11,7 @@ items_svg-append n (x ∷ xs) ys =
     ap (λ t. item_svg n x ++ t) (items_svg-append (n + 1) xs ys)
     ∙ sym (append_assoc (item_svg n x) (items_svg (n + 1) xs) (items_svg (n + 1 + length xs) ys))
     ∙ ap (λ k. (item_svg n x ++ items_svg (n + 1) xs) ++ items_svg k ys)
-        (let e : n + 1 + length xs ≡ n + length (x ∷ xs) = omega arith in e)
+    (let e : n + 1 + length xs ≡ n + length (x ∷ xs) = omega arith in e)
 
 -- one item more
 pub items_more : (items : List Item) (i : ℕ) (item : Item) (start old new : List ℕ) → i < length items

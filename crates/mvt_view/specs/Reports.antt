@@ -25,13 +25,13 @@ note_line (Foreign layer version) = codes "note Foreign layer " ++ (decimal laye
 note_line (NoFeatures layer) = codes "note NoFeatures layer " ++ (decimal layer ++ codes "\n")
 note_line (RepeatedId layer feature earlier) =
     codes "note RepeatedId layer "
-        ++ (decimal layer ++ (codes " feature " ++ (decimal feature ++ (codes " earlier " ++ (decimal earlier ++ codes "\n")))))
+    ++ (decimal layer ++ (codes " feature " ++ (decimal feature ++ (codes " earlier " ++ (decimal earlier ++ codes "\n")))))
 note_line (FlatRing layer feature ring) =
     codes "note FlatRing layer "
-        ++ (decimal layer ++ (codes " feature " ++ (decimal feature ++ (codes " ring " ++ (decimal ring ++ codes "\n")))))
+    ++ (decimal layer ++ (codes " feature " ++ (decimal feature ++ (codes " ring " ++ (decimal ring ++ codes "\n")))))
 note_line (ClosedTwice layer feature ring) =
     codes "note ClosedTwice layer "
-        ++ (decimal layer ++ (codes " feature " ++ (decimal feature ++ (codes " ring " ++ (decimal ring ++ codes "\n")))))
+    ++ (decimal layer ++ (codes " feature " ++ (decimal feature ++ (codes " ring " ++ (decimal ring ++ codes "\n")))))
 
 abbrev pub survey_lines : Survey → List ℕ
 survey_lines survey = head_line survey ++ flat_map note_line survey.notes

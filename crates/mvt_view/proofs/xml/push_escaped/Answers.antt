@@ -14,5 +14,5 @@ loop-c-preserved c =
 pub returns : goal.returns
 returns c =
     let end = YieldsList-end (YieldsList-from_chars c.args.plain.now c.utf8.plain cc) c.loop-c.yielded _
-        c.loop-c.yielded_by _ _ c.in-None.is c.next.ensures.steps in
+    c.loop-c.yielded_by _ _ c.in-None.is c.next.ensures.steps in
     c.loop-c.invariant ∙ ap (λ cs. string_bytes c.args.text.now ++ flat_map escaped_char cs) (sym (map-id c.loop-c.yielded) ∙ end.0)
