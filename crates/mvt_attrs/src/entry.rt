@@ -1,6 +1,5 @@
 //! What a pool can hold.
-ghost use Rattle.std.specs.Prelude.{◌≡◌, IfOk};
-ghost use Rattle.std.specs.Prelude.{Decides};
+ghost use Rattle.std.specs.Prelude.{◌≡◌, IfOk, Decides};
 
 use crate::value::Value;
 use mvt_base::Text;
@@ -10,6 +9,10 @@ use std::hash::Hash;
 /// A key or a value: two that compare as equal are one.
 pub trait Entry: Ord + Hash + Drop {
     /// An equal entry, which shares a text's memory.
+    ///
+    /// # Errors
+    ///
+    /// As `Text::copy`.
     fn copied(&self, alloc: Global) -> Result<Self, AllocError>
         ensures { IfOk result (λ copy. copy ≡ self.now) };
 

@@ -10,10 +10,10 @@ use crate::spread::{Spread, add_spread, find_spread, note_spread, spread_all};
 use indexmap::IndexSet;
 use std::alloc::{AllocError, Global};
 
-/// So many entries are searched one by one.
+/// The most entries that are searched one by one.
 const FEW: usize = 8;
 
-/// So many entries are hashed at most, as texts can be chosen that all have one hash.
+/// The most entries that are hashed, as texts can be chosen that all have one hash.
 const MANY: usize = 32;
 
 /// With fewer slots for an entry than these, slots are made anew.
@@ -88,7 +88,7 @@ pub(crate) fn note<T: Entry>(
     }
 }
 
-/// Whether so many entries are too many for this form.
+/// Whether `count` entries are too many for this form.
 fn is_outgrown<T: Entry>(finder: &Finder<T>, count: usize) -> bool {
     match finder {
         Finder::Plain => count >= FEW,

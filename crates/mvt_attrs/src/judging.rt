@@ -10,14 +10,15 @@ use crate::resolving::{TagCause, TagError};
 use mvt_base::Text;
 use std::alloc::Global;
 
-/// Whether a feature's tags name attributes, in a layer with these keys and so many values (4.4).
+/// Whether a feature's tags name attributes, in a layer with these keys and this number of values
+/// (4.4).
 ///
-/// The cost grows with the number of tags alone, but for the first feature of two pairs or more, which
-/// has the keys put in groups.
+/// The cost grows with the number of tags alone, but for the first feature of two pairs or more,
+/// which has the keys put in groups.
 ///
 /// # Errors
 ///
-/// The first broken rule, with its index into the tags; want of memory for the groups.
+/// The first broken rule, with its index into the tags; or memory runs out for the groups.
 pub fn judge_tags(
     alloc: Global,
     keys: &mut LayerKeys<'_>,

@@ -6,7 +6,7 @@ use mvt_base::Text;
 
 /// The keys of a layer, each once: a key's tag is its place here.
 ///
-/// ```text
+/// ```ignore
 /// let (name, kind) = (Text::from_str(alloc, "name")?, Text::from_str(alloc, "kind")?);
 /// let mut keys = KeyPool::new(alloc);
 /// keys.place(&name)?; // 0

@@ -12,7 +12,8 @@ ghost use Rattle.mvt_attrs.specs.Tags.{Names, Resolved};
 ghost use Rattle.mvt_attrs.specs.TagRules.{count_rules, pair_rules, tag_rules, tag_fault};
 ghost use Rattle.mvt_attrs.specs.TagPlaces.{tags_in, IsIn};
 
-/// Tags without a fault are resolved to just one list of attributes, and resolved tags have no fault.
+/// Tags without a fault are resolved to just one list of attributes, and resolved tags have no
+/// fault.
 pub fn attributes_or_fault()
     ensures there { (keys : List (List ℕ)) (values : List Value) (tags : List ℕ) →
         tag_fault keys values tags ≡ None →

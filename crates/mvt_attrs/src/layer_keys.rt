@@ -1,7 +1,6 @@
 //! The keys of a layer, among which a feature's repeated key is found without a walk.
-ghost use Rattle.std.specs.Prelude.{◌≡◌, ◌+◌, ◌<◌, ◌==◌, ℕ, List, length, not, slice_index, slice_set, false, IfOk, OnOk, OnErr, Some};
+ghost use Rattle.std.specs.Prelude.{◌≡◌, ◌+◌, ◌<◌, ◌==◌, ℕ, List, length, not, slice_index, slice_set, bytes_eq, false, IfOk, OnOk, OnErr, Some};
 ghost use Rattle.std.specs.Bool.{OnTrue};
-ghost use Rattle.std.specs.Prelude.{bytes_eq};
 ghost use Rattle.std.specs.Map.{update};
 ghost use Rattle.std.specs.Option.{unwrap_or};
 ghost use Rattle.mvt_attrs.specs.Inner.Marking.{IsGrouped, IsPlaceBehind, IsReady, AreBelow, place_in_map};
@@ -13,7 +12,7 @@ use std::marker::Model;
 
 /// The keys of a layer, which features name by their indices.
 ///
-/// ```text
+/// ```ignore
 /// let mut keys = LayerKeys::new(alloc, &texts);
 /// for tags in features {
 ///     resolve_in(alloc, &mut keys, &values, tags)?;
@@ -82,7 +81,7 @@ pub(crate) fn make_ready(
     Ok(())
 }
 
-/// So few keys are grouped by comparing each with those before it.
+/// The most keys that are grouped by comparing each with those before it.
 const FEW: usize = 8;
 
 /// For each text the first index at which it stands.

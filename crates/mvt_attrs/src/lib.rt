@@ -1,5 +1,5 @@
-//! The attributes of a feature (Mapbox Vector Tile Specification 2.1, 4.4): values, the pools of keys
-//! and values that a layer holds, and the tags that name entries of these pools.
+//! The attributes of a feature (Mapbox Vector Tile Specification 2.1, 4.4): values, the pools of
+//! keys and values that a layer holds, and the tags that name entries of these pools.
 #![tactic(auto)]
 
 mod entry;

@@ -16,7 +16,9 @@ use std::alloc::Global;
 /// value, which are added to the pools where they are new.
 ///
 /// # Errors
-/// Each pool then holds what it held and the entries of the attributes up to some place.
+///
+/// When memory runs out, or a full pool meets an entry that is new. Each pool then holds what it
+/// held and the entries of the attributes up to some place.
 pub fn tags_of(
     alloc: Global,
     attributes: &[Attribute],
@@ -31,7 +33,7 @@ pub fn tags_of(
     ensures values { OnOk result (values.new ≡ value_pool values.old attributes.now) }
     ensures left { OnErr result ((n : ℕ) × ArePlaced n attributes.now keys.old keys.new values.old values.new) }
 
-    // A pool that is full has met an entry that is new; want of memory has met none.
+    // `Full` says that a full pool has met an entry that is new, `Memory` that none has.
     ensures full { IsErrOf result PoolError.Full → (length keys.new ≡ LIMIT) ⊎ (length values.new ≡ LIMIT) }
     ensures too_many { IsErrOf result PoolError.Full
         → (LIMIT < length (key_pool keys.old attributes.now)) ⊎ (LIMIT < length (value_pool values.old attributes.now)) }
@@ -50,7 +52,8 @@ pub fn tags_of(
 /// numbers will do: the entry there is compared.
 ///
 /// # Errors
-/// The pools are as after a refused `tags_of`, and the list is as it was or a longer one.
+///
+/// As `tags_of`, and the list is then as it was or a longer one.
 pub fn append_tags(
     attributes: &[Attribute],
     keys: &mut KeyPool,
@@ -67,7 +70,7 @@ pub fn append_tags(
     ensures values { OnOk result (values.new ≡ value_pool values.old attributes.now) }
     ensures left { OnErr result ((n : ℕ) × ArePlaced n attributes.now keys.old keys.new values.old values.new) }
 
-    // A pool that is full has met an entry that is new; want of memory has met none.
+    // `Full` says that a full pool has met an entry that is new, `Memory` that none has.
     ensures full { IsErrOf result PoolError.Full → (length keys.new ≡ LIMIT) ⊎ (length values.new ≡ LIMIT) }
     ensures too_many { IsErrOf result PoolError.Full
         → (LIMIT < length (key_pool keys.old attributes.now)) ⊎ (LIMIT < length (value_pool values.old attributes.now)) }
@@ -76,6 +79,7 @@ pub fn append_tags(
         × (tags.new.items ≡ tags.old.items ++ tags_in keys.new values.new (take n attributes.now))
         × ¬ (IsFullAt n attributes.now keys.new values.new) }
 {
+    // Read for the proof, which so knows what `len` says of the pools.
     let _ = (keys.len(), values.len());
     let mut last = last;
     for attribute in attributes {

@@ -15,9 +15,9 @@ use std::marker::Model;
 
 /// Entries, each once, in order of first use.
 ///
-/// Few are searched one by one, more are hashed, and of many those whose two slots are taken are kept
-/// in order: so n entries are placed in n log n steps at most, whatever their texts are. After an
-/// error a pool is as it was.
+/// Few are searched one by one, more are hashed, and of many those whose two slots are taken are
+/// kept in order: so n entries are placed in n log n steps at most, whatever their texts are. After
+/// an error a pool is as it was.
 #[derive(Drop)]
 pub struct Pool<T: Entry> {
     entries: Vec<T>,
@@ -49,6 +49,7 @@ impl<T: Entry> Pool<T> {
         }
     }
 
+    /// How many entries it holds.
     pub fn len(&self) -> usize
         ensures len { result ≡ length self.now }
         ensures limit { result ≤ LIMIT }
@@ -57,6 +58,7 @@ impl<T: Entry> Pool<T> {
         self.entries.len()
     }
 
+    /// Whether it holds no entry.
     pub fn is_empty(&self) -> bool
         ensures { IsTrue result ↔ (self.now ≡ []) }
     {
@@ -69,8 +71,12 @@ impl<T: Entry> Pool<T> {
         self.entries.get(index as usize)
     }
 
-    /// The place of an entry, which is copied and added last where it is new. An entry that is there
-    /// needs no memory.
+    /// The place of an entry, which is copied and added last where it is new. An entry that is
+    /// there needs no memory.
+    ///
+    /// # Errors
+    ///
+    /// When memory runs out, or the pool is full and the entry is new; the pool is then as it was.
     pub fn place(&mut self, entry: &T) -> Result<u32, PoolError>
         ensures { IsPlaced self.old self.new entry.now result }
     {

@@ -93,8 +93,9 @@ impl Error for TagError {}
 /// For many features of one layer there is `resolve_in`, which looks at the keys once.
 ///
 /// # Errors
-/// The first broken rule, with its index into the tags. A growth may be refused before a fault that
-/// stands further back is met.
+///
+/// The first broken rule, with its index into the tags; or memory runs out, which may come before a
+/// fault is met.
 pub fn resolve(
     alloc: Global,
     keys: &[Text],
@@ -108,10 +109,12 @@ pub fn resolve(
     resolve_in(alloc, &mut LayerKeys::new(alloc, keys), values, tags)
 }
 
-/// The same with the keys of a layer, which stay: its cost grows with the number of tags alone. All tags
-/// are judged before anything is built.
+/// The attributes that tags name, among keys that are looked at once a layer.
+///
+/// Its cost then grows with the number of tags alone. All tags are judged before anything is built.
 ///
 /// # Errors
+///
 /// As `resolve`.
 pub fn resolve_in(
     alloc: Global,

@@ -1,5 +1,5 @@
-//! Places of many entries, found by their hashes. Texts can be chosen that have one hash, so an entry
-//! has a second slot by another hash, and an entry that finds both taken is kept in order.
+//! Places of many entries, found by their hashes. Texts can be chosen that have one hash, so an
+//! entry has a second slot by another hash, and an entry that finds both taken is kept in order.
 ghost use Rattle.std.specs.Prelude.{◌≡◌, ◌≢◌, ◌<◌, ◌↔◌, ◌+◌, ◌-◌, ◌^◌, ◌++◌, ◌∷◌, [], Some, None, length, slice_get, slice_index, Contains, IsTrue, IfOk, OnOk, OnErr};
 ghost use Rattle.mvt_attrs.specs.FirstUse.{AreDistinct};
 ghost use Rattle.mvt_attrs.specs.Inner.Found.{IsSpotOf, IsToldBy};
@@ -11,11 +11,11 @@ use std::alloc::{AllocError, Global};
 use std::collections::BTreeMap;
 use std::hash::{DefaultHasher, FoldHasher, Hash, Hasher};
 
-/// So many slots are there for an entry when they are made.
+/// How many slots are made for an entry.
 const ROOM: usize = 16;
 
-/// A slot holds the place of an entry, counted from 1, or 0 where it is free. An entry is in the first
-/// of its two slots that was free when it came, or in `crowded`.
+/// A slot holds the place of an entry, counted from 1, or 0 where it is free. An entry is in the
+/// first of its two slots that was free when it came, or in `crowded`.
 #[derive(Drop)]
 pub struct Spread<T: Entry> {
     pub(crate) slots: Vec<u32>,

@@ -21,6 +21,10 @@ pub enum Value {
 
 impl Value {
     /// An equal value, which shares a text's memory.
+    ///
+    /// # Errors
+    ///
+    /// As `Text::copy`.
     #[inline(always)]
     pub fn copy(&self, alloc: Global) -> Result<Value, AllocError>
         ensures { IfOk result (λ copy. copy ≡ self.now) }

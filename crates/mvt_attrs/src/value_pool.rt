@@ -6,7 +6,7 @@ use crate::value::Value;
 
 /// The values of a layer, each once: a value's tag is its place here.
 ///
-/// ```text
+/// ```ignore
 /// let mut values = ValuePool::new(alloc);
 /// values.place(&Value::Int(5))?;  // 0
 /// values.place(&Value::Uint(5))?; // 1: another kind is another value

@@ -11,7 +11,7 @@ pub use inline::ROOM;
 pub use items::Items;
 pub use text::Text;
 
-/// The most bytes that an input, canonical bytes or a list of pool entries may have: 2^26.
+/// The most bytes of an input and of canonical bytes, and the most entries of a pool: 2^26.
 pub const LIMIT: u64 = 67_108_864;
 
 const _: () = prove!(LIMIT == 1 << 26);

@@ -12,8 +12,8 @@ use std::sync::ArcStr;
 
 /// A text that contracts see as its bytes, which are UTF-8.
 ///
-/// Up to `ROOM` bytes lie in the value itself; a longer text is a `String` that its copies share. So
-/// a copy of a text never copies a long text's bytes.
+/// Up to `ROOM` bytes lie in the value itself; a longer text is a `String` that its copies share,
+/// so a copy of a text never copies a long text's bytes.
 #[derive(Drop)]
 pub struct Text {
     repr: Repr,
@@ -37,7 +37,11 @@ impl Model for Text {
 }
 
 impl Text {
-    /// The same text. A short one needs no memory.
+    /// The text of a `str`. A short one needs no memory.
+    ///
+    /// # Errors
+    ///
+    /// When memory runs out.
     pub fn from_str(alloc: Global, text: &str) -> Result<Self, AllocError>
         ensures same { IfOk result (λ copy. copy ≡ text.now) }
         ensures short { length text.now ≤ ROOM → IsOk result }
@@ -51,6 +55,10 @@ impl Text {
     }
 
     /// The text of a `String`, whose memory a long text keeps. A short one needs no memory.
+    ///
+    /// # Errors
+    ///
+    /// When memory runs out: a long text needs a block for the count of its copies.
     pub fn from_string(string: String) -> Result<Self, AllocError>
         ensures same { IfOk result (λ text. text ≡ string_bytes string) }
         ensures short { length (string_bytes string) ≤ ROOM → IsOk result }
@@ -78,8 +86,9 @@ impl Text {
     /// A text of the same bytes, which shares a long text's memory.
     ///
     /// # Errors
-    /// Memory is wanted only where a long text has as many copies as can be counted, which then
-    /// begins a block of its own.
+    ///
+    /// When memory runs out. Some is needed only where a long text has as many copies as can be
+    /// counted: the copy then begins a block of its own.
     #[inline(always)]
     pub fn copy(&self, alloc: Global) -> Result<Self, AllocError>
         ensures same { IfOk result (λ copy. copy ≡ self.now) }

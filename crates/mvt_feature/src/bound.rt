@@ -6,7 +6,7 @@ use crate::feature::Feature;
 use mvt_base::LIMIT;
 use mvt_geometry::room_behind_geometry;
 
-/// What is left of so many bytes behind the payload of a feature, by a bound that counts attributes,
+/// What is left of `room` bytes behind the payload of a feature, by a bound that counts attributes,
 /// lines and points. None where the bound is more.
 pub fn room_behind_feature(feature: &Feature, room: u64) -> Option<u64>
     requires { room ≤ LIMIT }

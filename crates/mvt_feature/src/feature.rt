@@ -16,6 +16,10 @@ pub struct Feature {
 
 impl Feature {
     /// An equal feature.
+    ///
+    /// # Errors
+    ///
+    /// When memory runs out.
     pub fn copy(&self, alloc: Global) -> Result<Feature, AllocError>
         ensures { IfOk result (λ copy. copy ≡ self.now) }
     {

@@ -68,8 +68,8 @@ pub fn feature_fault_is_least()
         (feature_fault payload payload_at keys values ≡ Some fault) ↔ IsLeast (feature_rules payload payload_at keys values) fault }
 {}
 
-/// What is written for a valid value reads as that value, and what is written for a valid feature, with
-/// tags that name its attributes, reads as that feature.
+/// What is written for a valid value reads as that value, and what is written for a valid feature,
+/// with tags that name its attributes, reads as that feature.
 pub fn canonical_reads()
     ensures value { (value : Value) → ValidValue value → length (spelled (value_fields value)) < 2 ^ 64
         → IsValueOf (spelled (value_fields value)) value }
@@ -112,8 +112,8 @@ pub fn rests()
     ensures ordered { (payload_at : ℕ) (parts : Parts) → AreOrdered (rest_rules payload_at parts) }
 {}
 
-/// A walk begins before the first field of a payload, takes one field a step and ends behind the last or
-/// at a rest. What it meets stands inside the payload.
+/// A walk begins before the first field of a payload, takes one field a step and ends behind the
+/// last or at a rest. What it meets stands inside the payload.
 pub fn walks()
     ensures start { (payload : List ℕ) (it : Parts) → it ≡ split payload
         → it.rest_at + length it.rest ≡ length payload → Walk payload it [] }

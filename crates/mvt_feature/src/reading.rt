@@ -40,8 +40,9 @@ pub fn read_feature(
     read_feature_in(alloc, payload, payload_at, &mut keys, values, &mut scratch)
 }
 
-/// The same with the keys of a layer, which stay, and in scratch that is lent: a row of features looks at
-/// the keys once, and needs no new lists for tags and integers.
+/// The feature of a payload, with a layer's keys and room that are used again for the next feature.
+///
+/// So a row of features looks at the keys once, and needs no new lists for tags and integers.
 ///
 /// # Errors
 ///
@@ -70,8 +71,9 @@ pub fn read_feature_in(
     })
 }
 
-/// Whether a payload is a feature, in a layer with these keys and so many values: nothing is built, and
-/// the tags and the integers stand in the scratch.
+/// Whether a payload is a feature, in a layer with these keys and this number of values.
+///
+/// Nothing is built; the tags and the integers stand in the scratch.
 ///
 /// # Errors
 ///

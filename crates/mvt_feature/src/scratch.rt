@@ -4,10 +4,12 @@ use std::alloc::Global;
 
 /// Lists for the tags and the integers of a feature while it is read or written.
 ///
-/// ```text
+/// ```ignore
 /// let mut scratch = Scratch::new(alloc);
 /// for payload in payloads {
-///     features.push(read_feature_in(alloc, payload, payload_at, &mut keys, values, &mut scratch)?)?;
+///     let feature =
+///         read_feature_in(alloc, payload, payload_at, &mut keys, values, &mut scratch)?;
+///     features.push(feature)?;
 /// }
 /// ```
 ///

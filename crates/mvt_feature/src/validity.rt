@@ -14,19 +14,23 @@ use std::collections::BTreeSet;
 /// The most attributes among which a repeated key is looked for without memory.
 const FEW: usize = 16;
 
-/// Whether a feature can be written: no two attributes have one key, and integers draw the geometry.
-///
-/// It takes no memory.
+/// Whether a feature can be written, without memory: no two attributes have one key, and integers
+/// draw the geometry.
 pub fn is_valid_feature(feature: &Feature) -> bool
     ensures { IsTrue result ↔ ValidFeature feature.now }
 {
+    // Read for the proof, which so knows its range.
     if let Some(id) = feature.id {
         let _id = id;
     }
     have_distinct_keys(feature.attributes.as_slice()) && is_valid_geometry(&feature.geometry)
 }
 
-/// The same, in time that grows as that of sorting the keys. Up to 16 attributes need no memory.
+/// Whether a feature can be written, in n log n time for n attributes. Up to 16 need no memory.
+///
+/// # Errors
+///
+/// When memory runs out.
 pub fn validate_feature(alloc: Global, feature: &Feature) -> Result<bool, AllocError>
     ensures valid { IfOk result (λ valid. IsTrue valid ↔ ValidFeature feature.now) }
     ensures few { OnErr result (FEW < length feature.now.attributes) }
@@ -35,6 +39,7 @@ pub fn validate_feature(alloc: Global, feature: &Feature) -> Result<bool, AllocE
     if attributes.len() <= FEW {
         return Ok(is_valid_feature(feature));
     }
+    // Read for the proof, which so knows its range.
     if let Some(id) = feature.id {
         let _id = id;
     }
@@ -72,7 +77,7 @@ fn have_keys_apart(alloc: Global, attributes: &[Attribute]) -> Result<bool, Allo
     Ok(true)
 }
 
-/// A value is in the range of its type.
+/// A value is in the range of its type: it is read for the proof alone.
 #[inline]
 fn see_range(value: &Value)
     ensures { ValidValue value.now }

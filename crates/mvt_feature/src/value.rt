@@ -24,8 +24,8 @@ use std::str;
 
 /// The value of a payload.
 ///
-/// `payload_at` is the absolute offset of the payload, and `tag_at` that of the tag of its field. A text is the
-/// only value that takes memory.
+/// `payload_at` is the absolute offset of the payload, and `tag_at` that of the tag of its field. A
+/// text is the only value that takes memory.
 ///
 /// # Errors
 ///
@@ -50,7 +50,7 @@ pub fn read_value(
 ///
 /// # Errors
 ///
-/// As `read_value`, but never want of memory.
+/// As `read_value`, but memory never runs out.
 pub fn judge_value(payload: &[u8], payload_at: u64, tag_at: u64) -> Result<(), MessageError>
     requires { payload_at + length payload.now < 2 ^ 64 }
     ensures ok { OnOk result (value_fault payload.now payload_at tag_at ≡ None) }

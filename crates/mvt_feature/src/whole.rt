@@ -19,8 +19,8 @@ pub fn rest_fault(payload_at: u64, fault: WireFault) -> MessageError
     fault_at(payload_at + fault.at as u64, Cause::from(fault.cause))
 }
 
-/// The error of a payload, one of whose fields has this one: that the payload doesn't split wholly into
-/// fields is told first.
+/// The error of a payload, one of whose fields has this one: that the payload doesn't split wholly
+/// into fields is told first.
 #[inline(never)]
 pub(crate) fn rest_fault_or(payload: &[u8], payload_at: u64, error: MessageError) -> MessageError
     requires { payload_at + length payload.now < 2 ^ 64 }

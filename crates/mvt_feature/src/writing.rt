@@ -20,6 +20,10 @@ use std::alloc::AllocError;
 use std::mem::swap;
 
 /// Appends the payload of a value.
+///
+/// # Errors
+///
+/// When memory runs out; the list is then as it was.
 pub fn append_value(out: &mut Vec<u8>, value: &Value) -> Result<(), AllocError>
     ensures ok { OnOk result (out.new.items ≡ out.old.items ++ spelled (value_fields value.now)) }
     ensures err { OnErr result (out.new.items ≡ out.old.items) }
@@ -50,12 +54,12 @@ pub fn value_len(value: &Value) -> u64
     }
 }
 
-/// Appends the payload of a feature. Its keys and values get their places in the pools of the layer,
-/// which may still grow: a tag stays what it is.
+/// Appends the payload of a feature. Its keys and values get their places in the pools of the
+/// layer, which may still grow: a tag stays what it is.
 ///
 /// # Errors
 ///
-/// The pools are as after a refused `append_tags`, and the list is as it was or a longer one.
+/// As `append_tags`, and the list is then as it was or a longer one.
 pub fn append_feature(
     out: &mut Vec<u8>,
     feature: &Feature,
@@ -76,7 +80,7 @@ pub fn append_feature(
     ensures left { OnErr result
         ((n : ℕ) × ArePlaced n feature.now.attributes keys.old keys.new values.old values.new) }
 
-    // A pool that is full has met an entry that is new; want of memory has met none.
+    // `Full` says that a full pool has met an entry that is new, `Memory` that none has.
     ensures full { IsErrOf result PoolError.Full → (length keys.new ≡ LIMIT) ⊎ (length values.new ≡ LIMIT) }
     ensures too_many { IsErrOf result PoolError.Full →
         (LIMIT < length (key_pool keys.old feature.now.attributes))

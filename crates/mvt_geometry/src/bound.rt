@@ -6,7 +6,7 @@ ghost use Rattle.mvt_geometry.specs.Bounds.{line_bound, lines_bound, polygon_bou
 use crate::shape::{Geometry, Point, Polygon};
 use mvt_base::{Items, LIMIT};
 
-/// What is left of so many bytes behind the packed integers of a geometry, by a bound that counts
+/// What is left of `room` bytes behind the packed integers of a geometry, by a bound that counts
 /// lines and points. None where the bound is more.
 pub fn room_behind_geometry(geometry: &Geometry, room: u64) -> Option<u64>
     requires { room ≤ LIMIT }

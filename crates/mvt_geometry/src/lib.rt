@@ -1,7 +1,7 @@
 //! Geometries and the integers that draw them (Mapbox Vector Tile Specification 2.1, section 4.3).
 //!
-//! [`read_geometry`] judges all integers in one pass before it builds anything, so that want of
-//! memory is answered only for integers that draw a geometry; [`judge_geometry`] builds nothing, and
+//! [`read_geometry`] judges all integers in one pass before it builds anything, so that memory can
+//! run out only for integers that draw a geometry; [`judge_geometry`] builds nothing, and
 //! [`put_geometry`] gives the integers back.
 #![tactic(auto)]
 

@@ -24,7 +24,7 @@ use std::mem;
 ///
 /// # Errors
 ///
-/// The first broken rule, whatever memory there is; else want of memory.
+/// The first broken rule, whatever memory there is; or else that memory runs out.
 pub fn read_geometry(alloc: Global, kind: Kind, integers: &[u32]) -> Result<Geometry, GeometryError>
     ensures drawn { IfOk result (λ g. Draws kind integers.now g) }
     ensures ok { OnOk result (geometry_fault kind integers.now ≡ None) }
@@ -37,7 +37,7 @@ pub fn read_geometry(alloc: Global, kind: Kind, integers: &[u32]) -> Result<Geom
     Ok(build(alloc, kind, integers, count)?)
 }
 
-/// The geometry, with room for so many lines or polygons.
+/// The geometry, which has `count` lines or polygons where it has such parts.
 fn build(alloc: Global, kind: Kind, integers: &[u32], count: usize) -> Result<Geometry, AllocError>
     requires { (g : Geometry) × Draws kind integers.now g × (count ≡ part_count g) }
     ensures { (g : Geometry) → Draws kind integers.now g → IfOk result (λ r. r ≡ g) }

@@ -56,7 +56,7 @@ impl Geometry {
     ///
     /// # Errors
     ///
-    /// Want of memory.
+    /// When memory runs out.
     pub fn copy(&self, alloc: Global) -> Result<Self, AllocError>
         ensures { IfOk result (λ copy. copy ≡ self.now) }
     {

@@ -38,6 +38,7 @@ fn can_be_drawn(geometry: &Geometry) -> bool
 fn are_integers(integers: &[u32]) -> bool
     ensures { IsTrue result ↔ AreSmall integers.now }
 {
+    // Read for the proof, which so knows their range.
     let _ = integers;
     true
 }

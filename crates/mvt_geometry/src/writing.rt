@@ -17,7 +17,7 @@ use std::alloc::{AllocError, Global};
 ///
 /// # Errors
 ///
-/// Want of memory.
+/// When memory runs out.
 pub fn put_geometry(alloc: Global, geometry: &Geometry) -> Result<Vec<u32>, AllocError>
     requires { IsValid geometry.now }
     ensures { IfOk result (λ v. Draws (kind_of geometry.now) v.items geometry.now) }
@@ -31,7 +31,7 @@ pub fn put_geometry(alloc: Global, geometry: &Geometry) -> Result<Vec<u32>, Allo
 ///
 /// # Errors
 ///
-/// Want of memory; the list is then as it was or a longer one.
+/// When memory runs out; the list is then as it was or a longer one.
 pub fn append_geometry<N: NumberList>(
     geometry: &Geometry,
     integers: &mut N,

@@ -11,7 +11,7 @@ use mvt_base::LIMIT;
 use mvt_feature::{Feature, room_behind_feature, value_len};
 use mvt_wire::field_len;
 
-/// What is left of so many bytes behind the canonical payload of an item, by a bound that shares no
+/// What is left of `room` bytes behind the canonical payload of an item, by a bound that shares no
 /// key and no value among its attributes. None where the bound is more.
 pub fn room_behind_item(item: &Item, room: u64) -> Option<u64>
     requires { room ≤ LIMIT }
@@ -81,7 +81,7 @@ fn behind_attribute(attribute: &Attribute, room: u64) -> Option<u64>
     behind_field(4, value_len(&attribute.value), left)
 }
 
-/// Behind a field of so many bytes.
+/// Behind a field whose payload is `size` bytes.
 fn behind_field(number: u32, size: u64, room: u64) -> Option<u64>
     requires number { number < 2 ^ 29 }
     requires small { room ≤ LIMIT }

@@ -30,8 +30,8 @@ struct LayerFeatures {
     kept: Vec<Feature>,
 }
 
-/// The features of a layer with these keys and values, which are built where they are to be kept, and
-/// only judged otherwise.
+/// The features of a layer with these keys and values, which are built where they are to be kept,
+/// and only judged otherwise.
 pub(crate) fn read_features(
     alloc: Global,
     payload: &[u8],

@@ -1,5 +1,5 @@
-//! What the fields of a layer say besides its features (Mapbox Vector Tile Specification 2.1, 4.1), found
-//! in one walk.
+//! What the fields of a layer say besides its features (Mapbox Vector Tile Specification 2.1, 4.1),
+//! found in one walk.
 ghost use Rattle.std.specs.Prelude.{◌≡◌, ◌+◌, ◌^◌, ◌<◌, length, Some, None, IfOk, IfErr, OnOk};
 ghost use Rattle.mvt_base.specs.Tells.{Tells};
 ghost use Rattle.mvt_wire.specs.Split.{split};
@@ -14,8 +14,8 @@ use mvt_feature::{MessageError, rest_fault};
 use mvt_wire::Fields;
 use std::alloc::Global;
 
-/// The head and the values of a layer. Each has the first fault that it met, which counts where no rule
-/// of an earlier rank is broken.
+/// The head and the values of a layer. Each has the first fault that it met, which counts where no
+/// rule of an earlier rank is broken.
 #[derive(Drop)]
 pub(crate) struct Front<'a> {
     pub(crate) head: Head<'a>,
@@ -24,8 +24,8 @@ pub(crate) struct Front<'a> {
     pub(crate) values_fault: Option<MessageError>,
 }
 
-/// The version of a payload, and what its fields say in a layer of version 2. The values are built where
-/// they are to be kept.
+/// The version of a payload, and what its fields say in a layer of version 2. The values are built
+/// where they are to be kept.
 pub(crate) fn read_front<'a>(
     alloc: Global,
     payload: &'a [u8],

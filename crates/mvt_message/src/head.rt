@@ -1,5 +1,5 @@
-//! The fields of a layer besides its version and the contents of its values and features (Mapbox Vector
-//! Tile Specification 2.1, 4.1).
+//! The fields of a layer besides its version and the contents of its values and features (Mapbox
+//! Vector Tile Specification 2.1, 4.1).
 ghost use Rattle.std.specs.Prelude.{◌≡◌, ◌+◌, ◌^◌, ◌<◌, List, [], ◌∷◌, ◌++◌, None, IfErr, OnOk};
 ghost use Rattle.std.specs.Option.{option_map, option_copied};
 ghost use Rattle.mvt_base.specs.Tells.{Tells};

@@ -24,6 +24,10 @@ pub enum Item {
 
 impl Layer {
     /// An equal layer.
+    ///
+    /// # Errors
+    ///
+    /// When memory runs out.
     pub fn copy(&self, alloc: Global) -> Result<Layer, AllocError>
         ensures { IfOk result (λ copy. copy ≡ self.now) }
     {
@@ -47,6 +51,10 @@ fn copy_features(alloc: Global, features: &[Feature]) -> Result<Items<Feature>, 
 
 impl Item {
     /// An equal item.
+    ///
+    /// # Errors
+    ///
+    /// When memory runs out.
     pub fn copy(&self, alloc: Global) -> Result<Item, AllocError>
         ensures { IfOk result (λ copy. copy ≡ self.now) }
     {

@@ -42,8 +42,8 @@ pub fn canonical_reads()
     ensures { (item : Item) → ValidItem item → length (canonical_item item) ≤ LIMIT → IsItem (canonical_item item) item }
 {}
 
-/// The keys and the values that features use: where the features are valid they can be written, and each feature has its
-/// own among them.
+/// The keys and the values that features use: where the features are valid they can be written, and
+/// each feature has its own among them.
 pub fn pools_of_features()
     ensures keys { (features : List Feature) → AllByRecursion ValidFeature features
         → AllByRecursion IsUtf8 (keys_of features) }
@@ -53,8 +53,8 @@ pub fn pools_of_features()
         → AllByRecursion (λ (f : Feature). AllByRecursion (IsIn (keys_of features) (values_of features)) f.attributes) features }
 {}
 
-/// Feature by feature the keys and the values grow: with one more feature, and where a feature takes them beyond a bound,
-/// those of all features are beyond it.
+/// Feature by feature the keys and the values grow: with one more feature, and where a feature
+/// takes them beyond a bound, those of all features are beyond it.
 pub fn pools_by_features()
     ensures more_keys { (done : List Feature) (feature : Feature) →
         key_pool (keys_of done) feature.attributes ≡ keys_of (done ++ feature ∷ []) }
@@ -68,7 +68,8 @@ pub fn pools_by_features()
         → bound < length (value_pool (values_of (take i features)) feature.attributes) → bound < length (values_of features) }
 {}
 
-/// The canonical payload of an item takes no more bytes than its bound says, where that is within the limit.
+/// The canonical payload of an item takes no more bytes than its bound says, where that is within
+/// the limit.
 pub fn bound_holds()
     ensures { (item : Item) → ValidItem item → item_bound item ≤ LIMIT
         → length (canonical_item item) ≤ item_bound item }

@@ -53,7 +53,7 @@ fn len_of_parts(
     Ok(len)
 }
 
-/// So many bytes and a field of so many.
+/// The length `len` with that of a field added whose payload is `size` bytes.
 fn with_field(len: u64, number: u32, size: u64) -> Result<u64, PutError>
     requires number { number < 2 ^ 29 }
     requires small { len ≤ LIMIT }
@@ -73,7 +73,7 @@ fn with_field(len: u64, number: u32, size: u64) -> Result<u64, PutError>
     Ok(len)
 }
 
-/// So many bytes and the features; their keys and values are placed in the pools.
+/// The length `start` with that of the features added, whose keys and values go into the pools.
 fn with_features(
     alloc: Global,
     features: &[Feature],
@@ -106,7 +106,7 @@ fn with_features(
     Ok(len)
 }
 
-/// So many bytes and the keys of a pool.
+/// The length `start` with that of a pool's keys added.
 fn with_keys(start: u64, keys: &KeyPool) -> Result<u64, PutError>
     requires { start ≤ LIMIT }
     ensures len { IfOk result (λ n. n ≡ start + length (spelled (map key_field keys.now))) }
@@ -123,7 +123,7 @@ fn with_keys(start: u64, keys: &KeyPool) -> Result<u64, PutError>
     Ok(len)
 }
 
-/// So many bytes and the values of a pool.
+/// The length `start` with that of a pool's values added.
 fn with_values(start: u64, values: &ValuePool) -> Result<u64, PutError>
     requires { start ≤ LIMIT }
     ensures len { IfOk result (λ n. n ≡ start + length (spelled (map value_field values.now))) }

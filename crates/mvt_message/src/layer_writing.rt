@@ -14,7 +14,7 @@ use mvt_feature::{Feature, Scratch, append_feature, append_value, value_len};
 use mvt_wire::{Payload, put_field, put_field_head};
 use std::alloc::{AllocError, Global};
 
-/// So many bytes a payload has room for at first: a small one never grows.
+/// How many bytes a payload has room for at first: a small one never grows.
 pub(crate) const FIRST_ROOM: usize = 256;
 
 /// Appends the version and the name.

@@ -1,5 +1,5 @@
-//! The layers of a tile (Mapbox Vector Tile Specification 2.1, 4.1): a layer of version 2, or another as
-//! its bytes, read from a payload and written as one.
+//! The layers of a tile (Mapbox Vector Tile Specification 2.1, 4.1): a layer of version 2, or
+//! another as its bytes, read from a payload and written as one.
 #![tactic(auto)]
 
 mod bound;

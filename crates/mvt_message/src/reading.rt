@@ -18,13 +18,14 @@ use mvt_base::{Items, LIMIT, Text};
 use mvt_feature::{Cause, Feature, MessageError, fault_at};
 use std::alloc::Global;
 
-/// The item of a payload whose first byte stands at `payload_at`, and whose field's tag at `tag_at`.
+/// The item of a payload whose first byte stands at `payload_at`, and the tag of its field at
+/// `tag_at`.
 ///
 /// # Errors
 ///
-/// The first broken rule: the payload splits into fields, the versions and that there is one; in a layer
-/// of version 2 the other fields in order, that there is a name, each value in order, each feature in
-/// order.
+/// The first broken rule: the payload splits into fields, the versions and that there is one; in a
+/// layer of version 2 the other fields in order, that there is a name, each value in order, each
+/// feature in order.
 pub fn read_item(
     alloc: Global,
     payload: &[u8],
@@ -46,8 +47,8 @@ pub fn read_item(
     Ok(Item::Foreign { version, bytes })
 }
 
-/// Whether a payload is an item, and the name of the layer that it is. Nothing is built but the list of
-/// the layer's keys.
+/// Whether a payload is an item, and the name of the layer that it is. Nothing is built but the
+/// list of the layer's keys.
 ///
 /// # Errors
 ///

@@ -14,13 +14,14 @@ use std::alloc::{AllocError, Global};
 pub fn is_valid_layer(layer: &Layer) -> bool
     ensures { IsTrue result ↔ ValidLayer layer.now }
 {
+    // Read for the proof, which so knows that the name is UTF-8 and the extent has 32 bits.
     let _name = layer.name.as_str();
     let _extent = layer.extent;
     are_valid(layer.features.as_slice())
 }
 
-/// Whether an item can be written: a layer that can, or bytes of fields whose last version is the one
-/// told and isn't 2. It takes no memory.
+/// Whether an item can be written: a layer that can, or bytes of fields whose last version is the
+/// one told and isn't 2. It takes no memory.
 #[tactic(auto, unfolding(crate::specs::ValidItems::ValidItem))]
 pub fn is_valid_item(item: &Item) -> bool
     ensures { IsTrue result ↔ ValidItem item.now }
@@ -31,7 +32,11 @@ pub fn is_valid_item(item: &Item) -> bool
     }
 }
 
-/// The same, in time that grows as that of sorting the keys of each feature.
+/// Whether an item can be written, in n log n time for the n attributes of a feature.
+///
+/// # Errors
+///
+/// When memory runs out.
 #[tactic(auto, unfolding(crate::specs::ValidItems::ValidItem))]
 pub fn validate_item(alloc: Global, item: &Item) -> Result<bool, AllocError>
     ensures { IfOk result (λ valid. IsTrue valid ↔ ValidItem item.now) }
@@ -46,6 +51,7 @@ pub fn validate_item(alloc: Global, item: &Item) -> Result<bool, AllocError>
 fn validate_layer(alloc: Global, layer: &Layer) -> Result<bool, AllocError>
     ensures { IfOk result (λ valid. IsTrue valid ↔ ValidLayer layer.now) }
 {
+    // Read for the proof, which so knows that the name is UTF-8 and the extent has 32 bits.
     let _name = layer.name.as_str();
     let _extent = layer.extent;
     validate_features(alloc, layer.features.as_slice())

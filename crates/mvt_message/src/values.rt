@@ -33,8 +33,8 @@ impl LayerValues {
     }
 }
 
-/// The values with one more field, unless a fault was met before it. They are built where they are to be
-/// kept, and only judged otherwise.
+/// The values with one more field, unless a fault was met before it. They are built where they are
+/// to be kept, and only judged otherwise.
 #[inline(always)]
 pub(crate) fn take_value(
     alloc: Global,

@@ -67,7 +67,7 @@ impl Error for PutError {}
 ///
 /// # Errors
 ///
-/// `TooLarge` where the payload has more bytes than the limit.
+/// `TooLarge` where the payload has more bytes than the limit, `Memory` when memory runs out.
 #[tactic(auto, unfolding(crate::specs::CanonicalItems::canonical_item, crate::specs::ValidItems::ValidItem))]
 pub fn put_item(alloc: Global, item: &Item) -> Result<Vec<u8>, PutError>
     requires { ValidItem item.now }
@@ -80,7 +80,7 @@ pub fn put_item(alloc: Global, item: &Item) -> Result<Vec<u8>, PutError>
     }
 }
 
-/// The length of that payload.
+/// The length of an item's canonical payload.
 ///
 /// # Errors
 ///

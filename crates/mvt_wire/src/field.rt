@@ -53,8 +53,8 @@ pub fn next_field(source: &[u8], at: usize) -> Result<Option<(Field<'_>, usize)>
     }
 }
 
-#[derive(Clone, Copy)]
 /// The content of a payload, where it stands in its bytes, and how many bytes those are.
+#[derive(Clone, Copy)]
 struct Loaded<'a> {
     payload: Payload<'a>,
     start: usize,

@@ -8,10 +8,19 @@ pub trait NumberList {
     // The numbers so far.
     ghost numbers: { Self → List ℕ };
 
-    /// Room for so many more numbers, if it is found.
+    /// Reserves room for `more` numbers behind those that are there.
+    ///
+    /// # Errors
+    ///
+    /// When memory runs out; the numbers stay.
     fn reserve_numbers(&mut self, more: usize) -> Result<(), AllocError>
         ensures { numbers self.new ≡ numbers self.old };
 
+    /// Adds a number at the end.
+    ///
+    /// # Errors
+    ///
+    /// When memory runs out; the numbers are then as they were.
     fn push_number(&mut self, number: u32) -> Result<(), AllocError>
         ensures ok { OnOk result (numbers self.new ≡ numbers self.old ++ number ∷ []) }
         ensures err { OnErr result (numbers self.new ≡ numbers self.old) };

@@ -14,7 +14,7 @@ use std::alloc::{AllocError, Global};
 use std::error::Error;
 use std::fmt;
 
-/// Why packed numbers can't be read: the first that holds, but for want of memory.
+/// Why packed numbers can't be read: memory runs out, or else the first of the others that holds.
 #[derive(Clone, Copy, Debug, PartialEq, Eq)]
 pub enum PackedError {
     Memory,
@@ -57,7 +57,7 @@ impl Error for PackedError {}
 ///
 /// # Errors
 ///
-/// Where the bytes aren't the spellings of numbers below 2^32, or no memory is found.
+/// Where the bytes aren't the spellings of numbers below 2^32, or memory runs out.
 pub fn read_packed(alloc: Global, bytes: &[u8]) -> Result<Vec<u32>, PackedError>
     ensures ok { IfOk result (λ v. ArePacked bytes.now v.items) }
     ensures err { IfErr result (λ e. Tells (fault_of e) (first (packed_rules bytes.now))) }

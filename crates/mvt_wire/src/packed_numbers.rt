@@ -9,7 +9,7 @@ use std::marker::Model;
 
 /// Numbers in their shortest spellings, as a packed field has them.
 ///
-/// ```text
+/// ```ignore
 /// let mut numbers = PackedNumbers::new(alloc);
 /// numbers.push(9)?;
 /// put_field(out, 4, &Payload::Len(numbers.as_bytes()))?;
@@ -50,7 +50,11 @@ impl PackedNumbers {
         self.bytes.clear();
     }
 
-    /// Room for so many more numbers, if it is found: each takes five bytes at most.
+    /// Reserves room for `more` numbers behind those that are there: each takes five bytes at most.
+    ///
+    /// # Errors
+    ///
+    /// When memory runs out; the numbers stay.
     #[inline(always)]
     pub fn reserve(&mut self, more: usize) -> Result<(), AllocError>
         ensures { self.new ≡ self.old }
@@ -62,7 +66,7 @@ impl PackedNumbers {
     ///
     /// # Errors
     ///
-    /// Want of memory; the numbers are then as they were.
+    /// When memory runs out; the numbers are then as they were.
     #[inline(always)]
     pub fn push(&mut self, number: u32) -> Result<(), AllocError>
         ensures ok { OnOk result (self.new ≡ self.old ++ number ∷ []) }

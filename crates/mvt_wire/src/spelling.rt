@@ -33,7 +33,7 @@ pub fn put_field(out: &mut Vec<u8>, number: u32, payload: &Payload<'_>) -> Resul
     done
 }
 
-/// Appends what stands before the bytes of a field of so many bytes: its tag and its length.
+/// Appends what stands before the `len` bytes of a field: its tag and this length.
 ///
 /// # Errors
 ///
@@ -51,7 +51,7 @@ pub fn put_field_head(out: &mut Vec<u8>, number: u32, len: u64) -> Result<(), Al
     put_varint(out, len)
 }
 
-/// How many bytes the shortest spelling of a field of so many bytes has.
+/// How many bytes the shortest spelling of a field has whose payload is `len` bytes.
 #[tactic(auto, unfolding(crate::specs::Spelling::short_field))]
 pub fn field_len(number: u32, len: u64) -> u64
     requires number { number < 2 ^ 29 }
