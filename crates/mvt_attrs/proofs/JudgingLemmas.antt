@@ -1,12 +1,14 @@
 -- Judging tags by the marks of their keys' places, whatever the values are.
-use Rattle.std.proofs.Common.{◌≡◌, ℕ, ◌+◌, ◌-◌, ◌%◌, ◌<◌, ◌≤◌, ◌==◌, Bool, true, false, not, List, [], ◌∷◌, ◌++◌, length, get_or, set, drop, Some, None, slice_get, refl, sym, ap, ◌∙◌, arith}
+use Rattle.std.proofs.Common.{◌≡◌, ℕ, ◌+◌, ◌-◌, ◌%◌, ◌<◌, ◌≤◌, ◌==◌, Bool, true, false, not, List, [], ◌∷◌, ◌++◌, length, get_or, set, drop, Some, None, slice_get, refl, sym, ap, ◌∙◌, inl, inr, arith}
 use Rattle.std.proofs.lemmas.Option.{slice_get-get_or, slice_get_past, slice_get_within}
 use Rattle.mvt_base.specs.Related.{AreRelated}
+use Rattle.mvt_base.specs.Tells.{Tells}
 use Rattle.mvt_attrs.specs.declared.value.Value.{Value}
 use Rattle.mvt_attrs.specs.declared.value.Attribute.{Attribute}
 use Rattle.mvt_attrs.specs.declared.resolving.TagCause.TheVariants.{KeyIndex, ValueIndex, RepeatedKey}
-use Rattle.mvt_attrs.specs.TagRules.{pairs_of, tag_fault}
-use Rattle.mvt_attrs.specs.Inner.Marking.{IsGrouped, IsMarked, AreBelow}
+use Rattle.mvt_attrs.specs.declared.resolving.TagError.{TagError}
+use Rattle.mvt_attrs.specs.TagRules.{pairs_of, tag_fault, fault_of}
+use Rattle.mvt_attrs.specs.Inner.Marking.{IsGrouped, IsMarked, AreBelow, IsIndexError}
 use Rattle.mvt_attrs.proofs.MarkingLemmas.{marked_none, marked_more, repeated_before, new_before, below_marked}
 use Rattle.mvt_attrs.proofs.ResolvedLemmas.{read_faultless, there}
 use Rattle.mvt_attrs.proofs.TagLemmas.{NamesOne, Progress, progress_none, progress_more, stops_without_key, stops_without_value, stops_at_repeat}
@@ -69,6 +71,14 @@ module _ (keys : List (List ℕ)) (places marks : List ℕ) (turn count : ℕ) (
         below_more groups room below =
             let key = there keys (get_or rest 0 0) within in
             below_marked keys places marks turn (get_or rest 0 0) key.0 groups room key.1 below
+
+    -- the error of a pair that names no key, or no value
+    pub indices_stop : (index : ℕ) → index ≡ length tags - length rest → (error : TagError)
+        → IsIndexError keys count index (get_or rest 0 0) (get_or rest 1 0) error → (values : List Value)
+        → length values ≡ count → Tells (fault_of error) (tag_fault keys values tags)
+    indices_stop index at error (inl (past, is)) = λ values e. rw is (key_stops past values e ∙ ap (λ n. Some (n, KeyIndex)) (sym at))
+    indices_stop index at error (inr (within, past, is)) =
+        λ values e. rw is (value_stops within past values e ∙ ap (λ n. Some (n + 1, ValueIndex)) (sym at))
 
   pub so_far_ends : length rest < 2 → (values : List Value) → length values ≡ count → tag_fault keys values tags ≡ None
   so_far_ends short = λ values e. read_faultless keys values tags rest (so_far values e).0 (so_far values e).1 even short

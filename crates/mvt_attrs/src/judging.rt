@@ -1,9 +1,9 @@
 //! Whether tags name attributes: one pass over them, which builds nothing.
-ghost use Rattle.std.specs.Prelude.{◌≡◌, ◌+◌, ◌≤◌, List, length, None, IfErr, OnOk};
+ghost use Rattle.std.specs.Prelude.{◌≡◌, ◌+◌, ◌^◌, ◌<◌, ◌≤◌, List, length, None, IfErr, OnOk};
 ghost use Rattle.mvt_base.specs.Tells.{Tells};
 ghost use Rattle.mvt_attrs.specs.declared.value.Value.{Value};
 ghost use Rattle.mvt_attrs.specs.TagRules.{tag_fault, fault_of};
-ghost use Rattle.mvt_attrs.specs.Inner.Marking.{IsGrouped, AreBelow};
+ghost use Rattle.mvt_attrs.specs.Inner.Marking.{IsGrouped, AreBelow, IsIndexError};
 
 use crate::layer_keys::{LayerKeys, make_ready, mark, next_turn};
 use crate::resolving::{TagCause, TagError};
@@ -58,15 +58,7 @@ fn judge_pair(texts: &[Text], values: usize, tags: &[u32]) -> Result<(), TagErro
     match tags {
         [] => Ok(()),
         [_] => Err(fault(tags.len(), TagCause::OddTags)),
-        [key, value, ..] => {
-            if *key as usize >= texts.len() {
-                return Err(fault(0, TagCause::KeyIndex));
-            }
-            if *value as usize >= values {
-                return Err(fault(1, TagCause::ValueIndex));
-            }
-            Ok(())
-        }
+        [key, value, ..] => judge_indices(texts, values, 0, *key, *value),
     }
 }
 
@@ -93,16 +85,33 @@ fn judge_marked(
     let mut rest = tags;
     while let [key, value, others @ ..] = rest {
         let index = tags.len() - rest.len();
-        if *key as usize >= texts.len() {
-            return Err(fault(index, TagCause::KeyIndex));
-        }
-        if *value as usize >= values {
-            return Err(fault(index + 1, TagCause::ValueIndex));
-        }
+        judge_indices(texts, values, index, *key, *value)?;
         if !mark(places, marks, turn, *key as usize) {
             return Err(fault(index, TagCause::RepeatedKey));
         }
         rest = others;
+    }
+    Ok(())
+}
+
+/// Whether a pair names a key and a value, where the index of its key among the tags is `index`.
+#[inline(always)]
+fn judge_indices(
+    texts: &[Text],
+    values: usize,
+    index: usize,
+    key: u32,
+    value: u32,
+) -> Result<(), TagError>
+    requires { index + 1 < 2 ^ 64 }
+    ensures ok { OnOk result ((key < length texts.now) × (value < values)) }
+    ensures err { IfErr result (IsIndexError texts.now values index key value) }
+{
+    if key as usize >= texts.len() {
+        return Err(fault(index, TagCause::KeyIndex));
+    }
+    if value as usize >= values {
+        return Err(fault(index + 1, TagCause::ValueIndex));
     }
     Ok(())
 }

@@ -1,11 +1,14 @@
 -- How a key that a feature repeats is found: keys of one text have one place, and a feature marks the
 -- places that it has named.
-use Rattle.std.specs.Prelude.{◌≡◌, ◌⊎◌, ℕ, ◌+◌, ◌<◌, ◌==◌, List, length, Option, Some, slice_get, slice_index}
+use Rattle.std.specs.Prelude.{◌≡◌, ◌⊎◌, ℕ, ◌+◌, ◌<◌, ◌≤◌, ◌==◌, List, length, Option, Some, slice_get, slice_index}
 use Rattle.std.specs.Borrow.{Bor}
 use Rattle.std.specs.Ordering.{nat_cmp}
 use Rattle.std.specs.Cmp.Lexicographic.{slice_cmp}
 use Rattle.std.specs.BTreeMap.{BTreeMap, get_by}
 use Rattle.mvt_attrs.specs.declared.value.Attribute.{Attribute}
+use Rattle.mvt_attrs.specs.declared.resolving.TagCause.TheVariants.{KeyIndex, ValueIndex}
+use Rattle.mvt_attrs.specs.declared.resolving.TagError.{TagError}
+use Rattle.mvt_attrs.specs.declared.resolving.TagError.TheVariants.{Fault}
 use Rattle.mvt_attrs.specs.Tags.{has_key}
 
 -- two keys have one place exactly where they are one text
@@ -30,6 +33,12 @@ IsMarked texts places marks turn attributes =
 
 abbrev pub AreBelow : List ℕ → ℕ → Type 0
 AreBelow marks n = (i : ℕ) → slice_index marks i < n
+
+-- what is told of a pair that names no key, or no value; its key stands at this index
+abbrev pub IsIndexError : List (List ℕ) → ℕ → ℕ → ℕ → ℕ → TagError → Type 0
+IsIndexError texts values index key value error =
+    ((length texts ≤ key) × (error ≡ Fault index KeyIndex))
+    ⊎ ((key < length texts) × (values ≤ value) × (error ≡ Fault (index + 1) ValueIndex))
 
 -- keys in their groups, and marks of turns up to the last
 pub record IsReady (texts : List (List ℕ)) (places marks : List ℕ) (turn : ℕ) : Type 0 where

@@ -1,7 +1,8 @@
-use Rattle.std.proofs.Common.{◌≡◌, ◌+◌, ◌-◌, length, take, drop, sym, subst, arith, length-drop}
+use Rattle.std.proofs.Common.{◌≡◌, ◌+◌, ◌-◌, length, take, drop, refl, sym, subst, arith, length-drop}
 use Rattle.std.proofs.lemmas.List.{take_rest}
+use Rattle.std.proofs.lemmas.Result.{err_from_is_err_and}
 use Rattle.mvt_attrs.specs.Inner.Marking.{AreBelow}
-use Rattle.mvt_attrs.proofs.JudgingLemmas.{MarkedSoFar, so_far_none, key_stops, value_stops, repeat_stops, so_far_more, below_more, so_far_ends}
+use Rattle.mvt_attrs.proofs.JudgingLemmas.{MarkedSoFar, so_far_none, indices_stop, repeat_stops, so_far_more, below_more, so_far_ends}
 use Rattle.mvt_attrs.proofs.TagLemmas.{tag_fault-odd}
 use Rattle.mvt_attrs.proofs.judging.judge_marked.Goals as goal
 
@@ -16,25 +17,20 @@ loop-rest-init c = record {
   within = omega arith;
 }
 
-pub returns-then-key-texts-clause-err : goal.returns-then-key-texts-clause-err
-returns-then-key-texts-clause-err c =
-    rw c.fault-then-key-texts.ensures
-    (key_stops c.args.texts.now c.args.places.now c.loop-rest.marks c.args.turn c.args.values c.args.tags.now
-    c.loop-rest.rest.now c.loop-rest.invariant.marked c.if-tags-eq1.false c.in-len2-up.len_at_least c.if-key-texts.true)
-
-pub returns-then-value-values-clause-err : goal.returns-then-value-values-clause-err
-returns-then-value-values-clause-err c =
-    rw c.fault-then-value-values.ensures
-    (value_stops c.args.texts.now c.args.places.now c.loop-rest.marks c.args.turn c.args.values c.args.tags.now
-    c.loop-rest.rest.now c.loop-rest.invariant.marked c.if-tags-eq1.false c.in-len2-up.len_at_least c.if-key-texts.false
-    c.if-value-values.true)
+pub returns-in_err-judge_indices-clause-err : goal.returns-in_err-judge_indices-clause-err
+returns-in_err-judge_indices-clause-err c =
+    let p = err_from_is_err_and c.from_residual.result c.from_residual.ensures.1 in
+    rw (p.1, p.2)
+    (indices_stop c.args.texts.now c.args.places.now c.loop-rest.marks c.args.turn c.args.values c.args.tags.now
+    c.loop-rest.rest.now c.loop-rest.invariant.marked c.if-tags-eq1.false c.in-len2-up.len_at_least _ refl
+    c.in_err-judge_indices.field-0.0 c.in_err-judge_indices.ensures.err)
 
 pub returns-then-not-mark-clause-err : goal.returns-then-not-mark-clause-err
 returns-then-not-mark-clause-err c =
     rw c.fault-then-not-mark.ensures
     (repeat_stops c.args.texts.now c.args.places.now c.loop-rest.marks c.args.turn c.args.values c.args.tags.now
-    c.loop-rest.rest.now c.loop-rest.invariant.marked c.if-tags-eq1.false c.in-len2-up.len_at_least c.if-key-texts.false
-    c.if-value-values.false c.mark.result c.mark.ensures.new c.if-not-mark.true)
+    c.loop-rest.rest.now c.loop-rest.invariant.marked c.if-tags-eq1.false c.in-len2-up.len_at_least c.in_ok-judge_indices.ensures.ok.0
+    c.in_ok-judge_indices.ensures.ok.1 c.mark.result c.mark.ensures.new c.if-not-mark.true)
 
 pub loop-rest-preserved : goal.loop-rest-preserved
 loop-rest-preserved c =
@@ -50,12 +46,12 @@ loop-rest-preserved c =
           (take (length c.loop-rest.rest.now - 2) (drop 2 c.loop-rest.rest.now)))
           (sym c.mark.ensures.marked)
           (so_far_more texts c.args.places.now c.loop-rest.marks c.args.turn c.args.values c.args.tags.now c.loop-rest.rest.now
-          c.loop-rest.invariant.marked c.if-tags-eq1.false c.in-len2-up.len_at_least c.if-key-texts.false
-          c.if-value-values.false c.mark.result c.mark.ensures.new _ left c.requires.grouped room c.if-not-mark.false);
+          c.loop-rest.invariant.marked c.if-tags-eq1.false c.in-len2-up.len_at_least c.in_ok-judge_indices.ensures.ok.0
+          c.in_ok-judge_indices.ensures.ok.1 c.mark.result c.mark.ensures.new _ left c.requires.grouped room c.if-not-mark.false);
       below = subst (λ ms. AreBelow ms (c.args.turn + 1)) (sym c.mark.ensures.marked)
           (below_more texts c.args.places.now c.loop-rest.marks c.args.turn c.args.values c.args.tags.now c.loop-rest.rest.now
-          c.loop-rest.invariant.marked c.if-tags-eq1.false c.in-len2-up.len_at_least c.if-key-texts.false
-          c.if-value-values.false c.mark.result c.mark.ensures.new c.requires.grouped room c.loop-rest.invariant.below);
+          c.loop-rest.invariant.marked c.if-tags-eq1.false c.in-len2-up.len_at_least c.in_ok-judge_indices.ensures.ok.0
+          c.in_ok-judge_indices.ensures.ok.1 c.mark.result c.mark.ensures.new c.requires.grouped room c.loop-rest.invariant.below);
       within = rw left (omega (arith, length-drop 2 c.loop-rest.rest.now));
     }
 
