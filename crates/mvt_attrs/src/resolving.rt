@@ -8,7 +8,7 @@ use crate::judging::judge_tags;
 use crate::layer_keys::LayerKeys;
 use crate::value::{Attribute, Value};
 use mvt_base::Text;
-use std::alloc::{AllocError, AllocFailed, Global};
+use std::alloc::{AllocError, Global};
 use std::error::Error;
 use std::fmt;
 
@@ -41,17 +41,6 @@ impl From<AllocError> for TagError {
     ghost from_gives = { λ _ error. error ≡ Memory };
 
     fn from(_: AllocError) -> Self {
-        TagError::Memory
-    }
-}
-
-impl<T: Drop> From<AllocFailed<T>> for TagError {
-    ghost use Rattle.std.specs.Prelude.{◌≡◌};
-    ghost use Rattle.mvt_attrs.specs.declared.resolving.TagError.TheVariants.{Memory};
-
-    ghost from_gives = { λ _ error. error ≡ Memory };
-
-    fn from(_: AllocFailed<T>) -> Self {
         TagError::Memory
     }
 }
