@@ -115,7 +115,7 @@ module _ {A : Type 0} (same : A → A → Bool) (decides : (x y : A) → Decides
       subst (λ xs. AreDistinct (first_use same xs)) (append_assoc front (y ∷ []) ys)
       (distinct_from (front ++ y ∷ []) ys (subst AreDistinct (sym (first_use-push front y))
       (put_cases AreDistinct (first_use same front) y (λ e. h)
-          (λ e. all_pairs_push (λ a b. a ≢ b) (first_use same front) y h (apart_from_has y (first_use same front) e)))))
+      (λ e. all_pairs_push (λ a b. a ≢ b) (first_use same front) y h (apart_from_has y (first_use same front) e)))))
 
   pub first_use-distinct : (xs : List A) → AreDistinct (first_use same xs)
   first_use-distinct xs = distinct_from [] xs (λ i j d before within e. omega arith)
@@ -124,7 +124,7 @@ module _ {A : Type 0} (same : A → A → Bool) (decides : (x y : A) → Decides
   new_behind front y back distinct =
       has_not_from_apart y front (λ k d within e.
       distinct k (length front) d within (omega (arith, length-append front (y ∷ back)))
-          (get_or_append_left front (y ∷ back) d k within ∙ e ∙ sym (get_or_at front y back d (length front) refl)))
+      (get_or_append_left front (y ∷ back) d k within ∙ e ∙ sym (get_or_at front y back d (length front) refl)))
 
   own_from : (front back : List A) → first_use same front ≡ front → AreDistinct (front ++ back)
       → first_use same (front ++ back) ≡ front ++ back
@@ -159,7 +159,7 @@ module _ {A : Type 0} (same : A → A → Bool) (decides : (x y : A) → Decides
       let rest = first_use-front (xs ++ y ∷ []) ys in
       let step : (more : List A) × (put (first_use same xs) y ≡ first_use same xs ++ more) =
       put_cases (λ p. (more : List A) × (p ≡ first_use same xs ++ more)) (first_use same xs) y
-          (λ e. ([], sym (append-nil (first_use same xs)))) (λ e. (y ∷ [], refl)) in (
+      (λ e. ([], sym (append-nil (first_use same xs)))) (λ e. (y ∷ [], refl)) in (
         step.0 ++ rest.0,
         sym (ap (first_use same) (append_assoc xs (y ∷ []) ys)) ∙ rest.1 ∙ ap (λ p. p ++ rest.0) (first_use-push xs y ∙ step.1)
             ∙ append_assoc (first_use same xs) step.0 rest.0,

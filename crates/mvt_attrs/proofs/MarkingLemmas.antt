@@ -92,7 +92,7 @@ FoundFew texts places =
 
 module _ (texts : List (List ℕ)) (places : List ℕ) (find : List ℕ → Option ℕ) (so_far : Found texts (length places) places find)
     (low : (q : List ℕ) (v : ℕ) → find q ≡ Some v → v < length places) (text : List ℕ)
-        (at : slice_get texts (length places) ≡ Some text) where
+    (at : slice_get texts (length places) ≡ Some text) where
   place_found : (place : ℕ) → IsPlaceBehind texts places place → place ≡ unwrap_or (find text) (length places)
   place_found place (inl (j, lt, same, is)) = is ∙ sym (ap (λ o. unwrap_or o (length places)) (so_far.found j text lt (same ∙ at)))
   place_found place (inr (none, is)) = by (find text) refl
@@ -179,7 +179,7 @@ marked_none texts places marks turn below = λ i text at.
 
 module _ (texts : List (List ℕ)) (places marks : List ℕ) (turn : ℕ) (attributes : List Attribute) (k : ℕ) (key : List ℕ) (new : Bool)
     (marked : IsMarked texts places marks turn attributes) (at : slice_get texts k ≡ Some key)
-        (is : new ≡ not (get_or marks (get_or places k 0) 0 == turn)) where
+    (is : new ≡ not (get_or marks (get_or places k 0) 0 == turn)) where
   -- a key whose place has this turn's mark was named before
   pub repeated_before : new ≡ false → has_key key attributes ≡ true
   repeated_before no_new = not-false (has_key key attributes) (ap not (sym (marked k key at)) ∙ sym is ∙ no_new)
@@ -208,7 +208,7 @@ marked_more texts places marks turn attributes k a groups room at marked = λ i 
     let one : a.key ≡ text = groups.apart k i a.key text at at_i (sym e) in
     eq-eqb _ _ (ap (λ p. get_or (set marks (get_or places k 0) turn) p 0) e ∙ get_or-set_same marks (get_or places k 0) turn 0 lt)
     ∙ sym (whole ∙ ap (λ b. has_key text attributes || (b || false)) ((bytes_eq-Decides a.key text).1 one)
-        ∙ or-true (has_key text attributes)))
+    ∙ or-true (has_key text attributes)))
     (λ (ne : get_or places i 0 ≡ get_or places k 0 → ⊥).
     let two : bytes_eq a.key text ≡ false = differs text i at_i ne in
     ap (λ m. m == turn) (get_or-set_other marks (get_or places k 0) (get_or places i 0) turn 0 ne) ∙ marked i text at_i

@@ -49,7 +49,7 @@ names_push keys values tags attributes k v a names of_key of_value =
     (λ odd. even (omega (arith, odd, length-append tags (k ∷ (v ∷ [])))))
     (subst (λ ps. AreRelated (NamesOne keys values) ps (attributes ++ a ∷ [])) (sym (pairs_of-append tags (k ∷ (v ∷ [])) even))
     (related-append (NamesOne keys values) (pairs_of tags) attributes ((k, v) ∷ []) (a ∷ [])
-        (related_from_names keys values tags attributes names) ((of_key, of_value), tt)))
+    (related_from_names keys values tags attributes names) ((of_key, of_value), tt)))
 
 -- tags that name attributes in pools without repeats are the places in these pools, and in all longer ones
 pub names_places : (keys more : List (List ℕ)) (values further : List Value) (tags : List ℕ) (attributes : List Attribute)

@@ -42,7 +42,7 @@ new_among front a back distinct =
     test_from_apart a.key front (λ k d within e.
     distinct k (length front) d within (omega (arith, length-append front (a ∷ back)))
     (ap (λ (b : Attribute). b.key) (get_or_append_left front (a ∷ back) d k within) ∙ e
-        ∙ ap (λ (b : Attribute). b.key) (sym (get_or_at front a back d (length front) refl))))
+    ∙ ap (λ (b : Attribute). b.key) (sym (get_or_at front a back d (length front) refl))))
 
 -- ---- tags by places and by pairs
 

@@ -75,7 +75,7 @@ pub fn pools_grow()
 pub fn pools_hold()
     ensures { (held_keys : List (List ℕ)) (held_values : List Value) (front attributes back : List Attribute) →
         AllByRecursion (IsIn (key_pool held_keys (front ++ (attributes ++ back)))
-            (value_pool held_values (front ++ (attributes ++ back)))) attributes }
+        (value_pool held_values (front ++ (attributes ++ back)))) attributes }
 {}
 
 /// The places of attributes name them.

@@ -95,7 +95,7 @@ returns-in_err-key-clause-too_many c =
     let p = err_from_is_err_and c.from_residual.result c.from_residual.ensures.1 in
     λ h. (let full = c.in_err-key.ensures.full.0 (let k = rw p.1 at h in let q = p.2 in cc) in
     inl (pool_passes bytes_eq bytes_eq-Decides (λ (b : Attribute). b.key) c.args.keys.now c.loop-attribute.keys
-        c.args.attributes.now c.loop-attribute.attribute-index c.attribute-item.result _ LIMIT
+    c.args.attributes.now c.loop-attribute.attribute-index c.attribute-item.result _ LIMIT
     c.loop-attribute.invariant.keys c.loop-attribute-test.true c.attribute-item.is refl full.0 full.1))
 
 pub returns-in_err-key-clause-memory : goal.returns-in_err-key-clause-memory
@@ -112,8 +112,8 @@ returns-in_err-key-clause-memory c =
       not_full_at c.args.attributes.now c.loop-attribute.attribute-index c.attribute-item.result _ c.place_near.new.self
           c.loop-attribute.values c.attribute-item.is refl
           (λ full. (let k = rw p.1 at h in let q = p.2 in
-              let other = c.in_err-key.ensures.full.1
-              (subst (λ ks. (length ks ≡ LIMIT) × (Contains ks c.attribute-item.result.key → ⊥)) stays full) in cc))
+          let other = c.in_err-key.ensures.full.1
+          (subst (λ ks. (length ks ≡ LIMIT) × (Contains ks c.attribute-item.result.key → ⊥)) stays full) in cc))
           (λ there. (let found = c.in_err-key.ensures.present (subst (λ ks. Contains ks c.attribute-item.result.key) stays there) in cc)),
     )
 
@@ -138,7 +138,7 @@ returns-in_err-value-clause-too_many c =
     let p = err_from_is_err_and c.from_residual-in_err-value.result c.from_residual-in_err-value.ensures.1 in
     λ h. (let full = c.in_err-value.ensures.full.0 (let k = rw p.1 at h in let q = p.2 in cc) in
     inr (pool_passes equal_values equal_values-Decides (λ (b : Attribute). b.value) c.args.values.now
-        c.loop-attribute.values c.args.attributes.now c.loop-attribute.attribute-index c.attribute-item.result _ LIMIT
+    c.loop-attribute.values c.args.attributes.now c.loop-attribute.attribute-index c.attribute-item.result _ LIMIT
     c.loop-attribute.invariant.values c.loop-attribute-test.true c.attribute-item.is refl full.0 full.1))
 
 pub returns-in_err-value-clause-memory : goal.returns-in_err-value-clause-memory
@@ -167,8 +167,8 @@ returns-in_err-value-clause-memory c =
           c.place_near-in-loop-attribute.new.self c.attribute-item.is refl
           (λ full. full.1 (contains_at c.place_near.new.self c.in_ok-key.key c.attribute-item.result.key c.in_ok-key.ensures.index))
           (λ there full. (let k = rw p.1 at h in let q = p.2 in
-              let other = c.in_err-value.ensures.full.1
-              (subst (λ vs. (length vs ≡ LIMIT) × (Contains vs a.value → ⊥)) stays full) in cc)),
+          let other = c.in_err-value.ensures.full.1
+          (subst (λ vs. (length vs ≡ LIMIT) × (Contains vs a.value → ⊥)) stays full) in cc)),
     )
 
 pub returns-in_err-extend_from_slice-clause-left : goal.returns-in_err-extend_from_slice-clause-left
