@@ -1,5 +1,5 @@
 //! Commands and the counts that they may have (sections 4.3.1 and 4.3.4).
-ghost use Rattle.std.specs.Prelude.{◌≡◌};
+ghost use Rattle.std.specs.Prelude.{◌≡◌, ◌+◌, ◌*◌, ◌/◌, ◌^◌, ◌<◌};
 ghost use Rattle.mvt_geometry.specs.Commands.{id_of, is_allowed};
 ghost use Rattle.mvt_geometry.specs.Table.{is_line_to};
 
@@ -22,6 +22,23 @@ impl Command {
             Command::LineTo => 2,
             Command::ClosePath => 7,
         }
+    }
+
+    /// The integer of this command with a count (4.3.1, CommandInteger).
+    #[inline(always)]
+    pub(crate) fn integer(self, count: u32) -> u32
+        requires { count < 2 ^ 29 }
+        ensures { result ≡ id_of self + 8 * count }
+    {
+        8 * count + self.id()
+    }
+
+    /// The count in the integer of a command (4.3.1).
+    #[inline(always)]
+    pub(crate) fn count_in(integer: u32) -> u32
+        ensures { result ≡ integer / 8 }
+    {
+        integer / 8
     }
 
     /// Whether its pairs draw lines.

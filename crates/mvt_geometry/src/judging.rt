@@ -206,7 +206,7 @@ fn judge_header(kind: Kind, command: Command, integers: &[u32], at: usize) -> Re
             cause: GeometryCause::Command,
         });
     }
-    let count = *integer / 8;
+    let count = Command::count_in(*integer);
     if !command.allows(kind, count) {
         return Err(Fault {
             index: at,

@@ -10,6 +10,7 @@ ghost use Rattle.mvt_geometry.specs.Inner.Building.{ArePlaces, IsFront, SpellLin
 ghost use Rattle.mvt_geometry.specs.Inner.Grouping.{opened, polygons_of};
 
 use crate::area::twice_area;
+use crate::command::Command;
 use crate::fault::GeometryError;
 use crate::judging::{ORIGIN, judge};
 use crate::shape::{Geometry, Kind, Point, Polygon};
@@ -165,7 +166,7 @@ fn build_line<'a>(alloc: Global, from: Point, integers: &'a [u32]) -> Result<Lin
         → IfOk result (λ r. (r.points ≡ l) × (r.end ≡ last_of from l) × (r.behind.now ≡ more)) }
 {
     let (head, tail) = integers.split_at(4);
-    let count = (head[3] / 8) as usize;
+    let count = Command::count_in(head[3]) as usize;
     let (pairs, behind) = tail.split_at(2 * count);
     let mut points = Vec::with_capacity(alloc, count + 1)?;
     let first = push_path(&mut points, from, &head[1..3])?;

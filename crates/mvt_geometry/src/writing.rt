@@ -7,6 +7,7 @@ ghost use Rattle.mvt_geometry.specs.Valid.{IsValid};
 ghost use Rattle.mvt_geometry.specs.Drawing.{path_from, drawn, Draws, stroke, strokes};
 ghost use Rattle.mvt_geometry.specs.Inner.Writing.{ending, AreShort, IsShort};
 
+use crate::command::Command;
 use crate::judging::ORIGIN;
 use crate::shape::{Geometry, Point, Polygon};
 use mvt_base::Items;
@@ -46,7 +47,7 @@ pub fn append_geometry<N: NumberList>(
         Geometry::Points(points) => {
             let points = points.as_slice();
             integers.reserve_numbers(1 + 2 * points.len())?;
-            integers.push_number(8 * points.len() as u32 + 1)?;
+            integers.push_number(Command::MoveTo.integer(points.len() as u32))?;
             put_path(integers, ORIGIN, points)?;
         }
         Geometry::Lines(lines) => {
@@ -120,12 +121,12 @@ fn put_line<N: NumberList>(
 {
     let (first, others) = line.split_at(1);
     integers.reserve_numbers(3 + 2 * line.len())?;
-    integers.push_number(9)?;
+    integers.push_number(Command::MoveTo.integer(1))?;
     let first = put_path(integers, from, first)?;
-    integers.push_number(8 * others.len() as u32 + 2)?;
+    integers.push_number(Command::LineTo.integer(others.len() as u32))?;
     let last = put_path(integers, first, others)?;
     if is_ring {
-        integers.push_number(15)?;
+        integers.push_number(Command::ClosePath.integer(1))?;
     }
     Ok(last)
 }

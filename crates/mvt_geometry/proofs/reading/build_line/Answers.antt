@@ -7,7 +7,8 @@ use Rattle.mvt_geometry.proofs.reading.build_line.Goals as goal
 pub split_at-requires-2 : goal.split_at-requires-2
 split_at-requires-2 c =
     let f = front_is c.args.from c.args.integers.now c.requires.0 c.requires.1 c.requires.2 in
-    room_for f c.split_at.result.0.now c.split_at.result.1.now c.split_at.ensures.front c.split_at.ensures.back
+    rw c.count_in-count.ensures
+    (room_for f c.split_at.result.0.now c.split_at.result.1.now c.split_at.ensures.front c.split_at.ensures.back)
 
 pub push_path-requires : goal.push_path-requires
 push_path-requires c =
@@ -23,7 +24,7 @@ push_path-requires-2 c =
     c.in_ok-first.ensures.last
     ∙ first_end f c.split_at.result.0.now c.split_at.result.1.now c.split_at.ensures.front c.split_at.ensures.back in
     let points =
-    ap₂ (λ p xs. positions p (pairs_of xs)) first c.split_at-2.ensures.front
+    ap₂ (λ p xs. positions p (pairs_of xs)) first (rw c.count_in-count.ensures at c.split_at-2.ensures.front)
     ∙ other_points f c.split_at.result.0.now c.split_at.result.1.now c.split_at.ensures.front c.split_at.ensures.back in
     subst ArePlaces (sym points) f.places.1
 
@@ -35,14 +36,14 @@ returns-clause-line c = λ l more req.
     ∙ first_end f c.split_at.result.0.now c.split_at.result.1.now c.split_at.ensures.front c.split_at.ensures.back in
     let head = first_points f c.split_at.result.0.now c.split_at.result.1.now c.split_at.ensures.front c.split_at.ensures.back in
     let points =
-    ap₂ (λ p xs. positions p (pairs_of xs)) first c.split_at-2.ensures.front
+    ap₂ (λ p xs. positions p (pairs_of xs)) first (rw c.count_in-count.ensures at c.split_at-2.ensures.front)
     ∙ other_points f c.split_at.result.0.now c.split_at.result.1.now c.split_at.ensures.front c.split_at.ensures.back in
     let end =
-    c.in_ok-end.ensures.last ∙ ap₂ (λ p xs. moved p (pairs_of xs)) first c.split_at-2.ensures.front
+    c.in_ok-end.ensures.last ∙ ap₂ (λ p xs. moved p (pairs_of xs)) first (rw c.count_in-count.ensures at c.split_at-2.ensures.front)
     ∙ other_end f c.split_at.result.0.now c.split_at.result.1.now c.split_at.ensures.front c.split_at.ensures.back in
     let one = c.in_ok-first.ensures.points ∙ ap₂ (λ xs ys. xs ++ ys) c.in_ok-points.ensures.items head in (
       c.new-points.ensures ∙ c.in_ok-end.ensures.points ∙ ap₂ (λ xs ys. xs ++ ys) one points ∙ sym f.line_is,
       end,
-      c.split_at-2.ensures.back
+      (rw c.count_in-count.ensures at c.split_at-2.ensures.back)
           ∙ behind_is f c.split_at.result.0.now c.split_at.result.1.now c.split_at.ensures.front c.split_at.ensures.back,
     )
