@@ -46,22 +46,13 @@ fn are_integers(integers: &[u32]) -> bool
 fn are_points(points: &[Point]) -> bool
     ensures { IsTrue result ↔ ArePoints points.now }
 {
-    if points.is_empty() {
-        return false;
-    }
-    if points.len() >= MOST_POINTS {
-        return false;
-    }
-    path_end(ORIGIN, points, false).is_some()
+    !points.is_empty() && points.len() < MOST_POINTS && path_end(ORIGIN, points, false).is_some()
 }
 
 fn are_lines(lines: &[Items<Point>]) -> bool
     ensures { IsTrue result ↔ AreLines lines.now }
 {
-    if lines.is_empty() {
-        return false;
-    }
-    lines_end(ORIGIN, lines, 2).is_some()
+    !lines.is_empty() && lines_end(ORIGIN, lines, 2).is_some()
 }
 
 fn are_polygons(polygons: &[Polygon]) -> bool
@@ -89,15 +80,10 @@ fn polygon_end(from: Point, polygon: &Polygon, is_first: bool) -> Option<Point>
 {
     let outer = polygon.outer.as_slice();
     let rest = polygon.rest.as_slice();
-    if !has_area(outer, is_first) {
+    if !has_area(outer, is_first) || !are_inner(rest) {
         return None;
     }
-    if !are_inner(rest) {
-        return None;
-    }
-    let Some(end) = line_end(from, outer, 3) else {
-        return None;
-    };
+    let end = line_end(from, outer, 3)?;
     lines_end(end, rest, 3)
 }
 
@@ -128,10 +114,7 @@ fn lines_end(from: Point, lines: &[Items<Point>], least: usize) -> Option<Point>
 {
     let mut cursor = from;
     for line in lines {
-        let Some(end) = line_end(cursor, line.as_slice(), least) else {
-            return None;
-        };
-        cursor = end;
+        cursor = line_end(cursor, line.as_slice(), least)?;
     }
     Some(cursor)
 }
@@ -142,16 +125,11 @@ fn line_end(from: Point, line: &[Point], least: usize) -> Option<Point>
     ensures some { IfSome result (λ last. IsLineFrom least from line.now × (last ≡ last_of from line.now)) }
     ensures none { IfNone result (IsLineFrom least from line.now → ⊥) }
 {
-    if line.len() < least {
-        return None;
-    }
-    if line.len() > MOST_POINTS {
+    if line.len() < least || line.len() > MOST_POINTS {
         return None;
     }
     let (first, others) = line.split_at(1);
-    let Some(start) = path_end(from, first, false) else {
-        return None;
-    };
+    let start = path_end(from, first, false)?;
     path_end(start, others, true)
 }
 
@@ -177,10 +155,7 @@ fn is_step(from: Point, to: Point, is_line: bool) -> bool
     if is_line && from == to {
         return false;
     }
-    if !moves(from.x, to.x) {
-        return false;
-    }
-    moves(from.y, to.y)
+    moves(from.x, to.x) && moves(from.y, to.y)
 }
 
 /// Whether a parameter can lead from one coordinate to another that is in range.
@@ -189,8 +164,5 @@ fn moves(from: i32, to: i32) -> bool
 {
     let from = i64::from(from);
     let to = i64::from(to);
-    if !is_in_range(to) {
-        return false;
-    }
-    is_in_range(to - from)
+    is_in_range(to) && is_in_range(to - from)
 }
