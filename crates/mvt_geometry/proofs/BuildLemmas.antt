@@ -42,7 +42,7 @@ pub pushes : {before : List Point} {from : Point} {parameters : List ℕ} {point
 pushes {before} {from} {parameters} {points} {c} {rest} p two to is =
     let front = pairs_front rest two in
     let here : IsPushed before from parameters (points ++ stepped c (first_pair rest) ∷ [])
-        (stepped c (first_pair rest)) (drop 2 rest) = record {
+    (stepped c (first_pair rest)) (drop 2 rest) = record {
       points_are =
           append_assoc points (stepped c (first_pair rest) ∷ [])
           (positions (stepped c (first_pair rest)) (pairs_of (drop 2 rest)))

@@ -58,11 +58,15 @@ groups_same (q ∷ polygons) h =
     let more = groups_same polygons h.1 in
     let inner = inner_front q.rest (rings_of polygons) h.0.1 in
     opens q.outer (groups_of (q.rest ++ rings_of polygons)) h.0.0
-        ∙ ap (λ (groups : Groups). let r : Groups = record { inner = [];
-        polygons = record { outer = q.outer; rest = groups.inner } ∷ groups.polygons } in
-        r) (inner ∙ ap (λ (groups : Groups). let r : Groups = record { inner = q.rest ++ groups.inner;
-        polygons = groups.polygons } in r) more) ∙ ap (λ rest. let r : Groups =
-        record { inner = []; polygons = record { outer = q.outer; rest = rest } ∷ polygons } in r) (append-nil q.rest)
+    ∙ ap (λ (groups : Groups). let r : Groups = record {
+      inner = [];
+      polygons = record { outer = q.outer; rest = groups.inner } ∷ groups.polygons;
+    } in
+    r) (inner ∙ ap (λ (groups : Groups). let r : Groups = record {
+      inner = q.rest ++ groups.inner;
+      polygons = groups.polygons;
+    } in r) more) ∙ ap (λ rest. let r : Groups =
+    record { inner = []; polygons = record { outer = q.outer; rest = rest } ∷ polygons } in r) (append-nil q.rest)
 
 -- and their grouping is that one
 pub one_grouping : (rings : List (List Point)) (polygons : List Polygon) → Grouped rings polygons → polygons_of rings ≡ polygons

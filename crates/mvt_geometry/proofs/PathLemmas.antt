@@ -101,7 +101,7 @@ goes_away true p q apart = by_x (cases_eq (zig (q.x -ℤ p.x)) 0)
         → (eqb (zig (q.x -ℤ p.x)) 0 && eqb (zig (q.y -ℤ p.y)) 0) ≡ false
     by_y x (inl y) =
         absurd (apart refl (ap₂ (λ (a b : ℤ). let r : Point = record { x = a; y = b } in
-            r) (same_number p.x q.x (zig_zero _ x)) (same_number p.y q.y (zig_zero _ y))))
+        r) (same_number p.x q.x (zig_zero _ x)) (same_number p.y q.y (zig_zero _ y))))
     by_y x (inr y) = rw (x, ne_eqb (zig (q.y -ℤ p.y)) 0 y) refl
 
     by_x : (zig (q.x -ℤ p.x) ≡ 0) ⊎ (zig (q.x -ℤ p.x) ≢ 0) → (eqb (zig (q.x -ℤ p.x)) 0 && eqb (zig (q.y -ℤ p.y)) 0) ≡ false

@@ -30,6 +30,6 @@ returns-clause-ok c = λ k is_due r.
     let length_is : (s + 1 + 2 * n) - (s + 1) ≡ 2 * n = omega arith in
     let none = rw c.is_line.ensures at c.in_ok-cursor.ensures.ok in
     goes_on r c.args.command is_due c.in_ok-count.ensures.ok n c.in_ok-count.ensures.count
-        (take ((s + 1 + 2 * n) - (s + 1)) (drop (s + 1) g)) (ap (λ m. take m (drop (s + 1) g)) length_is)
-        c.in_ok-cursor.cursor c.in_ok-cursor.ensures.cursor none
-        (no_ring c.args.kind g k s (λ same. let is : c.args.command ≡ ClosePath = cc in c.requires.has_pairs is))
+    (take ((s + 1 + 2 * n) - (s + 1)) (drop (s + 1) g)) (ap (λ m. take m (drop (s + 1) g)) length_is)
+    c.in_ok-cursor.cursor c.in_ok-cursor.ensures.cursor none
+    (no_ring c.args.kind g k s (λ same. let is : c.args.command ≡ ClosePath = cc in c.requires.has_pairs is))

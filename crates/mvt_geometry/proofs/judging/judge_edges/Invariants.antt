@@ -8,7 +8,7 @@ use Rattle.mvt_geometry.proofs.judging.judge_edges.Given as goal
 abbrev pub invariant-loop-rest : goal.invariant-loop-rest
 invariant-loop-rest l =
     (done : List Pair) × Walked true l.begin l.fn.from l.parameters l.rest
-        (let c : Point = record { x = l.x; y = l.y } in c) done × (l.area ≡ edges l.fn.from (positions l.fn.from done))
+    (let c : Point = record { x = l.x; y = l.y } in c) done × (l.area ≡ edges l.fn.from (positions l.fn.from done))
     × (unsigned_abs l.area ≤ length done * 2 ^ 63)
 
 abbrev pub decreases-loop-rest : goal.decreases-loop-rest

@@ -19,7 +19,9 @@ loop-rest-preserved c =
     let dx : to_z w32 (of_z w32 c.unzigzag32-x.result) ≡ c.unzigzag32-x.result = search rules in
     let dy : to_z w32 (of_z w32 c.unzigzag32-y.result) ≡ c.unzigzag32-y.result = search rules in
     let x = moved_number cursor.x c.unzigzag32-x.result _ _ _ refl dx c.unzigzag32-x.ensures kept.1.0 in
-    let y = moved_number cursor.y c.unzigzag32-y.result _ _ _ refl dy c.unzigzag32-y.ensures kept.1.1 in
-    (l.invariant.0 ++ first_pair l.rest.now ∷ [], walk_steps c.args.is_line c.args.begin c.args.from
-        c.args.parameters.now l.rest.now cursor l.invariant.0 l.invariant.1 (omega (arith, c.in-len2-up.len_at_least))
-        _ _ refl kept.0 (ap₂ (λ (a b : ℤ). let p : Point = record { x = a; y = b } in p) x y))
+    let y = moved_number cursor.y c.unzigzag32-y.result _ _ _ refl dy c.unzigzag32-y.ensures kept.1.1 in (
+      l.invariant.0 ++ first_pair l.rest.now ∷ [],
+      walk_steps c.args.is_line c.args.begin c.args.from
+          c.args.parameters.now l.rest.now cursor l.invariant.0 l.invariant.1 (omega (arith, c.in-len2-up.len_at_least))
+          _ _ refl kept.0 (ap₂ (λ (a b : ℤ). let p : Point = record { x = a; y = b } in p) x y),
+    )

@@ -20,8 +20,8 @@ returns-in_err-count-clause-err c =
     rw (p.1, p.2) (λ k e r.
     let is_due = ring_due k e in
     header_stops (c.in_ok-first.ensures.ok k is_due.0 r) LineTo is_due.1 _
-        (c.in_err-count.ensures.err (may_not_end kinds.Polygon (suc k))
-        (λ end. must_draw kinds.Polygon (suc k) LineTo is_due.1 (λ same. cc))))
+    (c.in_err-count.ensures.err (may_not_end kinds.Polygon (suc k))
+    (λ end. must_draw kinds.Polygon (suc k) LineTo is_due.1 (λ same. cc))))
 
 pub returns-in_err-last-clause-err : goal.returns-in_err-last-clause-err
 returns-in_err-last-clause-err c =
@@ -33,8 +33,8 @@ returns-in_err-last-clause-err c =
     rw (p.1, p.2) (λ k e r.
     let is_due = ring_due k e in
     pairs_stop (c.in_ok-first.ensures.ok k is_due.0 r) LineTo is_due.1 c.in_ok-count.ensures.ok n
-        c.in_ok-count.ensures.count (take ((s + 1 + 2 * n) - (s + 1)) (drop (s + 1) g))
-        (ap (λ m. take m (drop (s + 1) g)) length_is) _ c.in_err-last.ensures.err)
+    c.in_ok-count.ensures.count (take ((s + 1 + 2 * n) - (s + 1)) (drop (s + 1) g))
+    (ap (λ m. take m (drop (s + 1) g)) length_is) _ c.in_err-last.ensures.err)
 
 pub returns-in_err-judge_header-clause-err : goal.returns-in_err-judge_header-clause-err
 returns-in_err-judge_header-clause-err c =
@@ -48,7 +48,7 @@ returns-in_err-judge_header-clause-err c =
     c.in_ok-last.ensures.ok c.in_ok-last.ensures.cursor in
     header_stops (reached_close ring) ClosePath is_due.2 _
     (c.in_err-judge_header.ensures.err (may_not_end kinds.Polygon (suc (suc k)))
-        (λ end. must_draw kinds.Polygon (suc (suc k)) ClosePath is_due.2 (λ same. cc))))
+    (λ end. must_draw kinds.Polygon (suc (suc k)) ClosePath is_due.2 (λ same. cc))))
 
 area_fits : (a b p q : ℤ) (n m : ℕ) → p ≡ a → q ≡ b → unsigned_abs a ≤ n * 2 ^ 62 → n ≤ m → m < 2 ^ 64
     → unsigned_abs b ≤ 2 ^ 63 → FitsSigned w128 (p +ℤ q) × (to_z w128 (of_z w128 (p +ℤ q)) ≡ a +ℤ b)
@@ -113,8 +113,11 @@ returns-clause-ok c = λ k e r.
     let ring = reads_ring g k s n e r (c.in_ok-first.ensures.ok k (ring_due k e).0 r) c.in_ok-count.ensures.ok c.in_ok-count.ensures.count
     c.in_ok-last.ensures.ok c.in_ok-last.ensures.cursor in
     let fine : c.args.pen.at ≡ 0 → pos 0 ≤ℤ the_area c.in_ok-last.path c.cross.result =
-        elim c.else-pen-eq0.branch [ else-pen-eq0-via-then-pen-eq0+else-area-lt0 w ↦
-        λ z. not_negative _ w.if-area-lt0.false | else-pen-eq0-via-else-pen-eq0 w ↦ λ z. absurd (w.if-pen-eq0.false z) ] in
+    elim c.else-pen-eq0.branch [
+      | else-pen-eq0-via-then-pen-eq0+else-area-lt0 w ↦
+          λ z. not_negative _ w.if-area-lt0.false
+      | else-pen-eq0-via-else-pen-eq0 w ↦ λ z. absurd (w.if-pen-eq0.false z)
+    ] in
     ring_goes ring c.in_ok-judge_header.ensures.ok (the_area c.in_ok-last.path c.cross.result)
     area.1 fine
 

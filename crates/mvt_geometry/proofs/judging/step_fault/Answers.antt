@@ -23,9 +23,11 @@ goes_on line zero (inr h) = rw h refl
 pub returns-then-not-stays_inside-clause-some : goal.returns-then-not-stays_inside-clause-some
 returns-then-not-stays_inside-clause-some c =
     let goes = goes_on c.args.is_line (eqb c.args.dx 0 && eqb c.args.dy 0)
-        (elim c.else-is_line.branch [ else-is_line-via-then-is_line+else-is_zero w ↦
-        inl (w.if-is_line.true, sym w.is_zero.ensures ∙ w.if-is_zero.false)
-        | else-is_line-via-else-is_line w ↦ inr w.if-is_line.false ]) in
+    (elim c.else-is_line.branch [
+      | else-is_line-via-then-is_line+else-is_zero w ↦
+          inl (w.if-is_line.true, sym w.is_zero.ensures ∙ w.if-is_zero.false)
+      | else-is_line-via-else-is_line w ↦ inr w.if-is_line.false
+    ]) in
     let x : to_z w32 (of_z w32 c.args.from.x) ≡ c.args.from.x = search rules in
     let inside = rw x at c.stays_inside.ensures in
     leaves_x _ _ _ _ c.if-dx-eq-REFUSED.false c.if-dy-eq-REFUSED.false goes (λ h. false≢true (sym c.if-not-stays_inside.true ∙ inside.1 h))
@@ -33,9 +35,11 @@ returns-then-not-stays_inside-clause-some c =
 pub returns-then-not-stays_inside-2-clause-some : goal.returns-then-not-stays_inside-2-clause-some
 returns-then-not-stays_inside-2-clause-some c =
     let goes = goes_on c.args.is_line (eqb c.args.dx 0 && eqb c.args.dy 0)
-        (elim c.else-is_line.branch [ else-is_line-via-then-is_line+else-is_zero w ↦
-        inl (w.if-is_line.true, sym w.is_zero.ensures ∙ w.if-is_zero.false)
-        | else-is_line-via-else-is_line w ↦ inr w.if-is_line.false ]) in
+    (elim c.else-is_line.branch [
+      | else-is_line-via-then-is_line+else-is_zero w ↦
+          inl (w.if-is_line.true, sym w.is_zero.ensures ∙ w.if-is_zero.false)
+      | else-is_line-via-else-is_line w ↦ inr w.if-is_line.false
+    ]) in
     let x : to_z w32 (of_z w32 c.args.from.x) ≡ c.args.from.x = search rules in
     let y : to_z w32 (of_z w32 c.args.from.y) ≡ c.args.from.y = search rules in
     let inside_x = rw x at c.stays_inside.ensures in
@@ -46,9 +50,11 @@ returns-then-not-stays_inside-2-clause-some c =
 pub returns-clause-none : goal.returns-clause-none
 returns-clause-none c =
     let goes = goes_on c.args.is_line (eqb c.args.dx 0 && eqb c.args.dy 0)
-        (elim c.else-is_line.branch [ else-is_line-via-then-is_line+else-is_zero w ↦
-        inl (w.if-is_line.true, sym w.is_zero.ensures ∙ w.if-is_zero.false)
-        | else-is_line-via-else-is_line w ↦ inr w.if-is_line.false ]) in
+    (elim c.else-is_line.branch [
+      | else-is_line-via-then-is_line+else-is_zero w ↦
+          inl (w.if-is_line.true, sym w.is_zero.ensures ∙ w.if-is_zero.false)
+      | else-is_line-via-else-is_line w ↦ inr w.if-is_line.false
+    ]) in
     let x : to_z w32 (of_z w32 c.args.from.x) ≡ c.args.from.x = search rules in
     let y : to_z w32 (of_z w32 c.args.from.y) ≡ c.args.from.y = search rules in
     let inside_x = rw x at c.stays_inside.ensures in
