@@ -6,6 +6,7 @@ ghost use Rattle.mvt_wire.specs.Spelling.{short_field};
 ghost use Rattle.mvt_message.specs.Bounds.{attribute_bound, entries_bound, layer_bound, item_bound};
 
 use crate::item::{Item, Layer};
+use crate::numbers::layer;
 use mvt_attrs::Attribute;
 use mvt_base::LIMIT;
 use mvt_feature::{Feature, room_behind_feature, value_len};
@@ -77,8 +78,8 @@ fn behind_attribute(attribute: &Attribute, room: u64) -> Option<u64>
     ensures some { IfSome result (λ left. left + attribute_bound attribute.now ≡ room) }
     ensures none { IfNone result (room < attribute_bound attribute.now) }
 {
-    let left = behind_field(3, attribute.key.as_str().len() as u64, room)?;
-    behind_field(4, value_len(&attribute.value), left)
+    let left = behind_field(layer::KEYS, attribute.key.as_str().len() as u64, room)?;
+    behind_field(layer::VALUES, value_len(&attribute.value), left)
 }
 
 /// Behind a field whose payload is `size` bytes.

@@ -10,7 +10,7 @@ ghost use Rattle.mvt_feature.specs.Forms.{number_rules};
 ghost use Rattle.mvt_message.specs.LayerFields.{layer_forms};
 ghost use Rattle.mvt_message.specs.Inner.{name_after, extent_after, keys_at, IsHeadSoFar};
 
-use crate::numbers::layer;
+use crate::numbers::{DEFAULT_EXTENT, layer};
 use crate::payload::{check_bytes, text_of, uint32_of};
 use mvt_base::Text;
 use mvt_feature::MessageError;
@@ -33,7 +33,7 @@ impl<'a> Head<'a> {
     {
         Head {
             name: None,
-            extent: 4096,
+            extent: DEFAULT_EXTENT,
             keys: Vec::new(alloc),
         }
     }

@@ -6,7 +6,7 @@ ghost use Rattle.mvt_wire.specs.Spelling.{spelled};
 ghost use Rattle.mvt_feature.specs.declared.feature.Feature.{Feature as OneFeature};
 ghost use Rattle.mvt_message.specs.CanonicalItems.{keys_of, values_of, head_fields, feature_field, key_field, value_field, extent_fields};
 
-use crate::numbers::layer;
+use crate::numbers::{VERSION_2, layer};
 use crate::writing::PutError;
 use mvt_attrs::{KeyPool, ValuePool};
 use mvt_base::LIMIT;
@@ -21,7 +21,7 @@ pub(crate) const FIRST_ROOM: usize = 256;
 pub(crate) fn put_head(out: &mut Vec<u8>, name: &str) -> Result<(), AllocError>
     ensures { OnOk result (out.new.items ≡ out.old.items ++ spelled (head_fields name.now)) }
 {
-    put_field(out, layer::VERSION, &Payload::Varint(2))?;
+    put_field(out, layer::VERSION, &Payload::Varint(u64::from(VERSION_2)))?;
     put_field(out, layer::NAME, &Payload::Len(name.as_bytes()))
 }
 

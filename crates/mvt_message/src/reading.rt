@@ -14,6 +14,7 @@ ghost use Rattle.mvt_message.specs.Inner.{layer_fault, AreParts, IsFront};
 use crate::features::read_features;
 use crate::front::{Front, read_front};
 use crate::item::{Item, Layer};
+use crate::numbers::VERSION_2;
 use mvt_base::{Items, LIMIT, Text};
 use mvt_feature::{Cause, Feature, MessageError, fault_at};
 use std::alloc::Global;
@@ -40,7 +41,7 @@ pub fn read_item(
     ensures fault { IfErr result (λ error. Tells (fault_of error) (item_fault payload.now payload_at tag_at)) }
 {
     let (version, front) = read_front(alloc, payload, payload_at, tag_at, true)?;
-    if version == 2 {
+    if version == VERSION_2 {
         return Ok(Item::Layer(read_layer(alloc, payload, payload_at, tag_at, front)?));
     }
     let bytes = Items::new(Vec::from_slice(alloc, payload)?);
@@ -66,7 +67,7 @@ pub fn judge_item<'a>(
     ensures fault { IfErr result (λ error. Tells (fault_of error) (item_fault payload.now payload_at tag_at)) }
 {
     let (version, front) = read_front(alloc, payload, payload_at, tag_at, false)?;
-    if version != 2 {
+    if version != VERSION_2 {
         return Ok(None);
     }
     let parts = read_parts(alloc, payload, payload_at, tag_at, front, false)?;

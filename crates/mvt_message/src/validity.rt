@@ -5,6 +5,7 @@ ghost use Rattle.mvt_feature.specs.Valid.{ValidFeature};
 ghost use Rattle.mvt_message.specs.ValidItems.{ValidItem, ValidLayer, AreOfVersion};
 
 use crate::item::{Item, Layer};
+use crate::numbers::VERSION_2;
 use crate::version::read_version;
 use mvt_feature::{Feature, is_valid_feature, validate_feature};
 use std::alloc::{AllocError, Global};
@@ -84,7 +85,7 @@ fn are_of_version(version: u32, bytes: &[u8]) -> bool
     ensures { IsTrue result ↔ AreOfVersion version bytes.now }
 {
     match read_version(bytes, 0, 0) {
-        Ok(found) => found == version && version != 2,
+        Ok(found) => found == version && version != VERSION_2,
         Err(_) => false,
     }
 }
