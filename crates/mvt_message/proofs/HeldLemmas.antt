@@ -113,7 +113,7 @@ module _ {keep : Bool} {payload_at : ℕ} {keys : List (List ℕ)} {values : Lis
       let fault = feature_fault (bytes_of x.content) (payload_at + x.body) keys values in
       let told = ap (λ n. option_map (in_feature n) fault) count_is ∙ sym (feature_told payload_at keys values earlier x) in
       selected_stops FEATURES (feature_rules_of payload_at keys values) e done x more is so_far.so_far.0
-          (subst (Tells (fault_of e)) told told_here)
+      (subst (Tells (fault_of e)) told told_here)
 
   pub feature_held : (new : List Feature) (feature : Feature) → x.number ≡ FEATURES → IsFeatureOf (bytes_of x.content) keys values feature
       → feature_fault (bytes_of x.content) (payload_at + x.body) keys values ≡ None → OnTrue keep (new ≡ kept ++ feature ∷ [])

@@ -279,7 +279,7 @@ pub head_versions : (payload : List ℕ) (payload_at tag_at : ℕ) (e : MessageE
 head_versions payload payload_at tag_at e rest stays =
     or_tells (fault_of e) (rest_fault payload payload_at) _ (rests_none payload_at (split payload) rest)
     (tells_or (fault_of e) (versions_fault payload_at (split payload).fields) _
-        (or_told (versions_fault payload_at) (split payload).fields e stays))
+    (or_told (versions_fault payload_at) (split payload).fields e stays))
 
 -- the exits of `read_layer`
 pub forms_told : (payload_at tag_at : ℕ) (xs : List Entry) (e : MessageError) → Tells (fault_of e) (forms_fault payload_at xs)
@@ -304,7 +304,7 @@ pub values_told : (payload_at tag_at : ℕ) (xs : List Entry) {name : List ℕ} 
     → Tells (fault_of e) (layer_fault payload_at tag_at xs)
 values_told payload_at tag_at xs {name} e forms is h =
     let values = or_tells (fault_of e) (no_name_fault tag_at xs) _ (name_some tag_at xs name is)
-        (tells_or (fault_of e) (values_fault payload_at xs) _ h) in
+    (tells_or (fault_of e) (values_fault payload_at xs) _ h) in
     subst (Tells (fault_of e)) (sym (layer_chain payload_at tag_at xs)) (or_tells (fault_of e) (forms_fault payload_at xs) _ forms values)
 
 -- fields that break no rule before those of the features: the name, the keys and the values
@@ -342,7 +342,7 @@ features_told {payload_at} {xs} {name} tag_at e front h =
     let behind = or_tells (fault_of e) (values_fault payload_at xs) _ front.none_broken features in
     let named = or_tells (fault_of e) (no_name_fault tag_at xs) _ (name_some tag_at xs name front.name_is) behind in
     subst (Tells (fault_of e)) (sym (layer_chain payload_at tag_at xs))
-        (or_tells (fault_of e) (forms_fault payload_at xs) _ front.forms named)
+    (or_tells (fault_of e) (forms_fault payload_at xs) _ front.forms named)
 
 pub layer_ok : {payload_at : ℕ} {xs : List Entry} {name : List ℕ} {keys : List (List ℕ)} {values : List Value} (tag_at : ℕ)
     → IsClean payload_at xs name keys values → features_fault payload_at keys values xs ≡ None
@@ -365,7 +365,7 @@ pub head_told : (payload : List ℕ) (payload_at tag_at : ℕ) (e : MessageError
     → Tells (fault_of e) (item_fault payload payload_at tag_at)
 head_told payload payload_at tag_at e h =
     subst (Tells (fault_of e)) (sym (item_chain payload payload_at tag_at))
-        (tells_or (fault_of e) (head_fault payload payload_at tag_at) _ h)
+    (tells_or (fault_of e) (head_fault payload payload_at tag_at) _ h)
 
 pub head_whole : (payload : List ℕ) (payload_at tag_at : ℕ) → head_fault payload payload_at tag_at ≡ None → (split payload).rest ≡ []
 head_whole payload payload_at tag_at none = rests_nothing payload_at (split payload) (option_or-nones _ _ none).0

@@ -8,4 +8,4 @@ use Rattle.mvt_message.proofs.version.read_version.Given as goal
 abbrev pub invariant-loop-field : goal.invariant-loop-field
 invariant-loop-field l =
     (done : List Entry) × Walk l.payload l.field-iterator.to_come done × IsVersionSoFar l.payload_at done l.version
-        × IfErr l.version IsFault
+    × IfErr l.version IsFault
