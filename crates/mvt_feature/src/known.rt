@@ -73,7 +73,7 @@ impl Known {
             (scratch.new.tags.items ≡ scratch.old.tags.items ++ numbers_at TAGS field.now.number (content_of field.now.payload)) }
         ensures integers { OnOk result
             (scratch.new.integers.items ≡ scratch.old.integers.items ++ numbers_at GEOMETRY field.now.number
-                (content_of field.now.payload)) }
+            (content_of field.now.payload)) }
         ensures err { IfErr result (λ error. Tells (fault_of error)
             (option_map (the_fault_at at) (first (feature_form_rules field.now.number (content_of field.now.payload))))) }
     {

@@ -75,9 +75,12 @@ load_bytes w b is =
     (λ t. let long : n.0 ≤ length (drop n.1 b) = ltb-false _ _ t in
     let rest : length (drop n.1 b) ≡ length b - n.1 = length-drop n.1 b in
     let size : length (take n.0 (drop n.1 b)) ≡ n.0 = length-take-le n.0 (drop n.1 b) long in
-    let within : n.1 ≤ length b = seen.1 in
-    (is, omega arith, (take n.1 b, subst (λ (k : ℕ). Spells (take n.1 b) k) (sym size) seen.2, take-add n.1 n.0 b),
-        ap (λ k. n.1 + k) size)))
+    let within : n.1 ≤ length b = seen.1 in (
+      is,
+      omega arith,
+      (take n.1 b, subst (λ (k : ℕ). Spells (take n.1 b) k) (sym size) seen.2, take-add n.1 n.0 b),
+      ap (λ k. n.1 + k) size,
+    )))
     (λ c e. let none = number_none b c e in no_length is none.0 none.1)
 
 pub load_means : (w : ℕ) (b : List ℕ) → LoadMeans w b (load_at w b)
@@ -139,7 +142,7 @@ entry_means at b =
     then_holds (EntryMeans at b) (load_at (tag.0 % 8) (drop tag.1 b)) _
     (λ l g. entry_there at b tag l e low high (subst (LoadMeans (tag.0 % 8) (drop tag.1 b)) g (load_means (tag.0 % 8) (drop tag.1 b))))
     (λ c g. no_payload (take tag.1 b) (drop tag.1 b) tag.0 there seen.2 low high
-        (subst (LoadMeans (tag.0 % 8) (drop tag.1 b)) g (load_means (tag.0 % 8) (drop tag.1 b)))))))
+    (subst (LoadMeans (tag.0 % 8) (drop tag.1 b)) g (load_means (tag.0 % 8) (drop tag.1 b)))))))
     (λ c e. let none = number_none b c e in no_tag none.0 none.1)
 
 -- ---- the payload, from the relation to the function
@@ -153,7 +156,7 @@ bytes_there b size d back joined =
     let own : take (length d) (drop (length size) b) ≡ d = ap (take (length d)) rest ∙ take-append_seam d back in
     cond-false _ _ _ (le-ltb (length (drop (length size) b)) (length d) (omega arith))
     ∙ ap (λ (t : List ℕ). let r : Result Load WireCause = Ok
-        (record { content = bytes t; start = length size; size = length size + length d }) in r) own
+    (record { content = bytes t; start = length size; size = length size + length d }) in r) own
 
 -- what is loaded of a payload
 pub record IsLoaded (payload : List ℕ) (c : Content) (r : Result Load WireCause) : Type 0 where
@@ -180,7 +183,7 @@ load_front payload back (fixed64 n) p =
       load = record { content = fixed64 n; start = 0; size = 8 };
       is = cond-false _ _ _ (le-ltb (length (payload ++ back)) 8 (omega arith))
           ∙ ap (λ (k : ℕ). let l : Result Load WireCause = Ok (record { content = fixed64 k; start = 0; size = 8 }) in
-              l) (little_from-append 8 payload back (omega arith) ∙ sym p.1);
+          l) (little_from-append 8 payload back (omega arith) ∙ sym p.1);
       content = refl;
       size = sym eight;
       ends = zero-add _;
@@ -204,7 +207,7 @@ load_front payload back (fixed32 n) p =
       load = record { content = fixed32 n; start = 0; size = 4 };
       is = cond-false _ _ _ (le-ltb (length (payload ++ back)) 4 (omega arith))
           ∙ ap (λ (k : ℕ). let l : Result Load WireCause = Ok (record { content = fixed32 k; start = 0; size = 4 }) in
-              l) (little_from-append 4 payload back (omega arith) ∙ sym p.1);
+          l) (little_from-append 4 payload back (omega arith) ∙ sym p.1);
       content = refl;
       size = sym four;
       ends = zero-add _;
@@ -218,7 +221,7 @@ load_cause w b c (no_type n0 n1 n2 n5 is) =
 load_cause w b c (no_varint is none cause) =
     ap (λ k. load_at k b) is
     ∙ ap (λ (r : Result (ℕ × ℕ) WireCause). r >>= λ (k : ℕ × ℕ). let l : Result Load WireCause = Ok
-        (record { content = varint k.0; start = 0; size = k.1 }) in l) (number_none_from b none)
+    (record { content = varint k.0; start = 0; size = k.1 }) in l) (number_none_from b none)
     ∙ ap Err (sym cause)
 load_cause w b c (no_length is none cause) =
     ap (λ k. load_at k b) is ∙ ap (λ (r : Result (ℕ × ℕ) WireCause). r >>= bytes_at b) (number_none_from b none) ∙ ap Err (sym cause)
@@ -271,7 +274,7 @@ entry_front at front back e f =
     ap (λ (r : Result (ℕ × ℕ) WireCause). r >>= field_with_tag at (front ++ back)) number
     ∙ tag_there at (front ++ back) n (length tag) (omega arith) field.tag_fits
     ∙ ap (λ (r : Result Load WireCause). r >>= λ (l : Load). let t : Result (Entry × ℕ) WireCause = Ok
-        (entry_with at (pair_of n (length tag)) l) in t) load
+    (entry_with at (pair_of n (length tag)) l) in t) load
     ∙ ap Ok (same_entry (sym f.begins) (omega arith) (omega arith) loaded.content (omega arith))
 
 pub entry_cause : (at : ℕ) (b : List ℕ) (c : WireCause) → IsRestCause b c → entry_at at b ≡ Err c
@@ -290,7 +293,7 @@ entry_cause at b c (no_payload tag after n joined spells low high why) =
     ap (λ (r : Result (ℕ × ℕ) WireCause). r >>= field_with_tag at b) (ap number_at joined ∙ number_spelled tag after n spells)
     ∙ tag_there at b n (length tag) low high
     ∙ ap (λ (r : Result Load WireCause). r >>= λ (l : Load). let t : Result (Entry × ℕ) WireCause = Ok
-        (entry_with at (pair_of n (length tag)) l) in t) (ap (load_at (n % 8)) left ∙ load_cause (n % 8) after c why)
+    (entry_with at (pair_of n (length tag)) l) in t) (ap (load_at (n % 8)) left ∙ load_cause (n % 8) after c why)
 
 -- ---- no field
 

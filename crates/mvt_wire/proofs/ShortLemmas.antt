@@ -61,7 +61,7 @@ short_spelling (suc k) n h =
       | inr large ↦
           (let low : n % 128 < 128 = mod_below n 128 (omega arith) in
           subst IsSpelling (sym (short_more k n large)) (before (n % 128 + 128) (short_within k (n / 128))
-              (omega arith) (omega arith) (short_spelling k (n / 128) (quotient n (suc k) h))))
+          (omega arith) (omega arith) (short_spelling k (n / 128) (quotient n (suc k) h))))
     ]
 
 -- the same groups one place higher

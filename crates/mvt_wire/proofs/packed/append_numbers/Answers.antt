@@ -32,7 +32,7 @@ pub returns-clause-ok : goal.returns-clause-ok
 returns-clause-ok c =
     let inv = c.loop-rest.invariant in
     (read_all c.args.bytes.now c.loop-rest.rest.now inv.read inv.split inv.clean
-        (nil_from_test _ _ c.is_empty.ensures c.loop-rest-test.false)).0
+    (nil_from_test _ _ c.is_empty.ensures c.loop-rest-test.false)).0
 
 pub returns-clause-numbers : goal.returns-clause-numbers
 returns-clause-numbers c =
@@ -41,4 +41,4 @@ returns-clause-numbers c =
     ∙ ap (λ ns. c.args.out.now.items ++ ns)
     (sym
     (read_all c.args.bytes.now c.loop-rest.rest.now inv.read inv.split inv.clean
-        (nil_from_test _ _ c.is_empty.ensures c.loop-rest-test.false)).1)
+    (nil_from_test _ _ c.is_empty.ensures c.loop-rest-test.false)).1)

@@ -16,8 +16,10 @@ returns-then-byte-lt128-clause-number c =
     let inv = c.loop-i.invariant in
     let group : IsGroup c.loop-i.i (get_or b c.loop-i.i 0) = record {
       place = inv.within;
-      last = λ nine. elim c.else-i-eq9.branch [ else-i-eq9-via-then-i-eq9+else-byte-gt1 w ↦ w.if-byte-gt1.false
-          | else-i-eq9-via-else-i-eq9 w ↦ absurd (w.if-i-eq9.false nine) ];
+      last = λ nine. elim c.else-i-eq9.branch [
+        | else-i-eq9-via-then-i-eq9+else-byte-gt1 w ↦ w.if-byte-gt1.false
+        | else-i-eq9-via-else-i-eq9 w ↦ absurd (w.if-i-eq9.false nine)
+      ];
     } in
     rw c.from.ensures
     (sym
@@ -31,8 +33,10 @@ loop-i-preserved c =
     let large = c.if-byte-lt128.false in
     let group : IsGroup c.loop-i.i (get_or b c.loop-i.i 0) = record {
       place = inv.within;
-      last = λ nine. elim c.else-i-eq9.branch [ else-i-eq9-via-then-i-eq9+else-byte-gt1 w ↦ w.if-byte-gt1.false
-          | else-i-eq9-via-else-i-eq9 w ↦ absurd (w.if-i-eq9.false nine) ];
+      last = λ nine. elim c.else-i-eq9.branch [
+        | else-i-eq9-via-then-i-eq9+else-byte-gt1 w ↦ w.if-byte-gt1.false
+        | else-i-eq9-via-else-i-eq9 w ↦ absurd (w.if-i-eq9.false nine)
+      ];
     } in
     record {
       within = varint_goes_on c.loop-i.i (get_or b c.loop-i.i 0) group large;
