@@ -1,5 +1,5 @@
 //! The tags of attributes, whose keys and values are placed in pools.
-ghost use Rattle.std.specs.Prelude.{◌≡◌, ◌<◌, ◌⊎◌, ◌++◌, ℕ, List, length, take, IfOk, OnOk, OnErr, IsErrOf};
+ghost use Rattle.std.specs.Prelude.{◌≡◌, ◌<◌, ◌⊎◌, [], ◌∷◌, ◌++◌, ℕ, List, length, take, IfOk, OnOk, OnErr, IsErrOf};
 ghost use Rattle.mvt_attrs.specs.Pools.{key_pool, value_pool};
 ghost use Rattle.mvt_attrs.specs.Placed.{ArePlaced, AreTold, IsFullAt};
 ghost use Rattle.mvt_attrs.specs.Tags.{Names};
@@ -10,7 +10,7 @@ use crate::pool_error::PoolError;
 use crate::value::Attribute;
 use crate::value_pool::ValuePool;
 use mvt_base::LIMIT;
-use std::alloc::Global;
+use std::alloc::{AllocError, Global};
 
 /// The tags of a feature with these attributes (4.4): for each the place of its key and that of its
 /// value, which are added to the pools where they are new.
@@ -85,8 +85,20 @@ pub fn append_tags(
     for attribute in attributes {
         let key = keys.place_near(&attribute.key, last.first())?;
         let value = values.place_near(&attribute.value, last.get(1))?;
-        tags.extend_from_slice(&[key, value])?;
+        push_pair(tags, key, value)?;
         last = last.get(2..).unwrap_or(&[]);
     }
+    Ok(())
+}
+
+/// Adds the two indices of a tag, or neither.
+#[inline(always)]
+fn push_pair(tags: &mut Vec<u32>, key: u32, value: u32) -> Result<(), AllocError>
+    ensures items { OnOk result (tags.new.items ≡ tags.old.items ++ key ∷ value ∷ []) }
+    ensures err { OnErr result (tags.new.items ≡ tags.old.items) }
+{
+    tags.reserve(2)?;
+    tags.push_reserved(key);
+    tags.push_reserved(value);
     Ok(())
 }

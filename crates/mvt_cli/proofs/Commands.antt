@@ -27,23 +27,23 @@ given_range (Some x) r h = ap Some h
 pub names_rule_is : (new acting many wanted helped : Arg) (o : Option ValueRange) (text : Option (Bor (List ℕ)))
     → rule_of new ≡ new_rule (codes "name")
     → acting ≡ record new { action = Some Append } → many ≡ record acting { num_vals = o }
-        → o ≡ Some (record { start_inclusive = 1; end_inclusive = usize_max })
+    → o ≡ Some (record { start_inclusive = 1; end_inclusive = usize_max })
     → wanted ≡ record many { required = true } → helped ≡ record wanted { help = text } → rule_of helped ≡ names_rule
 names_rule_is new acting many wanted helped o text new_is acting_is many_is range wanted_is helped_is =
     ap rule_of helped_is ∙ ap rule_of wanted_is
     ∙ ap (λ (r : Rule). record r { required = true })
     (ap rule_of many_is ∙ ap₂ (λ (r : Rule) (x : Option ValueRange). record r { range = x })
-        (ap rule_of acting_is ∙ ap (λ (r : Rule). record r { action = Some Append }) new_is) range)
+    (ap rule_of acting_is ∙ ap (λ (r : Rule). record r { action = Some Append }) new_is) range)
 
 pub files_rule_is : (new acting many helped : Arg) (o : Option ValueRange) (text : Option (Bor (List ℕ)))
     → rule_of new ≡ new_rule (codes "file")
     → acting ≡ record new { action = Some Append } → many ≡ record acting { num_vals = o }
-        → o ≡ Some (record { start_inclusive = 1; end_inclusive = usize_max })
+    → o ≡ Some (record { start_inclusive = 1; end_inclusive = usize_max })
     → helped ≡ record many { help = text } → rule_of helped ≡ files_rule
 files_rule_is new acting many helped o text new_is acting_is many_is range helped_is =
     ap rule_of helped_is
     ∙ (ap rule_of many_is ∙ ap₂ (λ (r : Rule) (x : Option ValueRange). record r { range = x })
-        (ap rule_of acting_is ∙ ap (λ (r : Rule). record r { action = Some Append }) new_is) range)
+    (ap rule_of acting_is ∙ ap (λ (r : Rule). record r { action = Some Append }) new_is) range)
 
 pub texts_some : (f : Found) (key : List ℕ) (texts : List (List ℕ)) → Some texts ≡ option_map raw_values
     (matched_of f key) → texts ≡ texts_given key (rows_of f)
@@ -61,4 +61,4 @@ entered_is m name rows = go (out-ArgMatches m).subcommand
     go None named given = cc
     go (Some b) named given =
         ap₂ (λ (n : List ℕ) (r : List Row). Some (n, r)) (let e : (out-SubCommand (box_value b)).name.now
-            ≡ name = cc in e) (let e : rows_of (found_of (out-SubCommand (box_value b)).matches) ≡ rows = cc in e)
+        ≡ name = cc in e) (let e : rows_of (found_of (out-SubCommand (box_value b)).matches) ≡ rows = cc in e)

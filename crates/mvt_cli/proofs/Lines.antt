@@ -79,7 +79,7 @@ pub refused : {A : Type 0} → (a : App) (text : A → List ℕ) (words : List A
     → kind_of e ≢ OutOfMemory → faults_in (map text words) ≢ []
 refused a text words e is some kinds other none =
     some_fault (fault_of a (map text words)) e (kinds (ap is_simple_and_free is ∙ mvt_free)) other
-        (ap (λ (x : App). fault_of x (map text words)) is ∙ sym (given_to_clap text words some) ∙ none)
+    (ap (λ (x : App). fault_of x (map text words)) is ∙ sym (given_to_clap text words some) ∙ none)
 
 pub plain_taken : (words : List (List ℕ)) → IsPlainLine words → faults_in words ≡ []
 plain_taken [] h = refl

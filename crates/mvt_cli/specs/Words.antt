@@ -41,7 +41,7 @@ mvt =
     with_subcommand
     (with_bare
     (with_subcommand (with_bare (with_bare (with_bare (new_app (codes "mvt")) (codes "fields")) (codes "show"))
-        (codes "draw")) check_app.top)
+    (codes "draw")) check_app.top)
     (codes "rewrite"))
     extract_app.top
 

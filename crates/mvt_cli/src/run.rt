@@ -1,10 +1,10 @@
 //! The program over any reader and writers.
 ghost use Rattle.std.specs.Prelude.{◌≡◌, ◌≢◌, ◌+◌, ◌<◌, ◌≤◌, ◌⊎◌, ◌↔◌, max, List, ℕ, [], map, string_bytes, IfOk, IfErr, IfSome, OnOk};
 ghost use Rattle.std.specs.Io.KnownBytes.{Appends};
-ghost use Rattle.mvt_io.specs.Counts.{counted, HasFailed, NoneFailed};
+ghost use Rattle.mvt_io.specs.Counts.{counted, NoneFailed};
 ghost use Rattle.mvt_io.specs.Transfers.{TakesAtMost, TakesPrefix};
 ghost use Rattle.mvt_tasks.specs.Failures.{EndsFailed, IsCaused, LeavesOutput, line_of, status_of};
-ghost use Rattle.mvt_tasks.specs.Checks.{IsToldOfAll};
+ghost use Rattle.mvt_tasks.specs.Checks.{IsToldOfAll, calls, moment};
 ghost use Rattle.mvt_cli.specs.Words.{task_in, faults_in, files_in, IsPlainLine};
 ghost use Rattle.mvt_cli.specs.Refused.{IsUsage, usage_text};
 ghost use Rattle.mvt_tasks.specs.Output.{Answers, Gives, IfReadWhole, IsFlushed, IsWhole, is_made_whole};
@@ -45,7 +45,7 @@ pub fn run<F: Folder, R: Source, W: Sink, E: Sink>(
         × (NoneFailed (E.failed errors.old) (E.failed errors.new)
         → Appends (E.taken errors.old) (E.taken errors.new) (line_of failure))
         × IsCaused ((EndsFailed (R.failed reader.old) (R.failed reader.new) (R.ended reader.new))
-            × (W.failed writer.new ≡ W.failed writer.old))
+        × (W.failed writer.new ≡ W.failed writer.old))
         ((R.failed reader.new ≡ R.failed reader.old) × (EndsFailed (W.failed writer.old) (W.failed writer.new) (W.ended writer.new)))
         ((R.failed reader.new ≡ R.failed reader.old) × (W.failed writer.new ≡ W.failed writer.old)) failure
         × LeavesOutput (is_made_whole (task_in (map string_bytes words.now))) (writer.new ≡ writer.old)
@@ -57,10 +57,11 @@ pub fn run<F: Folder, R: Source, W: Sink, E: Sink>(
 
     // Files are each told of under their names, in order, and the reader is left as it was.
     ensures files { files_in (map string_bytes words.now) ≢ [] → faults_in (map string_bytes words.now) ≡ []
-        → IsToldOfAll LIMIT (F.holds folder.old) (files_in (map string_bytes words.now)) (F.visits folder.old) (F.visits folder.new)
-        (W.taken writer.old) (W.taken writer.new) (W.flushes writer.old) (W.flushes writer.new)
-            (HasFailed (W.failed writer.old) (W.failed writer.new))
-        (E.failed errors.old) (E.failed errors.new) (E.taken errors.old) (E.taken errors.new) result }
+        → IsToldOfAll LIMIT (F.holds folder.old) (files_in (map string_bytes words.now))
+        (moment (F.visits folder.old) (W.taken writer.old) (E.failed errors.old) (E.taken errors.old))
+        (moment (F.visits folder.new) (W.taken writer.new) (E.failed errors.new) (E.taken errors.new))
+        (calls (W.flushes writer.old) (W.failed writer.old) (W.ended writer.old))
+        (calls (W.flushes writer.new) (W.failed writer.new) (W.ended writer.new)) result }
     ensures unread { files_in (map string_bytes words.now) ≢ [] → reader.new ≡ reader.old }
     ensures unopened { files_in (map string_bytes words.now) ≡ [] → folder.new ≡ folder.old }
 

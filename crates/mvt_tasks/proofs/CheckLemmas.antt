@@ -130,7 +130,7 @@ counted_more files file old new verdict counted judged adds =
     ∙ sym (count_more is_refused files file) in
     let u : new.unread ≡ count_of is_unread (files ++ file ∷ []) =
     adds.unread ∙ ap₂ (λ (t : Tally) (v : Verdict). t.unread + cond (is_unread v) 1 0) counted judged
-        ∙ sym (count_more is_unread files file) in
+    ∙ sym (count_more is_unread files file) in
     ap₂ (λ (x : ℕ) (p : ℕ × ℕ). record { accepted = x; refused = p.0; unread = p.1 }) a (ap₂ (λ (y z : ℕ). (y, z)) r u)
 
 -- one file more
@@ -161,7 +161,7 @@ said_more limit holds names name a b c old new verdict said one adds =
       told =
           subst (Tells a.failed c.failed a.errors c.errors) lines
           (tells-trans a.failed b.failed c.failed a.errors b.errors c.errors (flat_map told_of files ++ [])
-              (told_of file) said.told one.told);
+          (told_of file) said.told one.told);
       counted = counted_more files file old new verdict said.counted one.judged adds;
     }
 
@@ -187,7 +187,7 @@ said_step limit holds held all names name shown a b c old new verdict said one s
 pub told_before : {T F : Type 0} → (r : Result T F) (limit : ℕ) (holds : List ℕ → Option (List ℕ)) (names : List (List ℕ)) (a b : Moment)
     (failed : ℕ) (errors : Option (List ℕ)) (tally : Tally)
     → IsSaidOf limit holds names a b [] tally → TellsSome b.failed failed b.errors errors
-        → OnErr r (TellsSome a.failed failed a.errors errors)
+    → OnErr r (TellsSome a.failed failed a.errors errors)
 told_before (Ok x) limit holds names a b failed errors tally said some = tt
 told_before (Err x) limit holds names a b failed errors tally said some =
     tells_more a.failed b.failed failed a.errors b.errors errors (flat_map told_of said.files ++ []) said.told some
@@ -270,7 +270,7 @@ cut_later limit holds held all names name shown behind a b line tally w failure 
           ∙ ap (λ ns. names ++ ns) (append_assoc cut.front cut.rest behind) ∙ sym (append_assoc names cut.front (cut.rest ++ behind));
       checked =
           related-append (λ n (f : Checked). (f.name ≡ n) × IsSaid limit (holds n) f.reply) names said.files cut.front
-              cut.files said.checked
+          cut.files said.checked
           (subst (λ (h : List ℕ → Option (List ℕ)). AreChecked limit h cut.front cut.files) same cut.checked);
       taken =
           subst (λ text. TakesUntil a.output w text failure) (sym (flat_map-append written_of said.files cut.files))

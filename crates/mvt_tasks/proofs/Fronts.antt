@@ -24,7 +24,7 @@ judged-front limit input = elim (cases_lt limit (length input)) [
       let whole : nat_lt limit (length input) ≡ nat_lt limit (length (take (limit + 1) input)) = sym (too_long limit input) in
       let over : nat_lt limit (length input) ≡ true = grind (arith, nat_tests) in
       ap₂ (λ (b : Bool) (front : List ℕ). if b then beyond limit (first (tile_rules front)) else first
-          (tile_rules (take (limit + 1) input)))
+      (tile_rules (take (limit + 1) input)))
       (sym whole ∙ over) (take_front limit input)
       ∙ sym (ap (λ (b : Bool). if b then beyond limit (first (tile_rules (take limit input))) else first (tile_rules input)) over)
   | inr short ↦ ap (judged limit) (take_all (limit + 1) input (omega arith))

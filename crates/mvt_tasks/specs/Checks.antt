@@ -14,7 +14,7 @@ use Rattle.mvt_tasks.specs.declared.tally.Tally.{Tally}
 use Rattle.mvt_tasks.specs.declared.tally.Verdict.{Verdict}
 use Rattle.mvt_tasks.specs.declared.tally.Verdict.TheVariants.{Accepted, Refused, Unread}
 use Rattle.mvt_tasks.specs.declared.task.Task.TheVariants.{Check}
-use Rattle.mvt_tasks.specs.Failures.{line_of, status_of}
+use Rattle.mvt_tasks.specs.Failures.{line_of, status_of, EndsFailed, IsCaused}
 use Rattle.mvt_tasks.specs.Output.{IsReply}
 use Rattle.mvt_tasks.specs.Visits.{visit, Adds, AddsAll}
 
@@ -145,11 +145,10 @@ pub record IsSaidOfOne (limit : ℕ) (holds : List ℕ → Option (List ℕ)) (n
   pub told : Tells old.failed new.failed old.errors new.errors (told_of (record { name = name; reply = reply }))
   pub judged : verdict ≡ verdict_of reply
 
--- a run ends before its last file only where a write failed, or for want of memory
-abbrev pub IsOver : Type 0 → Failure → Type 0
-IsOver WriteFailed Read = ⊥
-IsOver WriteFailed Write = WriteFailed
-IsOver WriteFailed Memory = ⊤
+-- a run ends before its last file only where a call of the output failed, which was the only one that did, and the last;
+-- or for want of memory, where none failed
+abbrev pub IsOver : ℕ → ℕ → Bool → Failure → Type 0
+IsOver failed_old failed_new ended failure = IsCaused ⊥ (EndsFailed failed_old failed_new ended) (failed_new ≡ failed_old) failure
 
 -- what was taken of a text when a run was over: a front after a failed write, and all of it where memory was wanting
 abbrev pub TakesUntil : Option (List ℕ) → Option (List ℕ) → List ℕ → Failure → Type 0
@@ -171,15 +170,21 @@ pub record IsCutShort (limit : ℕ) (holds : List ℕ → Option (List ℕ)) (na
 abbrev pub TellsSome : ℕ → ℕ → Option (List ℕ) → Option (List ℕ) → Type 0
 TellsSome failed_old failed_new old new = (lines : List ℕ) × Tells failed_old failed_new old new lines
 
--- all is said of the files of these names, the output was flushed once, and the status tells how they were judged; or the
--- run was over before, with a front of this on the output, which the last line tells
-abbrev pub IsToldOfAll : ℕ → (List ℕ → Option (List ℕ)) → List (List ℕ) → Option (List Visit) → Option (List Visit)
-    → Option (List ℕ) → Option (List ℕ) → ℕ → ℕ → Type 0 → ℕ → ℕ → Option (List ℕ) → Option (List ℕ) → ℕ → Type 0
-IsToldOfAll limit holds names visits_old visits_new output_old output_new flushes_old flushes_new WriteFailed
-    failed_old failed_new errors_old errors_new status =
-    ((tally : Tally) × IsSaidOf limit holds names (moment visits_old output_old failed_old errors_old)
-        (moment visits_new output_new failed_new errors_new)
-    (summary (length names) tally) tally × (flushes_new ≡ counted flushes_old) × (status ≡ status_after tally))
-    ⊎ ((failure : Failure) × IsOver WriteFailed failure × (status ≡ status_of failure)
-        × IsCutShort limit holds names output_old output_new failure
-    × ((lines : List ℕ) × (NoneFailed failed_old failed_new → Appends errors_old errors_new (lines ++ line_of failure))))
+-- of the output: how often it was flushed, how many of its calls failed, and whether the last one did
+pub record Calls : Type 0 where
+  pub flushes : ℕ
+  pub failed : ℕ
+  pub ended : Bool
+
+abbrev pub calls : ℕ → ℕ → Bool → Calls
+calls flushes failed ended = record { flushes = flushes; failed = failed; ended = ended }
+
+-- all is said of the files of these names, the output was flushed once, none of its calls failed, and the status tells how
+-- the files were judged; or the run was over before, with a front of this on the output, and the last line tells why
+abbrev pub IsToldOfAll : ℕ → (List ℕ → Option (List ℕ)) → List (List ℕ) → Moment → Moment → Calls → Calls → ℕ → Type 0
+IsToldOfAll limit holds names old new before after status =
+    ((tally : Tally) × IsSaidOf limit holds names old new (summary (length names) tally) tally
+    × (after.flushes ≡ counted before.flushes) × (after.failed ≡ before.failed) × (status ≡ status_after tally))
+    ⊎ ((failure : Failure) × IsOver before.failed after.failed after.ended failure × (status ≡ status_of failure)
+    × IsCutShort limit holds names old.output new.output failure
+    × ((lines : List ℕ) × (NoneFailed old.failed new.failed → Appends old.errors new.errors (lines ++ line_of failure))))

@@ -2,8 +2,8 @@
 ghost use Rattle.std.specs.Prelude.{◌≡◌, ◌≢◌, ◌<◌, ◌⊎◌, [], ◌∷◌, ◌++◌, ℕ, List, length, map, string_bytes, IfOk, IfErr, OnOk, OnErr};
 ghost use Rattle.std.specs.List.{flat_map};
 ghost use Rattle.std.specs.Io.KnownBytes.{Appends};
-ghost use Rattle.mvt_io.specs.Counts.{counted, HasFailed};
-ghost use Rattle.mvt_tasks.specs.Checks.{Checked, IsCutShort, IsOver, IsSaid, IsSaidOf, IsSaidOfOne, IsToldOfAll, TakesUntil, Tells, TellsSome, line_told, marked_text, moment, status_after, summary, text_of, told_of, verdict_of, visit_of, written_of};
+ghost use Rattle.mvt_io.specs.Counts.{counted};
+ghost use Rattle.mvt_tasks.specs.Checks.{Checked, IsCutShort, IsOver, IsSaid, IsSaidOf, IsSaidOfOne, IsToldOfAll, TakesUntil, Tells, TellsSome, calls, line_told, marked_text, moment, status_after, summary, text_of, told_of, verdict_of, visit_of, written_of};
 ghost use Rattle.mvt_tasks.specs.Visits.{Adds};
 
 use crate::checking::check;
@@ -26,10 +26,11 @@ pub fn check_files<F: Folder, W: Sink, E: Sink>(
     writer: &mut W,
     errors: &mut E,
 ) -> u8
-    ensures told { IsToldOfAll LIMIT (F.holds folder.old) (map string_bytes names.now) (F.visits folder.old) (F.visits folder.new)
-        (W.taken writer.old) (W.taken writer.new) (W.flushes writer.old) (W.flushes writer.new)
-            (HasFailed (W.failed writer.old) (W.failed writer.new))
-        (E.failed errors.old) (E.failed errors.new) (E.taken errors.old) (E.taken errors.new) result }
+    ensures told { IsToldOfAll LIMIT (F.holds folder.old) (map string_bytes names.now)
+        (moment (F.visits folder.old) (W.taken writer.old) (E.failed errors.old) (E.taken errors.old))
+        (moment (F.visits folder.new) (W.taken writer.new) (E.failed errors.new) (E.taken errors.new))
+        (calls (W.flushes writer.old) (W.failed writer.old) (W.ended writer.old))
+        (calls (W.flushes writer.new) (W.failed writer.new) (W.ended writer.new)) result }
     ensures sound { result < 2 → W.failed writer.new ≡ W.failed writer.old }
 {
     match check_all(alloc, names, folder, writer, errors) {
@@ -51,10 +52,10 @@ fn check_all<F: Folder, W: Sink, E: Sink>(
     ensures said { IfOk result (λ tally. IsSaidOf LIMIT (F.holds folder.old) (map string_bytes names.now)
         (moment (F.visits folder.old) (W.taken writer.old) (E.failed errors.old) (E.taken errors.old))
         (moment (F.visits folder.new) (W.taken writer.new) (E.failed errors.new) (E.taken errors.new))
-            (summary (length (map string_bytes names.now)) tally) tally) }
+        (summary (length (map string_bytes names.now)) tally) tally) }
     ensures flushed { OnOk result (W.flushes writer.new ≡ counted (W.flushes writer.old)) }
     ensures sound { OnOk result (W.failed writer.new ≡ W.failed writer.old) }
-    ensures failed { IfErr result (IsOver (HasFailed (W.failed writer.old) (W.failed writer.new))) }
+    ensures failed { IfErr result (IsOver (W.failed writer.old) (W.failed writer.new) (W.ended writer.new)) }
     ensures partly { OnErr result (TellsSome (E.failed errors.old) (E.failed errors.new) (E.taken errors.old) (E.taken errors.new)) }
     ensures cut { IfErr result (IsCutShort LIMIT (F.holds folder.old) (map string_bytes names.now)
         (W.taken writer.old) (W.taken writer.new)) }
@@ -78,7 +79,7 @@ fn check_each<F: Folder, W: Sink, E: Sink>(
         (moment (F.visits folder.new) (W.taken writer.new) (E.failed errors.new) (E.taken errors.new)) []) }
     ensures unflushed { OnOk result (W.flushes writer.new ≡ W.flushes writer.old) }
     ensures sound { OnOk result (W.failed writer.new ≡ W.failed writer.old) }
-    ensures failed { IfErr result (IsOver (HasFailed (W.failed writer.old) (W.failed writer.new))) }
+    ensures failed { IfErr result (IsOver (W.failed writer.old) (W.failed writer.new) (W.ended writer.new)) }
     ensures partly { OnErr result (TellsSome (E.failed errors.old) (E.failed errors.new) (E.taken errors.old) (E.taken errors.new)) }
     ensures cut { IfErr result (IsCutShort LIMIT (F.holds folder.old) (map string_bytes names.now)
         (W.taken writer.old) (W.taken writer.new)) }
@@ -104,7 +105,7 @@ fn check_one<F: Folder, W: Sink, E: Sink>(
         (moment (F.visits folder.new) (W.taken writer.new) (E.failed errors.new) (E.taken errors.new)) verdict) }
     ensures unflushed { OnOk result (W.flushes writer.new ≡ W.flushes writer.old) }
     ensures sound { OnOk result (W.failed writer.new ≡ W.failed writer.old) }
-    ensures failed { IfErr result (IsOver (HasFailed (W.failed writer.old) (W.failed writer.new))) }
+    ensures failed { IfErr result (IsOver (W.failed writer.old) (W.failed writer.new) (W.ended writer.new)) }
     ensures partly { OnErr result (TellsSome (E.failed errors.old) (E.failed errors.new) (E.taken errors.old) (E.taken errors.new)) }
     ensures cut { IfErr result (IsCutShort LIMIT (F.holds folder.old) (name.now ∷ []) (W.taken writer.old) (W.taken writer.new)) }
     ensures same { F.holds folder.new ≡ F.holds folder.old }
@@ -189,7 +190,7 @@ fn put<W: Sink>(writer: &mut W, text: &[u8]) -> Result<(), Failure>
     ensures prefix { IfErr result (TakesUntil (W.taken writer.old) (W.taken writer.new) text.now) }
     ensures sound { OnOk result (W.failed writer.new ≡ W.failed writer.old) }
     ensures unflushed { W.flushes writer.new ≡ W.flushes writer.old }
-    ensures failed { IfErr result (IsOver (HasFailed (W.failed writer.old) (W.failed writer.new))) }
+    ensures failed { IfErr result (IsOver (W.failed writer.old) (W.failed writer.new) (W.ended writer.new)) }
 {
     write_all(writer, text).map_err(|_| Failure::Write)
 }

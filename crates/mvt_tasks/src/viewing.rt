@@ -21,8 +21,7 @@ pub enum View {
 
 /// Reads a tile, and makes its text.
 pub fn view_tile<R: Source>(alloc: Global, view: View, reader: &mut R) -> Result<Reply, Failure>
-    ensures reply
-        { IfOk result
+    ensures reply { IfOk result
         (λ reply. IfSome (R.left reader.old) (λ input. IsTold LIMIT (λ tile. done (view_lines view tile)) input reply)) }
     ensures output { IfOk result HasOutput }
     ensures failed { IfErr result (IsCaused (EndsFailed (R.failed reader.old) (R.failed reader.new) (R.ended reader.new))

@@ -1,7 +1,6 @@
 //! The command `check` over files in memory.
 ghost use Rattle.std.specs.Prelude.{◌≡◌, ◌≢◌, [], Some, map, string_bytes};
-ghost use Rattle.mvt_io.specs.Counts.{HasFailed};
-ghost use Rattle.mvt_tasks.specs.Checks.{IsToldOfAll};
+ghost use Rattle.mvt_tasks.specs.Checks.{IsToldOfAll, calls, moment};
 ghost use Rattle.mvt_tasks.specs.Folders.{held_in};
 ghost use Rattle.mvt_cli.specs.Words.{faults_in, files_in};
 
@@ -50,9 +49,10 @@ fn run_files(
     errors: &mut MemorySink,
 ) -> u8
     ensures { files_in (map string_bytes words.now) ≢ [] → faults_in (map string_bytes words.now) ≡ []
-        → IsToldOfAll LIMIT (held_in folder.old.files) (files_in (map string_bytes words.now)) folder.old.visits folder.new.visits
-        (Some writer.old.taken) (Some writer.new.taken) writer.old.flushes writer.new.flushes (HasFailed writer.old.failed writer.new.failed)
-        errors.old.failed errors.new.failed (Some errors.old.taken) (Some errors.new.taken) result }
+        → IsToldOfAll LIMIT (held_in folder.old.files) (files_in (map string_bytes words.now))
+        (moment folder.old.visits (Some writer.old.taken) errors.old.failed (Some errors.old.taken))
+        (moment folder.new.visits (Some writer.new.taken) errors.new.failed (Some errors.new.taken))
+        (calls writer.old.flushes writer.old.failed writer.old.ended) (calls writer.new.flushes writer.new.failed writer.new.ended) result }
 {
     run(alloc, words, folder, reader, writer, errors)
 }

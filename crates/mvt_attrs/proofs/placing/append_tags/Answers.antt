@@ -45,7 +45,7 @@ loop-attribute-preserved c =
     record {
       so_far = c.loop-attribute.invariant.so_far ++ c.in_ok-key.key ∷ (c.in_ok-value.value ∷ []);
       tags =
-          c.in_ok-extend_from_slice.ensures.items
+          c.in_ok-push_pair.ensures.items
           ∙ ap (λ ts. ts ++ c.in_ok-key.key ∷ (c.in_ok-value.value ∷ [])) c.loop-attribute.invariant.tags
           ∙ append_assoc c.args.tags.now.items c.loop-attribute.invariant.so_far (c.in_ok-key.key ∷ (c.in_ok-value.value ∷ []));
       names =
@@ -73,11 +73,11 @@ returns-in_err-value-clause-tags_left c =
     tags_left_at c.from_residual-in_err-value.result c.args.tags.now.items c.loop-attribute.tags.items
     c.loop-attribute.invariant.so_far c.loop-attribute.invariant.tags
 
-pub returns-in_err-extend_from_slice-clause-tags_left : goal.returns-in_err-extend_from_slice-clause-tags_left
-returns-in_err-extend_from_slice-clause-tags_left c =
-    tags_left_at c.from_residual-in_err-extend_from_slice.result c.args.tags.now.items c.extend_from_slice.new.self.items
+pub returns-in_err-push_pair-clause-tags_left : goal.returns-in_err-push_pair-clause-tags_left
+returns-in_err-push_pair-clause-tags_left c =
+    tags_left_at c.from_residual-in_err-push_pair.result c.args.tags.now.items c.push_pair.new.tags.items
     c.loop-attribute.invariant.so_far
-    (c.in_err-extend_from_slice.ensures.items ∙ c.loop-attribute.invariant.tags)
+    (c.in_err-push_pair.ensures.err ∙ c.loop-attribute.invariant.tags)
 
 pub returns-in_err-key-clause-left : goal.returns-in_err-key-clause-left
 returns-in_err-key-clause-left c =
@@ -171,14 +171,14 @@ returns-in_err-value-clause-memory c =
           (subst (λ vs. (length vs ≡ LIMIT) × (Contains vs a.value → ⊥)) stays full) in cc)),
     )
 
-pub returns-in_err-extend_from_slice-clause-left : goal.returns-in_err-extend_from_slice-clause-left
-returns-in_err-extend_from_slice-clause-left c =
+pub returns-in_err-push_pair-clause-left : goal.returns-in_err-push_pair-clause-left
+returns-in_err-push_pair-clause-left c =
     let a = c.attribute-item.result in
     let key : IsPut c.loop-attribute.keys c.place_near.new.self c.attribute-item.result.key =
     record { kept = c.in_ok-key.ensures.kept; added = c.in_ok-key.ensures.added } in
     let value : IsPut c.loop-attribute.values c.place_near-in-loop-attribute.new.self a.value =
     record { kept = c.in_ok-value.ensures.kept; added = c.in_ok-value.ensures.added } in
-    on_err c.from_residual-in_err-extend_from_slice.result (
+    on_err c.from_residual-in_err-push_pair.result (
       (c.loop-attribute.attribute-index + 1),
       record {
         within = omega arith;
@@ -192,8 +192,8 @@ returns-in_err-extend_from_slice-clause-left c =
       },
     )
 
-pub returns-in_err-extend_from_slice-clause-memory : goal.returns-in_err-extend_from_slice-clause-memory
-returns-in_err-extend_from_slice-clause-memory c =
+pub returns-in_err-push_pair-clause-memory : goal.returns-in_err-push_pair-clause-memory
+returns-in_err-push_pair-clause-memory c =
     let all = c.loop-attribute.invariant in
     let a = c.attribute-item.result in
     let key : IsPut c.loop-attribute.keys c.place_near.new.self c.attribute-item.result.key =
@@ -214,10 +214,10 @@ returns-in_err-extend_from_slice-clause-memory c =
             all.values c.loop-attribute-test.true c.attribute-item.is value);
       },
       told_tags c.args.keys.now c.loop-attribute.keys c.place_near.new.self c.args.values.now c.loop-attribute.values
-          c.place_near-in-loop-attribute.new.self all.so_far c.args.tags.now.items c.extend_from_slice.new.self.items _
+          c.place_near-in-loop-attribute.new.self all.so_far c.args.tags.now.items c.push_pair.new.tags.items _
           all.keys all.values all.names (pool_longer bytes_eq bytes_eq-Decides (λ (b : Attribute). b.key) _ _ _ key)
           (pool_longer equal_values equal_values-Decides (λ (b : Attribute). b.value) _ _ _ value)
-          (c.in_err-extend_from_slice.ensures.items ∙ all.tags),
+          (c.in_err-push_pair.ensures.err ∙ all.tags),
       not_full_at c.args.attributes.now c.loop-attribute.attribute-index a _ c.place_near.new.self
           c.place_near-in-loop-attribute.new.self c.attribute-item.is refl
           (λ full. full.1 (contains_at c.place_near.new.self c.in_ok-key.key c.attribute-item.result.key c.in_ok-key.ensures.index))

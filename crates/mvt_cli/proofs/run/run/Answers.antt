@@ -1,4 +1,4 @@
-use Rattle.std.proofs.Common.{◌<◌, inl, inr, [], arith}
+use Rattle.std.proofs.Common.{◌<◌, inl, inr, [], refl, arith}
 use Rattle.mvt_tasks.specs.declared.failure.Failure.TheVariants.{Memory}
 use Rattle.mvt_tasks.proofs.TasksLaws.{cut_at_first}
 use Rattle.mvt_cli.proofs.Lines.{plain_taken}
@@ -17,7 +17,7 @@ returns-in-Err-clause-files g c = λ some accepted.
       | inl two ↦ absurd (c.in-Err.ensures.usage (c.refuse.ensures.usage.0 two) accepted)
       | inr four ↦
           let above : 2 < c.refuse.result = omega arith in
-          inr (Memory, tt, four, cut_at_first _ _ _ _, ([], λ none. c.refuse.ensures.line above none))
+          inr (Memory, refl, four, cut_at_first _ _ _ _, ([], λ none. c.refuse.ensures.line above none))
     ]
 
 pub returns-then-not-is_empty-clause-leaves : goal.returns-then-not-is_empty-clause-leaves

@@ -12,9 +12,9 @@ unfolding check_app
 returns-clause-shape c =
     let top : app_of c.about.result ≡ new_app (codes "check") = ap app_of_fields c.about.ensures ∙ c.new-2.ensures.app in
     let rule : rule_of c.help-files.result ≡ files_rule =
-        files_rule_is c.new.result c.action.result c.num_args.result c.help-files.result _ _ c.new.ensures.rule
-        c.action.ensures c.num_args.ensures.0 (given_range _ _ c.num_args.ensures.1) c.help-files.ensures in
+    files_rule_is c.new.result c.action.result c.num_args.result c.help-files.result _ _ c.new.ensures.rule
+    c.action.ensures c.num_args.ensures.0 (given_range _ _ c.num_args.ensures.1) c.help-files.ensures in
     let local : c.help-files.result.global ≡ false =
     ap (λ (a : Arg). a.global) c.help-files.ensures ∙ ap (λ (a : Arg). a.global) c.num_args.ensures.0
-        ∙ ap (λ (a : Arg). a.global) c.action.ensures ∙ c.new.ensures.optional.1 in
+    ∙ ap (λ (a : Arg). a.global) c.action.ensures ∙ c.new.ensures.optional.1 in
     IfOk-weaker c.arg.result _ _ (λ m h. h.shape local ∙ ap₂ with_rule top rule) c.arg.ensures

@@ -7,4 +7,4 @@ use Rattle.mvt_cli.proofs.words.files_of.Goals as goal
 pub returns-in-Some : goal.returns-in-Some
 returns-in-Some c =
     IfOk-weaker c.files_named.result _ _ (λ files is. is ∙ ap files_of_subcommand
-        (sym (entered_is c.args.matches.now _ _ c.in-Some.ensures.name c.in-Some.ensures.rows))) c.files_named.ensures
+    (sym (entered_is c.args.matches.now _ _ c.in-Some.ensures.name c.in-Some.ensures.rows))) c.files_named.ensures

@@ -15,6 +15,6 @@ returns c =
     let three = added _ _ _ _ _ c.in_ok-subcommand-3.ensures two c.bare_command-draw.ensures.shape c.bare_command-draw.ensures.local in
     let four = added _ _ _ _ _ c.in_ok-subcommand-4.ensures three c.in_ok-check.ensures.shape c.in_ok-check.ensures.local in
     let five = added _ _ _ _ _ c.in_ok-subcommand-5.ensures four c.bare_command-rewrite.ensures.shape
-        c.bare_command-rewrite.ensures.local in
+    c.bare_command-rewrite.ensures.local in
     IfOk-weaker c.subcommand-6.result _ _
-        (λ m h. added _ _ _ _ _ h five c.in_ok-extract.ensures.shape c.in_ok-extract.ensures.local) c.subcommand-6.ensures
+    (λ m h. added _ _ _ _ _ h five c.in_ok-extract.ensures.shape c.in_ok-extract.ensures.local) c.subcommand-6.ensures

@@ -7,5 +7,5 @@ use Rattle.mvt_cli.proofs.words.task_of.Goals as goal
 pub returns-in-Some : goal.returns-in-Some
 returns-in-Some c =
     IfOk-weaker c.task_named.result _ _
-        (λ task is. is ∙ ap task_of_subcommand
-        (sym (entered_is c.args.matches.now _ _ c.in-Some.ensures.name c.in-Some.ensures.rows))) c.task_named.ensures
+    (λ task is. is ∙ ap task_of_subcommand
+    (sym (entered_is c.args.matches.now _ _ c.in-Some.ensures.name c.in-Some.ensures.rows))) c.task_named.ensures

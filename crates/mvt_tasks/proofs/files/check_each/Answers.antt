@@ -9,7 +9,7 @@ pub add-requires : goal.add-requires
 add-requires g c =
     let size = said_size _ _ _ _ _ _ _ c.loop-name.invariant.said in
     let count : length (map string_bytes (take c.loop-name.name-index c.args.names.now)) ≡ length
-        (take c.loop-name.name-index c.args.names.now) = length-map (take c.loop-name.name-index c.args.names.now) string_bytes in
+    (take c.loop-name.name-index c.args.names.now) = length-map (take c.loop-name.name-index c.args.names.now) string_bytes in
     let front = length-take c.loop-name.name-index c.args.names.now in
     omega arith
 
@@ -20,7 +20,7 @@ pub loop-name-preserved : goal.loop-name-preserved
 loop-name-preserved g c = record {
   said =
       said_step _ _ _ _ _ (string_bytes c.name-item.result) _ _ _ _ _ _ _ c.loop-name.invariant.said
-          c.in_ok-verdict.ensures.said c.loop-name.invariant.same c.as_str.ensures.value
+      c.in_ok-verdict.ensures.said c.loop-name.invariant.same c.as_str.ensures.value
       (ap (map string_bytes) (front_more c.args.names.now c.loop-name.name-index c.name-item.result c.loop-name-test.true c.name-item.is)
       ∙ map-append string_bytes (take c.loop-name.name-index c.args.names.now) (c.name-item.result ∷ []))
       (record { accepted = c.add.ensures.accepted; refused = c.add.ensures.refused; unread = c.add.ensures.unread });
@@ -36,10 +36,10 @@ returns-in_err-verdict-clause-partly g c =
 pub returns-in_err-verdict-clause-cut : goal.returns-in_err-verdict-clause-cut
 returns-in_err-verdict-clause-cut g c =
     cut_later_of c.from_residual.result _ _ _ _ _ (string_bytes c.name-item.result) _
-        (map string_bytes (drop (suc c.loop-name.name-index) c.args.names.now)) _ _ _ _ _ c.loop-name.invariant.said
+    (map string_bytes (drop (suc c.loop-name.name-index) c.args.names.now)) _ _ _ _ _ c.loop-name.invariant.said
     (search rules) c.loop-name.invariant.same c.as_str.ensures.value
     (ap (map string_bytes) (split_at c.args.names.now c.loop-name.name-index c.name-item.result c.loop-name-test.true
-        ∙ ap (λ y. take c.loop-name.name-index c.args.names.now ++ y ∷ drop (suc c.loop-name.name-index)
-        c.args.names.now) (sym c.name-item.is))
+    ∙ ap (λ y. take c.loop-name.name-index c.args.names.now ++ y ∷ drop (suc c.loop-name.name-index)
+    c.args.names.now) (sym c.name-item.is))
     ∙ map-append string_bytes (take c.loop-name.name-index c.args.names.now)
-        (c.name-item.result ∷ drop (suc c.loop-name.name-index) c.args.names.now))
+    (c.name-item.result ∷ drop (suc c.loop-name.name-index) c.args.names.now))

@@ -32,17 +32,17 @@ returns-in_err-reply-clause-cut g c =
 pub returns-in_err-written-clause-cut : goal.returns-in_err-written-clause-cut
 returns-in_err-written-clause-cut g c =
     cut_first_of c.from_residual-in_err-written.result _ _ _ _ (let h : IfErr c.from_residual-in_err-written.result
-        (λ failure. failure ≡ Memory) = search rules in h)
+    (λ failure. failure ≡ Memory) = search rules in h)
 
 pub returns-in_err-told-clause-cut : goal.returns-in_err-told-clause-cut
 returns-in_err-told-clause-cut g c =
     cut_first_of c.from_residual-in_err-told.result _ _ _ _ (let h : IfErr c.from_residual-in_err-told.result
-        (λ failure. failure ≡ Memory) = search rules in h)
+    (λ failure. failure ≡ Memory) = search rules in h)
 
 pub returns-in_err-put-clause-cut : goal.returns-in_err-put-clause-cut
 unfolding written_of
 returns-in_err-put-clause-cut g c =
     cut_within_of c.from_residual-in_err-put.result _ _ _ _ _ c.in_ok-reply.reply c.in_ok-reply.ensures.said
     (subst (λ text. IfErr c.from_residual-in_err-put.result (TakesUntil (g.W.Sink.taken c.args.writer.now)
-        (g.W.Sink.taken c.put.new.writer) text)) (c.deref-2.ensures.value ∙ c.in_ok-written.ensures.bytes)
+    (g.W.Sink.taken c.put.new.writer) text)) (c.deref-2.ensures.value ∙ c.in_ok-written.ensures.bytes)
     (search rules))

@@ -9,7 +9,7 @@ pub returns-then-eq-clause-bytes : goal.returns-then-eq-clause-bytes
 returns-then-eq-clause-bytes c =
     held_read c.reader_of.result _ _
     (held_here c.args.files.now (take c.loop-file.file-index c.args.files.now) c.file-item.result
-        (drop (suc c.loop-file.file-index) c.args.files.now) c.args.name.now
+    (drop (suc c.loop-file.file-index) c.args.files.now) c.args.name.now
     (split_at c.args.files.now c.loop-file.file-index c.file-item.result c.loop-file-test.true
     ∙ ap (λ y. take c.loop-file.file-index c.args.files.now ++ y ∷ drop (suc c.loop-file.file-index) c.args.files.now) (sym c.file-item.is))
     c.loop-file.invariant
