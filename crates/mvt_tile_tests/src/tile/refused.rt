@@ -1,11 +1,11 @@
 //! Refused growths: each test passes too where one allocation, whichever, is refused. Each call has two
 //! turns, of which one at most may want memory; the other answers as ever.
 use super::rows::*;
-use super::support::{joined, names};
+use super::support::{KEYS, joined, keyed, named, names};
 use mvt_io::{MemorySink, MemorySource};
 use mvt_tile::{
     DecodeError, ExtractError, PutError, Tile, TileDecoder, WriteError, decode, encode, extract,
-    is_valid, judge, notes, read_tile, survey_tile, write_tile,
+    is_canonical, is_valid, judge, notes, read_tile, survey_tile, validate, write_tile,
 };
 use std::alloc::{AllocError, Global};
 use std::process::Abort;
@@ -83,6 +83,87 @@ fn refused_reads(rt: HostRuntime) {
             for is_refused in answers {
                 refused = refused.saturating_add(u32::from(is_refused));
             }
+        }
+    }
+    assert!(rt; refused < 2);
+}
+
+// Whether a tile that was made can be written.
+fn is_validate_refused(
+    rt: &(impl Abort + AllocGlobal),
+    made: Result<Tile, AllocError>,
+    answer: bool,
+) -> bool {
+    let Ok(tile) = made else {
+        return true;
+    };
+    match validate(rt.alloc(), &tile) {
+        Ok(valid) => {
+            assert_eq!(rt; valid, answer);
+            false
+        }
+        Err(AllocError) => true,
+    }
+}
+
+#[test]
+fn refused_validations(rt: HostRuntime) {
+    let alloc = rt.alloc();
+    let mut repeated = KEYS;
+    repeated[19] = "a";
+    let mut refused = 0u32;
+    for _turn in 0..2 {
+        let answers = [
+            is_validate_refused(&rt, keyed(alloc, &KEYS), true),
+            is_validate_refused(&rt, keyed(alloc, &repeated), false),
+            is_validate_refused(&rt, named(alloc, &["b", "a"]), true),
+            is_validate_refused(&rt, named(alloc, &["b", "a", "b"]), false),
+        ];
+        for is_refused in answers {
+            refused = refused.saturating_add(u32::from(is_refused));
+        }
+    }
+    assert!(rt; refused < 2);
+}
+
+// Inputs, and bytes with whether they are what the input's tile is written as.
+const COMPARED: [(&[u8], &[u8], bool); 9] = [
+    (NO_EXTENT, ONE_POINT, true),
+    (NO_EXTENT, NO_EXTENT, false),
+    (TWICE_A_KEY, ONCE_A_KEY, true),
+    (TWICE_A_KEY, TWICE_A_KEY, false),
+    (KINDS, KINDS_CANONICAL, true),
+    (KINDS, KINDS, false),
+    (LONG_FOREIGN, FOREIGN, true),
+    (LONG_FOREIGN, LONG_FOREIGN, false),
+    (LONG_TEXTS, LONG_TEXTS, true),
+];
+
+fn is_comparison_refused(
+    rt: &(impl Abort + AllocGlobal),
+    input: &[u8],
+    bytes: &[u8],
+    answer: bool,
+) -> bool {
+    let Ok(tile) = decode(rt.alloc(), input) else {
+        return true;
+    };
+    match is_canonical(rt.alloc(), &tile, bytes) {
+        Ok(is_same) => {
+            assert_eq!(rt; is_same, answer, "of {bytes:?}");
+            false
+        }
+        Err(AllocError) => true,
+    }
+}
+
+#[test]
+fn refused_comparisons(rt: HostRuntime) {
+    let mut refused = 0u32;
+    for (input, bytes, answer) in COMPARED {
+        for _turn in 0..2 {
+            let is_refused = is_comparison_refused(&rt, input, bytes, answer);
+            refused = refused.saturating_add(u32::from(is_refused));
         }
     }
     assert!(rt; refused < 2);

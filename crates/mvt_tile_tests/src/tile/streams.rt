@@ -34,21 +34,40 @@ fn holds_what_is_unfinished(rt: HostRuntime) -> Result<(), Fail> {
     Ok(())
 }
 
+// A decoder that was fed the input in pieces: a bit of `cuts` for each byte tells whether a piece ends with it.
+fn fed_cut(alloc: Global, input: &[u8], cuts: u32) -> Result<TileDecoder, Fail> {
+    let mut decoder = TileDecoder::new(alloc);
+    let mut piece = Vec::new(alloc);
+    let mut rest = cuts;
+    for byte in input {
+        piece.push(*byte)?;
+        if rest % 2 == 1 {
+            decoder.feed(&piece)?;
+            piece.clear();
+        }
+        rest /= 2;
+    }
+    decoder.feed(&piece)?;
+    Ok(decoder)
+}
+
+// Every split into pieces: there are 18 places to cut the first input, and 11 to cut the second.
 #[test]
 fn takes_any_pieces(rt: HostRuntime) -> Result<(), Fail> {
     let alloc = rt.alloc();
-    for input in [ONE_POINT, UNKNOWN_FIRST] {
+    for (input, splits) in [(ONE_POINT, 1u32 << 18), (UNKNOWN_FIRST, 1 << 11)] {
         let tile = decode(alloc, input)?;
-        for size in 1..=input.len() {
-            assert!(rt; fed_by(alloc, input, size)?.finish()? == tile);
-        }
-        for cut in 0..=input.len() {
-            let mut decoder = TileDecoder::new(alloc);
-            decoder.feed(&input[..cut])?;
-            decoder.feed(&input[cut..])?;
+        for cuts in 0..splits {
+            let decoder = fed_cut(alloc, input, cuts)?;
             assert_eq!(rt; decoder.held(), 0);
             assert!(rt; decoder.finish()? == tile);
         }
+        let mut decoder = TileDecoder::new(alloc);
+        let pieces: [&[u8]; 3] = [b"", input, b""];
+        for piece in pieces {
+            decoder.feed(piece)?;
+        }
+        assert!(rt; decoder.finish()? == tile);
     }
     Ok(())
 }

@@ -1,5 +1,5 @@
 //! Tiles made by hand, and what several tests compare.
-use mvt_attrs::Attribute;
+use mvt_attrs::{Attribute, Value};
 use mvt_base::{Items, Text};
 use mvt_geometry::{Geometry, Point};
 use mvt_message::{Cause, Feature, Item, Layer};
@@ -10,6 +10,30 @@ use mvt_tile::{
 use std::alloc::{AllocError, Global};
 use std::process::Abort;
 use std::test::Fail;
+
+// More keys than are compared without memory.
+pub(super) const KEYS: [&str; 20] = [
+    "a",
+    "b",
+    "c",
+    "d",
+    "e",
+    "f",
+    "g",
+    "h",
+    "i",
+    "j",
+    "k",
+    "l",
+    "m",
+    "n",
+    "o",
+    "p",
+    "q",
+    "a text that is shared",
+    "s",
+    "t",
+];
 
 pub(super) fn points(alloc: Global, places: &[(i32, i32)]) -> Result<Items<Point>, AllocError> {
     let mut points = Vec::with_capacity(alloc, places.len())?;
@@ -46,6 +70,34 @@ pub(super) fn one_feature(
         geometry,
     })?;
     layer_a(alloc, features)
+}
+
+// A point with these keys, whose values are true.
+pub(super) fn keyed(alloc: Global, keys: &[&str]) -> Result<Tile, AllocError> {
+    let mut attributes = Vec::new(alloc);
+    for key in keys {
+        attributes.push(Attribute {
+            key: Text::from_str(alloc, key)?,
+            value: Value::Bool(true),
+        })?;
+    }
+    let point = Geometry::Points(points(alloc, &[(25, 17)])?);
+    one_feature(alloc, attributes, point)
+}
+
+// Layers of these names, without features.
+pub(super) fn named(alloc: Global, names: &[&str]) -> Result<Tile, AllocError> {
+    let mut items = Vec::new(alloc);
+    for name in names {
+        items.push(Item::Layer(Layer {
+            name: Text::from_str(alloc, name)?,
+            extent: 4096,
+            features: Items::new(Vec::new(alloc)),
+        }))?;
+    }
+    Ok(Tile {
+        items: Items::new(items),
+    })
 }
 
 pub(super) fn foreign_item(alloc: Global, version: u32, bytes: &[u8]) -> Result<Item, AllocError> {

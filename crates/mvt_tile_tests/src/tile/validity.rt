@@ -1,11 +1,9 @@
 //! Tiles that can be written, and tiles that can't.
-use super::support::{layer_a, one_feature, points};
-use mvt_attrs::{Attribute, Value};
-use mvt_base::{Items, Text};
+use super::support::{KEYS, keyed, layer_a, named, one_feature, points};
+use mvt_base::Items;
 use mvt_geometry::Geometry;
-use mvt_message::{Item, Layer};
 use mvt_tile::{Tile, is_valid, validate};
-use std::alloc::{AllocError, Global};
+use std::alloc::AllocError;
 use std::process::Abort;
 use std::test::Fail;
 
@@ -20,44 +18,10 @@ fn expect_valid(
     Ok(())
 }
 
-// A point with these keys, whose values are true.
-fn keyed(alloc: Global, keys: &[&str]) -> Result<Tile, AllocError> {
-    let mut attributes = Vec::new(alloc);
-    for key in keys {
-        attributes.push(Attribute {
-            key: Text::from_str(alloc, key)?,
-            value: Value::Bool(true),
-        })?;
-    }
-    let point = Geometry::Points(points(alloc, &[(25, 17)])?);
-    one_feature(alloc, attributes, point)
-}
-
 #[test]
 fn keys_of_a_feature(rt: HostRuntime) -> Result<(), Fail> {
     let alloc = rt.alloc();
-    let mut keys = [
-        "a",
-        "b",
-        "c",
-        "d",
-        "e",
-        "f",
-        "g",
-        "h",
-        "i",
-        "j",
-        "k",
-        "l",
-        "m",
-        "n",
-        "o",
-        "p",
-        "q",
-        "a text that is shared",
-        "s",
-        "t",
-    ];
+    let mut keys = KEYS;
     expect_valid(&rt, &keyed(alloc, &keys)?, true)?;
     expect_valid(&rt, &keyed(alloc, &keys[..16])?, true)?;
     for (first, repeated) in [(0, 15), (0, 16), (16, 19), (17, 18), (0, 19)] {
@@ -69,21 +33,6 @@ fn keys_of_a_feature(rt: HostRuntime) -> Result<(), Fail> {
     keys[15] = "a";
     expect_valid(&rt, &keyed(alloc, &keys[..16])?, false)?;
     Ok(())
-}
-
-// Layers of these names, without features.
-fn named(alloc: Global, names: &[&str]) -> Result<Tile, AllocError> {
-    let mut items = Vec::new(alloc);
-    for name in names {
-        items.push(Item::Layer(Layer {
-            name: Text::from_str(alloc, name)?,
-            extent: 4096,
-            features: Items::new(Vec::new(alloc)),
-        }))?;
-    }
-    Ok(Tile {
-        items: Items::new(items),
-    })
 }
 
 #[test]
