@@ -1,9 +1,11 @@
 //! Values and features read, refused and written.
-use mvt_attrs::{Attribute, KeyPool, LayerKeys, PoolError, Value, ValuePool};
+use crate::support::{KEYS, feature_with, point, repeated_keys};
+use mvt_attrs::{KeyPool, LayerKeys, PoolError, Value, ValuePool};
 use mvt_base::{Items, Text};
 use mvt_feature::*;
-use mvt_geometry::{Geometry, Point};
+use mvt_geometry::Geometry;
 use std::alloc::{AllocError, Global};
+use std::process::Abort;
 use std::test::Fail;
 
 // The value of a payload whose field's tag stands at 14.
@@ -38,24 +40,15 @@ fn place_of(error: MessageError) -> Result<(u64, u32), AllocError> {
     }
 }
 
-fn point(alloc: Global, x: i32, y: i32) -> Result<Geometry, AllocError> {
-    let points = Vec::from_slice(alloc, &[Point { x, y }])?;
-    Ok(Geometry::Points(Items::new(points)))
-}
-
-// A feature with the point (25,17), and these keys with the value 5 each.
-fn feature_with(alloc: Global, keys: &[&str]) -> Result<Feature, AllocError> {
-    let mut attributes = Vec::with_capacity(alloc, keys.len())?;
-    for key in keys {
-        let key = Text::from_str(alloc, key)?;
-        let value = Value::Uint(5);
-        attributes.push(Attribute { key, value })?;
-    }
-    Ok(Feature {
-        id: None,
-        attributes: Items::new(attributes),
-        geometry: point(alloc, 25, 17)?,
-    })
+// Both calls say whether the feature can be written.
+fn expect_valid(
+    rt: &(impl Abort + AllocGlobal),
+    feature: &Feature,
+    answer: bool,
+) -> Result<(), AllocError> {
+    assert_eq!(rt; is_valid_feature(feature), answer);
+    assert_eq!(rt; validate_feature(rt.alloc(), feature)?, answer);
+    Ok(())
 }
 
 #[test]
@@ -104,6 +97,10 @@ fn reads_features(rt: HostRuntime) -> Result<(), Fail> {
         };
         assert!(rt; feature == feature_with(alloc, &[])?);
     }
+    let Ok(alone) = read_feature(alloc, &one_point, 9, &[], &[]) else {
+        return Err(Fail::new("no feature"));
+    };
+    assert!(rt; alone == feature_with(alloc, &[])?);
     let Ok(bare) = read_feature(alloc, &[], 9, &[], &[]) else {
         return Err(Fail::new("no feature"));
     };
@@ -178,6 +175,27 @@ fn writes(rt: HostRuntime) -> Result<(), Fail> {
     Ok(())
 }
 
+#[test]
+fn validates(rt: HostRuntime) -> Result<(), Fail> {
+    let alloc = rt.alloc();
+    let repeated = repeated_keys();
+    let rows: [(&[&str], bool); 5] = [
+        (&[], true),
+        (&["k"], true),
+        (&["k", "k"], false),
+        (&KEYS, true),
+        (&repeated, false),
+    ];
+    for (keys, answer) in rows {
+        expect_valid(&rt, &feature_with(alloc, keys)?, answer)?;
+    }
+    // No integers draw this point.
+    let mut far = feature_with(alloc, &KEYS)?;
+    far.geometry = point(alloc, -2_147_483_648, 0)?;
+    expect_valid(&rt, &far, false)?;
+    Ok(())
+}
+
 // The tests of refused growths pass too where one allocation, whichever, is refused: each call has
 // two turns, of which one at most may want memory.
 
@@ -231,6 +249,26 @@ fn refused_writes(rt: HostRuntime) {
             Err(error) => {
                 assert_eq!(rt; error, PoolError::Memory);
                 refused = refused.saturating_add(1);
+            }
+        }
+    }
+    assert!(rt; refused < 2);
+}
+
+#[test]
+fn refused_validations(rt: HostRuntime) {
+    let repeated = repeated_keys();
+    let rows: [(&[&str], bool); 3] = [(&["k", "k"], false), (&KEYS, true), (&repeated, false)];
+    let mut refused = 0u8;
+    for (keys, answer) in rows {
+        for _turn in 0..2 {
+            let Ok(feature) = feature_with(rt.alloc(), keys) else {
+                refused = refused.saturating_add(1);
+                continue;
+            };
+            match validate_feature(rt.alloc(), &feature) {
+                Ok(valid) => assert_eq!(rt; valid, answer),
+                Err(AllocError) => refused = refused.saturating_add(1),
             }
         }
     }

@@ -6,3 +6,5 @@
 mod feature;
 #[cfg(test)]
 mod message;
+#[cfg(test)]
+mod support;

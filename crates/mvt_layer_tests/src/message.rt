@@ -1,14 +1,19 @@
 //! Items read, refused and written.
-use mvt_attrs::{Attribute, Value};
+use crate::support::{KEYS, feature_with, repeated_keys};
 use mvt_base::{Items, Text};
-use mvt_geometry::{Geometry, Point};
+use mvt_geometry::Geometry;
 use mvt_message::*;
 use std::alloc::{AllocError, Global};
 use std::test::Fail;
 
-// A layer `a` with the point (25,17).
+// A layer `a` with the point (25,17); and the same layer named `b`.
 const ONE_POINT: [u8; 17] = [
     0x78, 0x02, 0x0A, 0x01, 0x61, 0x12, 0x07, 0x18, 0x01, 0x22, 0x03, 0x09, 0x32, 0x22, 0x28, 0x80,
+    0x20,
+];
+
+const ONE_POINT_B: [u8; 17] = [
+    0x78, 0x02, 0x0A, 0x01, 0x62, 0x12, 0x07, 0x18, 0x01, 0x22, 0x03, 0x09, 0x32, 0x22, 0x28, 0x80,
     0x20,
 ];
 
@@ -39,23 +44,7 @@ const LONG_TEXTS: &[u8] = b"\x78\x02\x0A\x12a name of 18 bytes\
 
 const FOREIGN: [u8; 5] = [0x78, 0x01, 0x0A, 0x01, 0x61];
 
-// A feature with the point (25,17), and these keys with the value 5 each.
-fn feature_with(alloc: Global, keys: &[&str]) -> Result<Feature, AllocError> {
-    let mut attributes = Vec::with_capacity(alloc, keys.len())?;
-    for key in keys {
-        let key = Text::from_str(alloc, key)?;
-        let value = Value::Uint(5);
-        attributes.push(Attribute { key, value })?;
-    }
-    let points = Vec::from_slice(alloc, &[Point { x: 25, y: 17 }])?;
-    Ok(Feature {
-        id: None,
-        attributes: Items::new(attributes),
-        geometry: Geometry::Points(Items::new(points)),
-    })
-}
-
-// The layer `a` with one such feature.
+// The layer `a` with a feature of the point (25,17), and these keys with the value 5 each.
 fn layer_with(alloc: Global, keys: &[&str]) -> Result<Layer, AllocError> {
     let mut features = Vec::with_capacity(alloc, 1)?;
     features.push(feature_with(alloc, keys)?)?;
@@ -171,6 +160,19 @@ fn reads_and_writes_layers(rt: HostRuntime) -> Result<(), Fail> {
 }
 
 #[test]
+fn copies_layers(rt: HostRuntime) -> Result<(), Fail> {
+    let alloc = rt.alloc();
+    for (payload, name) in [(ONE_POINT, "a"), (ONE_POINT_B, "b")] {
+        let Item::Layer(layer) = item_of(alloc, &payload)? else {
+            return Err(Fail::new("no layer"));
+        };
+        let copy = layer.copy(alloc)?;
+        assert!(rt; copy == layer && copy.name.as_str() == name);
+    }
+    Ok(())
+}
+
+#[test]
 fn carries_foreign_items(rt: HostRuntime) -> Result<(), Fail> {
     let alloc = rt.alloc();
     let item = item_of(alloc, &FOREIGN)?;
@@ -185,6 +187,25 @@ fn carries_foreign_items(rt: HostRuntime) -> Result<(), Fail> {
     assert!(rt; !is_valid_item(&foreign(alloc, 2, &[0x78, 0x02])?));
     assert!(rt; !is_valid_item(&foreign(alloc, 1, &[0x78, 0x03])?));
     assert!(rt; !is_valid_layer(&layer_with(alloc, &["k", "k"])?));
+    Ok(())
+}
+
+#[test]
+fn validates_items(rt: HostRuntime) -> Result<(), Fail> {
+    let alloc = rt.alloc();
+    let rows = [
+        (Item::Layer(layer_with(alloc, &[])?), true),
+        (Item::Layer(layer_with(alloc, &["k", "k"])?), false),
+        (Item::Layer(layer_with(alloc, &KEYS)?), true),
+        (Item::Layer(layer_with(alloc, &repeated_keys())?), false),
+        (foreign(alloc, 1, &FOREIGN)?, true),
+        (foreign(alloc, 2, &[0x78, 0x02])?, false),
+        (foreign(alloc, 1, &[0x78, 0x03])?, false),
+    ];
+    for (item, answer) in &rows {
+        assert_eq!(rt; is_valid_item(item), *answer);
+        assert_eq!(rt; validate_item(alloc, item)?, *answer);
+    }
     Ok(())
 }
 
@@ -481,6 +502,50 @@ fn refused_writes(rt: HostRuntime) {
                     assert_eq!(rt; error, PutError::Memory);
                     refused = refused.saturating_add(1);
                 }
+            }
+        }
+    }
+    assert!(rt; refused < 2);
+}
+
+#[test]
+fn refused_copies(rt: HostRuntime) {
+    let alloc = rt.alloc();
+    let mut refused = 0u8;
+    for payload in [ONE_POINT, ONE_POINT_B] {
+        for _turn in 0..2 {
+            let Ok(item) = read_short(alloc, &payload) else {
+                refused = refused.saturating_add(1);
+                continue;
+            };
+            let Item::Layer(layer) = &item else {
+                assert!(rt; false);
+                return;
+            };
+            match layer.copy(alloc) {
+                Ok(copy) => assert!(rt; copy == *layer),
+                Err(AllocError) => refused = refused.saturating_add(1),
+            }
+        }
+    }
+    assert!(rt; refused < 2);
+}
+
+#[test]
+fn refused_validations(rt: HostRuntime) {
+    let alloc = rt.alloc();
+    let repeated = repeated_keys();
+    let rows: [(&[&str], bool); 3] = [(&["k", "k"], false), (&KEYS, true), (&repeated, false)];
+    let mut refused = 0u8;
+    for (keys, answer) in rows {
+        for _turn in 0..2 {
+            let Ok(layer) = layer_with(alloc, keys) else {
+                refused = refused.saturating_add(1);
+                continue;
+            };
+            match validate_item(alloc, &Item::Layer(layer)) {
+                Ok(valid) => assert_eq!(rt; valid, answer),
+                Err(AllocError) => refused = refused.saturating_add(1),
             }
         }
     }

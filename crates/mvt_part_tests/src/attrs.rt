@@ -112,8 +112,10 @@ fn places_values(rt: HostRuntime) {
 
 #[test]
 fn copies_values(rt: HostRuntime) -> Result<(), Fail> {
-    let text = Value::Text(Text::from_str(rt.alloc(), LONG)?);
-    assert!(rt; text.copy(rt.alloc())? == text);
+    for text in ["k", LONG] {
+        let value = Value::Text(Text::from_str(rt.alloc(), text)?);
+        assert!(rt; value.copy(rt.alloc())? == value);
+    }
     Ok(())
 }
 
@@ -281,15 +283,17 @@ fn refused_repeated_keys(rt: HostRuntime) {
 #[test]
 fn refused_copies(rt: HostRuntime) {
     let mut refused = 0u8;
-    for _turn in 0..2 {
-        let Ok(key) = Text::from_str(rt.alloc(), LONG) else {
-            refused = refused.saturating_add(1);
-            continue;
-        };
-        let text = Value::Text(key);
-        match text.copy(rt.alloc()) {
-            Ok(copy) => assert!(rt; copy == text),
-            Err(AllocError) => refused = refused.saturating_add(1),
+    for text in ["k", LONG] {
+        for _turn in 0..2 {
+            let Ok(text) = Text::from_str(rt.alloc(), text) else {
+                refused = refused.saturating_add(1);
+                continue;
+            };
+            let value = Value::Text(text);
+            match value.copy(rt.alloc()) {
+                Ok(copy) => assert!(rt; copy == value),
+                Err(AllocError) => refused = refused.saturating_add(1),
+            }
         }
     }
     assert!(rt; refused < 2);

@@ -3,6 +3,7 @@ use mvt_base::Items;
 use mvt_geometry::*;
 use mvt_wire::{PackedNumbers, read_packed};
 use std::alloc::{AllocError, Global};
+use std::process::Abort;
 use std::test::Fail;
 
 // The integers of a polygon with two interior rings, the second of them flat.
@@ -10,6 +11,8 @@ const HOLES: [u32; 29] = [
     9, 0, 0, 26, 20, 0, 0, 20, 19, 0, 15, 9, 4, 15, 18, 0, 12, 12, 0, 15, 9, 13, 13, 18, 2, 2, 2,
     2, 15,
 ];
+
+const TWO_POLYGONS: [u32; 18] = [9, 0, 0, 18, 4, 0, 3, 4, 15, 9, 10, 6, 18, 4, 0, 3, 4, 15];
 
 fn line(alloc: Global, points: &[(i32, i32)]) -> Result<Items<Point>, AllocError> {
     let mut line = Vec::new(alloc);
@@ -151,16 +154,15 @@ fn reads_polygons(rt: HostRuntime) -> Result<(), Fail> {
         let expected = Geometry::Polygons(Items::new(polygons));
         assert!(rt; round_trips(alloc, Kind::Polygon, integers, expected)?);
     }
-    let integers = [9, 0, 0, 18, 4, 0, 3, 4, 15, 9, 10, 6, 18, 4, 0, 3, 4, 15];
     let first = polygon(alloc, &[(0, 0), (2, 0), (0, 2)], &[])?;
     let second = polygon(alloc, &[(5, 5), (7, 5), (5, 7)], &[])?;
     let expected = Geometry::Polygons(Items::new(vec![in alloc; first, second]?));
-    assert!(rt; round_trips(alloc, Kind::Polygon, &integers, expected)?);
+    assert!(rt; round_trips(alloc, Kind::Polygon, &TWO_POLYGONS, expected)?);
     Ok(())
 }
 
-#[test]
-fn tells_faults(rt: HostRuntime) {
+// Lists with the place and the cause of their faults.
+fn expect_faults(rt: &(impl Abort + AllocGlobal)) {
     use GeometryCause::*;
     use Kind::{LineString, Point, Polygon};
     let rows: [(Kind, &[u32], usize, GeometryCause); 29] = [
@@ -221,15 +223,24 @@ fn tells_faults(rt: HostRuntime) {
 }
 
 #[test]
+fn tells_faults(rt: HostRuntime) {
+    expect_faults(&rt);
+}
+
+#[test]
 fn measures_and_judges(rt: HostRuntime) -> Result<(), Fail> {
     let alloc = rt.alloc();
-    let rows: [(&[(i32, i32)], i128); 6] = [
+    let rows: [(&[(i32, i32)], i128); 10] = [
         (&[], 0),
         (&[(3, 6), (8, 12), (20, 34)], 38),
         (&[(0, 0), (10, 0), (10, 10), (0, 10)], 200),
         (&[(2, 2), (2, 8), (8, 8)], -36),
         (&[(1, 1), (2, 2), (3, 3)], 0),
         (&[(5, 5), (7, 5), (5, 7)], 4),
+        (&[(0, 0), (2, 0), (0, 2)], 4),
+        (&[(20, 34), (8, 12), (3, 6)], -38),
+        (&[(0, 0), (4, 0), (0, 4), (0, 0)], 16),
+        (&[(0, 0), (1, 0), (0, 0)], 0),
     ];
     for (points, twice) in rows {
         assert_eq!(rt; twice_area(line(alloc, points)?.as_slice()), twice);
@@ -248,11 +259,14 @@ fn measures_and_judges(rt: HostRuntime) -> Result<(), Fail> {
 
 const TWO_LINES: [u32; 14] = [9, 4, 4, 18, 0, 16, 16, 0, 9, 17, 17, 10, 4, 8];
 
-// Two lines, one polygon, far points, rings and holes, and integers of no known type.
-const DRAWN: [(Kind, &[u32]); 6] = [
+// Two lines, one polygon and two, far points, rings and holes, and integers of no known type.
+const DRAWN: [(Kind, &[u32]); 9] = [
     (Kind::LineString, &TWO_LINES),
     (Kind::Polygon, &[9, 6, 12, 18, 10, 12, 24, 44, 15]),
+    (Kind::Polygon, &TWO_POLYGONS),
+    (Kind::Point, &[9, 2_147_483_646, 2_147_483_647]),
     (Kind::Point, &[9, 2_147_483_648, 0]),
+    (Kind::Point, &[9, 0, 2_147_483_648]),
     (Kind::Point, &[17, 4_294_967_294, 0, 4_294_967_293, 0]),
     (Kind::Polygon, &HOLES),
     (Kind::Unknown, &[1, 2, 3]),
@@ -277,17 +291,8 @@ fn refused_reads(rt: HostRuntime) {
 
 #[test]
 fn refused_faults(rt: HostRuntime) {
-    let rows: [(Kind, &[u32], usize); 3] = [
-        (Kind::LineString, &[9, 0, 0, 4_294_967_290, 2, 0], 3),
-        (Kind::Polygon, &[9, 0, 0, 4_294_967_290, 2, 0], 3),
-        (Kind::Point, &[4_294_967_289, 0, 0], 0),
-    ];
-    for (kind, integers, index) in rows {
-        let cause = GeometryCause::Parameters;
-        let error = read_geometry(rt.alloc(), kind, integers).err();
-        assert_eq!(rt; error, Some(GeometryError::Fault { index, cause }));
-    }
-    // No list above asks for memory: the first that is refused is asked for here.
+    expect_faults(&rt);
+    // None of those lists asks for memory: the first that is refused is asked for here.
     match read_geometry(rt.alloc(), Kind::Polygon, &HOLES) {
         Ok(read) => assert!(rt; kind_of(&read) == Kind::Polygon),
         Err(error) => assert_eq!(rt; error, GeometryError::Memory),
