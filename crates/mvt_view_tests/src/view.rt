@@ -268,7 +268,8 @@ fn lists_fields(rt: HostRuntime) -> Result<(), Fail> {
     let fixed = b"\x0D\x01\x00\x00\x00\x09\x02\x00\x00\x00\x00\x00\x00\x00";
     expect_fields(&rt, fixed, "0 1 i32 1\n5 1 i64 2\n", None);
     expect_fields(&rt, b"", "", None);
-    let broken: [(&[u8], &str, u64, Cause); 6] = [
+    let broken: [(&[u8], &str, u64, Cause); 7] = [
+        (b"\x1A", "", 0, Cause::Truncated),
         (b"\x20\x05\x1A", "0 4 varint 5\n", 2, Cause::Truncated),
         (
             b"\x20\x80\x80\x80\x80\x80\x80\x80\x80\x80\x02",
