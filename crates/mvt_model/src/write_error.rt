@@ -1,5 +1,6 @@
 //! Why a tile can't be written.
 use mvt_message::PutError;
+use std::alloc::AllocError;
 use std::io::ErrorKind;
 use thiserror::Error;
 
@@ -14,6 +15,17 @@ pub enum WriteError {
     /// A write that failed, or that took nothing (`WriteZero`).
     #[error("a write failed")]
     Write(ErrorKind),
+}
+
+impl From<AllocError> for WriteError {
+    ghost use Rattle.std.specs.Prelude.{◌≡◌};
+    ghost use Rattle.mvt_model.specs.declared.write_error.WriteError.TheVariants.{Memory};
+
+    ghost from_gives = { λ _ error. error ≡ Memory };
+
+    fn from(_: AllocError) -> Self {
+        WriteError::Memory
+    }
 }
 
 impl From<PutError> for WriteError {

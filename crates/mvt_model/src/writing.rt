@@ -1,5 +1,5 @@
 //! Writing a tile as its canonical bytes.
-ghost use Rattle.std.specs.Prelude.{◌≡◌, ◌↔◌, ◌+◌, ◌<◌, ◌≤◌, ◌++◌, true, length, map, IfOk, IfErr, IfSome, IfNone, IsErrOf, IsTrue, OnOk, OnErr};
+ghost use Rattle.std.specs.Prelude.{◌≡◌, ◌↔◌, ◌+◌, ◌<◌, ◌≤◌, ◌++◌, Some, true, length, map, IfOk, IfErr, IfSome, IfNone, IsErrOf, IsTrue, OnOk, OnErr};
 ghost use Rattle.std.specs.Io.KnownBytes.{Appends};
 ghost use Rattle.std.specs.List.{AllByRecursion};
 ghost use Rattle.mvt_io.specs.Counts.{HasFailed};
@@ -21,8 +21,9 @@ use crate::write_error::WriteError;
 use mvt_base::LIMIT;
 use mvt_io::{Sink, write_all};
 use mvt_message::{Item, PutError, item_len, put_item, room_behind_item};
-use mvt_wire::{Payload, field_len, put_field};
+use mvt_wire::{Payload, field_len, put_field, put_field_head};
 use std::alloc::Global;
+use std::io::ErrorKind;
 
 /// The canonical bytes of a tile.
 ///
@@ -158,7 +159,7 @@ fn write_items<W: Sink>(alloc: Global, items: &[Item], writer: &mut W) -> Result
     Ok(())
 }
 
-/// Makes the field of an item, and writes it.
+/// Makes the payload of an item, and writes its field.
 #[tactic(auto, using(mvt_io::proofs::IoLaws::nothing_is_a_prefix))]
 fn write_item<W: Sink>(alloc: Global, item: &Item, writer: &mut W) -> Result<(), WriteError>
     requires { ValidItem item.now }
@@ -175,12 +176,29 @@ fn write_item<W: Sink>(alloc: Global, item: &Item, writer: &mut W) -> Result<(),
     ensures kind { IfErr result (λ error. IsWriteKind error (W.fault writer.new)) }
     ensures flushes { W.flushes writer.new ≡ W.flushes writer.old }
 {
-    let mut field = Vec::new(alloc);
-    append_item(alloc, &mut field, item)?;
-    match write_all(writer, field.as_slice()) {
+    let payload = put_item(alloc, item)?;
+    let mut head = Vec::new(alloc);
+    put_field_head(&mut head, tile::LAYERS, payload.len() as u64)?;
+    match write_both(writer, head.as_slice(), payload.as_slice()) {
         Ok(()) => Ok(()),
         Err(kind) => Err(WriteError::Write(kind)),
     }
+}
+
+/// Writes what stands before a payload, and then the payload.
+fn write_both<W: Sink>(writer: &mut W, head: &[u8], payload: &[u8]) -> Result<(), ErrorKind>
+    ensures taken { OnOk result
+        (Appends (W.taken writer.old) (W.taken writer.new) (head.now ++ payload.now)) }
+    ensures honest { OnOk result (W.failed writer.new ≡ W.failed writer.old) }
+    ensures prefix { OnErr result
+        (TakesPrefix (W.taken writer.old) (W.taken writer.new) (head.now ++ payload.now)) }
+    ensures failed { OnErr result (HasFailed (W.failed writer.old) (W.failed writer.new)) }
+    ensures ended { OnErr result (W.ended writer.new ≡ true) }
+    ensures kind { IfErr result (λ kind. W.fault writer.new ≡ Some kind) }
+    ensures flushes { W.flushes writer.new ≡ W.flushes writer.old }
+{
+    write_all(writer, head)?;
+    write_all(writer, payload)
 }
 
 /// Appends the field of an item.
