@@ -62,19 +62,32 @@ written_within items i =
     ∙ length-append (written (take i items)) (written (drop i items)) in
     omega arith
 
--- an item's payload has fewer bytes than the whole
-pub payload_within : (items : List Item) (i : ℕ) (item : Item) → i < length items → item ≡ get_or items i item
-    → length (canonical_item item) ≤ length (written items)
-payload_within items i item h is =
+-- an item's field has no more bytes than the whole
+pub field_within : (items : List Item) (i : ℕ) (item : Item) → i < length items → item ≡ get_or items i item
+    → length (field_of item) ≤ length (written items)
+field_within items i item h is =
     let size = ap length (written_parts items i item h is) in
     let outer = length-append (written (take i items)) (field_of item ++ written (drop (i + 1) items)) in
     let inner = length-append (field_of item) (written (drop (i + 1) items)) in
+    omega arith
+
+-- its payload has fewer
+pub payload_within : (items : List Item) (i : ℕ) (item : Item) → i < length items → item ≡ get_or items i item
+    → length (canonical_item item) ≤ length (written items)
+payload_within items i item h is =
+    let field = field_within items i item h is in
     let longer = short_lengths_bytes LAYERS (canonical_item item) in
     omega arith
 
 pub canonical_is : (tile : Tile) (items : List Item) → items ≡ tile.items → canonical tile ≡ written items
 unfolding canonical
 canonical_is tile items is = ap written (sym is)
+
+pub only_is : (tile : Tile) (items : List Item) (item : Item) → items ≡ tile.items → 0 < length items → length items ≤ 1
+    → item ≡ get_or items 0 item
+    → canonical tile ≡ field_of item
+only_is tile items item is some few at =
+    canonical_is tile items is ∙ sym (written_all items 1 few) ∙ written_more items 0 item some at
 
 pub encoded_reads : {V E : Type 0} → (tile : Tile) (of : V → List ℕ) (r : Result V E) → Valid tile → IfOk r (λ b. of b ≡ canonical tile)
     → IfOk r (λ b. length (of b) ≤ LIMIT)

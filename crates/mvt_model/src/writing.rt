@@ -41,8 +41,8 @@ pub fn encode(alloc: Global, tile: &Tile) -> Result<Vec<u8>, PutError>
 }
 
 /// Has a writer take the canonical bytes of a tile: one item after the other is made and written. Where
-/// a quick bound of their length is beyond the limit, the lengths of all items are added up first. The
-/// writer isn't flushed.
+/// there are several and a quick bound of their length is beyond the limit, the lengths of all items are
+/// added up first. The writer isn't flushed.
 ///
 /// # Errors
 ///
@@ -64,6 +64,9 @@ pub fn write_tile<W: Sink>(alloc: Global, tile: &Tile, writer: &mut W) -> Result
     ensures flushes { W.flushes writer.new ≡ W.flushes writer.old }
 {
     let items = tile.items.as_slice();
+    if let [item] = items {
+        return write_item(alloc, item, writer);
+    }
     if !are_surely_small(items) {
         items_len(alloc, items)?;
     }
@@ -159,14 +162,16 @@ fn write_items<W: Sink>(alloc: Global, items: &[Item], writer: &mut W) -> Result
     Ok(())
 }
 
-/// Makes the payload of an item, and writes its field.
+/// Makes the payload of an item, and writes its field where that is within the limit.
 #[tactic(auto, using(mvt_io::proofs::IoLaws::nothing_is_a_prefix))]
 fn write_item<W: Sink>(alloc: Global, item: &Item, writer: &mut W) -> Result<(), WriteError>
     requires { ValidItem item.now }
     ensures taken { OnOk result (Appends (W.taken writer.old) (W.taken writer.new)
         (short_field LAYERS (bytes (canonical_item item.now)))) }
+    ensures small { OnOk result (length (short_field LAYERS (bytes (canonical_item item.now))) ≤ LIMIT) }
     ensures honest { OnOk result (W.failed writer.new ≡ W.failed writer.old) }
-    ensures too_large { IsErrOf result WriteError.TooLarge → LIMIT < length (canonical_item item.now) }
+    ensures too_large { IsErrOf result WriteError.TooLarge
+        → (LIMIT < length (short_field LAYERS (bytes (canonical_item item.now)))) × (writer.new ≡ writer.old) }
     ensures prefix { OnErr result (TakesPrefix (W.taken writer.old) (W.taken writer.new)
         (short_field LAYERS (bytes (canonical_item item.now)))) }
     ensures failed { IfErr result (λ error. IsWriteFault error
@@ -177,8 +182,12 @@ fn write_item<W: Sink>(alloc: Global, item: &Item, writer: &mut W) -> Result<(),
     ensures flushes { W.flushes writer.new ≡ W.flushes writer.old }
 {
     let payload = put_item(alloc, item)?;
+    let len = payload.len() as u64;
+    if field_len(tile::LAYERS, len) > LIMIT {
+        return Err(WriteError::TooLarge);
+    }
     let mut head = Vec::new(alloc);
-    put_field_head(&mut head, tile::LAYERS, payload.len() as u64)?;
+    put_field_head(&mut head, tile::LAYERS, len)?;
     match write_both(writer, head.as_slice(), payload.as_slice()) {
         Ok(()) => Ok(()),
         Err(kind) => Err(WriteError::Write(kind)),

@@ -1,7 +1,7 @@
 use Rattle.std.proofs.Common.{◌≤◌, length, refl, arith}
 use Rattle.mvt_base.specs.declared.TheConstants.{LIMIT}
 use Rattle.std.proofs.lemmas.Result.{err_from_is_err_and}
-use Rattle.mvt_model.proofs.WritingLemmas.{written, canonical_is, on_ok, put_large}
+use Rattle.mvt_model.proofs.WritingLemmas.{written, canonical_is, on_ok, only_is, put_large}
 use Rattle.mvt_model.proofs.writing.write_tile.Goals as goal
 use Rattle.mvt_model.proofs.writing.write_tile.Goals.{then-not-are_surely_small+in_ok-items_len, else-not-are_surely_small}
 
@@ -33,3 +33,23 @@ returns-clause-small g c =
 pub returns-clause-prefix : goal.returns-clause-prefix
 returns-clause-prefix g c =
     rw (canonical_is c.args.tile.now c.as_slice-items.result.now c.as_slice-items.ensures) c.write_items.ensures.prefix
+
+pub returns-in-len1-clause-taken : goal.returns-in-len1-clause-taken
+returns-in-len1-clause-taken g c =
+    rw (only_is c.args.tile.now c.as_slice-items.result.now c.item-item.result c.as_slice-items.ensures
+    (omega (arith, c.in-len1.len_at_least)) (omega (arith, c.in-len1.len_below)) c.item-item.is) c.write_item.ensures.taken
+
+pub returns-in-len1-clause-small : goal.returns-in-len1-clause-small
+returns-in-len1-clause-small g c =
+    rw (only_is c.args.tile.now c.as_slice-items.result.now c.item-item.result c.as_slice-items.ensures
+    (omega (arith, c.in-len1.len_at_least)) (omega (arith, c.in-len1.len_below)) c.item-item.is) c.write_item.ensures.small
+
+pub returns-in-len1-clause-too_large : goal.returns-in-len1-clause-too_large
+returns-in-len1-clause-too_large g c =
+    rw (only_is c.args.tile.now c.as_slice-items.result.now c.item-item.result c.as_slice-items.ensures
+    (omega (arith, c.in-len1.len_at_least)) (omega (arith, c.in-len1.len_below)) c.item-item.is) c.write_item.ensures.too_large
+
+pub returns-in-len1-clause-prefix : goal.returns-in-len1-clause-prefix
+returns-in-len1-clause-prefix g c =
+    rw (only_is c.args.tile.now c.as_slice-items.result.now c.item-item.result c.as_slice-items.ensures
+    (omega (arith, c.in-len1.len_at_least)) (omega (arith, c.in-len1.len_below)) c.item-item.is) c.write_item.ensures.prefix
