@@ -11,7 +11,7 @@ use indexmap::IndexSet;
 use std::alloc::{AllocError, Global};
 
 /// The most entries that are searched one by one.
-const FEW: usize = 8;
+const FEW: usize = 16;
 
 /// The most entries that are hashed, as texts can be chosen that all have one hash.
 const MANY: usize = 32;

@@ -13,6 +13,9 @@ use mvt_base::LIMIT;
 use std::alloc::{AllocError, Global};
 use std::marker::Model;
 
+/// How many entries a pool has room for once it holds one: that of a small layer never grows.
+const FIRST_ROOM: usize = 16;
+
 /// Entries, each once, in order of first use.
 ///
 /// Few are searched one by one, more are hashed, and of many those whose two slots are taken are
@@ -123,7 +126,7 @@ fn append<T: Entry>(
 {
     let alloc = *entries.allocator();
     let copy = entry.copied(alloc)?;
-    entries.reserve(1)?;
+    entries.reserve(if entries.is_empty() { FIRST_ROOM } else { 1 })?;
     note(alloc, finder, entries, entry, slot)?;
     entries.push_reserved(copy);
     Ok(())
