@@ -1,3 +1,4 @@
+mod InlineLemmas
 pub mod RuleLemmas
 pub mod OrderLemmas
 pub mod ListLemmas

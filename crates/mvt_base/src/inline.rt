@@ -1,12 +1,13 @@
 //! A short text, kept in place.
-ghost use Rattle.std.specs.Prelude.{◌≡◌, ◌≤◌, length, IsUtf8};
+ghost use Rattle.std.specs.Prelude.{◌≡◌, ◌≤◌, length, bytes_eq, IsUtf8};
 
 use std::marker::Model;
 
 /// The most bytes of a text that is kept in place.
 pub const ROOM: usize = 14;
 
-/// A text of at most `ROOM` bytes: the front of an array.
+/// A text of at most `ROOM` bytes: the front of an array, and zeros behind it, so that two texts
+/// are compared as texts of one length that the compiler knows.
 #[derive(Drop)]
 pub(crate) struct Inline {
     len: u8,
@@ -14,14 +15,15 @@ pub(crate) struct Inline {
 }
 
 impl Model for Inline {
-    ghost use Rattle.std.specs.Prelude.{List, ℕ, ◌≤◌, take, IsUtf8};
+    ghost use Rattle.std.specs.Prelude.{List, ℕ, ◌≡◌, ◌≤◌, take, get_or, IsUtf8};
     ghost use Rattle.mvt_base.specs.declared.inline.TheConstants.{ROOM};
 
     ghost Value = { List ℕ };
 
     ghost view = { λ t. take t.len t.bytes };
 
-    ghost invariant = { λ t. (t.len ≤ ROOM) × IsUtf8 (take t.len t.bytes) };
+    ghost invariant = { λ t. (t.len ≤ ROOM) × IsUtf8 (take t.len t.bytes)
+        × ((k : ℕ) → t.len ≤ k → get_or t.bytes k 0 ≡ 0) };
 }
 
 impl Inline {
@@ -45,6 +47,16 @@ impl Inline {
     {
         let bytes = &self.bytes[..self.len as usize];
         unsafe { std::str::from_utf8_unchecked(bytes) }
+    }
+
+    /// Whether two texts are the same.
+    #[inline(always)]
+    pub(crate) fn is(&self, other: &Inline) -> bool
+        ensures { result ≡ bytes_eq self.now other.now }
+    {
+        let one = unsafe { std::str::from_utf8_unchecked(&self.bytes) };
+        let two = unsafe { std::str::from_utf8_unchecked(&other.bytes) };
+        self.len == other.len && *one == *two
     }
 
     #[inline(always)]

@@ -1,5 +1,5 @@
 //! A text that contracts see as its bytes.
-ghost use Rattle.std.specs.Prelude.{◌≡◌, ◌≤◌, length, IfOk, IsOk, string_bytes, IsUtf8};
+ghost use Rattle.std.specs.Prelude.{◌≡◌, ◌≤◌, length, bytes_eq, IfOk, IsOk, string_bytes, IsUtf8};
 ghost use Rattle.std.specs.Arc.{arc_str_bytes};
 
 use crate::inline::{Inline, ROOM};
@@ -127,9 +127,20 @@ impl PartialEq for Text {
 
     ghost laws = { Prim.search (comparing, rules) };
 
+    #[inline(always)]
     fn eq(&self, other: &Self) -> bool {
-        self.as_str() == other.as_str()
+        match (&self.repr, &other.repr) {
+            (Repr::Short(one), Repr::Short(other)) => one.is(other),
+            _ => are_same(self.as_str(), other.as_str()),
+        }
     }
+}
+
+#[inline(never)]
+fn are_same(one: &str, other: &str) -> bool
+    ensures { result ≡ bytes_eq one.now other.now }
+{
+    one == other
 }
 
 impl Eq for Text {
