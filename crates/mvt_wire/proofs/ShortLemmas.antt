@@ -1,5 +1,5 @@
 -- The shortest spelling of a number.
-use Rattle.std.proofs.Common.{◌≡◌, ℕ, zero, suc, ◌+◌, ◌-◌, ◌*◌, ◌/◌, ◌%◌, ◌^◌, ◌<◌, ◌≤◌, max, ◌++◌, take, set, append_assoc, inl, inr, cond, List, [], ◌∷◌, length, get_or, refl, sym, ap, subst, ◌∙◌, arith, pow-suc, lt-ltb, le-ltb, mod-eq_of_lt}
+use Rattle.std.proofs.Common.{◌≡◌, ℕ, zero, suc, ◌+◌, ◌-◌, ◌*◌, ◌/◌, ◌%◌, ◌^◌, ◌<◌, ◌≤◌, ◌++◌, take, set, append_assoc, inl, inr, cond, List, [], ◌∷◌, length, get_or, refl, sym, ap, subst, ◌∙◌, arith, pow-suc, lt-ltb, le-ltb, mod-eq_of_lt}
 use Rattle.std.proofs.lemmas.Bool.{cases_lt}
 use Rattle.std.proofs.lemmas.Nat.{mod_below, div_below, pow_pos, le-div}
 use Rattle.std.proofs.lemmas.List.{take_more_set}
@@ -233,7 +233,7 @@ unfolding short
 short_is_two n large small = short_more 8 n large ∙ ap (λ s. (n % 128 + 128) ∷ s) (short_one 8 (n / 128) (omega arith))
 
 -- the length from the highest bit
-pub short_len : (n j : ℕ) → j < 64 → 2 ^ j ≤ max n 1 → max n 1 < 2 * 2 ^ j → j / 7 + 1 ≡ length (short n)
+pub short_len : (n j : ℕ) → j < 64 → 2 ^ j ≤ n → n < 2 * 2 ^ j → j / 7 + 1 ≡ length (short n)
 unfolding short
 short_len n j fits least most =
     let double : 2 ^ suc j ≡ 2 ^ j * 2 = pow-suc 2 j in
@@ -286,3 +286,6 @@ short_within_is n = refl
 
 pub short_length_one : (n : ℕ) → n < 128 → length (short n) ≡ 1
 short_length_one n small = ap length (short_is_one n small)
+
+pub short_length_two : (n : ℕ) → 128 ≤ n → n < 2 ^ 14 → length (short n) ≡ 2
+short_length_two n large small = ap length (short_is_two n large small)

@@ -66,7 +66,13 @@ pub fn varint_len(number: u64) -> usize
     ensures some { 1 ≤ result }
     ensures most { result ≤ 10 }
 {
-    number.max(1).ilog2() as usize / 7 + 1
+    if number < 1 << 7 {
+        return 1;
+    }
+    if number < 1 << 14 {
+        return 2;
+    }
+    number.ilog2() as usize / 7 + 1
 }
 
 /// Appends the shortest spelling of a number.
