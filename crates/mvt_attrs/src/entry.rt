@@ -1,5 +1,5 @@
 //! What a pool can hold.
-ghost use Rattle.std.specs.Prelude.{◌≡◌, IfOk, Decides};
+ghost use Rattle.std.specs.Prelude.{◌≡◌, ◌↔◌, IfOk, IsTrue, Decides};
 
 use crate::value::Value;
 use mvt_base::Text;
@@ -16,6 +16,14 @@ pub trait Entry: Ord + Hash + Drop {
     fn copied(&self, alloc: Global) -> Result<Self, AllocError>
         ensures { IfOk result (λ copy. copy ≡ self.now) };
 
+    /// Whether two entries are one.
+    fn is(&self, other: &Self) -> bool
+        ensures { IsTrue result ↔ (self.now ≡ other.now) };
+
+    /// Up to how many entries are hashed by `indexmap`, once they are too many to be searched one
+    /// by one.
+    fn most_hashed() -> usize;
+
     ghost identical: { (x y : Self) → Decides (Self.eq x y) (x ≡ y) };
 }
 
@@ -25,6 +33,17 @@ impl Entry for Text {
     #[inline(always)]
     fn copied(&self, alloc: Global) -> Result<Self, AllocError> {
         self.copy(alloc)
+    }
+
+    #[inline(always)]
+    fn is(&self, other: &Self) -> bool {
+        self == other
+    }
+
+    /// Keys are found again and again.
+    #[inline(always)]
+    fn most_hashed() -> usize {
+        48
     }
 
     ghost identical = { Prim.search rules };
@@ -38,5 +57,33 @@ impl Entry for Value {
         self.copy(alloc)
     }
 
+    /// Most entries that are passed over are of another kind, or numbers.
+    #[inline(always)]
+    fn is(&self, other: &Self) -> bool {
+        match (self, other) {
+            (Value::Text(one), Value::Text(other)) => are_same(one, other),
+            (Value::Float(one), Value::Float(other)) => one == other,
+            (Value::Double(one), Value::Double(other)) => one == other,
+            (Value::Int(one), Value::Int(other)) => one == other,
+            (Value::Uint(one), Value::Uint(other)) => one == other,
+            (Value::Sint(one), Value::Sint(other)) => one == other,
+            (Value::Bool(one), Value::Bool(other)) => one == other,
+            _ => false,
+        }
+    }
+
+    /// Most values are new: an `IndexSet` would hash each twice, and keep a copy.
+    #[inline(always)]
+    fn most_hashed() -> usize {
+        0
+    }
+
     ghost identical = { Prim.search rules };
+}
+
+#[inline(never)]
+fn are_same(one: &Text, other: &Text) -> bool
+    ensures { IsTrue result ↔ (one.now ≡ other.now) }
+{
+    one == other
 }

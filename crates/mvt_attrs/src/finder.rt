@@ -11,10 +11,7 @@ use indexmap::IndexSet;
 use std::alloc::{AllocError, Global};
 
 /// The most entries that are searched one by one.
-const FEW: usize = 16;
-
-/// The most entries that are hashed, as texts can be chosen that all have one hash.
-const MANY: usize = 32;
+const FEW: usize = 32;
 
 /// With fewer slots for an entry than these, slots are made anew.
 const LEAST_ROOM: usize = 4;
@@ -48,13 +45,14 @@ fn search<T: Entry>(entries: &[T], entry: &T) -> Option<usize>
     ensures { IsPlaceOf entries.now entry.now result }
 {
     for index in 0..entries.len() {
-        if entries[index] == *entry {
+        if entries[index].is(entry) {
             return Some(index);
         }
     }
     None
 }
 
+#[inline(never)]
 fn look_up<T: Entry>(places: &IndexSet<T>, entry: &T) -> Option<usize>
     ensures { IsPlaceOf places.now.keys entry.now result }
 {
@@ -92,19 +90,20 @@ pub(crate) fn note<T: Entry>(
 fn is_outgrown<T: Entry>(finder: &Finder<T>, count: usize) -> bool {
     match finder {
         Finder::Plain => count >= FEW,
-        Finder::Hashed(_) => count >= MANY,
+        Finder::Hashed(_) => count >= T::most_hashed(),
         Finder::Spread(spread) => count >= spread.slots.len() / LEAST_ROOM,
     }
 }
 
 /// The form for these entries and a new one behind them.
+#[inline(never)]
 fn grown<T: Entry>(alloc: Global, entries: &[T], entry: &T) -> Result<Finder<T>, AllocError>
     requires distinct { AreDistinct entries.now }
     requires new { ¬ (Contains entries.now entry.now) }
     requires few { length entries.now + 1 < 2 ^ 32 }
     ensures { IfOk result (λ finder. Knows T.cmp T.hash_input finder (entries.now ++ entry.now ∷ [])) }
 {
-    if entries.len() < MANY {
+    if entries.len() < T::most_hashed() {
         let mut places = hashed(alloc, entries)?;
         add_hashed(&mut places, entry.copied(alloc)?)?;
         return Ok(Finder::Hashed(places));
@@ -114,15 +113,29 @@ fn grown<T: Entry>(alloc: Global, entries: &[T], entry: &T) -> Result<Finder<T>,
     Ok(Finder::Spread(spread))
 }
 
+/// These entries, and room for as many as are hashed.
 fn hashed<T: Entry>(alloc: Global, entries: &[T]) -> Result<IndexSet<T>, AllocError>
     requires { AreDistinct entries.now }
     ensures { IfOk result (λ places. places.keys ≡ entries.now) }
 {
-    let mut places = IndexSet::new(alloc);
-    for entry in entries {
-        add_hashed(&mut places, entry.copied(alloc)?)?;
-    }
+    let mut places = IndexSet::with_capacity(alloc, T::most_hashed())?;
+    add_all(alloc, &mut places, entries)?;
     Ok(places)
+}
+
+fn add_all<T: Entry>(
+    alloc: Global,
+    places: &mut IndexSet<T>,
+    entries: &[T],
+) -> Result<(), AllocError>
+    requires empty { places.old.keys ≡ [] }
+    requires distinct { AreDistinct entries.now }
+    ensures { OnOk result (places.new.keys ≡ entries.now) }
+{
+    for entry in entries {
+        add_hashed(places, entry.copied(alloc)?)?;
+    }
+    Ok(())
 }
 
 fn add_hashed<T: Entry>(places: &mut IndexSet<T>, entry: T) -> Result<(), AllocError>

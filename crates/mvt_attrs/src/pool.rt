@@ -80,6 +80,7 @@ impl<T: Entry> Pool<T> {
     /// # Errors
     ///
     /// When memory runs out, or the pool is full and the entry is new; the pool is then as it was.
+    #[inline(never)]
     pub fn place(&mut self, entry: &T) -> Result<u32, PoolError>
         ensures { IsPlaced self.old self.new entry.now result }
     {
@@ -96,6 +97,7 @@ impl<T: Entry> Pool<T> {
     }
 
     /// `place`, where the entry may stand at this place: that is tried first.
+    #[inline(always)]
     pub(crate) fn place_near(&mut self, entry: &T, guess: Option<&u32>) -> Result<u32, PoolError>
         ensures { IsPlaced self.old self.new entry.now result }
     {

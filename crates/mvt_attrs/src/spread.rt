@@ -78,7 +78,7 @@ pub(crate) fn is_at<T: Entry>(entries: &[T], index: usize, entry: &T) -> bool
     ensures { IsTrue result ↔ (slice_get entries.now index ≡ Some entry.now) }
 {
     match entries.get(index) {
-        Some(there) => *there == *entry,
+        Some(there) => there.is(entry),
         None => false,
     }
 }
