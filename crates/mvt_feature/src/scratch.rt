@@ -1,6 +1,6 @@
 //! Lists that are used again from feature to feature.
 use mvt_wire::PackedNumbers;
-use std::alloc::Global;
+use std::alloc::{AllocError, Global};
 
 /// Lists for the tags and the integers of a feature while it is read or written.
 ///
@@ -24,6 +24,9 @@ pub struct Scratch {
     pub(crate) drawing: PackedNumbers,
 }
 
+/// How many tags and integers a scratch for writing has room for at first.
+const FIRST_ROOM: usize = 32;
+
 impl Scratch {
     /// A scratch that has taken no memory yet.
     pub fn new(alloc: Global) -> Self {
@@ -33,5 +36,18 @@ impl Scratch {
             integers: Vec::new(alloc),
             drawing: PackedNumbers::new(alloc),
         }
+    }
+
+    /// A scratch for writing, whose lists needn't grow for a small feature.
+    ///
+    /// # Errors
+    ///
+    /// When memory runs out.
+    pub fn with_room(alloc: Global) -> Result<Self, AllocError> {
+        let mut scratch = Scratch::new(alloc);
+        scratch.tags.reserve(FIRST_ROOM)?;
+        scratch.last.reserve(FIRST_ROOM)?;
+        scratch.drawing.reserve(FIRST_ROOM)?;
+        Ok(scratch)
     }
 }

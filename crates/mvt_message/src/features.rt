@@ -31,7 +31,7 @@ struct LayerFeatures {
 }
 
 /// The features of a layer with these keys and values, which are built where they are to be kept,
-/// and only judged otherwise.
+/// and only judged otherwise. The list has room for `room` of them at first.
 pub(crate) fn read_features(
     alloc: Global,
     payload: &[u8],
@@ -39,6 +39,7 @@ pub(crate) fn read_features(
     keys: &[Text],
     values: &LayerValues,
     keeps: bool,
+    room: usize,
 ) -> Result<Vec<Feature>, MessageError>
     requires small { length payload.now < 2 ^ 32 }
     requires fits { payload_at + length payload.now < 2 ^ 64 }
@@ -57,7 +58,7 @@ pub(crate) fn read_features(
     let mut scratch = Scratch::new(alloc);
     let mut features = LayerFeatures {
         count: 0,
-        kept: Vec::new(alloc),
+        kept: Vec::with_capacity(alloc, room)?,
     };
     for field in Fields::new(payload) {
         match field {

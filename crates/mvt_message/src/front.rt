@@ -8,6 +8,7 @@ ghost use Rattle.mvt_message.specs.LayerFields.{version_in};
 ghost use Rattle.mvt_message.specs.Inner.{head_fault, IsFront};
 
 use crate::head::{Head, take_head};
+use crate::numbers::layer;
 use crate::values::{LayerValues, take_value};
 use crate::version::{take_version, version_of};
 use mvt_feature::{MessageError, rest_fault};
@@ -22,6 +23,8 @@ pub(crate) struct Front<'a> {
     pub(crate) head_fault: Option<MessageError>,
     pub(crate) values: LayerValues,
     pub(crate) values_fault: Option<MessageError>,
+    /// How many features there are, which is only a hint.
+    pub(crate) features: usize,
 }
 
 /// The version of a payload, and what its fields say in a layer of version 2. The values are built
@@ -45,6 +48,7 @@ pub(crate) fn read_front<'a>(
     let mut head_fault = None;
     let mut values = LayerValues::new(alloc);
     let mut values_fault = None;
+    let mut features = 0usize;
     for field in Fields::new(payload) {
         match field {
             Ok(field) => {
@@ -58,6 +62,7 @@ pub(crate) fn read_front<'a>(
                     payload_at,
                     keeps,
                 );
+                features = features.saturating_add(usize::from(field.number == layer::FEATURES));
             }
             Err(fault) => return Err(rest_fault(payload_at, fault)),
         }
@@ -68,6 +73,7 @@ pub(crate) fn read_front<'a>(
         head_fault,
         values,
         values_fault,
+        features,
     };
     Ok((version, front))
 }

@@ -14,8 +14,8 @@ use mvt_feature::{Feature, Scratch, append_feature, append_value, value_len};
 use mvt_wire::{Payload, put_field, put_field_head};
 use std::alloc::{AllocError, Global};
 
-/// How many bytes a payload has room for at first: a small one never grows.
-pub(crate) const FIRST_ROOM: usize = 256;
+/// How many bytes a feature's payload has room for at first: a small one never grows.
+const FEATURE_ROOM: usize = 256;
 
 /// Appends the version and the name.
 pub(crate) fn put_head(out: &mut Vec<u8>, name: &str) -> Result<(), AllocError>
@@ -45,8 +45,8 @@ pub(crate) fn put_features(
         + length (spelled (map (feature_field (keys_of features.now) (values_of features.now)) features.now)))
         ⊎ (LIMIT ≤ length (keys_of features.now)) ⊎ (LIMIT ≤ length (values_of features.now)) }
 {
-    let mut scratch = Scratch::new(alloc);
-    let mut payload = Vec::with_capacity(alloc, FIRST_ROOM)?;
+    let mut scratch = Scratch::with_room(alloc)?;
+    let mut payload = Vec::with_capacity(alloc, FEATURE_ROOM)?;
     for feature in features {
         payload.clear();
         append_feature(&mut payload, feature, keys, values, &mut scratch)?;

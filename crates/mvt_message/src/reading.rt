@@ -130,6 +130,7 @@ fn read_parts<'a>(
         head_fault,
         values,
         values_fault,
+        features: room,
     } = front;
     if let Some(error) = head_fault {
         return Err(error);
@@ -141,7 +142,8 @@ fn read_parts<'a>(
     if let Some(error) = values_fault {
         return Err(error);
     }
-    let features = read_features(alloc, payload, payload_at, &head.keys, &values, keeps)?;
+    let room = if keeps { room } else { 0 };
+    let features = read_features(alloc, payload, payload_at, &head.keys, &values, keeps, room)?;
     Ok(LayerParts {
         name,
         extent: head.extent,

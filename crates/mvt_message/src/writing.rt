@@ -6,12 +6,15 @@ ghost use Rattle.mvt_message.specs.ValidItems.{ValidItem, ValidLayer};
 
 use crate::item::{Item, Layer};
 use crate::layer_len::layer_len;
-use crate::layer_writing::{FIRST_ROOM, put_extent, put_features, put_head, put_keys, put_values};
+use crate::layer_writing::{put_extent, put_features, put_head, put_keys, put_values};
 use mvt_attrs::{KeyPool, PoolError, ValuePool};
 use mvt_base::LIMIT;
 use std::alloc::{AllocError, Global};
 use std::error::Error;
 use std::fmt;
+
+/// How many bytes a layer's payload has room for at first: a small one never grows.
+const LAYER_ROOM: usize = 1024;
 
 /// Why an item can't be written.
 #[derive(Clone, Copy, Debug, PartialEq, Eq)]
@@ -112,7 +115,7 @@ fn put_layer(alloc: Global, layer: &Layer) -> Result<Vec<u8>, PutError>
     ensures put { IfOk result (λ v. (v.items ≡ spelled (layer_fields layer.now)) × (length v.items ≤ LIMIT)) }
     ensures too_large { IsErrOf result PutError.TooLarge → LIMIT < length (spelled (layer_fields layer.now)) }
 {
-    let mut out = Vec::with_capacity(alloc, FIRST_ROOM)?;
+    let mut out = Vec::with_capacity(alloc, LAYER_ROOM)?;
     let mut keys = KeyPool::new(alloc);
     let mut values = ValuePool::new(alloc);
     put_parts(alloc, layer, &mut out, &mut keys, &mut values)?;

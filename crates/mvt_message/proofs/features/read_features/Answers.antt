@@ -1,9 +1,23 @@
-use Rattle.std.proofs.Common.{◌≡◌, ◌++◌, ◌∷◌, [], sym, ◌∙◌}
+use Rattle.std.proofs.Common.{◌≡◌, ◌++◌, ◌∷◌, [], refl, sym, ap, ◌∙◌}
 use Rattle.std.proofs.lemmas.Result.{err_from_is_err_and}
 use Rattle.mvt_wire.specs.Field.{entry_of}
-use Rattle.mvt_feature.proofs.FeatureLaws.{walks_step}
-use Rattle.mvt_message.proofs.HeldLemmas.{features_few, keys_as}
+use Rattle.mvt_wire.specs.Fields.{Ahead}
+use Rattle.mvt_feature.proofs.FeatureLaws.{walks_start, walks_step}
+use Rattle.mvt_message.proofs.HeldLemmas.{features_few, keys_as, on_true}
 use Rattle.mvt_message.proofs.features.read_features.Goals as goal
+
+pub loop-field-init : goal.loop-field-init
+loop-field-init c = (
+  [],
+  walks_start _ _ (ap (λ (a : Ahead). a.to_come) c.into_iter-field-iterator.ensures.into_iter_gives ∙ c.new-field-items.ensures.fields)
+      (rw c.into_iter-field-iterator.ensures.into_iter_gives c.new-field-items.ensures.place),
+  λ held are. record {
+    features = [];
+    so_far = (refl, tt);
+    held = (refl, on_true c.args.keeps _ c.in_ok-with_capacity.ensures.items);
+  },
+  c.new-keys.ensures,
+)
 
 pub append_feature-requires-clause-few : goal.append_feature-requires-clause-few
 append_feature-requires-clause-few c =
@@ -25,7 +39,7 @@ loop-field-preserved c =
 pub returns-in_err-append_feature-in-Ok-clause-err :
     goal.returns-in_err-append_feature-in-Ok-clause-err
 returns-in_err-append_feature-in-Ok-clause-err c = λ held are.
-    let p = err_from_is_err_and c.from_residual.result c.from_residual.ensures.1 in
+    let p = err_from_is_err_and c.from_residual-in_err-append_feature-in-Ok.result c.from_residual-in_err-append_feature-in-Ok.ensures.1 in
     let done = c.loop-field.invariant.0 in
     let next = c.next.new.self.to_come in
     let keys : c.loop-field.keys ≡ c.args.keys.now = c.loop-field.invariant.3 in
