@@ -5,12 +5,12 @@
 //
 // Each run has a process of its own. Prints the time of one run and its largest growth of memory.
 #include "layers.hpp"
+#include "one_hash.hpp"
 #include "run.hpp"
 
 #include <algorithm>
 #include <cstdint>
 #include <cstdio>
-#include <cstring>
 #include <string>
 
 extern "C" bool mvt_judge(const unsigned char* bytes, std::size_t len);
@@ -58,11 +58,7 @@ static std::string many_strokes(std::uint32_t kind, std::size_t count, const std
 }
 
 static std::string many_attributes(std::size_t count, const std::string& front) {
-    Attributes attributes;
-    for (std::size_t i = 0; i < count; ++i) attributes.emplace_back(front + std::to_string(10'000'000 + i) + "0123456789abcdef", uint_value(5));
-    Layer layer{"a"};
-    layer.add(nullptr, attributes, 1, {9, 50, 34});
-    return tile_of(layer.finish());
+    return tile_of(layer_of_keys("a", count, front));
 }
 
 // A text of four characters for each number below 64^4.
@@ -103,27 +99,6 @@ static std::string long_text(std::size_t length, std::size_t features) {
     const auto value = text_value(std::string(length, 'x'));
     for (std::size_t i = 0; i < features; ++i) layer.add(nullptr, {{"k", value}}, 1, {9, 50, 34});
     return tile_of(layer.finish());
-}
-
-static std::uint64_t folded(std::uint64_t a, std::uint64_t b) {
-    const auto product = static_cast<unsigned __int128>(a) * b;
-    return static_cast<std::uint64_t>(product) ^ static_cast<std::uint64_t>(product >> 64);
-}
-
-// 24 bytes after which the kit's FoldHasher forgets the 8 bytes that follow, in a text of 48 bytes: its
-// seed is fixed, and a product is 0 where the text repeats the state.
-static std::string forgetful_front() {
-    const std::uint64_t seed = 0x243f6a8885a308d3 + 48, multiplier = 0x9e3779b97f4a7c15;
-    for (int n = 10'000'000;; ++n) {
-        std::string front = "aaaaaaaa" + std::to_string(n);
-        std::uint64_t words[2];
-        std::memcpy(words, front.data(), 16);
-        const auto state = folded(words[0] ^ seed, words[1] ^ multiplier);
-        if ((state & 0x8080808080808080) == 0) {
-            front.append(reinterpret_cast<const char*>(&state), 8);
-            return front;
-        }
-    }
 }
 
 int main() {
