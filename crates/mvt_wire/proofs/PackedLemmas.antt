@@ -267,15 +267,9 @@ short_numbers_more ns i within =
     ap (flat_map short) (take_more ns i 0 within) ∙ flat_map-append short (take i ns) (get_or ns i 0 ∷ [])
     ∙ ap (λ s. short_numbers (take i ns) ++ s) (append-nil (short (get_or ns i 0)))
 
-pub length_step : (ns : List ℕ) (i len more n : ℕ) → i < length ns → n ≡ get_or ns i 0 → IsSmall n
-    → len ≡ length (short_numbers (take i ns)) → len ≤ 5 * i → more ≡ length (short n)
-    → (len + more ≡ length (short_numbers (take (i + 1) ns))) × (len + more ≤ 5 * (i + 1))
-length_step ns i len more n within at small sum fits own =
-    let step : length (short_numbers (take (i + 1) ns)) ≡ length (short_numbers (take i ns)) + length (short (get_or ns i 0)) =
-    ap length (short_numbers_more ns i within) ∙ length-append _ _ in
-    let here : length (short n) ≡ length (short (get_or ns i 0)) = ap (λ k. length (short k)) at in
-    let most : length (short n) ≤ 5 = short_most_small n small in
-    (omega arith, omega arith)
+pub length_step : (ns : List ℕ) (i : ℕ) → i < length ns
+    → length (short_numbers (take (i + 1) ns)) ≡ length (short_numbers (take i ns)) + length (short (get_or ns i 0))
+length_step ns i within = ap length (short_numbers_more ns i within) ∙ length-append _ _
 
 -- a number of the list, behind those before it, is within the whole
 pub room_left : (ns : List ℕ) (i n : ℕ) → i < length ns → n ≡ get_or ns i 0

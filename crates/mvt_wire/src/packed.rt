@@ -128,9 +128,11 @@ fn number_error(cause: WireCause) -> PackedError
 pub fn packed_len(numbers: &[u32]) -> u64
     ensures { result ≡ length (short_numbers numbers.now) }
 {
-    let mut len = 0;
+    let mut len = numbers.len() as u64;
     for number in numbers {
-        len += varint_len(u64::from(*number)) as u64;
+        if *number >= 1 << 7 {
+            len += varint_len(u64::from(*number)) as u64 - 1;
+        }
     }
     len
 }

@@ -7,11 +7,8 @@ ghost use Rattle.mvt_wire.specs.Zigzag.{zig};
 pub fn zigzag32(number: i32) -> u32
     ensures { result ≡ zig number }
 {
-    if number >= 0 {
-        2 * number.cast_unsigned()
-    } else {
-        2 * (!number).cast_unsigned() + 1
-    }
+    let twice = number.cast_unsigned().wrapping_mul(2);
+    if number >= 0 { twice } else { !twice }
 }
 
 /// The number that has this zigzag code.
@@ -28,11 +25,8 @@ pub fn unzigzag32(code: u32) -> i32
 pub fn zigzag64(signed: i64) -> u64
     ensures { result ≡ zig signed }
 {
-    if signed >= 0 {
-        2 * signed.cast_unsigned()
-    } else {
-        2 * (!signed).cast_unsigned() + 1
-    }
+    let twice = signed.cast_unsigned().wrapping_mul(2);
+    if signed >= 0 { twice } else { !twice }
 }
 
 /// The number that has this zigzag code.
