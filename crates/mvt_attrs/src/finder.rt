@@ -76,8 +76,7 @@ pub(crate) fn note<T: Entry>(
     ensures unchanged { OnErr result (Knows T.cmp T.hash_input finder.new entries.now) }
 {
     if is_outgrown(finder, entries.len()) {
-        *finder = grown(alloc, entries, entry)?;
-        return Ok(());
+        return outgrow(alloc, finder, entries, entry);
     }
     match finder {
         Finder::Plain => Ok(()),
@@ -95,8 +94,25 @@ fn is_outgrown<T: Entry>(finder: &Finder<T>, count: usize) -> bool {
     }
 }
 
-/// The form for these entries and a new one behind them.
+/// Takes the form for these entries and a new one behind them.
 #[inline(never)]
+fn outgrow<T: Entry>(
+    alloc: Global,
+    finder: &mut Finder<T>,
+    entries: &[T],
+    entry: &T,
+) -> Result<(), AllocError>
+    requires distinct { AreDistinct entries.now }
+    requires new { ¬ (Contains entries.now entry.now) }
+    requires few { length entries.now + 1 < 2 ^ 32 }
+    ensures added { OnOk result (Knows T.cmp T.hash_input finder.new (entries.now ++ entry.now ∷ [])) }
+    ensures unchanged { OnErr result (finder.new ≡ finder.old) }
+{
+    *finder = grown(alloc, entries, entry)?;
+    Ok(())
+}
+
+/// The form for these entries and a new one behind them.
 fn grown<T: Entry>(alloc: Global, entries: &[T], entry: &T) -> Result<Finder<T>, AllocError>
     requires distinct { AreDistinct entries.now }
     requires new { ¬ (Contains entries.now entry.now) }
