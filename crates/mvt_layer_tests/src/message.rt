@@ -209,14 +209,14 @@ fn validates_items(rt: HostRuntime) -> Result<(), Fail> {
     Ok(())
 }
 
-// A layer: 24 and its name, the field of its feature with 11 in front, and a key and a value in 7. An item
-// of another version is its bytes.
+// A layer: 24 and its name, the field of its feature with 11 in front, and 33 for an attribute and its key.
+// An item of another version is its bytes.
 #[test]
 fn bounds(rt: HostRuntime) -> Result<(), Fail> {
     let alloc = rt.alloc();
     let layer = Item::Layer(layer_with(alloc, &["k"])?);
-    assert_eq!(rt; room_behind_item(&layer, 103), Some(0));
-    assert_eq!(rt; room_behind_item(&layer, 102), None);
+    assert_eq!(rt; room_behind_item(&layer, 130), Some(0));
+    assert_eq!(rt; room_behind_item(&layer, 129), None);
     let other = foreign(alloc, 1, &FOREIGN)?;
     assert_eq!(rt; room_behind_item(&other, 5), Some(0));
     assert_eq!(rt; room_behind_item(&other, 4), None);

@@ -1,28 +1,31 @@
 -- The canonical payload of an item takes no more bytes than its bound says, where that is within the limit.
-use Rattle.std.proofs.Common.{◌≡◌, ℕ, ◌+◌, ◌^◌, ◌<◌, ◌≤◌, Bool, not, List, [], ◌∷◌, ◌++◌, length, map, refl, ap, ◌∙◌, arith, lit<, length-append}
+use Rattle.std.proofs.Common.{◌≡◌, ℕ, ◌+◌, ◌*◌, ◌^◌, ◌<◌, ◌≤◌, Bool, if◌then◌else◌, w64, not, List, [], ◌∷◌, ◌++◌, length, map, refl, ap, ◌∙◌, arith, lit<, length-append}
 use Rattle.std.specs.Prelude.{bytes_eq, filter}
+use Rattle.std.specs.Int.{cast_unsigned}
 use Rattle.std.specs.List.{AllByRecursion, sum_by}
 use Rattle.std.proofs.lemmas.List.Filters.{sum_by-filter_both}
 use Rattle.std.proofs.lemmas.List.Sums.{sum_by-cons, sum_by-append}
 use Rattle.mvt_base.specs.declared.TheConstants.{LIMIT}
 use Rattle.mvt_attrs.specs.declared.value.Attribute.{Attribute}
 use Rattle.mvt_attrs.specs.declared.value.Value.{Value}
+use Rattle.mvt_attrs.specs.declared.value.Value.TheVariants.{Text, Float, Double, Int, Uint, Sint, Bool as Truth}
 use Rattle.mvt_attrs.specs.FirstUse.{first_use}
 use Rattle.mvt_attrs.specs.TagPlaces.{tags_in, IsIn}
 use Rattle.mvt_attrs.specs.Values.{equal_values}
-use Rattle.mvt_wire.specs.Field.{bytes}
+use Rattle.mvt_wire.specs.Field.{varint, fixed64, bytes, fixed32}
 use Rattle.mvt_wire.specs.Spelling.{Plain, short_field, spelled}
+use Rattle.mvt_wire.specs.Zigzag.{zig}
 use Rattle.mvt_feature.specs.declared.feature.Feature.{Feature}
 use Rattle.mvt_feature.specs.Bounds.{feature_bound}
-use Rattle.mvt_feature.specs.Canonical.{feature_fields, value_fields}
+use Rattle.mvt_feature.specs.Canonical.{feature_fields, field_of_value, value_fields}
 use Rattle.mvt_feature.specs.Valid.{ValidFeature}
 use Rattle.mvt_attrs.proofs.AttrsLaws.{places_name_small}
-use Rattle.mvt_wire.proofs.WireLaws.{bytes_lengths, short_lengths_most}
+use Rattle.mvt_wire.proofs.WireLaws.{bytes_lengths, short_lengths_field, short_lengths_most, short_lengths_one}
 use Rattle.mvt_feature.proofs.FeatureLaws.{bound_holds as feature_bound_holds}
 use Rattle.mvt_message.specs.declared.item.Item.{Item as AnItem}
 use Rattle.mvt_message.specs.declared.item.Layer.{Layer as ALayer}
 use Rattle.mvt_message.specs.declared.item.Item.TheVariants.{Layer, Foreign}
-use Rattle.mvt_message.specs.Bounds.{attribute_bound, entries_bound, layer_bound, item_bound}
+use Rattle.mvt_message.specs.Bounds.{text_size, attribute_bound, entries_bound, layer_bound, item_bound}
 use Rattle.mvt_message.specs.CanonicalItems.{attributes_of, keys_of, values_of, head_fields, feature_field, key_field, value_field, extent_fields, layer_fields, canonical_item}
 use Rattle.mvt_message.specs.ValidItems.{ValidLayer, ValidItem}
 use Rattle.mvt_message.proofs.CanonicalLemmas.{count_bytes, features_held}
@@ -58,16 +61,37 @@ key_size key = length (short_field 3 (bytes key))
 abbrev value_size : Value → ℕ
 value_size value = length (short_field 4 (bytes (spelled (value_fields value))))
 
+-- the field of a number
+number_size : (field n : ℕ) → field < 16 → length (short_field field (varint n)) ≤ 11
+number_size field n small =
+    let tag = short_lengths_one (8 * field + 0) (omega arith) in
+    omega (arith, short_lengths_field field (varint n), tag, short_lengths_most n)
+
+content_size : (value : Value) → length (short_field (field_of_value value).number (field_of_value value).content) ≤ 11 + text_size value
+content_size (Text text) = bytes_lengths 1 text (lit< tt)
+content_size (Float bits) = omega (arith, short_lengths_field 2 (fixed32 bits), short_lengths_one 21 (lit< tt))
+content_size (Double bits) = omega (arith, short_lengths_field 3 (fixed64 bits), short_lengths_one 25 (lit< tt))
+content_size (Int z) = number_size 4 (cast_unsigned w64 z) (lit< tt)
+content_size (Uint n) = number_size 5 n (lit< tt)
+content_size (Sint z) = number_size 6 (zig z) (lit< tt)
+content_size (Truth b) = number_size 7 (if b then 1 else 0) (lit< tt)
+
+entry_size : (value : Value) → value_size value ≤ 22 + text_size value
+entry_size value =
+    let f = field_of_value value in
+    let whole = length-append (short_field f.number f.content) [] in
+    omega (arith, whole, content_size value, bytes_lengths 4 (spelled (value_fields value)) (lit< tt))
+
 entries_sum : (attributes : List Attribute)
     → sum_by key_size (map (λ (a : Attribute). a.key) attributes) + sum_by value_size
-    (map (λ (a : Attribute). a.value) attributes) ≡ sum_by attribute_bound attributes
-entries_sum [] = refl
+    (map (λ (a : Attribute). a.value) attributes) ≤ sum_by attribute_bound attributes
+entries_sum [] = omega arith
 entries_sum (a ∷ attributes) =
     let keys = sum_by-cons key_size a.key (map (λ (b : Attribute). b.key) attributes) in
     let values = sum_by-cons value_size a.value (map (λ (b : Attribute). b.value) attributes) in
     let others = entries_sum attributes in
     let sums = sum_by-cons attribute_bound a attributes in
-    omega (arith, keys, values, others, sums)
+    omega (arith, keys, values, others, sums, bytes_lengths 3 a.key (lit< tt), entry_size a.value)
 
 -- the pools take no more than an entry for each attribute
 pools_length : (features : List Feature)

@@ -1,16 +1,12 @@
 //! A quick bound of the bytes that an item takes.
-ghost use Rattle.std.specs.Prelude.{◌≡◌, ℕ, ◌+◌, ◌^◌, ◌<◌, ◌≤◌, List, length, IfSome, IfNone};
+ghost use Rattle.std.specs.Prelude.{◌≡◌, ◌+◌, ◌<◌, ◌≤◌, IfSome, IfNone};
 ghost use Rattle.std.specs.List.{sum_by};
-ghost use Rattle.mvt_wire.specs.Field.{bytes};
-ghost use Rattle.mvt_wire.specs.Spelling.{short_field};
-ghost use Rattle.mvt_message.specs.Bounds.{attribute_bound, entries_bound, layer_bound, item_bound};
+ghost use Rattle.mvt_message.specs.Bounds.{text_size, attribute_bound, entries_bound, layer_bound, item_bound};
 
 use crate::item::{Item, Layer};
-use crate::numbers::layer;
-use mvt_attrs::Attribute;
+use mvt_attrs::{Attribute, Value};
 use mvt_base::LIMIT;
-use mvt_feature::{Feature, room_behind_feature, value_len};
-use mvt_wire::field_len;
+use mvt_feature::{Feature, room_behind_feature};
 
 /// What is left of `room` bytes behind the canonical payload of an item, by a bound that shares no
 /// key and no value among its attributes. None where the bound is more.
@@ -73,26 +69,23 @@ fn behind_attributes(attributes: &[Attribute], room: u64) -> Option<u64>
     Some(left)
 }
 
+/// Behind the entries of an attribute.
 fn behind_attribute(attribute: &Attribute, room: u64) -> Option<u64>
     requires { room ≤ LIMIT }
     ensures some { IfSome result (λ left. left + attribute_bound attribute.now ≡ room) }
     ensures none { IfNone result (room < attribute_bound attribute.now) }
 {
-    let left = behind_field(layer::KEYS, attribute.key.as_str().len() as u64, room)?;
-    behind_field(layer::VALUES, value_len(&attribute.value), left)
+    let left = room.checked_sub(33)?;
+    let left = left.checked_sub(attribute.key.as_str().len() as u64)?;
+    left.checked_sub(text_len(&attribute.value))
 }
 
-/// Behind a field whose payload is `size` bytes.
-fn behind_field(number: u32, size: u64, room: u64) -> Option<u64>
-    requires number { number < 2 ^ 29 }
-    requires small { room ≤ LIMIT }
-    ensures some { (d : List ℕ) → length d ≡ size
-        → IfSome result (λ left. left + length (short_field number (bytes d)) ≡ room) }
-    ensures none { (d : List ℕ) → length d ≡ size
-        → IfNone result (room < length (short_field number (bytes d))) }
+/// How long the text of a value is.
+fn text_len(value: &Value) -> u64
+    ensures { result ≡ text_size value.now }
 {
-    if size > room {
-        return None;
+    match value {
+        Value::Text(text) => text.as_str().len() as u64,
+        _ => 0,
     }
-    room.checked_sub(field_len(number, size))
 }
