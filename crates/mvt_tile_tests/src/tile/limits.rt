@@ -1,10 +1,10 @@
 //! Inputs and tiles of 64 MiB.
-use super::support::{layer_a, outer, points};
+use super::support::{foreign_item, layer_a, outer, points};
 use mvt_attrs::{Attribute, Value};
 use mvt_base::{Items, LIMIT, Text};
 use mvt_geometry::Geometry;
 use mvt_io::MemorySink;
-use mvt_message::{Cause, Feature, is_valid_item, item_len, put_item, room_behind_item};
+use mvt_message::{Cause, Feature, Item, is_valid_item, item_len, put_item, room_behind_item};
 use mvt_tile::{
     Note, PutError, Tile, TileDecoder, WriteError, decode, encode, is_valid, judge, notes,
     write_tile,
@@ -129,7 +129,7 @@ fn with_text(alloc: Global, text: &Text) -> Result<Feature, AllocError> {
     })
 }
 
-// Seventy features that share a text of 1 MiB.
+// Seventy features that share a text of 1 MiB, and an item of another version.
 fn sharing(alloc: Global) -> Result<Tile, AllocError> {
     let mut bytes = Vec::new(alloc);
     bytes.resize(limit() / 64, b'a')?;
@@ -141,11 +141,15 @@ fn sharing(alloc: Global) -> Result<Tile, AllocError> {
     for _ in 0..70 {
         features.push(with_text(alloc, &text)?)?;
     }
-    layer_a(alloc, features)
+    let mut items = layer_a(alloc, features)?.items.into_vec();
+    items.push(foreign_item(alloc, 1, b"\x78\x01\x0A\x01b")?)?;
+    Ok(Tile {
+        items: Items::new(items),
+    })
 }
 
 // A bound that shares no text exceeds the limit, and the bytes are within it: 13 a feature, 1,048,584 of
-// the text, 11 of the rest and 4 in front.
+// the text, 11 of the rest and 4 in front; then 7 of the other item.
 #[test]
 fn is_written_beyond_the_bound(rt: HostRuntime) -> Result<(), Fail> {
     let alloc = rt.alloc();
@@ -154,12 +158,16 @@ fn is_written_beyond_the_bound(rt: HostRuntime) -> Result<(), Fail> {
         assert!(rt; false);
         return Ok(());
     }
-    let mut writer = MemorySink::new(alloc, 1_049_509, limit(), u64::MAX, false)?;
+    let mut writer = MemorySink::new(alloc, 1_049_516, limit(), u64::MAX, false)?;
     assert_eq!(rt; write_tile(alloc, &tile, &mut writer), Ok(()));
-    assert_eq!(rt; writer.taken().len(), 1_049_509);
+    assert_eq!(rt; writer.taken().len(), 1_049_516);
     for item in tile.items.as_slice() {
-        assert_eq!(rt; room_behind_item(item, LIMIT), None);
-        assert_eq!(rt; item_len(alloc, item), Ok(1_049_505));
+        let (room, len) = match item {
+            Item::Layer(_) => (None, 1_049_505),
+            Item::Foreign { .. } => (Some(LIMIT - 5), 5),
+        };
+        assert_eq!(rt; room_behind_item(item, LIMIT), room);
+        assert_eq!(rt; item_len(alloc, item), Ok(len));
     }
     match decode(alloc, writer.taken()) {
         Ok(read) => assert!(rt; read == tile),
