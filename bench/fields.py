@@ -46,7 +46,7 @@ def run(words, path):
         feeder.wait()
     if status != 0:
         sys.exit("%s ended with status %d" % (words, status))
-    return seconds, usage.ru_maxrss / 1000
+    return seconds, usage.ru_maxrss * 1024 / 1e6
 
 
 def main():

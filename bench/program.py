@@ -5,7 +5,7 @@
     bench/program.py [crates/mvt_cli/out/mvt_cli]
 
 Wants the program as `rt ci` or `rt run` leaves it, and Debian's protobuf-compiler and gdal-bin. Prints
-a table: the best wall time of the runs and the peak memory of that program alone (15 MB at least, which
+a table: the best wall time of the runs and the peak memory of that program alone (16 MB at least, which
 are this script's). Input comes from a file, output goes to /dev/null.
 """
 
@@ -104,7 +104,7 @@ def run(words, path):
         program = subprocess.Popen(words, stdin=file, stdout=sink)
         _, status, usage = os.wait4(program.pid, 0)
         seconds = time.perf_counter() - started
-    return seconds, usage.ru_maxrss / 1000, os.waitstatus_to_exitcode(status)
+    return seconds, usage.ru_maxrss * 1024 / 1e6, os.waitstatus_to_exitcode(status)
 
 
 def make(path, layers, size):
