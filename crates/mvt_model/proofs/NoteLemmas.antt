@@ -1,5 +1,7 @@
 -- Notes of numbered elements.
-use Rattle.std.proofs.Common.{◌≡◌, ℕ, ◌+◌, ◌<◌, Bool, true, false, cond, eqb, List, [], ◌∷◌, ◌++◌, length, take, get_or, Option, Some, None, refl, sym, ap, ap₂, ◌∙◌, arith, append_assoc, append-nil, length-append, length-take, add-zero}
+use Rattle.std.proofs.Common.{◌≡◌, inr, inl, ne_eqb, ◌≤◌, ℕ, ◌+◌, ◌<◌, Bool, true, false, cond, eqb, List, [], ◌∷◌, ◌++◌, length, take, get_or, Option, Some, None, refl, sym, ap, ap₂, ◌∙◌, arith, append_assoc, append-nil, length-append, length-take, add-zero}
+use Rattle.std.proofs.lemmas.Bool.{cases_lt}
+use Rattle.std.proofs.lemmas.List.{get_or_default}
 use Rattle.std.specs.List.{position_from}
 use Rattle.std.specs.Option.{option_or}
 use Rattle.std.proofs.lemmas.Grind.{flat_map-append}
@@ -88,6 +90,38 @@ first_of_more q features i f h is =
     ap (first_of q) (front_more features i f h is)
     ∙ first_more (λ (g : Feature). is_id q g.id) 0 (take i features) f
     ∙ ap (λ k. option_or (first_of q (take i features)) (cond (is_id q f.id) (Some k) None)) size
+
+-- ids that rise
+
+other_id : (q next : ℕ) (id : Option ℕ) → next ≤ q → ((k : ℕ) → id ≡ Some k → k < next) → is_id q id ≡ false
+other_id q next None above below = refl
+other_id q next (Some k) above below = ne_eqb q k (λ e. (let less = below k refl in omega (arith, e)))
+
+pub none_above : (q next : ℕ) (features : List Feature) (i : ℕ) (f : Feature) → i < length features → f ≡ get_or features i f
+    → first_of q (take i features) ≡ None → next ≤ q → ((k : ℕ) → f.id ≡ Some k → k < next) → first_of q (take (i + 1) features) ≡ None
+none_above q next features i f h is none above below =
+    first_of_more q features i f h is
+    ∙ ap₂ (λ o b. option_or o (cond b (Some i) None)) none (other_id q next f.id above below)
+
+-- no feature so far has an id of one before it
+abbrev pub AreDistinctTo : ℕ → List Feature → Type 0
+AreDistinctTo i features = (n : ℕ) (f : Feature) (id : ℕ) → n < i → f ≡ get_or features n f → f.id ≡ Some id
+    → first_of id (take n features) ≡ None
+
+pub distinct_more : (features : List Feature) (i : ℕ) (f : Feature) → i < length features → f ≡ get_or features i f
+    → AreDistinctTo i features → ((id : ℕ) → f.id ≡ Some id → first_of id (take i features) ≡ None) → AreDistinctTo (i + 1) features
+distinct_more features i f h is before here = λ n g id within at own. elim (cases_lt n i) [
+  | inl earlier ↦ before n g id earlier at own
+  | inr last ↦
+      let same : n ≡ i = omega arith in
+      let is_last : g ≡ f = at ∙ ap (λ k. get_or features k g) same ∙ get_or_default features i g f h ∙ sym is in
+      ap (λ k. first_of id (take k features)) same ∙ here id (ap (λ (x : Feature). x.id) (sym is_last) ∙ own)
+]
+
+pub nothing_noted : (layer n : ℕ) (features : List Feature) (id : Option ℕ)
+    → ((k : ℕ) → id ≡ Some k → first_of k (take n features) ≡ None) → id_note layer n (λ k. first_of k (take n features)) id ≡ []
+nothing_noted layer n features None none = refl
+nothing_noted layer n features (Some k) none = ap (earlier_note layer n) (none k refl)
 
 pub id_noted : (layer n : ℕ) (found other : ℕ → Option ℕ) (id : Option ℕ) → ((q : ℕ) → found q ≡ other q)
     → id_note layer n found id ≡ id_note layer n other id

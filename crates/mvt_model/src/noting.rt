@@ -1,10 +1,10 @@
 //! The notes of a tile.
-ghost use Rattle.std.specs.Prelude.{◌≡◌, ◌==◌, ℕ, ◌+◌, ◌++◌, length, Some, None, IfOk, OnOk, if◌then◌else◌};
+ghost use Rattle.std.specs.Prelude.{◌≡◌, ◌==◌, ℕ, ◌+◌, ◌++◌, length, Some, None, IfOk, IsTrue, OnOk, if◌then◌else◌};
 ghost use Rattle.std.specs.BTreeMap.{get};
 ghost use Rattle.std.specs.Option.{option_or};
 ghost use Rattle.std.specs.Ordering.{nat_cmp};
 ghost use Rattle.mvt_geometry.specs.Shape.{rings_of};
-ghost use Rattle.mvt_model.specs.Notes.{numbered, note_if as the_note_if, is_closed as the_is_closed, ring_notes, geometry_notes, is_id, id_note, earlier_note, layer_notes, item_notes, notes_of};
+ghost use Rattle.mvt_model.specs.Notes.{numbered, note_if as the_note_if, is_closed as the_is_closed, ring_notes, geometry_notes, HaveDistinctIds, is_id, id_note, earlier_note, feature_notes, layer_notes, item_notes, notes_of};
 
 use crate::note::Note;
 use crate::tile::Tile;
@@ -67,6 +67,54 @@ fn note_layer(
     ensures { OnOk result (notes.new.items ≡ notes.old.items ++ layer_notes index features.now) }
 {
     note_if(notes, features.is_empty(), Note::NoFeatures(index))?;
+    if have_rising_ids(features) {
+        note_geometries(notes, index, features)
+    } else {
+        note_features(alloc, notes, index, features)
+    }
+}
+
+/// Whether each id is above those before it. Then none repeats, and none has to be kept.
+fn have_rising_ids(features: &[Feature]) -> bool
+    ensures { IsTrue result → HaveDistinctIds features.now }
+{
+    let mut least = 0;
+    for feature in features {
+        if let Some(id) = feature.id {
+            if id < least || id == u64::MAX {
+                return false;
+            }
+            least = id + 1;
+        }
+    }
+    true
+}
+
+/// Notes features of which no two have the same id.
+fn note_geometries(
+    notes: &mut Vec<Note>,
+    index: usize,
+    features: &[Feature],
+) -> Result<(), AllocError>
+    requires { HaveDistinctIds features.now }
+    ensures { OnOk result (notes.new.items
+        ≡ notes.old.items ++ numbered (feature_notes index features.now) 0 features.now) }
+{
+    for (number, feature) in features.iter().enumerate() {
+        note_geometry(notes, index, number, &feature.geometry)?;
+    }
+    Ok(())
+}
+
+fn note_features(
+    alloc: Global,
+    notes: &mut Vec<Note>,
+    index: usize,
+    features: &[Feature],
+) -> Result<(), AllocError>
+    ensures { OnOk result (notes.new.items
+        ≡ notes.old.items ++ numbered (feature_notes index features.now) 0 features.now) }
+{
     let mut ids = BTreeMap::new(alloc);
     for (number, feature) in features.iter().enumerate() {
         note_id(notes, &mut ids, index, number, feature.id)?;

@@ -4,7 +4,7 @@ use Rattle.std.specs.Ordering.{nat_cmp}
 use Rattle.std.specs.Option.{option_or}
 use Rattle.mvt_model.specs.Notes.{feature_notes, is_id}
 use Rattle.mvt_model.proofs.NoteLemmas.{noted_more, feature_noted, first_of_more}
-use Rattle.mvt_model.proofs.noting.note_layer.Goals as goal
+use Rattle.mvt_model.proofs.noting.note_features.Goals as goal
 
 pub loop-number-preserved : goal.loop-number-preserved
 loop-number-preserved c =

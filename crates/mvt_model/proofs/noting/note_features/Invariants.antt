@@ -2,7 +2,7 @@ use Rattle.std.proofs.Common.{◌≡◌, ℕ, ◌++◌, take}
 use Rattle.std.specs.BTreeMap.{get}
 use Rattle.std.specs.Ordering.{nat_cmp}
 use Rattle.mvt_model.specs.Notes.{numbered, feature_notes, first_of}
-use Rattle.mvt_model.proofs.noting.note_layer.Given as goal
+use Rattle.mvt_model.proofs.noting.note_features.Given as goal
 
 abbrev pub invariant-loop-number : goal.invariant-loop-number
 invariant-loop-number l = record {
