@@ -8,7 +8,7 @@ use crate::fault::Fault;
 use crate::lent::Bytes;
 use crate::names::read_names;
 use crate::refusal::{Refusal, hand_out, tell};
-use mvt_tile::{decode, encode, extract};
+use mvt_tile::{decode, encode, extract, rewrite};
 use std::alloc::Global;
 
 /// The canonical bytes of a tile (`mvt_rewrite`).
@@ -33,8 +33,7 @@ fn rewritten(alloc: Global, bytes: &[u8]) -> Result<Vec<u8>, Refusal>
     ensures done { IfOk result (λ made. IsRewritten bytes.now made.items) }
     ensures refused { IfErr result (RefusedAs bytes.now) }
 {
-    let tile = decode(alloc, bytes)?;
-    Ok(encode(alloc, &tile)?)
+    rewrite(alloc, bytes)?.ok_or(Refusal::TooLarge)
 }
 
 /// The canonical bytes of a tile's named layers, in the order of the tile (`mvt_extract`).

@@ -1,7 +1,8 @@
 -- Items written one after the other.
-use Rattle.std.proofs.Common.{◌≡◌, ℕ, ◌+◌, ◌<◌, ◌≤◌, List, [], ◌∷◌, ◌++◌, length, map, take, drop, get_or, Option, Result, Ok, Err, OnOk, OnErr, IfOk, refl, sym, ap, subst, ◌∙◌, arith, append_assoc, append-nil, length-append, take-append-drop}
+use Rattle.std.proofs.Common.{◌≡◌, ℕ, ◌+◌, ◌<◌, ◌≤◌, List, [], ◌∷◌, ◌++◌, length, map, take, drop, get_or, Vec, Global, Option, None, Some, Result, Ok, Err, OnOk, OnErr, IfOk, refl, sym, ap, subst, ◌∙◌, arith, append_assoc, append-nil, length-append, take-append-drop}
 use Rattle.std.proofs.lemmas.List.{take_all, map-append}
 use Rattle.std.proofs.lemmas.Grind.{flat_map-append}
+use Rattle.std.specs.Option.{ok_or}
 use Rattle.mvt_base.specs.declared.TheConstants.{LIMIT}
 use Rattle.std.specs.Io.KnownBytes.{Appends}
 use Rattle.mvt_base.proofs.ListLemmas.{front_more}
@@ -18,6 +19,7 @@ use Rattle.mvt_model.specs.declared.numbers.tile.TheConstants.{LAYERS}
 use Rattle.mvt_model.specs.declared.write_error.WriteError.TheVariants as write
 use Rattle.mvt_model.specs.declared.tile.Tile.{Tile}
 use Rattle.mvt_model.specs.CanonicalTiles.{item_field, canonical}
+use Rattle.mvt_model.specs.Encoding.{AreEncoded}
 use Rattle.mvt_model.specs.Tiles.{IsTile}
 use Rattle.mvt_model.specs.ValidTiles.{Valid}
 use Rattle.mvt_model.specs.Writing.{write_error}
@@ -37,11 +39,13 @@ written-append xs ys =
 pub written_one : (item : Item) → written (item ∷ []) ≡ field_of item
 written_one item = append-nil (field_of item)
 
+pub written_behind : (items : List Item) (item : Item) → written (items ++ item ∷ []) ≡ written items ++ field_of item
+written_behind items item = written-append items (item ∷ []) ∙ ap (λ b. written items ++ b) (written_one item)
+
 pub written_more : (items : List Item) (i : ℕ) (item : Item) → i < length items → item ≡ get_or items i item
     → written (take (i + 1) items) ≡ written (take i items) ++ field_of item
 written_more items i item h is =
-    ap written (front_more items i item h is) ∙ written-append (take i items) (item ∷ [])
-    ∙ ap (λ b. written (take i items) ++ b) (written_one item)
+    ap written (front_more items i item h is) ∙ written_behind (take i items) item
 
 -- the whole, round the field of one item
 pub written_parts : (items : List Item) (i : ℕ) (item : Item) → i < length items → item ≡ get_or items i item
@@ -111,3 +115,20 @@ second_in_part (Err e) a b c head payload taken part =
 pub put_large : (e : PutError) → write_error e ≡ write.TooLarge → e ≡ put.TooLarge
 put_large put.Memory h = cc
 put_large put.TooLarge h = refl
+
+-- all items made into bytes
+
+module _ (limit : ℕ) (tile : Tile) (items : List Item) (is : items ≡ tile.items) where
+  pub encoded_put : (out : Option (Vec ℕ Global)) → AreEncoded limit items out
+      → IfOk (ok_or out put.TooLarge) (λ b. b.items ≡ canonical tile)
+  encoded_put None are = tt
+  encoded_put (Some b) are = are.0 ∙ sym (canonical_is tile items is)
+
+  pub encoded_small : (out : Option (Vec ℕ Global)) → AreEncoded limit items out → IfOk (ok_or out put.TooLarge) (λ b. length b.items ≤ limit)
+  encoded_small None are = tt
+  encoded_small (Some b) are = subst (λ xs. length xs ≤ limit) (sym are.0) are.1
+
+  pub encoded_large : (out : Option (Vec ℕ Global)) → AreEncoded limit items out → ok_or out put.TooLarge ≡ Err put.TooLarge
+      → limit < length (canonical tile)
+  encoded_large None are large = subst (λ b. limit < length b) (sym (canonical_is tile items is)) are
+  encoded_large (Some b) are large = cc

@@ -2,6 +2,7 @@ pub mod Tiles
 pub mod CanonicalTiles
 pub mod ValidTiles
 pub mod Bounds
+pub mod Encoding
 pub mod Writing
 pub mod Comparing
 pub mod Notes

@@ -3,6 +3,7 @@
 #![tactic(auto)]
 
 mod comparing;
+mod encoding;
 mod findings;
 pub mod laws;
 mod note;
@@ -14,10 +15,11 @@ mod write_error;
 mod writing;
 
 pub use comparing::is_canonical;
+pub use encoding::{encode, encode_more};
 pub use findings::{Findings, feature_count};
 pub use note::Note;
 pub use noting::notes;
 pub use survey::Survey;
 pub use tile::Tile;
 pub use write_error::WriteError;
-pub use writing::{encode, write_tile};
+pub use writing::write_tile;

@@ -11,7 +11,6 @@ ghost use Rattle.mvt_message.specs.ValidItems.{ValidItem};
 ghost use Rattle.mvt_model.specs.declared.numbers.tile.TheConstants.{LAYERS};
 ghost use Rattle.mvt_model.specs.Bounds.{items_bound};
 ghost use Rattle.mvt_model.specs.CanonicalTiles.{canonical, item_field};
-ghost use Rattle.mvt_model.specs.Tiles.{IsTile};
 ghost use Rattle.mvt_model.specs.ValidTiles.{Valid};
 ghost use Rattle.mvt_model.specs.Writing.{IsWriteFault, IsWriteKind};
 
@@ -21,24 +20,9 @@ use crate::write_error::WriteError;
 use mvt_base::LIMIT;
 use mvt_io::{Sink, write_all};
 use mvt_message::{Item, PutError, item_len, put_item, room_behind_item};
-use mvt_wire::{Payload, field_len, put_field, put_field_head};
+use mvt_wire::{field_len, put_field_head};
 use std::alloc::Global;
 use std::io::ErrorKind;
-
-/// The canonical bytes of a tile.
-///
-/// # Errors
-///
-/// Want of memory; TooLarge for more bytes than the limit.
-pub fn encode(alloc: Global, tile: &Tile) -> Result<Vec<u8>, PutError>
-    requires { Valid tile.now }
-    ensures put { IfOk result (λ bytes. bytes.items ≡ canonical tile.now) }
-    ensures small { IfOk result (λ bytes. length bytes.items ≤ LIMIT) }
-    ensures reads { IfOk result (λ bytes. IsTile LIMIT bytes.items tile.now) }
-    ensures too_large { IsErrOf result PutError.TooLarge → LIMIT < length (canonical tile.now) }
-{
-    encode_items(alloc, tile.items.as_slice())
-}
 
 /// Has a writer take the canonical bytes of a tile: one item after the other is made and written. Where
 /// there are several and a quick bound of their length is beyond the limit, the lengths of all items are
@@ -71,23 +55,6 @@ pub fn write_tile<W: Sink>(alloc: Global, tile: &Tile, writer: &mut W) -> Result
         items_len(alloc, items)?;
     }
     write_items(alloc, items, writer)
-}
-
-/// The canonical bytes of items.
-fn encode_items(alloc: Global, items: &[Item]) -> Result<Vec<u8>, PutError>
-    requires { AllByRecursion ValidItem items.now }
-    ensures put { IfOk result (λ bytes. bytes.items ≡ spelled (map item_field items.now)) }
-    ensures small { IfOk result (λ bytes. length bytes.items ≤ LIMIT) }
-    ensures too_large { IsErrOf result PutError.TooLarge → LIMIT < length (spelled (map item_field items.now)) }
-{
-    let mut out = Vec::new(alloc);
-    for item in items {
-        append_item(alloc, &mut out, item)?;
-        if out.len() as u64 > LIMIT {
-            return Err(PutError::TooLarge);
-        }
-    }
-    Ok(out)
 }
 
 /// Whether items have no more canonical bytes than the limit by a quick bound of their number.
@@ -208,16 +175,4 @@ fn write_both<W: Sink>(writer: &mut W, head: &[u8], payload: &[u8]) -> Result<()
 {
     write_all(writer, head)?;
     write_all(writer, payload)
-}
-
-/// Appends the field of an item.
-fn append_item(alloc: Global, out: &mut Vec<u8>, item: &Item) -> Result<(), PutError>
-    requires { ValidItem item.now }
-    ensures put { OnOk result
-        (out.new.items ≡ out.old.items ++ short_field LAYERS (bytes (canonical_item item.now))) }
-    ensures too_large { IsErrOf result PutError.TooLarge → LIMIT < length (canonical_item item.now) }
-{
-    let payload = put_item(alloc, item)?;
-    put_field(out, tile::LAYERS, &Payload::Len(payload.as_slice()))?;
-    Ok(())
 }

@@ -1,20 +1,25 @@
 -- A reply that was put out answers its input.
-use Rattle.std.proofs.Common.{◌≡◌, ℕ, ◌<◌, ◌≤◌, Bool, true, false, nat_lt, List, length, slice_get, Option, Some, None, inr, refl, sym, ap, subst, ◌∙◌, arith, codes, if◌then◌else◌}
+use Rattle.std.proofs.Common.{◌≡◌, ℕ, ◌<◌, ◌≤◌, Bool, true, false, nat_lt, List, length, slice_get, Option, Some, None, Result, Ok, Err, IfErr, OnErr, inl, inr, refl, sym, ap, subst, ◌∙◌, arith, codes, if◌then◌else◌}
 use Rattle.std.specs.Prelude.{IfSome}
 use Rattle.std.specs.Option.{option_map}
 use Rattle.std.proofs.lemmas.Bool.Decides.{nat_tests}
+use Rattle.std.proofs.lemmas.Option.{IfSome_then}
 use Rattle.mvt_base.specs.Tells.{Tells}
 use Rattle.mvt_model.specs.declared.tile.Tile.{Tile}
 use Rattle.mvt_tile.specs.declared.fault.DecodeError.{DecodeError}
 use Rattle.mvt_tile.specs.declared.fault.DecodeError.TheVariants.{Memory, Fault, Read}
 use Rattle.mvt_model.specs.CanonicalTiles.{canonical}
+use Rattle.mvt_model.specs.Tiles.{IsTile}
+use Rattle.mvt_model.specs.ValidTiles.{Valid}
 use Rattle.mvt_tile.specs.Extraction.{pick, first_missing}
 use Rattle.mvt_tile.specs.Reading.{fault_of}
 use Rattle.mvt_tile.specs.TileRules.{fault_within}
 use Rattle.mvt_tasks.specs.declared.reply.Reply.{Reply}
 use Rattle.mvt_tasks.specs.declared.task.Task.TheVariants.{Rewrite, Extract}
-use Rattle.mvt_tasks.specs.Failures.{IsRefusal}
-use Rattle.mvt_tasks.specs.Output.{IsTold, Answers, PutsOut, done, refused, bytes_reply, layers_reply, layers_reply_or, missing_line}
+use Rattle.mvt_tasks.specs.declared.failure.Failure.{Failure}
+use Rattle.mvt_tasks.specs.declared.failure.Failure.TheVariants.{Write}
+use Rattle.mvt_tasks.specs.Failures.{IsRefusal, LeavesOutput}
+use Rattle.mvt_tasks.specs.Output.{IsTold, IsWhole, Answers, PutsOut, done, refused, bytes_reply, layers_reply, layers_reply_or, missing_line}
 use Rattle.mvt_tasks.proofs.Picks.{missing_at, none_missing}
 
 pub done_put : (reply : Reply) (text : List ℕ) (Untouched : Type 0) (Writes : List ℕ → Type 0) → reply ≡ done text → Writes text
@@ -60,13 +65,43 @@ refused_told limit of_tile input Memory line tells is = absurd is
 refused_told limit of_tile input (Fault fault) line tells is = inr (fault, tells, ap refused is)
 refused_told limit of_tile input (Read kind) line tells is = absurd is
 
-pub rewrite_refused : (limit : ℕ) (left : Option (List ℕ)) (error : DecodeError) (line : List ℕ) (Untouched : Type 0)
-    (Writes : List ℕ → Type 0)
-    → IfSome left (λ input. Tells (fault_of error) (fault_within limit input)) → IsRefusal error line → Untouched
-    → IfSome left (Answers limit Rewrite (Some line) Untouched Writes)
-rewrite_refused limit None error line Untouched Writes tells is same = tt
-rewrite_refused limit (Some input) error line Untouched Writes tells is same =
-    (refused line, refused_told limit (bytes_reply limit) input error line tells is, refl, same)
+-- the canonical bytes of a tile, or that they are more than the limit
+
+module _ (limit : ℕ) (left : Option (List ℕ)) (tile : Tile) (there : IfSome left (λ input. IsTile limit input tile × Valid tile)) where
+  pub rewritten : (bytes made : List ℕ) → made ≡ bytes → (bytes ≡ canonical tile) × (length (canonical tile) ≤ limit)
+      → IfSome left (λ input. IsTold limit (bytes_reply limit) input (done made))
+  rewritten bytes made same (is, small) =
+      IfSome_then left there (λ input both. inl (tile, both.0, ap done (same ∙ is) ∙ sym (small_reply limit tile small)))
+
+  pub not_rewritten : (line : List ℕ) → line ≡ codes "mvt: result larger than 67108864 bytes\n" → limit < length (canonical tile)
+      → IfSome left (λ input. IsTold limit (bytes_reply limit) input (refused line))
+  not_rewritten line is large =
+      IfSome_then left there (λ input both. inl (tile, both.0, ap refused is ∙ sym (large_reply limit tile large)))
+
+-- after a failed write
+
+pub left_partly : {A : Type 0} (r : Result A Failure) (Untouched Partly Failed : Type 0) → IfErr r (λ failure. (failure ≡ Write) × Failed)
+    → OnErr r Partly → IfErr r (LeavesOutput true Untouched Partly)
+left_partly (Ok x) Untouched Partly Failed failed partly = tt
+left_partly (Err e) Untouched Partly Failed failed partly = subst (LeavesOutput true Untouched Partly) (sym failed.0) partly
+
+put_bytes : (limit : ℕ) (tile : Tile) (Taken : List ℕ → Type 0) (large : Bool) → nat_lt limit (length (canonical tile)) ≡ large
+    → PutsOut ⊥ Taken (bytes_reply limit tile) → Taken (canonical tile)
+unfolding bytes_reply
+put_bytes limit tile Taken true is put =
+    absurd (subst (λ (b : Bool). PutsOut ⊥ Taken (if b then refused (codes "mvt: result larger than 67108864 bytes\n") else done (canonical tile)))
+    is put)
+put_bytes limit tile Taken false is put =
+    subst (λ (b : Bool). PutsOut ⊥ Taken (if b then refused (codes "mvt: result larger than 67108864 bytes\n") else done (canonical tile)))
+    is put
+
+pub rewrite_partly : (limit : ℕ) (left : Option (List ℕ)) (reply : Reply) (Taken : List ℕ → Type 0)
+    → IfSome left (λ input. IsTold limit (bytes_reply limit) input reply) → PutsOut ⊥ Taken reply
+    → IfSome left (λ input. (text : List ℕ) × IsWhole limit Rewrite input text × Taken text)
+rewrite_partly limit None reply Taken told put = tt
+rewrite_partly limit (Some input) reply Taken (inl (tile, is, e)) put =
+    (canonical tile, (tile, is, refl), put_bytes limit tile Taken (nat_lt limit (length (canonical tile))) refl (subst (PutsOut ⊥ Taken) e put))
+rewrite_partly limit (Some input) reply Taken (inr (fault, is, e)) put = absurd (subst (PutsOut ⊥ Taken) e put)
 
 pub extract_refused : (limit : ℕ) (names : List (List ℕ)) (left : Option (List ℕ)) (error : DecodeError) (line : List ℕ)
     (Untouched : Type 0) (Writes : List ℕ → Type 0)

@@ -107,7 +107,7 @@ is_made_whole Fields = true
 is_made_whole Show = true
 is_made_whole Draw = true
 is_made_whole Check = true
-is_made_whole Rewrite = false
+is_made_whole Rewrite = true
 is_made_whole (Extract names) = false
 
 -- of a task that reads its input whole before it works

@@ -53,7 +53,7 @@ pub fn answer<R: Source, W: Sink>(
         Task::Show => deliver(view_tile(alloc, View::Json, reader)?, writer),
         Task::Draw => deliver(view_tile(alloc, View::Svg, reader)?, writer),
         Task::Check => deliver(check(alloc, reader)?, writer),
-        Task::Rewrite => rewrite(alloc, reader, writer),
+        Task::Rewrite => deliver(rewrite(alloc, reader)?, writer),
         Task::Extract(names) => extract_layers(alloc, &names, reader, writer),
     }
 }

@@ -9,7 +9,7 @@ use crate::failure::Failure;
 use crate::refusal::refusal;
 use crate::reply::Reply;
 use crate::task::Task;
-use mvt_base::{LIMIT, Text};
+use mvt_base::{Items, LIMIT};
 use mvt_io::{Source, read_up_to};
 use mvt_tile::{MOST_READS, Survey, survey_tile};
 use mvt_view::survey_text;
@@ -50,7 +50,7 @@ fn reported(alloc: Global, survey: &Survey) -> Result<Reply, Failure>
 {
     let text = survey_text(alloc, survey)?;
     Ok(Reply {
-        written: Some(Text::from_string(text)?),
+        written: Some(Items::new(text.into_bytes())),
         told: None,
     })
 }

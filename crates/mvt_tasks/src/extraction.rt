@@ -7,16 +7,15 @@ ghost use Rattle.mvt_model.specs.CanonicalTiles.{canonical};
 ghost use Rattle.mvt_tile.specs.Extraction.{pick};
 ghost use Rattle.mvt_model.specs.ValidTiles.{Valid};
 ghost use Rattle.mvt_tasks.specs.Failures.{EndsFailed, IsCaused, LeavesOutput};
-ghost use Rattle.mvt_tasks.specs.Output.{Answers, IsFlushed, IsWhole, PutsOut, layers_reply, missing_line};
+ghost use Rattle.mvt_tasks.specs.Output.{Answers, IsFlushed, IsWhole, PutsOut, bytes_reply, layers_reply, missing_line};
 
 use crate::failure::Failure;
 use crate::names::Names;
-use crate::refusal::refusal;
-use crate::rewriting::put_tile;
+use crate::refusal::{refusal, too_large};
 use crate::task::Task;
 use mvt_base::{LIMIT, Text};
 use mvt_io::{Sink, Source};
-use mvt_tile::{ExtractError, MOST_READS, Tile, extract, read_tile};
+use mvt_tile::{ExtractError, MOST_READS, Tile, WriteError, extract, read_tile, write_tile};
 use std::alloc::{AllocError, Global};
 
 /// Writes the named layers of a tile.
@@ -72,6 +71,36 @@ fn put_layers<W: Sink>(
         Ok(picked) => put_tile(alloc, &picked, writer),
         Err(ExtractError::MissingLayer(index)) => Ok(Some(missing(alloc, names, index)?)),
         Err(ExtractError::Memory) => Err(Failure::Memory),
+    }
+}
+
+/// Writes a tile and flushes once. Answers the line that is to be told, if there is one.
+fn put_tile<W: Sink>(
+    alloc: Global,
+    tile: &Tile,
+    writer: &mut W,
+) -> Result<Option<Text>, Failure>
+    requires { Valid tile.now }
+    ensures output { IfOk result (λ told. (told ≡ (bytes_reply LIMIT tile.now).told)
+        × PutsOut (writer.new ≡ writer.old) (λ text. Appends (W.taken writer.old) (W.taken writer.new) text
+        × (W.flushes writer.new ≡ counted (W.flushes writer.old))) (bytes_reply LIMIT tile.now)) }
+    ensures flushed { IfOk result (IsFlushed (writer.new ≡ writer.old)
+        (W.flushes writer.new ≡ counted (W.flushes writer.old))) }
+    ensures caused { IfErr result
+        (IsCaused ⊥ (EndsFailed (W.failed writer.old) (W.failed writer.new) (W.ended writer.new))
+        (W.failed writer.new ≡ W.failed writer.old)) }
+    ensures honest { OnOk result (W.failed writer.new ≡ W.failed writer.old) }
+    ensures partly { IfErr result (LeavesOutput false (writer.new ≡ writer.old)
+        (TakesPrefix (W.taken writer.old) (W.taken writer.new) (canonical tile.now))) }
+{
+    match write_tile(alloc, tile, writer) {
+        Ok(()) => match writer.flush() {
+            Ok(()) => Ok(None),
+            Err(_) => Err(Failure::Write),
+        },
+        Err(WriteError::TooLarge) => Ok(Some(too_large(alloc)?)),
+        Err(WriteError::Write(_)) => Err(Failure::Write),
+        Err(WriteError::Memory) => Err(Failure::Memory),
     }
 }
 

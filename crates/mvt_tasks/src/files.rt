@@ -12,7 +12,7 @@ use crate::folder::Folder;
 use crate::marks::named;
 use crate::reply::Reply;
 use crate::tally::{Tally, Verdict};
-use mvt_base::{LIMIT, Text};
+use mvt_base::LIMIT;
 use mvt_io::{Sink, write_all};
 use std::alloc::Global;
 use std::io::ErrorKind;
@@ -150,8 +150,11 @@ fn written(alloc: Global, name: &str, reply: &Option<Reply>) -> Result<Vec<u8>, 
     ensures failed { IfErr result (λ failure. failure ≡ Failure.Memory) }
 {
     match reply {
-        None => Ok(Vec::new(alloc)),
-        Some(reply) => lines(alloc, name, &reply.written),
+        Some(Reply {
+            written: Some(text),
+            ..
+        }) => Ok(named(alloc, name, text.as_slice())?),
+        Some(Reply { written: None, .. }) | None => Ok(Vec::new(alloc)),
     }
 }
 
@@ -161,19 +164,11 @@ fn told(alloc: Global, name: &str, reply: &Option<Reply>) -> Result<Vec<u8>, Fai
     ensures failed { IfErr result (λ failure. failure ≡ Failure.Memory) }
 {
     match reply {
-        None => Ok(named(alloc, name, "read failed\n")?),
-        Some(reply) => lines(alloc, name, &reply.told),
-    }
-}
-
-/// The lines of a text, each behind the file's name; nothing where there is no text.
-fn lines(alloc: Global, name: &str, text: &Option<Text>) -> Result<Vec<u8>, Failure>
-    ensures bytes { IfOk result (λ bytes. bytes.items ≡ marked_text name.now text.now) }
-    ensures failed { IfErr result (λ failure. failure ≡ Failure.Memory) }
-{
-    match text {
-        None => Ok(Vec::new(alloc)),
-        Some(text) => Ok(named(alloc, name, text.as_str())?),
+        None => Ok(named(alloc, name, b"read failed\n")?),
+        Some(Reply {
+            told: Some(line), ..
+        }) => Ok(named(alloc, name, line.as_str().as_bytes())?),
+        Some(Reply { told: None, .. }) => Ok(Vec::new(alloc)),
     }
 }
 

@@ -8,7 +8,7 @@ use crate::failure::Failure;
 use crate::refusal::fault_told;
 use crate::reply::Reply;
 use crate::task::Task;
-use mvt_base::{LIMIT, Text};
+use mvt_base::{Items, LIMIT};
 use mvt_io::{Source, read_up_to};
 use mvt_tile::MOST_READS;
 use mvt_view::{FieldsText, fields_text};
@@ -40,7 +40,7 @@ fn listed(alloc: Global, input: &[u8]) -> Result<Reply, Failure>
         Some(fault) => Some(fault_told(alloc, &fault)?),
     };
     Ok(Reply {
-        written: Some(Text::from_string(lines)?),
+        written: Some(Items::new(lines.into_bytes())),
         told,
     })
 }

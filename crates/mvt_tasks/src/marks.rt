@@ -5,11 +5,11 @@ ghost use Rattle.mvt_tasks.specs.Checks.{marked as marked_from};
 use std::alloc::{AllocError, Global};
 
 /// The lines of a text, each behind a file's name.
-pub(crate) fn named(alloc: Global, name: &str, text: &str) -> Result<Vec<u8>, AllocError>
+pub(crate) fn named(alloc: Global, name: &str, text: &[u8]) -> Result<Vec<u8>, AllocError>
     ensures { IfOk result (λ bytes. bytes.items ≡ marked_from (name.now ++ codes ": ") true text.now) }
 {
     let mark = format!(in alloc; "{name}: ")?;
-    marked(alloc, mark.as_bytes(), text.as_bytes())
+    marked(alloc, mark.as_bytes(), text)
 }
 
 /// A text with a mark before each of its lines.

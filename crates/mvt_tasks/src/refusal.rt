@@ -7,7 +7,7 @@ use crate::failure::Failure;
 use mvt_base::Text;
 use mvt_tile::{DecodeError, Fault};
 use mvt_view::fault_text;
-use std::alloc::Global;
+use std::alloc::{AllocError, Global};
 
 /// The line of a fault, with its line feed.
 pub(crate) fn fault_told(alloc: Global, fault: &Fault) -> Result<Text, Failure>
@@ -29,4 +29,11 @@ pub(crate) fn refusal(alloc: Global, error: DecodeError) -> Result<Text, Failure
         DecodeError::Memory => Err(Failure::Memory),
         DecodeError::Read(_) => Err(Failure::Read),
     }
+}
+
+/// The line of a tile whose canonical bytes are more than the limit.
+pub(crate) fn too_large(alloc: Global) -> Result<Text, AllocError>
+    ensures { IfOk result (λ line. line ≡ codes "mvt: result larger than 67108864 bytes\n") }
+{
+    Text::from_str(alloc, "mvt: result larger than 67108864 bytes\n")
 }

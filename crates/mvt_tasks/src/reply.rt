@@ -7,22 +7,22 @@ ghost use Rattle.mvt_tasks.specs.Failures.{EndsFailed};
 ghost use Rattle.mvt_tasks.specs.Output.{PutsOut};
 
 use crate::failure::Failure;
-use mvt_base::Text;
+use mvt_base::{Items, Text};
 use mvt_io::{Sink, write_all};
 
-/// What a command answers: the text for the output, if there is one, and the line for the error
+/// What a command answers: the bytes for the output, if there are any due, and the line for the error
 /// stream, if there is one. The status is 1 exactly where there is a line.
 #[derive(Debug, Drop)]
 pub struct Reply {
-    pub written: Option<Text>,
+    pub written: Option<Items<u8>>,
     pub told: Option<Text>,
 }
 
-/// Puts the text of a reply out, if there is one, and answers its line.
+/// Puts the bytes of a reply out, if there are any due, and answers its line.
 ///
 /// # Errors
 ///
-/// Write, where a write or the flush fails; the writer has then taken a front of the text.
+/// Write, where a write or the flush fails; the writer has then taken a front of the bytes.
 pub(crate) fn deliver<W: Sink>(reply: Reply, writer: &mut W) -> Result<Option<Text>, Failure>
     ensures told { IfOk result (λ told. told ≡ reply.told) }
     ensures put { OnOk result (PutsOut (writer.new ≡ writer.old)
@@ -34,22 +34,22 @@ pub(crate) fn deliver<W: Sink>(reply: Reply, writer: &mut W) -> Result<Option<Te
     ensures honest { OnOk result (W.failed writer.new ≡ W.failed writer.old) }
 {
     let Reply { written, told } = reply;
-    if let Some(text) = written {
-        put_out(text.as_str(), writer)?;
+    if let Some(bytes) = written {
+        put_out(bytes.as_slice(), writer)?;
     }
     Ok(told)
 }
 
-/// Puts a text out whole and flushes once.
-fn put_out<W: Sink>(text: &str, writer: &mut W) -> Result<(), Failure>
-    ensures taken { OnOk result (Appends (W.taken writer.old) (W.taken writer.new) text.now) }
+/// Puts bytes out whole and flushes once.
+fn put_out<W: Sink>(bytes: &[u8], writer: &mut W) -> Result<(), Failure>
+    ensures taken { OnOk result (Appends (W.taken writer.old) (W.taken writer.new) bytes.now) }
     ensures flushed { OnOk result (W.flushes writer.new ≡ counted (W.flushes writer.old)) }
-    ensures prefix { OnErr result (TakesPrefix (W.taken writer.old) (W.taken writer.new) text.now) }
+    ensures prefix { OnErr result (TakesPrefix (W.taken writer.old) (W.taken writer.new) bytes.now) }
     ensures failed { IfErr result (λ failure. (failure ≡ Failure.Write)
         × EndsFailed (W.failed writer.old) (W.failed writer.new) (W.ended writer.new)) }
     ensures honest { OnOk result (W.failed writer.new ≡ W.failed writer.old) }
 {
-    write_all(writer, text.as_bytes()).map_err(|_| Failure::Write)?;
+    write_all(writer, bytes).map_err(|_| Failure::Write)?;
     writer.flush().map_err(|_| Failure::Write)
 }
 

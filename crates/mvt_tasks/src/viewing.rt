@@ -6,7 +6,7 @@ ghost use Rattle.mvt_tasks.specs.Output.{IsTold, HasOutput, done, view_lines};
 use crate::failure::Failure;
 use crate::refusal::refusal;
 use crate::reply::Reply;
-use mvt_base::{LIMIT, Text};
+use mvt_base::{Items, LIMIT};
 use mvt_io::Source;
 use mvt_tile::{MOST_READS, Tile, read_tile};
 use mvt_view::{json_text, svg_text};
@@ -49,7 +49,7 @@ fn viewed(alloc: Global, view: View, tile: &Tile) -> Result<Reply, Failure>
     };
     text.push_str("\n")?;
     Ok(Reply {
-        written: Some(Text::from_string(text)?),
+        written: Some(Items::new(text.into_bytes())),
         told: None,
     })
 }

@@ -202,3 +202,10 @@ pub live_of : (limit : ℕ) (failure : Option DecodeError) (offset : ℕ) (items
 live_of limit failure offset items raw d s is none stands =
     subst (λ o. StandsAs limit o (record { failure = failure; items = items; raw = raw; offset = offset }) s) none
     (subst (λ x. StandsFor limit x s) (sym is) stands)
+
+pub stands_of : (limit : ℕ) (failure : Option DecodeError) (offset : ℕ) (items new : List Item) (raw s : List ℕ) → failure ≡ None
+    → items ≡ new → IsLive limit offset new raw s
+    → StandsFor limit (record { failure = failure; items = items; raw = raw; offset = offset }) s
+stands_of limit failure offset items new raw s none is live =
+    subst (λ o. StandsAs limit o (record { failure = failure; items = items; raw = raw; offset = offset }) s) (sym none)
+    (subst (λ xs. IsLive limit offset xs raw s) (sym is) live)

@@ -9,7 +9,8 @@ mod JudgeLemmas
 mod NamedLemmas
 mod DecoderLemmas
 mod WholeLemmas
-mod TakingLemmas
+mod FeedingLemmas
+mod RewritingLemmas
 mod RoundTripLemmas
 mod ExtractionLemmas
 mod PickLemmas

@@ -1,3 +1,3 @@
 -- What the private calls of the crate promise each other.
 pub mod Judging
-pub mod Taking
+pub mod Feeding

@@ -1,15 +1,14 @@
 //! Reading a tile that comes in pieces.
-ghost use Rattle.std.specs.Prelude.{◌≡◌, ℕ, ◌+◌, ◌<◌, ◌≤◌, List, [], ◌++◌, length, drop, Option, None, IsSome, IfOk, IfErr, IfSome};
-ghost use Rattle.mvt_tile.specs.Inner.Judging.{IsJudged, TellsBehind};
-ghost use Rattle.mvt_tile.specs.Streams.{StandsFor, Answers, IsLive, TellsEarly, TellsAtEnd};
+ghost use Rattle.std.specs.Prelude.{◌≡◌, ℕ, List, [], ◌++◌, length, None, IsSome, IfOk, IfErr, IfSome};
+ghost use Rattle.mvt_tile.specs.Streams.{StandsFor, Answers, TellsAtEnd};
 ghost use Rattle.mvt_tile.specs.TileRules.{fault_within};
 ghost use Rattle.mvt_model.specs.Tiles.{IsTile};
 ghost use Rattle.mvt_model.specs.ValidTiles.{Valid};
 
-use crate::fault::{DecodeError, Fault};
+use crate::fault::DecodeError;
 use crate::layers::Layers;
+use crate::pieces::Pieces;
 use mvt_base::{Items, LIMIT};
-use mvt_message::Cause;
 use mvt_model::Tile;
 use std::alloc::Global;
 use std::marker::Model;
@@ -30,9 +29,7 @@ use std::marker::Model;
 #[derive(Drop)]
 pub struct TileDecoder {
     alloc: Global,
-    layers: Layers,
-    raw: Vec<u8>,
-    offset: u64,
+    pieces: Pieces<Layers>,
     failure: Option<DecodeError>,
 }
 
@@ -43,9 +40,10 @@ impl Model for TileDecoder {
 
     ghost Value = { Decoding };
 
-    ghost view = { λ d. record { failure = d.failure; items = d.layers; raw = d.raw.items; offset = d.offset } };
+    ghost view = { λ d. record { failure = d.failure; items = d.pieces.taker; raw = d.pieces.raw.items; offset = d.pieces.offset } };
 
-    ghost invariant = { λ d. IfNone d.failure ((length d.layers ≤ d.offset) × (d.offset + length d.raw.items ≤ LIMIT)) };
+    ghost invariant = { λ d. IfNone d.failure
+        ((length d.pieces.taker ≤ d.pieces.offset) × (d.pieces.offset + length d.pieces.raw.items ≤ LIMIT)) };
 }
 
 impl TileDecoder {
@@ -56,9 +54,7 @@ impl TileDecoder {
     {
         TileDecoder {
             alloc,
-            layers: Layers::new(alloc),
-            raw: Vec::new(alloc),
-            offset: 0,
+            pieces: Pieces::new(alloc, Layers::new(alloc)),
             failure: None,
         }
     }
@@ -67,7 +63,7 @@ impl TileDecoder {
     pub fn held(&self) -> usize
         ensures { result ≡ length self.now.raw }
     {
-        self.raw.len()
+        self.pieces.raw.len()
     }
 
     /// Takes a piece of the input.
@@ -83,19 +79,10 @@ impl TileDecoder {
         if let Some(error) = self.failure {
             return Err(error);
         }
-        match take_in(
-            self.alloc,
-            &mut self.layers,
-            &mut self.raw,
-            self.offset,
-            piece,
-        ) {
-            Ok(offset) => {
-                self.offset = offset;
-                Ok(())
-            }
+        match self.pieces.take(self.alloc, piece) {
+            Ok(()) => Ok(()),
             Err(error) => {
-                self.raw.clear();
+                self.pieces.raw.clear();
                 self.failure = Some(error);
                 Err(error)
             }
@@ -115,18 +102,14 @@ impl TileDecoder {
         ensures no_memory { self.failure ≡ None → IfErr result (λ error. (error ≡ DecodeError.Memory → ⊥)) }
     {
         let TileDecoder {
-            layers,
-            raw,
-            offset,
+            pieces,
             failure,
             ..
         } = self;
         if let Some(error) = failure {
             return Err(error);
         }
-        if !raw.is_empty() {
-            return Err(DecodeError::Fault(Fault::outer(offset, Cause::Truncated)));
-        }
+        let layers = pieces.finish()?;
         Ok(Tile {
             items: Items::new(layers.into_items()),
         })
@@ -146,59 +129,4 @@ pub fn decode(alloc: Global, bytes: &[u8]) -> Result<Tile, DecodeError>
     let mut decoder = TileDecoder::new(alloc);
     decoder.feed(bytes)?;
     decoder.finish()
-}
-
-/// Takes a piece behind what is left of the fields before it, and answers the place of what is then left.
-fn take_in(
-    alloc: Global,
-    layers: &mut Layers,
-    raw: &mut Vec<u8>,
-    offset: u64,
-    piece: &[u8],
-) -> Result<u64, DecodeError>
-    requires few { length layers.old ≤ offset }
-    requires small { offset + length raw.old.items ≤ LIMIT }
-    ensures few { IfOk result (λ place. length layers.new ≤ place) }
-    ensures small { IfOk result (λ place. place + length raw.new.items ≤ LIMIT) }
-    ensures live { IfOk result (λ place. (s : List ℕ) → IsLive LIMIT offset layers.old raw.old.items s
-        → IsLive LIMIT place layers.new raw.new.items (s ++ piece.now)) }
-    ensures fault { IfErr result (λ error. (s : List ℕ) → IsLive LIMIT offset layers.old raw.old.items s
-        → TellsEarly error (fault_within LIMIT (s ++ piece.now))) }
-{
-    let room = LIMIT as usize - (offset as usize + raw.len());
-    let (fitting, beyond) = piece.split_at(room.min(piece.len()));
-    let used = swallow(alloc, layers, raw, offset, fitting)?;
-    let place = offset + used as u64;
-    if !beyond.is_empty() {
-        return Err(DecodeError::Fault(Fault::outer(place, Cause::TooLarge)));
-    }
-    Ok(place)
-}
-
-/// Judges a piece behind some bytes, keeps what is unfinished, and answers how many bytes were whole
-/// fields. Where no bytes stand before it, the piece isn't copied first.
-fn swallow(
-    alloc: Global,
-    layers: &mut Layers,
-    raw: &mut Vec<u8>,
-    offset: u64,
-    piece: &[u8],
-) -> Result<usize, DecodeError>
-    requires few { length layers.old ≤ offset }
-    requires small { offset + (length raw.old.items + length piece.now) ≤ LIMIT }
-    ensures judged { IfOk result (IsJudged offset (raw.old.items ++ piece.now) layers.old layers.new) }
-    ensures raw { IfOk result (λ used. raw.new.items ≡ drop used (raw.old.items ++ piece.now)) }
-    ensures fault { IfErr result (λ error. TellsBehind error offset (raw.old.items ++ piece.now) layers.old) }
-{
-    if raw.is_empty() {
-        let used = layers.take_fields(alloc, piece, offset)?;
-        raw.extend_from_slice(&piece[used..])?;
-        return Ok(used);
-    }
-    raw.extend_from_slice(piece)?;
-    let used = layers.take_fields(alloc, raw.as_slice(), offset)?;
-    if used > 0 {
-        raw.drain(..used);
-    }
-    Ok(used)
 }

@@ -3,15 +3,15 @@ ghost use Rattle.std.specs.Prelude.{◌≡◌, ◌∷◌, ◌++◌, ◌||◌, �
 ghost use Rattle.std.specs.Bool.{OnFalse};
 ghost use Rattle.std.specs.List.{AllByRecursion, flat_map, list_any};
 ghost use Rattle.std.specs.Option.{option_to_list};
-ghost use Rattle.mvt_message.specs.Items.{names_in};
+ghost use Rattle.mvt_message.specs.Items.{IsItem, names_in};
 ghost use Rattle.mvt_message.specs.ValidItems.{ValidItem};
-ghost use Rattle.mvt_tile.specs.Inner.Judging.{AreNamed, IsJudged, TellsBehind, name_fault};
+ghost use Rattle.mvt_tile.specs.Inner.Judging.{AreNamed, name_fault, payload_fault};
 ghost use Rattle.mvt_tile.specs.Streams.{TellsEarly};
 ghost use Rattle.mvt_tile.specs.TileRules.{repeats};
 ghost use Rattle.mvt_model.specs.Tiles.{HasDistinctNames};
 
 use crate::fault::DecodeError;
-use crate::taking::{Taker, in_layer, repeated_name, take_fields};
+use crate::taking::{Taker, in_layer, repeated_name};
 use mvt_base::{LIMIT, Text};
 use mvt_message::{Item, read_item};
 use std::alloc::{AllocError, Global};
@@ -61,21 +61,6 @@ impl Layers {
     {
         let Layers { items, .. } = self;
         items
-    }
-
-    /// Takes the items of the whole fields at the front of some bytes, which stand at an offset of the input.
-    pub(crate) fn take_fields(
-        &mut self,
-        alloc: Global,
-        bytes: &[u8],
-        offset: u64,
-    ) -> Result<usize, DecodeError>
-        requires few { length self.old ≤ offset }
-        requires fits { offset + length bytes.now ≤ LIMIT }
-        ensures judged { IfOk result (IsJudged offset bytes.now self.old self.new) }
-        ensures fault { IfErr result (λ error. TellsBehind error offset bytes.now self.old) }
-    {
-        take_fields(alloc, self, bytes, offset)
     }
 
     /// Adds an item, but for a layer whose name is there: that is a fault.
@@ -148,6 +133,33 @@ impl Names {
         }
         self.count += 1;
         Ok(())
+    }
+
+    /// Reads an item, and adds its name.
+    pub(crate) fn read_named(
+        &mut self,
+        alloc: Global,
+        payload: &[u8],
+        payload_at: u64,
+        tag_at: u64,
+    ) -> Result<Item, DecodeError>
+        requires few { self.old.count ≤ LIMIT }
+        requires fits { payload_at + length payload.now ≤ LIMIT }
+        ensures item { IfOk result (IsItem payload.now) }
+        ensures valid { IfOk result ValidItem }
+        ensures named { IfOk result (λ item. (items : List Item) → AreNamed self.old.count self.old.names.keys items
+            → AreNamed self.new.count self.new.names.keys (items ++ item ∷ [])
+            × (repeats (flat_map names_in items) (names_in item) ≡ false)) }
+        ensures fault { IfErr result (λ error. (items : List Item) → AreNamed self.old.count self.old.names.keys items
+            → TellsEarly error (payload_fault (length items) (flat_map names_in items) payload.now payload_at tag_at)) }
+    {
+        match read_item(alloc, payload, payload_at, tag_at) {
+            Ok(item) => {
+                self.add(name_of(alloc, &item)?, tag_at)?;
+                Ok(item)
+            }
+            Err(error) => Err(in_layer(self.count, error)),
+        }
     }
 }
 

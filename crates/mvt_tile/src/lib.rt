@@ -10,7 +10,9 @@ mod fault;
 mod judging;
 pub mod laws;
 mod layers;
+mod pieces;
 mod reading;
+mod rewriting;
 mod round_trip;
 mod surveying;
 mod taking;
@@ -30,6 +32,7 @@ pub use mvt_model::{
     Note, Survey, Tile, WriteError, encode, feature_count, is_canonical, notes, numbers, write_tile,
 };
 pub use reading::{MOST_READS, read_tile};
+pub use rewriting::{rewrite, rewrite_tile};
 pub use round_trip::write_and_read;
 pub use surveying::survey_tile;
 pub use validity::{is_valid, validate};

@@ -1,18 +1,20 @@
 //! Reading a tile from a reader.
-ghost use Rattle.std.specs.Prelude.{◌≡◌, ℕ, ◌+◌, ◌<◌, ◌≤◌, max, true, List, [], length, Err, None, IfOk, IfErr, IfSome, OnOk, OnErr};
+ghost use Rattle.std.specs.Prelude.{◌≡◌, ℕ, ◌+◌, ◌<◌, ◌≤◌, max, true, List, [], length, IfOk, IfErr, IfSome, OnOk, OnErr};
 ghost use Rattle.std.specs.Io.KnownBytes.{IsAtEnd};
 ghost use Rattle.mvt_base.specs.Tells.{Tells};
 ghost use Rattle.mvt_io.specs.Counts.{HasFailed};
-ghost use Rattle.mvt_tile.specs.Inner.Taking.{HasTaken, HasStopped};
+ghost use Rattle.mvt_tile.specs.Inner.Feeding.{HasFed, HasStopped};
 ghost use Rattle.mvt_tile.specs.Reading.{IsReadError, IsKindOf, StopsEarly, fault_of};
-ghost use Rattle.mvt_tile.specs.Streams.{StandsFor};
 ghost use Rattle.mvt_tile.specs.TileRules.{fault_within};
+ghost use Rattle.mvt_model.specs.declared.tile.Tile.{Tile};
 ghost use Rattle.mvt_model.specs.Tiles.{IsTile};
 ghost use Rattle.mvt_model.specs.ValidTiles.{Valid};
 
-use crate::decoder::TileDecoder;
 use crate::fault::DecodeError;
-use mvt_base::LIMIT;
+use crate::layers::Layers;
+use crate::pieces::Pieces;
+use crate::taking::Taker;
+use mvt_base::{Items, LIMIT};
 use mvt_io::Source;
 use mvt_model::Tile;
 use std::alloc::Global;
@@ -45,23 +47,55 @@ pub fn read_tile<R: Source>(alloc: Global, reader: &mut R) -> Result<Tile, Decod
     ensures honest { OnOk result (R.failed reader.new ≡ R.failed reader.old) }
     ensures sound { IfErr result (λ error. (IsReadError error → ⊥) → R.failed reader.new ≡ R.failed reader.old) }
 {
-    let mut decoder = TileDecoder::new(alloc);
-    let mut piece = [0; PIECE];
-    feed_all(reader, &mut decoder, &mut piece)?;
-    decoder.finish()
+    let layers = read_whole(alloc, reader, Layers::new(alloc))?;
+    Ok(Tile {
+        items: Items::new(layers.into_items()),
+    })
 }
 
-/// Feeds a decoder all that the reader has left, in pieces of the buffer's length at most.
-fn feed_all<R: Source>(
+/// Takes the items of a tile: all that the reader has left. It reads no further after a fault.
+pub(crate) fn read_whole<R: Source, T: Taker>(
+    alloc: Global,
     reader: &mut R,
-    decoder: &mut TileDecoder,
+    taker: T,
+) -> Result<T, DecodeError>
+    requires start { (input : List ℕ) × T.has_taken input taker [] }
+    ensures end { OnOk result (IsAtEnd (R.left reader.new)) }
+    ensures fault { IfErr result (λ error. IfSome (R.left reader.old)
+        (λ input. Tells (fault_of error) (fault_within LIMIT input))) }
+    ensures early { StopsEarly LIMIT 65536 (R.left reader.old) (R.left reader.new) }
+    ensures stops { StopsEarly LIMIT (R.given reader.new) (R.left reader.old) (R.left reader.new) }
+    ensures tile { (input : List ℕ) → T.has_taken input taker [] → IfOk result (λ after. (tile : Tile)
+        × T.has_taken input after tile.items × IfSome (R.left reader.old) (λ bytes. IsTile LIMIT bytes tile)) }
+    ensures reads { R.reads reader.new ≤ R.reads reader.old + MOST_READS }
+    ensures asked { R.asked reader.new ≤ max (R.asked reader.old) 65536 }
+    ensures failed { IfErr result (λ error. IsReadError error
+        → HasFailed (R.failed reader.old) (R.failed reader.new)) }
+    ensures ended { IfErr result (λ error. IsReadError error → R.ended reader.new ≡ true) }
+    ensures kind { IfErr result (λ error. IsKindOf error (R.fault reader.new)) }
+    ensures honest { OnOk result (R.failed reader.new ≡ R.failed reader.old) }
+    ensures sound { IfErr result (λ error. (IsReadError error → ⊥) → R.failed reader.new ≡ R.failed reader.old) }
+{
+    let mut pieces = Pieces::new(alloc, taker);
+    let mut buffer = [0; PIECE];
+    feed_all(alloc, reader, &mut pieces, &mut buffer)?;
+    pieces.finish()
+}
+
+/// Takes the items in all that the reader has left, in pieces of the buffer's length at most.
+fn feed_all<R: Source, T: Taker>(
+    alloc: Global,
+    reader: &mut R,
+    pieces: &mut Pieces<T>,
     buffer: &mut [u8],
 ) -> Result<(), DecodeError>
     requires room { 0 < length buffer.old }
     requires few { length buffer.old ≤ 65536 }
-    requires fresh { decoder.old.failure ≡ None }
-    requires stands { StandsFor LIMIT decoder.old [] }
-    ensures taken { OnOk result (HasTaken LIMIT (R.left reader.old) (R.left reader.new) decoder.new 0) }
+    requires start { (input : List ℕ) × T.has_taken input pieces.old.taker [] }
+    requires raw { pieces.old.raw.items ≡ [] }
+    requires offset { pieces.old.offset ≡ 0 }
+    ensures fed { (input : List ℕ) → T.has_taken input pieces.old.taker [] → OnOk result
+        (HasFed LIMIT (T.has_taken input pieces.new.taker) pieces.new.offset pieces.new.raw.items (R.left reader.old) (R.left reader.new) 0) }
     ensures end { OnOk result (IsAtEnd (R.left reader.new)) }
     ensures stopped { IfErr result (HasStopped LIMIT (R.given reader.new) (R.left reader.old) (R.left reader.new)) }
     ensures given { R.given reader.new ≤ 65536 }
@@ -82,7 +116,7 @@ fn feed_all<R: Source>(
         if count == 0 {
             return Ok(());
         }
-        decoder.feed(&buffer[..count])?;
+        pieces.take(alloc, &buffer[..count])?;
     }
     unreachable!()
 }

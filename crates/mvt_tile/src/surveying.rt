@@ -11,10 +11,9 @@ ghost use Rattle.mvt_model.specs.Tiles.{IsTile};
 ghost use Rattle.mvt_model.specs.ValidTiles.{Valid};
 
 use crate::fault::DecodeError;
-use crate::layers::{Names, name_of};
-use crate::taking::{Taker, in_layer, take_whole};
+use crate::layers::Names;
+use crate::taking::{Taker, take_whole};
 use mvt_base::LIMIT;
-use mvt_message::read_item;
 use mvt_model::{Findings, Survey};
 use std::alloc::Global;
 
@@ -65,13 +64,9 @@ impl<'a> Taker for Surveyor<'a> {
         payload_at: u64,
         tag_at: u64,
     ) -> Result<(), DecodeError> {
-        let index = self.names.count;
-        let item = match read_item(alloc, payload, payload_at, tag_at) {
-            Ok(item) => item,
-            Err(error) => return Err(in_layer(index, error)),
-        };
-        self.names.add(name_of(alloc, &item)?, tag_at)?;
-        self.found.add(alloc, index as usize, &item)?;
+        let index = self.names.count as usize;
+        let item = self.names.read_named(alloc, payload, payload_at, tag_at)?;
+        self.found.add(alloc, index, &item)?;
         Ok(())
     }
 }

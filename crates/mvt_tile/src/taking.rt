@@ -24,7 +24,7 @@ use mvt_wire::{Field, Fields, Payload, WireCause, WireFault};
 use std::alloc::Global;
 
 /// What takes the items of a tile, one after the other.
-pub(crate) trait Taker {
+pub(crate) trait Taker: Drop {
     // What it knows of an input when it has taken these items.
     ghost has_taken: { List ℕ → Self → List Item → Type 0 };
 

@@ -81,13 +81,14 @@ fn made_whole_refused_memory(rt: HostRuntime) {
     }
 }
 
+// `extract` writes one layer after the other, `rewrite` all at once.
 #[test]
-fn written_in_parts_refused_memory(rt: HostRuntime) {
+fn tiles_refused_memory(rt: HostRuntime) {
     let both = "1A1178020A0161120718012203093222288020 1A1178020A0162120718012203093222288020";
     let (Ok(bytes), Ok(point)) = (hex(rt.alloc(), both), hex(rt.alloc(), ONE_POINT)) else {
         return;
     };
-    wants_once(&rt, &["mvt", "rewrite"], both, false, (0, &bytes, NOTHING));
+    wants_once(&rt, &["mvt", "rewrite"], both, true, (0, &bytes, NOTHING));
     let several = ["mvt", "extract", "b", "a"];
     wants_once(&rt, &several, both, false, (0, &bytes, NOTHING));
     let one = ["mvt", "extract", "a"];

@@ -3,7 +3,9 @@ use super::rows::{FOREIGN, ONE_POINT};
 use super::support::outer;
 use mvt_io::{MemorySink, MemorySource};
 use mvt_message::Cause;
-use mvt_tile::{DecodeError, WriteError, decode, read_tile, write_and_read, write_tile};
+use mvt_tile::{
+    DecodeError, WriteError, decode, read_tile, rewrite_tile, write_and_read, write_tile,
+};
 use std::io::ErrorKind;
 use std::test::Fail;
 
@@ -47,10 +49,23 @@ fn reads_in_steps(rt: HostRuntime) -> Result<(), Fail> {
         let mut reader = MemorySource::new(bytes, 1, fails_from);
         let error = read_tile(alloc, &mut reader).err();
         assert_eq!(rt; error, Some(DecodeError::Read(ErrorKind::Other)));
+        let bytes = Vec::from_slice(alloc, ONE_POINT)?;
+        let mut reader = MemorySource::new(bytes, 1, fails_from);
+        let error = rewrite_tile(alloc, &mut reader).err();
+        assert_eq!(rt; error, Some(DecodeError::Read(ErrorKind::Other)));
     }
-    // After a fault nothing is read.
+    Ok(())
+}
+
+#[test]
+fn reads_nothing_after_a_fault(rt: HostRuntime) -> Result<(), Fail> {
+    let alloc = rt.alloc();
     let mut reader = MemorySource::new(Vec::from_slice(alloc, b"\x1B")?, 1, 1);
     let error = read_tile(alloc, &mut reader).err();
+    assert_eq!(rt; error, Some(outer(0, Cause::WireType)));
+    assert_eq!(rt; reader.calls(), 1);
+    let mut reader = MemorySource::new(Vec::from_slice(alloc, b"\x1B")?, 1, 1);
+    let error = rewrite_tile(alloc, &mut reader).err();
     assert_eq!(rt; error, Some(outer(0, Cause::WireType)));
     assert_eq!(rt; reader.calls(), 1);
     Ok(())

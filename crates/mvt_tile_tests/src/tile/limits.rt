@@ -6,7 +6,7 @@ use mvt_geometry::Geometry;
 use mvt_io::MemorySink;
 use mvt_message::{Cause, Feature, Item, is_valid_item, item_len, put_item, room_behind_item};
 use mvt_tile::{
-    Note, PutError, Tile, TileDecoder, WriteError, decode, encode, is_valid, judge, notes,
+    Note, PutError, Tile, TileDecoder, WriteError, decode, encode, is_valid, judge, notes, rewrite,
     write_tile,
 };
 use std::alloc::{AllocError, Global};
@@ -106,6 +106,7 @@ fn is_too_large_to_write(rt: HostRuntime) -> Result<(), Fail> {
     let tile = decode(alloc, &input)?;
     expect_payload(&rt, &tile);
     assert_eq!(rt; encode(alloc, &tile).err(), Some(PutError::TooLarge));
+    assert!(rt; rewrite(alloc, &input)?.is_none());
     let mut writer = MemorySink::new(alloc, 100, 100, u64::MAX, false)?;
     let done = write_tile(alloc, &tile, &mut writer);
     assert_eq!(rt; done, Err(WriteError::TooLarge));

@@ -5,7 +5,7 @@ use super::support::{KEYS, joined, keyed, named, names};
 use mvt_io::{MemorySink, MemorySource};
 use mvt_tile::{
     DecodeError, ExtractError, PutError, Tile, TileDecoder, WriteError, decode, encode, extract,
-    is_canonical, is_valid, judge, notes, read_tile, survey_tile, validate, write_tile,
+    is_canonical, is_valid, judge, notes, read_tile, rewrite, survey_tile, validate, write_tile,
 };
 use std::alloc::{AllocError, Global};
 use std::process::Abort;
@@ -68,6 +68,20 @@ fn is_survey_refused(rt: &(impl Abort + AllocGlobal), input: &[u8]) -> bool {
     }
 }
 
+fn is_rewrite_refused(rt: &(impl Abort + AllocGlobal), canonical: &[u8]) -> bool {
+    match rewrite(rt.alloc(), canonical) {
+        Ok(made) => {
+            let made = made.unwrap_or(Vec::new(rt.alloc()));
+            assert_eq!(rt; made.as_slice(), canonical);
+            false
+        }
+        Err(error) => {
+            assert_eq!(rt; error, DecodeError::Memory);
+            true
+        }
+    }
+}
+
 #[test]
 fn refused_reads(rt: HostRuntime) {
     let mut refused = 0u32;
@@ -79,6 +93,7 @@ fn refused_reads(rt: HostRuntime) {
                 is_read_refused(&rt, input),
                 is_judge_refused(&rt, input),
                 is_survey_refused(&rt, input),
+                is_rewrite_refused(&rt, input),
             ];
             for is_refused in answers {
                 refused = refused.saturating_add(u32::from(is_refused));

@@ -2,10 +2,11 @@
 use mvt_attrs::{Attribute, Value};
 use mvt_base::{Items, Text};
 use mvt_geometry::{Geometry, Point};
+use mvt_io::MemorySource;
 use mvt_message::{Cause, Feature, Item, Layer};
 use mvt_tile::{
-    DecodeError, Fault, Tile, TileDecoder, decode, encode, is_canonical, is_valid, judge,
-    survey_tile, validate,
+    DecodeError, Fault, Tile, TileDecoder, decode, encode, is_canonical, is_valid, judge, rewrite,
+    rewrite_tile, survey_tile, validate,
 };
 use std::alloc::{AllocError, Global};
 use std::process::Abort;
@@ -169,6 +170,7 @@ pub(super) fn expect_tile(
     assert_eq!(rt; survey.is_canonical, input == canonical, "of {input:?}");
     let written = encode(rt.alloc(), &read).map_err(|_| AllocError)?;
     assert_eq!(rt; written.as_slice(), canonical);
+    expect_rewritten(rt, input, canonical)?;
     assert!(rt; validate(rt.alloc(), &read)?);
     expect_canonical(rt, &read, input, input == canonical)?;
     expect_canonical(rt, &read, canonical, true)?;
@@ -177,6 +179,21 @@ pub(super) fn expect_tile(
     if let [shorter @ .., _] = canonical {
         expect_canonical(rt, &read, shorter, false)?;
     }
+    Ok(())
+}
+
+// The canonical bytes of a tile, by its bytes, and by a reader of them that gives seven at a time.
+fn expect_rewritten(
+    rt: &(impl Abort + AllocGlobal),
+    input: &[u8],
+    canonical: &[u8],
+) -> Result<(), Fail> {
+    let alloc = rt.alloc();
+    let made = rewrite(alloc, input)?.unwrap_or(Vec::new(alloc));
+    assert_eq!(rt; made.as_slice(), canonical, "of {input:?}");
+    let mut reader = MemorySource::new(Vec::from_slice(alloc, input)?, 7, u64::MAX);
+    let made = rewrite_tile(alloc, &mut reader)?.unwrap_or(Vec::new(alloc));
+    assert_eq!(rt; made.as_slice(), canonical, "of {input:?} by a reader");
     Ok(())
 }
 
@@ -198,7 +215,7 @@ fn expect_canonical(
     Ok(())
 }
 
-// The input has this fault, whole, byte by byte, and where it is only judged or surveyed.
+// The input has this fault, whole, byte by byte, and where it is only judged, surveyed or rewritten.
 pub(super) fn expect_fault(rt: &(impl Abort + AllocGlobal), input: &[u8], error: DecodeError) {
     assert_eq!(rt;
         decode(rt.alloc(), input).err(),
@@ -211,5 +228,10 @@ pub(super) fn expect_fault(rt: &(impl Abort + AllocGlobal), input: &[u8], error:
         survey_tile(rt.alloc(), input).err(),
         Some(error),
         "of {input:?} surveyed"
+    );
+    assert_eq!(rt;
+        rewrite(rt.alloc(), input).err(),
+        Some(error),
+        "of {input:?} rewritten"
     );
 }

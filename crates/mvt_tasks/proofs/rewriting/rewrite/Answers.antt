@@ -1,12 +1,13 @@
-use Rattle.std.proofs.Common.{◌≡◌, refl}
-use Rattle.std.specs.Io.KnownBytes.{Appends}
-use Rattle.mvt_io.specs.Counts.{counted}
-use Rattle.mvt_tasks.proofs.Replies.{rewrite_refused}
+use Rattle.mvt_tasks.proofs.Replies.{rewritten, not_rewritten}
 use Rattle.mvt_tasks.proofs.rewriting.rewrite.Goals as goal
 
-pub returns-in_ok-refusal-in-Err-clause-output : goal.returns-in_ok-refusal-in-Err-clause-output
-returns-in_ok-refusal-in-Err-clause-output g c =
-    rewrite_refused _ (g.R.Source.left c.args.reader.now) c.in-Err.error _ (c.args.writer.now ≡ c.args.writer.now)
-    (λ text. Appends (g.W.Sink.taken c.args.writer.now) (g.W.Sink.taken c.args.writer.now) text
-    × (g.W.Sink.flushes c.args.writer.now ≡ counted (g.W.Sink.flushes c.args.writer.now)))
-    c.in-Err.ensures.fault c.in_ok-refusal-in-Err.ensures.line refl
+pub returns-in-Ok-Some-clause-reply : goal.returns-in-Ok-Some-clause-reply
+returns-in-Ok-Some-clause-reply g c =
+    let told = c.in-Ok-Some.ensures.tile in
+    rewritten 67108864 (g.R.Source.left c.args.reader.now) told.0 told.2 _ _ c.new.ensures (rw c.in-Ok-Some.field-0-is at told.1)
+
+pub returns-in_ok-too_large-in-Ok-None-clause-reply : goal.returns-in_ok-too_large-in-Ok-None-clause-reply
+returns-in_ok-too_large-in-Ok-None-clause-reply g c =
+    let told = c.in-Ok-None.ensures.tile in
+    not_rewritten 67108864 (g.R.Source.left c.args.reader.now) told.0 told.2 _ c.in_ok-too_large-in-Ok-None.ensures
+    (rw c.in-Ok-None.field-0-is at told.1)

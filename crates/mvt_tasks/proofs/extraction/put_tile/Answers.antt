@@ -3,7 +3,7 @@ use Rattle.std.specs.Io.KnownBytes.{Appends}
 use Rattle.mvt_io.specs.Counts.{counted}
 use Rattle.mvt_tasks.specs.Output.{refused}
 use Rattle.mvt_tasks.proofs.Replies.{done_put, refused_put, small_reply, large_reply}
-use Rattle.mvt_tasks.proofs.rewriting.put_tile.Goals as goal
+use Rattle.mvt_tasks.proofs.extraction.put_tile.Goals as goal
 
 pub returns-in-Ok-flush-clause-output : goal.returns-in-Ok-flush-clause-output
 returns-in-Ok-flush-clause-output g c =
@@ -12,10 +12,10 @@ returns-in-Ok-flush-clause-output g c =
     × (g.W.Sink.flushes c.flush.new.self ≡ counted (g.W.Sink.flushes c.args.writer.now)))
     (small_reply _ _ c.in-Ok.ensures.small) (search rules, search rules)
 
-pub returns-in_ok-from_str-in-Err-TooLarge-clause-output : goal.returns-in_ok-from_str-in-Err-TooLarge-clause-output
-returns-in_ok-from_str-in-Err-TooLarge-clause-output g c =
+pub returns-in_ok-too_large-in-Err-TooLarge-clause-output : goal.returns-in_ok-too_large-in-Err-TooLarge-clause-output
+returns-in_ok-too_large-in-Err-TooLarge-clause-output g c =
     let large = c.in-Err-TooLarge.ensures.too_large (ap Err c.in-Err-TooLarge.field-0-is) in
     refused_put _ _ (c.write_tile.new.writer ≡ c.args.writer.now) (λ text. Appends (g.W.Sink.taken c.args.writer.now)
     (g.W.Sink.taken c.write_tile.new.writer) text
     × (g.W.Sink.flushes c.write_tile.new.writer ≡ counted (g.W.Sink.flushes c.args.writer.now)))
-    (large_reply _ _ large.0 ∙ ap refused (sym c.in_ok-from_str-in-Err-TooLarge.ensures.same)) large.1
+    (large_reply _ _ large.0 ∙ ap refused (sym c.in_ok-too_large-in-Err-TooLarge.ensures)) large.1

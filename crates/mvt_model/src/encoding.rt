@@ -1,0 +1,76 @@
+//! The canonical bytes of a tile, in memory.
+ghost use Rattle.std.specs.Prelude.{◌≡◌, ◌<◌, ◌≤◌, ◌++◌, ◌∷◌, [], List, length, IfOk, IsErrOf, OnOk};
+ghost use Rattle.mvt_wire.specs.Field.{bytes};
+ghost use Rattle.mvt_wire.specs.Spelling.{short_field};
+ghost use Rattle.mvt_message.specs.declared.item.Item.{Item};
+ghost use Rattle.mvt_message.specs.CanonicalItems.{canonical_item};
+ghost use Rattle.mvt_message.specs.ValidItems.{ValidItem};
+ghost use Rattle.mvt_model.specs.declared.numbers.tile.TheConstants.{LAYERS};
+ghost use Rattle.mvt_model.specs.CanonicalTiles.{canonical};
+ghost use Rattle.mvt_model.specs.Encoding.{AreEncoded};
+ghost use Rattle.mvt_model.specs.Tiles.{IsTile};
+ghost use Rattle.mvt_model.specs.ValidTiles.{Valid};
+
+use crate::numbers::tile;
+use crate::tile::Tile;
+use mvt_base::LIMIT;
+use mvt_message::{Item, PutError, put_item};
+use mvt_wire::{Payload, put_field};
+use std::alloc::{AllocError, Global};
+
+/// The canonical bytes of a tile.
+///
+/// # Errors
+///
+/// Want of memory; TooLarge for more bytes than the limit.
+pub fn encode(alloc: Global, tile: &Tile) -> Result<Vec<u8>, PutError>
+    requires { Valid tile.now }
+    ensures put { IfOk result (λ bytes. bytes.items ≡ canonical tile.now) }
+    ensures small { IfOk result (λ bytes. length bytes.items ≤ LIMIT) }
+    ensures reads { IfOk result (λ bytes. IsTile LIMIT bytes.items tile.now) }
+    ensures too_large { IsErrOf result PutError.TooLarge → LIMIT < length (canonical tile.now) }
+{
+    let items = tile.items.as_slice();
+    let mut out = Some(Vec::new(alloc));
+    for item in items {
+        out = encode_more(alloc, out, item)?;
+    }
+    out.ok_or(PutError::TooLarge)
+}
+
+/// The canonical bytes of one item more, behind those of the items before it; `None` from where they are
+/// more than the limit.
+pub fn encode_more(
+    alloc: Global,
+    out: Option<Vec<u8>>,
+    item: &Item,
+) -> Result<Option<Vec<u8>>, AllocError>
+    requires { ValidItem item.now }
+    ensures { (items : List Item) → AreEncoded LIMIT items out → IfOk result (AreEncoded LIMIT (items ++ item.now ∷ [])) }
+{
+    let Some(mut bytes) = out else {
+        return Ok(None);
+    };
+    match append_item(alloc, &mut bytes, item) {
+        Ok(()) => Ok(Some(bytes)),
+        Err(PutError::TooLarge) => Ok(None),
+        Err(PutError::Memory) => Err(AllocError),
+    }
+}
+
+/// Appends the field of an item, where all bytes are then within the limit.
+fn append_item(alloc: Global, out: &mut Vec<u8>, item: &Item) -> Result<(), PutError>
+    requires { ValidItem item.now }
+    ensures put { OnOk result
+        (out.new.items ≡ out.old.items ++ short_field LAYERS (bytes (canonical_item item.now))) }
+    ensures small { OnOk result (length out.new.items ≤ LIMIT) }
+    ensures too_large { IsErrOf result PutError.TooLarge
+        → LIMIT < length (out.old.items ++ short_field LAYERS (bytes (canonical_item item.now))) }
+{
+    let payload = put_item(alloc, item)?;
+    put_field(out, tile::LAYERS, &Payload::Len(payload.as_slice()))?;
+    if out.len() as u64 > LIMIT {
+        return Err(PutError::TooLarge);
+    }
+    Ok(())
+}

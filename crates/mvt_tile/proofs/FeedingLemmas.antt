@@ -1,0 +1,144 @@
+-- A reader whose bytes are taken piece by piece.
+use Rattle.std.proofs.Common.{◌≡◌, ℕ, ◌+◌, ◌-◌, ◌<◌, ◌≤◌, List, [], ◌++◌, length, take, drop, Option, Some, None, IfSome, sym, ap, subst, ◌∙◌, arith, append-nil, length-append, length-take, take-append-drop}
+use Rattle.std.proofs.lemmas.List.{take-append-le}
+use Rattle.std.specs.Io.KnownBytes.{Consumes, IsAtEnd, Keeps}
+use Rattle.std.proofs.KnownBytes.{Consumes-nil, Consumes-trans, Consumes-kept, Consumes-whole}
+use Rattle.mvt_message.specs.declared.item.Item.{Item}
+use Rattle.mvt_tile.specs.declared.fault.DecodeError.{DecodeError}
+use Rattle.mvt_tile.specs.declared.fault.DecodeError.TheVariants.{Memory, Fault, Read}
+use Rattle.mvt_tile.specs.declared.fault.Fault.{Fault as AFault}
+use Rattle.mvt_tile.specs.Inner.Feeding.{HasFed, HasStopped, TellsFed}
+use Rattle.mvt_tile.specs.Reading.{StopsEarly, fault_of}
+use Rattle.std.specs.declared.io.ErrorKind.{ErrorKind}
+use Rattle.mvt_base.specs.Tells.{Tells}
+use Rattle.mvt_model.specs.declared.tile.Tile.{Tile}
+use Rattle.mvt_model.specs.Tiles.{IsTile}
+use Rattle.mvt_tile.specs.Streams.{IsCalm, IsLive, TellsEarly, TellsAtEnd}
+use Rattle.mvt_tile.specs.TileRules.{fault_within}
+use Rattle.mvt_tile.proofs.DecoderLemmas.{live_start}
+use Rattle.mvt_tile.proofs.StreamLemmas.{fault_stays, calm_front}
+
+-- no read yet
+pub fed_start : (limit : ℕ) (Has : List Item → Type 0) (offset : ℕ) (raw : List ℕ) (a : Option (List ℕ)) → Has [] → raw ≡ [] → offset ≡ 0
+    → HasFed limit Has offset raw a a 0
+fed_start limit Has offset raw a has none zero = record {
+  items = [];
+  has = has;
+  few = omega arith;
+  given = [];
+  consumed = Consumes-nil a;
+  live = subst (λ r. IsLive limit offset [] r []) (sym none) (subst (λ n. IsLive limit n [] [] []) (sym zero) (live_start limit));
+  turns = omega arith;
+}
+
+weaker_fed : (e : DecodeError) (o : Option AFault) → TellsEarly e o → TellsFed e o
+weaker_fed Memory o h = tt
+weaker_fed (Fault f) o h = h
+weaker_fed (Read k) o h = tt
+
+module _ (limit : ℕ) (Has : List Item → Type 0) (offset : ℕ) (raw : List ℕ) (a b c : Option (List ℕ)) (reads : ℕ)
+    (has : HasFed limit Has offset raw a b reads) where
+  -- one piece more
+  pub fed_more : (buffer piece : List ℕ) (n : ℕ) (Next : List Item → Type 0) (place : ℕ) (left : List ℕ) → Consumes b c (take n buffer)
+      → piece ≡ take n buffer → 0 < n → n ≤ length buffer
+      → ((new : List Item) × Next new × (length new ≤ place)
+      × ((s : List ℕ) → IsLive limit offset has.items raw s → IsLive limit place new left (s ++ piece)))
+      → HasFed limit Next place left a c (reads + 1)
+  fed_more buffer piece n Next place left consumed is some within (new, next, few, live) =
+      let size : length piece ≡ n = ap length is ∙ (simp length-take (omega arith)) in
+      let turns = has.turns in
+      record {
+        items = new;
+        has = next;
+        few = few;
+        given = has.given ++ piece;
+        consumed = Consumes-trans a b c has.given piece has.consumed (subst (Consumes b c) (sym is) consumed);
+        live = live has.given has.live;
+        turns = omega (arith, length-append has.given piece);
+      }
+
+  pub fed_fails : (buffer piece : List ℕ) (n size : ℕ) (e : DecodeError) → Consumes b c (take n buffer)
+      → piece ≡ take n buffer → size ≡ n
+      → ((s : List ℕ) → IsLive limit offset has.items raw s → TellsEarly e (fault_within limit (s ++ piece))) → HasStopped limit size a c e
+  fed_fails buffer piece n size e consumed is of_size tells =
+      let short : length piece ≤ size =
+      let count : length piece ≡ length (take n buffer) = ap length is in omega (arith, length-take n buffer) in
+      record {
+        front = has.given;
+        back = piece;
+        consumed = Consumes-trans a b c has.given piece has.consumed (subst (Consumes b c) (sym is) consumed);
+        few = short;
+        calm = has.live.calm;
+        told = weaker_fed e (fault_within limit (has.given ++ piece)) (tells has.given has.live);
+      }
+
+  pub fed_read : (size : ℕ) (k : ErrorKind) → Keeps b c → HasStopped limit size a c (Read k)
+  fed_read size k kept = record {
+    front = has.given;
+    back = [];
+    consumed = subst (Consumes a c) (sym (append-nil has.given)) (Consumes-kept a b c has.given has.consumed kept);
+    few = omega arith;
+    calm = has.live.calm;
+    told = tt;
+  }
+
+-- the reader is at its end
+
+tells_at_end : (e : DecodeError) (o : Option AFault) → TellsAtEnd e o → Tells (fault_of e) o
+tells_at_end Memory o h = tt
+tells_at_end (Fault f) o h = h
+tells_at_end (Read k) o h = absurd h
+
+module _ (limit : ℕ) (Has : List Item → Type 0) (offset : ℕ) (raw : List ℕ) (a b : Option (List ℕ)) (reads : ℕ)
+    (has : HasFed limit Has offset raw a b reads) (end : IsAtEnd b) where
+  pub fed_tile : IsTile limit has.given (record { items = has.items })
+      → (tile : Tile) × Has tile.items × IfSome a (λ bytes. IsTile limit bytes tile)
+  fed_tile is =
+      let tile : Tile = record { items = has.items } in
+      (tile, has.has, Consumes-whole a b has.given (λ bytes. IsTile limit bytes tile) has.consumed end is)
+
+  pub fed_told : (e : DecodeError) → TellsAtEnd e (fault_within limit has.given)
+      → IfSome a (λ input. Tells (fault_of e) (fault_within limit input))
+  fed_told e tells =
+      Consumes-whole a b has.given (λ input. Tells (fault_of e) (fault_within limit input)) has.consumed end
+      (tells_at_end e (fault_within limit has.given) tells)
+
+-- of the whole call
+
+early_from : (limit size : ℕ) (a b : Option (List ℕ)) (front back : List ℕ) → Consumes a b (front ++ back) → length back ≤ size
+    → IsCalm (fault_within limit front) → StopsEarly limit size a b
+early_from limit size None b front back consumed few calm = tt
+early_from limit size (Some xs) None front back consumed few calm = consumed
+early_from limit size (Some xs) (Some ys) front back consumed few calm =
+    let all = length (front ++ back) in
+    let sum : all ≡ length front + length back = length-append front back in
+    let within : all - size ≤ length front = omega arith in (
+      front ++ back,
+      consumed,
+      subst (λ s. IsCalm (fault_within limit s)) (sym (take-append-le (all - size) front back within))
+          (calm_front limit (take (all - size) front) (drop (all - size) front)
+          (subst (λ s. IsCalm (fault_within limit s)) (sym (take-append-drop (all - size) front)) calm)),
+    )
+
+pub stopped_early : (limit given size : ℕ) (a b : Option (List ℕ)) (e : DecodeError) → given ≤ size → HasStopped limit given a b e
+    → StopsEarly limit size a b
+stopped_early limit given size a b e within h =
+    let few : length h.back ≤ given = h.few in
+    early_from limit size a b h.front h.back h.consumed (omega arith) h.calm
+
+pub fed_early : (limit size : ℕ) (Has : List Item → Type 0) (offset : ℕ) (raw : List ℕ) (a b : Option (List ℕ)) (reads : ℕ)
+    → HasFed limit Has offset raw a b reads → StopsEarly limit size a b
+fed_early limit size Has offset raw a b reads has =
+    early_from limit size a b has.given [] (subst (Consumes a b) (sym (append-nil has.given)) has.consumed) (omega arith) has.live.calm
+
+tells_input : (limit : ℕ) (e : DecodeError) (taken left input : List ℕ) → input ≡ taken ++ left → TellsFed e (fault_within limit taken)
+    → Tells (fault_of e) (fault_within limit input)
+tells_input limit Memory taken left input is h = tt
+tells_input limit (Fault f) taken left input is h = ap (fault_within limit) is ∙ fault_stays limit taken left f h.0 h.1
+tells_input limit (Read k) taken left input is h = tt
+
+pub stopped_told : (limit size : ℕ) (a b : Option (List ℕ)) (e : DecodeError) → HasStopped limit size a b e
+    → IfSome a (λ input. Tells (fault_of e) (fault_within limit input))
+stopped_told limit size None b e h = tt
+stopped_told limit size (Some xs) None e h = absurd h.consumed
+stopped_told limit size (Some xs) (Some ys) e h = tells_input limit e (h.front ++ h.back) ys xs h.consumed h.told

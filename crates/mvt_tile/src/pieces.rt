@@ -1,0 +1,105 @@
+//! An input that comes in pieces, and what takes the items in it.
+ghost use Rattle.std.specs.Prelude.{◌≡◌, ℕ, ◌+◌, ◌≤◌, List, [], ◌++◌, length, drop, IfOk, IfErr, OnOk};
+ghost use Rattle.mvt_message.specs.declared.item.Item.{Item};
+ghost use Rattle.mvt_model.specs.declared.tile.Tile.{Tile};
+ghost use Rattle.mvt_model.specs.Tiles.{IsTile};
+ghost use Rattle.mvt_tile.specs.Inner.Judging.{IsJudged, TellsBehind};
+ghost use Rattle.mvt_tile.specs.Streams.{IsLive, TellsEarly, TellsAtEnd};
+ghost use Rattle.mvt_tile.specs.TileRules.{fault_within};
+
+use crate::fault::{DecodeError, Fault};
+use crate::taking::{Taker, take_fields};
+use mvt_base::LIMIT;
+use mvt_message::Cause;
+use std::alloc::Global;
+
+/// What took the items of the pieces so far, and the bytes behind the last whole field, with their place.
+#[derive(Drop)]
+pub(crate) struct Pieces<T> {
+    pub(crate) taker: T,
+    pub(crate) raw: Vec<u8>,
+    pub(crate) offset: u64,
+}
+
+impl<T: Taker> Pieces<T> {
+    /// No pieces yet, without memory.
+    pub(crate) fn new(alloc: Global, taker: T) -> Self
+        ensures taker { result.taker ≡ taker }
+        ensures raw { result.raw.items ≡ [] }
+        ensures offset { result.offset ≡ 0 }
+    {
+        Pieces {
+            taker,
+            raw: Vec::new(alloc),
+            offset: 0,
+        }
+    }
+
+    /// Takes the items in a piece behind the bytes that are held, and holds what is then left.
+    pub(crate) fn take(&mut self, alloc: Global, piece: &[u8]) -> Result<(), DecodeError>
+        requires few { (input : List ℕ) × (items : List Item) × T.has_taken input self.old.taker items × (length items ≤ self.old.offset) }
+        requires small { self.old.offset + length self.old.raw.items ≤ LIMIT }
+        ensures small { OnOk result (self.new.offset + length self.new.raw.items ≤ LIMIT) }
+        ensures live { (input : List ℕ) (items : List Item) → T.has_taken input self.old.taker items → length items ≤ self.old.offset
+            → OnOk result ((new : List Item) × T.has_taken input self.new.taker new × (length new ≤ self.new.offset)
+            × ((s : List ℕ) → IsLive LIMIT self.old.offset items self.old.raw.items s
+            → IsLive LIMIT self.new.offset new self.new.raw.items (s ++ piece.now))) }
+        ensures fault { (input : List ℕ) (items : List Item) → T.has_taken input self.old.taker items → IfErr result
+            (λ error. (s : List ℕ) → IsLive LIMIT self.old.offset items self.old.raw.items s
+            → TellsEarly error (fault_within LIMIT (s ++ piece.now))) }
+    {
+        let room = LIMIT as usize - (self.offset as usize + self.raw.len());
+        let (fitting, beyond) = piece.split_at(room.min(piece.len()));
+        let used = swallow(alloc, &mut self.taker, &mut self.raw, self.offset, fitting)?;
+        self.offset += used as u64;
+        if !beyond.is_empty() {
+            return Err(DecodeError::Fault(Fault::outer(self.offset, Cause::TooLarge)));
+        }
+        Ok(())
+    }
+
+    /// What took the items of a tile, after the last piece. It takes no memory.
+    pub(crate) fn finish(self) -> Result<T, DecodeError>
+        ensures tile { (items : List Item) (s : List ℕ) → IsLive LIMIT self.offset items self.raw.items s
+            → IfOk result (λ taker. (taker ≡ self.taker) × IsTile LIMIT s (record { items = items })) }
+        ensures fault { (items : List Item) (s : List ℕ) → IsLive LIMIT self.offset items self.raw.items s
+            → IfErr result (λ error. TellsAtEnd error (fault_within LIMIT s)) }
+        ensures no_memory { IfErr result (λ error. (error ≡ DecodeError.Memory → ⊥)) }
+    {
+        if !self.raw.is_empty() {
+            return Err(DecodeError::Fault(Fault::outer(self.offset, Cause::Truncated)));
+        }
+        Ok(self.taker)
+    }
+}
+
+/// Takes the items in a piece behind some bytes, keeps what is unfinished, and answers how many bytes were
+/// whole fields. Where no bytes stand before it, the piece isn't copied first.
+fn swallow<T: Taker>(
+    alloc: Global,
+    taker: &mut T,
+    raw: &mut Vec<u8>,
+    offset: u64,
+    piece: &[u8],
+) -> Result<usize, DecodeError>
+    requires few { (input : List ℕ) × (items : List Item) × T.has_taken input taker.old items × (length items ≤ offset) }
+    requires small { offset + (length raw.old.items + length piece.now) ≤ LIMIT }
+    ensures judged { (input : List ℕ) (items : List Item) → T.has_taken input taker.old items → IfOk result
+        (λ used. (new : List Item) × T.has_taken input taker.new new × IsJudged offset (raw.old.items ++ piece.now) items new used) }
+    ensures raw { IfOk result (λ used. raw.new.items ≡ drop used (raw.old.items ++ piece.now)) }
+    ensures within { IfOk result (λ used. used ≤ length raw.old.items + length piece.now) }
+    ensures fault { (input : List ℕ) (items : List Item) → T.has_taken input taker.old items → IfErr result
+        (λ error. TellsBehind error offset (raw.old.items ++ piece.now) items) }
+{
+    if raw.is_empty() {
+        let used = take_fields(alloc, taker, piece, offset)?;
+        raw.extend_from_slice(&piece[used..])?;
+        return Ok(used);
+    }
+    raw.extend_from_slice(piece)?;
+    let used = take_fields(alloc, taker, raw.as_slice(), offset)?;
+    if used > 0 {
+        raw.drain(..used);
+    }
+    Ok(used)
+}

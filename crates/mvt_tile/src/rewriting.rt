@@ -1,0 +1,109 @@
+//! A tile made canonical: its items are read one after the other, and only their canonical bytes are kept.
+ghost use Rattle.std.specs.Prelude.{◌≡◌, ◌+◌, ◌≤◌, max, true, [], IfOk, IfErr, IfSome, OnOk};
+ghost use Rattle.std.specs.Io.KnownBytes.{IsAtEnd};
+ghost use Rattle.mvt_base.specs.Tells.{Tells};
+ghost use Rattle.mvt_io.specs.Counts.{HasFailed};
+ghost use Rattle.mvt_model.specs.declared.tile.Tile.{Tile};
+ghost use Rattle.mvt_model.specs.Encoding.{AreEncoded, IsEncoded};
+ghost use Rattle.mvt_model.specs.Tiles.{IsTile};
+ghost use Rattle.mvt_model.specs.ValidTiles.{Valid};
+ghost use Rattle.mvt_tile.specs.Inner.Judging.{AreNamed};
+ghost use Rattle.mvt_tile.specs.Reading.{IsReadError, IsKindOf, StopsEarly, fault_of};
+ghost use Rattle.mvt_tile.specs.Streams.{TellsAtEnd};
+ghost use Rattle.mvt_tile.specs.TileRules.{fault_within};
+
+use crate::fault::DecodeError;
+use crate::layers::Names;
+use crate::reading::{MOST_READS, read_whole};
+use crate::taking::{Taker, take_whole};
+use mvt_base::LIMIT;
+use mvt_io::Source;
+use mvt_model::encode_more;
+use std::alloc::Global;
+
+/// The canonical bytes of a tile; `None` where these are more than the limit. One item is held at a time.
+///
+/// # Errors
+///
+/// The first fault, which is the one that [`decode`](crate::decode) tells; want of memory. Never a failed
+/// read.
+pub fn rewrite(alloc: Global, bytes: &[u8]) -> Result<Option<Vec<u8>>, DecodeError>
+    ensures tile { IfOk result (λ out. (tile : Tile) × IsTile LIMIT bytes.now tile × Valid tile × IsEncoded LIMIT tile out) }
+    ensures fault { IfErr result (λ error. TellsAtEnd error (fault_within LIMIT bytes.now)) }
+{
+    let mut rewriter = Rewriter::new(alloc);
+    take_whole(alloc, &mut rewriter, bytes)?;
+    Ok(rewriter.out)
+}
+
+/// The canonical bytes of the tile that a reader has left; `None` where these are more than the limit. One
+/// item is held at a time. It reads no further after a fault.
+///
+/// # Errors
+///
+/// The input's first fault; a read that failed; want of memory.
+pub fn rewrite_tile<R: Source>(
+    alloc: Global,
+    reader: &mut R,
+) -> Result<Option<Vec<u8>>, DecodeError>
+    ensures end { OnOk result (IsAtEnd (R.left reader.new)) }
+    ensures fault { IfErr result (λ error. IfSome (R.left reader.old)
+        (λ input. Tells (fault_of error) (fault_within LIMIT input))) }
+    ensures early { StopsEarly LIMIT 65536 (R.left reader.old) (R.left reader.new) }
+    ensures stops { StopsEarly LIMIT (R.given reader.new) (R.left reader.old) (R.left reader.new) }
+    ensures tile { IfOk result (λ out. (tile : Tile) × IsEncoded LIMIT tile out
+        × IfSome (R.left reader.old) (λ input. IsTile LIMIT input tile × Valid tile)) }
+    ensures reads { R.reads reader.new ≤ R.reads reader.old + MOST_READS }
+    ensures asked { R.asked reader.new ≤ max (R.asked reader.old) 65536 }
+    ensures failed { IfErr result (λ error. IsReadError error
+        → HasFailed (R.failed reader.old) (R.failed reader.new)) }
+    ensures ended { IfErr result (λ error. IsReadError error → R.ended reader.new ≡ true) }
+    ensures kind { IfErr result (λ error. IsKindOf error (R.fault reader.new)) }
+    ensures honest { OnOk result (R.failed reader.new ≡ R.failed reader.old) }
+    ensures sound { IfErr result (λ error. (IsReadError error → ⊥) → R.failed reader.new ≡ R.failed reader.old) }
+{
+    let rewriter = read_whole(alloc, reader, Rewriter::new(alloc))?;
+    Ok(rewriter.out)
+}
+
+/// The names of the layers so far, and the canonical bytes of the items.
+#[derive(Drop)]
+struct Rewriter {
+    names: Names,
+    out: Option<Vec<u8>>,
+}
+
+impl Rewriter {
+    fn new(alloc: Global) -> Self
+        ensures { AreNamed result.names.count result.names.names.keys [] × AreEncoded LIMIT [] result.out }
+    {
+        Rewriter {
+            names: Names::new(alloc),
+            out: Some(Vec::new(alloc)),
+        }
+    }
+}
+
+impl Taker for Rewriter {
+    ghost use Rattle.std.specs.List.{AllByRecursion};
+    ghost use Rattle.mvt_base.specs.declared.TheConstants.{LIMIT};
+    ghost use Rattle.mvt_message.specs.ValidItems.{ValidItem};
+    ghost use Rattle.mvt_model.specs.Encoding.{AreEncoded};
+    ghost use Rattle.mvt_tile.specs.Inner.Judging.{AreNamed};
+
+    ghost has_taken = { λ _ r items. AreNamed r.names.count r.names.names.keys items
+        × AreEncoded LIMIT items r.out × AllByRecursion ValidItem items };
+
+    /// Reads an item, and keeps its name and its canonical bytes.
+    fn take_item(
+        &mut self,
+        alloc: Global,
+        payload: &[u8],
+        payload_at: u64,
+        tag_at: u64,
+    ) -> Result<(), DecodeError> {
+        let item = self.names.read_named(alloc, payload, payload_at, tag_at)?;
+        self.out = encode_more(alloc, self.out.take(), &item)?;
+        Ok(())
+    }
+}
