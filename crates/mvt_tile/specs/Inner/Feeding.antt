@@ -1,5 +1,5 @@
 -- What a reader gave, piece by piece.
-use Rattle.std.specs.Prelude.{◌≡◌, ℕ, ◌≤◌, List, ◌++◌, length, Option, ⊤}
+use Rattle.std.specs.Prelude.{ℕ, ◌≤◌, List, ◌++◌, length, Option, ⊤}
 use Rattle.std.specs.Io.KnownBytes.{Consumes}
 use Rattle.mvt_message.specs.declared.item.Item.{Item}
 use Rattle.mvt_tile.specs.declared.fault.Fault.{Fault as AFault}

@@ -1,6 +1,5 @@
-use Rattle.std.proofs.Common.{◌<◌, ℕ, Vec, Global, length, arith}
+use Rattle.std.proofs.Common.{ℕ, Vec, Global, arith}
 use Rattle.std.proofs.lemmas.List.{take_all}
-use Rattle.mvt_model.specs.CanonicalTiles.{canonical}
 use Rattle.mvt_model.proofs.WritingLemmas.{encoded_put, encoded_small, encoded_large, encoded_reads}
 use Rattle.mvt_model.proofs.encoding.encode.Goals as goal
 
