@@ -75,11 +75,7 @@ fn put_layers<W: Sink>(
 }
 
 /// Writes a tile and flushes once. Answers the line that is to be told, if there is one.
-fn put_tile<W: Sink>(
-    alloc: Global,
-    tile: &Tile,
-    writer: &mut W,
-) -> Result<Option<Text>, Failure>
+fn put_tile<W: Sink>(alloc: Global, tile: &Tile, writer: &mut W) -> Result<Option<Text>, Failure>
     requires { Valid tile.now }
     ensures output { IfOk result (λ told. (told ≡ (bytes_reply LIMIT tile.now).told)
         × PutsOut (writer.new ≡ writer.old) (λ text. Appends (W.taken writer.old) (W.taken writer.new) text

@@ -150,10 +150,12 @@ fn written(alloc: Global, name: &str, reply: &Option<Reply>) -> Result<Vec<u8>, 
     ensures failed { IfErr result (λ failure. failure ≡ Failure.Memory) }
 {
     match reply {
-        Some(Reply {
-            written: Some(text),
-            ..
-        }) => Ok(named(alloc, name, text.as_slice())?),
+        Some(
+            Reply {
+                written: Some(text),
+                ..
+            },
+        ) => Ok(named(alloc, name, text.as_slice())?),
         Some(Reply { written: None, .. }) | None => Ok(Vec::new(alloc)),
     }
 }
@@ -165,9 +167,12 @@ fn told(alloc: Global, name: &str, reply: &Option<Reply>) -> Result<Vec<u8>, Fai
 {
     match reply {
         None => Ok(named(alloc, name, b"read failed\n")?),
-        Some(Reply {
-            told: Some(line), ..
-        }) => Ok(named(alloc, name, line.as_str().as_bytes())?),
+        Some(
+            Reply {
+                told: Some(line),
+                ..
+            },
+        ) => Ok(named(alloc, name, line.as_str().as_bytes())?),
         Some(Reply { told: None, .. }) => Ok(Vec::new(alloc)),
     }
 }
