@@ -50,25 +50,39 @@ fn second_end(text: &Text) -> u64 {
     state.finish() % (1 << 20)
 }
 
-// Three texts meet in their first slot, and two of them in their second one too.
+// Three texts that meet in their first slot, of which the last two meet in their second one too, and the
+// places that they get behind the letters.
+const MEETING: [(u32, u32); 3] = [(0, 40), (988, 41), (2_066, 42)];
+
+#[test]
+fn slots_meet(rt: HostRuntime) -> Result<(), Fail> {
+    let last = hashes_alike(rt.alloc(), 2_066)?;
+    for (number, _) in MEETING {
+        let text = hashes_alike(rt.alloc(), number)?;
+        assert_eq!(rt; first_end(&text), first_end(&last));
+        assert_eq!(rt; second_end(&text) == second_end(&last), number > 0);
+    }
+    Ok(())
+}
+
+fn place_letters(alloc: Global, keys: &mut KeyPool) -> Result<(), PoolError> {
+    for letter in LETTERS {
+        keys.place(&Text::from_str(alloc, letter)?)?;
+    }
+    Ok(())
+}
+
 #[test]
 fn places_keys_that_meet_twice(rt: HostRuntime) -> Result<(), Fail> {
     let mut keys = KeyPool::new(rt.alloc());
-    for letter in LETTERS {
-        keys.place(&Text::from_str(rt.alloc(), letter)?)?;
-    }
-    let other = hashes_alike(rt.alloc(), 0)?;
-    let one = hashes_alike(rt.alloc(), 988)?;
-    let two = hashes_alike(rt.alloc(), 2_066)?;
-    assert_eq!(rt; first_end(&one), first_end(&other));
-    assert_eq!(rt; first_end(&one), first_end(&two));
-    assert_eq!(rt; second_end(&one), second_end(&two));
+    place_letters(rt.alloc(), &mut keys)?;
     for _turn in 0..2 {
-        assert_eq!(rt; keys.place(&other), Ok(40));
-        assert_eq!(rt; keys.place(&one), Ok(41));
-        assert_eq!(rt; keys.place(&two), Ok(42));
+        for (number, place) in MEETING {
+            let key = hashes_alike(rt.alloc(), number)?;
+            assert_eq!(rt; keys.place(&key), Ok(place));
+            assert_eq!(rt; keys.get(place), Some(key.as_str()));
+        }
     }
-    assert_eq!(rt; keys.get(42), Some(two.as_str()));
     Ok(())
 }
 
