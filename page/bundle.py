@@ -15,8 +15,8 @@ top = here.parent
 source = here / "src"
 
 
-def scripts():
-    """The names of the modules, each behind those that it imports."""
+def scripts(root):
+    """The names of the modules that one wants, each behind those that it imports."""
     found = []
 
     def visit(name):
@@ -25,14 +25,15 @@ def scripts():
         if name not in found:
             found.append(name)
 
-    visit("main.js")
+    visit(root)
     return found
 
 
-def script():
-    """All modules as one: they share a scope, so no two may declare one name, and the browser refuses it if they do."""
+def script(root):
+    """A module and those below it as one: they share a scope, so no two may declare one name, and the browser refuses
+    it if they do."""
     parts = []
-    for name in scripts():
+    for name in scripts(root):
         text = re.sub(r"^import .*\n", "", (source / name).read_text(), flags=re.M)
         parts.append(f"// ---- {name}\n" + re.sub(r"^export ", "", text, flags=re.M))
     return "\n".join(parts)
@@ -64,8 +65,10 @@ def examples():
 def main():
     codec, page = pathlib.Path(sys.argv[1]), pathlib.Path(sys.argv[2])
     packed = base64.b64encode(gzip.compress(codec.read_bytes(), 9, mtime=0)).decode()
-    data = json.dumps({"rules": rules(), "notes": notes(), "examples": examples(), "codec": packed}).replace("<", "\\u003c")
-    code = f"\n{script()}"
+    worker = f'"use strict";\n{script("worker.js")}'
+    parts = {"rules": rules(), "notes": notes(), "examples": examples(), "worker": worker, "codec": packed}
+    data = json.dumps(parts).replace("<", "\\u003c")
+    code = f"\n{script('main.js')}"
     mark = base64.b64encode(hashlib.sha256(code.encode()).digest()).decode()
     text = (source / "page.html").read_text()
     for place, content in {

@@ -8,14 +8,16 @@ export const LIMIT = 67_108_864;
 
 export const OK = 0;
 export const REFUSED = 1;
+export const NO_MEMORY = 2;
 export const TOO_LARGE = 3;
+export const NO_LAYER = 4;
 
 /** Compiles the module; rejects where the browser has no memories of 64 bits. */
 export async function loadCodec(wasm) {
   return new Codec(await WebAssembly.compile(wasm));
 }
 
-class Codec {
+export class Codec {
   constructor(module) {
     this.module = module;
   }

@@ -30,8 +30,3 @@ export function save(name, type, bytes) {
   link.remove();
   setTimeout(() => URL.revokeObjectURL(url), 60_000);
 }
-
-/** Lets the browser draw what was changed. */
-export function drawn() {
-  return new Promise((resolve) => setTimeout(resolve, 0));
-}

@@ -1,13 +1,20 @@
 // The fields of a message of Protocol Buffers, as far as they can be split, so that the hex view can mark them. Nothing
 // is judged here: that is the library's.
 
-/** Names of the fields that tiles know. */
-export const NAMES = {
-  tile: { 3: 'layer' },
-  layer: { 1: 'name', 2: 'feature', 3: 'key', 4: 'value', 5: 'extent', 15: 'version' },
-  feature: { 1: 'id', 2: 'tags', 3: 'type', 4: 'geometry' },
-  value: { 1: 'string', 2: 'float', 3: 'double', 4: 'int', 5: 'uint', 6: 'sint', 7: 'bool' },
+/** The numbers of the fields that tiles know, by the message that has them. */
+export const FIELD = {
+  tile: { layer: 3 },
+  layer: { name: 1, feature: 2, key: 3, value: 4, extent: 5, version: 15 },
+  feature: { id: 1, tags: 2, type: 3, geometry: 4 },
+  value: { string: 1, float: 2, double: 3, int: 4, uint: 5, sint: 6, bool: 7 },
 };
+
+/** Their names, by number. */
+export const NAMES = Object.fromEntries(Object.entries(FIELD).map(([message, fields]) =>
+  [message, Object.fromEntries(Object.entries(fields).map(([name, number]) => [number, name]))]));
+
+/** Wire types. */
+export const WIRE = { varint: 0, fixed64: 1, bytes: 2, fixed32: 5 };
 
 /** A varint at an offset: `{value, end}`; null where it doesn't end before `end`. Above 2^53 the value is rounded. */
 export function varint(bytes, at, end) {
@@ -34,15 +41,15 @@ function fieldAt(bytes, at, end) {
   const field = { ...broken, number: Math.floor(tag.value / 8), wire: tag.value % 8, head: tag.end, body: tag.end };
   const upTo = (last) => ({ ...field, end: Math.min(last, end), whole: last <= end, wanted: last });
   switch (field.wire) {
-    case 0: {
+    case WIRE.varint: {
       const number = varint(bytes, tag.end, end);
       return number ? { ...upTo(number.end), value: number.value } : field;
     }
-    case 1:
+    case WIRE.fixed64:
       return upTo(tag.end + 8);
-    case 5:
+    case WIRE.fixed32:
       return upTo(tag.end + 4);
-    case 2: {
+    case WIRE.bytes: {
       const length = varint(bytes, tag.end, end);
       if (length === null) return field;
       const last = length.end + length.value;
@@ -63,11 +70,11 @@ export function* fieldsOf(bytes, start, end) {
   }
 }
 
-/** The field of a number and wire type 2 that has an index among its like; null where there is none. */
+/** The field of a number that holds bytes and has an index among its like; null where there is none. */
 export function nthField(bytes, message, number, index) {
   let seen = 0;
   for (const field of fieldsOf(bytes, message.body, message.end)) {
-    if (field.number !== number || field.wire !== 2) continue;
+    if (field.number !== number || field.wire !== WIRE.bytes) continue;
     if (seen === index) return field;
     seen += 1;
   }
@@ -79,12 +86,12 @@ export function wholeOf(bytes) {
   return { at: 0, head: 0, body: 0, end: bytes.length };
 }
 
-/** The integers of a feature's tags (2) or geometry (4), each with its bytes; packed and unpacked ones are joined. */
+/** The integers of a feature's tags or geometry, by the field's number, each with its bytes; packed and unpacked ones are joined. */
 export function* integersOf(bytes, feature, number) {
   for (const field of fieldsOf(bytes, feature.body, feature.end)) {
     if (field.number !== number) continue;
-    if (field.wire === 0 && field.whole) yield { value: field.value, start: field.body, end: field.end };
-    if (field.wire === 2) yield* packedOf(bytes, field);
+    if (field.wire === WIRE.varint && field.whole) yield { value: field.value, start: field.body, end: field.end };
+    if (field.wire === WIRE.bytes) yield* packedOf(bytes, field);
   }
 }
 

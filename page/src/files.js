@@ -1,27 +1,42 @@
-// The bytes of files and of pasted texts: read, unpacked, and cut behind the limit.
+// The bytes of files: read, unpacked, and cut behind the limit.
 import { LIMIT } from './codec.js';
 
 /** One byte more than a tile may have: what is longer is judged the same. */
 const MOST = LIMIT + 1;
 
+/** The least bytes of a gzip member, and of its trailer. */
+const LEAST_MEMBER = 18;
+const TRAILER = 8;
+
+/** So many wrong guesses of a member's end are made before the input counts as damaged. */
+const GUESSES = 100;
+
 /** `gzip`, `deflate` (zlib) or null, by how the bytes begin. */
 export function packing(bytes) {
   if (bytes.length < 2) return null;
-  if (bytes[0] === 0x1f && bytes[1] === 0x8b) return 'gzip';
+  if (isGzipAt(bytes, 0)) return 'gzip';
   const isZlib = (bytes[0] & 15) === 8 && bytes[0] >> 4 <= 7 && (256 * bytes[0] + bytes[1]) % 31 === 0;
   return isZlib ? 'deflate' : null;
 }
 
-/** Unpacks bytes, up to a number of them; throws where they aren't packed so. */
+function isGzipAt(bytes, at) {
+  return bytes[at] === 0x1f && bytes[at + 1] === 0x8b;
+}
+
+/** Unpacks bytes, up to a number of them; null where they aren't packed so, or not wholly. */
 async function unpacked(bytes, format) {
   const reader = new Blob([bytes]).stream().pipeThrough(new DecompressionStream(format)).getReader();
   const parts = [];
   let length = 0;
-  while (length < MOST) {
-    const { done, value } = await reader.read();
-    if (done) return joined(parts, length);
-    parts.push(value);
-    length += value.length;
+  try {
+    while (length < MOST) {
+      const { done, value } = await reader.read();
+      if (done) return joined(parts, length);
+      parts.push(value);
+      length += value.length;
+    }
+  } catch {
+    return null;
   }
   await reader.cancel();
   return joined(parts, length).subarray(0, MOST);
@@ -37,42 +52,59 @@ function joined(parts, length) {
   return all;
 }
 
-/** The bytes to be judged, and what was done to get them, in words or null. */
+/** Where a member of gzip that begins at `from` may end: before the next one, at the end, or before zeros there. */
+function* endsOf(bytes, from) {
+  for (let at = bytes.indexOf(0x1f, from + LEAST_MEMBER); at !== -1; at = bytes.indexOf(0x1f, at + 1)) {
+    if (isGzipAt(bytes, at) && bytes[at + 2] === 8) yield at;
+  }
+  yield bytes.length;
+  const bare = bytes.findLastIndex((byte) => byte !== 0) + 1;
+  for (let end = bare; end <= Math.min(bare + TRAILER, bytes.length - 1); end += 1) yield end;
+}
+
+/** The members of gzip, one behind another, perhaps with zeros behind the last; null where one is damaged. */
+async function membersOf(bytes) {
+  const parts = [];
+  let at = 0;
+  let length = 0;
+  while (at < bytes.length && bytes[at] !== 0 && length < MOST) {
+    const member = await memberAt(bytes, at);
+    if (member === null) return null;
+    parts.push(member.bytes);
+    length += member.bytes.length;
+    at = member.end;
+  }
+  return { bytes: joined(parts, length).subarray(0, MOST), count: parts.length };
+}
+
+async function memberAt(bytes, from) {
+  let guesses = 0;
+  for (const end of endsOf(bytes, from)) {
+    const made = await unpacked(bytes.subarray(from, end), 'gzip');
+    if (made !== null) return { bytes: made, end };
+    guesses += 1;
+    if (guesses === GUESSES) return null;
+  }
+  return null;
+}
+
+/**
+ * The bytes to be judged; `note`, what was done to get them, in words or null; and `damaged`, the packing that they begin
+ * with where they can't be unpacked, else null.
+ */
 export async function prepared(bytes) {
   const format = packing(bytes);
+  if (format === null) return { bytes, note: null, damaged: null };
+  const whole = await unpacked(bytes, format);
+  const made = whole === null && format === 'gzip' ? await membersOf(bytes) : { bytes: whole, count: 1 };
   const name = format === 'gzip' ? 'gzip' : 'zlib';
-  if (format === null) return { bytes, note: null };
-  try {
-    const inner = await unpacked(bytes, format);
-    return { bytes: inner, note: `The input was compressed (${name}). The browser unpacked it, and the tile inside was judged.` };
-  } catch {
-    const note = `The input begins as ${name} does, but it can't be unpacked. It was judged as it is.`;
-    return { bytes, note: format === 'gzip' ? note : null };
-  }
+  if (made === null || made.bytes === null) return { bytes, note: null, damaged: name };
+  const how = made.count > 1 ? `${name}, in ${made.count} members` : name;
+  const note = `The input was compressed (${how}). The browser unpacked it, and the tile inside was judged.`;
+  return { bytes: made.bytes, note, damaged: null };
 }
 
 /** The bytes of a file, and no more of them than are judged. */
 export async function readFile(file) {
   return prepared(new Uint8Array(await file.slice(0, MOST).arrayBuffer()));
-}
-
-/** The bytes that a text spells, in hexadecimal or else in base64: `{bytes, as}`; null where it spells none. */
-export function spelledBytes(text) {
-  const bare = text.trim().replace(/^data:[^,]*,/, '').replace(/^["'`]|["'`]$/g, '');
-  const digits = bare.replace(/0x|\\x|[\s,:;_-]/gi, '');
-  if (/^([0-9a-f]{2})+$/i.test(digits)) {
-    return { bytes: Uint8Array.from(digits.match(/../g), (pair) => parseInt(pair, 16)), as: 'hexadecimal' };
-  }
-  const letters = bare.replace(/\s/g, '').replaceAll('-', '+').replaceAll('_', '/');
-  try {
-    const bytes = Uint8Array.from(atob(letters), (letter) => letter.charCodeAt(0));
-    return bytes.length > 0 ? { bytes, as: 'base64' } : null;
-  } catch {
-    return null;
-  }
-}
-
-/** Whether a drop has a folder, whose files a page that was opened as a file may not read. */
-export function hasFolder(transfer) {
-  return [...transfer.items].some((item) => item.webkitGetAsEntry?.()?.isDirectory);
 }

@@ -14,6 +14,11 @@ export class Pen {
   #command = null;
   #cursor = { x: 0, y: 0 };
 
+  /** Where the pen is. */
+  get position() {
+    return [this.#cursor.x, this.#cursor.y];
+  }
+
   /** What the next integer is. */
   step(value) {
     if (this.#left === 0) return this.#begin(value);

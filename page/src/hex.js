@@ -1,6 +1,8 @@
 // The bytes as a table: a part of them at a time, with the bytes of a place marked.
 import { grouped, hexOffset } from './text.js';
 import { element } from './dom.js';
+import { plain } from './foreign.js';
+import { spelledOffset } from './spelled.js';
 
 const ROWS = 128;
 
@@ -22,8 +24,9 @@ export class HexView {
     this.told = element('span', { class: 'quiet', role: 'status' });
     this.earlier = element('button', { type: 'button', onclick: () => this.#turn(-1) }, ['Earlier bytes']);
     this.later = element('button', { type: 'button', onclick: () => this.#turn(1) }, ['Later bytes']);
-    const goto = element('input', { type: 'text', inputmode: 'numeric', size: '10', 'aria-label': 'Go to the byte', placeholder: 'go to byte' });
-    const form = element('form', { onsubmit: (event) => this.#go(event, goto.value) }, [goto, element('button', {}, ['Go'])]);
+    const goto = element('input', { type: 'text', size: '10', spellcheck: 'false', autocomplete: 'off', placeholder: 'e.g. 1A0' });
+    const label = element('label', {}, ['Go to byte (hexadecimal) ', goto]);
+    const form = element('form', { onsubmit: (event) => this.#go(event, goto.value) }, [label, element('button', {}, ['Go'])]);
     this.root = element('div', {}, [this.frame, element('div', { class: 'buttons' }, [this.earlier, this.later, form, this.told])]);
     this.show(this.#marks.at(-1)?.start ?? 0);
   }
@@ -52,9 +55,11 @@ export class HexView {
 
   #go(event, value) {
     event.preventDefault();
-    const offset = Number(value.trim());
-    if (Number.isInteger(offset) && offset >= 0 && offset < this.#bytes.length) this.show(offset);
-    else this.told.textContent = `No such byte: ${value}`;
+    const offset = spelledOffset(value);
+    const isThere = offset !== null && offset < this.#bytes.length;
+    if (isThere) this.show(offset);
+    this.told.textContent = isThere ? `Byte ${grouped(offset)} (0x${hexOffset(offset)}).`
+      : `No such byte: ${plain(value)}. The last is ${hexOffset(Math.max(0, this.#bytes.length - 1))}, in hexadecimal as the view shows it.`;
   }
 
   #fill() {

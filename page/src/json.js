@@ -1,4 +1,6 @@
-// JSON laid out over lines, each token as it stands, so that no number loses digits.
+// JSON laid out over lines, each token as it stands, so that no number loses digits; and in colours.
+import { element } from './dom.js';
+import { foreign } from './foreign.js';
 
 const TOKENS = /"(?:[^"\\]|\\.)*"|[{}[\],:]|[^\s{}[\],:"]+/g;
 const WIDTH = 96;
@@ -36,4 +38,21 @@ function print(value, indent) {
   const inner = `${indent}  `;
   const lines = value.items.map((item) => `${inner}${item.key}${print(item.value, inner)}`);
   return `${value.open}\n${lines.join(',\n')}\n${indent}${value.close}`;
+}
+
+const COLOURED = /("(?:[^"\\]|\\.)*")(:?)|(-?\d+)|(true|false|null)/g;
+
+/** A laid out text as elements: keys, strings, numbers and words in their colours, and strings apart from the rest. */
+export function coloured(laid) {
+  const parts = [];
+  let from = 0;
+  for (const found of laid.matchAll(COLOURED)) {
+    const [whole, string, colon, number] = found;
+    const kind = string === undefined ? (number === undefined ? 'word' : 'number') : colon === ':' ? 'key' : 'string';
+    parts.push(laid.slice(from, found.index));
+    parts.push(element('span', { class: `json-${kind}` }, [string === undefined ? whole : foreign(string, 2000)]), colon ?? '');
+    from = found.index + whole.length;
+  }
+  parts.push(laid.slice(from));
+  return parts;
 }

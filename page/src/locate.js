@@ -1,18 +1,25 @@
 // Where a fault lies in the bytes: what the library says of it is a layer, a feature and a place, and here the bytes of
 // that place are found, with the fields round it.
-import { NAMES, fieldsOf, integersOf, nthField, packedOf, wholeOf } from './fields.js';
+import { CAUSE } from './causes.js';
+import { FIELD, NAMES, WIRE, fieldsOf, integersOf, nthField, packedOf, wholeOf } from './fields.js';
 import { LIMIT } from './codec.js';
 import { Pen, sayStep } from './geometry.js';
 import { text } from './text.js';
 
-const IN_TAGS = [13, 14, 15, 16];
-const IN_GEOMETRY = [17, 18, 19, 20, 21, 22, 23, 26];
+/** The causes whose place is an index in tags, or in a geometry. */
+const IN_TAGS = [CAUSE.OddTags, CAUSE.KeyIndex, CAUSE.ValueIndex, CAUSE.RepeatedKey];
+export const IN_GEOMETRY = [CAUSE.Command, CAUSE.Count, CAUSE.Parameters, CAUSE.ZeroSegment, CAUSE.CoordinateRange, CAUSE.FirstRing,
+  CAUSE.EndsEarly, CAUSE.ParameterRange];
+/** The causes that may lie in a number of a packed list. */
+const IN_PACKED = [CAUSE.Truncated, CAUSE.VarintRange, CAUSE.NumberRange];
+/** The causes of a whole layer: its head is marked. */
+const OF_LAYER = [CAUSE.NoVersion, CAUSE.NoName, CAUSE.RepeatedName];
 const AROUND = 4;
 
 /** The layers and features that a fault names, as fields; null where it names none. */
 function holders(bytes, fault) {
-  const layer = fault.layer === null ? null : nthField(bytes, wholeOf(bytes), 3, fault.layer);
-  const feature = layer === null || fault.feature === null ? null : nthField(bytes, layer, 2, fault.feature);
+  const layer = fault.layer === null ? null : nthField(bytes, wholeOf(bytes), FIELD.tile.layer, fault.layer);
+  const feature = layer === null || fault.feature === null ? null : nthField(bytes, layer, FIELD.layer.feature, fault.feature);
   return { layer, feature };
 }
 
@@ -21,8 +28,8 @@ function holders(bytes, fault) {
  * be looked at; and `integers`, where the place is an index in tags or geometry.
  */
 export function locate(bytes, fault) {
-  if (IN_TAGS.includes(fault.cause)) return locateInteger(bytes, fault, 2);
-  if (IN_GEOMETRY.includes(fault.cause)) return locateInteger(bytes, fault, 4);
+  if (IN_TAGS.includes(fault.cause)) return locateInteger(bytes, fault, FIELD.feature.tags);
+  if (IN_GEOMETRY.includes(fault.cause)) return locateInteger(bytes, fault, FIELD.feature.geometry);
   return locateTag(bytes, fault);
 }
 
@@ -44,7 +51,7 @@ export function trailTo(bytes, at) {
     if (!field) break;
     const name = NAMES[kind]?.[field.number] ?? null;
     trail.push({ kind, name, field, index: field.index });
-    message = field.at < at && field.wire === 2 && name in NAMES ? field : null;
+    message = field.at < at && field.wire === WIRE.bytes && name in NAMES ? field : null;
     kind = name;
   }
   return trail;
@@ -63,23 +70,23 @@ function fieldFor(bytes, message, at) {
 /** The bytes of a field that show its fault. */
 function markIn(bytes, fault, { kind, name, field }) {
   const head = { start: field.at, end: Math.max(field.head, field.at + 1) };
-  const isPacked = kind === 'feature' && field.wire === 2 && (name === 'tags' || name === 'geometry');
-  if (isPacked && [1, 2, 6].includes(fault.cause)) {
+  const isPacked = kind === 'feature' && field.wire === WIRE.bytes && (name === 'tags' || name === 'geometry');
+  if (isPacked && IN_PACKED.includes(fault.cause)) {
     for (const { value, start, end } of packedOf(bytes, field)) {
       if (value === null || value >= 2 ** 32) return { start, end };
     }
   }
-  if (fault.cause === 7) return { start: field.body, end: field.end };
+  if (fault.cause === CAUSE.NotUtf8) return { start: field.body, end: field.end };
   const isSmall = field.end - field.at <= 32 && field.whole;
-  return isSmall && ![8, 10, 24].includes(fault.cause) ? { start: field.at, end: field.end } : head;
+  return isSmall && !OF_LAYER.includes(fault.cause) ? { start: field.at, end: field.end } : head;
 }
 
 /** The place of an integer: its bytes, and what stands round it. */
 function locateInteger(bytes, fault, number) {
   const { layer, feature } = holders(bytes, fault);
   const trail = trailTo(bytes, feature.at);
-  const pen = number === 4 ? new Pen() : null;
-  const keys = number === 2 ? textsOf(bytes, layer, 3) : null;
+  const pen = number === FIELD.feature.geometry ? new Pen() : null;
+  const keys = pen === null ? textsOf(bytes, layer, FIELD.layer.key) : null;
   const rows = [];
   let count = 0;
   let step = null;
@@ -88,7 +95,8 @@ function locateInteger(bytes, fault, number) {
     step = pen && (count <= fault.at || isPair) ? pen.step(value) : null;
     if (Math.abs(count - fault.at) <= AROUND) {
       const meaning = pen ? sayStep(step) : sayTag(count, value, keys);
-      rows.push({ index: count, value, start, end, meaning, isFault: count === fault.at });
+      const key = keys !== null && count % 2 === 0 ? (keys[value] ?? null) : null;
+      rows.push({ index: count, value, start, end, meaning, key, isFault: count === fault.at });
     }
     count += 1;
   }
@@ -117,13 +125,13 @@ function lastField(bytes, feature, number, index, rows) {
 export function textsOf(bytes, layer, number) {
   const found = [];
   for (const field of fieldsOf(bytes, layer.body, layer.end)) {
-    if (field.number === number && field.wire === 2) found.push(text(bytes.subarray(field.body, field.end)));
+    if (field.number === number && field.wire === WIRE.bytes) found.push(text(bytes.subarray(field.body, field.end)));
   }
   return found;
 }
 
 function sayTag(index, value, keys) {
   if (index % 2 === 1) return 'index of a value';
-  return value < keys.length ? `index of a key: ${JSON.stringify(keys[value])}` : `index of a key; there are ${keys.length}`;
+  return value < keys.length ? 'index of a key:' : `index of a key; there are ${keys.length}`;
 }
 

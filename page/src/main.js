@@ -1,115 +1,13 @@
-// The page: takes tiles in, has the library judge them, and shows what it says.
+// The page: takes tiles in, has the worker judge them, and shows what it says.
 import { loadCodec } from './codec.js';
-import { drawn, element } from './dom.js';
-import { hasFolder, prepared, readFile, spelledBytes } from './files.js';
-import { counted, grouped, size } from './text.js';
-import { showTile } from './tile.js';
-import { judge, verdictLine } from './verdict.js';
+import { Page } from './page.js';
+import { spelledBytes } from './spelled.js';
 
 const data = JSON.parse(document.getElementById('data').textContent);
 const at = (id) => document.getElementById(id);
 
-class Page {
-  #codec;
-
-  constructor(codec) {
-    this.#codec = codec;
-  }
-
-  /** Judges inputs, each `{name, size, load}`, and shows one of them, or the list of several. */
-  async open(inputs) {
-    if (inputs.length === 0) return;
-    at('list').replaceChildren();
-    await this.#busy(() => (inputs.length === 1 ? this.#show(inputs[0]) : this.#list(inputs)));
-  }
-
-  /** Does something that may last, and tells where it failed. */
-  async #busy(work) {
-    document.body.classList.add('busy');
-    at('tile').replaceChildren();
-    try {
-      await work();
-    } catch (error) {
-      console.error(error);
-      at('tile').replaceChildren(element('p', { class: 'verdict unjudged' }, [`The page failed: ${error}`]));
-    } finally {
-      document.body.classList.remove('busy');
-    }
-  }
-
-  async #show(input) {
-    this.#say(`Reading ${input.name} …`);
-    await drawn();
-    const read = await this.#load(input);
-    if (read === null) return;
-    const verdict = judge(this.#codec, read.bytes);
-    const shown = showTile({ name: input.name, ...read }, verdict, data);
-    at('tile').replaceChildren(shown);
-    this.#say(`${input.name}: ${verdictLine(verdict)}`);
-    shown.querySelector('h2').focus();
-  }
-
-  async #load(input) {
-    try {
-      return await input.load();
-    } catch (error) {
-      this.#say(`${input.name} can’t be read.`);
-      at('tile').replaceChildren(element('p', { class: 'verdict unjudged' }, [`${input.name} can’t be read: ${error}`]));
-      return null;
-    }
-  }
-
-  async #list(inputs) {
-    const counts = { accepted: 0, refused: 0, unjudged: 0 };
-    const body = element('tbody');
-    const told = element('h2', { tabindex: '-1' });
-    const only = element('input', { type: 'checkbox', onchange: () => body.classList.toggle('only-refused', only.checked) });
-    at('list').append(told, element('label', {}, [only, ' only those that aren’t accepted']), tableOf(body));
-    for (const [index, input] of inputs.entries()) {
-      const read = await this.#load(input);
-      const verdict = read === null ? { kind: 'unjudged' } : judge(this.#codec, read.bytes);
-      counts[verdict.kind] += 1;
-      body.append(this.#row(input, read, verdict));
-      told.textContent = `${index + 1} of ${counted(inputs.length, 'tile')}: ${sayCounts(counts)}`;
-      if (index % 10 === 9) await drawn();
-    }
-    told.textContent = `${counted(inputs.length, 'tile')}: ${sayCounts(counts)}`;
-    this.#say(told.textContent);
-    told.focus();
-  }
-
-  #row(input, read, verdict) {
-    const open = element('button', { type: 'button', class: 'link', onclick: () => this.#busy(() => this.#show(input)) }, [input.name]);
-    return element('tr', { class: verdict.kind }, [
-      element('th', { scope: 'row' }, [open]),
-      element('td', { class: 'size' }, [read === null ? '' : size(read.bytes.length)]),
-      element('td', {}, [read === null ? 'unread' : verdictLine(verdict), read?.note ? element('small', {}, [read.note]) : '']),
-    ]);
-  }
-
-  #say(told) {
-    at('told').textContent = told;
-  }
-}
-
-function tableOf(body) {
-  const heads = ['Tile', 'Size', 'Verdict'].map((head) => element('th', { scope: 'col', class: head === 'Size' && 'size' }, [head]));
-  return element('div', { class: 'wide' }, [element('table', {}, [element('thead', {}, [element('tr', {}, heads)]), body])]);
-}
-
-function sayCounts({ accepted, refused, unjudged }) {
-  const told = `${grouped(accepted)} accepted, ${grouped(refused)} refused`;
-  return unjudged > 0 ? `${told}, ${grouped(unjudged)} not judged` : told;
-}
-
-const fileInput = (file) => ({ name: file.webkitRelativePath || file.name, load: () => readFile(file) });
-const bytesInput = (name, bytes, note = null) => ({
-  name,
-  load: async () => {
-    const read = await prepared(bytes);
-    return { ...read, note: [note, read.note].filter(Boolean).join(' ') || null };
-  },
-});
+const fileInput = (file) => ({ name: file.webkitRelativePath || file.name, source: file });
+const bytesInput = (name, source, note = null) => ({ name, source, note });
 
 function bytesOf(base64) {
   return Uint8Array.from(atob(base64), (letter) => letter.charCodeAt(0));
@@ -120,11 +18,22 @@ async function codecOf(base64) {
   return loadCodec(new Uint8Array(await new Response(stream).arrayBuffer()));
 }
 
+/** Makes workers, from the script that the page carries. */
+function workerMaker(script) {
+  const url = URL.createObjectURL(new Blob([script], { type: 'text/javascript' }));
+  return () => new Worker(url);
+}
+
+/** Whether a drop has a folder, whose files a page that was opened as a file may not read. */
+function hasFolder(transfer) {
+  return [...transfer.items].some((item) => item.webkitGetAsEntry?.()?.isDirectory);
+}
+
 /** Binds what a person does to the page. */
 function listen(page) {
   for (const id of ['files', 'folder']) {
-    at(id).addEventListener('change', async ({ target }) => {
-      await page.open([...target.files].map(fileInput));
+    at(id).addEventListener('change', ({ target }) => {
+      page.open([...target.files].map(fileInput));
       target.value = '';    // so that the same file can be chosen again
     });
   }
@@ -142,7 +51,7 @@ function listen(page) {
   at('paste').addEventListener('submit', (event) => {
     event.preventDefault();
     const spelled = spelledBytes(at('pasted').value);
-    at('unread').textContent = spelled ? '' : 'This is neither hexadecimal (pairs of digits) nor base64.';
+    at('unread').textContent = spelled ? '' : 'This is neither hexadecimal (pairs of digits), nor base64, nor numbers up to 255.';
     if (spelled) page.open([bytesInput('pasted bytes', spelled.bytes, `The text was read as ${spelled.as}.`)]);
   });
   for (const [name, tile] of Object.entries(data.examples)) {
@@ -154,7 +63,7 @@ async function start() {
   const codec = await codecOf(data.codec).catch(() => null);
   if (codec === null) at('unsupported').hidden = false;
   else {
-    listen(new Page(codec));
+    listen(new Page(workerMaker(data.worker), codec.module, data));
     globalThis.mvt = { codec };    // for the console, and for tests
     at('start').hidden = false;
   }

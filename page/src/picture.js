@@ -1,147 +1,192 @@
-// The picture of a tile, its layers to be switched, and its features to be chosen.
+// The picture of a tile: the worker draws it, and the page moves what was drawn until the next frame comes.
 import { element } from './dom.js';
+import { foreignLine } from './foreign.js';
+import { Gestures } from './gestures.js';
+import { onTurned, paletteNow } from './palette.js';
 import { counted, grouped } from './text.js';
+import { ROUND, WHOLE, transformOf, viewOf, zoomed } from './view.js';
 
-const NEAR = [0, 2, 4, 6, 8];
-const AT_ONCE = 100;
+/** What is so near the pointer, in pixels, is found. */
+const REACH = 8;
+/** A frame's side has at most so many pixels. */
+const MOST_PIXELS = 2048;
+/** So many of the features under the pointer are named there. */
+const TIPS = 6;
 
-/**
- * The picture's part of the page; a text that the browser can't read as XML, as one of many megabytes, gives words.
- * `saveShown` makes a button from a function that tells which layers are shown.
- */
-export function pictureOf(svg, rows, saveShown) {
-  const read = new DOMParser().parseFromString(svg, 'image/svg+xml').documentElement;
-  if (read.localName !== 'svg') return element('p', {}, ['The browser can’t draw this picture. “Save picture” saves it for other programs.']);
-  return new Picture(read, rows, saveShown).root;
-}
+export class Picture {
+  #client;
+  #facts;
+  #view = WHOLE;
+  #frames = { base: WHOLE, marks: WHOLE };
+  #marked = [];
+  #asked = 0;
+  #isHovering = false;
+  hidden;
+  chosenColours = {};
 
-class Picture {
-  #rows;
-  #drawn;
-  #chosen = null;
-
-  /** `svg` is the picture as it was read, `rows` are the tile's. */
-  constructor(svg, rows, saveShown) {
-    this.#rows = rows;
-    const paper = element('div', { class: 'paper' });
-    this.#drawn = this.#draw(paper, svg);
-    this.told = element('div', { class: 'feature', 'aria-live': 'polite' }, [
-      element('p', { class: 'quiet' }, ['Choose a feature in the picture or in the list to see its attributes.']),
-    ]);
-    const layers = element('fieldset', { class: 'layers' }, [element('legend', {}, ['Layers']), ...this.#layerEntries()]);
-    layers.append(saveShown(() => this.#shown()));
-    this.root = element('div', { class: 'picture' }, [paper, element('div', {}, [layers, this.told])]);
-  }
-
-  /** Puts the picture into a tree of its own, so that its style is its own; answers the squares of the layers. */
-  #draw(paper, svg) {
-    const picture = document.importNode(svg, true);
-    picture.setAttribute('role', 'img');
-    picture.setAttribute('aria-label', `The tile's picture, ${counted(this.#rows.featureCount, 'feature')}`);
-    const style = element('style', {}, [
-      ':host>svg{display:block;width:100%;height:100%}path{cursor:pointer}[hidden]{display:none}' +
-        '.chosen{stroke:#c0f;stroke-width:.8%}.points.chosen{stroke-width:2%}.polygons.chosen{fill:#c0f;fill-opacity:.35}',
-    ]);
-    const shadow = paper.attachShadow({ mode: 'open' });
-    shadow.append(style, picture);
-    picture.addEventListener('click', (event) => this.#chooseAt(shadow, event));
-    return [...picture.children].filter((child) => child.localName === 'svg');
-  }
-
-  /** The names of the layers that are drawn and not switched off. */
-  #shown() {
-    const drawn = this.#rows.layers().filter((layer) => layer.version === 2);
-    return drawn.filter((_, index) => !this.#drawn[index].hasAttribute('hidden')).map((layer) => layer.name);
-  }
-
-  #layerEntries() {
-    let drawn = 0;
-    return this.#rows.layers().map((layer) => {
-      if (layer.version !== 2) {
-        const told = `Layer ${layer.index} has version ${layer.version}: it is carried as ${counted(layer.bytes, 'byte')} and not drawn.`;
-        return element('p', { class: 'quiet' }, [told]);
-      }
-      const square = this.#drawn[drawn];
-      const at = drawn;
-      drawn += 1;
-      return this.#layerEntry(layer, square, at);
+  /** `facts` are the counts of a tile's rows; `chosen(found)` is told what was clicked at. */
+  constructor(client, facts, chosen) {
+    this.#client = client;
+    this.#facts = facts;
+    this.chosen = chosen;
+    this.hidden = new Uint8Array(facts.layers);
+    const told = `The tile’s picture: ${counted(facts.layers, 'layer')}, ${counted(facts.features, 'feature')}, ${counted(facts.points, 'position')}.`;
+    this.base = element('canvas', { class: 'base', role: 'img', 'aria-label': told });
+    this.marks = element('canvas', { class: 'marks', 'aria-hidden': 'true' });
+    this.tip = element('div', { class: 'tip', 'aria-hidden': 'true', hidden: true });
+    this.state = element('span', { class: 'state', role: 'status' });
+    this.stop = element('button', { type: 'button', hidden: true, onclick: () => client.ask('stopDrawing') }, ['Stop drawing']);
+    this.paper = element('div', { class: 'paper', tabindex: '0', role: 'group', 'aria-label': 'Picture. Arrow keys move it, plus and minus zoom, 0 shows the whole tile.' }, [this.base, this.marks, this.tip]);
+    this.beyond = element('input', { type: 'checkbox', onchange: () => this.whole() });
+    this.root = element('div', { class: 'sheet' }, [this.paper, this.#tools()]);
+    new Gestures(this.paper, {
+      view: () => this.#view, go: (view) => this.go(view), whole: () => this.whole(),
+      click: (x, y) => this.#click(x, y), hover: (x, y) => this.#hover(x, y), leave: () => this.#leave(),
     });
+    new ResizeObserver(() => this.#resized()).observe(this.paper);
+    onTurned(() => this.paper.isConnected && this.redraw());
   }
 
-  #layerEntry(layer, square, at) {
-    const box = element('input', { type: 'checkbox', checked: true, onchange: () => square.toggleAttribute('hidden', !box.checked) });
-    const swatch = element('span', { class: 'swatch', 'aria-hidden': 'true' });
-    swatch.style.background = square.getAttribute('color');
-    const label = element('label', {}, [box, swatch, element('b', {}, [layer.name === '' ? '(no name)' : layer.name])]);
-    const facts = ` ${counted(layer.features.len, 'feature')}, extent ${grouped(layer.extent)}`;
-    return element('div', { class: 'layer' }, [label, element('span', { class: 'quiet' }, [facts]), this.#featureList(layer, at)]);
+  #tools() {
+    const tool = (title, name, act) => element('button', { type: 'button', class: 'tool', 'aria-label': name, title: name, onclick: act }, [title]);
+    return element('div', { class: 'buttons tools' }, [
+      tool('+', 'Zoom in', () => this.go(zoomed(this.#view, 2))),
+      tool('−', 'Zoom out', () => this.go(zoomed(this.#view, 0.5))),
+      tool('Whole tile', 'Show the whole tile', () => this.whole()),
+      element('label', {}, [this.beyond, ' what lies beyond the edge']),
+      this.stop, this.state,
+    ]);
   }
 
-  #featureList(layer, at) {
-    const list = element('ol', { start: '0' });
-    const box = element('details', {}, [element('summary', {}, ['Features', element('span', { class: 'spoken' }, [` of ${layer.name}`])])]);
-    const more = element('button', { type: 'button', onclick: () => this.#fill(layer, at, list, more) }, ['More features']);
-    box.addEventListener('toggle', () => list.children.length === 0 && this.#fill(layer, at, list, more));
-    box.append(list, more);
-    box.hidden = layer.features.len === 0;
-    return box;
+  get #home() {
+    return this.beyond.checked ? ROUND : WHOLE;
   }
 
-  #fill(layer, at, list, more) {
-    const from = list.children.length;
-    const end = Math.min(from + AT_ONCE, layer.features.len);
-    for (let index = from; index < end; index += 1) {
-      const feature = this.#rows.feature(layer, index);
-      const choose = element('button', { type: 'button', class: 'link', onclick: () => this.#choose(at, index) }, [feature.kind]);
-      list.append(element('li', {}, [choose, ` ${hintOf(feature)}`]));
-    }
-    more.hidden = end === layer.features.len;
+  whole() {
+    this.go(this.#home);
   }
 
-  /** Chooses the feature under the pointer, or one that is near it: lines are thin. */
-  #chooseAt(shadow, event) {
-    for (const far of NEAR) {
-      for (const [x, y] of [[0, 0], [far, 0], [-far, 0], [0, far], [0, -far], [far, far], [-far, far], [far, -far], [-far, -far]]) {
-        const hit = shadow.elementFromPoint(event.clientX + x, event.clientY + y);
-        if (hit?.localName !== 'path') continue;
-        const square = hit.parentNode;
-        this.#choose(this.#drawn.indexOf(square), pathsOf(square).indexOf(hit));
-        return;
-      }
-    }
+  /** Shows another part of the tile. */
+  go(view) {
+    this.#view = view;
+    this.paper.classList.toggle('moved', view !== WHOLE && view !== ROUND);
+    this.#lay();
+    this.redraw();
   }
 
-  /** Chooses a feature by its index in a layer that is drawn. */
-  #choose(at, index) {
-    this.#chosen?.classList.remove('chosen');
-    this.#chosen = pathsOf(this.#drawn[at])[index];
-    this.#chosen.classList.add('chosen');
-    const layer = this.#rows.layers().filter((each) => each.version === 2)[at];
-    this.told.replaceChildren(...sayFeature(layer, index, this.#rows.feature(layer, index)));
+  /** Shows a feature's box, `[left, top, right, bottom]`. */
+  goTo(box) {
+    if (box.every(Number.isFinite)) this.go(viewOf(box));
+  }
+
+  #lay() {
+    for (const layer of ['base', 'marks']) this[layer].style.transform = transformOf(this.#frames[layer], this.#view);
+  }
+
+  #resized() {
+    if (this.paper.clientWidth > 0 && this.base.width !== this.#width) this.redraw();
+  }
+
+  get #width() {
+    return Math.max(1, Math.min(MOST_PIXELS, Math.round(this.paper.clientWidth * devicePixelRatio)));
+  }
+
+  #plan() {
+    const { layers, edge, ink, paper } = paletteNow();
+    return {
+      view: this.#view, width: this.#width, scale: this.#width / Math.max(1, this.paper.clientWidth), hidden: this.hidden,
+      palette: layers, chosen: this.chosenColours, isCut: !this.beyond.checked, edge, ink, paper,
+    };
+  }
+
+  /** Has the frame drawn anew, once for all that happens until the browser shows the next. */
+  redraw() {
+    this.#asked += 1;
+    const asked = this.#asked;
+    this.paper.dataset.state = 'drawing';
+    requestAnimationFrame(() => asked === this.#asked && this.#draw(asked));
+  }
+
+  async #draw(asked) {
+    const plan = this.#plan();
+    const show = ({ frame, behind }) => {
+      if (asked !== this.#asked) return frame.close();
+      this.#show('base', frame, plan.view);
+      return this.#say(behind, false);
+    };
+    const last = await this.#client.ask('draw', plan, show);
+    if (asked !== this.#asked) return last.frame.close();
+    this.#show('base', last.frame, plan.view);
+    this.#say(last.behind, true, last.isDone);
+    return this.#mark();
+  }
+
+  #show(layer, frame, view) {
+    const canvas = this[layer];
+    [canvas.width, canvas.height] = [frame.width, frame.height];
+    canvas.getContext('bitmaprenderer').transferFromImageBitmap(frame);
+    this.#frames[layer] = view;
+    this.#lay();
+  }
+
+  #say(behind, isLast, isDone = false) {
+    this.stop.hidden = isLast;
+    const part = `${grouped(behind)} of ${counted(this.#facts.features, 'feature')}`;
+    this.state.textContent = isDone ? '' : isLast ? `Stopped after ${part}.` : `Drawing: ${part} …`;
+    if (isLast) this.paper.dataset.state = isDone ? 'drawn' : 'stopped';
+  }
+
+  // ---- features that are marked
+
+  /** Marks features, by their places. */
+  mark(places) {
+    this.#marked = places;
+    return this.#mark();
+  }
+
+  async #mark() {
+    const plan = this.#plan();
+    const { frame } = await this.#client.ask('mark', { plan, places: this.#marked });
+    if (plan.view === this.#view) this.#show('marks', frame, plan.view);
+    else frame.close();
+  }
+
+  #near(x, y) {
+    const { view, hidden } = this.#plan();
+    const reach = (REACH / this.paper.clientWidth) * view.size;
+    return this.#client.ask('near', { x: view.x + x * view.size, y: view.y + y * view.size, reach, hidden });
+  }
+
+  async #click(x, y) {
+    this.tip.hidden = true;
+    this.chosen(await this.#near(x, y));
+  }
+
+  // One question at a time: while it waits, further moves are let go.
+  async #hover(x, y) {
+    if (this.#isHovering) return;
+    this.#isHovering = true;
+    const { count, features } = await this.#near(x, y);
+    this.#isHovering = false;
+    this.paper.classList.toggle('near', count > 0);
+    this.tip.hidden = count === 0;
+    const lines = features.slice(0, TIPS).map((feature) => element('div', {}, tipOf(feature)));
+    this.tip.replaceChildren(...lines, count > TIPS ? element('div', {}, [`and ${grouped(count - TIPS)} more`]) : '');
+    this.tip.style.left = `${100 * Math.min(x, 0.55)}%`;
+    this.tip.style.top = y < 0.7 ? `calc(${100 * y}% + 1rem)` : 'auto';
+    this.tip.style.bottom = y < 0.7 ? 'auto' : `calc(${100 - 100 * y}% + 1rem)`;
+  }
+
+  #leave() {
+    this.tip.hidden = true;
   }
 }
 
-function pathsOf(square) {
-  return [...square.children].filter((child) => child.localName === 'path');
-}
-
-/** What tells a feature from others in a list: its id and its first attribute. */
-function hintOf({ id, attributes: [first] }) {
-  const parts = [id === null ? null : `id ${id}`, first ? `${first.key} ${first.text.slice(0, 40)}` : null];
-  return parts.filter(Boolean).join(', ');
-}
-
-function sayFeature(layer, index, feature) {
-  const id = feature.id === null ? 'no id' : `id ${feature.id}`;
-  const shape = feature.kind === 'unknown'
-    ? `unknown geometry of ${counted(feature.integers, 'integer')}`
-    : `${feature.kind}, ${counted(feature.parts, feature.kind === 'polygons' ? 'ring' : 'part')}, ${counted(feature.points, 'position')}`;
-  const rows = feature.attributes.map(({ key, kind, text }) =>
-    element('tr', {}, [element('th', { scope: 'row' }, [key]), element('td', {}, [text]), element('td', { class: 'quiet' }, [kind])]));
-  const table = element('table', { class: 'attributes' }, [element('caption', { class: 'spoken' }, ['Attributes']), element('tbody', {}, rows)]);
+/** A feature in a few words: its layer, and what tells it from others. */
+export function tipOf({ layerName, index, id, shape, first }) {
+  const name = layerName === '' ? '(no name)' : layerName;
   return [
-    element('h4', {}, [`${layer.name}, feature ${index}`]),
-    element('p', { class: 'quiet' }, [`${id}; ${shape}`]),
-    rows.length === 0 ? element('p', {}, ['It has no attributes.']) : table,
+    element('b', {}, [foreignLine(name, 40)]), ` ${shape} ${grouped(index)}`, id === null ? '' : `, id ${id}`,
+    ...(first === null ? [] : [', ', foreignLine(first.key, 24), ' ', foreignLine(first.text, 40)]),
   ];
 }

@@ -28,6 +28,16 @@ export function size(bytes) {
   return bytes < 10_000_000 ? `${grouped(Math.round(bytes / 1000))} kB` : `${grouped(Math.round(bytes / 1e6))} MB`;
 }
 
+/** The size of a file, and of what was unpacked from it. */
+export function sizeWith(own, inside, note) {
+  return note === null || own === inside ? size(inside) : `${size(own)} (${size(inside)} unpacked)`;
+}
+
+/** An offset in decimal, and as the hex view writes it. */
+export function offsetText(offset) {
+  return offset < 10 ? String(offset) : `${grouped(offset)} (0x${hexOffset(offset)})`;
+}
+
 /** An offset as the hex view writes it. */
 export function hexOffset(offset, digits = 0) {
   return offset.toString(16).toUpperCase().padStart(digits, '0');

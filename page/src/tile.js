@@ -1,185 +1,93 @@
 // The part of the page about one tile.
-import { OK, TOO_LARGE } from './codec.js';
-import { element, folded, save } from './dom.js';
+import { element, folded } from './dom.js';
+import { foreign } from './foreign.js';
 import { HexView } from './hex.js';
-import { laidOut } from './json.js';
-import { locate, textsOf } from './locate.js';
-import { pictureOf } from './picture.js';
-import { Rows } from './rows.js';
-import { counted, grouped, size, text } from './text.js';
-import { faultLine, sayPlace, sayTrail, sentence } from './words.js';
+import { jsonView } from './json-view.js';
+import { Look } from './look.js';
+import { showNotes } from './notes.js';
+import { showFault } from './refused.js';
+import { Saving } from './saving.js';
+import { counted, grouped, size, sizeWith } from './text.js';
+import { titleOf } from './verdict.js';
+import { sayTrail } from './words.js';
 
-const TILE_TYPE = 'application/vnd.mapbox-vector-tile';
-const DRAWN_AT_ONCE = 1_000_000;
-const JSON_LAID_OUT = 300_000;
-const JSON_SHOWN = 100_000;
-const NOTES_SHOWN = 100;
+/** Shows a tile that the worker has open; `ways` lead back to a list, `data` are the rules and what notes mean. */
+export class TileView {
+  #client;
+  #name;
+  #opened;
+  #data;
+  #facts = null;
 
-/**
- * What a tile is shown as: `input` is `{name, bytes, note}`; `rules` are the refusals by number, `notes` what the notes of
- * the report mean.
- */
-export function showTile(input, verdict, { rules, notes }) {
-  const parts = [
-    element('h2', { tabindex: '-1' }, [input.name]),
-    element('p', { class: `verdict ${verdict.kind}` }, [titleOf(verdict)]),
-    input.note && element('p', { class: 'note' }, [input.note]),
-    ...(verdict.kind === 'accepted' ? showAccepted(input, verdict, notes) : []),
-    ...(verdict.kind === 'refused' ? showRefused(input, verdict, rules) : []),
-    verdict.kind === 'unjudged' && element('p', {}, [`The browser gave no memory for this tile (${size(input.bytes.length)}).`]),
-  ];
-  return element('article', {}, parts.filter(Boolean));
-}
-
-function titleOf({ kind }) {
-  return { accepted: 'Accepted: it keeps every rule', refused: 'Refused: it breaks a rule', unjudged: 'Not judged' }[kind];
-}
-
-// ---- a tile that is accepted
-
-function showAccepted(input, { tile }, notes) {
-  const answer = tile.read();
-  const rows = answer.status === OK ? new Rows(answer.rows) : null;
-  const rewritten = tile.rewrite();
-  const saving = new Saving(input.name);
-  return [
-    element('p', { class: 'facts' }, [factsOf(input, rows, rewritten)]),
-    showReport(tile, notes),
-    showButtons(saving, tile, rewritten),
-    element('h3', {}, ['Picture']),
-    showPicture(input, tile, rows, saving),
-    folded('JSON', () => showJson(tile)),
-    folded('Bytes', () => new HexView(input.bytes, []).root),
-  ];
-}
-
-function factsOf({ bytes }, rows, rewritten) {
-  const inside = rows === null ? [] :
-    [counted(rows.layerCount, 'layer'), counted(rows.featureCount, 'feature'), counted(rows.pointCount, 'position')];
-  return `${[size(bytes.length), ...inside].join(', ')}. ${sayCanonical(bytes, rewritten)}`;
-}
-
-function sayCanonical(bytes, { status, bytes: made }) {
-  if (status === TOO_LARGE) return 'Its canonical bytes would be more than 64 MiB.';
-  if (status !== OK) return 'The browser gave no memory for its canonical bytes.';
-  const isSame = made.length === bytes.length && made.every((byte, index) => byte === bytes[index]);
-  return isSame ? 'In canonical form.' : `Not in canonical form (which has ${counted(made.length, 'byte')}).`;
-}
-
-/** What `mvt check` says, with its notes in words. */
-function showReport(tile, notes) {
-  const report = tile.report();
-  if (report.status !== OK) return element('p', {}, ['The browser gave no memory for the report.']);
-  const [first, ...lines] = text(report.bytes).trimEnd().split('\n');
-  const told = lines.map((line) => {
-    const name = line.split(' ')[1];
-    return element('li', {}, [element('code', {}, [line]), name in notes ? `: ${notes[name]}` : '']);
-  });
-  const said = element('p', {}, ['The command mvt says: ', element('code', {}, [first])]);
-  const shown = element('ul', {}, told.slice(0, NOTES_SHOWN));
-  const more = told.length > NOTES_SHOWN ? element('p', { class: 'quiet' }, [`and ${counted(told.length - NOTES_SHOWN, 'note')} more`]) : '';
-  return element('section', { class: 'report', 'aria-label': 'The report' }, told.length > 0 ? [said, shown, more] : [said]);
-}
-
-/** Saves what the library makes of a tile, and tells where that can't be. */
-class Saving {
-  #stem;
-
-  constructor(name) {
-    this.#stem = name.replace(/(\.(mvt|pbf|gz|zz|bin))+$/i, '').split('/').at(-1);
-    this.told = element('span', { class: 'quiet', role: 'status' });
+  constructor(client, name, opened, { ways = [], data }) {
+    this.#client = client;
+    this.#name = name;
+    this.#opened = opened;
+    this.#data = data;
+    const { verdict, note } = opened;
+    const counts = this.#counts();
+    this.title = element('h2', { tabindex: '-1' }, [foreign(name)]);
+    this.rest = element('div');
+    this.root = element('article', {}, [
+      element('div', { class: 'titled' }, [this.title, ...ways]),
+      element('p', { class: `verdict ${verdict.kind}` }, [titleOf(verdict, counts.layers)]),
+      note ? element('p', { class: 'note' }, [note]) : '',
+      this.rest,
+    ]);
   }
 
-  button(title, ending, type, make) {
-    return element('button', { type: 'button', onclick: () => this.#save(ending, type, make()) }, [title]);
+  /** How many layers and features the report tells. */
+  #counts() {
+    const [, layers = 0, features = 0] = /^ok layers (\d+) features (\d+)/.exec(this.#opened.first ?? '') ?? [];
+    return { layers: Number(layers), features: Number(features) };
   }
 
-  #save(ending, type, { status, bytes }) {
-    if (status === OK) save(`${this.#stem}${ending}`, type, bytes);
-    const why = status === TOO_LARGE ? 'It would be more than 64 MiB.' : 'The browser gave no memory for it.';
-    this.told.textContent = status === OK ? '' : why;
+  /** Makes the rest: for an accepted tile what it holds, for a refused one the fault. */
+  async fill() {
+    const { verdict, place, shape } = this.#opened;
+    if (place !== null) {
+      const bytes = await this.#client.ask('bytes');
+      this.rest.append(...showFault(bytes, verdict, { place, shape }, this.#data.rules));
+    } else if (this.#opened.first !== null) await this.#fillAccepted();
   }
-}
 
-function showButtons(saving, tile, rewritten) {
-  return element('div', { class: 'buttons' }, [
-    saving.button('Save canonical bytes', '.canonical.mvt', TILE_TYPE, () => rewritten),
-    saving.button('Save picture', '.svg', 'image/svg+xml', () => tile.svg()),
-    saving.button('Save JSON', '.json', 'application/json', () => tile.json()),
-    saving.told,
-  ]);
-}
+  async #fillAccepted() {
+    const { layers, features } = this.#counts();
+    const { length, size: own, note, verdict } = this.#opened;
+    const facts = element('p', { class: 'facts' }, [`${sizeWith(own, length, note)}, ${counted(layers, 'layer')}, ${counted(features, 'feature')}`]);
+    const canonical = element('p', { class: 'canonical' }, ['…']);
+    const notes = element('div');
+    const looking = element('p', { class: 'quiet' }, ['Reading the features …']);
+    const saving = new Saving(this.#client, this.#name);
+    const jump = (layer, feature) => this.look?.chooseIn(layer, feature);
+    if (verdict.notes.length > 0) notes.append(showNotes(this.#client, verdict.notes, this.#data.notes, jump));
+    const buttons = element('div', { class: 'buttons' }, [saving.canonical, saving.picture(() => this.look?.picture), saving.json, saving.told]);
+    this.rest.append(facts, canonical, notes, looking, buttons, folded('JSON', () => jsonView(this.#client)), this.#bytes());
+    const read = await this.#client.ask('read');
+    if (read.why) looking.textContent = `There is no picture: ${read.why}.`;
+    else {
+      facts.append(`, ${counted(read.points, 'position')}.`);
+      this.look = new Look(this.#client, read, (picture) => saving.layers(picture));
+      looking.replaceWith(this.look.root);
+    }
+    this.#sayCanonical(canonical, await this.#client.ask('canonical'));
+  }
 
-function showPicture({ bytes }, tile, rows, saving) {
-  const box = element('div');
-  const saveShown = (names) => saving.button('Save the layers shown', '.layers.mvt', TILE_TYPE, () => tile.extract(names()));
-  const draw = () => {
-    const answer = tile.svg();
-    if (rows === null || answer.status !== OK) box.replaceChildren('The browser gave no memory for the picture.');
-    else box.replaceChildren(pictureOf(text(answer.bytes), rows, saveShown));
-  };
-  if (bytes.length <= DRAWN_AT_ONCE) draw();
-  else box.append(element('button', { type: 'button', onclick: draw }, ['Draw the picture (the tile is large: this may take a while)']));
-  return box;
-}
+  #sayCanonical(box, { isSame, length, said, at, trail, status }) {
+    if (isSame) box.textContent = 'In canonical form.';
+    else if (status !== undefined) box.textContent = 'Not in canonical form, which would be more than 64 MiB or more than the memory there is.';
+    else {
+      const where = trail.map(sayTrail).join(' › ');
+      const first = said === null ? '' : ` First difference, at byte ${grouped(at)}${where === '' ? '' : ` (${where})`}: ${said}`;
+      box.textContent = `Not in canonical form, which has ${size(length)}.${first}`;
+    }
+  }
 
-function showJson(tile) {
-  const answer = tile.json();
-  if (answer.status !== OK) return element('p', {}, ['The browser gave no memory for the JSON.']);
-  const isWhole = answer.bytes.length <= JSON_LAID_OUT;
-  const shown = isWhole ? laidOut(text(answer.bytes)) : text(answer.bytes.subarray(0, JSON_SHOWN));
-  const cut = `The first ${size(JSON_SHOWN)} of ${size(answer.bytes.length)} are shown. “Save JSON” saves all.`;
-  return element('div', {}, [
-    isWhole ? '' : element('p', { class: 'quiet' }, [cut]),
-    element('pre', { class: 'json', tabindex: '0' }, [shown]),
-  ]);
-}
-
-// ---- a tile that is refused
-
-function showRefused({ bytes }, { fault }, rules) {
-  const place = locate(bytes, fault);
-  const rule = rules[fault.cause];
-  const marks = [place.field && { start: place.field.at, end: place.field.end, kind: 'field' }, { ...place.mark, kind: 'fault' }];
-  return [
-    element('section', { class: 'fault', 'aria-label': 'The fault' }, [
-      element('p', { class: 'sentence' }, [sentence(fault, place)]),
-      showTrail(bytes, place),
-      element('p', {}, [sayPlace(place)]),
-      place.integers === null ? '' : showIntegers(place.integers),
-      element('p', { class: 'quiet' }, [
-        `Rule ${fault.cause}, ${fault.name}. It is broken where ${rule.rule}. Its place is: ${rule.place}. The command mvt says: `,
-        element('code', {}, [faultLine(fault)]),
-      ]),
-    ]),
-    element('h3', {}, ['Bytes']),
-    element('p', { class: 'quiet legend' }, [
-      element('mark', {}, ['The fault']), ' ', place.field ? element('span', { class: 'field' }, ['the field that holds it']) : '',
-    ]),
-    new HexView(bytes, marks.filter(Boolean)).root,
-  ];
-}
-
-function showTrail(bytes, { trail }) {
-  const steps = trail.map((step) => {
-    const name = step.name === 'layer' ? textsOf(bytes, step.field, 1).at(-1) : undefined;
-    return `${sayTrail(step)}${name ? ` “${name}”` : ''} (from byte ${grouped(step.field.at)})`;
-  });
-  return steps.length === 0 ? '' : element('p', { class: 'trail' }, [`In ${steps.join(' › ')}`]);
-}
-
-function showIntegers({ list, rows }) {
-  if (rows.length === 0) return '';
-  const entries = rows.map(({ index, value, meaning, isFault }) =>
-    element('tr', isFault ? { class: 'fault', 'aria-current': 'true' } : {}, [
-      element('th', { scope: 'row' }, [grouped(index)]),
-      element('td', {}, [isFault ? element('mark', {}, [grouped(value)]) : grouped(value)]),
-      element('td', {}, [meaning]),
-    ]));
-  const heads = ['index', list === 'tags' ? 'tag' : 'integer', 'meaning'].map((head) => element('th', { scope: 'col' }, [head]));
-  return element('table', { class: 'integers' }, [
-    element('caption', {}, [`The ${list} round the fault`]),
-    element('thead', {}, [element('tr', {}, heads)]),
-    element('tbody', {}, entries),
-  ]);
+  #bytes() {
+    return folded('Bytes', () => {
+      const box = element('div');
+      this.#client.ask('bytes').then((bytes) => box.append(new HexView(bytes, []).root));
+      return box;
+    });
+  }
 }

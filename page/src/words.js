@@ -1,6 +1,36 @@
 // Faults in plain words. The causes and their numbers are those of docs/REFUSALS.md; what is said of a place comes from
 // the bytes there.
-import { counted, grouped } from './text.js';
+import { foreign } from './foreign.js';
+import { counted, grouped, offsetText } from './text.js';
+
+/** Each cause in a few words, for lists. */
+export const BRIEF = {
+  1: 'the bytes end too early',
+  2: 'a number has more than 64 bits',
+  3: 'a field’s number is 0 or far too large',
+  4: 'a wire type that isn’t allowed',
+  5: 'a field has the wrong wire type',
+  6: 'a number doesn’t fit into 32 bits',
+  7: 'a text isn’t UTF-8',
+  8: 'a layer has no version',
+  10: 'a layer has no name',
+  11: 'a value has none or several kinds',
+  12: 'a geometry type above 3',
+  13: 'an odd number of tags',
+  14: 'a tag of a key that isn’t there',
+  15: 'a tag of a value that isn’t there',
+  16: 'a feature has a key twice',
+  17: 'a command that isn’t due',
+  18: 'a command’s count isn’t allowed',
+  19: 'a command wants more integers than there are',
+  20: 'a line’s step goes nowhere',
+  21: 'a position is out of range',
+  22: 'a first ring goes the wrong way round',
+  23: 'a geometry ends too early',
+  24: 'two layers have one name',
+  25: 'longer than 64 MiB',
+  26: 'a parameter is out of range',
+};
 
 /** What each cause means, by its number. */
 const SENTENCES = {
@@ -23,7 +53,8 @@ const SENTENCES = {
     `The feature has ${counted(integers.count, 'tag')}, an odd number. Tags come in pairs: the index of a key, then that of a value.`,
   14: ({ integers }) => `The tag says key ${grouped(integers.value)}, and the layer has no such key: keys are counted from 0.`,
   15: ({ integers }) => `The tag says value ${grouped(integers.value)}, and the layer has no such value: values are counted from 0.`,
-  16: ({ integers }) => `The feature has one key twice: ${integers.key === undefined ? 'it' : `“${integers.key}”`} stood earlier among its tags.`,
+  16: ({ integers }) =>
+    ['The feature has one key twice: ', ...(integers.key === undefined ? ['it'] : ['“', foreign(integers.key), '”']), ' stood earlier among its tags.'],
   17: ({ integers }) =>
     `The integer ${grouped(integers.value)} isn't the command that is due here. Points are one MoveTo; lines are MoveTo and LineTo in turn; rings are MoveTo, LineTo and ClosePath.`,
   18: ({ integers }) =>
@@ -42,10 +73,10 @@ const SENTENCES = {
   26: () => 'A parameter is 4,294,967,295. Its step would be −2,147,483,648, which is out of range.',
 };
 
-/** A fault in plain words. */
+/** A fault in plain words: texts, and elements for what comes from the tile. */
 export function sentence(fault, place) {
   const say = SENTENCES[fault.cause];
-  return say ? say({ ...place, name: place.trail.at(-1)?.name ?? 'unknown' }) : `The rule ${fault.name} is broken.`;
+  return [say ? say({ ...place, name: place.trail.at(-1)?.name ?? 'unknown' }) : `The rule ${fault.name} is broken.`].flat();
 }
 
 /** The line that `mvt check` prints. */
@@ -56,7 +87,7 @@ export function faultLine(fault) {
 /** What is marked, in words: which field, which integer and its value, which bytes. */
 export function sayPlace(place) {
   const { start, end } = place.mark;
-  const range = end - start > 1 ? `bytes ${grouped(start)} to ${grouped(end - 1)}` : `byte ${grouped(start)}`;
+  const range = end - start > 1 ? `bytes ${offsetText(start)} to ${offsetText(end - 1)}` : `byte ${offsetText(start)}`;
   if (place.integers === null) return `Marked: ${range}.`;
   const { list, index, count, value } = place.integers;
   const noun = list === 'tags' ? 'tag' : 'integer';

@@ -122,8 +122,8 @@ class Tab {
   }
 
   async press(key) {
-    const codes = { Tab: 9, Enter: 13, ' ': 32 };
-    const event = { key, code: key === ' ' ? 'Space' : key, windowsVirtualKeyCode: codes[key], text: key === 'Enter' ? '\r' : key === ' ' ? ' ' : undefined };
+    const codes = { Tab: 9, Enter: 13, ' ': 32, End: 35, Home: 36, ArrowLeft: 37, ArrowUp: 38, ArrowRight: 39, ArrowDown: 40 };
+    const event = { key, code: key === ' ' ? 'Space' : key, windowsVirtualKeyCode: codes[key], text: key === 'Enter' ? '\r' : key.length === 1 ? key : undefined };
     await this.send('Input.dispatchKeyEvent', { type: 'keyDown', ...event });
     await this.send('Input.dispatchKeyEvent', { type: 'keyUp', ...event, text: undefined });
   }

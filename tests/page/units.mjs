@@ -1,41 +1,19 @@
-// The page's own modules: units.mjs CODEC FILE.. What the library says of tiles is compared elsewhere (agree.mjs).
+// What the page finds in the bytes of refused tiles, and the heap: units.mjs CODEC FILE.. What the library says of tiles is
+// compared elsewhere (agree.mjs).
 import { readFileSync } from 'node:fs';
 import { basename } from 'node:path';
 import { loadCodec } from '../../page/src/codec.js';
-import { packing, prepared, spelledBytes } from '../../page/src/files.js';
-import { laidOut } from '../../page/src/json.js';
+import { CAUSE } from '../../page/src/causes.js';
 import { locate } from '../../page/src/locate.js';
-import { shortFloat } from '../../page/src/rows.js';
-import { grouped } from '../../page/src/text.js';
-import { sayPlace, sayTrail, sentence } from '../../page/src/words.js';
+import { BRIEF, sayPlace, sayTrail, sentence } from '../../page/src/words.js';
 import { Counts } from './counts.mjs';
+import { withElements } from './elements.mjs';
 
+withElements();
 const counts = new Counts();
 const top = new URL('../../', import.meta.url).pathname;
 const is = (name, got, wanted) =>
   counts.check(name, () => JSON.stringify(got) === JSON.stringify(wanted) || `${JSON.stringify(got)}, wanted ${JSON.stringify(wanted)}`);
-
-await is('hexadecimal', [...spelledBytes('1A 03\n0a0161').bytes], [0x1a, 3, 10, 1, 0x61]);
-await is('hexadecimal of PostgreSQL', [...spelledBytes('\\x1a03').bytes], [0x1a, 3]);
-await is('hexadecimal of C', [...spelledBytes('0x1A, 0x03').bytes], [0x1a, 3]);
-await is('base64', [...spelledBytes('GgMKAWE=').bytes], [0x1a, 3, 10, 1, 0x61]);
-await is('base64 of a URL', [...spelledBytes('data:application/x-protobuf;base64,GgMKAWE=').bytes], [0x1a, 3, 10, 1, 0x61]);
-await is('base64 with other letters', [...spelledBytes('-_8').bytes], [251, 255]);
-await is('neither', spelledBytes('not a tile!'), null);
-await is('nothing', spelledBytes('  '), null);
-
-await is('gzip is seen', packing(Uint8Array.of(0x1f, 0x8b, 8)), 'gzip');
-await is('zlib is seen', packing(Uint8Array.of(0x78, 0x9c)), 'deflate');
-await is('a tile is neither', packing(Uint8Array.of(0x1a, 0x8b)), null);
-await is('what only begins as zlib is judged as it is', (await prepared(Uint8Array.of(0x78, 0x01))).note, null);
-
-await is('a float', shortFloat(Math.fround(0.1)), '0.1');
-await is('a long float', shortFloat(Math.fround(16777217)), '16777216');
-await is('groups', [1, 1234, 67108864].map(grouped), ['1', '1,234', '67,108,864']);
-await is('JSON keeps its digits', laidOut('{"id":18446744073709551615,"a":["b, {c","\\""]}'), '{"id": 18446744073709551615, "a": ["b, {c", "\\""]}');
-const long = `[${'"abcdefghij",'.repeat(20)}[]]`;
-await is('long JSON stays what it was', JSON.parse(laidOut(long)), JSON.parse(long));
-await counts.check('long JSON gets lines', () => laidOut(long).split('\n').length === 23);
 
 // The bytes of each fault, by hand from the tiles' bytes: the integer of an index, the text, the number, or the field.
 const MARKS = {
@@ -69,7 +47,7 @@ function fits(bytes, fault, place) {
   const isThere = integers === null ? field === null || field.at === fault.at : integers.index === fault.at;
   const isLayer = fault.layer === null || layer.index === fault.layer;
   const isFeature = fault.feature === null || (feature.name === 'feature' && feature.index === fault.feature);
-  const said = [sentence(fault, place), sayPlace(place), ...trail.map(sayTrail)].join(' ');
+  const said = [...sentence(fault, place), sayPlace(place), ...trail.map(sayTrail)].join(' ');
   return isInside && isThere && isLayer && isFeature && !/undefined|null|NaN/.test(said);
 }
 
@@ -98,6 +76,8 @@ await counts.check('the heap', () => {
 const rules = readFileSync(`${top}docs/REFUSALS.md`, 'utf8').matchAll(/^\| (\d+) \| (\w+) \|/gm);
 const place = { trail: [], field: null, mark: { start: 0, end: 1 }, integers: { list: 'tags', index: 0, count: 1, value: 0, rows: [] } };
 for (const [, cause, name] of rules) {
-  await counts.check(`${name} has a sentence`, () => !sentence({ cause: Number(cause), name }, place).startsWith('The rule'));
+  await counts.check(`${name} has a sentence`, () => !String(sentence({ cause: Number(cause), name }, place)).startsWith('The rule'));
+  await counts.check(`${name} has few words`, () => BRIEF[cause]?.length < 50);
+  await is(`${name} has its number`, CAUSE[name], Number(cause));
 }
 counts.end();

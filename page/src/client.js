@@ -1,0 +1,59 @@
+// The page's side of a worker: asks, and waits for what it answers.
+
+/** What a question ends with whose worker was stopped. */
+export class Stopped extends Error {}
+
+export class Client {
+  #make;
+  #module;
+  #worker = null;
+  #waiting = new Map();
+  #last = 0;
+
+  /** `make` makes a worker; `module` is the compiled library. */
+  constructor(make, module) {
+    this.#make = make;
+    this.#module = module;
+  }
+
+  /** Asks the worker to do something; `told` gets what it says before it is done. */
+  ask(call, words = {}, told = () => {}) {
+    this.#worker ??= this.#begin();
+    this.#last += 1;
+    const id = this.#last;
+    this.#worker.postMessage({ id, call, words });
+    return new Promise((resolve, reject) => this.#waiting.set(id, { resolve, reject, told }));
+  }
+
+  /** Ends whatever the worker does, and gives back its memory; the next question starts a new one. */
+  stop() {
+    this.#worker?.terminate();
+    this.#worker = null;
+    this.#fail(new Stopped('stopped'));
+  }
+
+  #begin() {
+    const worker = this.#make();
+    worker.addEventListener('message', ({ data }) => this.#worker === worker && this.#hear(data));
+    worker.addEventListener('error', ({ message }) => this.#worker === worker && this.#fail(new Error(`the worker failed: ${message}`)));
+    worker.postMessage({ call: 'begin', words: { module: this.#module } });
+    return worker;
+  }
+
+  #hear({ id, part, value, error }) {
+    const waiting = this.#waiting.get(id);
+    if (part !== undefined) {
+      waiting?.told(part);
+      return;
+    }
+    this.#waiting.delete(id);
+    if (error === undefined) waiting?.resolve(value);
+    else waiting?.reject(Object.assign(new Error(error.message), { name: error.name }));
+  }
+
+  #fail(error) {
+    const waiting = [...this.#waiting.values()];
+    this.#waiting.clear();
+    waiting.forEach(({ reject }) => reject(error));
+  }
+}

@@ -1,0 +1,44 @@
+// What the library says of bytes, in the form in which the worker hands it to the page.
+import { NO_MEMORY, OK, REFUSED } from './codec.js';
+import { kindOfFile } from './kinds.js';
+import { Report } from './report.js';
+import { text } from './text.js';
+
+/**
+ * Judges what was read, `{bytes, damaged}`: `{verdict, report, tile}`. The verdict's kind is
+ * - accepted; or partly, where a layer wasn't looked into since its version isn't 2;
+ * - refused, with the fault; or other, where the bytes are no tile but what `other` says;
+ * - unjudged, with the reason.
+ */
+export function judged(codec, { bytes, damaged }, name) {
+  try {
+    const tile = codec.open(bytes);
+    const answer = tile.report();
+    if (answer.status === REFUSED) return { verdict: refusal(answer.fault, bytes, damaged, name), report: null, tile };
+    if (answer.status !== OK) return { verdict: unjudged(answer.status === NO_MEMORY ? NO_ROOM : `the library answers ${answer.status}`) };
+    const report = new Report(text(answer.bytes));
+    const kind = report.foreign > 0 ? 'partly' : 'accepted';
+    return { verdict: { kind, fault: null, foreign: report.foreign, notes: report.kinds() }, report, tile };
+  } catch (error) {
+    return { verdict: unjudged(reasonOf(error)) };
+  }
+}
+
+const NO_ROOM = 'the browser gave no memory for it';
+
+function refusal(fault, bytes, damaged, name) {
+  const broken = damaged && { name: `damaged ${damaged}`, sentence: `This is a damaged file: it begins as ${damaged} does, but it can’t be unpacked to its end.` };
+  const other = broken || kindOfFile(bytes, name);
+  return { kind: other ? 'other' : 'refused', fault, other, notes: [], foreign: 0 };
+}
+
+function unjudged(why) {
+  return { kind: 'unjudged', fault: null, why, notes: [], foreign: 0 };
+}
+
+/** Why a call of the library ended by an error: want of memory, or a defect, which nobody should take for one. */
+export function reasonOf(error) {
+  const isStack = /call stack/i.test(error.message);
+  if (error instanceof RangeError && !isStack) return NO_ROOM;
+  return `the page failed (${error.name}: ${error.message}), which is a defect of the page and not of the tile`;
+}

@@ -1,0 +1,149 @@
+// What the page has open: one tile, or a list and one tile of it. Each has a worker of its own. Whatever an older worker
+// was asked is never answered, so nothing that is old can show itself.
+import { Client } from './client.js';
+import { element } from './dom.js';
+import { foreign, plain } from './foreign.js';
+import { TileList } from './list.js';
+import { counted } from './text.js';
+import { TileView } from './tile.js';
+import { lineOf, titleOf } from './verdict.js';
+
+const part = (id) => document.getElementById(id);
+
+export class Page {
+  #data;
+  #tiles;
+  #lists;
+  #list = null;
+  #inputs = [];
+  #working = new Map();
+  #scrolled = 0;
+
+  /** `make` makes a worker, `module` is the compiled library, `data` are the rules and what notes mean. */
+  constructor(make, module, data) {
+    this.#data = data;
+    this.#tiles = new Client(make, module);
+    this.#lists = new Client(make, module);
+  }
+
+  /** Opens inputs, `{name, source, note}`: one is shown, several become a list. What was open is stopped. */
+  async open(inputs) {
+    if (inputs.length === 0) return;
+    this.#lists.stop();
+    this.#list = null;
+    this.#inputs = inputs;
+    part('list').replaceChildren();
+    this.#clearTile();
+    this.#done('list');
+    document.body.classList.add('opened');
+    await (inputs.length === 1 ? this.#show(0) : this.#listAll());
+  }
+
+  #clearTile() {
+    this.#tiles.stop();
+    this.#done('tile');
+    part('tile').replaceChildren();
+  }
+
+  // ---- one tile
+
+  async #show(index) {
+    const { name, source, note = null } = this.#inputs[index];
+    this.#clearTile();
+    this.#list?.choose(index);
+    this.#begin('tile', [`Reading ${plain(name)} …`], () => this.#stopTile(name));
+    try {
+      const opened = await this.#tiles.ask('open', { source, name });
+      opened.note = [note, opened.note].filter(Boolean).join(' ') || null;
+      const view = new TileView(this.#tiles, name, opened, { ways: this.#ways(index), data: this.#data });
+      this.#put(view);
+      this.#say(`${plain(name)}: ${titleOf(opened.verdict, 0)}. ${lineOf(opened.verdict)}`);
+      await view.fill();
+      this.#stay(view);
+    } catch (error) {
+      console.error(error);
+      part('tile').append(element('p', { class: 'verdict unjudged' }, [foreign(name), ` can’t be shown: ${error.message}`]));
+    }
+    this.#done('tile');
+  }
+
+  #put({ root, title }) {
+    part('tile').replaceChildren(root);
+    root.scrollIntoView({ block: 'start' });
+    title.focus({ preventScroll: true });
+    this.#scrolled = scrollY;
+  }
+
+  /** Brings the tile's heading to the top once more, now that there is enough below it, unless the person has gone on. */
+  #stay({ root, title }) {
+    if (document.activeElement === title && scrollY === this.#scrolled) root.scrollIntoView({ block: 'start' });
+  }
+
+  #stopTile(name) {
+    this.#tiles.stop();
+    this.#done('tile');
+    const told = element('p', { class: 'verdict unjudged' }, ['Stopped: ', foreign(name), ' wasn’t read to its end.']);
+    part('tile').querySelector('article') ? part('tile').append(told) : part('tile').replaceChildren(told);
+  }
+
+  /** Ways to the list, and to the tiles before and behind. */
+  #ways(index) {
+    if (this.#list === null) return [];
+    const list = this.#list;
+    const to = (title, step) => element('button', { type: 'button', onclick: () => list.beside(index, step) !== null && this.#show(list.beside(index, step)) }, [title]);
+    const back = element('button', { type: 'button', onclick: () => this.#back(index) }, ['Back to the list']);
+    return [element('div', { class: 'buttons ways' }, [back, to('Previous', -1), to('Next', 1)])];
+  }
+
+  #back(index) {
+    part('list').scrollIntoView({ block: 'start' });
+    this.#list.reveal(index);
+  }
+
+  // ---- a list
+
+  async #listAll() {
+    const list = new TileList(this.#inputs, (index) => this.#show(index));
+    this.#list = list;
+    part('list').append(list.root);
+    const stopped = () => {
+      this.#lists.stop();
+      this.#done('list');
+      list.end(false);
+    };
+    this.#begin('list', [`Judging ${counted(this.#inputs.length, 'file')} …`], stopped);
+    list.title.focus();
+    try {
+      const sources = this.#inputs.map(({ name, source }) => ({ name, source }));
+      list.add(await this.#lists.ask('judgeAll', { sources }, (rows) => this.#list === list && list.add(rows)));
+      list.end(true);
+      this.#say(list.title.textContent);
+    } catch (error) {
+      console.error(error);
+      list.end(false);
+    }
+    this.#lists.stop();
+    this.#done('list');
+  }
+
+  // ---- what is going on
+
+  #begin(what, words, stop) {
+    this.#done(what);
+    const button = element('button', { type: 'button', onclick: stop }, ['Stop']);
+    const line = element('p', {}, [...words, ' ', button]);
+    this.#working.set(what, line);
+    part('working').append(line);
+    document.body.classList.add('busy');
+  }
+
+  #done(what) {
+    this.#working.get(what)?.remove();
+    this.#working.delete(what);
+    document.body.classList.toggle('busy', this.#working.size > 0);
+  }
+
+  #say(told) {
+    part('told').textContent = told;
+  }
+}

@@ -1,0 +1,91 @@
+// What the tests of the page in headless Chromium have in common.
+import { writeFileSync } from 'node:fs';
+import { join } from 'node:path';
+import { pathToFileURL } from 'node:url';
+import { Browser } from './browser.mjs';
+import { Counts } from './counts.mjs';
+
+export const tiles = new URL('../../examples/tiles', import.meta.url).pathname;
+
+/** Counts the tasks of a page that last more than 100 ms. */
+const WATCHED = `globalThis.longTasks = [];
+new PerformanceObserver((list) => longTasks.push(...list.getEntries().map((entry) => Math.round(entry.duration)).filter((each) => each > 100)))
+  .observe({ type: 'longtask', buffered: true });`;
+
+export class OnPage {
+  counts = new Counts();
+
+  constructor([chromium, file, folder]) {
+    this.browser = new Browser(chromium);
+    this.url = pathToFileURL(file).href;
+    this.folder = folder;
+  }
+
+  /** Writes a file, and answers its path. */
+  made(name, bytes) {
+    writeFileSync(join(this.folder, name), bytes);
+    return join(this.folder, name);
+  }
+
+  /** One check in a page of its own, in which nothing may be thrown. */
+  async check(name, how, holds) {
+    await this.counts.check(name, async () => {
+      const page = await this.browser.page(this.url, { ...how, before: `${WATCHED};${how.before ?? ''}` });
+      try {
+        const told = await holds(page);
+        return page.errors.length > 0 ? page.errors.join('; ') : told;
+      } finally {
+        await page.close();
+      }
+    });
+  }
+
+  async end() {
+    await this.browser.close();
+    this.counts.end();
+  }
+}
+
+export const texts = (selector) => `[...document.querySelectorAll(${JSON.stringify(selector)})].map((each) => each.textContent)`;
+export const textOf = (selector) => `(document.querySelector(${JSON.stringify(selector)})?.textContent ?? '')`;
+export const click = (selector) => `document.querySelector(${JSON.stringify(selector)}).click()`;
+export const clickNamed = (name) => `[...document.querySelectorAll('button, summary')].find((each) => each.textContent === ${JSON.stringify(name)}).click()`;
+export const clickLabelled = (name) => `document.querySelector(${JSON.stringify(`[aria-label=${JSON.stringify(name)}]`)}).click()`;
+
+/** Chooses files and waits until the page has said of them what it says. */
+export async function look(page, files, seconds = 120) {
+  await page.choose(files);
+  await page.until("document.querySelector('#tile article, #list tbody tr') && !document.body.classList.contains('busy')", seconds);
+}
+
+/** Waits until the picture is drawn. */
+export async function drawn(page, seconds = 120) {
+  await page.until("document.querySelector('.paper')?.dataset.state === 'drawn'", seconds);
+}
+
+/** The colour, `[r, g, b, a]`, of the picture at a place in parts of its side. */
+export const colourAt = (x, y, layer = 'base') => `(() => {
+  const canvas = document.querySelector('.paper .${layer}');
+  const context = new OffscreenCanvas(canvas.width, canvas.height).getContext('2d');
+  context.drawImage(canvas, 0, 0);
+  return [...context.getImageData(Math.floor(${x} * canvas.width), Math.floor(${y} * canvas.height), 1, 1).data];
+})()`;
+
+/** How many points of the picture have a colour. */
+export const painted = (layer = 'base') => `(() => {
+  const canvas = document.querySelector('.paper .${layer}');
+  const context = new OffscreenCanvas(canvas.width, canvas.height).getContext('2d');
+  context.drawImage(canvas, 0, 0);
+  return context.getImageData(0, 0, canvas.width, canvas.height).data.reduce((sum, each, at) => sum + (at % 4 === 3 && each > 0 ? 1 : 0), 0);
+})()`;
+
+/** The place of the window that is a place of the picture. */
+export async function spotOf(page, x, y) {
+  return page.value(`(() => {
+    document.querySelector('.paper').scrollIntoView({ block: 'center' });
+    const box = document.querySelector('.paper').getBoundingClientRect();
+    return { x: box.x + ${x} * box.width, y: box.y + ${y} * box.height };
+  })()`);
+}
+
+export const same = (got, wanted) => JSON.stringify(got) === JSON.stringify(wanted) || `${JSON.stringify(got)}, wanted ${JSON.stringify(wanted)}`;
