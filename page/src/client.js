@@ -1,7 +1,5 @@
-// The page's side of a worker: asks, and waits for what it answers.
-
-/** What a question ends with whose worker was stopped. */
-export class Stopped extends Error {}
+// The page's side of a worker: asks, and waits for what it answers. Once stopped, nothing that was asked is ever answered,
+// so nothing old can show itself.
 
 export class Client {
   #make;
@@ -9,6 +7,7 @@ export class Client {
   #worker = null;
   #waiting = new Map();
   #last = 0;
+  #isStopped = false;
 
   /** `make` makes a worker; `module` is the compiled library. */
   constructor(make, module) {
@@ -18,6 +17,7 @@ export class Client {
 
   /** Asks the worker to do something; `told` gets what it says before it is done. */
   ask(call, words = {}, told = () => {}) {
+    if (this.#isStopped) return new Promise(() => {});
     this.#worker ??= this.#begin();
     this.#last += 1;
     const id = this.#last;
@@ -25,17 +25,17 @@ export class Client {
     return new Promise((resolve, reject) => this.#waiting.set(id, { resolve, reject, told }));
   }
 
-  /** Ends whatever the worker does, and gives back its memory; the next question starts a new one. */
+  /** Ends whatever the worker does, and gives back its memory. */
   stop() {
     this.#worker?.terminate();
-    this.#worker = null;
-    this.#fail(new Stopped('stopped'));
+    this.#waiting.clear();
+    this.#isStopped = true;
   }
 
   #begin() {
     const worker = this.#make();
-    worker.addEventListener('message', ({ data }) => this.#worker === worker && this.#hear(data));
-    worker.addEventListener('error', ({ message }) => this.#worker === worker && this.#fail(new Error(`the worker failed: ${message}`)));
+    worker.addEventListener('message', ({ data }) => this.#hear(data));
+    worker.addEventListener('error', ({ message }) => this.#fail(new Error(`the worker failed: ${message}`)));
     worker.postMessage({ call: 'begin', words: { module: this.#module } });
     return worker;
   }

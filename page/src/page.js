@@ -12,8 +12,9 @@ const part = (id) => document.getElementById(id);
 
 export class Page {
   #data;
-  #tiles;
-  #lists;
+  #newClient;
+  #tiles = null;
+  #lists = null;
   #list = null;
   #inputs = [];
   #working = new Map();
@@ -22,14 +23,13 @@ export class Page {
   /** `make` makes a worker, `module` is the compiled library, `data` are the rules and what notes mean. */
   constructor(make, module, data) {
     this.#data = data;
-    this.#tiles = new Client(make, module);
-    this.#lists = new Client(make, module);
+    this.#newClient = () => new Client(make, module);
   }
 
   /** Opens inputs, `{name, source, note}`: one is shown, several become a list. What was open is stopped. */
   async open(inputs) {
     if (inputs.length === 0) return;
-    this.#lists.stop();
+    this.#lists?.stop();
     this.#list = null;
     this.#inputs = inputs;
     part('list').replaceChildren();
@@ -40,7 +40,8 @@ export class Page {
   }
 
   #clearTile() {
-    this.#tiles.stop();
+    this.#tiles?.stop();
+    this.#tiles = this.#newClient();
     this.#done('tile');
     part('tile').replaceChildren();
   }
@@ -104,10 +105,12 @@ export class Page {
 
   async #listAll() {
     const list = new TileList(this.#inputs, (index) => this.#show(index));
+    const judging = this.#newClient();
     this.#list = list;
+    this.#lists = judging;
     part('list').append(list.root);
     const stopped = () => {
-      this.#lists.stop();
+      judging.stop();
       this.#done('list');
       list.end(false);
     };
@@ -115,14 +118,14 @@ export class Page {
     list.title.focus();
     try {
       const sources = this.#inputs.map(({ name, source }) => ({ name, source }));
-      list.add(await this.#lists.ask('judgeAll', { sources }, (rows) => this.#list === list && list.add(rows)));
+      list.add(await judging.ask('judgeAll', { sources }, (rows) => list.add(rows)));
       list.end(true);
       this.#say(list.title.textContent);
     } catch (error) {
       console.error(error);
       list.end(false);
     }
-    this.#lists.stop();
+    judging.stop();
     this.#done('list');
   }
 
