@@ -151,7 +151,9 @@ mvt_status mvt_read(const uint8_t *bytes, size_t len, mvt_tile *out, mvt_fault *
 
 /* The canonical bytes of the tile that rows are. The rows may come from anywhere: from mvt_read, or made by hand, in any
  * order, with spans that overlap and entries that nothing names. What a row hasn't, as the bytes of a layer of version 2,
- * the text of a number or the `exterior` of a line, isn't looked at, and neither is what no row names.
+ * the text of a number or the `exterior` of a line, isn't looked at, and neither is what no row names. An empty span is
+ * looked at like any other: it begins within its list or at its end. So are all keys and values of a layer; those that no
+ * tag names are checked, and not written.
  * MVT_NO_TILE where a span reaches beyond its list, a tag's index beyond the keys or values of its layer, or the rows are
  * no valid tile: a name, a key or a text that isn't UTF-8; a kind that isn't there; a `has_id`, the `exterior` of a ring
  * or a bool beyond 1; a float beyond 32 bits; tags that are odd in number or name a key twice; no points, lines or rings

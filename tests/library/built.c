@@ -149,6 +149,37 @@ static void build_no_tile(void) {
     require(mvt_builder_finish(&builder, &out) == MVT_NO_TILE && out.data == NULL, "points without a point");
 }
 
+/* What mvt_write looks at: an empty span as any other, and keys and values that no tag names. */
+static void write_what_nothing_names(void) {
+    const mvt_value good = {.kind = MVT_BOOL, .bits = 1}, bad = {.kind = MVT_BOOL, .bits = 2};
+    for (int i = 0; i < 8; ++i) {
+        const mvt_span key = {1, 1};
+        const mvt_part part = {.points = {0, 1}};
+        const mvt_point point = {25, 17};
+        mvt_feature feature = {.kind = MVT_POINTS, .parts = {0, 1}};
+        mvt_layer layer = {.version = 2, .extent = 4096, .name = {0, 1}, .features = {0, 1}};
+        mvt_tile tile = {.layers = &layer, .layer_count = 1, .features = &feature, .feature_count = 1, .parts = &part,
+                         .part_count = 1, .points = &point, .point_count = 1, .texts = (const uint8_t *)"ak", .text_len = 2};
+        mvt_bytes out = {0};
+        tile.keys = &key, tile.key_count = 1, tile.values = &good, tile.value_count = 1;
+        layer.keys = layer.values = (mvt_span){0, 1};
+        uint32_t wanted = MVT_OK;
+        switch (i) {
+        case 1: layer.keys = (mvt_span){1, 0}; break;                        /* at the end of the list */
+        case 2: layer.keys = (mvt_span){2, 0}, wanted = MVT_NO_TILE; break;  /* behind it */
+        case 3: feature.tags = (mvt_span){1, 0}, wanted = MVT_NO_TILE; break;
+        case 4: feature.integers = (mvt_span){9, 9}; break;                  /* which points haven't */
+        case 5: tile.values = &bad, wanted = MVT_NO_TILE; break;             /* a value that no tag names */
+        case 6: tile.texts = (const uint8_t *)"a\xff", wanted = MVT_NO_TILE; break; /* and such a key */
+        case 7: tile.values = &bad, layer.values.len = 0; break;             /* a value of no layer */
+        default: break;
+        }
+        require(mvt_write(&tile, &out) == wanted, "what is looked at, and what isn't");
+        require(wanted != MVT_OK || out.len == 19, "what no tag names isn't written");
+        mvt_bytes_free(&out);
+    }
+}
+
 /* What is said of broken bytes: a second layer `a`, whose second feature has the id 300 and a line that ends early. */
 static void explain(void) {
     const uint8_t bytes[] = {0x1A, 0x05, 0x78, 0x01, 0x0A, 0x01, 0x62,                         /* of version 1 */
@@ -185,6 +216,7 @@ int main(void) {
     build_many();
     build_out_of_turn();
     build_no_tile();
+    write_what_nothing_names();
     explain();
     return 0;
 }

@@ -115,13 +115,13 @@ class Builder:
     def feature(self, kind: Kind, id: Optional[int] = None) -> "Builder":
         """Begins a feature of the layer, which ends the one before."""
         self._need_layer()
-        self._end_feature()
         if kind not in KINDS:
-            self._raise(NoTile("%r is no kind of geometry" % (kind,)), self._place(True))
+            self._raise(NoTile("%r is no kind of geometry" % (kind,)), self._place(next_one=True))
         try:
             head = (0, 0) if id is None else (_number(id, 64), 1)
         except (TypeError, OverflowError) as why:
-            self._raise(why, self._place(True), "id")
+            self._raise(why, self._place(next_one=True), "id")
+        self._end_feature()
         starts = (len(self._tags), len(self._parts) // 3, len(self._integers), len(self._points) // 2)
         self._feature = [*head, KINDS.index(kind), starts]
         return self
@@ -139,7 +139,10 @@ class Builder:
     def tag_at(self, key: int, value: int) -> "Builder":
         """Adds an attribute by the indices that `key` and `value` gave."""
         self._need_feature()
-        self._tags.extend((key, value))
+        try:
+            self._tags += array("I", (_number(key, 32), _number(value, 32)))
+        except (TypeError, OverflowError) as why:
+            self._raise(why, self._place())
         return self
 
     def point(self, x: int, y: int) -> "Builder":
@@ -276,7 +279,8 @@ class Builder:
         place = "layer %r" % self._layer[0]
         if self._feature is None and not next_one:
             return place
-        return place + ", feature %d" % (len(self._features) // 8 - self._layer[3][0])
+        ended = len(self._features) // 8 - self._layer[3][0]
+        return place + ", feature %d" % (ended + int(next_one and self._feature is not None))
 
     @staticmethod
     def _raise(why: Exception, *place: str) -> NoReturn:
