@@ -178,7 +178,10 @@ static int same_text(const builder *b, mvt_span span, mvt_bytes text) {
 
 /* Whether a key or a value of the layer is this one. */
 static int stands(const builder *b, int kind, size_t index, const mvt_any *value) {
-    if (kind == KEYS) return same_text(b, ((const mvt_span *)b->lists[KEYS].rows)[b->layer.keys.start + index], value->text);
+    if (kind == KEYS) {
+        const mvt_span *key = (const mvt_span *)b->lists[KEYS].rows + b->layer.keys.start + index;
+        return same_text(b, *key, value->text);
+    }
     const mvt_value *row = (const mvt_value *)b->lists[VALUES].rows + b->layer.values.start + index;
     return row->kind == value->kind && row->bits == value->bits && same_text(b, row->text, value->text);
 }

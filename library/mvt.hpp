@@ -434,7 +434,8 @@ mvt_any any_of(const T &value) noexcept {
     else if constexpr (std::same_as<T, float>) return mvt_any_float(value);
     else if constexpr (std::same_as<T, double>) return mvt_any_double(value);
     else if constexpr (std::unsigned_integral<T>) return mvt_any_uint(value);
-    else if constexpr (std::integral<T>) return value < 0 ? mvt_any_sint(value) : mvt_any_uint(static_cast<std::uint64_t>(value));
+    else if constexpr (std::integral<T>)
+        return value < 0 ? mvt_any_sint(value) : mvt_any_uint(static_cast<std::uint64_t>(value));
     else {
         const std::string_view text = value;
         return mvt_any_text({bytes_of(text).data(), text.size()});

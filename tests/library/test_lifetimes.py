@@ -18,7 +18,8 @@ TILE = (TILES / "gdal.mvt").read_bytes()
 def run(program):
     """What a program prints that has `mvt` and the bytes of a tile."""
     head = "import mvt\ntile = open(%r, 'rb').read()\n" % str(TILES / "gdal.mvt")
-    told = subprocess.run([sys.executable, "-c", head + textwrap.dedent(program)], capture_output=True, text=True, timeout=60)
+    command = [sys.executable, "-c", head + textwrap.dedent(program)]
+    told = subprocess.run(command, capture_output=True, text=True, timeout=60)
     return told.returncode, told.stdout, told.stderr
 
 

@@ -76,7 +76,8 @@ class Writing(unittest.TestCase):
             "most": numpy.uint64(2**64 - 1),
             "text": numpy.str_("Mill"),
         }
-        wanted = [mvt.Float(12.75), mvt.Float(1.5), 0.1, False, True, mvt.Uint(200), mvt.Sint(-3), mvt.Uint(2**64 - 1), "Mill"]
+        numbers = [mvt.Float(12.75), mvt.Float(1.5), 0.1, False, True]
+        wanted = [*numbers, mvt.Uint(200), mvt.Sint(-3), mvt.Uint(2**64 - 1), "Mill"]
         feature = mvt.read(mvt.write(with_feature(attributes=given))).layers[0].features[0]
         told = [(type(value), value) for value in feature.attributes.values()]
         self.assertEqual(told, [(type(value), value) for value in wanted])
@@ -85,7 +86,8 @@ class Writing(unittest.TestCase):
         self.assertEqual(feature.attributes["k"].bits, 0x7FC00123)
         with self.assertRaisesRegex(TypeError, "layer 'a', feature 0, key 'k': numpy.*longdouble|float128"):
             mvt.write(with_feature(attributes={"k": numpy.longdouble(1.5)}))
-        self.assertEqual(mvt.write(with_feature(geometry=numpy.array([[25, 17]]), id=numpy.int8(7))), mvt.write(with_feature(id=7)))
+        of_numpy = with_feature(geometry=numpy.array([[25, 17]]), id=numpy.int8(7))
+        self.assertEqual(mvt.write(of_numpy), mvt.write(with_feature(id=7)))
         with self.assertRaisesRegex(TypeError, "layer 'a', feature 0, geometry: .*float"):
             mvt.write(with_feature(geometry=numpy.array([[25.0, 17.0]])))
 
@@ -104,7 +106,8 @@ class Writing(unittest.TestCase):
 
     def test_names_the_place(self):
         layer = POINT.layers[0]
-        second = dataclasses.replace(layer, name="b", features=[layer.features[0]] * 2 + [mvt.Feature(None, {}, "points", [(0.5, 1)])])
+        half = mvt.Feature(None, {}, "points", [(0.5, 1)])
+        second = dataclasses.replace(layer, name="b", features=[layer.features[0]] * 2 + [half])
         for tile, error, told in (
             (mvt.Tile([layer, second]), TypeError, "layer 'b', feature 2, geometry: 'float' object"),
             (with_feature(geometry=[(1 << 31, 0)]), OverflowError, "layer 'a', feature 0, geometry: "),

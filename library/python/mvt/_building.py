@@ -128,12 +128,14 @@ class Builder:
 
     def tag(self, key: str, value: Value) -> "Builder":
         """Adds an attribute to the feature."""
-        self._need_feature()
+        if self._feature is None:
+            self._need_feature()
         try:
             value_at = self._value(value)
         except (TypeError, OverflowError, NoTile) as why:
             self._raise(why, self._place(), "key %r" % (key,))
-        self._tags.extend((self.key(key), value_at))
+        key_at = self._key_at.get(key) if type(key) is str else None
+        self._tags.extend((self.key(key) if key_at is None else key_at, value_at))
         return self
 
     def tag_at(self, key: int, value: int) -> "Builder":

@@ -42,6 +42,8 @@ class Sint(int):
 Value = Union[str, float, int, bool]
 
 TEXT, FLOAT, DOUBLE, INT, UINT, SINT, BOOL = range(1, 8)
+_DOUBLE = struct.Struct("<d")
+_MOST = (1 << 64) - 1
 
 
 def number_of(kind: int, bits: int) -> Value:
@@ -49,7 +51,7 @@ def number_of(kind: int, bits: int) -> Value:
     if kind == FLOAT:
         return Float(bits=bits)
     if kind == DOUBLE:
-        [double] = struct.unpack("<d", struct.pack("<Q", bits))
+        [double] = _DOUBLE.unpack(bits.to_bytes(8, "little"))
         return float(double)
     if kind == BOOL:
         return bits != 0
@@ -70,6 +72,8 @@ def bits_of(value: Any) -> Tuple[int, int]:
 
     Raises TypeError for what is no value of a tile, and OverflowError for a number that its kind has no room for.
     """
+    if type(value) is int and 0 <= value <= _MOST:
+        return UINT, value
     if isinstance(value, (float, bool)):
         return _own_bits(value)
     numpy = sys.modules.get("numpy")
@@ -91,8 +95,7 @@ def _own_bits(value: Union[float, bool]) -> Tuple[int, int]:
         return BOOL, int(value)
     if isinstance(value, Float):
         return FLOAT, value.bits
-    [bits] = struct.unpack("<Q", struct.pack("<d", value))
-    return DOUBLE, bits
+    return DOUBLE, int.from_bytes(_DOUBLE.pack(value), "little")
 
 
 def _single(value: Any) -> Float:
