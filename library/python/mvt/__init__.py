@@ -3,7 +3,7 @@
     >>> import mvt
     >>> tile = mvt.read(open("town.mvt", "rb").read())
     >>> tile["water"].features[0].attributes
-    {'name': 'Mill Pond', 'depth': 3.5}
+    {'name': 'Mill Pond', 'salt': False}
     >>> [(layer.name, len(layer.features)) for layer in tile if layer.version == 2]
     [('places', 3), ('roads', 2), ('water', 2)]
 
