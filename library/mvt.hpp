@@ -18,6 +18,7 @@
 #include <cstdint>
 #include <initializer_list>
 #include <iterator>
+#include <memory>
 #include <new>
 #include <optional>
 #include <ranges>
@@ -81,12 +82,13 @@ class too_large : public error {
 /// A name that no layer of version 2 has.
 class no_layer : public error {
 public:
-    explicit no_layer(std::string name) : error("no layer of version 2 has the name " + name), name_(std::move(name)) {}
+    explicit no_layer(const std::string &name)
+        : error("no layer of version 2 has the name " + name), name_(std::make_shared<const std::string>(name)) {}
 
-    [[nodiscard]] const std::string &name() const noexcept { return name_; }
+    [[nodiscard]] const std::string &name() const noexcept { return *name_; }
 
 private:
-    std::string name_;
+    std::shared_ptr<const std::string> name_; // an exception is copied without memory
 };
 
 /// A name isn't UTF-8.
@@ -107,7 +109,7 @@ public:
         : error(line_of(fault)), fault_(fault), sentence_(mvt_explain(of.data(), of.size(), &fault)) {
         mvt_place place{};
         mvt_locate(of.data(), of.size(), &fault, &place);
-        if (place.has_layer_name) layer_name_ = std::string(text_of(place.layer_name));
+        if (place.has_layer_name) layer_name_ = std::make_shared<const std::string>(text_of(place.layer_name));
         if (place.has_feature_id) feature_id_ = place.feature_id;
     }
 
@@ -121,7 +123,10 @@ public:
     /// The fault in plain words.
     [[nodiscard]] std::string_view sentence() const noexcept { return sentence_; }
     /// The layer's name, which may be no UTF-8, and the feature's id, where the bytes tell them.
-    [[nodiscard]] const std::optional<std::string> &layer_name() const noexcept { return layer_name_; }
+    [[nodiscard]] std::optional<std::string_view> layer_name() const noexcept {
+        if (layer_name_ == nullptr) return std::nullopt;
+        return *layer_name_;
+    }
     [[nodiscard]] std::optional<std::uint64_t> feature_id() const noexcept { return feature_id_; }
 
 private:
@@ -144,7 +149,7 @@ private:
 
     mvt_fault fault_; // its name lasts for good
     const char *sentence_; // and so does this
-    std::optional<std::string> layer_name_;
+    std::shared_ptr<const std::string> layer_name_;
     std::optional<std::uint64_t> feature_id_;
 };
 

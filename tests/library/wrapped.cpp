@@ -13,6 +13,8 @@
 
 namespace {
 
+static_assert(std::is_nothrow_copy_constructible_v<mvt::refused> && std::is_nothrow_copy_constructible_v<mvt::no_layer>);
+
 void require(bool holds, const char *what) {
     if (!holds) throw std::logic_error(what);
 }
@@ -50,6 +52,7 @@ void take(mvt::byte_span input) {
     require(mvt::json(text).str() == wanted && mvt::json(std::string_view(text)).str() == wanted, "a string is other bytes");
     require(mvt::json(chars).str() == wanted && mvt::json(bytes).str() == wanted, "a vector is other bytes");
     require(mvt::json({input.data(), input.size()}).str() == wanted, "a pointer and a length are other bytes");
+    require(mvt::json(mvt::rewrite(text)).str() == wanted, "what a call made is other bytes");
 
     const std::string both = mvt::extract(text, {"water", "roads"}).str();
     require(mvt::extract(text, std::vector<std::string>{"roads", "water"}).str() == both, "names in a vector are others");
@@ -83,7 +86,7 @@ void explain() {
         } catch (const mvt::refused &why) {
             const bool packed = why.sentence().find("compressed") != std::string_view::npos;
             require(packed == (of != broken), "a tile that isn't compressed looks so");
-            require(why.layer_name() == (packed ? std::nullopt : std::optional<std::string>("a")), "another layer's name");
+            require(why.layer_name() == (packed ? std::nullopt : std::optional<std::string_view>("a")), "another layer's name");
             require(why.feature_id() == (packed ? std::nullopt : std::optional<std::uint64_t>(7)), "another feature's id");
         }
     }
