@@ -17,7 +17,10 @@ def address_of(name: str) -> Address:
     """The address of a file, with z, x and y where its name ends with them."""
     place = _PLACE.fullmatch(name)
     shown = name.encode("utf-8", "surrogateescape").decode("utf-8", "backslashreplace")
-    return Address(*map(int, place.groups()), shown) if place else Address(None, None, None, shown)
+    if place is None:
+        return Address(None, None, None, shown)
+    z, x, y = map(int, place.groups())
+    return Address(z, x, y, shown)
 
 
 def is_tile(name: str) -> bool:
