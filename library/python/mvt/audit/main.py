@@ -108,7 +108,7 @@ def _audit(given: argparse.Namespace) -> int:
     results = Results(given.into, given.anew)
     try:
         found = _judge(given, results, stores, states)
-        page = report.write(results, {store.path: store for store in stores}, given.into)
+        page = report.write(results, {store.path: store for store in stores}, found, given.into)
     finally:
         results.close()
     for part in found["unfinished"][:3]:
