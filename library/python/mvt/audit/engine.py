@@ -37,7 +37,7 @@ def workers(count: int, scheduler: Optional[str]) -> Iterator[Any]:
         logging.getLogger(name).setLevel(logging.CRITICAL)
     if scheduler is not None:
         try:
-            client = dask.Client(scheduler, timeout=10)
+            client = dask.Client(scheduler, timeout=5)
         except (OSError, ValueError, TimeoutError) as why:
             raise EngineError(f"{scheduler}: no scheduler of Dask answers there") from why
         with client:

@@ -1,6 +1,8 @@
 """The command `mvt-audit`."""
 
 import argparse
+import contextlib
+import importlib
 import importlib.util
 import json
 import sys
@@ -86,10 +88,11 @@ def _judge(given: argparse.Namespace, results: Results, stores: List[Store], sta
     """Judges what isn't done, and tells what was found."""
     done = results.begin(stores, states, given.part)
     total, before = sum(state.tiles for state in states), sum(each.tiles for each in done.values())
+    if before >= total:
+        _say(f"all {total:,} tiles are judged already; --anew judges them again")
+        return summary.told(results, summary.Timed(0, 0, 0), [])
     if before:
         _say(f"goes on: {before:,} of {total:,} tiles are judged already")
-    if before and all(each.tiles >= state.tiles for each, state in zip(done.values(), states)):
-        return summary.told(results, summary.Timed(0, 0, 0), [])
     [broken] = results.database.execute(f"select total(tiles) from counts where {summary.BROKEN}").fetchone()
     begun = time.monotonic()
     with engine.workers(given.workers, given.scheduler) as client:
@@ -105,18 +108,18 @@ def _judge(given: argparse.Namespace, results: Results, stores: List[Store], sta
 
 def _audit(given: argparse.Namespace) -> int:
     stores, states = _stores(given.stores)
-    results = Results(given.into, given.anew)
-    try:
-        found = _judge(given, results, stores, states)
+    total = sum(state.tiles for state in states)
+    with contextlib.closing(Results(given.into, given.anew)) as results:
+        try:
+            found = _judge(given, results, stores, states)
+        except KeyboardInterrupt:
+            judged = sum(results.done(store.path).tiles for store in stores)
+            _say(f"ended; {judged:,} of {total:,} tiles are judged; the same command goes on from here")
+            return INTERRUPTED
         page = report.write(results, {store.path: store for store in stores}, found, given.into)
-    finally:
-        results.close()
-    for part in found["unfinished"][:3]:
-        _say(f"unfinished: part {part['part']} of {part['store']}: {part['why']}")
-    if given.json:
-        print(json.dumps(found, indent=1))
-    else:
-        print("\n".join(summary.lines(found, [str(results.file), str(page)])))
+        for part in found["unfinished"][:3]:
+            _say(f"unfinished: part {part['part']} of {part['store']}: {part['why']}")
+        print(json.dumps(found, indent=1) if given.json else "\n".join(summary.lines(found, [str(results.file), str(page)])))
     return summary.status(found)
 
 
@@ -135,7 +138,6 @@ def main(words: Optional[Sequence[str]] = None) -> int:
         _say(str(why))
         return UNREAD
     except KeyboardInterrupt:
-        _say("ended; the same command goes on from here")
         return INTERRUPTED
 
 

@@ -89,14 +89,15 @@ class Results:
             rows = [(store.path, store.kind, *state, size, now) for store, state in zip(stores, states)]
             with _transaction(self.database):
                 self.database.executemany("insert into stores values (?, ?, ?, ?, ?, ?)", rows)
-        return {path: self._done(path) for path in paths}
+        return {path: self.done(path) for path in paths}
 
     def part_size(self) -> int:
         """Of the parts that the stores were cut into when the audit was begun."""
         [size] = self.database.execute("select min(part_size) from stores").fetchone()
         return int(size)
 
-    def _done(self, path: str) -> Done:
+    def done(self, path: str) -> Done:
+        """What is done of a store."""
         rows = self.database.execute("select part, tiles from parts where store = ?", (path,)).fetchall()
         return Done({part for part, _ in rows}, sum(tiles for _, tiles in rows))
 
