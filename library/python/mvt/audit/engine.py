@@ -1,5 +1,6 @@
 """The work spread over processes or machines, by Dask."""
 
+import asyncio
 import contextlib
 import importlib
 import logging
@@ -38,7 +39,7 @@ def workers(count: int, scheduler: Optional[str]) -> Iterator[Any]:
     if scheduler is not None:
         try:
             client = dask.Client(scheduler, timeout=5)
-        except (OSError, ValueError, TimeoutError) as why:
+        except (OSError, ValueError, asyncio.TimeoutError) as why:
             raise EngineError(f"{scheduler}: no scheduler of Dask answers there") from why
         with client:
             yield client
@@ -58,11 +59,12 @@ def workers(count: int, scheduler: Optional[str]) -> Iterator[Any]:
 def run(client: Any, results: Results, stores: Sequence[Store], done: Dict[str, Done], told: Told) -> List[Lost]:
     """Judges what isn't done yet. Answers the parts that no worker could finish."""
     _await_worker(client)
-    waiting = importlib.import_module("distributed").as_completed()
+    waiting = importlib.import_module("distributed").as_completed(with_results=True, raise_errors=False)
     handed: Dict[str, Tuple[str, int]] = {}
     lost: List[Lost] = []
 
-    def take(future: Any) -> None:
+    def take(finished: Tuple[Any, Any]) -> None:
+        future, rows = finished
         path, part = handed.pop(future.key)
         if future.cancelled():
             raise EngineError("the scheduler went away")
@@ -70,7 +72,6 @@ def run(client: Any, results: Results, stores: Sequence[Store], done: Dict[str, 
         if why is not None:
             lost.append(Lost(path, part, f"{type(why).__name__}: {why}".splitlines()[0]))
             return
-        rows = future.result()
         results.add(path, part, rows)
         told(rows)
 
@@ -80,8 +81,8 @@ def run(client: Any, results: Results, stores: Sequence[Store], done: Dict[str, 
         future = client.submit(judged_part, store, tiles, pure=False)
         handed[future.key] = store.path, part
         waiting.add(future)
-    for future in waiting:
-        take(future)
+    for finished in waiting:
+        take(finished)
     return lost
 
 
@@ -96,5 +97,5 @@ def _parts(stores: Sequence[Store], done: Dict[str, Done], size: int) -> Iterato
 def _await_worker(client: Any) -> None:
     try:
         client.wait_for_workers(1, timeout=30)
-    except TimeoutError as why:
+    except asyncio.TimeoutError as why:
         raise EngineError(f"{client.scheduler.address}: the scheduler has no workers") from why

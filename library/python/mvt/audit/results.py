@@ -5,6 +5,7 @@ import os
 import sqlite3
 import time
 from collections import Counter
+from operator import itemgetter
 from pathlib import Path
 from typing import Any, Dict, Iterable, List, NamedTuple, Sequence, Set, Tuple
 
@@ -31,8 +32,12 @@ VERSION = 1
 
 _INSERT = f"insert into tiles values (?{', ?' * len(Row._fields)})"
 
-# A key of the table counts, behind the store: z, verdict, cause, its name and the layer's.
+# By what tiles are counted, beside the store.
+COUNTED = ("z", "verdict", "cause", "cause_name", "layer_name")
 Kind = Tuple[Any, ...]
+
+_KIND = itemgetter(*map(Row._fields.index, COUNTED))
+_NOTED = itemgetter(*map(Row._fields.index, ("z", "verdict", "notes")))
 
 
 class ResultsError(Exception):
@@ -103,15 +108,14 @@ class Results:
 
     def add(self, path: str, part: int, rows: List[Tuple[Any, ...]]) -> None:
         """A part's rows, all or none of them."""
-        counts: Counter[Kind] = Counter()
+        counts: Counter[Kind] = Counter(map(_KIND, rows))
         notes: Counter[Kind] = Counter()
-        for row in map(Row._make, rows):
-            counts[row.z, row.verdict, row.cause, row.cause_name, row.layer_name] += 1
-            if row.notes and row.verdict in (ACCEPTED, EMPTY):
-                notes.update((row.z, note) for note in {line.split(" ")[0] for line in row.notes.split("; ")} - {"and"})
+        for z, verdict, said in map(_NOTED, rows):
+            if said and verdict in (ACCEPTED, EMPTY):
+                notes.update((z, note) for note in {line.split(" ")[0] for line in said.split("; ")} - {"and"})
         with _transaction(self.database) as database:
             database.executemany(_INSERT, ((path, *row) for row in rows))
-            _count(database, "counts", ("z", "verdict", "cause", "cause_name", "layer_name"), path, counts)
+            _count(database, "counts", COUNTED, path, counts)
             _count(database, "note_counts", ("z", "note"), path, notes)
             database.execute("insert into parts values (?, ?, ?)", (path, part, len(rows)))
 
