@@ -144,7 +144,7 @@ class Runs(Case):
         before = (self.into / "audit.sqlite").read_bytes()
         (tree / "5" / "0" / "0.mvt").write_bytes(b"")
         self.fails([tree], 2, f"changed since the audit was begun: {tree}; --anew begins again")
-        self.fails([self.listed(1)], 2, f"is of {tree}; --anew begins again")
+        self.fails([self.listed(1)], 2, f"is of {tree}; --anew begins again, with other stores")
         self.assertEqual((self.into / "audit.sqlite").read_bytes(), before)
         self.assertEqual(audit(tree, "--into", self.into, "--anew")[0], 1)
         self.assertEqual(rows(self.into, "select verdict from tiles where name = '5/0/0.mvt'"), [("empty",)])

@@ -29,13 +29,13 @@ def _parser() -> argparse.ArgumentParser:
     )
     words.add_argument(
         "stores", nargs="+", metavar="STORE",
-        help="a folder {z}/{x}/{y}.mvt or .pbf (.gz too), an .mbtiles file, or a .txt file with a file name on each line",
+        help="a folder {z}/{x}/{y}.mvt or .pbf (.gz too), an .mbtiles file, or a .txt file with a name on each line",
     )
     words.add_argument("--into", required=True, type=Path, metavar="FOLDER", help="where the results go")
     where = words.add_mutually_exclusive_group()
     where.add_argument("--workers", type=_positive, default=4, metavar="N", help="processes on this machine (4)")
     where.add_argument("--scheduler", metavar="ADDRESS", help="a scheduler of Dask, such as tcp://alpha:8786")
-    words.add_argument("--part", type=_positive, default=2000, metavar="N", help="tiles that a worker takes at a time (2000)")
+    words.add_argument("--part", type=_positive, default=2000, metavar="N", help="tiles a worker takes at a time (2000)")
     words.add_argument("--anew", action="store_true", help="forget the results in the folder, and begin again")
     words.add_argument("--json", action="store_true", help="sum up as JSON")
     return words
@@ -119,7 +119,8 @@ def _audit(given: argparse.Namespace) -> int:
         page = report.write(results, {store.path: store for store in stores}, found, given.into)
         for part in found["unfinished"][:3]:
             _say(f"unfinished: part {part['part']} of {part['store']}: {part['why']}")
-        print(json.dumps(found, indent=1) if given.json else "\n".join(summary.lines(found, [str(results.file), str(page)])))
+        lines = summary.lines(found, [str(results.file), str(page)])
+        print(json.dumps(found, indent=1) if given.json else "\n".join(lines))
     return summary.status(found)
 
 
@@ -127,7 +128,8 @@ def main(words: Optional[Sequence[str]] = None) -> int:
     given = _parser().parse_args(words)
     missing = [name for name in ("distributed", "tqdm") if importlib.util.find_spec(name) is None]
     if missing:
-        _say(f"wants {' and '.join(missing)}: the extra libmvt[audit], or Debian's python3-distributed and python3-tqdm")
+        packages = "the extra libmvt[audit], or Debian's python3-distributed and python3-tqdm"
+        _say(f"wants {' and '.join(missing)}: {packages}")
         return UNREAD
     try:
         return _audit(given)

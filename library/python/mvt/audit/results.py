@@ -85,7 +85,7 @@ class Results:
         known = {path: digest for path, digest in self.database.execute("select path, digest from stores")}
         paths = [store.path for store in stores]
         if known and set(known) != set(paths):
-            raise ResultsError(f"{self.file} is of {', '.join(sorted(known))}; --anew begins again, with what is named now")
+            raise ResultsError(f"{self.file} is of {', '.join(sorted(known))}; --anew begins again, with other stores")
         changed = [path for path, state in zip(paths, states) if known and known[path] != state.digest]
         if changed:
             raise ResultsError(f"changed since the audit was begun: {', '.join(changed)}; --anew begins again")
@@ -121,8 +121,8 @@ class Results:
 
     def counted(self, columns: str, where: str = "true") -> List[Any]:
         """The counts by some columns: these and the number of tiles, the largest number first."""
-        query = f"select {columns}, sum(tiles) from counts where {where} group by {columns} order by sum(tiles) desc, {columns}"
-        return self.database.execute(query).fetchall()
+        order = f"group by {columns} order by sum(tiles) desc, {columns}"
+        return self.database.execute(f"select {columns}, sum(tiles) from counts where {where} {order}").fetchall()
 
 
 class _transaction:

@@ -14,8 +14,8 @@ LAYERS, FEATURES, LAYER_NAME, KEYS, EXTENT, FEATURE_ID, TAGS, KIND, GEOMETRY = 3
 
 
 class Field(NamedTuple):
-    """A field: where its tag stands, where its payload begins and where it ends. `wanted` is the end that it says it has;
-    `is_whole` is false where it can't be split."""
+    """A field: where its tag stands, where its payload begins and where it ends. `wanted` is the end that it says it
+    has; `is_whole` is false where it can't be split."""
 
     at: int
     number: Optional[int]

@@ -39,7 +39,9 @@ def maps(results: Results) -> List[Map]:
     boxes = _boxes(results)
     cells = _cells(results, boxes)
     return [
-        Map(z, _svg(box, cells[z]), _where(z, box), box.tiles, box.broken) for z, box in sorted(boxes.items()) if box.broken
+        Map(z, _svg(box, cells[z]), _where(z, box), box.tiles, box.broken)
+        for z, box in sorted(boxes.items())
+        if box.broken
     ]
 
 

@@ -26,6 +26,9 @@ MEANINGS = {
     UNREAD: "couldn't be read",
 }
 
+# The page needs nothing but itself, and runs nothing.
+_POLICY = "default-src 'none'; style-src 'unsafe-inline'; img-src data:"
+
 # A row of a table: what is counted, as HTML, and how many there are.
 Line = Tuple[str, int]
 
@@ -38,7 +41,7 @@ def page(results: Results, stores: Dict[str, Store], found: Dict[str, Any]) -> s
         "<!DOCTYPE html>",
         '<html lang="en"><head><meta charset="utf-8">',
         '<meta name="viewport" content="width=device-width, initial-scale=1">',
-        "<meta http-equiv=\"Content-Security-Policy\" content=\"default-src 'none'; style-src 'unsafe-inline'; img-src data:\">",
+        f'<meta http-equiv="Content-Security-Policy" content="{_POLICY}">',
         f"<title>Audit of {escape(names)}</title><style>{style}</style></head><body>",
         f"<h1>Audit of {escape(names)}</h1>",
         _head(found),
@@ -122,15 +125,16 @@ def _zooms(results: Results) -> str:
             f' {total[z]:,}</td><td class="number">{_share(share)}</td><td class="bar">{bar}</td></tr>'
         )
     return (
-        '<section><h2>By zoom</h2><table><thead><tr><th>Zoom</th><th class="number">Broken</th><th class="number">Share</th>'
-        f'<th></th></tr></thead><tbody>{"".join(cells)}</tbody></table></section>'
+        '<section><h2>By zoom</h2><table><thead><tr><th>Zoom</th><th class="number">Broken</th>'
+        f'<th class="number">Share</th><th></th></tr></thead><tbody>{"".join(cells)}</tbody></table></section>'
     )
 
 
 def _maps(results: Results) -> str:
     figures = [
         f'<figure role="img" aria-label="Zoom {each.z}: {each.broken} of {each.tiles} tiles are broken">{each.svg}'
-        f"<figcaption>Zoom {each.z}: {each.broken:,} of {counted(each.tiles, 'tile')}; {each.where}</figcaption></figure>"
+        f"<figcaption>Zoom {each.z}: {each.broken:,} of {counted(each.tiles, 'tile')};"
+        f" {each.where}</figcaption></figure>"
         for each in maps(results)
     ]
     if not figures:
@@ -150,12 +154,13 @@ def _causes(results: Results, stores: Dict[str, Store], found: Dict[str, Any]) -
     for verdict, cause, name, tiles in kinds:
         if tiles:
             meaning = RULES.get(cause, "") if cause else f"Such a tile {MEANINGS[verdict]}."
-            parts.append(f'<h3 id="cause-{cause or verdict.replace(" ", "-")}">{escape(name)}: {counted(tiles, "tile")}</h3>')
+            anchor = cause or verdict.replace(" ", "-")
+            parts.append(f'<h3 id="cause-{anchor}">{escape(name)}: {counted(tiles, "tile")}</h3>')
             parts.append(f"<p>{escape(meaning)}</p>")
             parts += [_example(each, several=len(stores) > 1) for each in examples(results, stores, verdict, cause)]
     if parts:
         parts.insert(0, "<h2>The worst of each kind</h2>")
-        parts.insert(1, '<p class="quiet">Those at the lowest zooms, where most people see them, and of different layers.</p>')
+        parts.insert(1, '<p class="quiet">Those at the lowest zooms, which most people see, and of different layers.</p>')
     return parts
 
 
@@ -168,7 +173,8 @@ def _example(example: Example, several: bool) -> str:
         return f'<article>{said[0]}<p>{escape(row.notes or example.why)}</p></article>'
     if fault is None:
         shown = _bytes(example.content, None)
-        return f'<article>{said[0]}<p>{escape(row.notes)}; {counted(row.bytes or 0, "byte")}.</p><div class="shown">{shown}</div></article>'
+        said.append(f"<p>{escape(row.notes)}; {counted(row.bytes or 0, 'byte')}.</p>")
+        return f'<article>{"".join(said)}<div class="shown">{shown}</div></article>'
     place = locate(example.content, fault)
     said.append(f"<p>{escape(sentence(fault, place))}</p>")
     said.append(f'<p class="quiet"><code>{escape(str(fault))}</code>; {counted(row.bytes or 0, "byte")}'
@@ -191,7 +197,7 @@ def _within(example: Example) -> str:
 def _pictures(tile: bytes, fault: Any) -> Iterable[str]:
     whole = pictures.of_tile(tile, fault)
     if whole is None:
-        yield '<p class="quiet">There is no picture: nothing of the tile can be drawn, or it is too large for this page.</p>'
+        yield '<p class="quiet">No picture: nothing of the tile can be drawn, or it is too large for this page.</p>'
     for picture in (whole, pictures.close_up(tile, fault)):
         if picture is not None:
             source = quote(picture.svg, safe=" =:;,/()!*.-+?@_~")
@@ -212,4 +218,5 @@ def _bytes(tile: bytes, place: Optional[Place]) -> str:
         gap = "   " * (8 - len(run.content))
         lines.append(f"<b>{run.start:06X}</b>  {' '.join(spelled)}{gap}  <b>{escape(letters)}</b>")
     caption = marked(place) if place else "The first bytes, as they are stored."
-    return f'<figure><pre>{chr(10).join(lines)}</pre><figcaption>{escape(caption)} Offsets are hexadecimal.</figcaption></figure>'
+    told = f"{escape(caption)} Offsets are hexadecimal."
+    return f"<figure><pre>{chr(10).join(lines)}</pre><figcaption>{told}</figcaption></figure>"

@@ -90,9 +90,7 @@ def _drawn(tile: bytes, fault: mvt.Refused) -> Tuple[List[Path], int, bool]:
 def _ring(point: Point, extent: int) -> str:
     """A circle round a place, which may be too small to be seen."""
     at = f'cx="{point[0]}" cy="{point[1]}" r="{extent * 0.03:.1f}" fill="none"'
-    return (
-        f'<circle {at} stroke="#fff" stroke-width="1.4%"/><circle {at} stroke="{_RED}" stroke-width=".7%"/>'
-    )
+    return f'<circle {at} stroke="#fff" stroke-width="1.4%"/><circle {at} stroke="{_RED}" stroke-width=".7%"/>'
 
 
 def of_tile(tile: bytes, fault: mvt.Refused) -> Optional[Picture]:
@@ -142,7 +140,8 @@ def close_up(tile: bytes, fault: mvt.Refused) -> Optional[Picture]:
 
 
 def _dot(point: Point, whole: float) -> str:
-    return f'<circle cx="{point[0]}" cy="{point[1]}" r="{whole * 0.018:g}" fill="{_RED}" stroke="#fff" stroke-width=".4%"/>'
+    at = f'cx="{point[0]}" cy="{point[1]}" r="{whole * 0.018:g}"'
+    return f'<circle {at} fill="{_RED}" stroke="#fff" stroke-width=".4%"/>'
 
 
 def _arrows(path: Path, near: List[Point], whole: float) -> str:

@@ -1,4 +1,4 @@
-"""Where a fault lies in the bytes of its tile. The library says a layer, a feature and a place; here its bytes are found."""
+"""Where a fault lies in the bytes of its tile: the library says a layer, a feature and a place, and here are its bytes."""
 
 from dataclasses import dataclass
 from typing import List, NamedTuple, Optional, Tuple
@@ -15,8 +15,8 @@ IN_GEOMETRY = (17, 18, 19, 20, 21, 22, 23, 26)
 
 @dataclass(frozen=True)
 class Integers:
-    """An integer of a feature's tags or geometry: its list, its index there and its value, None behind the last; how many
-    the list has; and of a tag the key that it names and how many keys there are."""
+    """An integer of a feature's tags or geometry: its list, its index there and its value, None behind the last; how
+    many the list has; and of a tag the key that it names and how many keys there are."""
 
     kind: str
     index: int
@@ -75,7 +75,8 @@ def _innermost(tile: bytes, at: int) -> Tuple[Optional[Field], str, Optional[str
     """The field whose tag stands at an offset, or the innermost one round it, the kind of its message and its name."""
     kind, message, found = "tile", wire.whole(tile), None
     while True:
-        field = next((each for each in wire.fields(tile, message.body, message.end) if at < each.end or not each.is_whole), None)
+        inside = wire.fields(tile, message.body, message.end)
+        field = next((each for each in inside if at < each.end or not each.is_whole), None)
         if field is None or at < field.at:
             return found, kind, None
         name = wire.NAMES[kind].get(field.number or 0)
@@ -92,8 +93,9 @@ def _mark(tile: bytes, cause: int, field: Field, kind: str, name: Optional[str])
                 return start, end
     if cause == 7:
         return field.body, field.end
-    is_small = field.end - field.at <= 32 and field.is_whole
-    return field.at, field.end if is_small and cause not in (8, 10, 24) else max(min(field.body, field.end), field.at + 1)
+    if field.end - field.at <= 32 and field.is_whole and cause not in (8, 10, 24):
+        return field.at, field.end
+    return field.at, max(min(field.body, field.end), field.at + 1)
 
 
 class Run(NamedTuple):

@@ -8,7 +8,7 @@ Point = Tuple[int, int]
 
 
 class Path(NamedTuple):
-    """Points that are joined, whether the last is joined to the first, and the index of the integer behind each point."""
+    """Points that are joined, whether the last is joined to the first, and the index behind each point's integers."""
 
     points: List[Point]
     closed: bool

@@ -17,20 +17,21 @@ RULES: Dict[int, str] = {
     7: "A text isn't UTF-8.",
     8: "The layer has no version. Each layer must say its version, in field 15.",
     10: "The layer has no name. Each layer must have one, in field 1; it may be empty.",
-    11: "A value has none or several of the seven kinds (string, float, double, int, uint, sint, bool). It must have one.",
+    11: "A value has none or several of the seven kinds (string, float, double, int, uint, sint, bool), and must have"
+    " one.",
     12: "The geometry type is above 3. There are 0 unknown, 1 point, 2 line and 3 polygon.",
     13: "The number of tags is odd. Tags come in pairs: the index of a key, then that of a value.",
     14: "A tag names a key that the layer doesn't have.",
     15: "A tag names a value that the layer doesn't have.",
     16: "The feature has one key twice.",
-    17: "An integer of the geometry isn't the command that is due. Points are one MoveTo; lines are MoveTo and LineTo in turn;"
-    " rings are MoveTo, LineTo and ClosePath.",
+    17: "An integer of the geometry isn't the command that is due. Points are one MoveTo; lines are MoveTo and LineTo"
+    " in turn; rings are MoveTo, LineTo and ClosePath.",
     18: "A command of the geometry has a count that isn't allowed here.",
     19: "A command of the geometry wants more integers than are left.",
     20: "A line goes nowhere: one of its LineTo steps moves by (0, 0), so a point stands twice in a row.",
     21: "A position leaves the range: coordinates, and steps, are from −2,147,483,647 to 2,147,483,647.",
-    22: "The first ring of a polygon goes the wrong way round. An exterior ring has positive area, which is clockwise on the"
-    " screen; one of negative area is a hole, so this polygon begins with a hole and has no outline.",
+    22: "The first ring of a polygon goes the wrong way round. An exterior ring has positive area, which is clockwise"
+    " on the screen; one of negative area is a hole, so this polygon begins with a hole and has no outline.",
     23: "The geometry is empty, or ends where a command or a point is still due.",
     24: "The layer has the name of an earlier layer. Names are given once in a tile.",
     25: "The tile is longer than 67,108,864 bytes (64 MiB).",

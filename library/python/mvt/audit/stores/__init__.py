@@ -59,6 +59,6 @@ def opened(path: str) -> Store:
         if store is not None:
             return store
     raise StoreError(
-        f"{path}: no store of tiles; it is a folder {{z}}/{{x}}/{{y}}.mvt or .pbf, an .mbtiles file, or a .txt file with"
-        " a file name on each line"
+        f"{path}: no store of tiles; it is a folder {{z}}/{{x}}/{{y}}.mvt or .pbf, an .mbtiles file,"
+        " or a .txt file with a file name on each line"
     )

@@ -153,7 +153,8 @@ class MBTiles:
         keys, (first, end) = self._keys(), part
         marks = ", ".join("?" * len(keys))
         where = f"({', '.join(keys)}) >= ({marks})" + (f" and ({', '.join(keys)}) < ({marks})" if end else "")
-        query = f"select {', '.join(keys)}, {', '.join(_PLACE)}, {_DATA} from tiles where {where} order by {', '.join(keys)}"
+        columns = ", ".join((*keys, *_PLACE, _DATA))
+        query = f"select {columns} from tiles where {where} order by {', '.join(keys)}"
         for row in database.execute(query, (*first, *(end or ()))):
             yield row[: len(keys)], _address(*row[-4:-1]), _bytes(row[-1])
 
