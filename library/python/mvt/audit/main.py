@@ -35,7 +35,7 @@ def _parser() -> argparse.ArgumentParser:
     where = words.add_mutually_exclusive_group()
     where.add_argument("--workers", type=_positive, default=4, metavar="N", help="processes on this machine (4)")
     where.add_argument("--scheduler", metavar="ADDRESS", help="a scheduler of Dask, such as tcp://alpha:8786")
-    words.add_argument("--part", type=_positive, default=2000, metavar="N", help="tiles a worker takes at a time (2000)")
+    words.add_argument("--part", type=_positive, default=2000, metavar="N", help="tiles in a part (2000)")
     words.add_argument("--anew", action="store_true", help="forget the results in the folder, and begin again")
     words.add_argument("--json", action="store_true", help="sum up as JSON")
     return words

@@ -160,7 +160,7 @@ def _causes(results: Results, stores: Dict[str, Store], found: Dict[str, Any]) -
             parts += [_example(each, several=len(stores) > 1) for each in examples(results, stores, verdict, cause)]
     if parts:
         parts.insert(0, "<h2>The worst of each kind</h2>")
-        parts.insert(1, '<p class="quiet">Those at the lowest zooms, which most people see, and of different layers.</p>')
+        parts.insert(1, '<p class="quiet">Those at the lowest zooms, which most people see, of different layers.</p>')
     return parts
 
 

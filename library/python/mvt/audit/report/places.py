@@ -1,4 +1,4 @@
-"""Where a fault lies in the bytes of its tile: the library says a layer, a feature and a place, and here are its bytes."""
+"""Where a fault lies in the bytes: the library says a layer, a feature and a place, and here are their bytes."""
 
 from dataclasses import dataclass
 from typing import List, NamedTuple, Optional, Tuple
