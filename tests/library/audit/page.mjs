@@ -45,7 +45,7 @@ is('nothing is asked of a network', same(asked.filter((url) => !url.startsWith('
 is('texts of tiles stay texts', same(await page.value('document.title'), 'Audit of town & <b>country.mbtiles'));
 is('no script', same(await page.value('document.scripts.length'), 0));
 const causes = await page.value("[...document.querySelectorAll('h3')].map((each) => each.id)");
-is('each kind of broken tile', causes.length === 27 || causes);
+is('each kind of broken tile', causes.length === 26 || causes);
 const dangling = await page.value("[...document.querySelectorAll('a')].filter((a) => !document.querySelector(a.getAttribute('href'))).length");
 is('each link leads somewhere', same(dangling, 0));
 is('bytes are marked', (await page.value("document.querySelectorAll('mark').length")) > 20);

@@ -13,7 +13,7 @@ def told(name):
     for line in Path(TOP, "docs", "PRODUCERS.md").read_text().splitlines():
         columns = [column.strip() for column in line.split("|")]
         if columns[2:3] == [name]:
-            counts = [dict(re.findall(r"(\w+) ([\d,]+)", column)) for column in columns[5:7]]
+            counts = [dict(re.findall(r"(\w+) (\d+)", column)) for column in columns[5:7]]
             return int(columns[3].replace(",", "")), int(columns[4].replace(",", "")), *counts
     raise AssertionError(f"no set {name}")
 

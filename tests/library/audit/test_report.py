@@ -19,7 +19,7 @@ MARKS = {
     "19-Parameters": (13, 14), "20-ZeroSegment": (17, 18), "21-CoordinateRange": (20, 21), "22-FirstRing": (21, 22),
     "23-EndsEarly": (11, 16), "24-RepeatedName": (19, 21), "25-TooLarge": (67108864, 67108865), "26-ParameterRange": (14, 19),
 }
-# What is said behind the meaning of the cause.
+# What is said of the place, beside what the cause means.
 SAID = {
     "01-Truncated-name": "This field reaches 1 byte past the end of what holds it.", "04-WireType": "It is 3 here.", "04-WireType-gzip": "It is 7 here.",
     "05-WrongType": "The field is “layer”.", "06-NumberRange": "The field is “extent”.", "07-NotUtf8": "The field is “name”.",
@@ -44,8 +44,8 @@ class Places(unittest.TestCase):
             fault = fault_of(line)
             place = places.locate(tiles[name], fault)
             self.assertEqual((place.start, place.end), MARKS[name], name)
-            said = words.sentence(fault, place)
-            self.assertTrue(said.endswith(SAID.get(name, words.RULES[fault.cause])), f"{name}: {said}")
+            said = words.here(fault, place)
+            self.assertEqual(said, SAID.get(name, ""), name)
             self.assertNotIn("None", said + words.marked(place))
 
     def test_each_cause_has_a_meaning(self):
@@ -68,7 +68,7 @@ class Places(unittest.TestCase):
                     fault = mvt.Refused(layer, feature, at, cause, "Name")
                     place = places.locate(tile, fault)
                     self.assertTrue(0 <= place.start <= place.end <= len(tile))
-                    words.sentence(fault, place), words.marked(place), pictures.close_up(tile, fault)
+                    words.here(fault, place), words.marked(place), pictures.close_up(tile, fault)
 
 
 class Shapes(unittest.TestCase):

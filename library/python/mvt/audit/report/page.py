@@ -13,7 +13,7 @@ from . import pictures
 from .examples import Example, examples
 from .maps import maps
 from .places import Place, locate, rows
-from .words import RULES, counted, marked, sentence
+from .words import RULES, counted, here, marked
 
 # Of long tables the rest is counted.
 LONGEST = 40
@@ -176,9 +176,10 @@ def _example(example: Example, several: bool) -> str:
         said.append(f"<p>{escape(row.notes)}; {counted(row.bytes or 0, 'byte')}.</p>")
         return f'<article>{"".join(said)}<div class="shown">{shown}</div></article>'
     place = locate(example.content, fault)
-    said.append(f"<p>{escape(sentence(fault, place))}</p>")
-    said.append(f'<p class="quiet"><code>{escape(str(fault))}</code>; {counted(row.bytes or 0, "byte")}'
-                f'{"; " + escape(row.notes) if row.notes else ""}</p>')
+    told = [f"<code>{escape(str(fault))}</code>", counted(row.bytes or 0, "byte"), escape(row.notes)]
+    if here(fault, place):
+        said.append(f"<p>{escape(here(fault, place))}</p>")
+    said.append(f'<p class="quiet">{"; ".join(filter(None, told))}</p>')
     shown = "".join(_pictures(example.content, fault)) + _bytes(example.content, place)
     return f'<article>{"".join(said)}<div class="shown">{shown}</div></article>'
 

@@ -126,6 +126,8 @@ def close_up(tile: bytes, fault: mvt.Refused) -> Optional[Picture]:
     path, number = found
     is_ring = fault.cause == 22
     near = path.points if is_ring and len(path.points) <= 60 else path.points[max(0, number - 5) : number + 4]
+    if len(set(near)) < 2:
+        return None
     left, top = min(x for x, _ in near), min(y for _, y in near)
     side = max(max(x for x, _ in near) - left, max(y for _, y in near) - top, 2)
     pad = side * 0.12

@@ -1,6 +1,6 @@
 """Faults in plain words. The causes and their numbers are those of the library; values come from the bytes."""
 
-from typing import Callable, Dict, Optional
+from typing import Callable, Dict
 
 import mvt
 
@@ -44,10 +44,10 @@ def counted(number: int, noun: str) -> str:
     return f"{number:,} {noun}{'' if number == 1 else 's'}"
 
 
-def _truncated(place: Place) -> Optional[str]:
+def _truncated(place: Place) -> str:
     field = place.field
     if field is None or field.wanted <= field.end:
-        return None
+        return ""
     return f"This field reaches {counted(field.wanted - field.end, 'byte')} past the end of what holds it."
 
 
@@ -65,7 +65,7 @@ def _key(of: Integers) -> str:
     return f"{name[0].upper()}{name[1:]} stood earlier among the feature's tags."
 
 
-# What is said of this place, behind what its cause means.
+# What is said of a place in tags or a geometry.
 _OF_INTEGERS: Dict[int, Callable[[Integers], str]] = {
     13: lambda of: f"This feature has {counted(of.count, 'tag')}.",
     14: lambda of: f"The tag says key {of.value:,}, counted from 0, and the layer has {counted(of.keys, 'key')}.",
@@ -78,19 +78,18 @@ _OF_INTEGERS: Dict[int, Callable[[Integers], str]] = {
 }
 
 
-def sentence(fault: mvt.Refused, place: Place) -> str:
-    """A fault in plain words: what its cause means, and what stands there."""
-    said = [RULES.get(fault.cause, f"The rule {fault.name} is broken.")]
+def here(fault: mvt.Refused, place: Place) -> str:
+    """What stands at the place of a fault, in plain words; nothing where the cause says it all."""
     integers = place.integers
     if fault.cause in _OF_INTEGERS and integers is not None and (integers.value is not None or fault.cause in (13, 23)):
-        said.append(_OF_INTEGERS[fault.cause](integers))
-    elif fault.cause == 1:
-        said += filter(None, [_truncated(place)])
-    elif fault.cause == 4 and place.field is not None and place.field.wire is not None:
-        said.append(f"It is {place.field.wire} here.")
-    elif fault.cause in (5, 6, 7) and place.name:
-        said.append(f"The field is “{place.name}”.")
-    return " ".join(said)
+        return _OF_INTEGERS[fault.cause](integers)
+    if fault.cause == 1:
+        return _truncated(place)
+    if fault.cause == 4 and place.field is not None and place.field.wire is not None:
+        return f"It is {place.field.wire} here."
+    if fault.cause in (5, 6, 7) and place.name:
+        return f"The field is “{place.name}”."
+    return ""
 
 
 def marked(place: Place) -> str:
