@@ -100,4 +100,5 @@ class Help(unittest.TestCase):
         self.assertLessEqual(max(map(len, run.stdout.splitlines())), 80)
 
 
-unittest.main()
+if __name__ == "__main__":
+    unittest.main()

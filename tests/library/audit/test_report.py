@@ -99,4 +99,5 @@ class Maps(unittest.TestCase):
         self.assertEqual(maps._where(14, maps.Box(8192, 8192, 16, 0, 1, 1)), "0.00° E to 0.35° E, 0.35° S to 0.00° N")
 
 
-unittest.main()
+if __name__ == "__main__":
+    unittest.main()

@@ -13,6 +13,10 @@ import threading
 import time
 import unittest
 
+from deadly import Deadly
+from mvt.audit import engine
+from mvt.audit.results import Results
+
 from common import AUDIT, Case, at_places, audit, check, example_tiles, json, make_mbtiles, make_tree, rows, start
 
 DASK = {"scheduler": "distributed.cli.dask_scheduler", "worker": "distributed.cli.dask_worker"}
@@ -138,6 +142,16 @@ class Runs(Case):
         self.assertLess(was, self.parts())
         self.check_whole(100)
 
+    def test_a_part_that_kills_each_worker_is_told(self):
+        results, store = Results(self.into), Deadly()
+        self.addCleanup(results.close)
+        done = results.begin([store], [store.state()], 10)
+        with engine.workers(2, None) as client:
+            lost = engine.run(client, results, [store], done, lambda rows: None)
+        self.assertEqual([(part.store, part.part) for part in lost], [("/deadly", 1)])
+        self.assertIn("KilledWorker", lost[0].why)
+        self.assertEqual(results.done("/deadly"), ({0, 2}, 20))
+
     def test_a_changed_store_is_told_and_begun_anew_only_when_asked(self):
         tree = self.room / "tree"
         audit(tree, "--into", self.into)
@@ -184,4 +198,5 @@ class Runs(Case):
         run.stdout.close()
 
 
-unittest.main()
+if __name__ == "__main__":
+    unittest.main()

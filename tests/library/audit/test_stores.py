@@ -182,4 +182,5 @@ class Unpacking(unittest.TestCase):
         self.assertEqual(str(again), "layer 1 feature - at 17: 22 FirstRing")
 
 
-unittest.main()
+if __name__ == "__main__":
+    unittest.main()
