@@ -10,8 +10,9 @@ from .. import wire
 from ..wire import Field
 from .shapes import Path, Point, paths, position
 
-# Larger pictures are left out of the page.
+# Larger pictures are left out of the page, and of larger tiles none is made.
 MOST = 400_000
+MOST_OF_TILE = 2_000_000
 # How long the broken parts of one tile are looked for.
 SECONDS = 2.0
 
@@ -95,7 +96,7 @@ def _ring(point: Point, extent: int) -> str:
 
 def of_tile(tile: bytes, fault: mvt.Refused) -> Optional[Picture]:
     """The whole tile: what is good of it, and the broken feature in red, with a circle round the place."""
-    good, dropped = mended(tile)
+    good, dropped = mended(tile) if len(tile) <= MOST_OF_TILE else (None, 0)
     drawn, extent, _ = _drawn(tile, fault)
     parts = [] if good is None else [_TITLE.sub("", mvt.to_svg(good))]
     over = "".join(_line(path, _RED, ".5%") for path in drawn)
@@ -107,10 +108,12 @@ def of_tile(tile: bytes, fault: mvt.Refused) -> Optional[Picture]:
     svg = _document("".join(parts))
     if len(svg) > MOST or "<path" not in svg:
         return None
-    return Picture(svg, _said(dropped, bool(over)))
+    return Picture(svg, _said(good is None, dropped, bool(over)))
 
 
-def _said(dropped: int, is_drawn: bool) -> str:
+def _said(is_alone: bool, dropped: int, is_drawn: bool) -> str:
+    if is_alone:
+        return "The broken feature alone: the tile has too much else."
     red = "the broken feature in red" if is_drawn else "without what is broken"
     if dropped > 1:
         return f"The tile, {red}; {dropped:,} broken parts are left out of the rest."
