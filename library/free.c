@@ -36,14 +36,14 @@ uint32_t mvt_held_feed(held decoder, const uint8_t *piece, size_t len, held *aga
 uint32_t mvt_held_finish(held decoder, mvt_tile *out, mvt_fault *fault);
 void mvt_held_free(held decoder);
 
-uint32_t mvt_decoder_new(mvt_decoder *decoder) {
+mvt_status mvt_decoder_new(mvt_decoder *decoder) {
     held made = {NULL};
     const uint32_t status = mvt_held_new(&made);
     if (status == MVT_OK) decoder->held = made.decoder;
     return status;
 }
 
-uint32_t mvt_decoder_feed(mvt_decoder *decoder, const uint8_t *piece, size_t len, mvt_fault *fault) {
+mvt_status mvt_decoder_feed(mvt_decoder *decoder, const uint8_t *piece, size_t len, mvt_fault *fault) {
     if (decoder->held == NULL) return MVT_NO_DECODER;
     held now = {decoder->held};
     const uint32_t status = mvt_held_feed(now, piece, len, &now, fault);
@@ -51,7 +51,7 @@ uint32_t mvt_decoder_feed(mvt_decoder *decoder, const uint8_t *piece, size_t len
     return status;
 }
 
-uint32_t mvt_decoder_finish(mvt_decoder *decoder, mvt_tile *out, mvt_fault *fault) {
+mvt_status mvt_decoder_finish(mvt_decoder *decoder, mvt_tile *out, mvt_fault *fault) {
     if (decoder->held == NULL) return MVT_NO_DECODER;
     const held last = {decoder->held};
     decoder->held = NULL;

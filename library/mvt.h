@@ -15,11 +15,13 @@
 #include <stddef.h>
 #include <stdint.h>
 
+#define MVT_VERSION "0.3.0"
+
 #ifdef __cplusplus
 extern "C" {
 #endif
 
-enum {
+typedef enum {
     MVT_OK = 0,
     MVT_REFUSED = 1,     /* the bytes are no tile, and the fault tells why */
     MVT_NO_MEMORY = 2,   /* out of memory */
@@ -27,8 +29,9 @@ enum {
     MVT_NO_LAYER = 4,    /* a name that no layer of version 2 has */
     MVT_BAD_NAME = 5,    /* a name isn't UTF-8 */
     MVT_NO_TILE = 6,     /* rows that are no valid tile */
-    MVT_NO_DECODER = 7   /* a decoder that was never made, or is finished or given back */
-};
+    MVT_NO_DECODER = 7,  /* a decoder that was never made, or is finished or given back */
+    MVT_OUT_OF_TURN = 8  /* a builder's call that isn't due */
+} mvt_status;
 
 /* Bytes, or a text in UTF-8, which doesn't end with a zero. */
 typedef struct {
@@ -63,7 +66,7 @@ typedef struct {
     mvt_span bytes;     /* of texts */
 } mvt_layer;
 
-enum { MVT_UNKNOWN = 0, MVT_POINTS = 1, MVT_LINES = 2, MVT_POLYGONS = 3 };
+typedef enum { MVT_UNKNOWN = 0, MVT_POINTS = 1, MVT_LINES = 2, MVT_POLYGONS = 3 } mvt_kind;
 
 /* A feature. Its tags are pairs of an index of a key and an index of a value, both counted from the first of its
  * layer. Its parts are its lines, its rings, or one part with all its points; of an unknown geometry it has the
@@ -77,7 +80,15 @@ typedef struct {
     mvt_span integers;
 } mvt_feature;
 
-enum { MVT_TEXT = 1, MVT_FLOAT = 2, MVT_DOUBLE = 3, MVT_INT = 4, MVT_UINT = 5, MVT_SINT = 6, MVT_BOOL = 7 };
+typedef enum {
+    MVT_TEXT = 1,
+    MVT_FLOAT = 2,
+    MVT_DOUBLE = 3,
+    MVT_INT = 4,
+    MVT_UINT = 5,
+    MVT_SINT = 6,
+    MVT_BOOL = 7
+} mvt_value_kind;
 
 /* A value: a text, or 64 bits. A float and a double are their bit patterns, an int and a sint stand in two's
  * complement, a bool is 1 or 0. */
@@ -112,35 +123,37 @@ typedef struct {
 
 /* The canonical bytes of a tile: equal tiles have equal bytes.
  * MVT_OK, MVT_REFUSED, MVT_NO_MEMORY, MVT_TOO_LARGE. */
-uint32_t mvt_rewrite(const uint8_t *bytes, size_t len, mvt_bytes *out, mvt_fault *fault);
+mvt_status mvt_rewrite(const uint8_t *bytes, size_t len, mvt_bytes *out, mvt_fault *fault);
 
 /* The canonical bytes of the named layers of version 2, in the order of the tile. A name that stands twice counts
  * once, and no name at all gives a tile without layers. The names are looked at first: MVT_BAD_NAME is answered whatever
  * the bytes are.
  * MVT_OK, MVT_REFUSED, MVT_NO_MEMORY, MVT_TOO_LARGE, MVT_NO_LAYER, MVT_BAD_NAME. */
-uint32_t mvt_extract(const uint8_t *bytes, size_t len, const mvt_bytes *names, size_t count, mvt_bytes *out,
-                     mvt_fault *fault);
+mvt_status mvt_extract(const uint8_t *bytes, size_t len, const mvt_bytes *names, size_t count, mvt_bytes *out,
+                       mvt_fault *fault);
 
 /* A tile as JSON, in one line without a line end. MVT_OK, MVT_REFUSED, MVT_NO_MEMORY. */
-uint32_t mvt_json(const uint8_t *bytes, size_t len, mvt_bytes *out, mvt_fault *fault);
+mvt_status mvt_json(const uint8_t *bytes, size_t len, mvt_bytes *out, mvt_fault *fault);
 
 /* A picture of a tile in SVG. MVT_OK, MVT_REFUSED, MVT_NO_MEMORY. */
-uint32_t mvt_svg(const uint8_t *bytes, size_t len, mvt_bytes *out, mvt_fault *fault);
+mvt_status mvt_svg(const uint8_t *bytes, size_t len, mvt_bytes *out, mvt_fault *fault);
 
 /* Whether the bytes are a tile. Nothing is made of them. MVT_OK, MVT_REFUSED, MVT_NO_MEMORY. */
-uint32_t mvt_judge(const uint8_t *bytes, size_t len, mvt_fault *fault);
+mvt_status mvt_judge(const uint8_t *bytes, size_t len, mvt_fault *fault);
 
 /* What `mvt check` says of a tile: a line with the counts of its layers and features and whether the bytes are
  * canonical, and a line for each note. Each ends in a line feed. MVT_OK, MVT_REFUSED, MVT_NO_MEMORY. */
-uint32_t mvt_report(const uint8_t *bytes, size_t len, mvt_bytes *out, mvt_fault *fault);
+mvt_status mvt_report(const uint8_t *bytes, size_t len, mvt_bytes *out, mvt_fault *fault);
 
 /* A tile as rows. MVT_OK, MVT_REFUSED, MVT_NO_MEMORY; MVT_TOO_LARGE for a layer of more than 67,108,864 keys or
  * values. */
-uint32_t mvt_read(const uint8_t *bytes, size_t len, mvt_tile *out, mvt_fault *fault);
+mvt_status mvt_read(const uint8_t *bytes, size_t len, mvt_tile *out, mvt_fault *fault);
 
 /* The canonical bytes of the tile that rows are. The rows may come from anywhere: from mvt_read, or made by hand, in any
  * order, with spans that overlap and entries that nothing names. What a row hasn't, as the bytes of a layer of version 2,
- * the text of a number or the `exterior` of a line, isn't looked at, and neither is what no row names.
+ * the text of a number or the `exterior` of a line, isn't looked at, and neither is what no row names. An empty span is
+ * looked at like any other: it begins within its list or at its end. So are all keys and values of a layer; those that no
+ * tag names are checked, and not written.
  * MVT_NO_TILE where a span reaches beyond its list, a tag's index beyond the keys or values of its layer, or the rows are
  * no valid tile: a name, a key or a text that isn't UTF-8; a kind that isn't there; a `has_id`, the `exterior` of a ring
  * or a bool beyond 1; a float beyond 32 bits; tags that are odd in number or name a key twice; no points, lines or rings
@@ -148,7 +161,7 @@ uint32_t mvt_read(const uint8_t *bytes, size_t len, mvt_tile *out, mvt_fault *fa
  * twice in a row; positions, and steps from one to the next, beyond 2,147,483,647 to either side; rings that wind the
  * wrong way round; an interior ring before all exterior ones; two layers of one name; bytes of a layer that aren't one of
  * its version. Also MVT_OK, MVT_NO_MEMORY, MVT_TOO_LARGE. */
-uint32_t mvt_write(const mvt_tile *tile, mvt_bytes *out);
+mvt_status mvt_write(const mvt_tile *tile, mvt_bytes *out);
 
 /* A decoder of a tile that comes in pieces, cut anywhere. Begin with `mvt_decoder decoder = {0};`, which is no decoder
  * yet. One thread at a time may use it, and of two copies of the variable only one may be used further. */
@@ -157,18 +170,118 @@ typedef struct {
 } mvt_decoder;
 
 /* A decoder of no bytes yet. What stood in `decoder` is not given back. MVT_OK, MVT_NO_MEMORY. */
-uint32_t mvt_decoder_new(mvt_decoder *decoder);
+mvt_status mvt_decoder_new(mvt_decoder *decoder);
 
 /* Takes a piece. A fault is told as soon as no further byte can change it. After a fault, and after want of memory, each
  * further call answers the same. MVT_OK, MVT_REFUSED, MVT_NO_MEMORY, MVT_NO_DECODER. */
-uint32_t mvt_decoder_feed(mvt_decoder *decoder, const uint8_t *piece, size_t len, mvt_fault *fault);
+mvt_status mvt_decoder_feed(mvt_decoder *decoder, const uint8_t *piece, size_t len, mvt_fault *fault);
 
 /* The tile as rows, after the last piece. The decoder is given back, whatever the answer, and is none afterwards.
  * MVT_OK, MVT_REFUSED, MVT_NO_MEMORY, MVT_NO_DECODER; MVT_TOO_LARGE as of mvt_read. */
-uint32_t mvt_decoder_finish(mvt_decoder *decoder, mvt_tile *out, mvt_fault *fault);
+mvt_status mvt_decoder_finish(mvt_decoder *decoder, mvt_tile *out, mvt_fault *fault);
 
 /* Gives a decoder back; nothing happens where there is none. */
 void mvt_decoder_free(mvt_decoder *decoder);
+
+/* A builder, which makes a tile step by step: begin a layer, begin a feature, add its tags and points, and finish.
+ *
+ *     mvt_builder builder = {0};
+ *     mvt_bytes tile;
+ *     mvt_builder_layer(&builder, mvt_text("places"), 4096);
+ *     mvt_builder_feature(&builder, MVT_POINTS);
+ *     mvt_builder_tag(&builder, mvt_text("name"), mvt_any_text(mvt_text("Mill Pond")));
+ *     mvt_builder_point(&builder, 25, 17);
+ *     if (mvt_builder_finish(&builder, &tile) == MVT_OK) ..
+ *
+ * A call answers MVT_OK, MVT_NO_MEMORY, or MVT_OUT_OF_TURN where no layer or no feature of the right kind is begun. After
+ * an answer that isn't MVT_OK, each further call answers the same, so that it is enough to look at the last. One thread
+ * at a time may use a builder, and of two copies of the variable only one may be used further. */
+typedef struct {
+    void *held;
+} mvt_builder;
+
+/* A value to be written: a text, or 64 bits as in mvt_value. The functions below make one of each kind. */
+typedef struct {
+    uint32_t kind; /* MVT_TEXT .. MVT_BOOL */
+    uint64_t bits;
+    mvt_bytes text;
+} mvt_any;
+
+/* The text of a string of C, without the zero at its end. */
+mvt_bytes mvt_text(const char *text);
+mvt_any mvt_any_text(mvt_bytes text);
+mvt_any mvt_any_float(float number);
+mvt_any mvt_any_double(double number);
+mvt_any mvt_any_int(int64_t number);
+mvt_any mvt_any_uint(uint64_t number);
+mvt_any mvt_any_sint(int64_t number);
+mvt_any mvt_any_bool(int truth);
+
+/* Begins a layer, which ends the one before. */
+mvt_status mvt_builder_layer(mvt_builder *builder, mvt_bytes name, uint32_t extent);
+
+/* Adds a layer of another version than 2, of which these are the bytes. MVT_OUT_OF_TURN for version 2. */
+mvt_status mvt_builder_foreign(mvt_builder *builder, uint32_t version, mvt_bytes bytes);
+
+/* The index of a key or a value in the layer. One that isn't there yet is added. */
+mvt_status mvt_builder_key(mvt_builder *builder, mvt_bytes key, uint32_t *index);
+mvt_status mvt_builder_value(mvt_builder *builder, mvt_any value, uint32_t *index);
+
+/* Begins a feature of the layer, which ends the one before. */
+mvt_status mvt_builder_feature(mvt_builder *builder, mvt_kind kind);
+mvt_status mvt_builder_id(mvt_builder *builder, uint64_t id);
+
+/* Adds an attribute to the feature, by key and value or by their indices. */
+mvt_status mvt_builder_tag(mvt_builder *builder, mvt_bytes key, mvt_any value);
+mvt_status mvt_builder_tag_at(mvt_builder *builder, uint32_t key, uint32_t value);
+
+/* Begin a line of a feature of lines, or a ring of a feature of polygons. An exterior ring begins a polygon, and the rings
+ * after it are its holes. */
+mvt_status mvt_builder_line(mvt_builder *builder);
+mvt_status mvt_builder_ring(mvt_builder *builder, int exterior);
+
+/* Add points to the line or ring that was begun last, or to a feature of points. The last point of a ring is joined to
+ * its first. */
+mvt_status mvt_builder_point(mvt_builder *builder, int32_t x, int32_t y);
+mvt_status mvt_builder_points(mvt_builder *builder, const mvt_point *points, size_t count);
+
+/* Adds integers to a feature of unknown geometry. */
+mvt_status mvt_builder_integers(mvt_builder *builder, const uint32_t *integers, size_t count);
+
+/* Takes the feature back that was begun last and isn't ended, as one whose geometry came to nothing. */
+mvt_status mvt_builder_drop(mvt_builder *builder);
+
+/* The tile so far, as rows, which stay the builder's: they last up to its next call, and are never given back. Ends the
+ * layer. */
+mvt_status mvt_builder_rows(mvt_builder *builder, mvt_tile *out);
+
+/* The canonical bytes of the tile. The builder is given back, whatever the answer, and may begin anew. Also
+ * MVT_NO_TILE and MVT_TOO_LARGE, as of mvt_write. */
+mvt_status mvt_builder_finish(mvt_builder *builder, mvt_bytes *out);
+
+/* Gives a builder back; nothing happens where there is none. */
+void mvt_builder_free(mvt_builder *builder);
+
+/* The texts below last for good, end with a zero, and are never given back. */
+
+/* The version of the library, as MVT_VERSION is that of the header. */
+const char *mvt_version(void);
+
+/* A status in a few words, for a message. */
+const char *mvt_status_text(uint32_t status);
+
+/* A fault in plain words: a sentence or two. The bytes are those that were refused, of which the first few are enough;
+ * where they look compressed (by gzip or zlib) the words say so. */
+const char *mvt_explain(const uint8_t *bytes, size_t len, const mvt_fault *fault);
+
+/* What refused bytes tell of the place of their fault. The name is a part of these bytes, and may be no UTF-8. */
+typedef struct {
+    mvt_bytes layer_name;
+    uint32_t has_layer_name; /* 1 or 0 */
+    uint32_t has_feature_id; /* 1 or 0 */
+    uint64_t feature_id;
+} mvt_place;
+void mvt_locate(const uint8_t *bytes, size_t len, const mvt_fault *fault, mvt_place *out);
 
 /* Give back what a call put into `out`, and leave zeros there, for which a further call does nothing. */
 void mvt_bytes_free(mvt_bytes *bytes);

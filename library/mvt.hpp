@@ -10,15 +10,23 @@
 
 #include "mvt.h"
 
+#include <algorithm>
+#include <array>
 #include <bit>
+#include <concepts>
 #include <cstddef>
 #include <cstdint>
+#include <initializer_list>
+#include <iterator>
+#include <memory>
 #include <new>
 #include <optional>
+#include <ranges>
 #include <span>
 #include <stdexcept>
 #include <string>
 #include <string_view>
+#include <type_traits>
 #include <utility>
 #include <variant>
 #include <vector>
@@ -28,9 +36,38 @@ namespace mvt {
 using byte_span = std::span<const std::uint8_t>;
 
 /// The bytes of a string, which may hold any bytes.
-inline byte_span bytes_of(std::string_view text) noexcept {
+[[nodiscard]] inline byte_span bytes_of(std::string_view text) noexcept {
     return {reinterpret_cast<const std::uint8_t *>(text.data()), text.size()};
 }
+
+namespace detail {
+template <class T>
+concept byte_like = std::same_as<T, char> || std::same_as<T, signed char> || std::same_as<T, unsigned char> ||
+                    std::same_as<T, std::byte> || std::same_as<T, char8_t>;
+
+/// Bytes in a row. An array of char may be a literal, which ends with a zero that is no byte of it.
+template <class R>
+concept bytes_in_a_row = std::ranges::contiguous_range<R> && std::ranges::sized_range<R> &&
+                         byte_like<std::ranges::range_value_t<R>> &&
+                         !(std::is_array_v<R> && std::same_as<std::ranges::range_value_t<R>, char>);
+} // namespace detail
+
+/// The bytes that a call takes, wherever they lie in a row: a string, a vector of char or std::byte, a span.
+class input {
+public:
+    constexpr input() noexcept = default;
+    constexpr input(const std::uint8_t *data, std::size_t size) noexcept : bytes_(data, size) {}
+    template <class R>
+        requires(!std::same_as<std::remove_cvref_t<R>, input> && detail::bytes_in_a_row<std::remove_reference_t<R>>)
+    input(R &&of) noexcept
+        : bytes_(reinterpret_cast<const std::uint8_t *>(std::ranges::data(of)), std::ranges::size(of)) {}
+
+    [[nodiscard]] const std::uint8_t *data() const noexcept { return bytes_.data(); }
+    [[nodiscard]] std::size_t size() const noexcept { return bytes_.size(); }
+
+private:
+    byte_span bytes_;
+};
 
 /// Why a call made nothing, but for want of memory, which is std::bad_alloc.
 class error : public std::runtime_error {
@@ -44,7 +81,14 @@ class too_large : public error {
 
 /// A name that no layer of version 2 has.
 class no_layer : public error {
-    using error::error;
+public:
+    explicit no_layer(const std::string &name)
+        : error("no layer of version 2 has the name " + name), name_(std::make_shared<const std::string>(name)) {}
+
+    [[nodiscard]] const std::string &name() const noexcept { return *name_; }
+
+private:
+    std::shared_ptr<const std::string> name_; // an exception is copied without memory
 };
 
 /// A name isn't UTF-8.
@@ -60,15 +104,30 @@ class no_tile : public error {
 /// The bytes are no tile. Tells the first broken rule.
 class refused : public error {
 public:
-    explicit refused(const mvt_fault &fault) : error(line_of(fault)), fault_(fault) {}
+    /// The bytes are those that were refused, or the first of them.
+    explicit refused(const mvt_fault &fault, input of = {})
+        : error(line_of(fault)), fault_(fault), sentence_(mvt_explain(of.data(), of.size(), &fault)) {
+        mvt_place place{};
+        mvt_locate(of.data(), of.size(), &fault, &place);
+        if (place.has_layer_name) layer_name_ = std::make_shared<const std::string>(text_of(place.layer_name));
+        if (place.has_feature_id) feature_id_ = place.feature_id;
+    }
 
-    std::optional<std::uint32_t> layer() const noexcept { return index(fault_.layer); }
-    std::optional<std::uint32_t> feature() const noexcept { return index(fault_.feature); }
+    [[nodiscard]] std::optional<std::uint32_t> layer() const noexcept { return index(fault_.layer); }
+    [[nodiscard]] std::optional<std::uint32_t> feature() const noexcept { return index(fault_.feature); }
     /// An offset in the tile, or an index in the tags or in the integers of the feature's geometry.
-    std::uint64_t at() const noexcept { return fault_.at; }
+    [[nodiscard]] std::uint64_t at() const noexcept { return fault_.at; }
     /// The number and the name of the cause.
-    std::uint32_t cause() const noexcept { return fault_.cause; }
-    std::string_view name() const noexcept { return name_of(fault_); }
+    [[nodiscard]] std::uint32_t cause() const noexcept { return fault_.cause; }
+    [[nodiscard]] std::string_view name() const noexcept { return text_of(fault_.name); }
+    /// The fault in plain words.
+    [[nodiscard]] std::string_view sentence() const noexcept { return sentence_; }
+    /// The layer's name, which may be no UTF-8, and the feature's id, where the bytes tell them.
+    [[nodiscard]] std::optional<std::string_view> layer_name() const noexcept {
+        if (layer_name_ == nullptr) return std::nullopt;
+        return *layer_name_;
+    }
+    [[nodiscard]] std::optional<std::uint64_t> feature_id() const noexcept { return feature_id_; }
 
 private:
     static std::optional<std::uint32_t> index(std::int64_t of) noexcept {
@@ -76,8 +135,8 @@ private:
         return static_cast<std::uint32_t>(of);
     }
 
-    static std::string_view name_of(const mvt_fault &fault) noexcept {
-        return {reinterpret_cast<const char *>(fault.name.data), fault.name.len};
+    static std::string_view text_of(const mvt_bytes &bytes) noexcept {
+        return {reinterpret_cast<const char *>(bytes.data), bytes.len};
     }
 
     static std::string shown(std::int64_t of) { return of < 0 ? "-" : std::to_string(of); }
@@ -85,24 +144,25 @@ private:
     /// The line that the program `mvt` prints.
     static std::string line_of(const mvt_fault &fault) {
         return "layer " + shown(fault.layer) + " feature " + shown(fault.feature) + " at " + std::to_string(fault.at) +
-               ": " + std::to_string(fault.cause) + " " + std::string(name_of(fault));
+               ": " + std::to_string(fault.cause) + " " + std::string(text_of(fault.name));
     }
 
     mvt_fault fault_; // its name lasts for good
+    const char *sentence_; // and so does this
+    std::shared_ptr<const std::string> layer_name_;
+    std::optional<std::uint64_t> feature_id_;
 };
 
-/// Throws what a status other than MVT_OK means.
-inline void require_ok(std::uint32_t status, const mvt_fault &fault) {
+/// Throws what a status other than MVT_OK means. The bytes are those that the call took.
+inline void require_ok(std::uint32_t status, const mvt_fault &fault, input of = {}) {
     switch (status) {
     case MVT_OK: return;
-    case MVT_REFUSED: throw refused(fault);
+    case MVT_REFUSED: throw refused(fault, of);
     case MVT_NO_MEMORY: throw std::bad_alloc();
-    case MVT_TOO_LARGE: throw too_large("the result is larger than 67108864 bytes");
-    case MVT_NO_LAYER: throw no_layer("a layer isn't there");
-    case MVT_BAD_NAME: throw bad_name("a layer's name isn't UTF-8");
-    case MVT_NO_TILE: throw no_tile("these rows are no valid tile");
-    case MVT_NO_DECODER: throw error("the decoder is finished");
-    default: throw error("status " + std::to_string(status));
+    case MVT_TOO_LARGE: throw too_large(mvt_status_text(status));
+    case MVT_BAD_NAME: throw bad_name(mvt_status_text(status));
+    case MVT_NO_TILE: throw no_tile(mvt_status_text(status));
+    default: throw error(mvt_status_text(status));
     }
 }
 
@@ -110,7 +170,12 @@ inline void require_ok(std::uint32_t status, const mvt_fault &fault) {
 class bytes {
 public:
     bytes() noexcept = default;
-    explicit bytes(mvt_bytes held) noexcept : held_(held) {}
+    /// Takes what a call of mvt.h handed out, to give it back.
+    [[nodiscard]] static bytes adopt(const mvt_bytes &held) noexcept {
+        bytes made;
+        made.held_ = held;
+        return made;
+    }
     bytes(bytes &&other) noexcept : held_(std::exchange(other.held_, {})) {}
     bytes &operator=(bytes other) noexcept {
         std::swap(held_, other.held_);
@@ -119,26 +184,42 @@ public:
     bytes(const bytes &) = delete;
     ~bytes() { mvt_bytes_free(&held_); }
 
-    const std::uint8_t *data() const noexcept { return held_.data; }
-    std::size_t size() const noexcept { return held_.len; }
-    bool empty() const noexcept { return held_.len == 0; }
-    const std::uint8_t *begin() const noexcept { return held_.data; }
-    const std::uint8_t *end() const noexcept { return held_.data + held_.len; }
-    byte_span span() const noexcept { return {held_.data, held_.len}; }
-    std::string_view text() const noexcept { return {reinterpret_cast<const char *>(held_.data), held_.len}; }
+    [[nodiscard]] std::size_t size() const noexcept { return held_.len; }
+    [[nodiscard]] bool empty() const noexcept { return held_.len == 0; }
+    /// A copy as a string, which lasts for itself.
+    [[nodiscard]] std::string str() const { return std::string(view()); }
+
+    // These last as long as the owner, so a temporary one has none.
+    [[nodiscard]] const std::uint8_t *data() const & noexcept { return held_.data; }
+    [[nodiscard]] const std::uint8_t *begin() const & noexcept { return held_.data; }
+    [[nodiscard]] const std::uint8_t *end() const & noexcept { return held_.data + held_.len; }
+    [[nodiscard]] byte_span span() const & noexcept { return {held_.data, held_.len}; }
+    [[nodiscard]] std::string_view text() const & noexcept { return view(); }
+    const std::uint8_t *data() const && = delete;
+    const std::uint8_t *begin() const && = delete;
+    const std::uint8_t *end() const && = delete;
+    byte_span span() const && = delete;
+    std::string_view text() const && = delete;
 
 private:
+    std::string_view view() const noexcept { return {reinterpret_cast<const char *>(held_.data), held_.len}; }
+
     mvt_bytes held_{};
 };
 
 /// A value: a text, a number or a truth. A signed number is an int or a sint, as `kind` of its row says.
 using value = std::variant<std::string_view, float, double, std::int64_t, std::uint64_t, bool>;
 
-/// A tile as rows. Views of its lists and texts last as long as the tile.
+/// A tile as rows. Views of its lists and texts last as long as the tile, so a temporary one has none.
 class tile {
 public:
     tile() noexcept = default;
-    explicit tile(const mvt_tile &rows) noexcept : rows_(rows) {}
+    /// Takes rows that a call of mvt.h handed out, to give them back. Rows made by hand aren't such.
+    [[nodiscard]] static tile adopt(const mvt_tile &rows) noexcept {
+        tile made;
+        made.rows_ = rows;
+        return made;
+    }
     tile(tile &&other) noexcept : rows_(std::exchange(other.rows_, {})) {}
     tile &operator=(tile other) noexcept {
         std::swap(rows_, other.rows_);
@@ -147,26 +228,48 @@ public:
     tile(const tile &) = delete;
     ~tile() { mvt_tile_free(&rows_); }
 
-    const mvt_tile &rows() const noexcept { return rows_; }
+    [[nodiscard]] const mvt_tile &rows() const & noexcept { return rows_; }
+    const mvt_tile &rows() const && = delete;
 
-    std::span<const mvt_layer> layers() const noexcept { return {rows_.layers, rows_.layer_count}; }
-    std::span<const mvt_feature> features(const mvt_layer &layer) const noexcept {
+    [[nodiscard]] std::span<const mvt_layer> layers() const & noexcept { return {rows_.layers, rows_.layer_count}; }
+    std::span<const mvt_layer> layers() const && = delete;
+
+    /// The layer of version 2 that has this name, or a null pointer.
+    [[nodiscard]] const mvt_layer *layer(std::string_view name) const & noexcept {
+        const auto all = layers();
+        const auto at = std::ranges::find_if(
+            all, [&](const mvt_layer &it) { return it.version == 2 && text(it.name) == name; });
+        return at == all.end() ? nullptr : &*at;
+    }
+    const mvt_layer *layer(std::string_view name) const && = delete;
+
+    [[nodiscard]] std::span<const mvt_feature> features(const mvt_layer &layer) const & noexcept {
         return part(rows_.features, layer.features);
     }
-    std::span<const mvt_part> parts(const mvt_feature &feature) const noexcept {
+    std::span<const mvt_feature> features(const mvt_layer &) const && = delete;
+
+    [[nodiscard]] std::span<const mvt_part> parts(const mvt_feature &feature) const & noexcept {
         return part(rows_.parts, feature.parts);
     }
-    std::span<const mvt_point> points(const mvt_part &of) const noexcept { return part(rows_.points, of.points); }
+    std::span<const mvt_part> parts(const mvt_feature &) const && = delete;
+
+    [[nodiscard]] std::span<const mvt_point> points(const mvt_part &of) const & noexcept {
+        return part(rows_.points, of.points);
+    }
+    std::span<const mvt_point> points(const mvt_part &) const && = delete;
+
     /// The integers of an unknown geometry.
-    std::span<const std::uint32_t> integers(const mvt_feature &feature) const noexcept {
+    [[nodiscard]] std::span<const std::uint32_t> integers(const mvt_feature &feature) const & noexcept {
         return part(rows_.integers, feature.integers);
     }
+    std::span<const std::uint32_t> integers(const mvt_feature &) const && = delete;
 
     /// A span of the texts: a layer's name, or the bytes of a layer of another version.
-    std::string_view text(mvt_span span) const noexcept {
+    [[nodiscard]] std::string_view text(mvt_span span) const & noexcept {
         const auto bytes = part(rows_.texts, span);
         return {reinterpret_cast<const char *>(bytes.data()), bytes.size()};
     }
+    std::string_view text(mvt_span) const && = delete;
 
     /// Calls `visit(key, value)` with each attribute of a feature of the layer, in order.
     template <class Visit>
@@ -177,7 +280,7 @@ public:
         for (std::size_t i = 0; i + 1 < tags.size(); i += 2) visit(text(keys[tags[i]]), value_of(values[tags[i + 1]]));
     }
 
-    value value_of(const mvt_value &row) const {
+    [[nodiscard]] value value_of(const mvt_value &row) const & {
         switch (row.kind) {
         case MVT_TEXT: return text(row.text);
         case MVT_FLOAT: return std::bit_cast<float>(static_cast<std::uint32_t>(row.bits));
@@ -187,6 +290,7 @@ public:
         default: return static_cast<std::int64_t>(row.bits);
         }
     }
+    value value_of(const mvt_value &) const && = delete;
 
 private:
     template <class Row>
@@ -199,91 +303,245 @@ private:
 };
 
 /// A tile as rows. Throws refused.
-inline tile read(byte_span of) {
+[[nodiscard]] inline tile read(input of) {
     mvt_tile rows{};
     mvt_fault fault{};
-    require_ok(mvt_read(of.data(), of.size(), &rows, &fault), fault);
-    return tile(rows);
+    require_ok(mvt_read(of.data(), of.size(), &rows, &fault), fault, of);
+    return tile::adopt(rows);
 }
 
 /// A tile that comes in pieces, cut anywhere. One thread at a time.
 class decoder {
 public:
     decoder() { require_ok(mvt_decoder_new(&held_), {}); }
-    decoder(decoder &&other) noexcept : held_(std::exchange(other.held_, {})) {}
+    decoder(decoder &&other) noexcept
+        : held_(std::exchange(other.held_, {})), head_(other.head_), head_size_(other.head_size_) {}
     decoder &operator=(decoder other) noexcept {
         std::swap(held_, other.held_);
+        std::swap(head_, other.head_);
+        std::swap(head_size_, other.head_size_);
         return *this;
     }
     decoder(const decoder &) = delete;
     ~decoder() { mvt_decoder_free(&held_); }
 
     /// Takes a piece. Throws refused as soon as no further byte can change the fault, and then at each call.
-    void feed(byte_span piece) {
+    void feed(input piece) {
         mvt_fault fault{};
-        require_ok(mvt_decoder_feed(&held_, piece.data(), piece.size(), &fault), fault);
+        const std::size_t more = std::min(piece.size(), head_.size() - head_size_);
+        std::copy_n(piece.data(), more, head_.begin() + static_cast<std::ptrdiff_t>(head_size_));
+        head_size_ += more;
+        require_ok(mvt_decoder_feed(&held_, piece.data(), piece.size(), &fault), fault, head());
     }
 
     /// The tile, after the last piece, which ends the decoder. Throws refused.
-    tile finish() {
+    [[nodiscard]] tile finish() {
         mvt_tile rows{};
         mvt_fault fault{};
-        require_ok(mvt_decoder_finish(&held_, &rows, &fault), fault);
-        return tile(rows);
+        require_ok(mvt_decoder_finish(&held_, &rows, &fault), fault, head());
+        return tile::adopt(rows);
     }
 
 private:
+    /// The first bytes, which tell whether the tile looks compressed.
+    input head() const noexcept { return {head_.data(), head_size_}; }
+
     mvt_decoder held_{};
+    std::array<std::uint8_t, 4> head_{};
+    std::size_t head_size_ = 0;
 };
 
 /// Throws refused where the bytes are no tile. Makes nothing of them, so it is the fastest way to know.
-inline void judge(byte_span of) {
+inline void judge(input of) {
     mvt_fault fault{};
-    require_ok(mvt_judge(of.data(), of.size(), &fault), fault);
+    require_ok(mvt_judge(of.data(), of.size(), &fault), fault, of);
 }
 
 namespace detail {
 /// What a call hands out through its last two parameters.
 template <class Call>
-bytes made(Call call) {
+bytes made(input of, Call call) {
     mvt_bytes out{};
     mvt_fault fault{};
-    require_ok(call(&out, &fault), fault);
-    return bytes(out);
+    require_ok(call(of.data(), of.size(), &out, &fault), fault, of);
+    return bytes::adopt(out);
+}
+
+/// A name that lasts while the range does.
+template <class T>
+concept lasting_name = std::convertible_to<T, std::string_view> &&
+                       (std::is_lvalue_reference_v<T> || std::is_trivially_copyable_v<std::remove_cvref_t<T>>);
+
+inline std::uint32_t extract(input of, std::span<const mvt_bytes> names, mvt_bytes *out, mvt_fault *fault) noexcept {
+    return mvt_extract(of.data(), of.size(), names.data(), names.size(), out, fault);
+}
+
+/// The first of the names that alone is missed too.
+inline std::string missed(input of, std::span<const mvt_bytes> names) {
+    for (const mvt_bytes &name : names) {
+        mvt_bytes out{};
+        mvt_fault fault{};
+        const std::uint32_t status = extract(of, {&name, 1}, &out, &fault);
+        mvt_bytes_free(&out);
+        if (status == MVT_NO_LAYER) return {reinterpret_cast<const char *>(name.data), name.len};
+    }
+    throw std::bad_alloc();
 }
 } // namespace detail
 
 /// The canonical bytes of a tile: equal tiles have equal bytes. Throws refused and too_large.
-inline bytes rewrite(byte_span of) {
-    return detail::made([&](auto... to) { return mvt_rewrite(of.data(), of.size(), to...); });
-}
+[[nodiscard]] inline bytes rewrite(input of) { return detail::made(of, mvt_rewrite); }
 
 /// The canonical bytes of the named layers, in the order of the tile. Throws refused, too_large, no_layer and bad_name.
-inline bytes extract(byte_span of, std::span<const std::string_view> names) {
+template <std::ranges::input_range Names>
+    requires detail::lasting_name<std::ranges::range_reference_t<Names>>
+[[nodiscard]] bytes extract(input of, Names &&names) {
     std::vector<mvt_bytes> rows;
-    for (const std::string_view name : names) rows.push_back({bytes_of(name).data(), name.size()});
-    return detail::made([&](auto... to) { return mvt_extract(of.data(), of.size(), rows.data(), rows.size(), to...); });
+    for (auto &&name : names) {
+        const std::string_view text = name;
+        rows.push_back({bytes_of(text).data(), text.size()});
+    }
+    mvt_bytes out{};
+    mvt_fault fault{};
+    const std::uint32_t status = detail::extract(of, rows, &out, &fault);
+    if (status == MVT_NO_LAYER) throw no_layer(detail::missed(of, rows));
+    require_ok(status, fault, of);
+    return bytes::adopt(out);
+}
+
+[[nodiscard]] inline bytes extract(input of, std::initializer_list<std::string_view> names) {
+    return extract(of, std::span(names.begin(), names.size()));
 }
 
 /// The canonical bytes of the tile that rows are, wherever these come from. Throws no_tile and too_large.
-inline bytes write(const mvt_tile &rows) {
-    return detail::made([&](mvt_bytes *out, mvt_fault *) { return mvt_write(&rows, out); });
+[[nodiscard]] inline bytes write(const mvt_tile &rows) {
+    mvt_bytes out{};
+    require_ok(mvt_write(&rows, &out), {});
+    return bytes::adopt(out);
 }
 
 /// A tile as JSON, in one line without a line end. Throws refused.
-inline bytes json(byte_span of) {
-    return detail::made([&](auto... to) { return mvt_json(of.data(), of.size(), to...); });
-}
+[[nodiscard]] inline bytes json(input of) { return detail::made(of, mvt_json); }
 
 /// What `mvt check` says of a tile, line by line. Throws refused.
-inline bytes report(byte_span of) {
-    return detail::made([&](auto... to) { return mvt_report(of.data(), of.size(), to...); });
-}
+[[nodiscard]] inline bytes report(input of) { return detail::made(of, mvt_report); }
 
 /// A picture of a tile in SVG. Throws refused.
-inline bytes svg(byte_span of) {
-    return detail::made([&](auto... to) { return mvt_svg(of.data(), of.size(), to...); });
+[[nodiscard]] inline bytes svg(input of) { return detail::made(of, mvt_svg); }
+
+namespace detail {
+/// A value as the builder of mvt.h takes it. A whole number is a uint or, below zero, a sint; mvt_any_int and the like
+/// make one of another kind.
+template <class T>
+mvt_any any_of(const T &value) noexcept {
+    if constexpr (std::same_as<T, mvt_any>) return value;
+    else if constexpr (std::same_as<T, bool>) return mvt_any_bool(value);
+    else if constexpr (std::same_as<T, float>) return mvt_any_float(value);
+    else if constexpr (std::same_as<T, double>) return mvt_any_double(value);
+    else if constexpr (std::unsigned_integral<T>) return mvt_any_uint(value);
+    else if constexpr (std::integral<T>)
+        return value < 0 ? mvt_any_sint(value) : mvt_any_uint(static_cast<std::uint64_t>(value));
+    else {
+        const std::string_view text = value;
+        return mvt_any_text({bytes_of(text).data(), text.size()});
+    }
 }
+
+inline mvt_any any_of(const value &of) noexcept {
+    return std::visit([](const auto &it) { return any_of(it); }, of);
+}
+
+template <class T>
+concept valued = std::same_as<T, mvt_any> || std::same_as<T, value> || std::integral<T> || std::same_as<T, float> ||
+                 std::same_as<T, double> || std::convertible_to<const T &, std::string_view>;
+} // namespace detail
+
+/// Makes a tile step by step: begin a layer, begin a feature, add its tags and its points, and finish.
+///
+///     mvt::builder builder;
+///     builder.layer("places");
+///     builder.feature(MVT_POINTS, 7).tag("name", "Mill Pond").point(25, 17);
+///     const mvt::bytes tile = builder.finish();
+///
+/// A call that isn't due throws error, and so does each further one but finish, which gives the builder back.
+class builder {
+public:
+    builder() noexcept = default;
+    builder(builder &&other) noexcept : held_(std::exchange(other.held_, {})) {}
+    builder &operator=(builder other) noexcept {
+        std::swap(held_, other.held_);
+        return *this;
+    }
+    builder(const builder &) = delete;
+    ~builder() { mvt_builder_free(&held_); }
+
+    /// Begins a layer, which ends the one before.
+    builder &layer(std::string_view name, std::uint32_t extent = 4096) {
+        return done(mvt_builder_layer(&held_, text(name), extent));
+    }
+    /// Adds a layer of another version than 2, of which these are the bytes.
+    builder &foreign(std::uint32_t version, input of) {
+        return done(mvt_builder_foreign(&held_, version, {of.data(), of.size()}));
+    }
+    /// The index of a key or a value of the layer. One that isn't there yet is added.
+    [[nodiscard]] std::uint32_t key(std::string_view key) {
+        std::uint32_t index = 0;
+        done(mvt_builder_key(&held_, text(key), &index));
+        return index;
+    }
+    template <detail::valued T>
+    [[nodiscard]] std::uint32_t value(const T &value) {
+        std::uint32_t index = 0;
+        done(mvt_builder_value(&held_, detail::any_of(value), &index));
+        return index;
+    }
+
+    /// Begins a feature of the layer, which ends the one before.
+    builder &feature(mvt_kind kind) { return done(mvt_builder_feature(&held_, kind)); }
+    builder &feature(mvt_kind kind, std::uint64_t id) { return feature(kind).id(id); }
+    builder &id(std::uint64_t id) { return done(mvt_builder_id(&held_, id)); }
+
+    /// Adds an attribute, by key and value or by their indices.
+    template <detail::valued T>
+    builder &tag(std::string_view key, const T &value) {
+        return done(mvt_builder_tag(&held_, text(key), detail::any_of(value)));
+    }
+    builder &tag_at(std::uint32_t key, std::uint32_t value) { return done(mvt_builder_tag_at(&held_, key, value)); }
+
+    /// Begin a line of a feature of lines, or a ring of a feature of polygons. An exterior ring begins a polygon, and the
+    /// rings after it are its holes.
+    builder &line() { return done(mvt_builder_line(&held_)); }
+    builder &ring(bool exterior) { return done(mvt_builder_ring(&held_, exterior)); }
+    /// Add points to the line or ring that was begun last, or to a feature of points. The last point of a ring is joined
+    /// to its first.
+    builder &point(std::int32_t x, std::int32_t y) { return done(mvt_builder_point(&held_, x, y)); }
+    builder &points(std::span<const mvt_point> points) {
+        return done(mvt_builder_points(&held_, points.data(), points.size()));
+    }
+    /// Adds integers to a feature of unknown geometry.
+    builder &integers(std::span<const std::uint32_t> integers) {
+        return done(mvt_builder_integers(&held_, integers.data(), integers.size()));
+    }
+    /// Takes the feature back that was begun last, as one whose geometry came to nothing.
+    builder &drop() { return done(mvt_builder_drop(&held_)); }
+
+    /// The canonical bytes of the tile. The builder may begin anew. Throws no_tile and too_large.
+    [[nodiscard]] bytes finish() {
+        mvt_bytes out{};
+        require_ok(mvt_builder_finish(&held_, &out), {});
+        return bytes::adopt(out);
+    }
+
+private:
+    static mvt_bytes text(std::string_view of) noexcept { return {bytes_of(of).data(), of.size()}; }
+
+    builder &done(std::uint32_t status) {
+        require_ok(status, {});
+        return *this;
+    }
+
+    mvt_builder held_{};
+};
 
 } // namespace mvt
 

@@ -177,14 +177,14 @@ std::optional<place> place_of(int argc, char **argv) {
 
 int run(int argc, char **argv) {
     const std::string input{std::istreambuf_iterator<char>(std::cin), {}};
-    const mvt::tile tile = mvt::read(mvt::bytes_of(input));
-    for (const mvt_layer &layer : tile.layers()) {
-        if (layer.version != 2 || tile.text(layer.name) != argv[1]) continue;
-        writer(std::cout, tile, layer, place_of(argc, argv)).collection();
-        return std::cout.flush() ? 0 : 1;
+    const mvt::tile tile = mvt::read(input);
+    const mvt_layer *layer = tile.layer(argv[1]);
+    if (layer == nullptr) {
+        std::cerr << "layer: not in the tile: " << argv[1] << '\n';
+        return 1;
     }
-    std::cerr << "layer: not in the tile: " << argv[1] << '\n';
-    return 1;
+    writer(std::cout, tile, *layer, place_of(argc, argv)).collection();
+    return std::cout.flush() ? 0 : 1;
 }
 
 } // namespace

@@ -1,27 +1,42 @@
-"""The examples in docs/LIBRARY.md, as programs that read a tile from standard input: documented.py FOLDER"""
+"""The examples in docs/LIBRARY.md, as programs: documented.py FOLDER
+
+Those that list read a tile from standard input; those that make one write it, or print what is in it.
+"""
 
 import sys
 from pathlib import Path
 
 DOCUMENT = (Path(__file__).resolve().parents[2] / "docs" / "LIBRARY.md").read_text()
-MAINS = {
-    "list.c": ("From C", "int main(void) { static uint8_t b[1 << 16]; list(b, fread(b, 1, sizeof b, stdin)); }"),
+BUILD = "\n### A tile made step by step\n"
+PROGRAMS = {
+    "list.c": ("From C", "", "int main(void) { static uint8_t b[1 << 16]; list(b, fread(b, 1, sizeof b, stdin)); }"),
+    "make.c": (
+        "From C",
+        BUILD,
+        "#include <stdio.h>\nint main(void) { mvt_bytes t; if (make(&t) != MVT_OK) return 1;"
+        " fwrite(t.data, 1, t.len, stdout); mvt_bytes_free(&t); return 0; }",
+    ),
     "list.cpp": (
         "From C++",
+        "",
         "#include <iterator>\nint main() { std::string s{std::istreambuf_iterator<char>(std::cin), {}};"
         " list(mvt::bytes_of(s)); }",
     ),
-    "list.py": ("From Python", ""),
+    "make.cpp": ("From C++", BUILD, "#include <iostream>\nint main() { std::cout << make().str(); }"),
+    "list.py": ("From Python", "", ""),
+    "make.py": ("From Python", BUILD, ""),
 }
 
 
-def example(heading):
-    """The first indented lines below a heading."""
-    lines = DOCUMENT.split(f"\n## {heading}\n")[1].lstrip("\n").split("\n")
+def example(heading, below):
+    """The first indented lines below a heading, and below one of its own."""
+    section = DOCUMENT.split(f"\n## {heading}\n")[1].split("\n## ")[0]
+    lines = (section.split(below)[1] if below else section).lstrip("\n").split("\n")
     end = next(at for at, line in enumerate(lines) if line and not line.startswith("    "))
     return "\n".join(line[4:] for line in lines[:end])
 
 
-for name, (heading, main) in MAINS.items():
-    text = example(heading).replace("town.mvt", "/dev/stdin")
-    Path(sys.argv[1], name).write_text(text + "\n" + main + "\n")
+if __name__ == "__main__":
+    for name, (heading, below, main) in PROGRAMS.items():
+        text = example(heading, below).replace("town.mvt", "/dev/stdin")
+        Path(sys.argv[1], name).write_text(text + "\n" + main + "\n")

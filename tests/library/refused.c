@@ -1,5 +1,6 @@
 /* Each call on each tile that is named, once for each of its allocations, that one refused: it has to say that it is
- * out of memory, to touch nothing, and to leave no block behind. Link it with --wrap for malloc, realloc and free. */
+ * out of memory, to touch nothing, and to leave no block behind. Link it with --wrap for malloc, calloc, realloc and
+ * free. */
 #include "mvt.h"
 
 #include <stdio.h>
@@ -7,6 +8,7 @@
 #include <string.h>
 
 void *__real_malloc(size_t size);
+void *__real_calloc(size_t count, size_t size);
 void *__real_realloc(void *block, size_t size);
 void __real_free(void *block);
 
@@ -17,6 +19,12 @@ static int refuses(void) { return ++count == refused; }
 
 void *__wrap_malloc(size_t size) {
     void *block = refuses() ? NULL : __real_malloc(size);
+    live += block != NULL;
+    return block;
+}
+
+void *__wrap_calloc(size_t items, size_t size) {
+    void *block = refuses() ? NULL : __real_calloc(items, size);
     live += block != NULL;
     return block;
 }
@@ -76,6 +84,23 @@ static uint32_t written(const uint8_t *b, size_t n, output *o, mvt_fault *f) {
     mvt_tile_free(&tile);
     return status;
 }
+/* A tile is built whose texts are parts of the bytes. */
+static uint32_t built(const uint8_t *b, size_t n, output *o, mvt_fault *f) {
+    mvt_builder builder = {0};
+    (void)f;
+    for (uint32_t layer = 0; layer < 2; ++layer) {
+        mvt_builder_layer(&builder, mvt_text(layer == 0 ? "a" : "b"), 4096);
+        for (uint32_t i = 0; i < 40; ++i) {
+            char key[] = {'k', (char)('0' + i), 0};
+            mvt_builder_feature(&builder, MVT_LINES);
+            mvt_builder_tag(&builder, mvt_text(key), mvt_any_uint(n == 0 ? i : b[i % n]));
+            mvt_builder_line(&builder);
+            mvt_builder_point(&builder, 0, 0);
+            mvt_builder_point(&builder, 1, (int32_t)i);
+        }
+    }
+    return mvt_builder_finish(&builder, &o->bytes);
+}
 static void free_bytes(output *o) { mvt_bytes_free(&o->bytes); }
 static void free_tile(output *o) { mvt_tile_free(&o->tile); }
 
@@ -83,7 +108,7 @@ static const task TASKS[] = {
     {"mvt_rewrite", rewrite, free_bytes}, {"mvt_json", json, free_bytes}, {"mvt_svg", svg, free_bytes},
     {"mvt_extract", extract, free_bytes}, {"mvt_read", rows, free_tile},
     {"mvt_report", report, free_bytes},   {"mvt_judge", judge, free_bytes},
-    {"mvt_write", written, free_bytes},
+    {"mvt_write", written, free_bytes},      {"mvt_builder_finish", built, free_bytes},
 };
 
 /* One call with the allocation `number` refused. Answers whether the call went so far. */

@@ -3,6 +3,8 @@
 The program is $MVT. Numbers at their ends are spelled here, as the specification spells them.
 """
 
+import copy
+import dataclasses
 import gc
 import gzip
 import json
@@ -10,7 +12,11 @@ import os
 import pickle
 import struct
 import subprocess
+import sys
+import traceback
 import unittest
+import warnings
+import zlib
 from concurrent.futures import ThreadPoolExecutor
 from pathlib import Path
 from xml.etree import ElementTree
@@ -68,6 +74,13 @@ def shown_layer(layer):
 def shown(of):
     """A tile in the form of `mvt show`, with lists in the place of tuples."""
     return json.loads(json.dumps({"layers": [shown_layer(layer) for layer in of.layers]}))
+
+
+def told(row):
+    """A row as numpy tells it."""
+    if isinstance(row, int):
+        return row
+    return tuple(told(getattr(row, name)) for name, _ in row._fields_)
 
 
 def varint(number):
@@ -142,14 +155,43 @@ class WholeTiles(unittest.TestCase):
         picked = mvt.read(mvt.extract(tile("gdal.mvt"), ["water", "roads", "water"]))
         self.assertEqual([layer.name for layer in picked.layers], ["roads", "water"])
         self.assertEqual(mvt.extract(tile("gdal.mvt"), []), b"")
-        with self.assertRaises(mvt.NoLayer):
-            mvt.extract(tile("gdal.mvt"), ["rail"])
+        for missing in (mvt.NoLayer, KeyError, mvt.MvtError):
+            with self.assertRaises(missing) as caught:
+                mvt.extract(tile("gdal.mvt"), ["water", "rail", "nowhere"])
+            self.assertEqual(caught.exception.name, "rail")
+            self.assertEqual(str(caught.exception), "no layer of version 2 has the name 'rail'")
         with self.assertRaises(TypeError):
             mvt.extract(tile("gdal.mvt"), "water")
 
     def test_carries_other_versions(self):
         # A layer of version 1 named a.
         self.assertEqual(mvt.read(bytes.fromhex("1A0578010A0161")).layers, [mvt.Foreign(1, bytes.fromhex("78010A0161"))])
+
+    def test_finds_layers_by_name(self):
+        foreign = bytes.fromhex("1A0578010A0161")
+        whole = mvt.read(foreign + tile("gdal.mvt"))
+        self.assertEqual([layer.version for layer in whole], [1, 2, 2, 2])
+        self.assertEqual([layer.name for layer in whole.layers if layer.version == 2], ["places", "roads", "water"])
+        self.assertIs(whole["water"], whole.layers[3])
+        self.assertIs(whole.layer("water"), whole["water"])
+        self.assertEqual(("water" in whole, "a" in whole, 0 in whole), (True, False, False))
+        self.assertIsNone(whole.layer("a"))
+        with self.assertRaisesRegex(mvt.NoLayer, "no layer of version 2 has the name 'a'"):
+            whole["a"]
+        self.assertEqual(pickle.loads(pickle.dumps(mvt.NoLayer("a"))).name, "a")
+
+    def test_features_compare_print_and_copy(self):
+        spelled = b"\x15" + struct.pack("<I", 0x7FC00001)
+        feature = field(2, field(2, b"\0\0") + field(3, 1) + field(4, varint(9) + varint(2) * 2))
+        layer = field(15, 2) + field(1, b"a") + feature + field(3, b"k") + field(4, spelled)
+        one, other = (mvt.read(field(3, layer))["a"].features[0] for _ in range(2))
+        self.assertEqual(one, other)
+        self.assertEqual(repr(one), "Feature(id=None, attributes={'k': nan}, kind='points', geometry=[(1, 1)])")
+        for twin in (copy.copy(one), copy.deepcopy(one), pickle.loads(pickle.dumps(one, 0))):
+            self.assertEqual(twin, one)
+            self.assertEqual(twin.attributes["k"].bits, 0x7FC00001)
+        for changed in ({"id": 1}, {"attributes": {"k": 1}}, {"attributes": {}}, {"kind": "lines"}, {"geometry": []}):
+            self.assertNotEqual(dataclasses.replace(one, **changed), one)
 
     def test_takes_pieces(self):
         for name in WHOLE:
@@ -241,8 +283,24 @@ class Ends(unittest.TestCase):
         self.assertEqual((mvt.Float(1.5), mvt.Float(1.5).bits), (1.5, 0x3FC00000))
         self.assertEqual(mvt.Float(0.1), struct.unpack("<f", struct.pack("<f", 0.1))[0])
         self.assertEqual((mvt.Uint(3), mvt.Sint(-3)), (3, -3))
-        copy = pickle.loads(pickle.dumps(mvt.Float(bits=0xFFA00001)))
-        self.assertEqual((type(copy), copy.bits), (mvt.Float, 0xFFA00001))
+        for protocol in range(pickle.HIGHEST_PROTOCOL + 1):
+            twin = pickle.loads(pickle.dumps(mvt.Float(bits=0xFFA00001), protocol))
+            self.assertEqual((type(twin), twin.bits), (mvt.Float, 0xFFA00001))
+            for number in (mvt.Int(-3), mvt.Uint(3), mvt.Sint(-3)):
+                twin = pickle.loads(pickle.dumps(number, protocol))
+                self.assertEqual((type(twin), twin), (type(number), number))
+
+    def test_rows_print_compare_and_pickle(self):
+        flat = mvt.rows(tile("gdal.mvt"))
+        self.assertEqual(repr(flat.points[0]), "PointRow(x=%d, y=%d)" % (flat.points[0].x, flat.points[0].y))
+        self.assertEqual(flat.layers[0], mvt.rows(tile("gdal.mvt")).layers[0])
+        self.assertNotEqual(flat.layers[0], flat.layers[1])
+        self.assertEqual(copy.copy(flat.layers[0]), flat.layers[0])
+        for protocol in range(pickle.HIGHEST_PROTOCOL + 1):
+            twin = pickle.loads(pickle.dumps(flat, protocol))
+            self.assertEqual(mvt.write(twin), mvt.write(flat))
+        self.assertEqual(mvt.write(copy.deepcopy(flat)), mvt.write(flat))
+        self.assertEqual(mvt.write(pickle.loads(pickle.dumps(mvt.rows(b"")))), b"")
 
 
 class BrokenTiles(unittest.TestCase):
@@ -265,6 +323,38 @@ class BrokenTiles(unittest.TestCase):
         with self.assertRaises(mvt.Refused) as caught:
             mvt.read(b"\x1b")
         self.assertEqual((caught.exception.layer, caught.exception.feature), (None, None))
+
+
+    def test_tells_it_in_words(self):
+        with self.assertRaises(mvt.Refused) as caught:
+            mvt.read(broken("20-ZeroSegment"))
+        self.assertIn("goes nowhere", caught.exception.explanation)
+        # The layer `a`, with a feature of id 7 whose line goes nowhere.
+        feature = field(2, field(1, 7) + field(3, 2) + field(4, bytes((9, 0, 0, 10, 0, 0))))
+        with self.assertRaises(mvt.Refused) as caught:
+            mvt.read(field(3, field(15, 2) + field(1, "\u00e4".encode()) + feature))
+        fault = caught.exception
+        self.assertEqual((fault.layer_name, fault.feature_id), ("\u00e4", 7))
+        wanted = "layer '\u00e4', feature with id 7: A line goes nowhere: this LineTo moves by (0, 0)."
+        self.assertEqual(fault.explanation, wanted)
+        if sys.version_info >= (3, 11):
+            self.assertIn(wanted, "".join(traceback.format_exception(fault)))
+        twin = pickle.loads(pickle.dumps(fault))
+        self.assertEqual((str(twin), twin.explanation, vars(twin)), (str(fault), wanted, vars(fault)))
+
+    def test_says_that_bytes_look_compressed(self):
+        whole = tile("gdal.mvt")
+        for packed in [gzip.compress(whole)] + [zlib.compress(whole, level) for level in (1, 5, 6, 9)]:
+            for call in CALLS:
+                with self.assertRaises(mvt.Refused) as caught:
+                    call(packed)
+                self.assertIn("look compressed", caught.exception.explanation)
+            with self.assertRaises(mvt.Refused) as caught:
+                decoder = mvt.Decoder()
+                for at in range(len(packed)):
+                    decoder.feed(packed[at : at + 1])
+                decoder.finish()
+            self.assertIn("look compressed", caught.exception.explanation)
 
 
 class Threads(unittest.TestCase):
@@ -301,6 +391,48 @@ class Arrays(unittest.TestCase):
     def test_empty_lists(self):
         self.assertEqual(len(mvt.rows(b"").array("features")), 0)
         self.assertEqual(mvt.rows(b"").array("tags").dtype, self.numpy.uint32)
+
+    def test_each_list_as_it_is(self):
+        """Each list, without a warning, as the rows of ctypes say it."""
+        flat = mvt.rows(tile("gdal.mvt"))
+        for name in ("layers", "features", "keys", "values", "tags", "parts", "points", "integers", "texts"):
+            with warnings.catch_warnings():
+                warnings.simplefilter("error")
+                array = flat.array(name)
+            self.assertEqual(array.dtype, mvt.dtype(name))
+            self.assertEqual(array.tolist(), [told(row) for row in getattr(flat, name)], name)
+
+    def test_rows_made_of_arrays(self):
+        names = ("layers", "features", "keys", "values", "tags", "parts", "points", "integers", "texts")
+        for name in WHOLE:
+            flat = mvt.rows(tile(name + ".mvt"))
+            made = mvt.Rows.from_arrays(**{it: flat.array(it) for it in names})
+            self.assertEqual(mvt.write(made), tile(name + ".canonical.mvt"))
+        # The layer `a` with the point (25, 17), as the bytes that are known of it.
+        layer = self.numpy.zeros(1, mvt.dtype("layers"))
+        layer["version"], layer["extent"] = 2, 4096
+        layer["name"]["len"], layer["features"]["len"] = 1, 1
+        feature = self.numpy.zeros(1, mvt.dtype("features"))
+        feature["kind"], feature["parts"]["len"] = 1, 1
+        points = self.numpy.array([[25, 17]])
+        made = mvt.Rows.from_arrays(layers=layer, features=feature, parts=[[0, 0, 1]], points=points, texts=b"a")
+        self.assertEqual(mvt.write(made).hex(), "1A1178020A0161120718012203093222288020".lower())
+        points[0, 0] = 26
+        self.assertEqual(made.points[0].x, 25)
+
+    def test_refuses_arrays_that_are_no_rows(self):
+        for lists, error in (
+            ({"points": [[1, 1 << 31]]}, OverflowError),
+            ({"points": [[0.5, 1]]}, TypeError),
+            ({"points": [[1, 2, 3]]}, TypeError),
+            ({"points": [1, 2]}, TypeError),
+            ({"tags": [-1]}, OverflowError),
+            ({"tags": [[0, 0]]}, TypeError),
+            ({"layers": self.numpy.zeros(1, [("version", "<u4")])}, TypeError),
+            ({"rings": [1]}, TypeError),
+        ):
+            with self.assertRaises(error, msg=lists):
+                mvt.Rows.from_arrays(**lists)
 
 
 if __name__ == "__main__":

@@ -2,6 +2,8 @@
 
 import dataclasses
 import unittest
+from decimal import Decimal
+from fractions import Fraction
 from pathlib import Path
 
 import mvt
@@ -57,6 +59,76 @@ class Writing(unittest.TestCase):
         feature = mvt.read(mvt.write(with_feature(attributes={"a": 0, "b": -5, "c": 2**64 - 1}))).layers[0].features[0]
         self.assertEqual([type(value) for value in feature.attributes.values()], [mvt.Uint, mvt.Sint, mvt.Uint])
         self.assertEqual(feature.attributes, {"a": 0, "b": -5, "c": 2**64 - 1})
+
+    def test_numbers_of_numpy(self):
+        try:
+            import numpy
+        except ImportError:
+            self.skipTest("numpy isn't there")
+        given = {
+            "single": numpy.float32(12.75),
+            "half": numpy.float16(1.5),
+            "double": numpy.float64(0.1),
+            "no": numpy.bool_(False),
+            "yes": numpy.bool_(True),
+            "byte": numpy.uint8(200),
+            "below": numpy.int16(-3),
+            "most": numpy.uint64(2**64 - 1),
+            "text": numpy.str_("Mill"),
+        }
+        numbers = [mvt.Float(12.75), mvt.Float(1.5), 0.1, False, True]
+        wanted = [*numbers, mvt.Uint(200), mvt.Sint(-3), mvt.Uint(2**64 - 1), "Mill"]
+        feature = mvt.read(mvt.write(with_feature(attributes=given))).layers[0].features[0]
+        told = [(type(value), value) for value in feature.attributes.values()]
+        self.assertEqual(told, [(type(value), value) for value in wanted])
+        quiet = numpy.array([0x7FC00123], dtype="<u4").view("<f4")[0]
+        feature = mvt.read(mvt.write(with_feature(attributes={"k": quiet}))).layers[0].features[0]
+        self.assertEqual(feature.attributes["k"].bits, 0x7FC00123)
+        with self.assertRaisesRegex(TypeError, "layer 'a', feature 0, key 'k': numpy.*longdouble|float128"):
+            mvt.write(with_feature(attributes={"k": numpy.longdouble(1.5)}))
+        of_numpy = with_feature(geometry=numpy.array([[25, 17]]), id=numpy.int8(7))
+        self.assertEqual(mvt.write(of_numpy), mvt.write(with_feature(id=7)))
+        with self.assertRaisesRegex(TypeError, "layer 'a', feature 0, geometry: .*float"):
+            mvt.write(with_feature(geometry=numpy.array([[25.0, 17.0]])))
+
+    def test_changes_no_number(self):
+        for value, kind in (
+            (Decimal("9.99"), "decimal.Decimal"),
+            (Fraction(1, 2), "fractions.Fraction"),
+            (None, "NoneType"),
+            (b"text", "bytes"),
+            ([1], "list"),
+        ):
+            with self.assertRaises(TypeError) as caught:
+                mvt.write(with_feature(attributes={"name": "a", "height": value}))
+            told = "layer 'a', feature 0, key 'height': %s is no text, number or truth that a tile can hold" % kind
+            self.assertEqual(str(caught.exception), told)
+
+    def test_names_the_place(self):
+        layer = POINT.layers[0]
+        half = mvt.Feature(None, {}, "points", [(0.5, 1)])
+        second = dataclasses.replace(layer, name="b", features=[layer.features[0]] * 2 + [half])
+        for tile, error, told in (
+            (mvt.Tile([layer, second]), TypeError, "layer 'b', feature 2, geometry: 'float' object"),
+            (with_feature(geometry=[(1 << 31, 0)]), OverflowError, "layer 'a', feature 0, geometry: "),
+            (with_feature(geometry=[(1, 2, 3)]), TypeError, "layer 'a', feature 0, geometry: a point isn't a pair"),
+            (with_feature(geometry=[(1, 2, 3), (4,)]), TypeError, "layer 'a', feature 0, geometry: a point isn't a pair"),
+            (with_feature(kind="unknown", geometry=[1 << 32]), OverflowError, "layer 'a', feature 0, geometry: 4294967296"),
+            (with_feature(attributes={"k": 1 << 64}), OverflowError, "layer 'a', feature 0, key 'k': 18446744073709551616"),
+            (with_feature(attributes={7: 1}), TypeError, "layer 'a', feature 0, key 7: int is no text"),
+            (with_feature(attributes={"k": "\ud800"}), mvt.NoTile, "layer 'a', feature 0, key 'k': a text isn't UTF-8"),
+            (with_feature(id=-1), OverflowError, "layer 'a', feature 0, id: -1 is out of range"),
+            (with_feature(id="7"), TypeError, "layer 'a', feature 0, id: 'str' object"),
+            (with_feature(kind="circles"), mvt.NoTile, "layer 'a', feature 0: 'circles' is no kind"),
+            (mvt.Tile([dataclasses.replace(layer, extent=1 << 32)]), OverflowError, "layer 'a': 4294967296 is out of range"),
+            (mvt.Tile([dataclasses.replace(layer, name=b"a")]), TypeError, "layer b'a': bytes is no text"),
+            (mvt.Tile([mvt.Foreign(-1, b"")]), OverflowError, "layer of version -1: -1 is out of range"),
+        ):
+            with self.assertRaises(error) as caught:
+                mvt.write(tile)
+            self.assertEqual(str(caught.exception)[: len(told)], told)
+            if error is OverflowError:
+                self.assertIsInstance(caught.exception, mvt.NoTile)
 
     def test_refuses_what_is_no_tile(self):
         layer = POINT.layers[0]

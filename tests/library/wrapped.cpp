@@ -1,6 +1,7 @@
 // The wrapper for C++ as the program: wrapped COMMAND [NAME..] < tile. Its output, its line on standard error and its
-// status are those of `mvt COMMAND`. The commands `hold`, `look`, `write` and `share` test the owners, the views, what
-// is written of rows, and threads; they print nothing.
+// status are those of `mvt COMMAND`. The commands `hold`, `look`, `write`, `share`, `take`, `lend`, `explain` and
+// `build` test the owners, the views, what is written of rows, threads, what bytes and names are taken, what is told of a
+// fault, and the builder; they print nothing.
 #include "mvt.hpp"
 
 #include <algorithm>
@@ -11,6 +12,8 @@
 #include <vector>
 
 namespace {
+
+static_assert(std::is_nothrow_copy_constructible_v<mvt::refused> && std::is_nothrow_copy_constructible_v<mvt::no_layer>);
 
 void require(bool holds, const char *what) {
     if (!holds) throw std::logic_error(what);
@@ -35,7 +38,105 @@ void hold(mvt::byte_span input) {
     require(tile.layers().empty() && other.layers().size() == count, "a moved tile still holds");
     other = mvt::read(input);
     require(other.layers().size() == count && !other.layers().empty(), "an assigned tile holds something else");
-    require(mvt::read({}).layers().empty() && mvt::rewrite({}).empty(), "no bytes are no empty tile");
+    other = mvt::read({});
+    require(other.layers().empty() && mvt::rewrite({}).empty(), "no bytes are no empty tile");
+}
+
+/// Bytes are taken from whatever has them in a row, and layers by any kind of names.
+void take(mvt::byte_span input) {
+    const std::string text(input.begin(), input.end());
+    const std::vector<char> chars(input.begin(), input.end());
+    const std::span<const std::byte> part = std::as_bytes(input);
+    const std::vector<std::byte> bytes(part.begin(), part.end());
+    const std::string wanted = mvt::json(input).str();
+    require(mvt::json(text).str() == wanted && mvt::json(std::string_view(text)).str() == wanted, "a string is other bytes");
+    require(mvt::json(chars).str() == wanted && mvt::json(bytes).str() == wanted, "a vector is other bytes");
+    require(mvt::json({input.data(), input.size()}).str() == wanted, "a pointer and a length are other bytes");
+    require(mvt::json(mvt::rewrite(text)).str() == wanted, "what a call made is other bytes");
+
+    const std::string both = mvt::extract(text, {"water", "roads"}).str();
+    require(mvt::extract(text, std::vector<std::string>{"roads", "water"}).str() == both, "names in a vector are others");
+    require(mvt::extract(text, std::vector<std::string_view>{}).empty(), "no names give layers");
+    try {
+        require(mvt::extract(text, {"water", "rail", "nowhere"}).empty(), "a layer that isn't there was found");
+    } catch (const mvt::no_layer &why) {
+        require(why.name() == "rail" && std::string(why.what()).ends_with("rail"), "another layer is missed");
+    }
+    const mvt::tile tile = mvt::read(text);
+    require(tile.layer("rail") == nullptr && tile.text(tile.layer("water")->name) == "water", "another layer is found");
+}
+
+/// Rows that were made by hand are written, and stay their maker's.
+void lend() {
+    const mvt_layer layer{.version = 2, .extent = 4096, .name = {0, 1}, .features = {}, .keys = {}, .values = {}, .bytes = {}};
+    mvt_tile rows{};
+    rows.layers = &layer, rows.layer_count = 1;
+    rows.texts = reinterpret_cast<const std::uint8_t *>("a"), rows.text_len = 1;
+    require(!mvt::write(rows).empty(), "rows made by hand aren't written");
+}
+
+/// A refused tile is told of in words, with the layer's name and the feature's id.
+void explain() {
+    // The layer `a` with a feature of id 7 whose line goes nowhere.
+    const std::string broken("\x1a\x13\x78\x02\x0a\x01" "a\x12\x0c\x08\x07\x18\x02\x22\x06\x09\x00\x00\x0a\x00\x00", 21);
+    for (const std::string &of : {broken, std::string("\x1f\x8b\x08"), std::string("\x78\x9c\x01")}) {
+        try {
+            mvt::judge(of);
+            require(false, "a broken tile was taken");
+        } catch (const mvt::refused &why) {
+            const bool packed = why.sentence().find("compressed") != std::string_view::npos;
+            require(packed == (of != broken), "a tile that isn't compressed looks so");
+            require(why.layer_name() == (packed ? std::nullopt : std::optional<std::string_view>("a")), "another layer's name");
+            require(why.feature_id() == (packed ? std::nullopt : std::optional<std::uint64_t>(7)), "another feature's id");
+        }
+    }
+    mvt::decoder decoder;
+    try {
+        for (const char byte : std::string("\x1f\x8b\x08")) decoder.feed(std::string_view(&byte, 1));
+        const mvt::tile none = decoder.finish();
+        require(none.layers().size() > 9, "a compressed tile was taken");
+    } catch (const mvt::refused &why) {
+        require(!why.sentence().empty(), "a fault without words");
+    }
+    require(std::string(mvt_version()) == MVT_VERSION, "the library is of another version");
+}
+
+/// The builder makes what the rows made by hand are, and can be moved and used again.
+void build() {
+    const mvt_point square[] = {{0, 0}, {8, 0}, {8, 8}, {0, 8}};
+    mvt::builder first;
+    first.layer("a").feature(MVT_POINTS).point(25, 17);
+    mvt::builder builder = std::move(first);
+    require(builder.finish().str() == std::string("\x1a\x11\x78\x02\x0a\x01" "a\x12\x07\x18\x01\x22\x03\x09\x32\x22\x28\x80\x20", 19),
+            "the bytes of a point");
+    require(builder.finish().empty(), "a builder that begins anew is empty");
+
+    builder.layer("town", 512).feature(MVT_POLYGONS, 7).tag("name", "Mill").tag("floors", 3).tag("high", true);
+    builder.ring(true).points(square).tag_at(builder.key("area"), builder.value(64.5));
+    builder.feature(MVT_LINES).tag("floors", 3u).tag("below", -1).tag("wide", 2.5f).line().point(0, 0).point(1, 2);
+    builder.feature(MVT_POINTS).point(1, 1).drop();
+    builder.feature(MVT_UNKNOWN).integers(std::vector<std::uint32_t>{9, 9});
+    const mvt::bytes made = builder.finish();
+    const mvt::tile tile = mvt::read(made);
+    const mvt_layer &layer = *tile.layer("town");
+    const auto features = tile.features(layer);
+    require(layer.extent == 512 && features.size() == 3 && features[0].id == 7 && !features[1].has_id, "other features");
+    require(tile.points(tile.parts(features[0])[0]).size() == 4 && tile.parts(features[0])[0].exterior == 1, "another ring");
+    require(tile.points(tile.parts(features[1])[0])[1].y == 2 && tile.integers(features[2]).size() == 2, "another geometry");
+    std::vector<std::pair<std::string, mvt::value>> tags;
+    for (const mvt_feature &feature : features)
+        tile.attributes(layer, feature, [&](std::string_view key, const mvt::value &it) { tags.emplace_back(key, it); });
+    const std::vector<std::pair<std::string, mvt::value>> wanted{
+        {"name", "Mill"},        {"floors", std::uint64_t{3}}, {"high", true}, {"area", 64.5}, {"floors", std::uint64_t{3}},
+        {"below", std::int64_t{-1}}, {"wide", 2.5f}};
+    require(tags == wanted, "other attributes");
+    try {
+        builder.tag("no", "feature");
+        require(false, "a tag without a feature was taken");
+    } catch (const mvt::no_tile &) {
+        require(false, "a call out of turn is no tile");
+    } catch (const mvt::error &) {
+    }
 }
 
 /// Views and attributes lie within the tile, and values have the kinds of their rows.
@@ -65,7 +166,7 @@ void write(mvt::byte_span input) {
     rows.texts = nullptr;
     rows.text_len = 0;
     try {
-        mvt::write(rows);
+        static_cast<void>(mvt::write(rows));
     } catch (const mvt::no_tile &) {
         return;
     }
@@ -99,7 +200,7 @@ void share(mvt::byte_span input) {
         threads.emplace_back([&] {
             for (int i = 0; i < 20; ++i) {
                 count += !std::ranges::equal(mvt::rewrite(input), rewritten);
-                count += mvt::json(input).text() != shown.text();
+                count += mvt::json(input).str() != shown.text();
                 look(input);
             }
         });
@@ -116,6 +217,10 @@ void call(const std::string &command, const std::vector<std::string_view> &names
     if (command == "hold") return hold(input);
     if (command == "look") return look(input);
     if (command == "share") return share(input);
+    if (command == "take") return take(input);
+    if (command == "lend") return lend();
+    if (command == "explain") return explain();
+    if (command == "build") return build();
     if (command == "pieces") return pieces(input);
     if (command == "write") return write(input);
     if (command == "check") return put(mvt::report(input));
@@ -140,8 +245,8 @@ int main(int argc, char **argv) try {
         return 1;
     }
     return std::cout.flush() ? 0 : 3;
-} catch (const mvt::no_layer &) {
-    std::cerr << "no layer\n";
+} catch (const mvt::no_layer &why) {
+    std::cerr << why.what() << '\n';
     return 1;
 } catch (const mvt::bad_name &) {
     std::cerr << "bad name\n";

@@ -1,117 +1,155 @@
 //! Values and features read, refused and written.
-use crate::support::{KEYS, feature_with, point, repeated_keys};
+ghost use Rattle.mvt_geometry.specs.Valid.{IsValid};
+
+use crate::expect::{expect, expect_eq};
+use crate::support::{KEYS, feature_with, made_with, point, repeated_keys};
 use mvt_attrs::{KeyPool, LayerKeys, PoolError, Value, ValuePool};
 use mvt_base::{Items, Text};
 use mvt_feature::*;
 use mvt_geometry::Geometry;
 use std::alloc::{AllocError, Global};
 use std::process::Abort;
-use std::test::Fail;
 
 // The value of a payload whose field's tag stands at 14.
 fn value_of(alloc: Global, payload: &[u8]) -> Result<Value, MessageError> {
     read_value(alloc, payload, 16, 14)
 }
 
+fn key(rt: &(impl Abort + AllocGlobal)) -> Text {
+    Text::from_str(rt.alloc(), "k").expect(rt, "a key")
+}
+
 // What a feature's payload, which begins at 9, is refused for, with the key `k` and the value 5.
-fn refused_for(alloc: Global, payload: &[u8]) -> Result<Option<(u64, u32)>, AllocError> {
-    let keys = [Text::from_str(alloc, "k")?];
-    let values = [Value::Uint(5)];
-    match read_feature(alloc, payload, 9, &keys, &values) {
-        Ok(_) => Ok(None),
-        Err(error) => Ok(Some(place_of(error)?)),
-    }
+fn refused_for(rt: &(impl Abort + AllocGlobal), payload: &[u8]) -> Option<(u64, u32)> {
+    let keys = [key(rt)];
+    let error = read_feature(rt.alloc(), payload, 9, &keys, &[Value::Uint(5)]).err();
+    drop(keys);
+    error.map(place_of)
+}
+
+fn judged_over(alloc: Global, keys: &[Text], payload: &[u8]) -> Result<(), MessageError> {
+    let mut keys = LayerKeys::new(alloc, keys);
+    let mut scratch = Scratch::new(alloc);
+    let judged = judge_feature(alloc, payload, 9, &mut keys, 1, &mut scratch);
+    drop(scratch);
+    drop(keys);
+    judged
 }
 
 // The same where it is only judged.
-fn judged_for(alloc: Global, payload: &[u8]) -> Result<Option<(u64, u32)>, AllocError> {
-    let keys = [Text::from_str(alloc, "k")?];
-    let mut keys = LayerKeys::new(alloc, &keys);
-    match judge_feature(alloc, payload, 9, &mut keys, 1, &mut Scratch::new(alloc)) {
-        Ok(()) => Ok(None),
-        Err(error) => Ok(Some(place_of(error)?)),
-    }
+fn judged_for(rt: &(impl Abort + AllocGlobal), payload: &[u8]) -> Option<(u64, u32)> {
+    let keys = [key(rt)];
+    let judged = judged_over(rt.alloc(), &keys, payload);
+    drop(keys);
+    judged.err().map(place_of)
 }
 
-fn place_of(error: MessageError) -> Result<(u64, u32), AllocError> {
+// No cause has the number 0.
+fn place_of(error: MessageError) -> (u64, u32) {
     match error {
-        MessageError::Memory => Err(AllocError),
-        MessageError::Fault { at, cause, .. } => Ok((at, cause.number())),
+        MessageError::Memory => (0, 0),
+        MessageError::Fault { at, cause, .. } => (at, cause.number()),
     }
 }
 
 // Both calls say whether the feature can be written.
-fn expect_valid(
-    rt: &(impl Abort + AllocGlobal),
-    feature: &Feature,
-    answer: bool,
-) -> Result<(), AllocError> {
-    assert_eq!(rt; is_valid_feature(feature), answer);
-    assert_eq!(rt; validate_feature(rt.alloc(), feature)?, answer);
-    Ok(())
+fn expect_valid(rt: &(impl Abort + AllocGlobal), feature: Feature, answer: bool) {
+    expect_eq!(rt; is_valid_feature(&feature), answer);
+    expect_eq!(rt; validate_feature(rt.alloc(), &feature), Ok(answer));
+    drop(feature);
+}
+
+// A payload is this value, which is let go.
+fn expect_value(rt: &(impl Abort + AllocGlobal), payload: &[u8], expected: Value) {
+    let found = value_of(rt.alloc(), payload);
+    expect!(rt; found.as_ref() == Ok(&expected));
+    drop(found);
+    drop(expected);
 }
 
 #[test]
 fn reads_values(rt: HostRuntime) {
-    let alloc = rt.alloc();
-    assert!(rt; value_of(alloc, &[0x28, 0x05]) == Ok(Value::Uint(5)));
-    assert!(rt; value_of(alloc, &[0x28, 0x05, 0x28, 0x06]) == Ok(Value::Uint(6)));
-    assert!(rt; value_of(alloc, &[0x30, 0x0A]) == Ok(Value::Sint(5)));
-    assert!(rt; value_of(alloc, &[0x38, 0x07]) == Ok(Value::Bool(true)));
+    expect_value(&rt, &[0x28, 0x05], Value::Uint(5));
+    expect_value(&rt, &[0x28, 0x05, 0x28, 0x06], Value::Uint(6));
+    expect_value(&rt, &[0x30, 0x0A], Value::Sint(5));
+    expect_value(&rt, &[0x38, 0x07], Value::Bool(true));
     let minus_one = [
         0x20, 0xFF, 0xFF, 0xFF, 0xFF, 0xFF, 0xFF, 0xFF, 0xFF, 0xFF, 0x01,
     ];
-    assert!(rt; value_of(alloc, &minus_one) == Ok(Value::Int(-1)));
+    expect_value(&rt, &minus_one, Value::Int(-1));
     let float = [0x15, 0x00, 0x00, 0x00, 0x80];
-    assert!(rt; value_of(alloc, &float) == Ok(Value::Float(2147483648)));
+    expect_value(&rt, &float, Value::Float(2147483648));
+    expect_eq!(rt; judge_value(&float, 16, 14), Ok(()));
     let double = [0x19, 0x00, 0x00, 0x00, 0x00, 0x00, 0x00, 0x00, 0x80];
-    assert!(rt; value_of(alloc, &double) == Ok(Value::Double(9223372036854775808)));
+    expect_value(&rt, &double, Value::Double(9223372036854775808));
+}
 
+// A payload whose field's tag stands at 7, and its content at 9.
+fn expect_no_kind(rt: &(impl Abort + AllocGlobal), payload: &[u8]) {
+    let of_no_kind = MessageError::Fault {
+        feature: None,
+        at: 7,
+        cause: Cause::ValueKind,
+    };
+    let found = read_value(rt.alloc(), payload, 9, 7).err();
+    expect_eq!(rt; found, Some(of_no_kind));
+    expect_eq!(rt; judge_value(payload, 9, 7), Err(of_no_kind));
+}
+
+#[test]
+fn refuses_values(rt: HostRuntime) {
     let of_no_kind = MessageError::Fault {
         feature: None,
         at: 14,
         cause: Cause::ValueKind,
     };
-    assert!(rt; value_of(alloc, &[]) == Err(of_no_kind));
-    assert_eq!(rt; judge_value(&[], 16, 14), Err(of_no_kind));
-    assert_eq!(rt; judge_value(&float, 16, 14), Ok(()));
-    let of_two_kinds = MessageError::Fault {
-        feature: None,
-        at: 7,
-        cause: Cause::ValueKind,
-    };
-    let two_kinds = [0x20, 0x05, 0x28, 0x05];
-    assert!(rt; read_value(alloc, &two_kinds, 9, 7) == Err(of_two_kinds));
-    assert_eq!(rt; judge_value(&two_kinds, 9, 7), Err(of_two_kinds));
+    expect_eq!(rt; value_of(rt.alloc(), &[]).err(), Some(of_no_kind));
+    expect_eq!(rt; judge_value(&[], 16, 14), Err(of_no_kind));
+    expect_no_kind(&rt, &[0x20, 0x05, 0x28, 0x05]);
+}
+
+const ONE_POINT: [u8; 7] = [0x18, 0x01, 0x22, 0x03, 0x09, 0x32, 0x22];
+
+// A feature is the point (25,17).
+fn expect_point(rt: &(impl Abort + AllocGlobal), found: Result<Feature, MessageError>) {
+    let expected = made_with(rt, &[]);
+    expect!(rt; found.as_ref() == Ok(&expected));
+    drop(expected);
+    drop(found);
 }
 
 #[test]
-fn reads_features(rt: HostRuntime) -> Result<(), Fail> {
+fn reads_features(rt: HostRuntime) {
     let alloc = rt.alloc();
-    let one_point = [0x18, 0x01, 0x22, 0x03, 0x09, 0x32, 0x22];
     let mut keys = LayerKeys::new(alloc, &[]);
     let mut scratch = Scratch::new(alloc);
     for _turn in 0..2 {
-        let Ok(feature) = read_feature_in(alloc, &one_point, 9, &mut keys, &[], &mut scratch) else {
-            return Err(Fail::new("no feature"));
-        };
-        assert!(rt; feature == feature_with(alloc, &[])?);
+        let found = read_feature_in(alloc, &ONE_POINT, 9, &mut keys, &[], &mut scratch);
+        expect_point(&rt, found);
     }
-    let Ok(alone) = read_feature(alloc, &one_point, 9, &[], &[]) else {
-        return Err(Fail::new("no feature"));
-    };
-    assert!(rt; alone == feature_with(alloc, &[])?);
-    let Ok(bare) = read_feature(alloc, &[], 9, &[], &[]) else {
-        return Err(Fail::new("no feature"));
-    };
-    assert!(rt; bare.id.is_none() && bare.attributes.as_slice().is_empty());
-    assert!(rt; bare.geometry == Geometry::Unknown(Items::new(Vec::new(alloc))));
-    Ok(())
+    drop(scratch);
+    drop(keys);
+    expect_point(&rt, read_feature(alloc, &ONE_POINT, 9, &[], &[]));
+}
+
+// A feature has no fields.
+fn expect_bare(rt: &(impl Abort + AllocGlobal), feature: &Feature) {
+    let empty = Geometry::Unknown(Items::new(Vec::new(rt.alloc())));
+    expect!(rt; feature.id.is_none());
+    expect!(rt; feature.attributes.as_slice().is_empty());
+    expect!(rt; feature.geometry == empty);
+    drop(empty);
 }
 
 #[test]
-fn refuses_features(rt: HostRuntime) -> Result<(), Fail> {
-    let alloc = rt.alloc();
+fn reads_bare_features(rt: HostRuntime) {
+    let bare = read_feature(rt.alloc(), &[], 9, &[], &[]).expect(&rt, "a feature");
+    expect_bare(&rt, &bare);
+    drop(bare);
+}
+
+#[test]
+fn refuses_features(rt: HostRuntime) {
     let far = [
         0x18, 0x01, 0x22, 0x09, 0x11, 0xFE, 0xFF, 0xFF, 0xFF, 0x0F, 0x00, 0x02, 0x00,
     ];
@@ -143,116 +181,193 @@ fn refuses_features(rt: HostRuntime) -> Result<(), Fail> {
         (&[0x1B], 9, 4),
     ];
     for (payload, at, number) in rows {
-        assert_eq!(rt; refused_for(alloc, payload)?, Some((at, number)));
-        assert_eq!(rt; judged_for(alloc, payload)?, Some((at, number)));
+        expect_eq!(rt; refused_for(&rt, payload), Some((at, number)));
+        expect_eq!(rt; judged_for(&rt, payload), Some((at, number)));
     }
-    Ok(())
 }
 
 #[test]
-fn writes(rt: HostRuntime) -> Result<(), Fail> {
-    let alloc = rt.alloc();
-    let mut out = Vec::new(alloc);
-    append_value(&mut out, &Value::Bool(true))?;
-    append_value(&mut out, &Value::Uint(5))?;
-    assert_eq!(rt; out.as_slice(), [0x38, 0x01, 0x28, 0x05].as_slice());
-    assert_eq!(rt; value_len(&Value::Text(Text::from_str(alloc, "a")?)), 3);
+fn writes_values(rt: HostRuntime) {
+    let mut out = Vec::new(rt.alloc());
+    expect_eq!(rt; append_value(&mut out, &Value::Bool(true)), Ok(()));
+    expect_eq!(rt; append_value(&mut out, &Value::Uint(5)), Ok(()));
+    expect_eq!(rt; out.as_slice(), [0x38, 0x01, 0x28, 0x05].as_slice());
+    drop(out);
+    let text = Value::Text(Text::from_str(rt.alloc(), "a").expect(&rt, "a text"));
+    expect_eq!(rt; value_len(&text), 3);
+    drop(text);
+}
 
-    let (mut keys, mut values) = (KeyPool::new(alloc), ValuePool::new(alloc));
+// What is appended of a feature, over new pools.
+fn appended(alloc: Global, out: &mut Vec<u8>, feature: &Feature) -> Result<(), PoolError>
+    requires { IsValid feature.now.geometry }
+{
+    let mut keys = KeyPool::new(alloc);
+    let mut values = ValuePool::new(alloc);
     let mut scratch = Scratch::new(alloc);
-    let feature = feature_with(alloc, &["k"])?;
-    assert!(rt; is_valid_feature(&feature) && feature.copy(alloc)? == feature);
-    out.clear();
-    append_feature(&mut out, &feature, &mut keys, &mut values, &mut scratch)?;
+    let done = append_feature(out, feature, &mut keys, &mut values, &mut scratch);
+    drop(scratch);
+    drop(values);
+    drop(keys);
+    done
+}
+
+fn expect_written(rt: &(impl Abort + AllocGlobal), feature: &Feature, expected: &[u8]) {
+    expect!(rt; is_valid_feature(feature));
+    let mut out = Vec::new(rt.alloc());
+    expect_eq!(rt; appended(rt.alloc(), &mut out, feature), Ok(()));
+    expect_eq!(rt; out.as_slice(), expected);
+    drop(out);
+}
+
+fn expect_copy(rt: &(impl Abort + AllocGlobal), feature: &Feature) {
+    let copy = feature.copy(rt.alloc()).expect(rt, "a copy");
+    expect!(rt; copy == *feature);
+    drop(copy);
+}
+
+#[test]
+fn writes_features(rt: HostRuntime) {
+    let feature = made_with(&rt, &["k"]);
+    expect_copy(&rt, &feature);
     let expected = [
         0x12, 0x02, 0x00, 0x00, 0x18, 0x01, 0x22, 0x03, 0x09, 0x32, 0x22,
     ];
-    assert_eq!(rt; out.as_slice(), expected.as_slice());
-    assert!(rt; !is_valid_feature(&feature_with(alloc, &["k", "k"])?));
+    expect_written(&rt, &feature, &expected);
     // 35, two tags of five bytes, and three integers of five.
-    assert_eq!(rt; room_behind_feature(&feature, 60), Some(0));
-    assert_eq!(rt; room_behind_feature(&feature, 59), None);
-    Ok(())
+    expect_eq!(rt; room_behind_feature(&feature, 60), Some(0));
+    expect_eq!(rt; room_behind_feature(&feature, 59), None);
+    drop(feature);
 }
 
 #[test]
-fn validates(rt: HostRuntime) -> Result<(), Fail> {
-    let alloc = rt.alloc();
-    let repeated = repeated_keys();
-    let rows: [(&[&str], bool); 5] = [
-        (&[], true),
-        (&["k"], true),
-        (&["k", "k"], false),
-        (&KEYS, true),
-        (&repeated, false),
-    ];
-    for (keys, answer) in rows {
-        expect_valid(&rt, &feature_with(alloc, keys)?, answer)?;
-    }
-    // No integers draw this point.
-    let mut far = feature_with(alloc, &KEYS)?;
-    far.geometry = point(alloc, -2_147_483_648, 0)?;
-    expect_valid(&rt, &far, false)?;
-    Ok(())
+fn validates(rt: HostRuntime) {
+    expect_valid(&rt, made_with(&rt, &[]), true);
+    expect_valid(&rt, made_with(&rt, &["k"]), true);
+    expect_valid(&rt, made_with(&rt, &["k", "k"]), false);
+    expect_valid(&rt, made_with(&rt, &KEYS), true);
+    expect_valid(&rt, made_with(&rt, &repeated_keys()), false);
+}
+
+// No integers draw this point.
+#[test]
+fn validates_far_points(rt: HostRuntime) {
+    let mut far = made_with(&rt, &KEYS);
+    far.geometry = point(rt.alloc(), -2_147_483_648, 0).expect(&rt, "a point");
+    expect_valid(&rt, far, false);
 }
 
 // The tests of refused growths pass too where one allocation, whichever, is refused: each call has
 // two turns, of which one at most may want memory.
 
+fn is_text_refused(rt: &(impl Abort + AllocGlobal)) -> bool {
+    match value_of(rt.alloc(), b"\x0A\x12a text of 18 bytes") {
+        Ok(value) => {
+            let Value::Text(text) = &value else {
+                expect!(rt; false);
+                return false;
+            };
+            expect_eq!(rt; text.as_str(), "a text of 18 bytes");
+            drop(value);
+            false
+        }
+        Err(error) => {
+            expect_eq!(rt; error, MessageError::Memory);
+            true
+        }
+    }
+}
+
+// A point with the id 7.
+const POINT_OF_ID: [u8; 9] = [0x08, 0x07, 0x18, 0x01, 0x22, 0x03, 0x09, 0x32, 0x22];
+
+fn is_judge_refused(rt: &(impl Abort + AllocGlobal)) -> bool {
+    let Ok(key) = Text::from_str(rt.alloc(), "k") else {
+        return true;
+    };
+    let keys = [key];
+    let judged = judged_over(rt.alloc(), &keys, &POINT_OF_ID);
+    drop(keys);
+    expect!(rt; judged == Ok(()) || judged == Err(MessageError::Memory));
+    judged.is_err()
+}
+
+fn is_read_refused(rt: &(impl Abort + AllocGlobal)) -> bool {
+    match read_feature(rt.alloc(), &POINT_OF_ID, 0, &[], &[]) {
+        Ok(feature) => {
+            expect_eq!(rt; feature.id, Some(7));
+            drop(feature);
+            false
+        }
+        Err(error) => {
+            expect_eq!(rt; error, MessageError::Memory);
+            true
+        }
+    }
+}
+
 #[test]
 fn refused_reads(rt: HostRuntime) {
     let mut refused = 0u8;
     for _turn in 0..2 {
-        match value_of(rt.alloc(), b"\x0A\x12a text of 18 bytes") {
-            Ok(Value::Text(text)) => assert_eq!(rt; text.as_str(), "a text of 18 bytes"),
-            Ok(_) => assert!(rt; false),
-            Err(error) => {
-                assert_eq!(rt; error, MessageError::Memory);
-                refused = refused.saturating_add(1);
-            }
-        }
+        refused = refused.saturating_add(u8::from(is_text_refused(&rt)));
+        refused = refused.saturating_add(u8::from(is_judge_refused(&rt)));
+        refused = refused.saturating_add(u8::from(is_read_refused(&rt)));
     }
-    let payload = [0x08, 0x07, 0x18, 0x01, 0x22, 0x03, 0x09, 0x32, 0x22];
-    for _turn in 0..2 {
-        if let Err(error) = judged_for(rt.alloc(), &payload) {
-            assert_eq!(rt; error, AllocError);
-            refused = refused.saturating_add(1);
+    expect!(rt; refused < 2);
+}
+
+fn is_copy_refused(rt: &(impl Abort + AllocGlobal), feature: &Feature) -> bool {
+    match feature.copy(rt.alloc()) {
+        Ok(copy) => {
+            expect!(rt; copy == *feature);
+            drop(copy);
+            false
         }
-        match read_feature(rt.alloc(), &payload, 0, &[], &[]) {
-            Ok(feature) => assert_eq!(rt; feature.id, Some(7)),
-            Err(error) => {
-                assert_eq!(rt; error, MessageError::Memory);
-                refused = refused.saturating_add(1);
-            }
-        }
+        Err(AllocError) => true,
     }
-    assert!(rt; refused < 2);
+}
+
+fn is_write_refused(rt: &(impl Abort + AllocGlobal), feature: &Feature) -> bool {
+    expect!(rt; is_valid_feature(feature));
+    let mut out = Vec::new(rt.alloc());
+    let error = appended(rt.alloc(), &mut out, feature).err();
+    let is_refused = error.is_some();
+    if is_refused {
+        expect_eq!(rt; error, Some(PoolError::Memory));
+    } else {
+        expect_eq!(rt; out.len(), 11);
+    }
+    drop(out);
+    is_refused
+}
+
+// How often a feature was refused memory, which is made, copied and written.
+fn write_refusals(rt: &(impl Abort + AllocGlobal)) -> u8 {
+    let Ok(feature) = feature_with(rt.alloc(), &["a text of 18 bytes"]) else {
+        return 1;
+    };
+    let copied = u8::from(is_copy_refused(rt, &feature));
+    let written = u8::from(is_write_refused(rt, &feature));
+    drop(feature);
+    copied.saturating_add(written)
 }
 
 #[test]
 fn refused_writes(rt: HostRuntime) {
-    let mut refused = 0u8;
-    for _turn in 0..2 {
-        let Ok(feature) = feature_with(rt.alloc(), &["a text of 18 bytes"]) else {
-            refused = refused.saturating_add(1);
-            continue;
-        };
-        assert!(rt; is_valid_feature(&feature));
-        match feature.copy(rt.alloc()) {
-            Ok(copy) => assert!(rt; copy == feature),
-            Err(AllocError) => refused = refused.saturating_add(1),
-        }
-        let (mut keys, mut values) = (KeyPool::new(rt.alloc()), ValuePool::new(rt.alloc()));
-        let (mut out, mut scratch) = (Vec::new(rt.alloc()), Scratch::new(rt.alloc()));
-        match append_feature(&mut out, &feature, &mut keys, &mut values, &mut scratch) {
-            Ok(()) => assert_eq!(rt; out.len(), 11),
-            Err(error) => {
-                assert_eq!(rt; error, PoolError::Memory);
-                refused = refused.saturating_add(1);
-            }
-        }
-    }
-    assert!(rt; refused < 2);
+    let first = write_refusals(&rt);
+    let second = write_refusals(&rt);
+    expect!(rt; first.saturating_add(second) < 2);
+}
+
+fn is_validation_refused(rt: &(impl Abort + AllocGlobal), keys: &[&str], answer: bool) -> bool {
+    let Ok(feature) = feature_with(rt.alloc(), keys) else {
+        return true;
+    };
+    let found = validate_feature(rt.alloc(), &feature);
+    drop(feature);
+    expect!(rt; found == Ok(answer) || found == Err(AllocError));
+    found.is_err()
 }
 
 #[test]
@@ -262,15 +377,9 @@ fn refused_validations(rt: HostRuntime) {
     let mut refused = 0u8;
     for (keys, answer) in rows {
         for _turn in 0..2 {
-            let Ok(feature) = feature_with(rt.alloc(), keys) else {
-                refused = refused.saturating_add(1);
-                continue;
-            };
-            match validate_feature(rt.alloc(), &feature) {
-                Ok(valid) => assert_eq!(rt; valid, answer),
-                Err(AllocError) => refused = refused.saturating_add(1),
-            }
+            let is_refused = is_validation_refused(&rt, keys, answer);
+            refused = refused.saturating_add(u8::from(is_refused));
         }
     }
-    assert!(rt; refused < 2);
+    expect!(rt; refused < 2);
 }

@@ -1,10 +1,11 @@
 //! Items read, refused and written.
+use crate::expect::{expect, expect_eq};
 use crate::support::{KEYS, feature_with, repeated_keys};
 use mvt_base::{Items, Text};
 use mvt_geometry::Geometry;
 use mvt_message::*;
 use std::alloc::{AllocError, Global};
-use std::test::Fail;
+use std::process::Abort;
 
 // A layer `a` with the point (25,17); and the same layer named `b`.
 const ONE_POINT: [u8; 17] = [
@@ -55,23 +56,20 @@ fn layer_with(alloc: Global, keys: &[&str]) -> Result<Layer, AllocError> {
     })
 }
 
+fn layer_item(rt: &(impl Abort + AllocGlobal), keys: &[&str]) -> Item {
+    Item::Layer(layer_with(rt.alloc(), keys).expect(rt, "a layer"))
+}
+
 fn foreign(alloc: Global, version: u32, bytes: &[u8]) -> Result<Item, AllocError> {
     let bytes = Items::new(Vec::from_slice(alloc, bytes)?);
     Ok(Item::Foreign { version, bytes })
 }
 
-// The item of a payload that begins at 2, behind the tag at 0.
-fn item_of(alloc: Global, payload: &[u8]) -> Result<Item, Fail> {
-    if payload.len() > 100 {
-        return Err(Fail::new("a long payload"));
-    }
-    match read_item(alloc, payload, 2, 0) {
-        Ok(item) => Ok(item),
-        Err(_) => Err(Fail::new("no item")),
-    }
+fn foreign_item(rt: &(impl Abort + AllocGlobal), version: u32, bytes: &[u8]) -> Item {
+    foreign(rt.alloc(), version, bytes).expect(rt, "an item")
 }
 
-// The same, where it may want memory.
+// The item of a short payload that begins at 2, behind the tag at 0.
 fn read_short(alloc: Global, payload: &[u8]) -> Result<Item, MessageError> {
     if payload.len() > 100 {
         return Err(MessageError::Memory);
@@ -79,154 +77,161 @@ fn read_short(alloc: Global, payload: &[u8]) -> Result<Item, MessageError> {
     read_item(alloc, payload, 2, 0)
 }
 
-// What such a payload is refused for.
-fn refused_for(
-    alloc: Global,
-    payload: &[u8],
-) -> Result<Option<(Option<u32>, u64, u32)>, AllocError> {
-    if payload.len() > 100 {
-        return Ok(None);
-    }
-    match read_item(alloc, payload, 2, 0) {
-        Ok(_) => Ok(None),
-        Err(error) => Ok(Some(place_of(error)?)),
-    }
+fn item_of(rt: &(impl Abort + AllocGlobal), payload: &[u8]) -> Item {
+    read_short(rt.alloc(), payload).expect(rt, "an item")
 }
 
-// The same where it is only judged.
-fn judged_for(
-    alloc: Global,
-    payload: &[u8],
-) -> Result<Option<(Option<u32>, u64, u32)>, AllocError> {
+// The name that such a payload has, which is only judged.
+fn judge_short(alloc: Global, payload: &[u8]) -> Result<Option<&str>, MessageError> {
     if payload.len() > 100 {
-        return Ok(None);
+        return Err(MessageError::Memory);
     }
-    match judge_item(alloc, payload, 2, 0) {
-        Ok(_) => Ok(None),
-        Err(error) => Ok(Some(place_of(error)?)),
-    }
+    judge_item(alloc, payload, 2, 0)
 }
 
-fn place_of(error: MessageError) -> Result<(Option<u32>, u64, u32), AllocError> {
+// What such a payload is refused for, read or judged.
+fn expect_refused(
+    rt: &(impl Abort + AllocGlobal),
+    payload: &[u8],
+    place: (Option<u32>, u64, u32),
+) {
+    let read = read_short(rt.alloc(), payload).err();
+    expect_eq!(rt; read.map(place_of), Some(place));
+    let judged = judge_short(rt.alloc(), payload).err();
+    expect_eq!(rt; judged.map(place_of), Some(place));
+}
+
+// No cause has the number 0.
+fn place_of(error: MessageError) -> (Option<u32>, u64, u32) {
     match error {
-        MessageError::Memory => Err(AllocError),
-        MessageError::Fault { feature, at, cause } => Ok((feature, at, cause.number())),
+        MessageError::Memory => (None, 0, 0),
+        MessageError::Fault { feature, at, cause } => (feature, at, cause.number()),
     }
 }
 
-// The name that such a payload is judged to have.
-fn judged_name(alloc: Global, payload: &[u8]) -> Result<Option<&str>, Fail> {
-    if payload.len() > 100 {
-        return Err(Fail::new("a long payload"));
-    }
-    match judge_item(alloc, payload, 2, 0) {
-        Ok(name) => Ok(name),
-        Err(_) => Err(Fail::new("no item")),
-    }
+fn expect_name(rt: &(impl Abort + AllocGlobal), payload: &[u8], name: Option<&str>) {
+    let judged = judge_short(rt.alloc(), payload).expect(rt, "an item");
+    expect_eq!(rt; judged, name);
 }
 
-// Whether the payload of an item that is valid, written, is these bytes, and its length theirs.
-fn is_written_as(alloc: Global, item: &Item, bytes: &[u8]) -> Result<bool, Fail> {
-    if !is_valid_item(item) {
-        return Err(Fail::new("an invalid item"));
-    }
-    let Ok(written) = put_item(alloc, item) else {
-        return Err(Fail::new("no bytes"));
-    };
-    let Ok(len) = item_len(alloc, item) else {
-        return Err(Fail::new("no length"));
-    };
-    Ok(written.as_slice() == bytes && len == bytes.len() as u64)
+// The payload of an item that is valid, written, is these bytes, and its length theirs.
+fn expect_written(rt: &(impl Abort + AllocGlobal), item: &Item, bytes: &[u8]) {
+    expect!(rt; is_valid_item(item));
+    let written = put_item(rt.alloc(), item).expect(rt, "bytes");
+    expect_eq!(rt; written.as_slice(), bytes);
+    drop(written);
+    expect_eq!(rt; item_len(rt.alloc(), item), Ok(bytes.len() as u64));
+}
+
+fn expect_copy(rt: &(impl Abort + AllocGlobal), item: &Item) {
+    let copy = item.copy(rt.alloc()).expect(rt, "a copy");
+    expect!(rt; copy == *item);
+    drop(copy);
+}
+
+// A payload is this item, which is let go.
+fn expect_item(rt: &(impl Abort + AllocGlobal), payload: &[u8], expected: Item) {
+    let item = item_of(rt, payload);
+    expect!(rt; item == expected);
+    drop(expected);
+    drop(item);
 }
 
 #[test]
-fn reads_and_writes_layers(rt: HostRuntime) -> Result<(), Fail> {
-    let alloc = rt.alloc();
-    let item = item_of(alloc, &ONE_POINT)?;
-    assert!(rt; item == Item::Layer(layer_with(alloc, &[])?));
-    assert!(rt; is_written_as(alloc, &item, &ONE_POINT)? && item.copy(alloc)? == item);
+fn reads_and_writes_layers(rt: HostRuntime) {
+    let item = item_of(&rt, &ONE_POINT);
+    expect_written(&rt, &item, &ONE_POINT);
+    expect_copy(&rt, &item);
+    drop(item);
+    let item = item_of(&rt, &TWICE_A_KEY);
+    expect_written(&rt, &item, &ONCE_A_KEY);
+    drop(item);
+}
 
+#[test]
+fn reads_layers(rt: HostRuntime) {
     let without_extent = &ONE_POINT[..14];
-    assert!(rt; item_of(alloc, without_extent)? == item);
     let version_last = [
         0x0A, 0x01, 0x61, 0x12, 0x07, 0x18, 0x01, 0x22, 0x03, 0x09, 0x32, 0x22, 0x28, 0x80, 0x20,
         0x78, 0x02,
     ];
-    assert!(rt; item_of(alloc, &version_last)? == item);
+    for payload in [&ONE_POINT, without_extent, &version_last] {
+        expect_item(&rt, payload, layer_item(&rt, &[]));
+    }
+}
 
-    let item = item_of(alloc, &TWICE_A_KEY)?;
-    assert!(rt; is_written_as(alloc, &item, &ONCE_A_KEY)?);
-    Ok(())
+fn expect_layer_copy(rt: &(impl Abort + AllocGlobal), layer: &Layer, name: &str) {
+    let copy = layer.copy(rt.alloc()).expect(rt, "a copy");
+    expect!(rt; copy == *layer);
+    expect_eq!(rt; copy.name.as_str(), name);
+    drop(copy);
 }
 
 #[test]
-fn copies_layers(rt: HostRuntime) -> Result<(), Fail> {
-    let alloc = rt.alloc();
+fn copies_layers(rt: HostRuntime) {
     for (payload, name) in [(ONE_POINT, "a"), (ONE_POINT_B, "b")] {
-        let Item::Layer(layer) = item_of(alloc, &payload)? else {
-            return Err(Fail::new("no layer"));
-        };
-        let copy = layer.copy(alloc)?;
-        assert!(rt; copy == layer && copy.name.as_str() == name);
+        let item = item_of(&rt, &payload);
+        match &item {
+            Item::Layer(layer) => expect_layer_copy(&rt, layer, name),
+            Item::Foreign { .. } => expect!(rt; false),
+        }
+        drop(item);
     }
-    Ok(())
 }
 
 #[test]
-fn carries_foreign_items(rt: HostRuntime) -> Result<(), Fail> {
-    let alloc = rt.alloc();
-    let item = item_of(alloc, &FOREIGN)?;
-    assert!(rt; item == foreign(alloc, 1, &FOREIGN)? && item.copy(alloc)? == item);
-    assert!(rt; is_written_as(alloc, &item, &FOREIGN)?);
+fn carries_foreign_items(rt: HostRuntime) {
+    let item = foreign_item(&rt, 1, &FOREIGN);
+    expect_copy(&rt, &item);
+    expect_written(&rt, &item, &FOREIGN);
+    expect_item(&rt, &FOREIGN, item);
     let two_versions = [0x78, 0x02, 0x78, 0x01, 0x0A, 0x01, 0x61, 0x28, 0x80, 0x20];
-    assert!(rt; item_of(alloc, &two_versions)? == foreign(alloc, 1, &two_versions)?);
+    expect_item(&rt, &two_versions, foreign_item(&rt, 1, &two_versions));
     let no_text = [0x78, 0x01, 0x0A, 0x01, 0xFF];
-    assert!(rt; item_of(alloc, &no_text)? == foreign(alloc, 1, &no_text)?);
-    assert!(rt; item_of(alloc, &[0x78, 0x00])? == foreign(alloc, 0, &[0x78, 0x00])?);
+    expect_item(&rt, &no_text, foreign_item(&rt, 1, &no_text));
+    expect_item(&rt, &[0x78, 0x00], foreign_item(&rt, 0, &[0x78, 0x00]));
+}
 
-    assert!(rt; !is_valid_item(&foreign(alloc, 2, &[0x78, 0x02])?));
-    assert!(rt; !is_valid_item(&foreign(alloc, 1, &[0x78, 0x03])?));
-    assert!(rt; !is_valid_layer(&layer_with(alloc, &["k", "k"])?));
-    Ok(())
+// Both calls say whether the item can be written.
+fn expect_valid(rt: &(impl Abort + AllocGlobal), item: Item, answer: bool) {
+    expect_eq!(rt; is_valid_item(&item), answer);
+    expect_eq!(rt; validate_item(rt.alloc(), &item), Ok(answer));
+    drop(item);
 }
 
 #[test]
-fn validates_items(rt: HostRuntime) -> Result<(), Fail> {
-    let alloc = rt.alloc();
-    let rows = [
-        (Item::Layer(layer_with(alloc, &[])?), true),
-        (Item::Layer(layer_with(alloc, &["k", "k"])?), false),
-        (Item::Layer(layer_with(alloc, &KEYS)?), true),
-        (Item::Layer(layer_with(alloc, &repeated_keys())?), false),
-        (foreign(alloc, 1, &FOREIGN)?, true),
-        (foreign(alloc, 2, &[0x78, 0x02])?, false),
-        (foreign(alloc, 1, &[0x78, 0x03])?, false),
-    ];
-    for (item, answer) in &rows {
-        assert_eq!(rt; is_valid_item(item), *answer);
-        assert_eq!(rt; validate_item(alloc, item)?, *answer);
-    }
-    Ok(())
+fn validates_items(rt: HostRuntime) {
+    expect_valid(&rt, layer_item(&rt, &[]), true);
+    expect_valid(&rt, layer_item(&rt, &["k", "k"]), false);
+    expect_valid(&rt, layer_item(&rt, &KEYS), true);
+    expect_valid(&rt, layer_item(&rt, &repeated_keys()), false);
+    expect_valid(&rt, foreign_item(&rt, 1, &FOREIGN), true);
+    expect_valid(&rt, foreign_item(&rt, 2, &[0x78, 0x02]), false);
+    expect_valid(&rt, foreign_item(&rt, 1, &[0x78, 0x03]), false);
+    let layer = layer_with(rt.alloc(), &["k", "k"]).expect(&rt, "a layer");
+    expect!(rt; !is_valid_layer(&layer));
+    drop(layer);
+}
+
+// What is left of this room, and nothing where it is one less.
+fn expect_bound(rt: &impl Abort, item: Item, bound: u8) {
+    let bound = u64::from(bound);
+    expect_eq!(rt; room_behind_item(&item, bound), Some(0));
+    expect_eq!(rt; room_behind_item(&item, bound.saturating_sub(1)), None);
+    drop(item);
 }
 
 // A layer: 24 and its name, the field of its feature with 11 in front, and 33 for an attribute and its key.
 // An item of another version is its bytes.
 #[test]
-fn bounds(rt: HostRuntime) -> Result<(), Fail> {
-    let alloc = rt.alloc();
-    let layer = Item::Layer(layer_with(alloc, &["k"])?);
-    assert_eq!(rt; room_behind_item(&layer, 130), Some(0));
-    assert_eq!(rt; room_behind_item(&layer, 129), None);
-    let other = foreign(alloc, 1, &FOREIGN)?;
-    assert_eq!(rt; room_behind_item(&other, 5), Some(0));
-    assert_eq!(rt; room_behind_item(&other, 4), None);
-    Ok(())
+fn bounds(rt: HostRuntime) {
+    expect_bound(&rt, layer_item(&rt, &["k"]), 130);
+    expect_bound(&rt, foreign_item(&rt, 1, &FOREIGN), 5);
 }
 
 // Payloads, and what they are written as.
 #[test]
-fn writes_what_it_read(rt: HostRuntime) -> Result<(), Fail> {
-    let alloc = rt.alloc();
+fn writes_what_it_read(rt: HostRuntime) {
     let rows: [(&[u8], &[u8]); 8] = [
         (
             &[0x78, 0x01, 0x78, 0x02, 0x0A, 0x01, 0x61, 0x28, 0x80, 0x20],
@@ -262,24 +267,39 @@ fn writes_what_it_read(rt: HostRuntime) -> Result<(), Fail> {
         (&PLAIN, &PLAIN),
     ];
     for (payload, written) in rows {
-        let item = item_of(alloc, payload)?;
-        assert!(rt; item == item_of(alloc, written)?);
-        assert!(rt; is_written_as(alloc, &item, written)?);
+        let item = item_of(&rt, payload);
+        expect_written(&rt, &item, written);
+        expect_item(&rt, written, item);
     }
-    let Item::Layer(bare) = item_of(alloc, &BARE)? else {
-        return Err(Fail::new("no layer"));
-    };
-    let features = bare.features.as_slice();
-    assert!(rt; features.len() == 1 && features[0].id.is_none());
-    assert!(rt; features[0].attributes.as_slice().is_empty());
-    assert!(rt; features[0].geometry == Geometry::Unknown(Items::new(Vec::new(alloc))));
-    assert!(rt; bare.copy(alloc)? == bare);
-    Ok(())
+}
+
+// A layer has one feature, which has no fields.
+fn expect_bare(rt: &(impl Abort + AllocGlobal), layer: &Layer) {
+    let empty = Geometry::Unknown(Items::new(Vec::new(rt.alloc())));
+    expect_eq!(rt; layer.features.as_slice().len(), 1);
+    for feature in layer.features.as_slice() {
+        expect!(rt; feature.id.is_none());
+        expect!(rt; feature.attributes.as_slice().is_empty());
+        expect!(rt; feature.geometry == empty);
+    }
+    drop(empty);
 }
 
 #[test]
-fn refuses_layers(rt: HostRuntime) -> Result<(), Fail> {
-    let alloc = rt.alloc();
+fn reads_bare_features(rt: HostRuntime) {
+    let item = item_of(&rt, &BARE);
+    match &item {
+        Item::Layer(layer) => {
+            expect_bare(&rt, layer);
+            expect_layer_copy(&rt, layer, "a");
+        }
+        Item::Foreign { .. } => expect!(rt; false),
+    }
+    drop(item);
+}
+
+#[test]
+fn refuses_layers(rt: HostRuntime) {
     let rows: [(&[u8], u64, u32); 12] = [
         (&[0x78, 0x02, 0x0A, 0x02, 0x61], 4, 1),
         (&[0x78, 0x01, 0x0A, 0x02, 0x61], 4, 1),
@@ -319,15 +339,12 @@ fn refuses_layers(rt: HostRuntime) -> Result<(), Fail> {
         ),
     ];
     for (payload, at, number) in rows {
-        assert_eq!(rt; refused_for(alloc, payload)?, Some((None, at, number)));
-        assert_eq!(rt; judged_for(alloc, payload)?, Some((None, at, number)));
+        expect_refused(&rt, payload, (None, at, number));
     }
-    Ok(())
 }
 
 #[test]
-fn judges_items(rt: HostRuntime) -> Result<(), Fail> {
-    let alloc = rt.alloc();
+fn judges_items(rt: HostRuntime) {
     for payload in [
         ONE_POINT.as_slice(),
         &TWICE_A_KEY,
@@ -335,16 +352,14 @@ fn judges_items(rt: HostRuntime) -> Result<(), Fail> {
         &PLAIN,
         &BARE,
     ] {
-        assert_eq!(rt; judged_name(alloc, payload)?, Some("a"));
+        expect_name(&rt, payload, Some("a"));
     }
-    assert_eq!(rt; judged_name(alloc, LONG_TEXTS)?, Some("a name of 18 bytes"));
-    assert_eq!(rt; judged_name(alloc, &FOREIGN)?, None);
-    Ok(())
+    expect_name(&rt, LONG_TEXTS, Some("a name of 18 bytes"));
+    expect_name(&rt, &FOREIGN, None);
 }
 
 #[test]
-fn refuses_features(rt: HostRuntime) -> Result<(), Fail> {
-    let alloc = rt.alloc();
+fn refuses_features(rt: HostRuntime) {
     let rows: [(&[u8], u64, u32); 14] = [
         (
             &[0x78, 0x02, 0x0A, 0x01, 0x61, 0x12, 0x03, 0x22, 0x01, 0x80],
@@ -450,193 +465,233 @@ fn refuses_features(rt: HostRuntime) -> Result<(), Fail> {
         ),
     ];
     for (payload, at, number) in rows {
-        assert_eq!(rt; refused_for(alloc, payload)?, Some((Some(0), at, number)));
-        assert_eq!(rt; judged_for(alloc, payload)?, Some((Some(0), at, number)));
+        expect_refused(&rt, payload, (Some(0), at, number));
     }
     let second = [
         0x78, 0x02, 0x0A, 0x01, 0x61, 0x12, 0x00, 0x12, 0x03, 0x12, 0x01, 0x00,
     ];
-    assert_eq!(rt; refused_for(alloc, &second)?, Some((Some(1), 1, 13)));
-    assert_eq!(rt; judged_for(alloc, &second)?, Some((Some(1), 1, 13)));
-    Ok(())
+    expect_refused(&rt, &second, (Some(1), 1, 13));
 }
 
 // The tests of refused growths pass too where one allocation, whichever, is refused: each call has
 // two turns, of which one at most may want memory.
 
+fn is_read_refused(rt: &(impl Abort + AllocGlobal), payload: &[u8]) -> bool {
+    match read_short(rt.alloc(), payload) {
+        Ok(item) => {
+            expect!(rt; is_valid_item(&item));
+            drop(item);
+            false
+        }
+        Err(error) => {
+            expect_eq!(rt; error, MessageError::Memory);
+            true
+        }
+    }
+}
+
 #[test]
 fn refused_reads(rt: HostRuntime) {
-    let alloc = rt.alloc();
     let mut refused = 0u8;
     for payload in [TWICE_A_KEY.as_slice(), LONG_TEXTS, FOREIGN.as_slice()] {
         for _turn in 0..2 {
-            match read_item(alloc, payload, 2, 0) {
-                Ok(item) => assert!(rt; is_valid_item(&item)),
-                Err(error) => {
-                    assert_eq!(rt; error, MessageError::Memory);
-                    refused = refused.saturating_add(1);
-                }
-            }
+            refused = refused.saturating_add(u8::from(is_read_refused(&rt, payload)));
         }
     }
-    assert!(rt; refused < 2);
+    expect!(rt; refused < 2);
+}
+
+fn is_copy_refused(rt: &(impl Abort + AllocGlobal), item: &Item) -> bool {
+    match item.copy(rt.alloc()) {
+        Ok(copy) => {
+            expect!(rt; copy == *item);
+            drop(copy);
+            false
+        }
+        Err(AllocError) => true,
+    }
+}
+
+fn is_len_refused(rt: &(impl Abort + AllocGlobal), item: &Item, len: u64) -> bool {
+    expect!(rt; is_valid_item(item));
+    match item_len(rt.alloc(), item) {
+        Err(PutError::Memory) => true,
+        found => {
+            expect_eq!(rt; found, Ok(len));
+            false
+        }
+    }
+}
+
+fn is_put_refused(rt: &(impl Abort + AllocGlobal), item: &Item, written: &[u8]) -> bool {
+    expect!(rt; is_valid_item(item));
+    match put_item(rt.alloc(), item) {
+        Ok(bytes) => {
+            expect_eq!(rt; bytes.as_slice(), written);
+            drop(bytes);
+            false
+        }
+        Err(error) => {
+            expect_eq!(rt; error, PutError::Memory);
+            true
+        }
+    }
+}
+
+// How often an item was refused memory, which is made, copied and measured.
+fn write_refusals(rt: &(impl Abort + AllocGlobal)) -> u8 {
+    let Ok(item) = read_short(rt.alloc(), LONG_TEXTS) else {
+        return 1;
+    };
+    let copied = u8::from(is_copy_refused(rt, &item));
+    let measured = u8::from(is_len_refused(rt, &item, 77));
+    drop(item);
+    copied.saturating_add(measured)
 }
 
 #[test]
 fn refused_writes(rt: HostRuntime) {
-    let alloc = rt.alloc();
-    let mut refused = 0u8;
-    for _turn in 0..2 {
-        let Ok(item) = read_item(alloc, LONG_TEXTS, 2, 0) else {
-            refused = refused.saturating_add(1);
-            continue;
-        };
-        match item.copy(alloc) {
-            Ok(copy) => assert!(rt; copy == item),
-            Err(AllocError) => refused = refused.saturating_add(1),
+    let first = write_refusals(&rt);
+    let second = write_refusals(&rt);
+    expect!(rt; first.saturating_add(second) < 2);
+}
+
+fn is_layer_copy_refused(rt: &(impl Abort + AllocGlobal), layer: &Layer) -> bool {
+    match layer.copy(rt.alloc()) {
+        Ok(copy) => {
+            expect!(rt; copy == *layer);
+            drop(copy);
+            false
         }
-        if is_valid_item(&item) {
-            match item_len(alloc, &item) {
-                Ok(len) => assert_eq!(rt; len, 77),
-                Err(error) => {
-                    assert_eq!(rt; error, PutError::Memory);
-                    refused = refused.saturating_add(1);
-                }
-            }
-        }
+        Err(AllocError) => true,
     }
-    assert!(rt; refused < 2);
+}
+
+fn is_layer_refused(rt: &(impl Abort + AllocGlobal), payload: &[u8]) -> bool {
+    let Ok(item) = read_short(rt.alloc(), payload) else {
+        return true;
+    };
+    let is_refused = match &item {
+        Item::Layer(layer) => is_layer_copy_refused(rt, layer),
+        Item::Foreign { .. } => {
+            expect!(rt; false);
+            false
+        }
+    };
+    drop(item);
+    is_refused
 }
 
 #[test]
 fn refused_copies(rt: HostRuntime) {
-    let alloc = rt.alloc();
     let mut refused = 0u8;
     for payload in [ONE_POINT, ONE_POINT_B] {
         for _turn in 0..2 {
-            let Ok(item) = read_short(alloc, &payload) else {
-                refused = refused.saturating_add(1);
-                continue;
-            };
-            let Item::Layer(layer) = &item else {
-                assert!(rt; false);
-                return;
-            };
-            match layer.copy(alloc) {
-                Ok(copy) => assert!(rt; copy == *layer),
-                Err(AllocError) => refused = refused.saturating_add(1),
-            }
+            refused = refused.saturating_add(u8::from(is_layer_refused(&rt, &payload)));
         }
     }
-    assert!(rt; refused < 2);
+    expect!(rt; refused < 2);
+}
+
+fn is_validation_refused(rt: &(impl Abort + AllocGlobal), keys: &[&str], answer: bool) -> bool {
+    let Ok(layer) = layer_with(rt.alloc(), keys) else {
+        return true;
+    };
+    let item = Item::Layer(layer);
+    let found = validate_item(rt.alloc(), &item);
+    drop(item);
+    expect!(rt; found == Ok(answer) || found == Err(AllocError));
+    found.is_err()
 }
 
 #[test]
 fn refused_validations(rt: HostRuntime) {
-    let alloc = rt.alloc();
     let repeated = repeated_keys();
     let rows: [(&[&str], bool); 3] = [(&["k", "k"], false), (&KEYS, true), (&repeated, false)];
     let mut refused = 0u8;
     for (keys, answer) in rows {
         for _turn in 0..2 {
-            let Ok(layer) = layer_with(alloc, keys) else {
-                refused = refused.saturating_add(1);
-                continue;
-            };
-            match validate_item(alloc, &Item::Layer(layer)) {
-                Ok(valid) => assert_eq!(rt; valid, answer),
-                Err(AllocError) => refused = refused.saturating_add(1),
-            }
+            let is_refused = is_validation_refused(&rt, keys, answer);
+            refused = refused.saturating_add(u8::from(is_refused));
         }
     }
-    assert!(rt; refused < 2);
+    expect!(rt; refused < 2);
+}
+
+fn is_payload_refused(rt: &(impl Abort + AllocGlobal), payload: &[u8], written: &[u8]) -> bool {
+    let Ok(item) = read_short(rt.alloc(), payload) else {
+        return true;
+    };
+    let is_refused = is_put_refused(rt, &item, written);
+    drop(item);
+    is_refused
 }
 
 #[test]
 fn refused_payloads(rt: HostRuntime) {
-    let alloc = rt.alloc();
     let mut refused = 0u8;
     for (payload, written) in [
         (&ONE_POINT[..], &ONE_POINT[..]),
         (&TWICE_A_KEY, &ONCE_A_KEY),
     ] {
         for _turn in 0..2 {
-            let Ok(item) = read_short(alloc, payload) else {
-                refused = refused.saturating_add(1);
-                continue;
-            };
-            if is_valid_item(&item) {
-                match put_item(alloc, &item) {
-                    Ok(bytes) => assert_eq!(rt; bytes.as_slice(), written),
-                    Err(error) => {
-                        assert_eq!(rt; error, PutError::Memory);
-                        refused = refused.saturating_add(1);
-                    }
-                }
-            }
+            let is_refused = is_payload_refused(&rt, payload, written);
+            refused = refused.saturating_add(u8::from(is_refused));
         }
     }
-    assert!(rt; refused < 2);
+    expect!(rt; refused < 2);
+}
+
+// How often an item of another version was refused memory, which is made, copied and put.
+fn foreign_refusals(rt: &(impl Abort + AllocGlobal)) -> u8 {
+    let Ok(item) = foreign(rt.alloc(), 1, &FOREIGN) else {
+        return 1;
+    };
+    // A length takes no memory.
+    expect!(rt; !is_len_refused(rt, &item, 5));
+    let copied = u8::from(is_copy_refused(rt, &item));
+    let put = u8::from(is_put_refused(rt, &item, &FOREIGN));
+    drop(item);
+    copied.saturating_add(put)
 }
 
 #[test]
 fn refused_foreign_items(rt: HostRuntime) {
-    let alloc = rt.alloc();
-    let mut refused = 0u8;
-    for _turn in 0..2 {
-        let Ok(item) = foreign(alloc, 1, &FOREIGN) else {
-            refused = refused.saturating_add(1);
-            continue;
-        };
-        match item.copy(alloc) {
-            Ok(copy) => assert!(rt; copy == item),
-            Err(AllocError) => refused = refused.saturating_add(1),
-        }
-        if is_valid_item(&item) {
-            // A length takes no memory.
-            assert_eq!(rt; item_len(alloc, &item), Ok(5));
-            match put_item(alloc, &item) {
-                Ok(bytes) => assert_eq!(rt; bytes.as_slice(), FOREIGN.as_slice()),
-                Err(error) => {
-                    assert_eq!(rt; error, PutError::Memory);
-                    refused = refused.saturating_add(1);
-                }
-            }
-        }
+    let first = foreign_refusals(&rt);
+    let second = foreign_refusals(&rt);
+    expect!(rt; first.saturating_add(second) < 2);
+}
+
+fn append(rt: &impl Abort, name: &mut String, piece: &str, count: u32) {
+    for _piece in 0..count {
+        name.push_str(piece).expect(rt, "a name");
     }
-    assert!(rt; refused < 2);
+}
+
+fn name_of_the_most_bytes(rt: &(impl Abort + AllocGlobal)) -> String {
+    let mut piece = String::new(rt.alloc());
+    append(rt, &mut piece, "a", 4096);
+    let mut name = String::with_capacity(rt.alloc(), 67_108_852).expect(rt, "a name");
+    append(rt, &mut name, piece.as_str(), 16_383);
+    append(rt, &mut name, "a", 4084);
+    drop(piece);
+    name
 }
 
 // A name of 67,108,852 bytes leaves just room for the layer without its tag and length.
 #[test]
-fn writes_a_large_layer(rt: HostRuntime) -> Result<(), Fail> {
-    let alloc = rt.alloc();
-    let mut piece = String::new(alloc);
-    for _byte in 0..4096u32 {
-        piece.push('a')?;
-    }
-    let mut name = String::with_capacity(alloc, 67_108_852)?;
-    for _piece in 0..16_383u32 {
-        name.push_str(piece.as_str())?;
-    }
-    for _byte in 0..4084u32 {
-        name.push('a')?;
-    }
+fn writes_a_large_layer(rt: HostRuntime) {
     let item = Item::Layer(Layer {
-        name: Text::from_string(name)?,
+        name: Text::from_string(name_of_the_most_bytes(&rt)).expect(&rt, "a name"),
         extent: 4096,
-        features: Items::new(Vec::new(alloc)),
+        features: Items::new(Vec::new(rt.alloc())),
     });
-    assert!(rt; is_valid_item(&item));
-    if !is_valid_item(&item) {
-        return Err(Fail::new("an invalid item"));
-    }
-    assert_eq!(rt; item_len(alloc, &item), Ok(67_108_862));
-    let Ok(bytes) = put_item(alloc, &item) else {
-        return Err(Fail::new("no bytes"));
-    };
-    assert_eq!(rt; bytes.len(), 67_108_862);
-    assert_eq!(rt; bytes.first(), Some(&0x78));
-    assert_eq!(rt; bytes.last(), Some(&0x20));
-    Ok(())
+    expect!(rt; is_valid_item(&item));
+    expect_eq!(rt; item_len(rt.alloc(), &item), Ok(67_108_862));
+    let bytes = put_item(rt.alloc(), &item).expect(&rt, "bytes");
+    drop(item);
+    expect_eq!(rt; bytes.len(), 67_108_862);
+    expect_eq!(rt; bytes.first(), Some(&0x78));
+    expect_eq!(rt; bytes.last(), Some(&0x20));
+    drop(bytes);
 }

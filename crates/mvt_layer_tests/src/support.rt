@@ -4,6 +4,7 @@ use mvt_base::{Items, Text};
 use mvt_feature::Feature;
 use mvt_geometry::{Geometry, Point};
 use std::alloc::{AllocError, Global};
+use std::process::Abort;
 
 // More keys than are compared without memory.
 pub(crate) const KEYS: [&str; 17] = [
@@ -35,4 +36,9 @@ pub(crate) fn feature_with(alloc: Global, keys: &[&str]) -> Result<Feature, Allo
         attributes: Items::new(attributes),
         geometry: point(alloc, 25, 17)?,
     })
+}
+
+// The same with memory that isn't refused.
+pub(crate) fn made_with(rt: &(impl Abort + AllocGlobal), keys: &[&str]) -> Feature {
+    feature_with(rt.alloc(), keys).expect(rt, "a feature")
 }

@@ -1,9 +1,9 @@
 //! Attributes by their tags and back, and the pools.
+use crate::expect::{expect, expect_eq};
 use mvt_attrs::*;
 use mvt_base::Text;
 use std::alloc::{AllocError, Global};
 use std::process::Abort;
-use std::test::Fail;
 
 // A text that isn't kept in place, so that it wants memory.
 const LONG: &str = "a key that is long";
@@ -13,89 +13,138 @@ fn attribute(alloc: Global, key: &str, value: Value) -> Result<Attribute, AllocE
     Ok(Attribute { key, value })
 }
 
-// The fault of tags over the keys `k`, `m` and the value 5; where they are only judged, it is the same.
-fn fault_of(rt: &(impl Abort + AllocGlobal), tags: &[u32]) -> Result<Option<TagError>, AllocError> {
-    let alloc = rt.alloc();
-    let keys = [Text::from_str(alloc, "k")?, Text::from_str(alloc, "m")?];
-    let values = [Value::Uint(5)];
-    let judged = judge_tags(alloc, &mut LayerKeys::new(alloc, &keys), 1, tags).err();
-    let found = resolve(alloc, &keys, &values, tags).err();
-    assert!(rt; judged == found);
-    Ok(found)
+fn text(rt: &(impl Abort + AllocGlobal), text: &str) -> Text {
+    Text::from_str(rt.alloc(), text).expect(rt, "a text")
+}
+
+// The fault of tags over these keys and the value 5.
+fn fault_over(rt: &(impl Abort + AllocGlobal), keys: &[Text], tags: &[u32]) -> Option<TagError> {
+    resolve(rt.alloc(), keys, &[Value::Uint(5)], tags).err()
+}
+
+// The same where they are only judged.
+fn judged_over(rt: &(impl Abort + AllocGlobal), keys: &[Text], tags: &[u32]) -> Option<TagError> {
+    judge_tags(rt.alloc(), &mut LayerKeys::new(rt.alloc(), keys), 1, tags).err()
 }
 
 fn fault(index: usize, cause: TagCause) -> Option<TagError> {
     Some(TagError::Fault { index, cause })
 }
 
-#[test]
-fn resolves_tags(rt: HostRuntime) -> Result<(), Fail> {
-    let alloc = rt.alloc();
-    assert_eq!(rt; fault_of(&rt, &[0, 0, 0])?, fault(3, TagCause::OddTags));
-    assert_eq!(rt; fault_of(&rt, &[2, 0])?, fault(0, TagCause::KeyIndex));
-    assert_eq!(rt; fault_of(&rt, &[0, 1])?, fault(1, TagCause::ValueIndex));
-    assert_eq!(rt;
-        fault_of(&rt, &[0, 0, 1, 0, 0, 0])?,
-        fault(4, TagCause::RepeatedKey)
-    );
-    assert_eq!(rt; fault_of(&rt, &[0, 0, 1, 0])?, None);
-
-    let repeated = [Text::from_str(alloc, "k")?, Text::from_str(alloc, "k")?];
-    let values = [Value::Uint(5)];
-    let error = resolve(alloc, &repeated, &values, &[0, 0, 1, 0]).err();
-    assert_eq!(rt; error, fault(2, TagCause::RepeatedKey));
-
-    let expected = [attribute(alloc, "k", Value::Uint(5))?];
-    let Ok(found) = resolve(alloc, &repeated, &values, &[1, 0]) else {
-        return Err(Fail::new("no attribute"));
-    };
-    assert!(rt; found.as_slice() == expected.as_slice());
-    let Ok(none) = resolve(alloc, &[], &[], &[]) else {
-        return Err(Fail::new("no attributes"));
-    };
-    assert!(rt; none.is_empty());
-    Ok(())
+// Tags over the keys `k` and `m` have this fault; where they are only judged, it is the same.
+fn expect_fault(rt: &(impl Abort + AllocGlobal), tags: &[u32], expected: Option<TagError>) {
+    let keys = [text(rt, "k"), text(rt, "m")];
+    expect_eq!(rt; &fault_over(rt, &keys, tags), &expected);
+    expect_eq!(rt; &judged_over(rt, &keys, tags), &expected);
+    drop(keys);
 }
 
-// Twenty keys, the last of which is the first again; and features of one layer, one after the other.
 #[test]
-fn resolves_many_tags(rt: HostRuntime) -> Result<(), Fail> {
-    let alloc = rt.alloc();
+fn resolves_tags(rt: HostRuntime) {
+    expect_fault(&rt, &[0, 0, 0], fault(3, TagCause::OddTags));
+    expect_fault(&rt, &[2, 0], fault(0, TagCause::KeyIndex));
+    expect_fault(&rt, &[0, 1], fault(1, TagCause::ValueIndex));
+    expect_fault(&rt, &[0, 0, 1, 0, 0, 0], fault(4, TagCause::RepeatedKey));
+    expect_fault(&rt, &[0, 0, 1, 0], None);
+}
+
+// The attributes of tags over these keys and the value 5.
+fn expect_attributes(
+    rt: &(impl Abort + AllocGlobal),
+    keys: &[Text],
+    tags: &[u32],
+    expected: &[Attribute],
+) {
+    let found = resolve(rt.alloc(), keys, &[Value::Uint(5)], tags).expect(rt, "attributes");
+    expect!(rt; found.as_slice() == expected);
+    drop(found);
+}
+
+#[test]
+fn resolves_repeated_keys(rt: HostRuntime) {
+    let repeated = [text(&rt, "k"), text(&rt, "k")];
+    let found = fault_over(&rt, &repeated, &[0, 0, 1, 0]);
+    expect_eq!(rt; found, fault(2, TagCause::RepeatedKey));
+    let expected = [attribute(rt.alloc(), "k", Value::Uint(5)).expect(&rt, "an attribute")];
+    expect_attributes(&rt, &repeated, &[1, 0], &expected);
+    drop(expected);
+    drop(repeated);
+    let none = resolve(rt.alloc(), &[], &[], &[]).expect(&rt, "attributes");
+    expect!(rt; none.is_empty());
+    drop(none);
+}
+
+// Twenty keys, the last of which is the first again, and tags with each of them.
+fn twenty_keys(alloc: Global) -> Result<Vec<Text>, AllocError> {
     let mut keys = Vec::new(alloc);
-    let mut tags = Vec::new(alloc);
     for index in 0..20u32 {
         let number = index % 19;
         keys.push(Text::from_string(format!(in alloc; "{number}")?)?)?;
+    }
+    Ok(keys)
+}
+
+fn tags_of_twenty(alloc: Global) -> Result<Vec<u32>, AllocError> {
+    let mut tags = Vec::new(alloc);
+    for index in 0..20u32 {
         tags.extend_from_slice(&[index, 0])?;
     }
+    Ok(tags)
+}
+
+fn expect_nineteen(rt: &(impl Abort + AllocGlobal), keys: &[Text], tags: &[u32]) {
+    let found = resolve(rt.alloc(), keys, &[Value::Bool(true)], tags).expect(rt, "attributes");
+    expect_eq!(rt; found.len(), 19);
+    drop(found);
+}
+
+// Features of one layer, one after the other.
+fn expect_features(rt: &(impl Abort + AllocGlobal), keys: &[Text], tags: &[u32]) {
     let values = [Value::Bool(true)];
-    let error = resolve(alloc, &keys, &values, &tags).err();
-    assert_eq!(rt; error, fault(38, TagCause::RepeatedKey));
-    tags.truncate(38);
-    let Ok(found) = resolve(alloc, &keys, &values, &tags) else {
-        return Err(Fail::new("no attributes"));
-    };
-    assert_eq!(rt; found.len(), 19);
-    let mut layer = LayerKeys::new(alloc, &keys);
+    let mut layer = LayerKeys::new(rt.alloc(), keys);
     for _feature in 0..3 {
-        assert!(rt; resolve_in(alloc, &mut layer, &values, &tags).is_ok());
-        let twice = resolve_in(alloc, &mut layer, &values, &[19, 0, 0, 0]).err();
-        assert_eq!(rt; twice, fault(2, TagCause::RepeatedKey));
+        expect!(rt; resolve_in(rt.alloc(), &mut layer, &values, tags).is_ok());
+        let twice = resolve_in(rt.alloc(), &mut layer, &values, &[19, 0, 0, 0]).err();
+        expect_eq!(rt; twice, fault(2, TagCause::RepeatedKey));
     }
-    Ok(())
+    drop(layer);
 }
 
 #[test]
-fn places_keys(rt: HostRuntime) -> Result<(), Fail> {
+fn resolves_many_tags(rt: HostRuntime) {
+    let keys = twenty_keys(rt.alloc()).expect(&rt, "keys");
+    let mut tags = tags_of_twenty(rt.alloc()).expect(&rt, "tags");
+    let error = resolve(rt.alloc(), &keys, &[Value::Bool(true)], &tags).err();
+    expect_eq!(rt; error, fault(38, TagCause::RepeatedKey));
+    tags.truncate(38);
+    expect_nineteen(&rt, &keys, &tags);
+    expect_features(&rt, &keys, &tags);
+    drop(tags);
+    drop(keys);
+}
+
+// Where a key is placed.
+fn place_key(
+    rt: &(impl Abort + AllocGlobal),
+    keys: &mut KeyPool,
+    key: &str,
+) -> Result<u32, PoolError> {
+    let key = text(rt, key);
+    let place = keys.place(&key);
+    drop(key);
+    place
+}
+
+#[test]
+fn places_keys(rt: HostRuntime) {
     let mut keys = KeyPool::new(rt.alloc());
-    assert!(rt; keys.is_empty());
+    expect!(rt; keys.is_empty());
     for (key, place) in [("k", 0), ("m", 1), ("k", 0)] {
-        let key = Text::from_str(rt.alloc(), key)?;
-        assert_eq!(rt; keys.place(&key), Ok(place));
+        expect_eq!(rt; place_key(&rt, &mut keys, key), Ok(place));
     }
-    assert_eq!(rt; keys.len(), 2);
-    assert_eq!(rt; keys.get(1), Some("m"));
-    Ok(())
+    expect_eq!(rt; keys.len(), 2);
+    expect_eq!(rt; keys.get(1), Some("m"));
+    drop(keys);
 }
 
 #[test]
@@ -103,129 +152,253 @@ fn places_values(rt: HostRuntime) {
     let mut values = ValuePool::new(rt.alloc());
     let numbers = [Value::Int(5), Value::Uint(5), Value::Sint(5), Value::Int(5)];
     for (index, number) in numbers.iter().enumerate() {
-        assert_eq!(rt; values.place(number), Ok(index as u32 % 3));
+        expect_eq!(rt; values.place(number), Ok(index as u32 % 3));
     }
-    assert_eq!(rt; values.len(), 3);
-    assert!(rt; values.get(2) == Some(&Value::Sint(5)));
-    assert!(rt; values.get(3).is_none());
+    drop(numbers);
+    expect_eq!(rt; values.len(), 3);
+    expect!(rt; values.get(2) == Some(&Value::Sint(5)));
+    expect!(rt; values.get(3).is_none());
+    drop(values);
+}
+
+fn expect_copy(rt: &(impl Abort + AllocGlobal), value: &Value) {
+    let copy = value.copy(rt.alloc()).expect(rt, "a copy");
+    expect!(rt; copy == *value);
+    drop(copy);
 }
 
 #[test]
-fn copies_values(rt: HostRuntime) -> Result<(), Fail> {
-    for text in ["k", LONG] {
-        let value = Value::Text(Text::from_str(rt.alloc(), text)?);
-        assert!(rt; value.copy(rt.alloc())? == value);
+fn copies_values(rt: HostRuntime) {
+    for short_or_long in ["k", LONG] {
+        let value = Value::Text(text(&rt, short_or_long));
+        expect_copy(&rt, &value);
+        drop(value);
     }
-    Ok(())
+}
+
+// Of an attribute, and of none, over pools that may have its key and value.
+fn expect_tags(
+    rt: &(impl Abort + AllocGlobal),
+    attributes: &[Attribute],
+    keys: &mut KeyPool,
+    values: &mut ValuePool,
+    expected: &[u32],
+) {
+    let tags = tags_of(rt.alloc(), attributes, keys, values).expect(rt, "tags");
+    expect_eq!(rt; tags.as_slice(), expected);
+    drop(tags);
 }
 
 #[test]
-fn places_attributes(rt: HostRuntime) -> Result<(), Fail> {
-    let alloc = rt.alloc();
+fn places_attributes(rt: HostRuntime) {
     let attributes = [
-        attribute(alloc, "k", Value::Uint(5))?,
-        attribute(alloc, "k", Value::Int(5))?,
+        attribute(rt.alloc(), "k", Value::Uint(5)).expect(&rt, "an attribute"),
+        attribute(rt.alloc(), "k", Value::Int(5)).expect(&rt, "an attribute"),
     ];
-    let mut keys = KeyPool::new(alloc);
-    let mut values = ValuePool::new(alloc);
+    let mut keys = KeyPool::new(rt.alloc());
+    let mut values = ValuePool::new(rt.alloc());
     for (index, one) in attributes.chunks(1).enumerate() {
-        let tags = tags_of(alloc, one, &mut keys, &mut values)?;
-        assert_eq!(rt; tags.as_slice(), [0, index as u32].as_slice());
+        expect_tags(&rt, one, &mut keys, &mut values, &[0, index as u32]);
     }
-    assert!(rt; tags_of(alloc, &[], &mut keys, &mut values)?.is_empty());
-    assert_eq!(rt; keys.len() + values.len(), 3);
-    Ok(())
+    expect_tags(&rt, &[], &mut keys, &mut values, &[]);
+    expect_eq!(rt; keys.len() + values.len(), 3);
+    drop(values);
+    drop(keys);
+    drop(attributes);
+}
+
+// Where a number's decimal digits are placed.
+fn place_number(rt: &(impl Abort + AllocGlobal), keys: &mut KeyPool, number: u32) -> u32 {
+    let digits = format!(in rt.alloc(); "{number}").expect(rt, "digits");
+    let key = Text::from_string(digits).expect(rt, "a key");
+    let place = keys.place(&key);
+    drop(key);
+    place.expect(rt, "a place")
 }
 
 #[test]
-fn places_many_texts(rt: HostRuntime) -> Result<(), Fail> {
+fn places_many_texts(rt: HostRuntime) {
     let mut keys = KeyPool::new(rt.alloc());
     for _turn in 0..2 {
         for number in 0..10_000u32 {
-            let key = Text::from_string(format!(in rt.alloc(); "{number}")?)?;
-            assert_eq!(rt; keys.place(&key), Ok(number));
+            expect_eq!(rt; place_number(&rt, &mut keys, number), number);
         }
     }
-    assert_eq!(rt; keys.len(), 10_000);
-    Ok(())
+    expect_eq!(rt; keys.len(), 10_000);
+    drop(keys);
 }
 
 // The tests of refused growths pass too where one allocation, whichever, is refused: each call has
 // two turns, of which one at most may want memory.
+
+// How often a key was refused, which is then at this place.
+pub(crate) fn key_refusals(rt: &impl Abort, keys: &mut KeyPool, key: &Text, place: u32) -> u8 {
+    for refused in 0..2u8 {
+        if keys.place(key) == Ok(place) {
+            return refused;
+        }
+        expect_eq!(rt; keys.len(), place as usize);
+    }
+    2
+}
+
+fn refusals_of_keys(rt: &(impl Abort + AllocGlobal), first: &Text, second: &Text) -> u8 {
+    let mut keys = KeyPool::new(rt.alloc());
+    let refused_first = key_refusals(rt, &mut keys, first, 0);
+    let refused_second = key_refusals(rt, &mut keys, second, 1);
+    // A key that is there takes no memory.
+    expect_eq!(rt; keys.place(first), Ok(0));
+    expect_eq!(rt; keys.get(1), Some("m"));
+    drop(keys);
+    refused_first.saturating_add(refused_second)
+}
 
 #[test]
 fn refused_keys(rt: HostRuntime) {
     let mut refused = 0u8;
     for _turn in 0..2 {
         let first = Text::from_str(rt.alloc(), LONG);
-        let (Ok(first), Ok(second)) = (first, Text::from_str(rt.alloc(), "m")) else {
-            refused = refused.saturating_add(1);
-            continue;
-        };
-        let mut keys = KeyPool::new(rt.alloc());
-        for (key, place, before) in [(&first, 0, 0), (&second, 1, 1)] {
-            for _try in 0..2 {
-                if keys.place(key) == Ok(place) {
-                    break;
-                }
-                assert_eq!(rt; keys.len(), before);
-                refused = refused.saturating_add(1);
-            }
-        }
-        // A key that is there takes no memory.
-        assert_eq!(rt; keys.place(&first), Ok(0));
-        assert_eq!(rt; keys.get(1), Some("m"));
+        let second = Text::from_str(rt.alloc(), "m");
+        refused = refused.saturating_add(match (&first, &second) {
+            (Ok(first), Ok(second)) => refusals_of_keys(&rt, first, second),
+            _ => 1,
+        });
+        drop(second);
+        drop(first);
     }
-    assert!(rt; refused < 2);
+    expect!(rt; refused < 2);
+}
+
+// How often a value was refused, which is then at this place.
+pub(crate) fn value_refusals(
+    rt: &impl Abort,
+    values: &mut ValuePool,
+    value: &Value,
+    place: u32,
+) -> u8 {
+    for refused in 0..2u8 {
+        if values.place(value) == Ok(place) {
+            return refused;
+        }
+        expect_eq!(rt; values.len(), place as usize);
+    }
+    2
+}
+
+fn refusals_of_values(rt: &(impl Abort + AllocGlobal), first: &Value, second: &Value) -> u8 {
+    let mut values = ValuePool::new(rt.alloc());
+    let refused_first = value_refusals(rt, &mut values, first, 0);
+    let refused_second = value_refusals(rt, &mut values, second, 1);
+    // A value that is there takes no memory.
+    expect_eq!(rt; values.place(first), Ok(0));
+    expect!(rt; values.get(1) == Some(second));
+    drop(values);
+    refused_first.saturating_add(refused_second)
+}
+
+fn refused_text(rt: &(impl Abort + AllocGlobal)) -> u8 {
+    match Text::from_str(rt.alloc(), LONG) {
+        Ok(text) => {
+            let value = Value::Text(text);
+            let refused = refusals_of_values(rt, &Value::Int(5), &value);
+            drop(value);
+            refused
+        }
+        Err(AllocError) => 1,
+    }
 }
 
 #[test]
 fn refused_values(rt: HostRuntime) {
-    let mut refused = 0u8;
-    for _turn in 0..2 {
-        let Ok(text) = Text::from_str(rt.alloc(), LONG) else {
-            refused = refused.saturating_add(1);
-            continue;
-        };
-        let entries = [Value::Int(5), Value::Text(text)];
-        let mut values = ValuePool::new(rt.alloc());
-        for (place, value) in entries.iter().enumerate() {
-            for _try in 0..2 {
-                if values.place(value) == Ok(place as u32) {
-                    break;
-                }
-                assert_eq!(rt; values.len(), place);
-                refused = refused.saturating_add(1);
-            }
+    let first = refused_text(&rt);
+    let second = refused_text(&rt);
+    expect!(rt; first.saturating_add(second) < 2);
+}
+
+// What pools have that were refused to grow.
+fn expect_no_more(rt: &impl Abort, keys: &KeyPool, values: &ValuePool) {
+    expect!(rt; keys.is_empty() || keys.get(0) == Some(LONG));
+    expect!(rt; values.is_empty() || values.get(0) == Some(&Value::Uint(5)));
+}
+
+fn is_refused_into(
+    rt: &(impl Abort + AllocGlobal),
+    used: &[Attribute],
+    keys: &mut KeyPool,
+    values: &mut ValuePool,
+) -> bool {
+    match tags_of(rt.alloc(), used, keys, values) {
+        Ok(tags) => {
+            expect_eq!(rt; tags.as_slice(), [0, 0].as_slice());
+            drop(tags);
+            false
         }
-        // A value that is there takes no memory.
-        assert_eq!(rt; values.place(&entries[0]), Ok(0));
-        assert!(rt; values.get(1) == Some(&entries[1]));
+        Err(error) => {
+            expect_eq!(rt; error, PoolError::Memory);
+            expect_no_more(rt, keys, values);
+            true
+        }
     }
-    assert!(rt; refused < 2);
+}
+
+fn are_tags_refused(rt: &(impl Abort + AllocGlobal)) -> bool {
+    let Ok(used) = attribute(rt.alloc(), LONG, Value::Uint(5)) else {
+        return true;
+    };
+    let mut keys = KeyPool::new(rt.alloc());
+    let mut values = ValuePool::new(rt.alloc());
+    let used = [used];
+    let is_refused = is_refused_into(rt, &used, &mut keys, &mut values);
+    drop(used);
+    drop(values);
+    drop(keys);
+    is_refused
 }
 
 #[test]
 fn refused_tags(rt: HostRuntime) {
-    let mut refused = 0u8;
-    for _turn in 0..2 {
-        let Ok(used) = attribute(rt.alloc(), LONG, Value::Uint(5)) else {
-            refused = refused.saturating_add(1);
-            continue;
-        };
-        let mut keys = KeyPool::new(rt.alloc());
-        let mut values = ValuePool::new(rt.alloc());
-        match tags_of(rt.alloc(), &[used], &mut keys, &mut values) {
-            Ok(tags) => assert_eq!(rt; tags.as_slice(), [0, 0].as_slice()),
-            Err(error) => {
-                assert_eq!(rt; error, PoolError::Memory);
-                assert!(rt; keys.is_empty() || keys.get(0) == Some(LONG));
-                assert!(rt; values.is_empty() || values.get(0) == Some(&Value::Uint(5)));
-                refused = refused.saturating_add(1);
-            }
+    let first = are_tags_refused(&rt);
+    let second = are_tags_refused(&rt);
+    expect!(rt; !(first && second));
+}
+
+// Where tags have no fault, their attributes are all of this key and the value 5.
+fn expect_all(rt: &impl Abort, found: &[Attribute], key: Option<&Text>) {
+    for attribute in found {
+        expect!(rt; Some(&attribute.key) == key && attribute.value == Value::Uint(5));
+    }
+}
+
+// Whether tags over keys and the value 5 are refused memory; if not, they have this fault.
+fn is_refused_over(
+    rt: &(impl Abort + AllocGlobal),
+    keys: &[Text],
+    tags: &[u32],
+    answer: &Option<TagError>,
+) -> bool {
+    match resolve(rt.alloc(), keys, &[Value::Uint(5)], tags) {
+        Ok(found) => {
+            expect!(rt; answer.is_none() && found.len() == tags.len() / 2);
+            expect_all(rt, &found, keys.first());
+            drop(found);
+            false
+        }
+        Err(TagError::Memory) => true,
+        Err(error) => {
+            expect_eq!(rt; &Some(error), answer);
+            false
         }
     }
-    assert!(rt; refused < 2);
+}
+
+fn is_refused(rt: &(impl Abort + AllocGlobal), tags: &[u32], answer: &Option<TagError>) -> bool {
+    let Ok(key) = Text::from_str(rt.alloc(), LONG) else {
+        return true;
+    };
+    let keys = [key];
+    let is_refused = is_refused_over(rt, &keys, tags, answer);
+    drop(keys);
+    is_refused
 }
 
 #[test]
@@ -238,46 +411,52 @@ fn refused_attributes(rt: HostRuntime) {
         (&[], None),
     ];
     let mut refused = 0u8;
-    for (tags, answer) in rows {
+    for (tags, answer) in &rows {
         for _turn in 0..2 {
-            let Ok(key) = Text::from_str(rt.alloc(), LONG) else {
-                refused = refused.saturating_add(1);
-                continue;
-            };
-            let (keys, values) = ([key], [Value::Uint(5)]);
-            match resolve(rt.alloc(), &keys, &values, tags) {
-                Ok(found) => {
-                    assert!(rt; answer.is_none() && found.len() == tags.len() / 2);
-                    assert!(rt;
-                        found
-                            .iter()
-                            .all(|a| a.key == keys[0] && a.value == values[0])
-                    );
-                }
-                Err(TagError::Memory) => refused = refused.saturating_add(1),
-                error => assert!(rt; error.err() == answer),
-            }
+            refused = refused.saturating_add(u8::from(is_refused(&rt, tags, answer)));
         }
     }
-    assert!(rt; refused < 2);
+    expect!(rt; refused < 2);
+}
+
+fn is_repeated_key_refused(rt: &(impl Abort + AllocGlobal)) -> bool {
+    let first = Text::from_str(rt.alloc(), LONG);
+    let (Ok(first), Ok(second)) = (first, Text::from_str(rt.alloc(), LONG)) else {
+        return true;
+    };
+    let keys = [first, second];
+    let repeated = fault(2, TagCause::RepeatedKey);
+    let is_refused = is_refused_over(rt, &keys, &[0, 0, 1, 0], &repeated);
+    drop(keys);
+    is_refused
 }
 
 #[test]
 fn refused_repeated_keys(rt: HostRuntime) {
-    let mut refused = 0u8;
-    for _turn in 0..2 {
-        let first = Text::from_str(rt.alloc(), LONG);
-        let (Ok(first), Ok(second)) = (first, Text::from_str(rt.alloc(), LONG)) else {
-            refused = refused.saturating_add(1);
-            continue;
-        };
-        let (keys, values) = ([first, second], [Value::Uint(5)]);
-        match resolve(rt.alloc(), &keys, &values, &[0, 0, 1, 0]).err() {
-            Some(TagError::Memory) => refused = refused.saturating_add(1),
-            error => assert_eq!(rt; error, fault(2, TagCause::RepeatedKey)),
+    let first = is_repeated_key_refused(&rt);
+    let second = is_repeated_key_refused(&rt);
+    expect!(rt; !(first && second));
+}
+
+fn is_copy_refused(rt: &(impl Abort + AllocGlobal), value: &Value) -> bool {
+    match value.copy(rt.alloc()) {
+        Ok(copy) => {
+            expect!(rt; copy == *value);
+            drop(copy);
+            false
         }
+        Err(AllocError) => true,
     }
-    assert!(rt; refused < 2);
+}
+
+fn is_text_refused(rt: &(impl Abort + AllocGlobal), text: &str) -> bool {
+    let Ok(text) = Text::from_str(rt.alloc(), text) else {
+        return true;
+    };
+    let value = Value::Text(text);
+    let is_refused = is_copy_refused(rt, &value);
+    drop(value);
+    is_refused
 }
 
 #[test]
@@ -285,16 +464,8 @@ fn refused_copies(rt: HostRuntime) {
     let mut refused = 0u8;
     for text in ["k", LONG] {
         for _turn in 0..2 {
-            let Ok(text) = Text::from_str(rt.alloc(), text) else {
-                refused = refused.saturating_add(1);
-                continue;
-            };
-            let value = Value::Text(text);
-            match value.copy(rt.alloc()) {
-                Ok(copy) => assert!(rt; copy == value),
-                Err(AllocError) => refused = refused.saturating_add(1),
-            }
+            refused = refused.saturating_add(u8::from(is_text_refused(&rt, text)));
         }
     }
-    assert!(rt; refused < 2);
+    expect!(rt; refused < 2);
 }

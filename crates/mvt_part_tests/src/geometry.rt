@@ -1,10 +1,12 @@
 //! Integers read and put back, their faults, areas and validity.
+ghost use Rattle.mvt_geometry.specs.Valid.{IsValid};
+
+use crate::expect::{expect, expect_eq};
 use mvt_base::Items;
 use mvt_geometry::*;
 use mvt_wire::{PackedNumbers, read_packed};
 use std::alloc::{AllocError, Global};
 use std::process::Abort;
-use std::test::Fail;
 
 // The integers of a polygon with two interior rings, the second of them flat.
 const HOLES: [u32; 29] = [
@@ -22,58 +24,95 @@ fn line(alloc: Global, points: &[(i32, i32)]) -> Result<Items<Point>, AllocError
     Ok(Items::new(line))
 }
 
-fn lines(alloc: Global, all: &[&[(i32, i32)]]) -> Result<Items<Items<Point>>, AllocError> {
-    let mut lines = Vec::new(alloc);
+fn drawn_points(rt: &(impl Abort + AllocGlobal), points: &[(i32, i32)]) -> Geometry {
+    Geometry::Points(line(rt.alloc(), points).expect(rt, "points"))
+}
+
+fn lines(rt: &(impl Abort + AllocGlobal), all: &[&[(i32, i32)]]) -> Items<Items<Point>> {
+    let mut lines = Vec::new(rt.alloc());
     for points in all {
-        lines.push(line(alloc, *points)?)?;
+        let line = line(rt.alloc(), *points).expect(rt, "a line");
+        lines.push(line).expect(rt, "a line");
     }
-    Ok(Items::new(lines))
+    Items::new(lines)
 }
 
 fn polygon(
-    alloc: Global,
+    rt: &(impl Abort + AllocGlobal),
     outer: &[(i32, i32)],
     rest: &[&[(i32, i32)]],
-) -> Result<Polygon, AllocError> {
-    let outer = line(alloc, outer)?;
-    let rest = lines(alloc, rest)?;
-    Ok(Polygon { outer, rest })
+) -> Polygon {
+    let rest = lines(rt, rest);
+    let outer = line(rt.alloc(), outer).expect(rt, "a ring");
+    Polygon { outer, rest }
 }
 
-// Whether the integers are read as the geometry, which is valid, is copied, and gives them back.
-fn round_trips(
-    alloc: Global,
+fn one_polygon(rt: &(impl Abort + AllocGlobal), polygon: Polygon) -> Geometry {
+    let mut polygons = Vec::new(rt.alloc());
+    polygons.push(polygon).expect(rt, "a polygon");
+    Geometry::Polygons(Items::new(polygons))
+}
+
+fn unknown(rt: &(impl Abort + AllocGlobal), integers: &[u32]) -> Geometry {
+    let integers = Vec::from_slice(rt.alloc(), integers).expect(rt, "integers");
+    Geometry::Unknown(Items::new(integers))
+}
+
+fn expect_put(rt: &(impl Abort + AllocGlobal), read: &Geometry, integers: &[u32])
+    requires { IsValid read.now }
+{
+    let put = put_geometry(rt.alloc(), read).expect(rt, "integers");
+    expect_eq!(rt; put.as_slice(), integers);
+    drop(put);
+}
+
+fn expect_appended(rt: &(impl Abort + AllocGlobal), read: &Geometry, integers: &[u32])
+    requires { IsValid read.now }
+{
+    let mut appended = Vec::from_slice(rt.alloc(), &[7]).expect(rt, "a list");
+    append_geometry(read, &mut appended).expect(rt, "integers");
+    expect_eq!(rt; appended.split_first(), Some((&7, integers)));
+    drop(appended);
+}
+
+fn expect_packed(rt: &(impl Abort + AllocGlobal), read: &Geometry, integers: &[u32])
+    requires { IsValid read.now }
+{
+    let mut packed = PackedNumbers::new(rt.alloc());
+    append_geometry(read, &mut packed).expect(rt, "integers");
+    let unpacked = read_packed(rt.alloc(), packed.as_bytes()).expect(rt, "integers");
+    expect_eq!(rt; unpacked.as_slice(), integers);
+    drop(unpacked);
+    drop(packed);
+}
+
+fn expect_copy(rt: &(impl Abort + AllocGlobal), read: &Geometry) {
+    let copy = read.copy(rt.alloc()).expect(rt, "a copy");
+    expect!(rt; copy == *read);
+    drop(copy);
+}
+
+// The integers are read as the geometry, which is valid, is copied, and gives them back.
+fn expect_round_trip(
+    rt: &(impl Abort + AllocGlobal),
     kind: Kind,
     integers: &[u32],
     expected: Geometry,
-) -> Result<bool, AllocError> {
-    let Ok(read) = read_geometry(alloc, kind, integers) else {
-        return Ok(false);
-    };
-    let put = put_geometry(alloc, &read)?;
-    let mut appended = Vec::from_slice(alloc, &[7])?;
-    append_geometry(&read, &mut appended)?;
-    let mut packed = PackedNumbers::new(alloc);
-    append_geometry(&read, &mut packed)?;
-    let Ok(unpacked) = read_packed(alloc, packed.as_bytes()) else {
-        return Ok(false);
-    };
-    let copy = read.copy(alloc)?;
-    Ok(
-        read == expected
-            && copy == expected
-            && kind_of(&read) == kind
-            && is_valid_geometry(&expected)
-            && put.as_slice() == integers
-            && unpacked.as_slice() == integers
-            && appended.first() == Some(&7)
-            && appended.len() == 1 + integers.len(),
-    )
+) {
+    let read = read_geometry(rt.alloc(), kind, integers).expect(rt, "a geometry");
+    expect!(rt; read == expected);
+    expect!(rt; kind_of(&read) == kind);
+    expect!(rt; is_valid_geometry(&expected));
+    drop(expected);
+    expect_put(rt, &read, integers);
+    expect_appended(rt, &read, integers);
+    expect_packed(rt, &read, integers);
+    expect_copy(rt, &read);
+    drop(read);
 }
 
 #[test]
-fn reads_points(rt: HostRuntime) -> Result<(), Fail> {
-    let alloc = rt.alloc();
+fn reads_points(rt: HostRuntime) {
     let rows: [(&[u32], &[(i32, i32)]); 6] = [
         (&[9, 50, 34], &[(25, 17)]),
         (&[17, 10, 14, 3, 9], &[(5, 7), (3, 2)]),
@@ -89,20 +128,16 @@ fn reads_points(rt: HostRuntime) -> Result<(), Fail> {
         ),
     ];
     for (integers, points) in rows {
-        let expected = Geometry::Points(line(alloc, points)?);
-        assert!(rt; round_trips(alloc, Kind::Point, integers, expected)?);
+        expect_round_trip(&rt, Kind::Point, integers, drawn_points(&rt, points));
     }
     let integers = [7, 7, 4_294_967_295];
     for kept in [integers.as_slice(), &[]] {
-        let expected = Geometry::Unknown(Items::new(Vec::from_slice(alloc, kept)?));
-        assert!(rt; round_trips(alloc, Kind::Unknown, kept, expected)?);
+        expect_round_trip(&rt, Kind::Unknown, kept, unknown(&rt, kept));
     }
-    Ok(())
 }
 
 #[test]
-fn reads_lines(rt: HostRuntime) -> Result<(), Fail> {
-    let alloc = rt.alloc();
+fn reads_lines(rt: HostRuntime) {
     let rows: [(&[u32], &[&[(i32, i32)]]); 3] = [
         (
             &[9, 4, 4, 18, 0, 16, 16, 0],
@@ -118,15 +153,13 @@ fn reads_lines(rt: HostRuntime) -> Result<(), Fail> {
         ),
     ];
     for (integers, all) in rows {
-        let expected = Geometry::Lines(lines(alloc, all)?);
-        assert!(rt; round_trips(alloc, Kind::LineString, integers, expected)?);
+        let expected = Geometry::Lines(lines(&rt, all));
+        expect_round_trip(&rt, Kind::LineString, integers, expected);
     }
-    Ok(())
 }
 
 #[test]
-fn reads_polygons(rt: HostRuntime) -> Result<(), Fail> {
-    let alloc = rt.alloc();
+fn reads_polygons(rt: HostRuntime) {
     let rows: [(&[u32], &[(i32, i32)], &[&[(i32, i32)]]); 4] = [
         (
             &[9, 6, 12, 18, 10, 12, 24, 44, 15],
@@ -150,15 +183,21 @@ fn reads_polygons(rt: HostRuntime) -> Result<(), Fail> {
         ),
     ];
     for (integers, outer, rest) in rows {
-        let polygons = vec![in alloc; polygon(alloc, outer, rest)?]?;
-        let expected = Geometry::Polygons(Items::new(polygons));
-        assert!(rt; round_trips(alloc, Kind::Polygon, integers, expected)?);
+        let expected = one_polygon(&rt, polygon(&rt, outer, rest));
+        expect_round_trip(&rt, Kind::Polygon, integers, expected);
     }
-    let first = polygon(alloc, &[(0, 0), (2, 0), (0, 2)], &[])?;
-    let second = polygon(alloc, &[(5, 5), (7, 5), (5, 7)], &[])?;
-    let expected = Geometry::Polygons(Items::new(vec![in alloc; first, second]?));
-    assert!(rt; round_trips(alloc, Kind::Polygon, &TWO_POLYGONS, expected)?);
-    Ok(())
+}
+
+#[test]
+fn reads_two_polygons(rt: HostRuntime) {
+    let mut polygons = Vec::new(rt.alloc());
+    for outer in [&[(0, 0), (2, 0), (0, 2)], &[(5, 5), (7, 5), (5, 7)]] {
+        polygons
+            .push(polygon(&rt, outer, &[]))
+            .expect(&rt, "a polygon");
+    }
+    let expected = Geometry::Polygons(Items::new(polygons));
+    expect_round_trip(&rt, Kind::Polygon, &TWO_POLYGONS, expected);
 }
 
 // Lists with the place and the cause of their faults.
@@ -218,7 +257,7 @@ fn expect_faults(rt: &(impl Abort + AllocGlobal)) {
     ];
     for (kind, integers, index, cause) in rows {
         let error = read_geometry(rt.alloc(), kind, integers).err();
-        assert_eq!(rt; error, Some(GeometryError::Fault { index, cause }));
+        expect_eq!(rt; error, Some(GeometryError::Fault { index, cause }));
     }
 }
 
@@ -227,9 +266,19 @@ fn tells_faults(rt: HostRuntime) {
     expect_faults(&rt);
 }
 
+fn expect_area(rt: &(impl Abort + AllocGlobal), points: &[(i32, i32)], twice: i128) {
+    let line = line(rt.alloc(), points).expect(rt, "a line");
+    expect_eq!(rt; twice_area(line.as_slice()), twice);
+    drop(line);
+}
+
+fn expect_invalid(rt: &impl Abort, geometry: Geometry) {
+    expect!(rt; !is_valid_geometry(&geometry));
+    drop(geometry);
+}
+
 #[test]
-fn measures_and_judges(rt: HostRuntime) -> Result<(), Fail> {
-    let alloc = rt.alloc();
+fn measures_and_judges(rt: HostRuntime) {
     let rows: [(&[(i32, i32)], i128); 10] = [
         (&[], 0),
         (&[(3, 6), (8, 12), (20, 34)], 38),
@@ -243,15 +292,13 @@ fn measures_and_judges(rt: HostRuntime) -> Result<(), Fail> {
         (&[(0, 0), (1, 0), (0, 0)], 0),
     ];
     for (points, twice) in rows {
-        assert_eq!(rt; twice_area(line(alloc, points)?.as_slice()), twice);
+        expect_area(&rt, points, twice);
     }
     let far: [&[(i32, i32)]; 3] = [&[(2_147_483_647, 0), (-1, 0)], &[(-2_147_483_648, 0)], &[]];
     for points in far {
-        assert!(rt; !is_valid_geometry(&Geometry::Points(line(alloc, points)?)));
+        expect_invalid(&rt, drawn_points(&rt, points));
     }
-    let still = Geometry::Lines(lines(alloc, &[&[(1, 1), (1, 1)]])?);
-    assert!(rt; !is_valid_geometry(&still));
-    Ok(())
+    expect_invalid(&rt, Geometry::Lines(lines(&rt, &[&[(1, 1), (1, 1)]])));
 }
 
 // The tests of refused growths pass too where one allocation, whichever, is refused: each call has
@@ -272,31 +319,72 @@ const DRAWN: [(Kind, &[u32]); 9] = [
     (Kind::Unknown, &[1, 2, 3]),
 ];
 
+// Whether a list is refused memory; if not, it is read as what is valid, of this kind.
+fn is_read_refused(rt: &(impl Abort + AllocGlobal), kind: Kind, integers: &[u32]) -> bool {
+    match read_geometry(rt.alloc(), kind, integers) {
+        Ok(read) => {
+            expect!(rt; kind_of(&read) == kind && is_valid_geometry(&read));
+            drop(read);
+            false
+        }
+        Err(error) => {
+            expect_eq!(rt; error, GeometryError::Memory);
+            true
+        }
+    }
+}
+
 #[test]
 fn refused_reads(rt: HostRuntime) {
     let mut refused = 0u8;
     for (kind, integers) in DRAWN {
         for _turn in 0..2 {
-            match read_geometry(rt.alloc(), kind, integers) {
-                Ok(read) => assert!(rt; kind_of(&read) == kind && is_valid_geometry(&read)),
-                Err(error) => {
-                    assert_eq!(rt; error, GeometryError::Memory);
-                    refused = refused.saturating_add(1);
-                }
-            }
+            refused = refused.saturating_add(u8::from(is_read_refused(&rt, kind, integers)));
         }
     }
-    assert!(rt; refused < 2);
+    expect!(rt; refused < 2);
 }
 
 #[test]
 fn refused_faults(rt: HostRuntime) {
     expect_faults(&rt);
     // None of those lists asks for memory: the first that is refused is asked for here.
-    match read_geometry(rt.alloc(), Kind::Polygon, &HOLES) {
-        Ok(read) => assert!(rt; kind_of(&read) == Kind::Polygon),
-        Err(error) => assert_eq!(rt; error, GeometryError::Memory),
+    is_read_refused(&rt, Kind::Polygon, &HOLES);
+}
+
+fn is_put_refused(rt: &(impl Abort + AllocGlobal), read: &Geometry, integers: &[u32]) -> bool
+    requires { IsValid read.now }
+{
+    match put_geometry(rt.alloc(), read) {
+        Ok(put) => {
+            expect_eq!(rt; put.as_slice(), integers);
+            drop(put);
+            false
+        }
+        Err(AllocError) => true,
     }
+}
+
+fn is_copy_refused(rt: &(impl Abort + AllocGlobal), read: &Geometry) -> bool {
+    match read.copy(rt.alloc()) {
+        Ok(copy) => {
+            expect!(rt; copy == *read);
+            drop(copy);
+            false
+        }
+        Err(AllocError) => true,
+    }
+}
+
+// How often a geometry was refused memory, which is read, put and copied.
+fn refusals(rt: &(impl Abort + AllocGlobal), kind: Kind, integers: &[u32]) -> u8 {
+    let Ok(read) = read_geometry(rt.alloc(), kind, integers) else {
+        return 1;
+    };
+    let put = u8::from(is_put_refused(rt, &read, integers));
+    let copied = u8::from(is_copy_refused(rt, &read));
+    drop(read);
+    put.saturating_add(copied)
 }
 
 #[test]
@@ -304,40 +392,30 @@ fn refused_puts_and_copies(rt: HostRuntime) {
     let mut refused = 0u8;
     for (kind, integers) in DRAWN {
         for _turn in 0..2 {
-            let Ok(read) = read_geometry(rt.alloc(), kind, integers) else {
-                refused = refused.saturating_add(1);
-                continue;
-            };
-            match put_geometry(rt.alloc(), &read) {
-                Ok(put) => assert!(rt; put.as_slice() == integers),
-                Err(AllocError) => refused = refused.saturating_add(1),
-            }
-            match read.copy(rt.alloc()) {
-                Ok(copy) => assert!(rt; copy == read),
-                Err(AllocError) => refused = refused.saturating_add(1),
-            }
+            refused = refused.saturating_add(refusals(&rt, kind, integers));
         }
     }
-    assert!(rt; refused < 2);
+    expect!(rt; refused < 2);
+}
+
+fn expect_bound(rt: &impl Abort, geometry: Geometry, bound: u8) {
+    let bound = u64::from(bound);
+    expect_eq!(rt; room_behind_geometry(&geometry, bound + 1), Some(1));
+    expect_eq!(rt; room_behind_geometry(&geometry, bound.saturating_sub(1)), None);
+    drop(geometry);
 }
 
 // Five bytes an integer: a MoveTo, a LineTo and a ClosePath for each line, and two integers a point.
 #[test]
-fn bounds(rt: HostRuntime) -> Result<(), Fail> {
-    let alloc = rt.alloc();
-    let unknown = Geometry::Unknown(Items::new(Vec::from_slice(alloc, &[9, 0, 0])?));
-    let points = Geometry::Points(line(alloc, &[(1, 1), (2, 2)])?);
-    let two = Geometry::Lines(lines(alloc, &[&[(1, 1), (2, 2)], &[(3, 3), (4, 4), (5, 5)]])?);
-    let mut polygons = Vec::new(alloc);
-    polygons.push(polygon(
-        alloc,
+fn bounds(rt: HostRuntime) {
+    expect_bound(&rt, unknown(&rt, &[9, 0, 0]), 15);
+    expect_bound(&rt, drawn_points(&rt, &[(1, 1), (2, 2)]), 25);
+    let two = lines(&rt, &[&[(1, 1), (2, 2)], &[(3, 3), (4, 4), (5, 5)]]);
+    expect_bound(&rt, Geometry::Lines(two), 80);
+    let holed = polygon(
+        &rt,
         &[(0, 0), (9, 0), (9, 9)],
         &[&[(1, 1), (1, 2), (2, 2), (2, 1)]],
-    )?)?;
-    let polygons = Geometry::Polygons(Items::new(polygons));
-    for (geometry, bound) in [(&unknown, 15), (&points, 25), (&two, 80), (&polygons, 100)] {
-        assert_eq!(rt; room_behind_geometry(geometry, bound + 1), Some(1));
-        assert_eq!(rt; room_behind_geometry(geometry, bound - 1), None);
-    }
-    Ok(())
+    );
+    expect_bound(&rt, one_polygon(&rt, holed), 100);
 }

@@ -1,9 +1,10 @@
 //! The devices, the hosts and the transfers on one small tile.
+use crate::expect::{expect, expect_eq};
 use mvt_io::*;
 use std::alloc::{AllocError, Global};
 use std::io;
 use std::io::{ErrorKind, Read, Write};
-use std::test::Fail;
+use std::process::Abort;
 
 // One layer with one point.
 const TILE: [u8; 19] = [
@@ -77,95 +78,158 @@ impl Write for Counting {
     }
 }
 
+// The bytes that a reader gives, which stops at its end or at a limit, and how often it was asked.
+fn expect_read(
+    rt: &(impl Abort + AllocGlobal),
+    step: usize,
+    limit: usize,
+    expected: Option<&[u8]>,
+    calls: u64,
+) {
+    let mut reader = tile_source(rt.alloc(), step, u64::MAX).expect(rt, "a reader");
+    let bytes = read_up_to(rt.alloc(), &mut reader, limit).expect(rt, "bytes");
+    expect_eq!(rt; Some(bytes.as_slice()), expected);
+    expect_eq!(rt; reader.calls(), calls);
+    drop(bytes);
+    drop(reader);
+}
+
 #[test]
-fn reads_whole(rt: HostRuntime) -> Result<(), Fail> {
+fn reads_whole(rt: HostRuntime) {
     for (step, calls) in [(1, 20), (7, 4), (65_536, 2)] {
-        let mut reader = tile_source(rt.alloc(), step, u64::MAX)?;
-        let bytes = read_up_to(rt.alloc(), &mut reader, 100)?;
-        assert_eq!(rt; bytes.as_slice(), TILE.as_slice());
-        assert_eq!(rt; reader.calls(), calls);
+        expect_read(&rt, step, 100, Some(TILE.as_slice()), calls);
     }
-    let mut reader = tile_source(rt.alloc(), 1, 5)?;
+    expect_read(&rt, 7, 10, TILE.get(..10), 2);
+}
+
+#[test]
+fn reads_until_a_failure(rt: HostRuntime) {
+    let mut reader = tile_source(rt.alloc(), 1, 5).expect(&rt, "a reader");
     let error = read_up_to(rt.alloc(), &mut reader, 100).err();
-    assert_eq!(rt; error, Some(ReadError::Read(ErrorKind::Other)));
-    assert_eq!(rt; reader.calls(), 6);
-    let mut reader = tile_source(rt.alloc(), 7, u64::MAX)?;
-    let front = read_up_to(rt.alloc(), &mut reader, 10)?;
-    assert_eq!(rt; Some(front.as_slice()), TILE.get(..10));
-    assert_eq!(rt; reader.calls(), 2);
-    Ok(())
+    expect_eq!(rt; error, Some(ReadError::Read(ErrorKind::Other)));
+    expect_eq!(rt; reader.calls(), 6);
+    drop(reader);
 }
 
 #[test]
-fn writes_whole(rt: HostRuntime) -> Result<(), Fail> {
-    let mut writer = MemorySink::new(rt.alloc(), 19, 1, u64::MAX, false)?;
-    assert_eq!(rt; write_all(&mut writer, &TILE), Ok(()));
-    assert_eq!(rt; writer.taken(), TILE.as_slice());
-    assert_eq!(rt; writer.calls(), 19);
-    assert_eq!(rt; writer.flushes(), 0);
+fn writes_whole(rt: HostRuntime) {
+    let mut writer = MemorySink::new(rt.alloc(), 19, 1, u64::MAX, false).expect(&rt, "a writer");
+    expect_eq!(rt; write_all(&mut writer, &TILE), Ok(()));
+    expect_eq!(rt; writer.taken(), TILE.as_slice());
+    expect_eq!(rt; writer.calls(), 19);
+    expect_eq!(rt; writer.flushes(), 0);
     // Its room is used up, which an empty piece doesn't mind.
-    assert_eq!(rt; writer.write(&[]), Ok(0));
-    assert_eq!(rt; writer.write(&[7]), Err(ErrorKind::Other));
-    assert_eq!(rt; writer.flush(), Ok(()));
-    assert_eq!(rt; writer.flushes(), 1);
+    expect_eq!(rt; writer.write(&[]), Ok(0));
+    expect_eq!(rt; writer.write(&[7]), Err(ErrorKind::Other));
+    expect_eq!(rt; writer.flush(), Ok(()));
+    expect_eq!(rt; writer.flushes(), 1);
+    drop(writer);
+}
 
-    let cases = [
-        (5, 19, u64::MAX, 5, ErrorKind::Other),
-        (19, 2, 3, 6, ErrorKind::Other),
-        (19, 0, u64::MAX, 0, ErrorKind::WriteZero),
-    ];
-    for (room, step, fails_from, count, kind) in cases {
-        let mut writer = MemorySink::new(rt.alloc(), room, step, fails_from, true)?;
-        assert_eq!(rt; write_all(&mut writer, &TILE), Err(kind));
-        assert_eq!(rt; Some(writer.taken()), TILE.get(..count));
-        assert_eq!(rt; writer.flush(), Err(ErrorKind::Other));
-        assert_eq!(rt; writer.flushes(), 1);
-    }
-    Ok(())
+// A writer of this room, which takes these many bytes at a time and fails from a write on, takes this
+// front of the tile, and fails to flush.
+fn expect_write_fails(
+    rt: &(impl Abort + AllocGlobal),
+    room: usize,
+    step: usize,
+    fails_from: u64,
+    front: Option<&[u8]>,
+    kind: ErrorKind,
+) {
+    let mut writer = MemorySink::new(rt.alloc(), room, step, fails_from, true).expect(
+        rt, "a writer",
+    );
+    expect_eq!(rt; write_all(&mut writer, &TILE), Err(kind));
+    expect_eq!(rt; Some(writer.taken()), front);
+    expect_eq!(rt; writer.flush(), Err(ErrorKind::Other));
+    expect_eq!(rt; writer.flushes(), 1);
+    drop(writer);
 }
 
 #[test]
-fn hosts_pass_on(rt: HostRuntime) -> Result<(), Fail> {
+fn writes_until_a_failure(rt: HostRuntime) {
+    expect_write_fails(&rt, 5, 19, u64::MAX, TILE.get(..5), ErrorKind::Other);
+    expect_write_fails(&rt, 19, 2, 3, TILE.get(..6), ErrorKind::Other);
+    expect_write_fails(&rt, 19, 0, u64::MAX, TILE.get(..0), ErrorKind::WriteZero);
+}
+
+#[test]
+fn hosts_pass_on(rt: HostRuntime) {
     let mut reader = Host::new(TILE.as_slice());
-    let bytes = read_up_to(rt.alloc(), &mut reader, 100)?;
-    assert_eq!(rt; bytes.as_slice(), TILE.as_slice());
+    let bytes = read_up_to(rt.alloc(), &mut reader, 100).expect(&rt, "bytes");
+    expect_eq!(rt; bytes.as_slice(), TILE.as_slice());
+    drop(bytes);
     let mut copy = Vec::new(rt.alloc());
     let mut writer = Host::new(&mut copy);
-    assert_eq!(rt; write_all(&mut writer, &TILE), Ok(()));
-    assert_eq!(rt; writer.flush(), Ok(()));
-    assert_eq!(rt; copy.as_slice(), TILE.as_slice());
+    expect_eq!(rt; write_all(&mut writer, &TILE), Ok(()));
+    expect_eq!(rt; writer.flush(), Ok(()));
+    expect_eq!(rt; copy.as_slice(), TILE.as_slice());
+    drop(copy);
+}
 
+#[test]
+fn hosts_pass_failures_on(rt: HostRuntime) {
     let mut gone = Host::new(Broken);
     let error = ReadError::Read(ErrorKind::ConnectionReset);
-    assert_eq!(rt; read_up_to(rt.alloc(), &mut gone, 100).err(), Some(error));
-    assert_eq!(rt; write_all(&mut gone, &TILE), Err(ErrorKind::BrokenPipe));
-    assert_eq!(rt; gone.flush(), Err(ErrorKind::StorageFull));
-    let text = format!(in rt.alloc(); "{error}, {}", ReadError::Memory)?;
-    assert_eq!(rt; text.as_str(), "read failed, out of memory");
-    Ok(())
+    expect_eq!(rt; read_up_to(rt.alloc(), &mut gone, 100).err(), Some(error));
+    expect_eq!(rt; write_all(&mut gone, &TILE), Err(ErrorKind::BrokenPipe));
+    expect_eq!(rt; gone.flush(), Err(ErrorKind::StorageFull));
+    let text = format!(in rt.alloc(); "{error}, {}", ReadError::Memory).expect(&rt, "a text");
+    expect_eq!(rt; text.as_str(), "read failed, out of memory");
+    drop(text);
 }
 
 // Every call reaches the inner device once, whole, and fails exactly where that one does.
 #[test]
-fn hosts_add_nothing(rt: HostRuntime) -> Result<(), Fail> {
+fn hosts_add_nothing(rt: HostRuntime) {
     let mut inner = Counting {
         writes: 0,
         bytes: 0,
         flushes: 0,
     };
     let mut writer = Host::new(&mut inner);
-    assert_eq!(rt; writer.write(&[7; 70_000]), Ok(70_000));
-    assert_eq!(rt; writer.flush(), Ok(()));
-    assert_eq!(rt; (inner.writes, inner.bytes, inner.flushes), (1, 70_000, 1));
+    expect_eq!(rt; writer.write(&[7; 70_000]), Ok(70_000));
+    expect_eq!(rt; writer.flush(), Ok(()));
+    expect_eq!(rt; (inner.writes, inner.bytes, inner.flushes), (1, 70_000, 1));
 
     let mut reader = Host::new(Faltering { reads: 0 });
     let mut buffer = [0; 4];
-    assert_eq!(rt; reader.read(&mut buffer), Ok(1));
-    assert_eq!(rt; reader.read(&mut buffer), Ok(1));
-    assert_eq!(rt; reader.read(&mut buffer), Err(ErrorKind::Interrupted));
-    assert_eq!(rt; reader.read(&mut buffer), Ok(1));
-    assert_eq!(rt; buffer, [4, 0, 0, 0]);
-    Ok(())
+    expect_eq!(rt; reader.read(&mut buffer), Ok(1));
+    expect_eq!(rt; reader.read(&mut buffer), Ok(1));
+    expect_eq!(rt; reader.read(&mut buffer), Err(ErrorKind::Interrupted));
+    expect_eq!(rt; reader.read(&mut buffer), Ok(1));
+    expect_eq!(rt; buffer, [4, 0, 0, 0]);
+}
+
+fn is_write_refused(rt: &(impl Abort + AllocGlobal)) -> bool {
+    match MemorySink::new(rt.alloc(), 19, 19, u64::MAX, false) {
+        Ok(mut writer) => {
+            expect_eq!(rt; write_all(&mut writer, &TILE), Ok(()));
+            expect_eq!(rt; writer.taken(), TILE.as_slice());
+            drop(writer);
+            false
+        }
+        Err(AllocError) => true,
+    }
+}
+
+fn is_read_refused(rt: &(impl Abort + AllocGlobal)) -> bool {
+    let Ok(mut reader) = tile_source(rt.alloc(), 7, u64::MAX) else {
+        return true;
+    };
+    let found = read_up_to(rt.alloc(), &mut reader, 100);
+    drop(reader);
+    match found {
+        Ok(bytes) => {
+            expect_eq!(rt; bytes.as_slice(), TILE.as_slice());
+            drop(bytes);
+            false
+        }
+        Err(error) => {
+            expect_eq!(rt; error, ReadError::Memory);
+            true
+        }
+    }
 }
 
 // Passes too where one allocation, whichever, is refused.
@@ -173,24 +237,8 @@ fn hosts_add_nothing(rt: HostRuntime) -> Result<(), Fail> {
 fn refused_growths(rt: HostRuntime) {
     let mut refused = 0u8;
     for _turn in 0..2 {
-        match MemorySink::new(rt.alloc(), 19, 19, u64::MAX, false) {
-            Ok(mut writer) => {
-                assert_eq!(rt; write_all(&mut writer, &TILE), Ok(()));
-                assert_eq!(rt; writer.taken(), TILE.as_slice());
-            }
-            Err(AllocError) => refused = refused.saturating_add(1),
-        }
-        let Ok(mut reader) = tile_source(rt.alloc(), 7, u64::MAX) else {
-            refused = refused.saturating_add(1);
-            continue;
-        };
-        match read_up_to(rt.alloc(), &mut reader, 100) {
-            Ok(bytes) => assert_eq!(rt; bytes.as_slice(), TILE.as_slice()),
-            Err(error) => {
-                assert_eq!(rt; error, ReadError::Memory);
-                refused = refused.saturating_add(1);
-            }
-        }
+        refused = refused.saturating_add(u8::from(is_write_refused(&rt)));
+        refused = refused.saturating_add(u8::from(is_read_refused(&rt)));
     }
-    assert!(rt; refused <= 1);
+    expect!(rt; refused <= 1);
 }

@@ -5,6 +5,8 @@
 #[cfg(test)]
 mod attrs;
 #[cfg(test)]
+mod expect;
+#[cfg(test)]
 mod geometry;
 #[cfg(test)]
 mod io;

@@ -1,10 +1,11 @@
 //! Pools of few, of more and of many entries.
+use crate::attrs::{key_refusals, value_refusals};
+use crate::expect::{expect, expect_eq};
 use mvt_attrs::*;
 use mvt_base::Text;
 use std::alloc::{AllocError, Global};
 use std::hash::{DefaultHasher, FoldHasher, Hash, Hasher};
 use std::process::Abort;
-use std::test::Fail;
 
 // More entries than are hashed.
 const LETTERS: [&str; 40] = [
@@ -16,24 +17,38 @@ const LETTERS: [&str; 40] = [
 // A front after which the kit's FoldHasher forgets 8 bytes, in a text of 48 bytes: see bench/hostile.cc.
 const FRONT: &str = "aaaaaaaa10000297\x13-.\x0ebG\x02b";
 
-fn hashes_alike(alloc: Global, number: u32) -> Result<Text, AllocError> {
+fn hashes_alike(rt: &(impl Abort + AllocGlobal), number: u32) -> Text {
     let number = u64::from(number) + 10_000_000;
-    Text::from_string(format!(in alloc; "{FRONT}{number}0123456789abcdef")?)
+    let text = format!(in rt.alloc(); "{FRONT}{number}0123456789abcdef").expect(rt, "a text");
+    Text::from_string(text).expect(rt, "a text")
+}
+
+// Where the key of this number is placed.
+fn place_key(rt: &(impl Abort + AllocGlobal), keys: &mut KeyPool, number: u32) -> u32 {
+    let key = hashes_alike(rt, number);
+    let place = keys.place(&key);
+    drop(key);
+    place.expect(rt, "a place")
+}
+
+// The key of this number stands at this place.
+fn expect_key(rt: &(impl Abort + AllocGlobal), keys: &KeyPool, place: u32, number: u32) {
+    let key = hashes_alike(rt, number);
+    expect_eq!(rt; keys.get(place), Some(key.as_str()));
+    drop(key);
 }
 
 #[test]
-fn places_keys_of_one_hash(rt: HostRuntime) -> Result<(), Fail> {
+fn places_keys_of_one_hash(rt: HostRuntime) {
     let mut keys = KeyPool::new(rt.alloc());
     for _turn in 0..2 {
         for number in 0..300u32 {
-            let key = hashes_alike(rt.alloc(), number)?;
-            assert_eq!(rt; keys.place(&key), Ok(number));
+            expect_eq!(rt; place_key(&rt, &mut keys, number), number);
         }
     }
-    assert_eq!(rt; keys.len(), 300);
-    let last = hashes_alike(rt.alloc(), 299)?;
-    assert_eq!(rt; keys.get(299), Some(last.as_str()));
-    Ok(())
+    expect_eq!(rt; keys.len(), 300);
+    expect_key(&rt, &keys, 299, 299);
+    drop(keys);
 }
 
 // The last 20 bits of a text's hash, which name its first slot.
@@ -54,90 +69,116 @@ fn second_end(text: &Text) -> u64 {
 // places that they get behind the letters.
 const MEETING: [(u32, u32); 3] = [(0, 40), (988, 41), (2_066, 42)];
 
+fn expect_meeting(rt: &(impl Abort + AllocGlobal), number: u32, last: &Text) {
+    let text = hashes_alike(rt, number);
+    expect_eq!(rt; first_end(&text), first_end(last));
+    expect_eq!(rt; second_end(&text) == second_end(last), number > 0);
+    drop(text);
+}
+
 #[test]
-fn slots_meet(rt: HostRuntime) -> Result<(), Fail> {
-    let last = hashes_alike(rt.alloc(), 2_066)?;
+fn slots_meet(rt: HostRuntime) {
+    let last = hashes_alike(&rt, 2_066);
     for (number, _) in MEETING {
-        let text = hashes_alike(rt.alloc(), number)?;
-        assert_eq!(rt; first_end(&text), first_end(&last));
-        assert_eq!(rt; second_end(&text) == second_end(&last), number > 0);
+        expect_meeting(&rt, number, &last);
     }
-    Ok(())
+    drop(last);
 }
 
-fn place_letters(alloc: Global, keys: &mut KeyPool) -> Result<(), PoolError> {
-    for letter in LETTERS {
-        keys.place(&Text::from_str(alloc, letter)?)?;
-    }
-    Ok(())
+fn place_letter(rt: &(impl Abort + AllocGlobal), keys: &mut KeyPool, letter: &str) {
+    let key = Text::from_str(rt.alloc(), letter).expect(rt, "a key");
+    let place = keys.place(&key);
+    drop(key);
+    expect!(rt; place.is_ok());
 }
 
 #[test]
-fn places_keys_that_meet_twice(rt: HostRuntime) -> Result<(), Fail> {
+fn places_keys_that_meet_twice(rt: HostRuntime) {
     let mut keys = KeyPool::new(rt.alloc());
-    place_letters(rt.alloc(), &mut keys)?;
+    for letter in LETTERS {
+        place_letter(&rt, &mut keys, letter);
+    }
     for _turn in 0..2 {
         for (number, place) in MEETING {
-            let key = hashes_alike(rt.alloc(), number)?;
-            assert_eq!(rt; keys.place(&key), Ok(place));
-            assert_eq!(rt; keys.get(place), Some(key.as_str()));
+            expect_eq!(rt; place_key(&rt, &mut keys, number), place);
+            expect_key(&rt, &keys, place, number);
         }
     }
-    Ok(())
+    drop(keys);
+}
+
+fn place_value(rt: &impl Abort, values: &mut ValuePool, value: Value) -> u32 {
+    let place = values.place(&value);
+    drop(value);
+    place.expect(rt, "a place")
 }
 
 #[test]
-fn places_many_values(rt: HostRuntime) -> Result<(), Fail> {
+fn places_many_values(rt: HostRuntime) {
     let mut values = ValuePool::new(rt.alloc());
     for _turn in 0..2 {
         for number in 0..1_000u32 {
             let uint = Value::Uint(u64::from(number));
-            let text = Value::Text(hashes_alike(rt.alloc(), number)?);
-            assert_eq!(rt; values.place(&uint), Ok(2 * number));
-            assert_eq!(rt; values.place(&text), Ok(2 * number + 1));
+            expect_eq!(rt; place_value(&rt, &mut values, uint), 2 * number);
+            let text = Value::Text(hashes_alike(&rt, number));
+            expect_eq!(rt; place_value(&rt, &mut values, text), 2 * number + 1);
         }
     }
-    assert_eq!(rt; values.len(), 2_000);
-    assert!(rt; values.get(1_998) == Some(&Value::Uint(999)));
-    Ok(())
+    expect_eq!(rt; values.len(), 2_000);
+    expect!(rt; values.get(1_998) == Some(&Value::Uint(999)));
+    drop(values);
 }
 
-// A guess is compared, whatever it is.
-#[test]
-fn guesses_are_compared(rt: HostRuntime) -> Result<(), Fail> {
-    let alloc = rt.alloc();
+fn letters(alloc: Global) -> Result<Vec<Attribute>, AllocError> {
     let mut attributes = Vec::new(alloc);
     for (letter, number) in [("a", 1), ("b", 2)] {
         let key = Text::from_str(alloc, letter)?;
         let value = Value::Uint(number);
         attributes.push(Attribute { key, value })?;
     }
-    let mut keys = KeyPool::new(alloc);
-    let mut values = ValuePool::new(alloc);
+    Ok(attributes)
+}
+
+// The tags of these attributes, whatever is guessed.
+fn expect_tags(
+    rt: &(impl Abort + AllocGlobal),
+    attributes: &[Attribute],
+    keys: &mut KeyPool,
+    values: &mut ValuePool,
+    last: &[u32],
+) {
+    let mut tags = Vec::new(rt.alloc());
+    let done = append_tags(attributes, keys, values, last, &mut tags);
+    expect!(rt; done.is_ok());
+    expect_eq!(rt; tags.as_slice(), [0, 0, 1, 1].as_slice());
+    drop(tags);
+}
+
+// A guess is compared, whatever it is.
+#[test]
+fn guesses_are_compared(rt: HostRuntime) {
+    let attributes = letters(rt.alloc()).expect(&rt, "attributes");
+    let mut keys = KeyPool::new(rt.alloc());
+    let mut values = ValuePool::new(rt.alloc());
     let guesses: [&[u32]; 5] = [&[], &[0, 0, 1, 1], &[1, 1, 0, 0], &[7], &[0, 1, 2, 3, 4]];
     for last in guesses {
-        let mut tags = Vec::new(alloc);
-        append_tags(&attributes, &mut keys, &mut values, last, &mut tags)?;
-        assert_eq!(rt; tags.as_slice(), [0, 0, 1, 1].as_slice());
+        expect_tags(&rt, &attributes, &mut keys, &mut values, last);
     }
-    assert_eq!(rt; keys.len() + values.len(), 4);
-    Ok(())
+    expect_eq!(rt; keys.len() + values.len(), 4);
+    drop(values);
+    drop(keys);
+    drop(attributes);
 }
 
 // Places each letter as a key. Answers how many growths were refused.
-fn refused_letters(rt: &(impl Abort + AllocGlobal), keys: &mut KeyPool) -> u32 {
-    let mut refused = 0u32;
+fn refused_letters(rt: &(impl Abort + AllocGlobal), keys: &mut KeyPool) -> u8 {
+    let mut refused = 0u8;
     for (index, letter) in LETTERS.iter().enumerate() {
         let Ok(key) = Text::from_str(rt.alloc(), letter) else {
             return 9;
         };
-        for _try in 0..2 {
-            if keys.place(&key) == Ok(index as u32) {
-                break;
-            }
-            assert_eq!(rt; keys.len(), index);
-            refused = refused.saturating_add(1);
-        }
+        refused = refused.saturating_add(key_refusals(rt, keys, &key, index as u32));
+        drop(key);
     }
     refused
 }
@@ -146,31 +187,28 @@ fn refused_letters(rt: &(impl Abort + AllocGlobal), keys: &mut KeyPool) -> u32 {
 fn refused_forms_of_keys(rt: HostRuntime) {
     let mut keys = KeyPool::new(rt.alloc());
     let refused = refused_letters(&rt, &mut keys);
-    assert_eq!(rt; keys.len(), 40);
+    expect_eq!(rt; keys.len(), 40);
     for (index, letter) in LETTERS.iter().enumerate() {
-        assert_eq!(rt; keys.get(index as u32), Some(*letter));
+        expect_eq!(rt; keys.get(index as u32), Some(*letter));
     }
     // Keys that are there take no memory.
-    assert_eq!(rt; refused_letters(&rt, &mut keys), 0);
-    assert!(rt; refused < 2);
+    expect_eq!(rt; refused_letters(&rt, &mut keys), 0);
+    expect!(rt; refused < 2);
+    drop(keys);
 }
 
 #[test]
 fn refused_forms_of_values(rt: HostRuntime) {
-    let mut refused = 0u32;
+    let mut refused = 0u8;
     let mut values = ValuePool::new(rt.alloc());
     for number in 0..40u32 {
         let value = Value::Sint(i64::from(number));
-        for _try in 0..2 {
-            if values.place(&value) == Ok(number) {
-                break;
-            }
-            assert_eq!(rt; values.len(), number as usize);
-            refused = refused.saturating_add(1);
-        }
+        refused = refused.saturating_add(value_refusals(&rt, &mut values, &value, number));
+        drop(value);
     }
     for number in 0..40u32 {
-        assert_eq!(rt; values.place(&Value::Sint(i64::from(number))), Ok(number));
+        expect_eq!(rt; place_value(&rt, &mut values, Value::Sint(i64::from(number))), number);
     }
-    assert!(rt; refused < 2);
+    expect!(rt; refused < 2);
+    drop(values);
 }

@@ -1,3 +1,6 @@
+ghost use Rattle.std.specs.Prelude.{◌≤◌, ◌<◌, ◌^◌};
+
+use crate::expect::{expect, expect_eq};
 use mvt_wire::{
     Field, Fields, NumberList, PackedError, PackedNumbers, Payload, Span, WireCause, WireFault,
     append_packed, field_len, field_span, next_field, packed_len, put_field, put_field_head,
@@ -5,6 +8,7 @@ use mvt_wire::{
     zigzag64,
 };
 use std::alloc::AllocError;
+use std::process::Abort;
 
 /// A layer with one point.
 const ONE_POINT: [u8; 19] = [
@@ -19,27 +23,27 @@ fn fault(at: usize, cause: WireCause) -> WireFault {
 #[test]
 fn varints(rt: HostRuntime) {
     let last = [0x80, 0x80, 0x80, 0x80, 0x80, 0x80, 0x80, 0x80, 0x80, 0x02];
-    assert_eq!(rt; read_varint(&last), Err(fault(0, WireCause::VarintRange)));
+    expect_eq!(rt; read_varint(&last), Err(fault(0, WireCause::VarintRange)));
     let most = [0xFF, 0xFF, 0xFF, 0xFF, 0xFF, 0xFF, 0xFF, 0xFF, 0xFF, 0x01];
-    assert_eq!(rt; read_varint(&most), Ok((18446744073709551615, 10)));
-    assert_eq!(rt; read_varint(&[0x80, 0x00]), Ok((0, 2)));
-    assert_eq!(rt; read_varint(&[]), Err(fault(0, WireCause::Truncated)));
-    assert_eq!(rt; read_varint(&[0x80, 0x20]), Ok((4096, 2)));
-    assert_eq!(rt;
+    expect_eq!(rt; read_varint(&most), Ok((18446744073709551615, 10)));
+    expect_eq!(rt; read_varint(&[0x80, 0x00]), Ok((0, 2)));
+    expect_eq!(rt; read_varint(&[]), Err(fault(0, WireCause::Truncated)));
+    expect_eq!(rt; read_varint(&[0x80, 0x20]), Ok((4096, 2)));
+    expect_eq!(rt;
         read_varint(&[0x80, 0x80, 0x80, 0x80, 0x08]),
         Ok((2147483648, 5))
     );
-    assert_eq!(rt;
+    expect_eq!(rt;
         read_varint(&[0xFA, 0xFF, 0xFF, 0xFF, 0x0F]),
         Ok((4294967290, 5))
     );
-    assert_eq!(rt;
+    expect_eq!(rt;
         read_varint(&[0x80, 0x80, 0x80, 0x80, 0x10]),
         Ok((4294967296, 5))
     );
-    assert_eq!(rt; read_varint(&[0xF4, 0xFF, 0xFF, 0x1F]), Ok((67108852, 4)));
-    assert_eq!(rt; read_varint(&[0xFB, 0xFF, 0xFF, 0x1F]), Ok((67108859, 4)));
-    assert_eq!(rt; read_varint(&[0xFC, 0xFF, 0xFF, 0x1F]), Ok((67108860, 4)));
+    expect_eq!(rt; read_varint(&[0xF4, 0xFF, 0xFF, 0x1F]), Ok((67108852, 4)));
+    expect_eq!(rt; read_varint(&[0xFB, 0xFF, 0xFF, 0x1F]), Ok((67108859, 4)));
+    expect_eq!(rt; read_varint(&[0xFC, 0xFF, 0xFF, 0x1F]), Ok((67108860, 4)));
 }
 
 #[test]
@@ -54,18 +58,18 @@ fn zigzag(rt: HostRuntime) {
         (-2147483648, 4294967295),
     ];
     for (number, code) in pairs {
-        assert_eq!(rt; zigzag32(number), code);
-        assert_eq!(rt; unzigzag32(code), number);
-        assert_eq!(rt; zigzag64(i64::from(number)), u64::from(code));
-        assert_eq!(rt; unzigzag64(u64::from(code)), i64::from(number));
+        expect_eq!(rt; zigzag32(number), code);
+        expect_eq!(rt; unzigzag32(code), number);
+        expect_eq!(rt; zigzag64(i64::from(number)), u64::from(code));
+        expect_eq!(rt; unzigzag64(u64::from(code)), i64::from(number));
     }
 }
 
 #[test]
 fn field_spans(rt: HostRuntime) {
-    assert_eq!(rt; field_span(&[]), Span::Unfinished);
-    assert_eq!(rt; field_span(&[0x1A]), Span::Unfinished);
-    assert_eq!(rt;
+    expect_eq!(rt; field_span(&[]), Span::Unfinished);
+    expect_eq!(rt; field_span(&[0x1A]), Span::Unfinished);
+    expect_eq!(rt;
         field_span(&[0x1B]),
         Span::Bad(fault(0, WireCause::WireType))
     );
@@ -73,7 +77,7 @@ fn field_spans(rt: HostRuntime) {
     for (i, byte) in ONE_POINT.iter().enumerate() {
         longer[i] = *byte;
     }
-    assert_eq!(rt; field_span(&longer), Span::Whole(19));
+    expect_eq!(rt; field_span(&longer), Span::Whole(19));
 }
 
 #[test]
@@ -92,12 +96,15 @@ fn fields(rt: HostRuntime) {
         payload: Payload::Varint(5),
     };
     let mut fields = Fields::new(&bytes);
-    assert_eq!(rt; fields.next(), Some(Ok(layer)));
-    assert_eq!(rt; fields.next(), Some(Ok(number)));
-    assert_eq!(rt; fields.next(), Some(Err(fault(7, WireCause::Truncated))));
-    assert_eq!(rt; fields.next(), None);
-    assert_eq!(rt; next_field(&bytes, 5), Ok(Some((number, 7))));
+    expect_eq!(rt; fields.next(), Some(Ok(layer)));
+    expect_eq!(rt; fields.next(), Some(Ok(number)));
+    expect_eq!(rt; fields.next(), Some(Err(fault(7, WireCause::Truncated))));
+    expect_eq!(rt; fields.next(), None);
+    expect_eq!(rt; next_field(&bytes, 5), Ok(Some((number, 7))));
+}
 
+#[test]
+fn fixed_fields(rt: HostRuntime) {
     let fixed = [
         0x0D, 0x01, 0x00, 0x00, 0x00, 0x09, 0x02, 0, 0, 0, 0, 0, 0, 0,
     ];
@@ -114,42 +121,41 @@ fn fields(rt: HostRuntime) {
         number: 1,
         payload: Payload::I64(2),
     };
-    assert_eq!(rt; fields.next(), Some(Ok(four)));
-    assert_eq!(rt; fields.next(), Some(Ok(eight)));
-    assert_eq!(rt; fields.next(), None);
-    assert_eq!(rt; next_field(&fixed, 14), Ok(None));
+    expect_eq!(rt; fields.next(), Some(Ok(four)));
+    expect_eq!(rt; fields.next(), Some(Ok(eight)));
+    expect_eq!(rt; fields.next(), None);
+    expect_eq!(rt; next_field(&fixed, 14), Ok(None));
 }
 
 #[test]
 fn wire_calls(rt: HostRuntime) {
-    let alloc = rt.alloc();
-    let mut out = Vec::new(alloc);
-    assert!(rt; put_varint(&mut out, 4096).is_ok());
-    assert!(rt; put_field(&mut out, 15, &Payload::Varint(2)).is_ok());
-    assert!(rt; put_packed(&mut out, 4, &[9, 50, 34]).is_ok());
-    assert!(rt; put_packed(&mut out, 4, &[]).is_ok());
+    let mut out = Vec::new(rt.alloc());
+    expect!(rt; put_varint(&mut out, 4096).is_ok());
+    expect!(rt; put_field(&mut out, 15, &Payload::Varint(2)).is_ok());
+    expect!(rt; put_packed(&mut out, 4, &[9, 50, 34]).is_ok());
+    expect!(rt; put_packed(&mut out, 4, &[]).is_ok());
     let want = [
         0x80, 0x20, 0x78, 0x02, 0x22, 0x03, 0x09, 0x32, 0x22, 0x22, 0x00,
     ];
-    assert_eq!(rt; out.as_slice(), want.as_slice());
-    assert_eq!(rt; packed_len(&[9, 50, 34]), 3);
-    assert_eq!(rt; field_len(4, 3), 5);
+    expect_eq!(rt; out.as_slice(), want.as_slice());
+    drop(out);
+    expect_eq!(rt; packed_len(&[9, 50, 34]), 3);
+    expect_eq!(rt; field_len(4, 3), 5);
+}
 
+fn packed_error(rt: &impl AllocGlobal, bytes: &[u8]) -> Option<PackedError> {
+    read_packed(rt.alloc(), bytes).err()
+}
+
+#[test]
+fn packed_numbers(rt: HostRuntime) {
     let large = [0x80, 0x80, 0x80, 0x80, 0x10];
-    assert_eq!(rt;
-        read_packed(alloc, &large).err(),
-        Some(PackedError::NumberRange)
-    );
-    assert_eq!(rt;
-        read_packed(alloc, &[0x80]).err(),
-        Some(PackedError::Truncated)
-    );
-    let Ok(mut numbers) = read_packed(alloc, &[0x09, 0x32, 0x22]) else {
-        assert!(rt; false);
-        return;
-    };
-    assert!(rt; append_packed(&[0x07], &mut numbers).is_ok());
-    assert_eq!(rt; numbers.as_slice(), [9, 50, 34, 7].as_slice());
+    expect_eq!(rt; packed_error(&rt, &large), Some(PackedError::NumberRange));
+    expect_eq!(rt; packed_error(&rt, &[0x80]), Some(PackedError::Truncated));
+    let mut numbers = read_packed(rt.alloc(), &[0x09, 0x32, 0x22]).expect(&rt, "numbers");
+    expect!(rt; append_packed(&[0x07], &mut numbers).is_ok());
+    expect_eq!(rt; numbers.as_slice(), [9, 50, 34, 7].as_slice());
+    drop(numbers);
 }
 
 fn push_all<N: NumberList>(numbers: &mut N) -> Result<(), AllocError> {
@@ -160,66 +166,88 @@ fn push_all<N: NumberList>(numbers: &mut N) -> Result<(), AllocError> {
 }
 
 #[test]
+fn numbers_being_listed(rt: HostRuntime) {
+    let mut listed = Vec::new(rt.alloc());
+    expect!(rt; push_all(&mut listed).is_ok());
+    expect_eq!(rt; listed.as_slice(), [9, 300, 4294967290].as_slice());
+    drop(listed);
+}
+
+#[test]
 fn numbers_being_packed(rt: HostRuntime) {
-    let alloc = rt.alloc();
-    let mut listed = Vec::new(alloc);
-    assert!(rt; push_all(&mut listed).is_ok());
-    assert_eq!(rt; listed.as_slice(), [9, 300, 4294967290].as_slice());
-
-    let mut packed = PackedNumbers::new(alloc);
-    assert!(rt; packed.reserve(3).is_ok());
-    assert!(rt; packed.push(7).is_ok());
+    let mut packed = PackedNumbers::new(rt.alloc());
+    expect!(rt; packed.reserve(3).is_ok());
+    expect!(rt; packed.push(7).is_ok());
     packed.clear();
-    assert!(rt; push_all(&mut packed).is_ok());
+    expect!(rt; push_all(&mut packed).is_ok());
     let want = [0x09, 0xAC, 0x02, 0xFA, 0xFF, 0xFF, 0xFF, 0x0F];
-    assert_eq!(rt; packed.as_bytes(), want.as_slice());
+    expect_eq!(rt; packed.as_bytes(), want.as_slice());
+    drop(packed);
+}
 
-    let mut out = Vec::new(alloc);
-    assert!(rt; put_field_head(&mut out, 4, 300).is_ok());
-    assert_eq!(rt; out.as_slice(), [0x22, 0xAC, 0x02].as_slice());
+#[test]
+fn field_heads(rt: HostRuntime) {
+    let mut out = Vec::new(rt.alloc());
+    expect!(rt; put_field_head(&mut out, 4, 300).is_ok());
+    expect_eq!(rt; out.as_slice(), [0x22, 0xAC, 0x02].as_slice());
+    drop(out);
 }
 
 // The tests of refused growths pass too where one allocation, whichever, is refused: each call has
 // two turns, of which one at most may want memory.
 
+// What was put, of which one growth may have been refused: then nothing was, and else these bytes.
+// Answers whether it was refused.
+fn is_put_refused(rt: &impl Abort, is_refused: bool, out: Vec<u8>, bytes: &[u8]) -> bool {
+    let expected: &[u8] = if is_refused { &[] } else { bytes };
+    expect_eq!(rt; out.as_slice(), expected);
+    drop(out);
+    is_refused
+}
+
 /// Each call with one growth refused: the vector is then as it was, and the next call succeeds.
 #[test]
 fn refused_put(rt: HostRuntime) {
-    let mut refusals = 0u32;
+    let mut refusals = 0u8;
     for _ in 0..2 {
         let mut out = Vec::new(rt.alloc());
-        if put_varint(&mut out, 4096).is_err() {
-            refusals = refusals.saturating_add(1);
-            assert_eq!(rt; out.len(), 0);
-        } else {
-            assert_eq!(rt; out.as_slice(), [0x80, 0x20].as_slice());
-        }
+        let is_refused = put_varint(&mut out, 4096).is_err();
+        let is_refused = is_put_refused(&rt, is_refused, out, &[0x80, 0x20]);
+        refusals = refusals.saturating_add(u8::from(is_refused));
     }
-    assert!(rt; refusals < 2);
+    expect!(rt; refusals < 2);
+}
+
+fn is_field_refused(
+    rt: &(impl Abort + AllocGlobal),
+    number: u32,
+    payload: &Payload,
+    len: usize,
+) -> bool
+    requires { (1 ≤ number) × (number < 2 ^ 29) }
+{
+    let mut out = Vec::new(rt.alloc());
+    let is_refused = put_field(&mut out, number, payload).is_err();
+    expect_eq!(rt; out.len(), if is_refused { 0 } else { len });
+    drop(out);
+    is_refused
 }
 
 #[test]
 fn refused_put_field(rt: HostRuntime) {
     let long = [0x61; 40];
-    let rows: [(u32, Payload, usize); 4] = [
-        (15, Payload::Varint(2), 2),
-        (4, Payload::Len(&long), 42),
-        (1, Payload::I64(2), 9),
-        (1, Payload::I32(1), 5),
-    ];
-    let mut refusals = 0u32;
-    for (number, payload, len) in rows {
-        for _ in 0..2 {
-            let mut out = Vec::new(rt.alloc());
-            if put_field(&mut out, number, &payload).is_err() {
-                refusals = refusals.saturating_add(1);
-                assert_eq!(rt; out.len(), 0);
-            } else {
-                assert_eq!(rt; out.len(), len);
-            }
+    let mut refusals = 0u8;
+    for _ in 0..2 {
+        for is_refused in [
+            is_field_refused(&rt, 15, &Payload::Varint(2), 2),
+            is_field_refused(&rt, 4, &Payload::Len(&long), 42),
+            is_field_refused(&rt, 1, &Payload::I64(2), 9),
+            is_field_refused(&rt, 1, &Payload::I32(1), 5),
+        ] {
+            refusals = refusals.saturating_add(u8::from(is_refused));
         }
     }
-    assert!(rt; refusals < 2);
+    expect!(rt; refusals < 2);
 }
 
 #[test]
@@ -234,57 +262,59 @@ fn refused_put_packed(rt: HostRuntime) {
             ],
         ),
     ];
-    let mut refusals = 0u32;
+    let mut refusals = 0u8;
     for (numbers, bytes) in rows {
         for _ in 0..2 {
             let mut out = Vec::new(rt.alloc());
-            if put_packed(&mut out, 4, numbers).is_err() {
-                refusals = refusals.saturating_add(1);
-                assert_eq!(rt; out.len(), 0);
-            } else {
-                assert_eq!(rt; out.as_slice(), bytes);
-            }
+            let is_refused = put_packed(&mut out, 4, numbers).is_err();
+            let is_refused = is_put_refused(&rt, is_refused, out, bytes);
+            refusals = refusals.saturating_add(u8::from(is_refused));
         }
     }
-    assert!(rt; refusals < 2);
+    expect!(rt; refusals < 2);
 }
 
 #[test]
 fn refused_packed_numbers(rt: HostRuntime) {
-    let mut refusals = 0u32;
+    let mut refusals = 0u8;
     for _ in 0..2 {
         let mut numbers = PackedNumbers::new(rt.alloc());
-        if numbers.push(300).is_err() {
-            refusals = refusals.saturating_add(1);
-            assert_eq!(rt; numbers.as_bytes().len(), 0);
-        } else {
-            assert_eq!(rt; numbers.as_bytes(), [0xAC, 0x02].as_slice());
-        }
+        let is_refused = numbers.push(300).is_err();
+        let expected: &[u8] = if is_refused { &[] } else { &[0xAC, 0x02] };
+        expect_eq!(rt; numbers.as_bytes(), expected);
+        drop(numbers);
+        refusals = refusals.saturating_add(u8::from(is_refused));
     }
-    assert!(rt; refusals < 2);
+    expect!(rt; refusals < 2);
+}
+
+// Forty numbers behind the three.
+fn is_append_refused(rt: &impl Abort, numbers: &mut Vec<u32>) -> bool {
+    let more = [0x07; 40];
+    let is_refused = append_packed(&more, numbers).is_err();
+    expect_eq!(rt; numbers.get(..3), Some([9, 50, 34].as_slice()));
+    expect_eq!(rt; numbers.len(), if is_refused { 3 } else { 43 });
+    is_refused
 }
 
 #[test]
 fn refused_read_packed(rt: HostRuntime) {
-    let mut refusals = 0u32;
+    let mut refusals = 0u8;
     for _ in 0..2 {
-        match read_packed(rt.alloc(), &[0x09, 0x32, 0x22]) {
+        let is_refused = match read_packed(rt.alloc(), &[0x09, 0x32, 0x22]) {
             Ok(mut numbers) => {
-                let more = [0x07; 40];
-                if append_packed(&more, &mut numbers).is_err() {
-                    refusals = refusals.saturating_add(1);
-                    assert_eq!(rt; numbers.as_slice(), [9, 50, 34].as_slice());
-                } else {
-                    assert_eq!(rt; numbers.len(), 43);
-                }
+                let is_refused = is_append_refused(&rt, &mut numbers);
+                drop(numbers);
+                is_refused
             }
             Err(error) => {
-                refusals = refusals.saturating_add(1);
-                assert_eq!(rt; error, PackedError::Memory);
+                expect_eq!(rt; error, PackedError::Memory);
+                true
             }
-        }
+        };
+        refusals = refusals.saturating_add(u8::from(is_refused));
     }
-    assert!(rt; refusals < 2);
+    expect!(rt; refusals < 2);
 }
 
 /// A fault, or want of memory where the list for the numbers was refused.
@@ -294,16 +324,16 @@ fn refused_read_packed_faults(rt: HostRuntime) {
         (&[0x80, 0x80, 0x80, 0x80, 0x10], PackedError::NumberRange),
         (&[0x80], PackedError::Truncated),
     ];
-    let mut refusals = 0u32;
+    let mut refusals = 0u8;
     for (bytes, fault) in rows {
         for _ in 0..2 {
-            match read_packed(rt.alloc(), bytes).err() {
+            match packed_error(&rt, bytes) {
                 Some(PackedError::Memory) => refusals = refusals.saturating_add(1),
-                error => assert_eq!(rt; error, Some(fault)),
+                error => expect_eq!(rt; error, Some(fault)),
             }
         }
     }
-    assert!(rt; refusals < 2);
+    expect!(rt; refusals < 2);
 }
 
 /// Numbers and their shortest spellings.
@@ -323,14 +353,19 @@ const SPELLED: [(u64, &[u8]); 10] = [
     ),
 ];
 
+fn expect_spelled(rt: &impl Abort, out: &mut Vec<u8>, number: u64, bytes: &[u8]) {
+    expect_eq!(rt; read_varint(bytes), Ok((number, bytes.len())));
+    expect_eq!(rt; varint_len(number), bytes.len());
+    out.clear();
+    expect!(rt; put_varint(out, number).is_ok());
+    expect_eq!(rt; out.as_slice(), bytes);
+}
+
 #[test]
 fn spellings(rt: HostRuntime) {
     let mut out = Vec::new(rt.alloc());
     for (number, bytes) in SPELLED {
-        assert_eq!(rt; read_varint(bytes), Ok((number, bytes.len())));
-        assert_eq!(rt; varint_len(number), bytes.len());
-        out.clear();
-        assert!(rt; put_varint(&mut out, number).is_ok());
-        assert_eq!(rt; out.as_slice(), bytes);
+        expect_spelled(&rt, &mut out, number, bytes);
     }
+    drop(out);
 }

@@ -2,37 +2,70 @@
 
     >>> import mvt
     >>> tile = mvt.read(open("town.mvt", "rb").read())
-    >>> [(layer.name, len(layer.features)) for layer in tile.layers]
+    >>> tile["water"].features[0].attributes
+    {'name': 'Mill Pond', 'salt': False}
+    >>> [(layer.name, len(layer.features)) for layer in tile if layer.version == 2]
     [('places', 3), ('roads', 2), ('water', 2)]
 
-A tile that breaks a rule raises `Refused`, which tells the layer, the feature, the place and the cause of the first
-broken one. Each call takes the bytes of one uncompressed tile. Threads may call at the same time.
+A layer of another version than 2 is carried as bytes, and has no name. A tile that breaks a rule raises `Refused`, which
+tells the layer, the feature, the place and the cause of the first broken one. Each call takes the bytes of one
+uncompressed tile. Threads may call at the same time.
 """
 
-from ._calls import Buffer, MvtError, NoLayer, NoTile, Refused, TooLarge, extract, judge, report, rewrite, to_json, to_svg
-from ._tiles import Decoder, Feature, Foreign, Layer, Point, Rows, Tile, read, rows
+from typing import TYPE_CHECKING, Any
+
+from ._building import Builder
+from ._calls import Buffer, extract, judge, report, rewrite, to_json, to_svg
+from ._decoder import Decoder
+from ._errors import MvtError, NoLayer, NoTile, OutOfRange, Refused, TooLarge
+from ._library import FeatureRow, LayerRow, PartRow, PointRow, Span, ValueRow, version
+from ._rows import Rows, read, rows
+from ._tiles import Feature, Foreign, Kind, Layer, Point, Tile
 from ._values import Float, Int, Sint, Uint, Value
 from ._writing import write
 
+if TYPE_CHECKING:
+    import numpy
+
+__version__ = version()
+
+
+def dtype(name: str) -> "numpy.dtype[Any]":
+    """The type of numpy for the rows of a list, such as "points"."""
+    from ._arrays import dtype
+
+    return dtype(name)
+
+
 __all__ = [
     "Buffer",
+    "Builder",
     "Decoder",
     "Feature",
+    "FeatureRow",
     "Float",
     "Foreign",
     "Int",
+    "Kind",
     "Layer",
+    "LayerRow",
     "MvtError",
     "NoLayer",
     "NoTile",
+    "OutOfRange",
+    "PartRow",
     "Point",
+    "PointRow",
     "Refused",
     "Rows",
     "Sint",
+    "Span",
     "Tile",
     "TooLarge",
     "Uint",
     "Value",
+    "ValueRow",
+    "dtype",
     "extract",
     "judge",
     "read",

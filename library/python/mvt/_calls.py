@@ -1,75 +1,43 @@
-"""The calls that make bytes and texts, and what they raise."""
+"""The calls that make bytes and texts."""
 
 import ctypes
-from typing import Any, Callable, Iterable, Optional, Union
+from typing import Any, Callable, Dict, Iterable, List, Union
 
-from ._library import Bytes, FaultRow, library
+from ._errors import MvtError, NoLayer, NoTile, Refused, TooLarge
+from ._library import LISTS, Bytes, FaultRow, PlaceRow, TileRows, library
 
-REFUSED, NO_MEMORY, TOO_LARGE, NO_LAYER, BAD_NAME, NO_TILE, NO_DECODER = 1, 2, 3, 4, 5, 6, 7
+REFUSED, NO_MEMORY, TOO_LARGE, NO_LAYER, NO_TILE = 1, 2, 3, 4, 6
 
 # What holds the bytes of a tile.
 Buffer = Union[bytes, bytearray, memoryview]
 
 
-class MvtError(Exception):
-    """Why a call made nothing, but for want of memory, which is MemoryError."""
-
-
-class Refused(MvtError):
-    """The first rule that a tile breaks.
-
-    `layer` and `feature` are indices, or None for a fault outside a layer or a feature. `at` is an offset in the
-    tile, or an index in the tags or integers of the feature. `cause` is the cause's number and `name` its name.
-    """
-
-    def __init__(self, layer: Optional[int], feature: Optional[int], at: int, cause: int, name: str) -> None:
-        super().__init__(layer, feature, at, cause, name)
-        self.layer, self.feature, self.at, self.cause, self.name = layer, feature, at, cause, name
-
-    def __str__(self) -> str:
-        """The line that the program `mvt` prints."""
-        return f"layer {_index(self.layer)} feature {_index(self.feature)} at {self.at}: {self.cause} {self.name}"
-
-
-class TooLarge(MvtError):
-    """The result would be larger than 67,108,864 bytes."""
-
-
-class NoLayer(MvtError):
-    """A name that no layer of version 2 has."""
-
-
-class NoTile(MvtError):
-    """What was to be written is no valid tile."""
-
-
-def _index(index: Optional[int]) -> str:
-    return "-" if index is None else str(index)
-
-
-def refusal_of(fault: FaultRow) -> Refused:
-    """The fault as an exception."""
+def _refusal_of(fault: FaultRow, tile: bytes) -> Refused:
+    """The fault as an exception, with what the bytes that are at hand tell of its place."""
     layer = None if fault.layer < 0 else fault.layer
     feature = None if fault.feature < 0 else fault.feature
-    return Refused(layer, feature, fault.at, fault.cause, fault.name.copy().decode())
+    place = PlaceRow()
+    library.mvt_locate(tile, len(tile), ctypes.byref(fault), ctypes.byref(place))
+    layer_name = place.layer_name.copy().decode(errors="replace") if place.has_layer_name else None
+    feature_id = place.feature_id if place.has_feature_id else None
+    sentence = library.mvt_explain(tile, len(tile), ctypes.byref(fault)).decode()
+    return Refused(layer, feature, fault.at, fault.cause, fault.name.copy().decode(), sentence, layer_name, feature_id)
 
 
-def raise_for(status: int, fault: FaultRow) -> None:
-    """Raises what a status other than 0 means."""
+def raise_for(status: int, fault: FaultRow, tile: bytes = b"") -> None:
+    """Raises what a status other than 0 means. The bytes are those that the call took."""
     if status == REFUSED:
-        raise refusal_of(fault)
+        raise _refusal_of(fault, tile)
     if status == NO_MEMORY:
         raise MemoryError("out of memory")
     if status == TOO_LARGE:
         raise TooLarge("the result is larger than 67108864 bytes")
     if status == NO_LAYER:
-        raise NoLayer("a layer isn't there")
+        raise _Missing
     if status == NO_TILE:
         raise NoTile("these rows are no valid tile")
-    if status == NO_DECODER:
-        raise MvtError("the decoder is finished")
     if status != 0:
-        raise MvtError(f"status {status}")
+        raise MvtError(library.mvt_status_text(status).decode())
 
 
 def held(tile: Buffer) -> bytes:
@@ -77,11 +45,11 @@ def held(tile: Buffer) -> bytes:
     return tile if isinstance(tile, bytes) else bytes(memoryview(tile))
 
 
-def made(call: Callable[..., int], *arguments: Any) -> bytes:
-    """What a call hands out through its last two parameters."""
+def made(call: Callable[..., int], tile: bytes, *arguments: Any) -> bytes:
+    """What a call of a tile hands out through its last two parameters."""
     out, fault = Bytes(), FaultRow()
-    raise_for(call(*arguments, ctypes.byref(out), ctypes.byref(fault)), fault)
     try:
+        raise_for(call(tile, len(tile), *arguments, ctypes.byref(out), ctypes.byref(fault)), fault, tile)
         return out.copy()
     finally:
         library.mvt_bytes_free(ctypes.byref(out))
@@ -90,13 +58,12 @@ def made(call: Callable[..., int], *arguments: Any) -> bytes:
 def judge(tile: Buffer) -> None:
     """Raises Refused where the bytes are no tile. Makes nothing of them, so it is the fastest way to know."""
     tile, fault = held(tile), FaultRow()
-    raise_for(library.mvt_judge(tile, len(tile), ctypes.byref(fault)), fault)
+    raise_for(library.mvt_judge(tile, len(tile), ctypes.byref(fault)), fault, tile)
 
 
 def rewrite(tile: Buffer) -> bytes:
     """The canonical bytes of a tile: equal tiles have equal bytes. Raises Refused and TooLarge."""
-    tile = held(tile)
-    return made(library.mvt_rewrite, tile, len(tile))
+    return made(library.mvt_rewrite, held(tile))
 
 
 def extract(tile: Buffer, names: Iterable[str]) -> bytes:
@@ -109,23 +76,54 @@ def extract(tile: Buffer, names: Iterable[str]) -> bytes:
     tile = held(tile)
     encoded = [name.encode() for name in names]
     rows = (Bytes * len(encoded))(*[Bytes(ctypes.cast(ctypes.c_char_p(name), ctypes.c_void_p), len(name)) for name in encoded])
-    return made(library.mvt_extract, tile, len(tile), rows, len(encoded))
+    try:
+        return made(library.mvt_extract, tile, rows, len(encoded))
+    except _Missing:
+        raise NoLayer(_first_missing(tile, encoded)) from None
+
+
+class _Missing(MvtError):
+    """The library doesn't say which layer it missed."""
+
+
+def _first_missing(tile: bytes, names: List[bytes]) -> str:
+    """The first of the names that alone is missed too."""
+    for name in names:
+        row, out, fault = Bytes(ctypes.cast(ctypes.c_char_p(name), ctypes.c_void_p), len(name)), Bytes(), FaultRow()
+        status = library.mvt_extract(tile, len(tile), ctypes.byref(row), 1, ctypes.byref(out), ctypes.byref(fault))
+        library.mvt_bytes_free(ctypes.byref(out))
+        if status == NO_LAYER:
+            return name.decode()
+    raise MemoryError("out of memory")
 
 
 def report(tile: Buffer) -> str:
     """What `mvt check` says of a tile: a line of counts, and a line for each thing that is worth a remark. Raises
     Refused."""
-    tile = held(tile)
-    return made(library.mvt_report, tile, len(tile)).decode()
+    return made(library.mvt_report, held(tile)).decode()
 
 
 def to_json(tile: Buffer) -> str:
     """A tile as JSON, in one line. Raises Refused."""
-    tile = held(tile)
-    return made(library.mvt_json, tile, len(tile)).decode()
+    return made(library.mvt_json, held(tile)).decode()
 
 
 def to_svg(tile: Buffer) -> str:
     """A picture of a tile in SVG. Raises Refused."""
-    tile = held(tile)
-    return made(library.mvt_svg, tile, len(tile)).decode()
+    return made(library.mvt_svg, held(tile)).decode()
+
+
+def written(lists: Dict[str, Any]) -> bytes:
+    """The canonical bytes of the tile that rows are, of an array for each list, by its name."""
+    rows, out, lent = TileRows(), Bytes(), []
+    for name, row in LISTS.items():
+        size = memoryview(lists[name]).nbytes
+        if size != 0:
+            lent.append(ctypes.c_char.from_buffer(lists[name]))
+            setattr(rows, name, ctypes.addressof(lent[-1]))
+            setattr(rows, name + "_count", size // ctypes.sizeof(row))
+    try:
+        raise_for(library.mvt_write(ctypes.byref(rows), ctypes.byref(out)), FaultRow())
+        return out.copy()
+    finally:
+        library.mvt_bytes_free(ctypes.byref(out))

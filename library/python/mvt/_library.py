@@ -4,25 +4,75 @@ import ctypes
 import os
 from ctypes import POINTER, Structure, c_char_p, c_int32, c_int64, c_size_t, c_uint8, c_uint32, c_uint64, c_void_p
 from pathlib import Path
-from typing import Any, Dict
+from typing import Any, ClassVar, Dict, Optional, Sequence, Tuple
 
 
 class Bytes(Structure):
+    data: Optional[int]
+    len: int
     _fields_ = [("data", c_void_p), ("len", c_size_t)]
 
     def copy(self) -> bytes:
-        return ctypes.string_at(self.data, self.len) if self.len else b""
+        return ctypes.string_at(self.data, self.len) if self.data is not None and self.len else b""
 
 
 class FaultRow(Structure):
+    layer: int
+    feature: int
+    at: int
+    cause: int
+    name: Bytes
     _fields_ = [("layer", c_int64), ("feature", c_int64), ("at", c_uint64), ("cause", c_uint32), ("name", Bytes)]
 
 
-class Span(Structure):
+class PlaceRow(Structure):
+    layer_name: Bytes
+    has_layer_name: int
+    has_feature_id: int
+    feature_id: int
+    _fields_ = [
+        ("layer_name", Bytes),
+        ("has_layer_name", c_uint32),
+        ("has_feature_id", c_uint32),
+        ("feature_id", c_uint64),
+    ]
+
+
+class Row(Structure):
+    """A row, which equals another of the same numbers."""
+
+    _fields_: ClassVar[Sequence[Tuple[str, Any]]]
+    __hash__ = None  # type: ignore[assignment]
+
+    def _told(self) -> Tuple[Any, ...]:
+        return tuple(getattr(self, name) for name, _ in self._fields_)
+
+    def __eq__(self, other: object) -> bool:
+        if not isinstance(other, type(self)):
+            return NotImplemented
+        return self._told() == other._told()
+
+    def __repr__(self) -> str:
+        fields = ", ".join("%s=%r" % (name, getattr(self, name)) for name, _ in self._fields_)
+        return "%s(%s)" % (type(self).__name__, fields)
+
+
+class Span(Row):
+    """Where the parts of a row begin in the list of their kind, and how many there are."""
+
+    start: int
+    len: int
     _fields_ = [("start", c_uint64), ("len", c_uint64)]
 
 
-class LayerRow(Structure):
+class LayerRow(Row):
+    version: int
+    extent: int
+    name: Span
+    features: Span
+    keys: Span
+    values: Span
+    bytes: Span
     _fields_ = [
         ("version", c_uint32),
         ("extent", c_uint32),
@@ -34,7 +84,13 @@ class LayerRow(Structure):
     ]
 
 
-class FeatureRow(Structure):
+class FeatureRow(Row):
+    id: int
+    has_id: int
+    kind: int
+    tags: Span
+    parts: Span
+    integers: Span
     _fields_ = [
         ("id", c_uint64),
         ("has_id", c_uint32),
@@ -45,15 +101,22 @@ class FeatureRow(Structure):
     ]
 
 
-class ValueRow(Structure):
+class ValueRow(Row):
+    kind: int
+    bits: int
+    text: Span
     _fields_ = [("kind", c_uint32), ("bits", c_uint64), ("text", Span)]
 
 
-class PartRow(Structure):
+class PartRow(Row):
+    exterior: int
+    points: Span
     _fields_ = [("exterior", c_uint32), ("points", Span)]
 
 
-class PointRow(Structure):
+class PointRow(Row):
+    x: int
+    y: int
     _fields_ = [("x", c_int32), ("y", c_int32)]
 
 
@@ -76,6 +139,7 @@ class TileRows(Structure):
 
 
 class DecoderRow(Structure):
+    held: Optional[int]
     _fields_ = [("held", c_void_p)]
 
 
@@ -109,3 +173,17 @@ library.mvt_bytes_free.argtypes = [POINTER(Bytes)]
 library.mvt_bytes_free.restype = None
 library.mvt_tile_free.argtypes = [POINTER(TileRows)]
 library.mvt_tile_free.restype = None
+library.mvt_version.argtypes = []
+library.mvt_version.restype = c_char_p
+library.mvt_status_text.argtypes = [c_uint32]
+library.mvt_status_text.restype = c_char_p
+library.mvt_explain.argtypes = [*_TILE, POINTER(FaultRow)]
+library.mvt_explain.restype = c_char_p
+library.mvt_locate.argtypes = [*_TILE, POINTER(FaultRow), POINTER(PlaceRow)]
+library.mvt_locate.restype = None
+
+
+def version() -> str:
+    """The version of the library, which is that of this module."""
+    told: bytes = library.mvt_version()
+    return told.decode()

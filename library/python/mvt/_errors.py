@@ -1,0 +1,76 @@
+"""What the calls raise."""
+
+import sys
+from typing import Optional
+
+
+class MvtError(Exception):
+    """Why a call made nothing, but for want of memory, which is MemoryError."""
+
+
+class Refused(MvtError):
+    """The first rule that a tile breaks.
+
+    `layer` and `feature` are indices, or None for a fault outside a layer or a feature. `at` is an offset in the
+    tile, or an index in the tags or integers of the feature. `cause` is the cause's number and `name` its name.
+    `layer_name` and `feature_id` are None where there is none, or none can be told. `explanation` says it in words.
+    """
+
+    def __init__(
+        self,
+        layer: Optional[int],
+        feature: Optional[int],
+        at: int,
+        cause: int,
+        name: str,
+        sentence: str = "",
+        layer_name: Optional[str] = None,
+        feature_id: Optional[int] = None,
+    ) -> None:
+        super().__init__(layer, feature, at, cause, name, sentence, layer_name, feature_id)
+        self.layer, self.feature, self.at, self.cause, self.name = layer, feature, at, cause, name
+        self.layer_name, self.feature_id = layer_name, feature_id
+        self.explanation = ": ".join(filter(None, [self._where(), sentence]))
+        # A traceback shows the words below the line, and str() is the line alone.
+        if sys.version_info >= (3, 11) and self.explanation:
+            self.add_note(self.explanation)
+
+    def _where(self) -> str:
+        """The layer and the feature, where they have a name or an id."""
+        told = []
+        if self.layer_name is not None:
+            told.append("layer %r" % self.layer_name)
+        if self.feature_id is not None:
+            told.append("feature with id %d" % self.feature_id)
+        return ", ".join(told)
+
+    def __str__(self) -> str:
+        """The line that the program `mvt` prints."""
+        return f"layer {_index(self.layer)} feature {_index(self.feature)} at {self.at}: {self.cause} {self.name}"
+
+
+class TooLarge(MvtError):
+    """The result would be larger than 67,108,864 bytes."""
+
+
+class NoLayer(MvtError, KeyError):
+    """A name that no layer of version 2 has: `name`."""
+
+    def __init__(self, name: str) -> None:
+        super().__init__(name)
+        self.name = name
+
+    def __str__(self) -> str:
+        return "no layer of version 2 has the name %r" % self.name
+
+
+class NoTile(MvtError):
+    """What was to be written is no valid tile."""
+
+
+class OutOfRange(NoTile, OverflowError):
+    """A number that a tile has no room for."""
+
+
+def _index(index: Optional[int]) -> str:
+    return "-" if index is None else str(index)

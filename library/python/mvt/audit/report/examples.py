@@ -1,0 +1,59 @@
+"""The worst tiles of each cause: those at the lowest zooms, which most people see, and the largest of them."""
+
+from typing import Any, Dict, List, NamedTuple, Optional
+
+import mvt
+
+from ..judging import REFUSED, Row
+from ..results import Results
+from ..stores import Address, Store
+from ..unpacking import LIMIT, NotUnpacked, unpacked
+
+SHOWN, LOOKED_AT = 3, 60
+
+
+class Example(NamedTuple):
+    """A row of the table, its store, and its bytes: as they were judged, or as they are stored where they don't unpack;
+    None, and why, where they can't be read any more."""
+
+    store: str
+    row: Row
+    content: Optional[bytes]
+    why: str = ""
+
+    def fault(self) -> Optional[mvt.Refused]:
+        row = self.row
+        if row.verdict != REFUSED or row.place is None or row.cause is None:
+            return None
+        return mvt.Refused(row.layer, row.feature, row.place, row.cause, row.cause_name or "")
+
+
+def examples(results: Results, stores: Dict[str, Store], verdict: str, cause: Optional[int]) -> List[Example]:
+    """The worst of a kind, of different layers where there are such."""
+    query = (
+        f"select store, {', '.join(Row._fields)} from tiles where verdict = ? and verdict <> 'accepted' and cause is ?"
+        " order by z is null, z, bytes desc limit ?"
+    )
+    found = results.database.execute(query, (verdict, cause, LOOKED_AT)).fetchall()
+    first = _first_of_layers(found)
+    chosen = (first + [row for row in found if row not in first])[:SHOWN]
+    return [_example(stores, row[0], Row(*row[1:])) for row in chosen]
+
+
+def _first_of_layers(rows: List[Any]) -> List[Any]:
+    seen: Dict[Any, Any] = {}
+    for row in rows:
+        seen.setdefault(Row(*row[1:]).layer_name, row)
+    return list(seen.values())
+
+
+def _example(stores: Dict[str, Store], store: str, row: Row) -> Example:
+    try:
+        stored = stores[store].tile(Address(row.z, row.x, row.y, row.name))
+    except OSError as why:
+        return Example(store, row, None, why.strerror or str(why))
+    try:
+        tile = unpacked(stored)
+    except NotUnpacked:
+        tile = stored
+    return Example(store, row, tile[: LIMIT + 1])

@@ -1,0 +1,223 @@
+"""The page as HTML."""
+
+import time
+from html import escape
+from pathlib import Path
+from typing import Any, Dict, Iterable, List, Optional, Tuple
+from urllib.parse import quote
+
+from ..judging import ACCEPTED, EMPTY, NOT_UNPACKED, REFUSED, UNREAD, VERDICTS
+from ..results import Results
+from ..stores import Store
+from . import pictures
+from .examples import Example, examples
+from .maps import maps
+from .places import Place, locate, rows
+from .words import RULES, counted, here, marked
+
+# Of long tables the rest is counted.
+LONGEST = 40
+
+MEANINGS = {
+    ACCEPTED: "keeps every rule",
+    REFUSED: "breaks a rule",
+    NOT_UNPACKED: "is compressed, and doesn't unpack",
+    EMPTY: "has no bytes; as a tile it has no layer",
+    UNREAD: "couldn't be read",
+}
+
+# The page needs nothing but itself, and runs nothing.
+_POLICY = "default-src 'none'; style-src 'unsafe-inline'; img-src data:"
+
+# A row of a table: what is counted, as HTML, and how many there are.
+Line = Tuple[str, int]
+
+
+def page(results: Results, stores: Dict[str, Store], found: Dict[str, Any]) -> str:
+    """The whole page."""
+    names = ", ".join(Path(store["path"]).name for store in found["stores"])
+    style = Path(__file__).with_name("style.css").read_text(encoding="utf-8")
+    parts = [
+        "<!DOCTYPE html>",
+        '<html lang="en"><head><meta charset="utf-8">',
+        '<meta name="viewport" content="width=device-width, initial-scale=1">',
+        f'<meta http-equiv="Content-Security-Policy" content="{_POLICY}">',
+        f"<title>Audit of {escape(names)}</title><style>{style}</style></head><body>",
+        f"<h1>Audit of {escape(names)}</h1>",
+        _head(found),
+        _counts(results, found),
+        _maps(results),
+        *_causes(results, stores, found),
+        "</body></html>\n",
+    ]
+    return "\n".join(part for part in parts if part)
+
+
+def _head(found: Dict[str, Any]) -> str:
+    verdicts = found["verdicts"]
+    broken = sum(verdicts[verdict] for verdict in (REFUSED, NOT_UNPACKED, UNREAD))
+    said = f"{broken:,} of {counted(found['tiles'], 'tile')} {'is' if broken == 1 else 'are'} broken"
+    if not broken:
+        said = f"All {counted(found['tiles'], 'tile')} are good" if found["tiles"] != 1 else "The tile is good"
+    if found["unfinished"]:
+        said += "; the audit isn't complete"
+    stores = ", ".join(f"<code>{escape(store['path'])}</code>" for store in found["stores"])
+    when = time.strftime("%Y-%m-%d %H:%M")
+    return f'<p class="quiet">{stores}, {when}</p><p class="verdict {"bad" if broken else "good"}">{said}.</p>'
+
+
+def _table(title: str, head: str, lines: Iterable[Line], whole: int, calm: Tuple[str, ...] = ()) -> str:
+    """A table of counts, each with its share of a whole as a bar."""
+    held = list(lines)
+    if not held:
+        return ""
+    cells = []
+    for name, tiles in held[:LONGEST]:
+        share = 100 * tiles / max(whole, 1)
+        kind = "bar calm" if name in calm else "bar"
+        bar = f'<span style="width:{share:.1f}%"></span>' if tiles else ""
+        cells.append(
+            f'<tr><th scope="row">{name}</th><td class="number">{tiles:,}</td><td class="number">{_share(share)}</td>'
+            f'<td class="{kind}">{bar}</td></tr>'
+        )
+    more = f'<p class="quiet">and {len(held) - LONGEST:,} more, in audit.sqlite</p>' if len(held) > LONGEST else ""
+    return (
+        f"<section><h2>{title}</h2><table><thead><tr><th>{head}</th><th class=\"number\">Tiles</th>"
+        f'<th class="number">Share</th><th></th></tr></thead><tbody>{"".join(cells)}</tbody></table>{more}</section>'
+    )
+
+
+def _share(percent: float) -> str:
+    return "0 %" if percent == 0 else "below 0.1 %" if percent < 0.1 else f"{percent:.1f} %"
+
+
+def _counts(results: Results, found: Dict[str, Any]) -> str:
+    tiles, refused = found["tiles"], found["verdicts"][REFUSED]
+    named = {verdict: f'{verdict}<br><span class="quiet">{MEANINGS[verdict]}</span>' for verdict in VERDICTS}
+    verdicts = [(named[verdict], found["verdicts"][verdict]) for verdict in VERDICTS]
+    causes = [(_link(each["cause"], each["cause_name"]), each["tiles"]) for each in found["causes"]]
+    layers = [(escape(each["layer_name"]) or "(without a name)", each["tiles"]) for each in found["layers"]]
+    notes = list(found["notes"].items())
+    tables = [
+        _table("Tiles", "Verdict", verdicts, tiles, (named[ACCEPTED], named[EMPTY])),
+        _table("By cause", "The first rule that a tile breaks", causes, refused),
+        _zooms(results),
+        _table("By layer", "The layer of the first fault", layers, refused),
+        _table("Notes", "Allowed, and worth a look", notes, tiles, tuple(found["notes"])),
+    ]
+    return f'<div class="columns">{"".join(tables)}</div>'
+
+
+def _link(cause: int, name: str) -> str:
+    return f'<a href="#cause-{cause}">{escape(name)}</a>'
+
+
+def _zooms(results: Results) -> str:
+    """Of each zoom how many tiles are broken, and of how many."""
+    total: Dict[Optional[int], int] = dict(results.counted("z"))
+    broken: Dict[Optional[int], int] = dict(results.counted("z", f"verdict not in ('{ACCEPTED}', '{EMPTY}')"))
+    cells = []
+    for z in sorted(total, key=lambda z: (z is None, z)):
+        share = 100 * broken.get(z, 0) / total[z]
+        bar = f'<span style="width:{share:.1f}%"></span>' if share else ""
+        cells.append(
+            f'<tr><th scope="row">{"unknown" if z is None else z}</th><td class="number">{broken.get(z, 0):,} of'
+            f' {total[z]:,}</td><td class="number">{_share(share)}</td><td class="bar">{bar}</td></tr>'
+        )
+    return (
+        '<section><h2>By zoom</h2><table><thead><tr><th>Zoom</th><th class="number">Broken</th>'
+        f'<th class="number">Share</th><th></th></tr></thead><tbody>{"".join(cells)}</tbody></table></section>'
+    )
+
+
+def _maps(results: Results) -> str:
+    figures = [
+        f'<figure role="img" aria-label="Zoom {each.z}: {each.broken} of {each.tiles} tiles are broken">{each.svg}'
+        f"<figcaption>Zoom {each.z}: {each.broken:,} of {counted(each.tiles, 'tile')};"
+        f" {each.where}</figcaption></figure>"
+        for each in maps(results)
+    ]
+    if not figures:
+        return ""
+    legend = (
+        '<p class="legend quiet"><span><i></i>no tiles</span><span><i class="calm"></i>good</span>'
+        '<span><i class="some"></i>some are broken</span><span><i class="all"></i>all are broken</span></p>'
+    )
+    return f'<h2>Where the broken ones lie</h2>{legend}<div class="maps">{"".join(figures)}</div>'
+
+
+def _causes(results: Results, stores: Dict[str, Store], found: Dict[str, Any]) -> List[str]:
+    """For each kind of broken tile what it means, and its worst examples."""
+    kinds = [(REFUSED, each["cause"], each["cause_name"], each["tiles"]) for each in found["causes"]]
+    kinds += [(verdict, None, verdict, found["verdicts"][verdict]) for verdict in (NOT_UNPACKED, UNREAD)]
+    parts = []
+    for verdict, cause, name, tiles in kinds:
+        if tiles:
+            meaning = RULES.get(cause, "") if cause else f"Such a tile {MEANINGS[verdict]}."
+            anchor = cause or verdict.replace(" ", "-")
+            parts.append(f'<h3 id="cause-{anchor}">{escape(name)}: {counted(tiles, "tile")}</h3>')
+            parts.append(f"<p>{escape(meaning)}</p>")
+            parts += [_example(each, several=len(stores) > 1) for each in examples(results, stores, verdict, cause)]
+    if parts:
+        parts.insert(0, "<h2>The worst of each kind</h2>")
+        parts.insert(1, '<p class="quiet">Those at the lowest zooms, which most people see, of different layers.</p>')
+    return parts
+
+
+def _example(example: Example, several: bool) -> str:
+    row, fault = example.row, example.fault()
+    where = row.name if row.z is None else f"{row.z}/{row.x}/{row.y}"
+    title = escape(f"{Path(example.store).name}: {where}" if several else str(where))
+    said = [f"<h4>{title}{escape(_within(example))}</h4>"]
+    if example.content is None:
+        return f'<article>{said[0]}<p>{escape(row.notes or example.why)}</p></article>'
+    if fault is None:
+        shown = _bytes(example.content, None)
+        said.append(f"<p>{escape(row.notes)}; {counted(row.bytes or 0, 'byte')}.</p>")
+        return f'<article>{"".join(said)}<div class="shown">{shown}</div></article>'
+    place = locate(example.content, fault)
+    told = [f"<code>{escape(str(fault))}</code>", counted(row.bytes or 0, "byte"), escape(row.notes)]
+    if here(fault, place):
+        said.append(f"<p>{escape(here(fault, place))}</p>")
+    said.append(f'<p class="quiet">{"; ".join(filter(None, told))}</p>')
+    shown = "".join(_pictures(example.content, fault)) + _bytes(example.content, place)
+    return f'<article>{"".join(said)}<div class="shown">{shown}</div></article>'
+
+
+def _within(example: Example) -> str:
+    """The layer and the feature, by name and id where they have such."""
+    row = example.row
+    told = ""
+    if row.layer is not None:
+        told += f", layer {row.layer}" + (f" “{row.layer_name}”" if row.layer_name is not None else "")
+    if row.feature is not None:
+        told += f", feature {row.feature}" + (f" (id {row.feature_id})" if row.feature_id is not None else "")
+    return told
+
+
+def _pictures(tile: bytes, fault: Any) -> Iterable[str]:
+    whole = pictures.of_tile(tile, fault)
+    if whole is None:
+        yield '<p class="quiet">No picture: nothing of the tile can be drawn, or it is too large for this page.</p>'
+    for picture in (whole, pictures.close_up(tile, fault)):
+        if picture is not None:
+            source = quote(picture.svg, safe=" =:;,/()!*.-+?@_~")
+            yield f'<figure><img alt="{escape(picture.told)}" src="data:image/svg+xml,{source}">' \
+                  f"<figcaption>{escape(picture.told)}</figcaption></figure>"
+
+
+def _bytes(tile: bytes, place: Optional[Place]) -> str:
+    """The bytes round a place, or those at the beginning."""
+    lines = []
+    for run in rows(tile, place.start if place else 0, place.end if place else 0):
+        low, high = run.mark
+        spelled = [f"{byte:02X}" for byte in run.content]
+        if high > low:
+            spelled[low] = f"<mark>{spelled[low]}"
+            spelled[high - 1] += "</mark>"
+        letters = "".join(chr(byte) if 31 < byte < 127 else "·" for byte in run.content)
+        gap = "   " * (8 - len(run.content))
+        lines.append(f"<b>{run.start:06X}</b>  {' '.join(spelled)}{gap}  <b>{escape(letters)}</b>")
+    caption = marked(place) if place else "The first bytes, as they are stored."
+    told = f"{escape(caption)} Offsets are hexadecimal."
+    return f"<figure><pre>{chr(10).join(lines)}</pre><figcaption>{told}</figcaption></figure>"

@@ -1,0 +1,165 @@
+"""Pictures of broken tiles: what is left of a tile without its broken parts, and the broken feature on top."""
+
+import re
+import time
+from typing import List, NamedTuple, Optional, Tuple
+
+import mvt
+
+from .. import wire
+from ..wire import Field
+from .shapes import Path, Point, paths, position
+
+# Larger pictures are left out of the page, and of larger tiles none is made.
+MOST = 400_000
+MOST_OF_TILE = 2_000_000
+# How long the broken parts of one tile are looked for.
+SECONDS = 2.0
+
+_RED = "#e3000f"
+_TITLE = re.compile(r"<title>[^<]*</title>\n?")
+
+
+class Picture(NamedTuple):
+    """An SVG document, and what it shows."""
+
+    svg: str
+    told: str
+
+
+def _varint(number: int) -> bytes:
+    spelled = bytearray()
+    while number > 127:
+        spelled.append(number & 127 | 128)
+        number >>= 7
+    return bytes([*spelled, number])
+
+
+def _without(tile: bytes, fault: mvt.Refused) -> bytes:
+    """The tile without the feature, the layer or the end that a fault names."""
+    layer, feature = wire.holders(tile, fault.layer, fault.feature)
+    if layer is None:
+        return tile[: fault.at]
+    if feature is None:
+        return tile[: layer.at] + tile[layer.end :]
+    body = tile[layer.body : feature.at] + tile[feature.end : layer.end]
+    return tile[: layer.at] + b"\x1a" + _varint(len(body)) + body + tile[layer.end :]
+
+
+def mended(tile: bytes) -> Tuple[Optional[bytes], int]:
+    """The tile without its broken parts, and how many these are; None where they are too many to be looked for."""
+    begun, dropped = time.monotonic(), 0
+    while time.monotonic() - begun < SECONDS:
+        try:
+            mvt.judge(tile)
+            return tile, dropped
+        except mvt.Refused as fault:
+            less, dropped = _without(tile, fault), dropped + 1
+            if len(less) >= len(tile):
+                break
+            tile = less
+    return None, dropped
+
+
+def _document(content: str, box: str = "0 0 1 1") -> str:
+    style = "path{stroke-linecap:round;stroke-linejoin:round}"
+    return f'<svg xmlns="http://www.w3.org/2000/svg" viewBox="{box}"><style>{style}</style>{content}</svg>'
+
+
+def _line(path: Path, colour: str, width: str) -> str:
+    points = " ".join(f"{x} {y}" for x, y in path.points)
+    if len(path.points) == 1:
+        points += " l0 0"
+    return f'<path fill="none" stroke="{colour}" stroke-width="{width}" d="M{points}{"z" if path.closed else ""}"/>'
+
+
+def _extent(tile: bytes, layer: Optional[Field]) -> int:
+    told = wire.last(tile, layer, wire.EXTENT, 0)
+    return told.value if told is not None and 0 < told.value < 1 << 32 else 4096
+
+
+def _drawn(tile: bytes, fault: mvt.Refused) -> Tuple[List[Path], int, bool]:
+    """The paths of the broken feature, the extent of its layer, and whether they are points."""
+    layer, feature = wire.holders(tile, fault.layer, fault.feature)
+    if feature is None:
+        return [], 0, False
+    kind = wire.last(tile, feature, wire.KIND, 0)
+    integers = (value for value, _, _ in wire.integers(tile, feature, wire.GEOMETRY))
+    return paths(integers), _extent(tile, layer), kind is not None and kind.value == 1
+
+
+def _ring(point: Point, extent: int) -> str:
+    """A circle round a place, which may be too small to be seen."""
+    at = f'cx="{point[0]}" cy="{point[1]}" r="{extent * 0.03:.1f}" fill="none"'
+    return f'<circle {at} stroke="#fff" stroke-width="1.4%"/><circle {at} stroke="{_RED}" stroke-width=".7%"/>'
+
+
+def of_tile(tile: bytes, fault: mvt.Refused) -> Optional[Picture]:
+    """The whole tile: what is good of it, and the broken feature in red, with a circle round the place."""
+    good, dropped = mended(tile) if len(tile) <= MOST_OF_TILE else (None, 0)
+    drawn, extent, _ = _drawn(tile, fault)
+    parts = [] if good is None else [_TITLE.sub("", mvt.to_svg(good))]
+    over = "".join(_line(path, _RED, ".5%") for path in drawn)
+    found = position(drawn, fault.at)
+    if found is not None:
+        over += _ring(found[0].points[found[1]], extent)
+    if over:
+        parts.append(f'<svg viewBox="0 0 {extent} {extent}">{over}</svg>')
+    svg = _document("".join(parts))
+    if len(svg) > MOST or "<path" not in svg:
+        return None
+    return Picture(svg, _said(good is None, dropped, bool(over)))
+
+
+def _said(is_alone: bool, dropped: int, is_drawn: bool) -> str:
+    if is_alone:
+        return "The broken feature alone: the tile has too much else."
+    red = "the broken feature in red" if is_drawn else "without what is broken"
+    if dropped > 1:
+        return f"The tile, {red}; {dropped:,} broken parts are left out of the rest."
+    return f"The tile, {red}."
+
+
+def close_up(tile: bytes, fault: mvt.Refused) -> Optional[Picture]:
+    """The points round the place of a fault of the geometry."""
+    drawn, _, are_points = _drawn(tile, fault)
+    found = position(drawn, fault.at)
+    if found is None or are_points:
+        return None
+    path, number = found
+    is_ring = fault.cause == 22
+    near = path.points if is_ring and len(path.points) <= 60 else path.points[max(0, number - 5) : number + 4]
+    if len(set(near)) < 2:
+        return None
+    left, top = min(x for x, _ in near), min(y for _, y in near)
+    side = max(max(x for x, _ in near) - left, max(y for _, y in near) - top, 2)
+    pad = side * 0.12
+    whole = side + 2 * pad
+    middle = (left + max(x for x, _ in near)) / 2, (top + max(y for _, y in near)) / 2
+    box = f"{middle[0] - whole / 2:g} {middle[1] - whole / 2:g} {whole:g} {whole:g}"
+    lines = "".join(_line(each, "#888", ".4%") for each in drawn if each is not path) + _line(path, _RED, ".6%")
+    svg = _document(lines + _arrows(path, near, whole) + _dot(path.points[number], whole), box)
+    if len(svg) > MOST:
+        return None
+    return Picture(svg, f"Round the place: {side:,} units wide. The arrows show the direction.")
+
+
+def _dot(point: Point, whole: float) -> str:
+    at = f'cx="{point[0]}" cy="{point[1]}" r="{whole * 0.018:g}"'
+    return f'<circle {at} fill="{_RED}" stroke="#fff" stroke-width=".4%"/>'
+
+
+def _arrows(path: Path, near: List[Point], whole: float) -> str:
+    """An arrow in the middle of each line near the place, and a small dot at each point."""
+    points = path.points + (path.points[:1] if path.closed else [])
+    shown, size = set(near), whole * 0.022
+    drawn = [f'<circle cx="{x}" cy="{y}" r="{whole * 0.008:g}" fill="#000"/>' for x, y in near]
+    for a, b in zip(points, points[1:]):
+        length = ((b[0] - a[0]) ** 2 + (b[1] - a[1]) ** 2) ** 0.5
+        if a not in shown or b not in shown or length < 3 * size:
+            continue
+        x, y = (b[0] - a[0]) / length * size, (b[1] - a[1]) / length * size
+        tip = (a[0] + b[0]) / 2 + x, (a[1] + b[1]) / 2 + y
+        corners = (tip, (tip[0] - 2 * x - y, tip[1] - 2 * y + x), (tip[0] - 2 * x + y, tip[1] - 2 * y - x))
+        drawn.append(f'<path fill="{_RED}" d="M{" ".join(f"{c[0]:g} {c[1]:g}" for c in corners)}z"/>')
+    return "".join(drawn)

@@ -1,0 +1,93 @@
+"""The end of a run: ten lines for a person, or JSON for a program."""
+
+from typing import Any, Dict, List, NamedTuple, Sequence, Tuple
+
+from .engine import Lost
+from .judging import ACCEPTED, EMPTY, NOT_UNPACKED, REFUSED, UNREAD, VERDICTS
+from .results import Results
+
+# Of long lists the rest is counted.
+SHOWN = 6
+
+
+class Timed(NamedTuple):
+    """How long a run took: until the workers were there, and then for so many tiles."""
+
+    start: float
+    work: float
+    tiles: int
+
+    def rate(self) -> int:
+        return round(self.tiles / self.work) if self.work > 0 else 0
+
+
+def told(results: Results, timed: Timed, lost: Sequence[Lost]) -> Dict[str, Any]:
+    """Everything of a run, as it becomes JSON."""
+    verdicts: Dict[str, int] = dict(results.counted("verdict"))
+    notes = results.database.execute(
+        "select note, sum(tiles) from note_counts group by note order by sum(tiles) desc, note"
+    ).fetchall()
+    stores = results.database.execute("select path, kind, tiles from stores order by path").fetchall()
+    return {
+        "stores": [{"path": path, "kind": kind, "tiles": tiles} for path, kind, tiles in stores],
+        "tiles": sum(verdicts.values()),
+        "verdicts": {verdict: verdicts.get(verdict, 0) for verdict in VERDICTS},
+        "causes": _listed(results, ("cause", "cause_name"), f"verdict = '{REFUSED}'"),
+        "zooms": _listed(results, ("z",), BROKEN),
+        "layers": _listed(results, ("layer_name",), f"verdict = '{REFUSED}' and layer_name is not null"),
+        "notes": dict(notes),
+        "unfinished": [part._asdict() for part in lost],
+        "seconds": {"start": round(timed.start, 2), "work": round(timed.work, 2)},
+        "tiles_this_time": timed.tiles,
+        "tiles_a_second": timed.rate(),
+    }
+
+
+# What is counted where broken tiles are.
+BROKEN = f"verdict in ('{REFUSED}', '{NOT_UNPACKED}', '{UNREAD}')"
+
+
+def _listed(results: Results, columns: Tuple[str, ...], where: str) -> List[Dict[str, Any]]:
+    return [dict(zip((*columns, "tiles"), row)) for row in results.counted(", ".join(columns), where)]
+
+
+def status(found: Dict[str, Any]) -> int:
+    """The status of `mvt check`: 3 where something is unread, else 1 where something is refused, else 0."""
+    verdicts = found["verdicts"]
+    if verdicts[UNREAD] or found["unfinished"]:
+        return 3
+    return 1 if verdicts[REFUSED] or verdicts[NOT_UNPACKED] else 0
+
+
+def _few(counts: Sequence[Tuple[str, int]]) -> str:
+    """`FirstRing 176, ZeroSegment 3`, the largest first."""
+    shown = [f"{name} {tiles:,}" for name, tiles in counts[:SHOWN]]
+    if len(counts) > SHOWN:
+        shown.append(f"{len(counts) - SHOWN} more")
+    return ", ".join(shown)
+
+
+def lines(found: Dict[str, Any], files: Sequence[str]) -> List[str]:
+    """The ten lines."""
+    verdicts, seconds = found["verdicts"], found["seconds"]
+    stores = ", ".join(store["path"] for store in found["stores"][:3])
+    more = len(found["stores"]) - 3
+    layers = [(each["layer_name"], each["tiles"]) for each in found["layers"]]
+    zooms = [("-" if each["z"] is None else str(each["z"]), each["tiles"]) for each in found["zooms"]]
+    rows = [
+        (found["tiles"], "tiles", stores + (f" and {more} more" if more > 0 else "")),
+        (verdicts[ACCEPTED], ACCEPTED, ""),
+        (sum(found["notes"].values()), "notes", _few(list(found["notes"].items()))),
+        (verdicts[EMPTY], EMPTY, ""),
+        (verdicts[REFUSED], REFUSED, _few([(each["cause_name"], each["tiles"]) for each in found["causes"]])),
+        (verdicts[NOT_UNPACKED], NOT_UNPACKED, ""),
+        (verdicts[UNREAD], UNREAD, ""),
+    ]
+    width = len(f"{found['tiles']:,}")
+    return [
+        *(f"{count:>{width},} {name}{': ' + of if of else ''}" for count, name, of in rows),
+        f"broken, by zoom: {_few(zooms) or '-'}; by layer: {_few(layers) or '-'}",
+        f"{found['tiles_this_time']:,} tiles in {seconds['work']:.1f} s, {found['tiles_a_second']:,} a second;"
+        f" the workers started in {seconds['start']:.1f} s",
+        f"written: {', '.join(files)}",
+    ]

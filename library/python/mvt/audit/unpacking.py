@@ -1,0 +1,56 @@
+"""Tiles out of their compression, by Python's own zlib and never past the codec's limit."""
+
+import zlib
+from typing import Tuple
+
+# What the codec takes at most.
+LIMIT = 67_108_864
+
+GZIP = b"\x1f\x8b"
+_WINDOW_OF_EITHER = 47
+
+
+class NotUnpacked(Exception):
+    """Compressed bytes that don't unpack, and why."""
+
+
+def is_zlib(stored: bytes) -> bool:
+    """Whether bytes begin as zlib's do. The first byte is also the tag of an unknown field, so a tile may too."""
+    return len(stored) > 1 and stored[0] == 0x78 and (stored[0] << 8 | stored[1]) % 31 == 0
+
+
+def is_packed(stored: bytes) -> bool:
+    return stored.startswith(GZIP) or is_zlib(stored)
+
+
+def unpacked(stored: bytes) -> bytes:
+    """The bytes of a tile. At most one byte beyond the limit is made, which tells that there are more."""
+    if not is_packed(stored):
+        return stored
+    tile = b""
+    while stored:
+        member, stored = _member(stored, LIMIT + 1 - len(tile))
+        tile = tile + member if tile else member
+        if len(tile) > LIMIT:
+            break
+    return tile
+
+
+def _member(stored: bytes, most: int) -> Tuple[bytes, bytes]:
+    """The first member of a gzip, or the whole of a zlib, and what stands behind it."""
+    stream = zlib.decompressobj(_WINDOW_OF_EITHER)
+    try:
+        made = stream.decompress(stored, most)
+    except zlib.error as why:
+        raise NotUnpacked(_reason(why)) from why
+    if len(made) < most and not stream.eof:
+        raise NotUnpacked("cut off")
+    rest = stream.unused_data.lstrip(b"\0")
+    if rest and len(made) < most and not rest.startswith(GZIP):
+        raise NotUnpacked(f"{len(rest)} more bytes behind its end")
+    return made, rest
+
+
+def _reason(error: zlib.error) -> str:
+    """zlib's own words without its number: `Error -3 while decompressing data: incorrect data check`."""
+    return str(error).rpartition(": ")[2] or str(error)

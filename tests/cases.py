@@ -1,0 +1,60 @@
+"""Cases for `rt try --cases`: cases.py FOLDER. Each is an input, the words and the output that is wanted: of the example
+tiles what other programs made of them, of the broken ones nothing, of README.md's commands what it shows below them."""
+
+import gzip
+import re
+import shlex
+import sys
+from pathlib import Path
+
+TOP = Path(__file__).resolve().parents[1]
+TILES = TOP / "examples" / "tiles"
+FAULT = re.compile(r"layer \S+ feature \S+ at \d+: \d+ \w+\n", re.M)
+
+
+def case(folder: Path, name: str, words: list[str], tile: bytes, output: bytes) -> None:
+    (folder / name).write_bytes(tile)
+    (folder / f"{name}.args").write_text("".join(f"{word}\n" for word in words))
+    (folder / f"{name}.stdout").write_bytes(output)
+
+
+def example_tiles(folder: Path) -> None:
+    for tile in ("gdal", "postgis"):
+        whole = (TILES / f"{tile}.mvt").read_bytes()
+        canonical = (TILES / f"{tile}.canonical.mvt").read_bytes()
+        shown = (TILES / f"{tile}.json").read_bytes()
+        case(folder, f"{tile}-check", ["check"], whole, (TILES / f"{tile}.check").read_bytes())
+        case(folder, f"{tile}-show", ["show"], whole, shown)
+        case(folder, f"{tile}-show-canonical", ["show"], canonical, shown)
+        case(folder, f"{tile}-rewrite", ["rewrite"], whole, canonical)
+        case(folder, f"{tile}-extract", ["extract", "water", "roads", "places"], whole, canonical)
+
+
+def broken_tiles(folder: Path) -> None:
+    for path in sorted((TILES / "broken").glob("*.mvt")):
+        for command in ("check", "show", "draw", "rewrite"):
+            case(folder, f"{path.stem}-{command}", [command], path.read_bytes(), b"")
+    for path in (TILES / "broken").glob("*.mvt.gz"):
+        tile = gzip.decompress(path.read_bytes())
+        if len(tile) < 1 << 20:
+            case(folder, path.name.removesuffix(".mvt.gz"), ["check"], tile, b"")
+
+
+def documented(folder: Path) -> None:
+    """The commands `mvt WORDS < FILE`, with the lines below them."""
+    text = (TOP / "README.md").read_text(encoding="utf-8")
+    found = re.findall(r"^    \$ mvt ([^|>\n]*) < (\S+)\n((?:    (?!\$).*\n)+)", text, re.M)
+    for number, (words, file, shown) in enumerate(found):
+        output = FAULT.sub("", re.sub(r"^    ", "", shown, flags=re.M))
+        case(folder, f"README-{number}", shlex.split(words), (TOP / file).read_bytes(), output.encode())
+
+
+def main() -> None:
+    folder = Path(sys.argv[1])
+    folder.mkdir(parents=True, exist_ok=True)
+    example_tiles(folder)
+    broken_tiles(folder)
+    documented(folder)
+
+
+main()

@@ -1,0 +1,222 @@
+/* The builder, and the words for a status and a fault. Prints nothing where all is well. */
+#include "mvt.h"
+
+#include <inttypes.h>
+#include <stdio.h>
+#include <stdlib.h>
+#include <string.h>
+
+static void require(int holds, const char *what) {
+    if (holds) return;
+    fprintf(stderr, "broken: %s\n", what);
+    exit(1);
+}
+
+static int is_text(const mvt_tile *t, mvt_span at, const char *text) {
+    return at.len == strlen(text) && memcmp(t->texts + at.start, text, at.len) == 0;
+}
+
+/* The layer `a` with the point (25, 17), as the bytes that are known of it. */
+static void build_point(void) {
+    const uint8_t known[] = {0x1A, 0x11, 0x78, 0x02, 0x0A, 0x01, 0x61, 0x12, 0x07, 0x18,
+                             0x01, 0x22, 0x03, 0x09, 0x32, 0x22, 0x28, 0x80, 0x20};
+    mvt_builder builder = {0};
+    mvt_bytes out = {0};
+    mvt_builder_layer(&builder, mvt_text("a"), 4096);
+    mvt_builder_feature(&builder, MVT_POINTS);
+    mvt_builder_point(&builder, 25, 17);
+    require(mvt_builder_finish(&builder, &out) == MVT_OK && builder.held == NULL, "a point is built");
+    require(out.len == sizeof known && memcmp(out.data, known, sizeof known) == 0, "the bytes of a point");
+    mvt_bytes_free(&out);
+    require(mvt_builder_finish(&builder, &out) == MVT_OK && out.len == 0, "a builder that begins anew is empty");
+}
+
+/* Two layers with a feature of each kind and a value of each kind, read again. */
+static void build_all(void) {
+    static const mvt_point square[] = {{0, 0}, {8, 0}, {8, 8}, {0, 8}}, hole[] = {{2, 2}, {2, 4}, {4, 4}, {4, 2}};
+    static const uint32_t integers[] = {9, 2, 2};
+    const uint8_t foreign[] = {0x78, 0x01, 0x0A, 0x01, 0x62};
+    const mvt_any values[] = {mvt_any_text(mvt_text("x")), mvt_any_float(2.5f), mvt_any_double(-0.0),  mvt_any_double(0.0),
+                              mvt_any_int(-1),             mvt_any_uint(1),     mvt_any_sint(-1),      mvt_any_bool(7)};
+    mvt_builder builder = {0};
+    mvt_bytes out = {0};
+    uint32_t key, again, value;
+    mvt_builder_layer(&builder, mvt_text("town"), 512);
+    mvt_builder_feature(&builder, MVT_POLYGONS);
+    mvt_builder_id(&builder, UINT64_MAX);
+    mvt_builder_ring(&builder, 1);
+    mvt_builder_points(&builder, square, 4);
+    mvt_builder_ring(&builder, 0);
+    mvt_builder_points(&builder, hole, 4);
+    for (int i = 0; i < 8; ++i) {
+        const char name[] = {'k', (char)('0' + i), 0};
+        mvt_builder_tag(&builder, mvt_text(name), values[i]);
+    }
+    mvt_builder_feature(&builder, MVT_LINES);
+    require(mvt_builder_key(&builder, mvt_text("k5"), &key) == MVT_OK && key == 5, "a key has its first index");
+    require(mvt_builder_key(&builder, mvt_text("k5"), &again) == MVT_OK && again == key, "a key has one index");
+    require(mvt_builder_value(&builder, mvt_any_uint(1), &value) == MVT_OK && value == 5, "a value has its first index");
+    mvt_builder_tag_at(&builder, key, value);
+    mvt_builder_line(&builder);
+    mvt_builder_point(&builder, 0, 0);
+    mvt_builder_point(&builder, 1, 2);
+    mvt_builder_feature(&builder, MVT_POINTS);
+    mvt_builder_tag(&builder, mvt_text("gone"), mvt_any_bool(0));
+    mvt_builder_point(&builder, 1, 1);
+    mvt_builder_drop(&builder);
+    mvt_builder_feature(&builder, MVT_UNKNOWN);
+    mvt_builder_integers(&builder, integers, 3);
+    mvt_builder_foreign(&builder, 1, (mvt_bytes){foreign, sizeof foreign});
+    mvt_builder_layer(&builder, mvt_text("empty"), 4096);
+    require(mvt_builder_finish(&builder, &out) == MVT_OK, "all kinds are built");
+
+    mvt_tile t;
+    mvt_fault fault;
+    require(mvt_read(out.data, out.len, &t, &fault) == MVT_OK && t.layer_count == 3, "what is built is a tile");
+    require(is_text(&t, t.layers[0].name, "town") && t.layers[0].extent == 512, "a layer's head");
+    require(t.layers[1].version == 1 && t.layers[1].bytes.len == sizeof foreign, "a layer of another version");
+    require(is_text(&t, t.layers[2].name, "empty") && t.layers[2].features.len == 0, "a layer without features");
+    require(t.feature_count == 3 && t.features[0].id == UINT64_MAX && t.features[1].has_id == 0, "the features");
+    require(t.part_count == 3 && t.point_count == 10 && t.integer_count == 3, "the geometry");
+    require(t.parts[0].exterior == 1 && t.parts[1].exterior == 0 && t.points[5].y == 4, "the rings");
+    require(t.tag_count == 18, "a feature that was taken back has no tags");
+    const uint32_t kinds[] = {MVT_TEXT, MVT_FLOAT, MVT_DOUBLE, MVT_DOUBLE, MVT_INT, MVT_UINT, MVT_SINT, MVT_BOOL};
+    const uint64_t bits[] = {0, 0x40200000, (uint64_t)1 << 63, 0, UINT64_MAX, 1, UINT64_MAX, 1};
+    for (int i = 0; i < 8; ++i) {
+        const char name[] = {'k', (char)('0' + i), 0};
+        const mvt_value *row = &t.values[t.layers[0].values.start + t.tags[2 * i + 1]];
+        require(is_text(&t, t.keys[t.layers[0].keys.start + t.tags[2 * i]], name), "the key of a tag");
+        require(row->kind == kinds[i] && row->bits == bits[i], "the value of a tag");
+    }
+    mvt_bytes_free(&out);
+    mvt_tile_free(&t);
+}
+
+/* Keys and values that come again are found among many, and each layer counts its own. */
+static void build_many(void) {
+    enum { MANY = 20000 };
+    mvt_builder builder = {0};
+    mvt_tile rows;
+    uint32_t index;
+    char name[32];
+    for (int layer = 0; layer < 2; ++layer) {
+        snprintf(name, sizeof name, "layer %d", layer);
+        mvt_builder_layer(&builder, mvt_text(name), 4096);
+        for (uint32_t i = 0; i < 2 * MANY; ++i) {
+            snprintf(name, sizeof name, "%" PRIu32, i % MANY);
+            require(mvt_builder_key(&builder, mvt_text(name), &index) == MVT_OK && index == i % MANY, "a key's index");
+            const mvt_any value = i % MANY % 2 ? mvt_any_text(mvt_text(name)) : mvt_any_uint(i % MANY);
+            require(mvt_builder_value(&builder, value, &index) == MVT_OK && index == i % MANY, "a value's index");
+        }
+    }
+    require(mvt_builder_rows(&builder, &rows) == MVT_OK && rows.key_count == 2 * MANY && rows.value_count == 2 * MANY,
+            "each layer has its keys and values once");
+    require(rows.layers[1].keys.start == MANY && rows.layers[1].keys.len == MANY, "the keys of the second layer");
+    mvt_builder_free(&builder);
+    mvt_builder_free(&builder);
+}
+
+/* A call that isn't due is answered so, and so are those after it, up to the end. */
+static void build_out_of_turn(void) {
+    for (int i = 0; i < 7; ++i) {
+        mvt_builder builder = {0};
+        mvt_bytes out = {0};
+        uint32_t index = 77, status;
+        if (i >= 2) mvt_builder_layer(&builder, mvt_text("a"), 4096);
+        if (i >= 4) mvt_builder_feature(&builder, i == 6 ? MVT_POLYGONS : MVT_LINES);
+        switch (i) {
+        case 0: status = mvt_builder_feature(&builder, MVT_POINTS); break;
+        case 1: status = mvt_builder_key(&builder, mvt_text("k"), &index); break;
+        case 2: status = mvt_builder_point(&builder, 1, 1); break;
+        case 3: status = mvt_builder_foreign(&builder, 2, mvt_text("a")); break;
+        case 4: status = mvt_builder_point(&builder, 1, 1); break;
+        case 5: status = mvt_builder_ring(&builder, 1); break;
+        default: status = mvt_builder_integers(&builder, &index, 1);
+        }
+        require(status == MVT_OUT_OF_TURN && index == 77, "a call out of turn");
+        require(mvt_builder_layer(&builder, mvt_text("b"), 4096) == MVT_OUT_OF_TURN, "an answer that stays");
+        require(mvt_builder_finish(&builder, &out) == MVT_OUT_OF_TURN && out.data == NULL, "nothing is built");
+        require(mvt_builder_finish(&builder, &out) == MVT_OK && builder.held == NULL, "a builder that begins anew");
+    }
+}
+
+/* Rows that are no tile are told as mvt_write tells them. */
+static void build_no_tile(void) {
+    mvt_builder builder = {0};
+    mvt_bytes out = {0};
+    mvt_builder_layer(&builder, mvt_text("a"), 4096);
+    mvt_builder_feature(&builder, MVT_POINTS);
+    require(mvt_builder_finish(&builder, &out) == MVT_NO_TILE && out.data == NULL, "points without a point");
+}
+
+/* What mvt_write looks at: an empty span as any other, and keys and values that no tag names. */
+static void write_what_nothing_names(void) {
+    const mvt_value good = {.kind = MVT_BOOL, .bits = 1}, bad = {.kind = MVT_BOOL, .bits = 2};
+    for (int i = 0; i < 8; ++i) {
+        const mvt_span key = {1, 1};
+        const mvt_part part = {.points = {0, 1}};
+        const mvt_point point = {25, 17};
+        mvt_feature feature = {.kind = MVT_POINTS, .parts = {0, 1}};
+        mvt_layer layer = {.version = 2, .extent = 4096, .name = {0, 1}, .features = {0, 1}};
+        mvt_tile tile = {.layers = &layer, .layer_count = 1, .features = &feature, .feature_count = 1, .parts = &part,
+                         .part_count = 1, .points = &point, .point_count = 1, .texts = (const uint8_t *)"ak", .text_len = 2};
+        mvt_bytes out = {0};
+        tile.keys = &key, tile.key_count = 1, tile.values = &good, tile.value_count = 1;
+        layer.keys = layer.values = (mvt_span){0, 1};
+        uint32_t wanted = MVT_OK;
+        switch (i) {
+        case 1: layer.keys = (mvt_span){1, 0}; break;                        /* at the end of the list */
+        case 2: layer.keys = (mvt_span){2, 0}, wanted = MVT_NO_TILE; break;  /* behind it */
+        case 3: feature.tags = (mvt_span){1, 0}, wanted = MVT_NO_TILE; break;
+        case 4: feature.integers = (mvt_span){9, 9}; break;                  /* which points haven't */
+        case 5: tile.values = &bad, wanted = MVT_NO_TILE; break;             /* a value that no tag names */
+        case 6: tile.texts = (const uint8_t *)"a\xff", wanted = MVT_NO_TILE; break; /* and such a key */
+        case 7: tile.values = &bad, layer.values.len = 0; break;             /* a value of no layer */
+        default: break;
+        }
+        require(mvt_write(&tile, &out) == wanted, "what is looked at, and what isn't");
+        require(wanted != MVT_OK || out.len == 19, "what no tag names isn't written");
+        mvt_bytes_free(&out);
+    }
+}
+
+/* What is said of broken bytes: a second layer `a`, whose second feature has the id 300 and a line that ends early. */
+static void explain(void) {
+    const uint8_t bytes[] = {0x1A, 0x05, 0x78, 0x01, 0x0A, 0x01, 0x62,                         /* of version 1 */
+                             0x1A, 0x19, 0x78, 0x02, 0x12, 0x05, 0x18, 0x00, 0x22, 0x01, 0x09, /* the first feature */
+                             0x12, 0x0B, 0x08, 0xAC, 0x02, 0x18, 0x02, 0x22, 0x04, 0x09, 0x00, 0x00, 0x0A,
+                             0x0A, 0x01, 0x61};
+    mvt_fault fault;
+    mvt_place place;
+    require(mvt_judge(bytes, sizeof bytes, &fault) == MVT_REFUSED && fault.layer == 1 && fault.feature == 1, "a fault");
+    mvt_locate(bytes, sizeof bytes, &fault, &place);
+    require(place.has_layer_name && place.layer_name.len == 1 && place.layer_name.data[0] == 'a', "the layer's name");
+    require(place.has_feature_id && place.feature_id == 300, "the feature's id");
+    for (size_t len = 0; len < sizeof bytes; ++len) mvt_locate(bytes, len, &fault, &place);
+    fault.layer = 2;
+    mvt_locate(bytes, sizeof bytes, &fault, &place);
+    require(!place.has_layer_name && !place.has_feature_id, "a layer that isn't there");
+    for (fault.cause = 1; fault.cause <= 26; ++fault.cause) {
+        const char *said = mvt_explain(bytes, sizeof bytes, &fault);
+        require(said != NULL && (fault.cause == 9 || strlen(said) > 20), "a sentence for each cause");
+    }
+    require(mvt_explain(NULL, 0, &fault) != NULL && mvt_explain(bytes, 0, &fault) != NULL, "a cause that isn't there");
+    fault.cause = 4;
+    require(strstr(mvt_explain((const uint8_t *)"\x1f\x8b", 2, &fault), "gzip") != NULL, "a head of gzip");
+    const char *zlib[] = {"\x78\x01", "\x78\x5e", "\x78\x9c", "\x78\xda"};
+    for (int i = 0; i < 4; ++i) require(strstr(mvt_explain((const uint8_t *)zlib[i], 2, &fault), "zlib") != NULL, "a head of zlib");
+    require(strstr(mvt_explain((const uint8_t *)"\x78\x02", 2, &fault), "compressed") == NULL, "no head of zlib");
+    for (uint32_t status = 0; status < 9; ++status) require(strlen(mvt_status_text(status)) > 3, "a text for a status");
+    require(strcmp(mvt_version(), MVT_VERSION) == 0, "the version of the library");
+}
+
+int main(void) {
+    build_point();
+    build_all();
+    build_many();
+    build_out_of_turn();
+    build_no_tile();
+    write_what_nothing_names();
+    explain();
+    return 0;
+}

@@ -1,0 +1,113 @@
+"""The builder makes the tile that its calls say."""
+
+import unittest
+
+import mvt
+
+
+class Building(unittest.TestCase):
+    def test_a_point(self):
+        builder = mvt.Builder()
+        builder.layer("a").feature("points").point(25, 17)
+        known = bytes.fromhex("1A1178020A0161120718012203093222288020")
+        self.assertEqual(builder.finish(), known)
+        self.assertEqual(mvt.write(builder.rows()), known)
+        self.assertEqual(mvt.Builder().finish(), b"")
+
+    def test_each_geometry(self):
+        square, hole = [(0, 0), (8, 0), (8, 8), (0, 8)], [(2, 2), (2, 4), (4, 4), (4, 2)]
+        builder = mvt.Builder()
+        builder.layer("town", extent=512)
+        builder.feature("polygons", id=2**64 - 1).ring(square, exterior=True).ring(hole, exterior=False)
+        builder.ring([(x + 20, y) for x, y in square], exterior=True)
+        builder.feature("lines").line([(0, 0), (1, 2)]).line(iter([(3, 3), (4, 4)]))
+        builder.feature("points").points([(1, 1), (2, 2)]).point(3, 3).points([])
+        builder.feature("unknown").integers([9, 2**32 - 1])
+        builder.feature("points").tag("gone", 1).point(9, 9).drop()
+        builder.foreign(1, bytes.fromhex("78010A0162"))
+        builder.layer("empty")
+        tile = mvt.read(builder.finish())
+        moved = [(x + 20, y) for x, y in square]
+        wanted = mvt.Tile(
+            [
+                mvt.Layer(
+                    "town",
+                    512,
+                    [
+                        mvt.Feature(2**64 - 1, {}, "polygons", [[square, hole], [moved]]),
+                        mvt.Feature(None, {}, "lines", [[(0, 0), (1, 2)], [(3, 3), (4, 4)]]),
+                        mvt.Feature(None, {}, "points", [(1, 1), (2, 2), (3, 3)]),
+                        mvt.Feature(None, {}, "unknown", [9, 2**32 - 1]),
+                    ],
+                ),
+                mvt.Foreign(1, bytes.fromhex("78010A0162")),
+                mvt.Layer("empty", 4096, []),
+            ]
+        )
+        self.assertEqual(tile, wanted)
+
+    def test_keys_and_values_stand_once(self):
+        builder = mvt.Builder().layer("a")
+        self.assertEqual([builder.key(key) for key in ("name", "height", "name")], [0, 1, 0])
+        values = ["x", 1, mvt.Int(1), 1.0, mvt.Float(1.0), True, mvt.Sint(1), 0.0, -0.0, "x", True, mvt.Uint(1)]
+        self.assertEqual([builder.value(value) for value in values], [0, 1, 2, 3, 4, 5, 6, 7, 8, 0, 5, 1])
+        builder.feature("points").tag("name", "y").tag_at(1, 0).point(1, 1)
+        self.assertEqual(builder.layer("b").key("height"), 0)
+        first, second = builder.rows().layers
+        self.assertEqual((first.keys.len, first.values.len, second.keys.len), (2, 10, 1))
+        self.assertEqual(mvt.read(builder.finish())["a"].features[0].attributes, {"name": "y", "height": "x"})
+
+    def test_a_call_out_of_turn(self):
+        point = ("point", 1, 1)
+        for calls in (
+            [("feature", "points")],
+            [("key", "k")],
+            [("value", 1)],
+            [("tag", "k", 1)],
+            [("layer", "a"), point],
+            [("layer", "a"), ("tag", "k", 1)],
+            [("layer", "a"), ("drop",)],
+            [("layer", "a"), ("feature", "points"), ("layer", "b"), point],
+            [("layer", "a"), ("feature", "lines"), point],
+            [("layer", "a"), ("feature", "points"), ("ring", [(1, 1)], True)],
+            [("layer", "a"), ("feature", "points"), ("integers", [1])],
+        ):
+            builder = mvt.Builder()
+            for name, *words in calls[:-1]:
+                getattr(builder, name)(*words)
+            name, *words = calls[-1]
+            with self.assertRaises(mvt.MvtError, msg=calls):
+                getattr(builder, name)(*words)
+
+    def test_a_call_that_raises_changes_nothing(self):
+        builder = mvt.Builder()
+        builder.layer("a").feature("points").tag("k", 1).point(25, 17)
+        for call in (
+            lambda: builder.tag("k2", None),
+            lambda: builder.tag(7, 1),
+            lambda: builder.points([(1, 1), (1 << 31, 0)]),
+            lambda: builder.points([(1, 1), (0.5, 0)]),
+            lambda: builder.points(None),
+            lambda: builder.feature("circles"),
+            lambda: builder.feature("points", id=-1),
+            lambda: builder.layer("b", extent=-1),
+            lambda: builder.layer(None),
+            lambda: builder.foreign(2, b""),
+            lambda: builder.tag_at(-1, 0),
+            lambda: builder.tag_at(0, 1 << 32),
+        ):
+            with self.assertRaises((TypeError, mvt.NoTile)):
+                call()
+            builder.point(26, 17)
+        [feature] = mvt.read(builder.finish())["a"].features
+        self.assertEqual(feature, mvt.Feature(None, {"k": 1}, "points", [(25, 17)] + [(26, 17)] * 12))
+
+    def test_what_is_no_tile(self):
+        with self.assertRaises(mvt.NoTile):
+            mvt.Builder().layer("a").feature("points").finish()
+        with self.assertRaises(mvt.NoTile):
+            mvt.Builder().layer("a").layer("a").finish()
+
+
+if __name__ == "__main__":
+    unittest.main()

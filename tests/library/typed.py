@@ -1,0 +1,28 @@
+"""What a type checker knows of the Python module. mypy reads this file; a line that is marked has to be an error."""
+
+from typing import Dict, List, Optional, Sequence, Tuple, Union
+
+import mvt
+
+
+def use(content: bytes) -> List[int]:
+    flat = mvt.rows(content)
+    first: mvt.LayerRow = flat.layers[0]
+    versions: List[int] = [layer.version for layer in flat.layers]
+    places: List[Tuple[int, int]] = [(point.x, point.y) for point in flat.points]
+    tags: Sequence[int] = flat.tags
+    flat.layers[0].name.start = "a"  # type: ignore[assignment]
+
+    tile = mvt.read(content)
+    kinds: List[mvt.Kind] = [feature.kind for feature in tile["water"].features]
+    found: Optional[mvt.Layer] = tile.layer("water")
+    attributes: Dict[str, mvt.Value] = tile["water"].features[0].attributes
+    both: List[Union[mvt.Layer, mvt.Foreign]] = list(tile)
+    all_versions: List[int] = [layer.version for layer in tile]
+    names: List[str] = [layer.name for layer in tile if isinstance(layer, mvt.Layer)]
+    found.extent  # type: ignore[union-attr]
+    mvt.Feature(None, attributes, "circles", [])  # type: ignore[arg-type]
+    mvt.Builder().layer("a").feature("circles")  # type: ignore[arg-type]
+    mvt.Builder().layer("a").feature("points").point(1.5, 2)  # type: ignore[arg-type]
+    built: bytes = mvt.Builder().layer("a").feature("points", id=7).tag("k", 1.5).point(25, 17).finish()
+    return versions + all_versions + [first.extent, len(places), len(tags), len(kinds), len(both), len(names), len(built)]
