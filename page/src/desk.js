@@ -41,12 +41,15 @@ export class Desk {
     return { size, length: read.bytes.length, note: read.note, verdict, place, shape, first: report?.first ?? null };
   }
 
-  /** Judges files or bytes in order and tells of several at a time: their index, size and verdict. */
-  async judgeAll({ sources }, told) {
+  /**
+   * Judges files or bytes in order and tells of several at a time: their index, size and verdict. `from` is the index of the
+   * first.
+   */
+  async judgeAll({ sources, from }, told) {
     let some = [];
     let last = performance.now();
-    for (const [index, { source, name }] of sources.entries()) {
-      some.push({ index, ...(await this.#judgeOne(source, name)) });
+    for (const [place, { source, name }] of sources.entries()) {
+      some.push({ index: from + place, ...(await this.#judgeOne(source, name)) });
       if (performance.now() - last < 100) continue;
       told(some);
       some = [];

@@ -8,6 +8,9 @@ import { counted } from './text.js';
 import { TileView } from './tile.js';
 import { lineOf, titleOf } from './verdict.js';
 
+/** So many files are handed to the worker at once: each handing over takes the page some time. */
+const HANDED = 200;
+
 const part = (id) => document.getElementById(id);
 
 export class Page {
@@ -104,7 +107,8 @@ export class Page {
   // ---- a list
 
   async #listAll() {
-    const list = new TileList(this.#inputs, (index) => this.#show(index));
+    const inputs = this.#inputs;
+    const list = new TileList(inputs, (index) => this.#show(index));
     const judging = this.#newClient();
     this.#list = list;
     this.#lists = judging;
@@ -114,11 +118,13 @@ export class Page {
       this.#done('list');
       list.end(false);
     };
-    this.#begin('list', [`Judging ${counted(this.#inputs.length, 'file')} …`], stopped);
+    this.#begin('list', [`Judging ${counted(inputs.length, 'file')} …`], stopped);
     list.title.focus();
     try {
-      const sources = this.#inputs.map(({ name, source }) => ({ name, source }));
-      list.add(await judging.ask('judgeAll', { sources }, (rows) => list.add(rows)));
+      for (let from = 0; from < inputs.length; from += HANDED) {
+        const sources = inputs.slice(from, from + HANDED).map(({ name, source }) => ({ name, source }));
+        list.add(await judging.ask('judgeAll', { sources, from }, (rows) => list.add(rows)));
+      }
       list.end(true);
       this.#say(list.title.textContent);
     } catch (error) {

@@ -65,6 +65,29 @@ export class Browser {
     return page;
   }
 
+  /**
+   * Records the tasks of all threads, until what it answers is called with a page. That gives how long each task of the
+   * page's main thread kept a processor, in milliseconds: what else the machine does isn't counted. Of a task in which
+   * DevTools puts files into an input, what the page does then is counted.
+   */
+  async record() {
+    const events = [];
+    this.listen(({ method, params }) => method === 'Tracing.dataCollected' && events.push(...params.value));
+    const ended = new Promise((resolve) => this.listen(({ method }) => method === 'Tracing.tracingComplete' && resolve()));
+    const includedCategories = ['disabled-by-default-devtools.timeline', 'devtools.timeline', 'blink.user_timing', '__metadata'];
+    await this.send('Tracing.start', { transferMode: 'ReportEvents', traceConfig: { includedCategories, excludedCategories: ['*'] } });
+    return async (page) => {
+      await page.value("performance.mark('the page')");
+      await this.send('Tracing.end');
+      await ended;
+      const main = events.find(({ name }) => name === 'the page');
+      const here = events.filter(({ ph, pid, tid }) => ph === 'X' && pid === main.pid && tid === main.tid);
+      const changes = here.filter(({ name, args }) => name === 'EventDispatch' && args.data.type === 'change');
+      const counted = (task) => changes.find(({ ts }) => ts >= task.ts && ts <= task.ts + task.dur) ?? task;
+      return here.filter(({ name }) => name === 'RunTask').map((task) => counted(task).tdur / 1000);
+    };
+  }
+
   async close() {
     const closed = new Promise((resolve) => this.#process.once('exit', resolve));
     await this.send('Browser.close').catch(() => this.#process.kill());

@@ -7,11 +7,6 @@ import { Counts } from './counts.mjs';
 
 export const tiles = new URL('../../examples/tiles', import.meta.url).pathname;
 
-/** Counts the tasks of a page that last more than 100 ms. */
-const WATCHED = `globalThis.longTasks = [];
-new PerformanceObserver((list) => longTasks.push(...list.getEntries().map((entry) => Math.round(entry.duration)).filter((each) => each > 100)))
-  .observe({ type: 'longtask', buffered: true });`;
-
 export class OnPage {
   counts = new Counts();
 
@@ -30,7 +25,7 @@ export class OnPage {
   /** One check in a page of its own, in which nothing may be thrown. */
   async check(name, how, holds) {
     await this.counts.check(name, async () => {
-      const page = await this.browser.page(this.url, { ...how, before: `${WATCHED};${how.before ?? ''}` });
+      const page = await this.browser.page(this.url, how);
       try {
         const told = await holds(page);
         return page.errors.length > 0 ? page.errors.join('; ') : told;
