@@ -9,7 +9,7 @@ import { TileView } from './tile.js';
 import { lineOf, titleOf } from './verdict.js';
 
 /** So many files are handed to the worker at once: each handing over takes the page some time. */
-const HANDED = 200;
+const HANDED = 100;
 
 const part = (id) => document.getElementById(id);
 
