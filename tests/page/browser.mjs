@@ -51,14 +51,15 @@ export class Browser {
   }
 
   /** Opens a page; `before` is a script that runs in it first. */
-  async page(url, { width = 1100, height = 900, dark = false, before = null } = {}) {
+  async page(url, { width = 1100, height = 900, dark = false, forced = false, before = null } = {}) {
     const { targetId } = await this.send('Target.createTarget', { url: 'about:blank' });
     const { sessionId } = await this.send('Target.attachToTarget', { targetId, flatten: true });
     const page = new Tab(this, targetId, sessionId);
     await page.send('Page.enable');
     await page.send('Runtime.enable');
     await page.send('Emulation.setDeviceMetricsOverride', { width, height, deviceScaleFactor: 1, mobile: width < 600 });
-    await page.send('Emulation.setEmulatedMedia', { features: [{ name: 'prefers-color-scheme', value: dark ? 'dark' : 'light' }] });
+    const features = [{ name: 'prefers-color-scheme', value: dark ? 'dark' : 'light' }, { name: 'forced-colors', value: forced ? 'active' : 'none' }];
+    await page.send('Emulation.setEmulatedMedia', { features });
     if (before) await page.send('Page.addScriptToEvaluateOnNewDocument', { source: before });
     await page.send('Page.navigate', { url });
     await page.until("document.body?.dataset.ready === 'yes'");

@@ -94,6 +94,7 @@ await is('no letter is cut in two', plain('😀'.repeat(3), 3), '\u2068😀…\u
 await is('a plain text', plain('a\u2067b'), '\u2068a‹U+2067›b\u2069');
 await is('names keep zoom and column', ['tiles/12/2120/1451.pbf', 'a/b.mvt', 'b.pbf.gz', '12/2120/1451.mvt', '.mvt'].map(stemOf), ['12-2120-1451', 'b', 'b', '12-2120-1451', 'tile']);
 await is('CSV', csvOf(['a', 'b'], [['x,y', 1], ['say "so"', null]]), 'a,b\r\n"x,y",1\r\n"say ""so""",\r\n');
+await is('CSV without formulas', csvOf(['a'], [['=1+1'], ['-2.mvt'], ['@x'], ['+1'], ['\t=1'], [-1], ['a=1']]), "a\r\n'=1+1\r\n'-2.mvt\r\n'@x\r\n'+1\r\n'\t=1\r\n-1\r\na=1\r\n");
 await is('groups', [1, 1234, 67108864].map(grouped), ['1', '1,234', '67,108,864']);
 await is('JSON keeps its digits', laidOut('{"id":18446744073709551615,"a":["b, {c","\\""]}'), '{"id": 18446744073709551615, "a": ["b, {c", "\\""]}');
 const long = `[${'"abcdefghij",'.repeat(20)}[]]`;

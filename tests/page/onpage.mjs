@@ -1,5 +1,5 @@
 // What the tests of the page in headless Chromium have in common.
-import { writeFileSync } from 'node:fs';
+import { existsSync, readFileSync, writeFileSync } from 'node:fs';
 import { join } from 'node:path';
 import { pathToFileURL } from 'node:url';
 import { Browser } from './browser.mjs';
@@ -33,6 +33,18 @@ export class OnPage {
         await page.close();
       }
     });
+  }
+
+  /** What a page saves when a button is clicked, once it is there. */
+  async saved(page, button, name) {
+    const path = join(this.folder, name);
+    await this.browser.send('Browser.setDownloadBehavior', { behavior: 'allow', downloadPath: this.folder });
+    await page.value(clickNamed(button));
+    for (const end = Date.now() + 20_000; !existsSync(path) || existsSync(`${path}.crdownload`);) {
+      if (Date.now() > end) throw new Error(`not saved after 20 seconds: ${name}`);
+      await new Promise((resolve) => setTimeout(resolve, 50));
+    }
+    return readFileSync(path);
   }
 
   async end() {

@@ -9,18 +9,7 @@ const on = new OnPage(process.argv.slice(2));
 const { browser, folder } = on;
 const made = on.made.bind(on);
 const onPage = on.check.bind(on);
-const until = (holds) => new Promise((resolve, reject) => {
-  const end = Date.now() + 20_000;
-  const look = () => (holds() ? resolve() : Date.now() > end ? reject(new Error(`not so after 20 seconds: ${holds}`)) : setTimeout(look, 50));
-  look();
-});
-/** What a page saves, once it is there. */
-async function saved(page, button, name) {
-  await browser.send('Browser.setDownloadBehavior', { behavior: 'allow', downloadPath: folder });
-  await page.value(clickNamed(button));
-  await until(() => existsSync(join(folder, name)) && !existsSync(join(folder, `${name}.crdownload`)));
-  return readFileSync(join(folder, name));
-}
+const saved = on.saved.bind(on);
 
 // ---- a good tile
 
@@ -270,7 +259,7 @@ await onPage('by keyboard: an example is opened, and its heading has the focus',
     if ((await page.value('document.activeElement.id')) === 'broken.mvt') break;
   }
   await page.press('Enter');
-  await page.until("document.querySelector('.verdict.refused') && document.activeElement.tagName === 'H2'");
+  await page.until("document.querySelector('.hex') && document.activeElement.tagName === 'H2'");
   const seen = [];
   for (let step = 0; step < 3; step += 1) {
     await page.press('Tab');

@@ -1,36 +1,40 @@
 // The pictures of the page for the documents: pictures.mjs CHROMIUM PAGE FOLDER
-import { writeFileSync } from 'node:fs';
-import { join } from 'node:path';
-import { pathToFileURL } from 'node:url';
-import { Browser } from './browser.mjs';
+import { OnPage, click, clickLabelled, drawn, look, tiles } from './onpage.mjs';
 
-const [chromium, file, folder] = process.argv.slice(2);
-const tiles = new URL('../../examples/tiles', import.meta.url).pathname;
-const browser = new Browser(chromium);
-const isShown = "document.querySelector('#tile article, #list tbody tr') && !document.body.classList.contains('busy')";
+const on = new OnPage(process.argv.slice(2));
+const WIDE = { width: 1400, height: 900 };
+const PHONE = { width: 390, height: 844, dark: true };
 
-/** Without files it is the page's own broken tile. */
-async function picture(name, how, files, then = null) {
-  const page = await browser.page(pathToFileURL(file).href, how);
-  if (files.length > 0) await page.choose(files.map((each) => `${tiles}/${each}`));
-  else await page.value("document.getElementById('broken.mvt').click()");
-  await page.until(isShown);
-  if (then) await page.value(then);
-  await new Promise((resolve) => setTimeout(resolve, 300));
-  writeFileSync(join(folder, `${name}.png`), await page.screenshot());
+/** The picture of a page in which a person has done something. */
+async function picture(name, how, does) {
+  const page = await on.browser.page(on.url, how);
+  await does(page);
+  await new Promise((resolve) => setTimeout(resolve, 500));
+  on.made(`${name}.png`, await page.screenshot());
   await page.close();
 }
 
-const openRoads = `(async () => {
-  const layer = document.querySelectorAll('.layer')[1];
-  layer.querySelector('details').open = true;
-  await new Promise((resolve) => setTimeout(resolve, 100));
-  layer.querySelector('li button').click();
-})()`;
-const openBroken = "document.querySelectorAll('#list tbody .link')[4].click()";
+await picture('page-accepted', WIDE, async (page) => {
+  await look(page, [`${tiles}/gdal.mvt`]);
+  await drawn(page);
+  await page.value(clickLabelled('The features of \u2068roads\u2069'));
+  await page.until("document.querySelectorAll('.features tbody button').length === 2");
+  await page.value(click('.features tbody button'));
+  await page.until("document.querySelector('.attributes')");
+  await page.value(click('[aria-label="Show the whole tile"]'));
+  await drawn(page);
+});
 
-await picture('page-accepted', {}, ['gdal.mvt'], openRoads);
-await picture('page-refused', {}, []);
-const some = ['gdal.mvt', 'postgis.mvt', 'point.mvt', 'broken/07-NotUtf8.mvt', 'broken/22-FirstRing.mvt', 'broken/25-TooLarge.mvt.gz'];
-await picture('page-several', { width: 390, height: 800, dark: true }, some, openBroken);
-await browser.close();
+await picture('page-refused', WIDE, async (page) => {
+  await page.value("document.getElementById('broken.mvt').click()");
+  await page.until("document.querySelector('.shape')");
+});
+
+await picture('page-several', PHONE, async (page) => {
+  const some = ['gdal.mvt', 'postgis.mvt', 'point.mvt', 'broken/07-NotUtf8.mvt', 'broken/22-FirstRing.mvt', 'broken/25-TooLarge.mvt.gz'];
+  await look(page, some.map((each) => `${tiles}/${each}`));
+  await page.value("document.querySelectorAll('#list tbody .link')[4].click()");
+  await page.until("document.querySelector('.shape')");
+});
+
+await on.browser.close();

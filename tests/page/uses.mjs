@@ -1,7 +1,8 @@
 // How a person uses the page in headless Chromium, by mouse, fingers and keys: uses.mjs CHROMIUM PAGE FOLDER
 import { readFileSync } from 'node:fs';
 import { brotliCompressSync, gzipSync } from 'node:zlib';
-import { OnPage, click, clickNamed, drawn, look, painted, same, spotOf, textOf, texts, tiles } from './onpage.mjs';
+import { pointTile } from './large.mjs';
+import { OnPage, click, clickNamed, colourAt, drawn, look, painted, same, spotOf, textOf, texts, tiles } from './onpage.mjs';
 
 const on = new OnPage(process.argv.slice(2));
 const made = on.made.bind(on);
@@ -79,6 +80,31 @@ await onPage('hovering tells what is near, a line before the area below it', WID
   return same((await page.value(texts('.tip div'))).map((line) => line.split(' ')[0]), ['roads', 'water']);
 });
 
+await onPage('the colour of a layer is chosen', WIDE, async (page) => {
+  await look(page, [gdal]);
+  await drawn(page);
+  const pond = colourAt(2400 / 4096, 1000 / 4096);
+  const before = await page.value(pond);
+  await page.value(`(() => {
+    const input = document.querySelector('[aria-label="The colour of \u2068water\u2069"]');
+    input.value = '#ff00ff';
+    input.dispatchEvent(new Event('input'));
+  })()`);
+  await page.until(`document.querySelector('.paper').dataset.state === 'drawn' && ${pond}[1] < 10`);
+  const [r, g, b] = await page.value(pond);
+  return same([before[1] > 100, r > 245, g < 10, b > 245], [true, true, true, true]);
+});
+
+await onPage('drawing is stopped by its button', WIDE, async (page) => {
+  await page.value(`new MutationObserver(() => [...document.querySelectorAll('.tools button:not([hidden])')].find((each) => each.textContent === 'Stop drawing')?.click())
+    .observe(document.getElementById('tile'), { subtree: true, childList: true, attributes: true, attributeFilter: ['hidden'] })`);
+  await look(page, [made('many.mvt', pointTile(1_000_000).bytes)]);
+  await page.until("document.querySelector('.paper')?.dataset.state === 'stopped'");
+  const told = await page.value(textOf('.state'));
+  const some = await page.value(painted());
+  return (/^Stopped after [\d,]+ of 1,000,000 features\.$/.test(told) && some > 0) || `${told} ${some}`;
+});
+
 await onPage('the faulty feature is drawn up to its fault', WIDE, async (page) => {
   await look(page, [broken('20-ZeroSegment')]);
   const told = await page.value("document.querySelector('.shape canvas').getAttribute('aria-label')");
@@ -137,6 +163,19 @@ await onPage('a list counts causes in words, is filtered by them and by text, an
   return same([chips.includes('2 a first ring goes the wrong way round'), chips.at(-1), some, found, sorted],
     [true, '2 accepted', ['22-FirstRing.mvt', '22-FirstRing.mvt'], ['14-KeyIndex.mvt'],
       ['14-KeyIndex.mvt', '20-ZeroSegment.mvt', '22-FirstRing.mvt', '22-FirstRing.mvt', 'gdal.mvt', 'postgis.mvt']]);
+});
+
+await onPage('a list tells of a tile of version 1 that it was not looked into', WIDE, async (page) => {
+  await look(page, [gdal, made('first.mvt', Buffer.of(0x1a, 5, 0x78, 1, 0x0a, 1, 0x61))]);
+  const rows = await page.value(texts('#list tbody td:last-child'));
+  const [good, old] = await page.value("[...document.querySelectorAll('#list tbody td:last-child')].filter((cell) => cell.textContent).map((cell) => getComputedStyle(cell).color)");
+  return same([rows.filter(Boolean), good === old], [['accepted', 'accepted, but 1 layer not looked into'], false]);
+});
+
+await onPage('a list is saved as CSV, in which no name is a formula', WIDE, async (page) => {
+  await look(page, [made('=1+1.mvt', readFileSync(gdal)), broken('22-FirstRing')]);
+  const lines = String(await on.saved(page, 'Save as CSV', 'tiles.csv')).split('\r\n');
+  return same([lines[0].split(',')[0], lines[1].startsWith("'=1+1.mvt,499,accepted,"), lines[2].startsWith('22-FirstRing.mvt,22,refused,0,0,8,22,FirstRing,'), lines.length], ['file', true, true, 4]);
 });
 
 await onPage('an older list is stopped, and never shows itself', WIDE, async (page) => {
@@ -235,6 +274,16 @@ await onPage('the picture is one image with a text', {}, async (page) => {
   const { nodes } = await page.send('Accessibility.getFullAXTree');
   const images = nodes.filter((node) => ['img', 'image'].includes(node.role?.value) && !node.ignored).map((node) => node.name.value);
   return same(images, ['The tile’s picture: 3 layers, 7 features, 30 positions.']);
+});
+
+await onPage('what is chosen can be read in forced colours', { ...WIDE, forced: true }, async (page) => {
+  await look(page, several);
+  await page.value("document.querySelectorAll('#list tbody button')[1].click()");
+  await page.until("document.querySelector('.shape') && !document.body.classList.contains('busy')");
+  await page.value(click('.chip'));
+  const colours = await page.value(`['.chip[aria-pressed=true]', '#list .current'].map((chosen) => [...document.querySelectorAll(chosen + ', ' + chosen + ' *')]
+    .map((each) => getComputedStyle(each).color)).map((all) => new Set(all).size)`);
+  return same(colours, [1, 1]);
 });
 
 // ---- the bytes
