@@ -100,11 +100,14 @@ static uint32_t add_text(builder *b, mvt_bytes text, mvt_span *at) {
 /* Where a call is due. */
 typedef enum { ANYWHERE, IN_LAYER, IN_FEATURE } turn;
 
+/* What a builder holds whose first call found no memory, so that its later calls say so too. It is never written. */
+static const builder WITHOUT_MEMORY = {.failure = MVT_NO_MEMORY};
+
 /* Enters a call: finds the builder, which the first call makes, and whether the call is due. */
 static uint32_t enter(mvt_builder *of, turn due, builder **b) {
     if (of->held == NULL) of->held = calloc(1, sizeof(builder));
+    if (of->held == NULL) of->held = (void *)&WITHOUT_MEMORY;
     *b = of->held;
-    if (*b == NULL) return MVT_NO_MEMORY;
     if ((*b)->failure != MVT_OK) return (*b)->failure;
     const int is_due = due == ANYWHERE || (due == IN_LAYER ? (*b)->in_layer : (*b)->in_feature);
     return is_due ? MVT_OK : fail(*b, MVT_OUT_OF_TURN);
@@ -368,7 +371,7 @@ mvt_status mvt_builder_finish(mvt_builder *of, mvt_bytes *out) {
 void mvt_builder_free(mvt_builder *of) {
     builder *b = of->held;
     of->held = NULL;
-    if (b == NULL) return;
+    if (b == NULL || b == &WITHOUT_MEMORY) return;
     for (int kind = 0; kind < LISTS; ++kind) free(b->lists[kind].rows);
     clear(&b->keys);
     clear(&b->values);

@@ -23,35 +23,27 @@ class Body:
         return self.path.stem
 
 
-def pairs_of(text: str) -> list[tuple[str, str, str]]:
-    """The file, the old and the new text of each change."""
-    found, path, old = [], "", ""
-    for line in text.split("\n"):
-        if line.startswith("file: "):
-            path = line[len("file: ") :].strip()
-        elif line.startswith("old: "):
-            old = line[len("old: ") :]
-        elif line.startswith("new:"):
-            found.append((path, old, line[len("new:") :].removeprefix(" ")))
-    return found
+def around(text: str, found: list[Function]) -> list[str]:
+    """What of a file stands outside the bodies of its functions, piece by piece."""
+    starts = [0, *(it.end for it in found)]
+    ends = [*(it.body for it in found), len(text)]
+    return [text[start:end] for start, end in zip(starts, ends)]
 
 
 def read(crate, path: Path, texts: dict[str, str]) -> Body:
     """A wrong body, and the functions in whose bodies it stands, if all of it stands in some."""
     body = Body(crate.name, path)
-    body.why_unread = RT.read_edit(str(path), crate.folder)[1]
-    if body.why_unread:
-        return body
-    for file, old, new in pairs_of(path.read_text(encoding="utf-8")):
-        text = texts[file]
-        at = text.find(old)
-        inside = [it for it in functions(text) if it.body <= at and at + len(old) <= it.end]
-        if text.count(old) != 1 or not file.startswith("src/") or not inside:
+    edited, body.why_unread = RT.read_edit(str(path), crate.folder)
+    for file, new in (edited or {}).items():
+        old = texts[file]
+        were, are = functions(old), functions(new)
+        if not file.startswith("src/") or around(old, were) != around(new, are):
             body.functions = []
             return body
-        body.spans.append((file, at, at + len(old), new))
-        if (file, inside[0]) not in body.functions:
-            body.functions.append((file, inside[0]))
+        for was, now in zip(were, are):
+            if old[was.body : was.end] != new[now.body : now.end]:
+                body.spans.append((file, was.body, was.end, new[now.body : now.end]))
+                body.functions.append((file, was))
     return body
 
 

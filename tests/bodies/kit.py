@@ -52,7 +52,25 @@ def build_below(crate, after_ci: bool) -> bool:
     return True
 
 
-def check(crate, texts: dict[str, str], kept: Path, only: list[str], jobs: int = 1) -> tuple[int, str]:
+class Spent:
+    """How many checks ran, and the seconds of processors that they took."""
+
+    def __init__(self) -> None:
+        self.checks, self.seconds = 0, 0.0
+
+    def run(self, words: list[str], room: str) -> tuple[int, str]:
+        with tempfile.TemporaryFile("w+", errors="replace") as told:
+            how = {"stdin": subprocess.DEVNULL, "stdout": told, "stderr": subprocess.STDOUT}
+            process = subprocess.Popen([*RT.rtlib.guarded(), *words], cwd=room, **how)
+            _, status, used = os.wait4(process.pid, 0)
+            process.returncode = os.waitstatus_to_exitcode(status)
+            self.checks += 1
+            self.seconds += used.ru_utime + used.ru_stime
+            told.seek(0)
+            return process.returncode, told.read()
+
+
+def check(crate, texts: dict[str, str], kept: Path, only: list[str], spent: Spent, jobs: int = 1) -> tuple[int, str]:
     """Checks a copy of the crate with these texts in place of its own, over what `kept` holds."""
     with tempfile.TemporaryDirectory(prefix="wrong-bodies-") as room:
         for part in RT.rtlib.PARTS:
@@ -62,16 +80,7 @@ def check(crate, texts: dict[str, str], kept: Path, only: list[str], jobs: int =
             Path(room, path).write_text(text, encoding="utf-8")
         words = [RT.rtlib.RATTLE, "check", *crate.words(["--jobs", str(jobs)], keeps=False)]
         words += ["--incremental", str(kept), *(word for name in only for word in ("--only", name))]
-        ran = subprocess.run(
-            [*RT.rtlib.guarded(), *words],
-            cwd=room,
-            stdin=subprocess.DEVNULL,
-            stdout=subprocess.PIPE,
-            stderr=subprocess.STDOUT,
-            text=True,
-            errors="replace",
-        )
-    return ran.returncode, ran.stdout
+        return spent.run(words, room)
 
 
 def alone(crate, edit: Path, kept: Path | None) -> tuple[bool, str]:

@@ -6,7 +6,7 @@ from pathlib import Path
 
 from . import verdicts
 from .edits import Body, batches, joined, names_in, texts_of
-from .kit import alone, check
+from .kit import Spent, alone, check
 
 # A body whose function says nothing of its own because one that it calls isn't proved comes again, so often.
 TURNS = 3
@@ -27,6 +27,8 @@ class Trial:
         self.texts = texts_of(crate)
         self.known: list[str] = []
         self.single: list[Body] = []
+        self.spent = Spent()
+        self.alone = 0
 
     def run(self, bodies: list[Body]) -> None:
         """Tries all of them: in batches, those that are left in later ones, and at last each alone."""
@@ -50,7 +52,7 @@ class Trial:
         changed = joined(batch, self.texts)
         named = [names_in(it, self.known) for it in batch]
         only = sorted({name for names in named for name in names}) if all(named) else []
-        _, text = check(self.crate, changed, self.kept, only, self.jobs())
+        _, text = check(self.crate, changed, self.kept, only, self.spent, self.jobs())
         told = verdicts.read(self.crate.name, text, changed)
         if not told.ended or told.unread:
             return self.without_unreadable(batch, text)
@@ -83,8 +85,13 @@ class Trial:
                 left.append(body)
         return left
 
+    def cost(self) -> str:
+        told = f"{self.spent.checks} checks, {self.spent.seconds:.0f} seconds of processors"
+        return f"{told}, and {self.alone} bodies alone" if self.alone else told
+
     def try_alone(self, body: Body) -> None:
         """As `rt must-fail` does: over kept work, and from nothing where that doesn't refuse it."""
+        self.alone += 1
         refused, why = alone(self.crate, body.path, self.kept)
         if not refused:
             refused, why = alone(self.crate, body.path, None)

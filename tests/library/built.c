@@ -198,7 +198,7 @@ static void explain(void) {
     require(!place.has_layer_name && !place.has_feature_id, "a layer that isn't there");
     for (fault.cause = 1; fault.cause <= 26; ++fault.cause) {
         const char *said = mvt_explain(bytes, sizeof bytes, &fault);
-        require(said != NULL && (fault.cause == 9 || strlen(said) > 20), "a sentence for each cause");
+        require(said != NULL && (fault.cause == 9 || strlen(said) > 15), "a sentence for each cause");
     }
     require(mvt_explain(NULL, 0, &fault) != NULL && mvt_explain(bytes, 0, &fault) != NULL, "a cause that isn't there");
     fault.cause = 4;

@@ -351,8 +351,8 @@ class BrokenTiles(unittest.TestCase):
                 self.assertIn("look compressed", caught.exception.explanation)
             with self.assertRaises(mvt.Refused) as caught:
                 decoder = mvt.Decoder()
-                for at in range(len(packed)):
-                    decoder.feed(packed[at : at + 1])
+                for at in range(0, len(packed), 2):
+                    decoder.feed(packed[at : at + 2])
                 decoder.finish()
             self.assertIn("look compressed", caught.exception.explanation)
 

@@ -79,7 +79,7 @@ void lend() {
 void explain() {
     // The layer `a` with a feature of id 7 whose line goes nowhere.
     const std::string broken("\x1a\x13\x78\x02\x0a\x01" "a\x12\x0c\x08\x07\x18\x02\x22\x06\x09\x00\x00\x0a\x00\x00", 21);
-    for (const std::string &of : {broken, std::string("\x1f\x8b\x08"), std::string("\x78\x9c\x01")}) {
+    for (const std::string &of : {broken, std::string("\x1f\x8b\x08"), std::string("\x78\x9c\xff")}) {
         try {
             mvt::judge(of);
             require(false, "a broken tile was taken");

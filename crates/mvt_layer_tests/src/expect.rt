@@ -1,5 +1,5 @@
-//! Assertions as calls. An `assert_eq!` that is written out in a test is proved again for each way that
-//! leads to it; a call has one way, and what it calls is proved once.
+//! Assertions as calls. An `assert_eq!` that is written out in a test is proved again for each way
+//! that leads to it; a call has one way, and what it calls is proved once.
 ghost use Rattle.std.specs.Prelude.{◌≡◌, true};
 
 use std::fmt::{Debug, Display};
@@ -22,7 +22,8 @@ macro_rules! expect {
     };
 }
 
-pub(crate) use {expect, expect_eq};
+pub(crate) use expect;
+pub(crate) use expect_eq;
 
 pub(crate) fn equal<T: PartialEq + Debug + Drop, N: Display + Drop>(
     rt: &impl Abort,

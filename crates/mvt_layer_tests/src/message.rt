@@ -90,11 +90,7 @@ fn judge_short(alloc: Global, payload: &[u8]) -> Result<Option<&str>, MessageErr
 }
 
 // What such a payload is refused for, read or judged.
-fn expect_refused(
-    rt: &(impl Abort + AllocGlobal),
-    payload: &[u8],
-    place: (Option<u32>, u64, u32),
-) {
+fn expect_refused(rt: &(impl Abort + AllocGlobal), payload: &[u8], place: (Option<u32>, u64, u32)) {
     let read = read_short(rt.alloc(), payload).err();
     expect_eq!(rt; read.map(place_of), Some(place));
     let judged = judge_short(rt.alloc(), payload).err();

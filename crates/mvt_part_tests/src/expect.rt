@@ -1,7 +1,5 @@
-//! Assertions as calls. An `assert_eq!` that is written out in a test is proved again for each way that
-//! leads to it; a call has one way, and what it calls is proved once.
-ghost use Rattle.std.specs.Prelude.{◌≡◌, true};
-
+//! Assertions as calls. An `assert_eq!` that is written out in a test is proved again for each way
+//! that leads to it; a call has one way, and what it calls is proved once.
 use std::fmt::{Debug, Display};
 use std::process::Abort;
 
@@ -34,8 +32,6 @@ pub(crate) fn equal<T: PartialEq + Debug + Drop, N: Display + Drop>(
     assert_eq!(rt; found, expected, "{note}");
 }
 
-pub(crate) fn holds(rt: &impl Abort, holds: bool, note: &str)
-    ensures { holds ≡ true }
-{
+pub(crate) fn holds(rt: &impl Abort, holds: bool, note: &str) {
     assert!(rt; holds, "{note}");
 }

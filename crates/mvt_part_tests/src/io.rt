@@ -126,7 +126,7 @@ fn writes_whole(rt: HostRuntime) {
     drop(writer);
 }
 
-// A writer of this room, which takes these many bytes at a time and fails from a write on, takes this
+// A writer of this room, which takes so many bytes at a time and fails from a write on, takes this
 // front of the tile, and fails to flush.
 fn expect_write_fails(
     rt: &(impl Abort + AllocGlobal),

@@ -59,7 +59,7 @@ class Agree(Case):
         tiles = {name: self.tiles[name] for name in ("20-ZeroSegment", "24-RepeatedName", "03-FieldNumber-zero")}
         # a layer "roads" with the feature 7, whose line stands still, and an id beyond 63 bits
         roads = b"\x78\x02\x0a\x05roads\x12\x0c\x08\x07\x18\x02\x22\x06\x09\x04\x04\x0a\x00\x00"
-        large = b"\x78\x02\x0a\x01a\x12\x14\x08" + b"\xff" * 9 + b"\x01\x18\x02\x22\x06\x09\x04\x04\x0a\x00\x00"
+        large = b"\x78\x02\x0a\x01a\x12\x15\x08" + b"\xff" * 9 + b"\x01\x18\x02\x22\x06\x09\x04\x04\x0a\x00\x00"
         tiles.update(roads=bytes([0x1A, len(roads)]) + roads, large=bytes([0x1A, len(large)]) + large)
         make_mbtiles(self.room / "a.mbtiles", at_places(tiles.values()))
         audit(self.room / "a.mbtiles", "--into", self.into)

@@ -4,6 +4,7 @@ import asyncio
 import contextlib
 import importlib
 import logging
+import os
 import signal
 from typing import Any, Callable, Dict, Iterator, List, NamedTuple, Optional, Sequence, Tuple
 
@@ -33,6 +34,8 @@ class Lost(NamedTuple):
 @contextlib.contextmanager
 def workers(count: int, scheduler: Optional[str]) -> Iterator[Any]:
     """A client of a scheduler, or of so many processes on this machine."""
+    # Read by the workers too, which would tell of their own beginning and end on this terminal.
+    os.environ.setdefault("DASK_LOGGING__DISTRIBUTED", "critical")
     dask: Any = importlib.import_module("distributed")
     for name in ("distributed", "tornado", "asyncio"):
         logging.getLogger(name).setLevel(logging.CRITICAL)
