@@ -4,7 +4,7 @@ ghost use Rattle.std.specs.Prelude.{◌≡◌, ◌≤◌, length, bytes_eq, IsUt
 use std::marker::Model;
 
 /// The most bytes of a text that is kept in place.
-pub const ROOM: usize = 14;
+pub(crate) const ROOM: usize = 14;
 
 /// A text of at most `ROOM` bytes: the front of an array, and zeros behind it, so that two texts
 /// are compared as texts of one length that the compiler knows.

@@ -7,7 +7,6 @@ mod items;
 pub mod laws;
 mod text;
 
-pub use inline::ROOM;
 pub use items::Items;
 pub use text::Text;
 

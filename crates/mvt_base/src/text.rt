@@ -12,7 +12,7 @@ use std::sync::ArcStr;
 
 /// A text that contracts see as its bytes, which are UTF-8.
 ///
-/// Up to `ROOM` bytes lie in the value itself; a longer text is a `String` that its copies share,
+/// Up to 14 bytes lie in the value itself; a longer text is a `String` that its copies share,
 /// so a copy of a text never copies a long text's bytes.
 #[derive(Drop)]
 pub struct Text {
@@ -44,7 +44,7 @@ impl Text {
     /// When memory runs out.
     pub fn from_str(alloc: Global, text: &str) -> Result<Self, AllocError>
         ensures same { IfOk result (λ copy. copy ≡ text.now) }
-        ensures short { length text.now ≤ ROOM → IsOk result }
+        ensures short { length text.now ≤ 14 → IsOk result }
     {
         let repr = if text.len() <= ROOM {
             Repr::Short(Inline::of(text))
@@ -61,7 +61,7 @@ impl Text {
     /// When memory runs out: a long text needs a block for the count of its copies.
     pub fn from_string(string: String) -> Result<Self, AllocError>
         ensures same { IfOk result (λ text. text ≡ string_bytes string) }
-        ensures short { length (string_bytes string) ≤ ROOM → IsOk result }
+        ensures short { length (string_bytes string) ≤ 14 → IsOk result }
     {
         let repr = if string.len() <= ROOM {
             Repr::Short(Inline::of(string.as_str()))
@@ -92,7 +92,7 @@ impl Text {
     #[inline(always)]
     pub fn copy(&self, alloc: Global) -> Result<Self, AllocError>
         ensures same { IfOk result (λ copy. copy ≡ self.now) }
-        ensures short { length self.now ≤ ROOM → IsOk result }
+        ensures short { length self.now ≤ 14 → IsOk result }
     {
         let repr = match &self.repr {
             Repr::Short(text) => Repr::Short(text.copy()),

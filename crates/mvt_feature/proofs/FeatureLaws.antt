@@ -9,11 +9,19 @@ pub use Rattle.mvt_feature.proofs.KnownLemmas.{number_more}
 pub use Rattle.mvt_feature.proofs.BoundLemmas.{bound_holds}
 pub use Rattle.mvt_feature.proofs.RangeLemmas.{value_valid as read_is_valid_value, feature_valid as read_is_valid_feature}
 use Rattle.std.specs.List.{AllByRecursion}
-use Rattle.std.specs.Prelude.{List, [], ℕ}
+use Rattle.std.specs.Prelude.{◌≡◌, List, [], ℕ, refl}
+use Rattle.mvt_feature.specs.declared.numbers.feature.TheConstants.{ID, TAGS, TYPE, GEOMETRY}
+use Rattle.mvt_feature.specs.declared.numbers.value.TheConstants.{STRING, FLOAT, DOUBLE, INT, UINT, SINT, BOOL}
 use Rattle.mvt_feature.proofs.RangeLemmas.{fields_range}
 use Rattle.mvt_feature.specs.Ranges.{AreBytes, IsInRange}
 use Rattle.mvt_wire.specs.Field.{Entry}
 use Rattle.mvt_wire.specs.Split.{Whole}
+
+pub field_numbers_feature : (ID ≡ 1) × (TAGS ≡ 2) × (TYPE ≡ 3) × (GEOMETRY ≡ 4)
+field_numbers_feature = (refl, refl, refl, refl)
+
+pub field_numbers_value : (STRING ≡ 1) × (FLOAT ≡ 2) × (DOUBLE ≡ 3) × (INT ≡ 4) × (UINT ≡ 5) × (SINT ≡ 6) × (BOOL ≡ 7)
+field_numbers_value = (refl, refl, refl, refl, refl, refl, refl)
 
 pub read_is_valid_fields : (payload : List ℕ) (fields : List Entry) → AreBytes payload → Whole payload fields
     → AllByRecursion (λ (x : Entry). IsInRange x.content) fields

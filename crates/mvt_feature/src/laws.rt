@@ -3,6 +3,8 @@ ghost use Rattle.std.specs.Prelude.{◌≡◌, ◌==◌, ◌↔◌, ℕ, ◌+◌
 ghost use Rattle.std.specs.List.{AllByRecursion};
 ghost use Rattle.mvt_base.specs.Rules.{AreOrdered, IsLeast, each, first};
 ghost use Rattle.mvt_attrs.specs.declared.value.Value.{Value};
+ghost use Rattle.mvt_feature.specs.declared.numbers.feature.TheConstants.{ID, TAGS, TYPE, GEOMETRY};
+ghost use Rattle.mvt_feature.specs.declared.numbers.value.TheConstants.{STRING, FLOAT, DOUBLE, INT, UINT, SINT, BOOL};
 ghost use Rattle.mvt_feature.specs.declared.feature.Feature.{Feature};
 ghost use Rattle.mvt_attrs.specs.Tags.{Names};
 ghost use Rattle.mvt_attrs.specs.TagPlaces.{tags_in};
@@ -27,6 +29,13 @@ ghost use Rattle.mvt_feature.specs.Values.{IsValueOf};
 ghost use Rattle.mvt_feature.specs.ValueIn.{value_in};
 ghost use Rattle.mvt_feature.specs.ValueRules.{value_rules, value_fault};
 ghost use Rattle.mvt_feature.specs.Walks.{Walk};
+
+/// The fields of a feature, and those of a value, have the standard's numbers (4.1). Definitions and
+/// code name the constants, so this alone refuses another number.
+pub fn field_numbers()
+    ensures feature { (ID ≡ 1) × (TAGS ≡ 2) × (TYPE ≡ 3) × (GEOMETRY ≡ 4) }
+    ensures value { (STRING ≡ 1) × (FLOAT ≡ 2) × (DOUBLE ≡ 3) × (INT ≡ 4) × (UINT ≡ 5) × (SINT ≡ 6) × (BOOL ≡ 7) }
+{}
 
 /// A payload without a fault is just one value, and a payload that is a value has no fault.
 pub fn value_or_fault()

@@ -2,7 +2,6 @@
 ghost use Rattle.std.specs.Prelude.{◌≡◌, ◌↔◌, ◌<◌, length, IfOk, OnErr, IsTrue};
 ghost use Rattle.std.specs.List.{AllByRecursion};
 ghost use Rattle.mvt_attrs.specs.Tags.{HasDistinctKeys, has_key};
-ghost use Rattle.mvt_feature.specs.declared.validity.TheConstants.{FEW};
 ghost use Rattle.mvt_feature.specs.Valid.{ValidValue, ValidAttribute, ValidFeature};
 
 use crate::feature::Feature;
@@ -33,7 +32,7 @@ pub fn is_valid_feature(feature: &Feature) -> bool
 /// When memory runs out.
 pub fn validate_feature(alloc: Global, feature: &Feature) -> Result<bool, AllocError>
     ensures valid { IfOk result (λ valid. IsTrue valid ↔ ValidFeature feature.now) }
-    ensures few { OnErr result (FEW < length feature.now.attributes) }
+    ensures few { OnErr result (16 < length feature.now.attributes) }
 {
     let attributes = feature.attributes.as_slice();
     if attributes.len() <= FEW {

@@ -4,3 +4,8 @@ pub use Rattle.mvt_message.proofs.CanonicalLemmas.{item_canonical as canonical_r
 pub use Rattle.mvt_message.proofs.PoolLemmas.{keys_more as pools_by_features_more_keys, values_more as pools_by_features_more_values, keys_beyond as pools_by_features_beyond_keys, values_beyond as pools_by_features_beyond_values}
 pub use Rattle.mvt_message.proofs.BoundLemmas.{bound_holds_lem as bound_holds}
 pub use Rattle.mvt_message.proofs.ValidLemmas.{old_items as old_items_stay}
+use Rattle.std.specs.Prelude.{◌≡◌, refl}
+use Rattle.mvt_message.specs.declared.numbers.layer.TheConstants.{NAME, FEATURES, KEYS, VALUES, EXTENT, VERSION}
+
+pub field_numbers : (NAME ≡ 1) × (FEATURES ≡ 2) × (KEYS ≡ 3) × (VALUES ≡ 4) × (EXTENT ≡ 5) × (VERSION ≡ 15)
+field_numbers = (refl, refl, refl, refl, refl, refl)

@@ -6,6 +6,7 @@ ghost use Rattle.mvt_attrs.specs.Pools.{key_pool, value_pool};
 ghost use Rattle.mvt_attrs.specs.TagPlaces.{IsIn};
 ghost use Rattle.mvt_feature.specs.declared.feature.Feature.{Feature};
 ghost use Rattle.mvt_feature.specs.Valid.{ValidFeature, ValidValue};
+ghost use Rattle.mvt_message.specs.declared.numbers.layer.TheConstants.{NAME, FEATURES, KEYS, VALUES, EXTENT, VERSION};
 ghost use Rattle.mvt_message.specs.declared.item.Item.{Item};
 ghost use Rattle.mvt_message.specs.ItemRules.{item_rules, item_fault, payload_names};
 ghost use Rattle.mvt_message.specs.Items.{IsItem, names_in};
@@ -14,6 +15,12 @@ ghost use Rattle.mvt_message.specs.CanonicalItems.{canonical_item, keys_of, valu
 ghost use Rattle.mvt_message.specs.ValidItems.{ValidItem, WasValidItem};
 
 use mvt_base::LIMIT;
+
+/// The fields of a layer have the standard's numbers (4.1). Definitions and code name the constants,
+/// so this alone refuses another number.
+pub fn field_numbers()
+    ensures { (NAME ≡ 1) × (FEATURES ≡ 2) × (KEYS ≡ 3) × (VALUES ≡ 4) × (EXTENT ≡ 5) × (VERSION ≡ 15) }
+{}
 
 /// A payload without a fault is an item, and that of an item has no fault.
 pub fn item_or_fault()

@@ -1,11 +1,18 @@
 //! Laws about the definitions alone: functions without effect, whose contract is the law.
-ghost use Rattle.std.specs.Prelude.{◌≤◌, length};
+ghost use Rattle.std.specs.Prelude.{◌≡◌, ◌≤◌, length};
+ghost use Rattle.mvt_model.specs.declared.numbers.tile.TheConstants.{LAYERS};
 ghost use Rattle.mvt_model.specs.declared.tile.Tile.{Tile};
 ghost use Rattle.mvt_model.specs.CanonicalTiles.{canonical};
 ghost use Rattle.mvt_model.specs.Tiles.{IsTile};
 ghost use Rattle.mvt_model.specs.ValidTiles.{Valid};
 
 use mvt_base::LIMIT;
+
+/// The layers of a tile have the standard's number (4.1). Definitions and code name the constant, so
+/// this alone refuses another number.
+pub fn field_numbers()
+    ensures { LAYERS ≡ 3 }
+{}
 
 /// The canonical bytes of a valid tile, within the limit, are that tile.
 pub fn canonical_reads()

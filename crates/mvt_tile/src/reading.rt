@@ -38,7 +38,7 @@ pub fn read_tile<R: Source>(alloc: Global, reader: &mut R) -> Result<Tile, Decod
         (λ input. Tells (fault_of error) (fault_within LIMIT input))) }
     ensures early { StopsEarly LIMIT 65536 (R.left reader.old) (R.left reader.new) }
     ensures stops { StopsEarly LIMIT (R.given reader.new) (R.left reader.old) (R.left reader.new) }
-    ensures reads { R.reads reader.new ≤ R.reads reader.old + MOST_READS }
+    ensures reads { R.reads reader.new ≤ R.reads reader.old + 67108866 }
     ensures asked { R.asked reader.new ≤ max (R.asked reader.old) 65536 }
     ensures failed { IfErr result (λ error. IsReadError error
         → HasFailed (R.failed reader.old) (R.failed reader.new)) }
