@@ -85,8 +85,8 @@ def check(crate, texts: dict[str, str], kept: Path, only: list[str], spent: Spen
 
 def alone(crate, edit: Path, kept: Path | None) -> tuple[bool, str]:
     """What `rt must-fail` says of one edit: whether it is refused, and why."""
-    refused, told = RT.must_fail(crate, str(edit), ["--jobs", "1"], str(kept) if kept else None)
-    return bool(refused), told.partition(f"{edit.name}: ")[2] or told
+    verdict, told = RT.must_fail(crate, str(edit), ["--jobs", "1"], str(kept) if kept else None)
+    return verdict in (RT.REFUSED, RT.AT_LIMIT), told.partition(f"{edit.name}: ")[2] or told
 
 
 def is_proved(crate) -> bool:
