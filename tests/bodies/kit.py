@@ -89,6 +89,11 @@ def alone(crate, edit: Path, kept: Path | None) -> tuple[bool, str]:
     return verdict in (RT.REFUSED, RT.AT_LIMIT), told.partition(f"{edit.name}: ")[2] or told
 
 
+def linked(kept: Path, to: Path) -> None:
+    """Gives kept work a second place, without copying its files. A check replaces such a file and never writes into it."""
+    RT.linked(str(kept), str(to))
+
+
 def is_proved(crate) -> bool:
     """Whether the crate itself is proved, over the work that `rt check` keeps."""
     words = [RT.rtlib.RATTLE, "check", *crate.words(["--jobs", "2"], keeps=False), *RT.rtlib.KEPT]

@@ -6,7 +6,7 @@ from pathlib import Path
 
 from . import verdicts
 from .edits import Body, batches, joined, names_in, texts_of
-from .kit import Spent, alone, check
+from .kit import Spent, alone, check, linked
 
 # A body whose function says nothing of its own because one that it calls isn't proved comes again, so often.
 TURNS = 3
@@ -30,10 +30,14 @@ class Trial:
         self.spent = Spent()
         self.alone = 0
 
-    def run(self, bodies: list[Body]) -> None:
-        """Tries all of them: in batches, those that are left in later ones, and at last each alone."""
+    def run(self, bodies: list[Body], seed: Path | None = None) -> None:
+        """Tries all of them: in batches, those that are left in later ones, and at last each alone. The first check begins
+        with what `seed` keeps of the crate's own proof, if that is there."""
         shutil.rmtree(self.kept, ignore_errors=True)
-        self.kept.mkdir(parents=True)
+        if seed and seed.is_dir():
+            linked(seed, self.kept)
+        else:
+            self.kept.mkdir(parents=True)
         for body in bodies:
             if body.why_unread:
                 self.say(body, False, f"BAD EDIT: {body.why_unread}")

@@ -1,6 +1,7 @@
 -- Values (4.1, message Value): seven kinds, each with values of its own.
-use Rattle.std.specs.Prelude.{Bool, false, not, ◌==◌, bytes_eq, if◌then◌else◌}
+use Rattle.std.specs.Prelude.{Bool, false, not, ◌==◌, ◌≤◌, length, bytes_eq, if◌then◌else◌, ⊤}
 use Rattle.std.specs.Ordering.{int_eq}
+use Rattle.mvt_base.specs.declared.inline.TheConstants.{ROOM}
 use Rattle.mvt_attrs.specs.declared.value.Value.{Value}
 use Rattle.mvt_attrs.specs.declared.value.Value.TheVariants.{Text, Float, Double, Int, Uint, Sint, Bool as Truth}
 
@@ -14,3 +15,8 @@ equal_values (Uint a) (Uint b) = a == b
 equal_values (Sint a) (Sint b) = int_eq a b
 equal_values (Truth a) (Truth b) = if a then b else not b
 equal_values _ _ = false
+
+-- a value without memory of its own: any but a long text
+abbrev pub LiesInPlace : Value → Type 0
+LiesInPlace (Text text) = length text ≤ ROOM
+LiesInPlace _ = ⊤

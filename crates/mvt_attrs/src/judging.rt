@@ -1,5 +1,5 @@
 //! Whether tags name attributes: one pass over them, which builds nothing.
-ghost use Rattle.std.specs.Prelude.{◌≡◌, ◌+◌, ◌^◌, ◌<◌, ◌≤◌, List, length, None, IfErr, OnOk};
+ghost use Rattle.std.specs.Prelude.{◌≡◌, ◌+◌, ◌^◌, ◌<◌, ◌≤◌, List, length, None, IfErr, IsErrOf, OnOk};
 ghost use Rattle.mvt_base.specs.Tells.{Tells};
 ghost use Rattle.mvt_attrs.specs.declared.value.Value.{Value};
 ghost use Rattle.mvt_attrs.specs.TagRules.{tag_fault, fault_of};
@@ -14,7 +14,7 @@ use std::alloc::Global;
 /// (4.4).
 ///
 /// The cost grows with the number of tags alone, but for the first feature of two pairs or more,
-/// which has the keys put in groups.
+/// which has the keys put in groups. Up to one pair needs no memory.
 ///
 /// # Errors
 ///
@@ -28,6 +28,7 @@ pub fn judge_tags(
     ensures ok { OnOk result ((held : List Value) → length held ≡ values → tag_fault keys.old held tags.now ≡ None) }
     ensures err { IfErr result (λ error. (held : List Value) → length held ≡ values
         → Tells (fault_of error) (tag_fault keys.old held tags.now)) }
+    ensures memory { IsErrOf result TagError.Memory → 2 < length tags.now }
     ensures same { keys.new ≡ keys.old }
 {
     let texts = keys.texts;
@@ -54,6 +55,7 @@ fn judge_pair(texts: &[Text], values: usize, tags: &[u32]) -> Result<(), TagErro
     ensures ok { OnOk result ((held : List Value) → length held ≡ values → tag_fault texts.now held tags.now ≡ None) }
     ensures err { IfErr result (λ error. (held : List Value) → length held ≡ values
         → Tells (fault_of error) (tag_fault texts.now held tags.now)) }
+    ensures never { IsErrOf result TagError.Memory → ⊥ }
 {
     match tags {
         [] => Ok(()),

@@ -1,5 +1,6 @@
 //! The value of an attribute, and its pair with a key.
-ghost use Rattle.std.specs.Prelude.{◌≡◌, IfOk};
+ghost use Rattle.std.specs.Prelude.{◌≡◌, IfOk, IsOk};
+ghost use Rattle.mvt_attrs.specs.Values.{LiesInPlace};
 
 use mvt_base::Text;
 use std::alloc::{AllocError, Global};
@@ -27,7 +28,8 @@ impl Value {
     /// As `Text::copy`.
     #[inline(always)]
     pub fn copy(&self, alloc: Global) -> Result<Value, AllocError>
-        ensures { IfOk result (λ copy. copy ≡ self.now) }
+        ensures same { IfOk result (λ copy. copy ≡ self.now) }
+        ensures in_place { LiesInPlace self.now → IsOk result }
     {
         match self {
             Value::Text(text) => Ok(Value::Text(text.copy(alloc)?)),

@@ -1,6 +1,7 @@
 //! Values (Mapbox Vector Tile Specification 2.1, 4.1, message Value).
 ghost use Rattle.std.specs.Prelude.{◌≡◌, ◌+◌, ◌^◌, ◌<◌, ℕ, List, [], length, Some, None, true, false, IfOk, IfErr, IsErrOf, OnOk, OnErr, MatchOption};
 ghost use Rattle.std.specs.Option.{option_or};
+ghost use Rattle.mvt_base.specs.declared.inline.TheConstants.{ROOM};
 ghost use Rattle.mvt_base.specs.Tells.{Tells};
 ghost use Rattle.mvt_base.specs.Rules.{each, first};
 ghost use Rattle.mvt_wire.specs.Field.{entry_of, content_of, varint, fixed64, fixed32, bytes};
@@ -25,7 +26,7 @@ use std::str;
 /// The value of a payload.
 ///
 /// `payload_at` is the absolute offset of the payload, and `tag_at` that of the tag of its field. A
-/// text is the only value that takes memory.
+/// text of more than 14 bytes is the only value that takes memory.
 ///
 /// # Errors
 ///
@@ -41,7 +42,8 @@ pub fn read_value(
     ensures value { IfOk result (IsValueOf payload.now) }
     ensures ok { OnOk result (value_fault payload.now payload_at tag_at ≡ None) }
     ensures err { IfErr result (λ error. Tells (fault_of error) (value_fault payload.now payload_at tag_at)) }
-    ensures memory { IsErrOf result MessageError.Memory → (text : List ℕ) × IsValueOf payload.now (values.Text text) }
+    ensures memory { IsErrOf result MessageError.Memory
+        → (text : List ℕ) × IsValueOf payload.now (values.Text text) × (ROOM < length text) }
 {
     Ok(read_meaning(payload, payload_at, tag_at)?.into_value(alloc)?)
 }
@@ -142,7 +144,7 @@ impl<'a> Kinds<'a> {
 impl Meaning<'_> {
     fn into_value(self, alloc: Global) -> Result<Value, AllocError>
         ensures same { IfOk result (λ value. value ≡ value_of self.entry) }
-        ensures memory { OnErr result ((text : List ℕ) × (value_of self.entry ≡ values.Text text)) }
+        ensures memory { OnErr result ((text : List ℕ) × (value_of self.entry ≡ values.Text text) × (ROOM < length text)) }
     {
         match self {
             Meaning::Text(text) => Ok(Value::Text(Text::from_str(alloc, text)?)),

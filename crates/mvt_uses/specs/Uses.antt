@@ -1,5 +1,6 @@
 -- What the uses answer.
-use Rattle.std.specs.Prelude.{◌≡◌, ℕ, List, [], ◌∷◌, length, find, Option, Some, None, codes}
+use Rattle.std.specs.Prelude.{◌≡◌, ℕ, List, [], ◌∷◌, length, find, Option, Some, None, MatchOption, Vec, codes}
+use Rattle.std.specs.Global.{Global}
 use Rattle.mvt_attrs.specs.declared.value.Value.TheVariants.{Text}
 use Rattle.mvt_geometry.specs.declared.shape.Point.{Point}
 use Rattle.mvt_geometry.specs.declared.shape.Geometry.TheVariants.{Points}
@@ -7,7 +8,9 @@ use Rattle.mvt_message.specs.declared.item.Item.{Item}
 use Rattle.mvt_message.specs.declared.item.Item.TheVariants.{Layer, Foreign}
 use Rattle.mvt_model.specs.declared.tile.Tile.{Tile}
 use Rattle.mvt_tile.specs.Extraction.{is_named}
+use Rattle.mvt_model.specs.CanonicalTiles.{canonical}
 use Rattle.mvt_model.specs.Tiles.{IsTile}
+use Rattle.mvt_model.specs.ValidTiles.{Valid}
 
 abbrev pub features_of : Option Item → Option ℕ
 features_of None = None
@@ -35,3 +38,7 @@ place_of name at = record {
     } ∷ [];
   }) ∷ [];
 }
+
+-- the canonical bytes of a tile; none where it can't be written
+abbrev pub AreBytesOf : Tile → Option (Vec ℕ Global) → Type 0
+AreBytesOf tile found = MatchOption found (Valid tile → ⊥) (λ bytes. bytes.items ≡ canonical tile)

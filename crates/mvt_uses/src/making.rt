@@ -1,7 +1,8 @@
 //! Make a tile, and write it.
-ghost use Rattle.std.specs.Prelude.{◌≡◌, IfOk, IfSome};
+ghost use Rattle.std.specs.Prelude.{◌≡◌, ◌<◌, length, IfOk, IfSome, IsErrOf};
+ghost use Rattle.mvt_model.specs.CanonicalTiles.{canonical};
 ghost use Rattle.mvt_model.specs.Tiles.{IsTile};
-ghost use Rattle.mvt_uses.specs.Uses.{place_of};
+ghost use Rattle.mvt_uses.specs.Uses.{AreBytesOf, place_of};
 
 use mvt_tile::{
     Attribute, Feature, Geometry, Item, Items, LIMIT, Layer, Point, PutError, Text, Tile, Value,
@@ -9,9 +10,15 @@ use mvt_tile::{
 };
 use std::alloc::{AllocError, Global};
 
-/// The bytes of a tile with one named place, or nothing where the place can't stand in a tile.
+/// The canonical bytes of a tile with one named place, or nothing where the place can't stand in a tile.
+///
+/// # Errors
+///
+/// TooLarge for more bytes than the limit; want of memory.
 pub fn place_tile(alloc: Global, name: &str, at: Point) -> Result<Option<Vec<u8>>, PutError>
-    ensures { IfOk result (λ found. IfSome found (λ bytes. IsTile LIMIT bytes.items (place_of name.now at))) }
+    ensures bytes { IfOk result (AreBytesOf (place_of name.now at)) }
+    ensures reads { IfOk result (λ found. IfSome found (λ bytes. IsTile LIMIT bytes.items (place_of name.now at))) }
+    ensures too_large { IsErrOf result PutError.TooLarge → LIMIT < length (canonical (place_of name.now at)) }
 {
     let tile = place(alloc, name, at)?;
     if !validate(alloc, &tile)? {

@@ -43,7 +43,7 @@ loop-rest-preserved c =
     let key : c.in_ok-copy.field-0 ≡ a.key =
     c.in_ok-copy.ensures.same ∙ here_is texts (get_or rest 0 0) _ a.key c.index-texts-key.is front.3.0 in
     let value : c.in_ok-copy-2.field-0 ≡ a.value =
-    c.in_ok-copy-2.ensures ∙ here_is values (get_or rest 1 0) _ a.value c.index-values-value.is front.3.1 in
+    c.in_ok-copy-2.ensures.same ∙ here_is values (get_or rest 1 0) _ a.value c.index-values-value.is front.3.1 in
     let pushed : c.push-in-len2-up.new.self.items ≡ done ++ a ∷ [] =
     c.in_ok-push.ensures.items ∙ (λ j. done ++ record { key = key j; value = value j } ∷ []) in
     let all : done ++ c.loop-rest.invariant.0 ≡ (done ++ a ∷ []) ++ front.1 =
