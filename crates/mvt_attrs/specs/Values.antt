@@ -1,7 +1,6 @@
 -- Values (4.1, message Value): seven kinds, each with values of its own.
 use Rattle.std.specs.Prelude.{Bool, false, not, ◌==◌, ◌≤◌, length, bytes_eq, if◌then◌else◌, ⊤}
 use Rattle.std.specs.Ordering.{int_eq}
-use Rattle.mvt_base.specs.declared.inline.TheConstants.{ROOM}
 use Rattle.mvt_attrs.specs.declared.value.Value.{Value}
 use Rattle.mvt_attrs.specs.declared.value.Value.TheVariants.{Text, Float, Double, Int, Uint, Sint, Bool as Truth}
 
@@ -18,5 +17,5 @@ equal_values _ _ = false
 
 -- a value without memory of its own: any but a long text
 abbrev pub LiesInPlace : Value → Type 0
-LiesInPlace (Text text) = length text ≤ ROOM
+LiesInPlace (Text text) = length text ≤ 14
 LiesInPlace _ = ⊤

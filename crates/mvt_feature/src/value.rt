@@ -1,7 +1,6 @@
 //! Values (Mapbox Vector Tile Specification 2.1, 4.1, message Value).
 ghost use Rattle.std.specs.Prelude.{◌≡◌, ◌+◌, ◌^◌, ◌<◌, ℕ, List, [], length, Some, None, true, false, IfOk, IfErr, IsErrOf, OnOk, OnErr, MatchOption};
 ghost use Rattle.std.specs.Option.{option_or};
-ghost use Rattle.mvt_base.specs.declared.inline.TheConstants.{ROOM};
 ghost use Rattle.mvt_base.specs.Tells.{Tells};
 ghost use Rattle.mvt_base.specs.Rules.{each, first};
 ghost use Rattle.mvt_wire.specs.Field.{entry_of, content_of, varint, fixed64, fixed32, bytes};
@@ -43,7 +42,7 @@ pub fn read_value(
     ensures ok { OnOk result (value_fault payload.now payload_at tag_at ≡ None) }
     ensures err { IfErr result (λ error. Tells (fault_of error) (value_fault payload.now payload_at tag_at)) }
     ensures memory { IsErrOf result MessageError.Memory
-        → (text : List ℕ) × IsValueOf payload.now (values.Text text) × (ROOM < length text) }
+        → (text : List ℕ) × IsValueOf payload.now (values.Text text) × (14 < length text) }
 {
     Ok(read_meaning(payload, payload_at, tag_at)?.into_value(alloc)?)
 }
@@ -144,7 +143,7 @@ impl<'a> Kinds<'a> {
 impl Meaning<'_> {
     fn into_value(self, alloc: Global) -> Result<Value, AllocError>
         ensures same { IfOk result (λ value. value ≡ value_of self.entry) }
-        ensures memory { OnErr result ((text : List ℕ) × (value_of self.entry ≡ values.Text text) × (ROOM < length text)) }
+        ensures memory { OnErr result ((text : List ℕ) × (value_of self.entry ≡ values.Text text) × (14 < length text)) }
     {
         match self {
             Meaning::Text(text) => Ok(Value::Text(Text::from_str(alloc, text)?)),
