@@ -5,6 +5,7 @@ mod limits;
 mod refused;
 mod refused_rows;
 mod rows;
+mod sizes;
 mod streams;
 mod support;
 mod validity;

@@ -4,8 +4,6 @@
 mod counting;
 mod making;
 mod streaming;
-#[cfg(test)]
-mod tests;
 
 pub use counting::count_features;
 pub use making::place_tile;

@@ -1,18 +1,17 @@
 //! Inputs and tiles of 64 MiB.
-use super::support::{foreign_item, layer_a, outer, points};
+use super::support::{feed_bytes, foreign_item, layer_a, outer, points, tile_of};
+use crate::expect::{expect, expect_eq};
 use mvt_attrs::{Attribute, Value};
 use mvt_base::{Items, LIMIT, Text};
 use mvt_geometry::Geometry;
 use mvt_io::MemorySink;
 use mvt_message::{Cause, Feature, Item, is_valid_item, item_len, put_item, room_behind_item};
 use mvt_tile::{
-    Note, PutError, Tile, TileDecoder, WriteError, decode, encode, is_valid, judge, notes, rewrite,
-    write_tile,
+    DecodeError, Note, PutError, Tile, TileDecoder, WriteError, decode, encode, is_valid, judge,
+    notes, rewrite, write_tile,
 };
-use std::alloc::{AllocError, Global};
 use std::process::Abort;
 use std::str;
-use std::test::Fail;
 
 // The limit, of which the check is to know nothing here: it would count so far.
 fn limit() -> usize {
@@ -20,159 +19,177 @@ fn limit() -> usize {
 }
 
 // The front, and this byte up to the limit.
-fn filled(alloc: Global, front: &[u8], byte: u8) -> Result<Vec<u8>, AllocError> {
-    let mut bytes = Vec::from_slice(alloc, front)?;
-    bytes.resize(limit(), byte)?;
-    Ok(bytes)
+fn filled(rt: &(impl Abort + AllocGlobal), front: &[u8], byte: u8) -> Vec<u8> {
+    let mut bytes = Vec::from_slice(rt.alloc(), front).expect(rt, "bytes");
+    bytes
+        .resize(limit(), byte)
+        .expect(rt, "as many bytes as the limit");
+    bytes
+}
+
+// An input that is as long as the limit, byte by byte: so many bytes are held, and one byte more is refused.
+fn expect_fed(rt: &(impl Abort + AllocGlobal), input: &[u8], held: usize, error: DecodeError) {
+    let mut decoder = TileDecoder::new(rt.alloc());
+    expect_eq!(rt; feed_bytes(&mut decoder, input), Ok(()));
+    expect_eq!(rt; decoder.held(), held);
+    expect_eq!(rt; decoder.feed(b"\x00"), Err(error));
+    expect_eq!(rt; decoder.held(), 0);
+    expect_eq!(rt; decoder.finish().err(), Some(error));
+}
+
+// What an input is refused for, read or judged.
+fn expect_refused(rt: &(impl Abort + AllocGlobal), input: &[u8], error: DecodeError) {
+    expect_eq!(rt; decode(rt.alloc(), input).err(), Some(error));
+    expect_eq!(rt; judge(rt.alloc(), input), Err(error));
 }
 
 // An unknown field of zero bytes that ends at the limit: a tile without items, but for a byte more.
 #[test]
-fn ends_at_the_limit(rt: HostRuntime) -> Result<(), Fail> {
-    let alloc = rt.alloc();
-    let mut input = filled(alloc, b"\x0A\xFB\xFF\xFF\x1F", 0)?;
-    let tile = decode(alloc, &input)?;
-    assert!(rt; tile.items.as_slice().is_empty());
-    let mut decoder = TileDecoder::new(alloc);
-    for byte in input.chunks(1) {
-        decoder.feed(byte)?;
-    }
-    assert_eq!(rt; decoder.held(), 0);
+fn ends_at_the_limit(rt: HostRuntime) {
+    let mut input = filled(&rt, b"\x0A\xFB\xFF\xFF\x1F", 0);
+    let tile = tile_of(&rt, &input);
+    expect!(rt; tile.items.as_slice().is_empty());
+    drop(tile);
+    expect_eq!(rt; judge(rt.alloc(), &input), Ok(()));
     let error = outer(67_108_864, Cause::TooLarge);
-    assert_eq!(rt; decoder.feed(b"\x00"), Err(error));
-    assert_eq!(rt; decoder.finish().err(), Some(error));
-    assert_eq!(rt; judge(alloc, &input), Ok(()));
-    input.push(0)?;
-    assert_eq!(rt; decode(alloc, &input).err(), Some(error));
-    assert_eq!(rt; judge(alloc, &input), Err(error));
-    Ok(())
+    expect_fed(&rt, &input, 0, error);
+    input.push(0).expect(&rt, "a byte");
+    expect_refused(&rt, &input, error);
+    drop(input);
 }
 
-// A field that isn't finished at the limit, byte by byte: all is held, and one byte more is refused.
-fn expect_endless(rt: &(impl Abort + AllocGlobal), front: &[u8]) -> Result<(), Fail> {
-    let alloc = rt.alloc();
-    let mut input = filled(alloc, front, 0)?;
-    let mut decoder = TileDecoder::new(alloc);
-    for byte in input.chunks(1) {
-        decoder.feed(byte)?;
-    }
-    assert_eq!(rt; decoder.held(), limit());
-    assert_eq!(rt;
-        decode(alloc, &input).err(),
-        Some(outer(0, Cause::Truncated))
-    );
-    assert_eq!(rt; judge(alloc, &input), Err(outer(0, Cause::Truncated)));
+// A field that isn't finished at the limit: all is held, and one byte more is refused.
+fn expect_endless(rt: &(impl Abort + AllocGlobal), front: &[u8]) {
+    let mut input = filled(rt, front, 0);
+    expect_refused(rt, &input, outer(0, Cause::Truncated));
     let error = outer(0, Cause::TooLarge);
-    assert_eq!(rt; decoder.feed(b"\x00"), Err(error));
-    assert_eq!(rt; decoder.held(), 0);
-    assert_eq!(rt; decoder.finish().err(), Some(error));
-    input.push(0)?;
-    assert_eq!(rt; decode(alloc, &input).err(), Some(error));
-    assert_eq!(rt; judge(alloc, &input), Err(error));
-    Ok(())
+    expect_fed(rt, &input, limit(), error);
+    input.push(0).expect(rt, "a byte");
+    expect_refused(rt, &input, error);
+    drop(input);
 }
 
 // Payloads of one byte too many, and of 2^63 bytes.
 #[test]
-fn goes_on_behind_the_limit(rt: HostRuntime) -> Result<(), Fail> {
-    expect_endless(&rt, b"\x0A\xFC\xFF\xFF\x1F")?;
-    expect_endless(&rt, b"\x0A\x80\x80\x80\x80\x80\x80\x80\x80\x80\x01")
+fn goes_on_behind_the_limit(rt: HostRuntime) {
+    expect_endless(&rt, b"\x0A\xFC\xFF\xFF\x1F");
+    expect_endless(&rt, b"\x0A\x80\x80\x80\x80\x80\x80\x80\x80\x80\x01");
 }
 
 // The payload of the tile's only item is within the limit, though the tile isn't.
 fn expect_payload(rt: &(impl Abort + AllocGlobal), tile: &Tile) {
     for item in tile.items.as_slice() {
-        assert!(rt; is_valid_item(item));
-        if !is_valid_item(item) {
-            return;
-        }
-        assert_eq!(rt; item_len(rt.alloc(), item), Ok(67_108_862));
-        match put_item(rt.alloc(), item) {
-            Ok(payload) => assert_eq!(rt; payload.len(), 67_108_862),
-            Err(error) => assert_eq!(rt; Some(error), None),
-        }
+        expect!(rt; is_valid_item(item));
+        expect_eq!(rt; item_len(rt.alloc(), item), Ok(67_108_862));
+        let payload = put_item(rt.alloc(), item).expect(rt, "a payload");
+        expect_eq!(rt; payload.len(), 67_108_862);
+        drop(payload);
     }
+}
+
+// A tile is refused before the first write, and its only note is this.
+fn expect_unwritten(rt: &(impl Abort + AllocGlobal), tile: &Tile, note: Note) {
+    expect!(rt; is_valid(tile));
+    expect_eq!(rt; encode(rt.alloc(), tile).err(), Some(PutError::TooLarge));
+    let mut writer = MemorySink::new(rt.alloc(), 100, 100, u64::MAX, false).expect(rt, "a writer");
+    let done = write_tile(rt.alloc(), tile, &mut writer);
+    expect_eq!(rt; done, Err(WriteError::TooLarge));
+    expect_eq!(rt; writer.calls(), 0);
+    drop(writer);
+    let found = notes(rt.alloc(), tile).expect(rt, "notes");
+    expect_eq!(rt; found.as_slice(), [note].as_slice());
+    drop(found);
 }
 
 // A layer with a long name, whose extent isn't there: canonical bytes have it, and are too many.
 #[test]
-fn is_too_large_to_write(rt: HostRuntime) -> Result<(), Fail> {
-    let alloc = rt.alloc();
-    let input = filled(
-        alloc,
-        b"\x1A\xFB\xFF\xFF\x1F\x78\x02\x0A\xF4\xFF\xFF\x1F",
-        b'a',
-    )?;
-    let tile = decode(alloc, &input)?;
+fn is_too_large_to_write(rt: HostRuntime) {
+    let front = b"\x1A\xFB\xFF\xFF\x1F\x78\x02\x0A\xF4\xFF\xFF\x1F";
+    let input = filled(&rt, front, b'a');
+    let tile = tile_of(&rt, &input);
     expect_payload(&rt, &tile);
-    assert_eq!(rt; encode(alloc, &tile).err(), Some(PutError::TooLarge));
-    assert!(rt; rewrite(alloc, &input)?.is_none());
-    let mut writer = MemorySink::new(alloc, 100, 100, u64::MAX, false)?;
-    let done = write_tile(alloc, &tile, &mut writer);
-    assert_eq!(rt; done, Err(WriteError::TooLarge));
-    assert_eq!(rt; writer.calls(), 0);
-    let found = notes(alloc, &tile)?;
-    assert_eq!(rt; found.as_slice(), [Note::NoFeatures(0)].as_slice());
-    Ok(())
+    expect_unwritten(&rt, &tile, Note::NoFeatures(0));
+    drop(tile);
+    expect_eq!(rt; rewrite(rt.alloc(), &input), Ok(None));
+    drop(input);
 }
 
 // A feature of one point, whose only value is this text.
-fn with_text(alloc: Global, text: &Text) -> Result<Feature, AllocError> {
-    let mut attributes = Vec::new(alloc);
-    attributes.push(Attribute {
-        key: Text::from_str(alloc, "k")?,
-        value: Value::Text(text.copy(alloc)?),
-    })?;
-    Ok(Feature {
+fn with_text(rt: &(impl Abort + AllocGlobal), text: &Text) -> Feature {
+    let attribute = Attribute {
+        key: Text::from_str(rt.alloc(), "k").expect(rt, "a key"),
+        value: Value::Text(text.copy(rt.alloc()).expect(rt, "a text")),
+    };
+    Feature {
         id: None,
-        attributes: Items::new(attributes),
-        geometry: Geometry::Points(points(alloc, &[(1, 1)])?),
-    })
+        attributes: Items::new(vec![in rt.alloc(); attribute].expect(rt, "attributes")),
+        geometry: Geometry::Points(points(rt.alloc(), &[(1, 1)]).expect(rt, "a point")),
+    }
+}
+
+fn text_of(rt: &(impl Abort + AllocGlobal), bytes: &[u8]) -> Text {
+    let text = str::from_utf8(bytes).ok().unwrap_or_default();
+    Text::from_str(rt.alloc(), text).expect(rt, "a text")
+}
+
+fn features_with(rt: &(impl Abort + AllocGlobal), text: &Text, count: usize) -> Vec<Feature> {
+    let mut features = Vec::new(rt.alloc());
+    for _ in 0..count {
+        features.push(with_text(rt, text)).expect(rt, "a feature");
+    }
+    features
 }
 
 // Seventy features that share a text of 1 MiB, and an item of another version.
-fn sharing(alloc: Global) -> Result<Tile, AllocError> {
-    let mut bytes = Vec::new(alloc);
-    bytes.resize(limit() / 64, b'a')?;
-    let Ok(text) = str::from_utf8(bytes.as_slice()) else {
-        return Err(AllocError);
-    };
-    let text = Text::from_str(alloc, text)?;
-    let mut features = Vec::new(alloc);
-    for _ in 0..70 {
-        features.push(with_text(alloc, &text)?)?;
-    }
-    let mut items = layer_a(alloc, features)?.items.into_vec();
-    items.push(foreign_item(alloc, 1, b"\x78\x01\x0A\x01b")?)?;
-    Ok(Tile {
+fn sharing(rt: &(impl Abort + AllocGlobal)) -> Tile {
+    let mut bytes = Vec::new(rt.alloc());
+    bytes.resize(limit() / 64, b'a').expect(rt, "bytes");
+    let text = text_of(rt, &bytes);
+    drop(bytes);
+    let features = features_with(rt, &text, 70);
+    drop(text);
+    let mut items = layer_a(rt.alloc(), features)
+        .expect(rt, "a layer")
+        .items
+        .into_vec();
+    let foreign = foreign_item(rt.alloc(), 1, b"\x78\x01\x0A\x01b").expect(rt, "an item");
+    items.push(foreign).expect(rt, "two items");
+    Tile {
         items: Items::new(items),
-    })
+    }
 }
 
-// A bound that shares no text exceeds the limit, and the bytes are within it: 13 a feature, 1,048,584 of
-// the text, 11 of the rest and 4 in front; then 7 of the other item.
-#[test]
-fn is_written_beyond_the_bound(rt: HostRuntime) -> Result<(), Fail> {
-    let alloc = rt.alloc();
-    let tile = sharing(alloc)?;
-    if !is_valid(&tile) {
-        assert!(rt; false);
-        return Ok(());
-    }
-    let mut writer = MemorySink::new(alloc, 1_049_516, limit(), u64::MAX, false)?;
-    assert_eq!(rt; write_tile(alloc, &tile, &mut writer), Ok(()));
-    assert_eq!(rt; writer.taken().len(), 1_049_516);
+// The room that the bound of an item leaves of the limit, and its length.
+fn expect_lengths(rt: &(impl Abort + AllocGlobal), tile: &Tile) {
     for item in tile.items.as_slice() {
         let (room, len) = match item {
             Item::Layer(_) => (None, 1_049_505),
             Item::Foreign { .. } => (Some(LIMIT - 5), 5),
         };
-        assert_eq!(rt; room_behind_item(item, LIMIT), room);
-        assert_eq!(rt; item_len(alloc, item), Ok(len));
+        expect!(rt; is_valid_item(item));
+        expect_eq!(rt; room_behind_item(item, LIMIT), room);
+        expect_eq!(rt; item_len(rt.alloc(), item), Ok(len));
     }
-    match decode(alloc, writer.taken()) {
-        Ok(read) => assert!(rt; read == tile),
-        Err(error) => assert_eq!(rt; Some(error), None),
-    }
-    Ok(())
+}
+
+fn expect_read(rt: &(impl Abort + AllocGlobal), input: &[u8], tile: &Tile) {
+    let read = tile_of(rt, input);
+    expect!(rt; read == *tile);
+    drop(read);
+}
+
+// A bound that shares no text exceeds the limit, and the bytes are within it: 13 a feature, 1,048,584 of
+// the text, 11 of the rest and 4 in front; then 7 of the other item.
+#[test]
+fn is_written_beyond_the_bound(rt: HostRuntime) {
+    let tile = sharing(&rt);
+    expect!(rt; is_valid(&tile));
+    let made = MemorySink::new(rt.alloc(), 1_049_516, limit(), u64::MAX, false);
+    let mut writer = made.expect(&rt, "a writer");
+    expect_eq!(rt; write_tile(rt.alloc(), &tile, &mut writer), Ok(()));
+    expect_eq!(rt; writer.taken().len(), 1_049_516);
+    expect_lengths(&rt, &tile);
+    expect_read(&rt, writer.taken(), &tile);
+    drop(writer);
+    drop(tile);
 }

@@ -1,7 +1,8 @@
 //! Refused growths: each test passes too where one allocation, whichever, is refused. Each call has two
 //! turns, of which one at most may want memory; the other answers as ever.
 use super::rows::*;
-use super::support::{KEYS, joined, keyed, named, names};
+use super::support::{KEYS, feed_bytes, joined, keyed, named, names};
+use crate::expect::{expect, expect_eq};
 use mvt_io::{MemorySink, MemorySource};
 use mvt_tile::{
     DecodeError, ExtractError, PutError, Tile, TileDecoder, WriteError, decode, encode, extract,
@@ -17,11 +18,12 @@ const TILES: [&[u8]; 5] = [RINGS, ONCE_A_KEY, LONG_TEXTS, KINDS_CANONICAL, FOREI
 fn is_refused(rt: &impl Abort, answer: Result<Tile, DecodeError>) -> bool {
     match answer {
         Ok(tile) => {
-            assert!(rt; tile.items.as_slice().len() == 1 && is_valid(&tile));
+            expect!(rt; tile.items.as_slice().len() == 1 && is_valid(&tile));
+            drop(tile);
             false
         }
         Err(error) => {
-            assert_eq!(rt; error, DecodeError::Memory);
+            expect_eq!(rt; error, DecodeError::Memory);
             true
         }
     }
@@ -30,13 +32,10 @@ fn is_refused(rt: &impl Abort, answer: Result<Tile, DecodeError>) -> bool {
 // The input byte by byte. After a want of memory that is the answer for good.
 fn is_feed_refused(rt: &(impl Abort + AllocGlobal), input: &[u8]) -> bool {
     let mut decoder = TileDecoder::new(rt.alloc());
-    for byte in input.chunks(1) {
-        if let Err(error) = decoder.feed(byte) {
-            assert_eq!(rt; error, DecodeError::Memory);
-            assert_eq!(rt; decoder.feed(input), Err(DecodeError::Memory));
-            assert_eq!(rt; decoder.held(), 0);
-            return is_refused(rt, decoder.finish());
-        }
+    if let Err(error) = feed_bytes(&mut decoder, input) {
+        expect_eq!(rt; error, DecodeError::Memory);
+        expect_eq!(rt; decoder.feed(input), Err(DecodeError::Memory));
+        expect_eq!(rt; decoder.held(), 0);
     }
     is_refused(rt, decoder.finish())
 }
@@ -46,23 +45,26 @@ fn is_read_refused(rt: &(impl Abort + AllocGlobal), input: &[u8]) -> bool {
         return true;
     };
     let mut reader = MemorySource::new(bytes, 7, u64::MAX);
-    is_refused(rt, read_tile(rt.alloc(), &mut reader))
+    let answer = read_tile(rt.alloc(), &mut reader);
+    drop(reader);
+    is_refused(rt, answer)
 }
 
 fn is_judge_refused(rt: &(impl Abort + AllocGlobal), input: &[u8]) -> bool {
     let answer = judge(rt.alloc(), input);
-    assert!(rt; answer == Ok(()) || answer == Err(DecodeError::Memory));
+    expect!(rt; answer == Ok(()) || answer == Err(DecodeError::Memory));
     answer.is_err()
 }
 
 fn is_survey_refused(rt: &(impl Abort + AllocGlobal), input: &[u8]) -> bool {
     match survey_tile(rt.alloc(), input) {
         Ok(survey) => {
-            assert!(rt; survey.layers == 1 && survey.is_canonical);
+            expect!(rt; survey.layers == 1 && survey.is_canonical);
+            drop(survey);
             false
         }
         Err(error) => {
-            assert_eq!(rt; error, DecodeError::Memory);
+            expect_eq!(rt; error, DecodeError::Memory);
             true
         }
     }
@@ -71,12 +73,12 @@ fn is_survey_refused(rt: &(impl Abort + AllocGlobal), input: &[u8]) -> bool {
 fn is_rewrite_refused(rt: &(impl Abort + AllocGlobal), canonical: &[u8]) -> bool {
     match rewrite(rt.alloc(), canonical) {
         Ok(made) => {
-            let made = made.unwrap_or(Vec::new(rt.alloc()));
-            assert_eq!(rt; made.as_slice(), canonical);
+            expect_eq!(rt; made.as_deref(), Some(canonical));
+            drop(made);
             false
         }
         Err(error) => {
-            assert_eq!(rt; error, DecodeError::Memory);
+            expect_eq!(rt; error, DecodeError::Memory);
             true
         }
     }
@@ -100,7 +102,7 @@ fn refused_reads(rt: HostRuntime) {
             }
         }
     }
-    assert!(rt; refused < 2);
+    expect!(rt; refused < 2);
 }
 
 // Whether a tile that was made can be written.
@@ -112,13 +114,10 @@ fn is_validate_refused(
     let Ok(tile) = made else {
         return true;
     };
-    match validate(rt.alloc(), &tile) {
-        Ok(valid) => {
-            assert_eq!(rt; valid, answer);
-            false
-        }
-        Err(AllocError) => true,
-    }
+    let found = validate(rt.alloc(), &tile);
+    drop(tile);
+    expect!(rt; found == Ok(answer) || found == Err(AllocError));
+    found.is_err()
 }
 
 #[test]
@@ -138,7 +137,7 @@ fn refused_validations(rt: HostRuntime) {
             refused = refused.saturating_add(u32::from(is_refused));
         }
     }
-    assert!(rt; refused < 2);
+    expect!(rt; refused < 2);
 }
 
 // Inputs, and bytes with whether they are what the input's tile is written as.
@@ -163,13 +162,13 @@ fn is_comparison_refused(
     let Ok(tile) = decode(rt.alloc(), input) else {
         return true;
     };
-    match is_canonical(rt.alloc(), &tile, bytes) {
-        Ok(is_same) => {
-            assert_eq!(rt; is_same, answer, "of {bytes:?}");
-            false
-        }
-        Err(AllocError) => true,
+    expect!(rt; is_valid(&tile));
+    let found = is_canonical(rt.alloc(), &tile, bytes);
+    drop(tile);
+    if found.is_ok() {
+        expect_eq!(rt; found, Ok(answer), "of {bytes:?}");
     }
+    found.is_err()
 }
 
 #[test]
@@ -181,20 +180,24 @@ fn refused_comparisons(rt: HostRuntime) {
             refused = refused.saturating_add(u32::from(is_refused));
         }
     }
-    assert!(rt; refused < 2);
+    expect!(rt; refused < 2);
 }
 
 fn is_encode_refused(rt: &(impl Abort + AllocGlobal), canonical: &[u8]) -> bool {
     let Ok(tile) = decode(rt.alloc(), canonical) else {
         return true;
     };
-    match encode(rt.alloc(), &tile) {
+    expect!(rt; is_valid(&tile));
+    let encoded = encode(rt.alloc(), &tile);
+    drop(tile);
+    match encoded {
         Ok(bytes) => {
-            assert_eq!(rt; bytes.as_slice(), canonical);
+            expect_eq!(rt; bytes.as_slice(), canonical);
+            drop(bytes);
             false
         }
         Err(error) => {
-            assert_eq!(rt; error, PutError::Memory);
+            expect_eq!(rt; error, PutError::Memory);
             true
         }
     }
@@ -209,7 +212,7 @@ fn refused_encodes(rt: HostRuntime) {
             refused = refused.saturating_add(u32::from(is_refused));
         }
     }
-    assert!(rt; refused < 2);
+    expect!(rt; refused < 2);
 }
 
 // What came of writing a tile of two items.
@@ -220,28 +223,40 @@ enum Written {
     Nothing,
 }
 
-// Where memory is wanted, the writer took whole items only.
-fn write_both(rt: &(impl Abort + AllocGlobal), both: &[u8]) -> Written {
-    let Ok(tile) = decode(rt.alloc(), both) else {
+// What a writer took of both items, which a run ended with this answer. Where memory is wanted, it took
+// whole items only.
+fn what_was_taken(
+    rt: &impl Abort,
+    answer: Result<(), WriteError>,
+    writer: &MemorySink,
+    both: &[u8],
+) -> Written {
+    let taken = writer.taken();
+    if answer.is_ok() {
+        expect_eq!(rt; taken, both);
+        return Written::Whole;
+    }
+    expect_eq!(rt; answer, Err(WriteError::Memory));
+    if taken.is_empty() {
         return Written::Nothing;
-    };
+    }
+    expect_eq!(rt; taken, ONE_POINT);
+    Written::First
+}
+
+fn write_both(rt: &(impl Abort + AllocGlobal), both: &[u8]) -> Written {
     let Ok(mut writer) = MemorySink::new(rt.alloc(), 38, 7, u64::MAX, false) else {
         return Written::Nothing;
     };
-    match write_tile(rt.alloc(), &tile, &mut writer) {
-        Ok(()) => {
-            assert_eq!(rt; writer.taken(), both);
-            Written::Whole
-        }
-        Err(error) => {
-            assert_eq!(rt; error, WriteError::Memory);
-            if writer.taken().is_empty() {
-                return Written::Nothing;
-            }
-            assert_eq!(rt; writer.taken(), ONE_POINT);
-            Written::First
-        }
-    }
+    let Ok(tile) = decode(rt.alloc(), both) else {
+        return Written::Nothing;
+    };
+    expect!(rt; is_valid(&tile));
+    let answer = write_tile(rt.alloc(), &tile, &mut writer);
+    drop(tile);
+    let what = what_was_taken(rt, answer, &writer, both);
+    drop(writer);
+    what
 }
 
 // The sweep sees that some run prints the line: then the first item was written before the second was
@@ -259,20 +274,23 @@ fn refused_writes(rt: HostRuntime) {
         }
         refused = refused.saturating_add(u32::from(written != Written::Whole));
     }
-    assert!(rt; refused < 2);
+    expect!(rt; refused < 2);
 }
 
 fn is_extract_refused(rt: &impl Abort, alloc: Global, tile: &Tile, texts: &[&str]) -> bool {
     let Ok(names) = names(alloc, texts) else {
         return true;
     };
-    match extract(alloc, tile, &names) {
+    let picked = extract(alloc, tile, &names);
+    drop(names);
+    match picked {
         Ok(picked) => {
-            assert!(rt; picked == *tile);
+            expect!(rt; picked == *tile);
+            drop(picked);
             false
         }
         Err(error) => {
-            assert_eq!(rt; error, ExtractError::Memory);
+            expect_eq!(rt; error, ExtractError::Memory);
             true
         }
     }
@@ -281,31 +299,38 @@ fn is_extract_refused(rt: &impl Abort, alloc: Global, tile: &Tile, texts: &[&str
 fn are_notes_refused(rt: &impl Abort, alloc: Global, tile: &Tile, count: usize) -> bool {
     match notes(alloc, tile) {
         Ok(found) => {
-            assert_eq!(rt; found.len(), count);
+            expect_eq!(rt; found.len(), count);
+            drop(found);
             false
         }
         Err(AllocError) => true,
     }
 }
 
+fn are_views_refused(rt: &(impl Abort + AllocGlobal), input: &[u8], count: usize) -> bool {
+    let alloc = rt.alloc();
+    match decode(alloc, input) {
+        Ok(tile) => {
+            let is_refused = is_extract_refused(rt, alloc, &tile, &["a"])
+                || are_notes_refused(rt, alloc, &tile, count);
+            drop(tile);
+            is_refused
+        }
+        Err(error) => {
+            expect_eq!(rt; error, DecodeError::Memory);
+            true
+        }
+    }
+}
+
 #[test]
 fn refused_views(rt: HostRuntime) {
-    let alloc = rt.alloc();
     let mut refused = 0u32;
     for (input, count) in [(RINGS, 1), (SAME_ID, 1), (PLAIN, 1), (KINDS, 0)] {
         for _turn in 0..2 {
-            let is_refused = match decode(alloc, input) {
-                Ok(tile) => {
-                    is_extract_refused(&rt, alloc, &tile, &["a"])
-                        || are_notes_refused(&rt, alloc, &tile, count)
-                }
-                Err(error) => {
-                    assert_eq!(rt; error, DecodeError::Memory);
-                    true
-                }
-            };
+            let is_refused = are_views_refused(&rt, input, count);
             refused = refused.saturating_add(u32::from(is_refused));
         }
     }
-    assert!(rt; refused < 2);
+    expect!(rt; refused < 2);
 }

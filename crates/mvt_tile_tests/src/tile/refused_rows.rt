@@ -1,7 +1,8 @@
 //! The known tiles, pieces, devices and names, with growths refused. As in the other tests of refused
 //! growths, one turn at most wants memory, and the others answer as ever.
 use super::rows::*;
-use super::support::{joined, names};
+use super::support::{expect_failed, joined, names};
+use crate::expect::{expect, expect_eq};
 use mvt_io::{MemorySink, MemorySource};
 use mvt_tile::{
     DecodeError, ExtractError, PutError, Tile, TileDecoder, WriteError, decode, encode, extract,
@@ -27,24 +28,27 @@ fn is_refused(
     answer: Result<Tile, DecodeError>,
     canonical: &[u8],
 ) -> bool {
-    let tile = match answer {
-        Ok(tile) => tile,
+    match answer {
+        Ok(tile) => is_encode_refused(rt, tile, canonical),
         Err(error) => {
-            assert_eq!(rt; error, DecodeError::Memory);
-            return true;
+            expect_eq!(rt; error, DecodeError::Memory);
+            true
         }
-    };
-    assert!(rt; is_valid(&tile));
-    if !is_valid(&tile) {
-        return false;
     }
-    match encode(rt.alloc(), &tile) {
+}
+
+fn is_encode_refused(rt: &(impl Abort + AllocGlobal), tile: Tile, canonical: &[u8]) -> bool {
+    expect!(rt; is_valid(&tile));
+    let encoded = encode(rt.alloc(), &tile);
+    drop(tile);
+    match encoded {
         Ok(bytes) => {
-            assert_eq!(rt; bytes.as_slice(), canonical);
+            expect_eq!(rt; bytes.as_slice(), canonical);
+            drop(bytes);
             false
         }
         Err(error) => {
-            assert_eq!(rt; error, PutError::Memory);
+            expect_eq!(rt; error, PutError::Memory);
             true
         }
     }
@@ -71,22 +75,28 @@ fn refused_tiles(rt: HostRuntime) {
             turns.count(is_refused(&rt, answer, canonical));
         }
     }
-    assert!(rt; turns.refused < 2);
+    expect!(rt; turns.refused < 2);
 }
 
-// The input in pieces of this size. A want of memory stays.
+// Feeds the input in pieces of this size, up to the first error.
+fn feed_in(decoder: &mut TileDecoder, input: &[u8], size: usize) -> Result<(), DecodeError> {
+    for piece in input.chunks(size.max(1)) {
+        decoder.feed(piece)?;
+    }
+    Ok(())
+}
+
+// The tile of such pieces. A want of memory stays.
 fn fed_in(rt: &(impl Abort + AllocGlobal), input: &[u8], size: usize) -> Result<Tile, DecodeError> {
     let mut decoder = TileDecoder::new(rt.alloc());
-    for piece in input.chunks(size.max(1)) {
-        if let Err(error) = decoder.feed(piece) {
-            assert_eq!(rt; error, DecodeError::Memory);
-            assert_eq!(rt; decoder.feed(input), Err(DecodeError::Memory));
-            assert_eq!(rt; decoder.held(), 0);
-            assert_eq!(rt; decoder.finish().err(), Some(DecodeError::Memory));
-            return Err(error);
+    match feed_in(&mut decoder, input, size) {
+        Ok(()) => decoder.finish(),
+        Err(error) => {
+            expect_eq!(rt; error, DecodeError::Memory);
+            expect_failed(rt, decoder, input, DecodeError::Memory);
+            Err(error)
         }
     }
-    decoder.finish()
 }
 
 #[test]
@@ -98,7 +108,7 @@ fn refused_pieces(rt: HostRuntime) {
             turns.count(is_refused(&rt, answer, ONE_POINT));
         }
     }
-    assert!(rt; turns.refused < 2);
+    expect!(rt; turns.refused < 2);
 }
 
 // A reader of one byte a read, the sixth of which fails.
@@ -107,35 +117,44 @@ fn is_read_refused(rt: &(impl Abort + AllocGlobal)) -> bool {
         return true;
     };
     let mut reader = MemorySource::new(bytes, 1, 5);
-    match read_tile(rt.alloc(), &mut reader).err() {
-        Some(DecodeError::Memory) => true,
-        error => {
-            assert_eq!(rt; error, Some(DecodeError::Read(ErrorKind::Other)));
-            assert_eq!(rt; reader.calls(), 6);
-            false
-        }
+    let error = read_tile(rt.alloc(), &mut reader).err();
+    let is_refused = error == Some(DecodeError::Memory);
+    if !is_refused {
+        expect_eq!(rt; error, Some(DecodeError::Read(ErrorKind::Other)));
+        expect_eq!(rt; reader.calls(), 6);
     }
+    drop(reader);
+    is_refused
 }
 
-// A writer with room for five bytes.
+// A writer with room for five bytes, and what came of writing to it.
+fn is_short_write_refused(
+    rt: &impl Abort,
+    done: Result<(), WriteError>,
+    writer: MemorySink,
+) -> bool {
+    let is_refused = done == Err(WriteError::Memory);
+    if is_refused {
+        expect_eq!(rt; writer.calls(), 0);
+    } else {
+        expect_eq!(rt; done, Err(WriteError::Write(ErrorKind::Other)));
+        expect_eq!(rt; writer.taken(), &ONE_POINT[..5]);
+    }
+    drop(writer);
+    is_refused
+}
+
 fn is_write_refused(rt: &(impl Abort + AllocGlobal)) -> bool {
-    let Ok(tile) = decode(rt.alloc(), ONE_POINT) else {
-        return true;
-    };
     let Ok(mut writer) = MemorySink::new(rt.alloc(), 5, 19, u64::MAX, false) else {
         return true;
     };
-    match write_tile(rt.alloc(), &tile, &mut writer) {
-        Err(WriteError::Memory) => {
-            assert_eq!(rt; writer.calls(), 0);
-            true
-        }
-        done => {
-            assert_eq!(rt; done, Err(WriteError::Write(ErrorKind::Other)));
-            assert_eq!(rt; Some(writer.taken()), ONE_POINT.get(..5));
-            false
-        }
-    }
+    let Ok(tile) = decode(rt.alloc(), ONE_POINT) else {
+        return true;
+    };
+    expect!(rt; is_valid(&tile));
+    let done = write_tile(rt.alloc(), &tile, &mut writer);
+    drop(tile);
+    is_short_write_refused(rt, done, writer)
 }
 
 #[test]
@@ -145,32 +164,52 @@ fn refused_failing_devices(rt: HostRuntime) {
         turns.count(is_read_refused(&rt));
         turns.count(is_write_refused(&rt));
     }
-    assert!(rt; turns.refused < 2);
+    expect!(rt; turns.refused < 2);
 }
 
-// Two layers by their names, in the other order; and a name that isn't there, which takes no memory.
-fn is_extract_refused(rt: &(impl Abort + AllocGlobal), alloc: Global) -> bool {
-    let Ok(both) = joined(alloc, ONE_POINT, ONE_POINT_B) else {
+// Two layers by their names, in the other order.
+fn are_layers_refused(rt: &impl Abort, alloc: Global, tile: &Tile) -> bool {
+    let Ok(names) = names(alloc, &["b", "a"]) else {
         return true;
     };
-    let Ok(tile) = decode(alloc, &both) else {
-        return true;
-    };
-    let (Ok(there), Ok(missing)) = (names(alloc, &["b", "a"]), names(alloc, &["b", "c"])) else {
-        return true;
-    };
-    let error = extract(alloc, &tile, &missing).err();
-    assert_eq!(rt; error, Some(ExtractError::MissingLayer(1)));
-    match extract(alloc, &tile, &there) {
+    let picked = extract(alloc, tile, &names);
+    drop(names);
+    match picked {
         Ok(picked) => {
-            assert!(rt; picked == tile);
+            expect!(rt; picked == *tile);
+            drop(picked);
             false
         }
         Err(error) => {
-            assert_eq!(rt; error, ExtractError::Memory);
+            expect_eq!(rt; error, ExtractError::Memory);
             true
         }
     }
+}
+
+// A name that isn't there takes no memory.
+fn is_missing_refused(rt: &impl Abort, alloc: Global, tile: &Tile) -> bool {
+    let Ok(names) = names(alloc, &["b", "c"]) else {
+        return true;
+    };
+    let error = extract(alloc, tile, &names).err();
+    drop(names);
+    expect_eq!(rt; error, Some(ExtractError::MissingLayer(1)));
+    false
+}
+
+fn is_extract_refused(rt: &impl Abort, alloc: Global) -> bool {
+    let Ok(both) = joined(alloc, ONE_POINT, ONE_POINT_B) else {
+        return true;
+    };
+    let made = decode(alloc, &both);
+    drop(both);
+    let Ok(tile) = made else {
+        return true;
+    };
+    let is_refused = is_missing_refused(rt, alloc, &tile) || are_layers_refused(rt, alloc, &tile);
+    drop(tile);
+    is_refused
 }
 
 #[test]
@@ -179,5 +218,5 @@ fn refused_extractions(rt: HostRuntime) {
     for _turn in 0..2 {
         turns.count(is_extract_refused(&rt, rt.alloc()));
     }
-    assert!(rt; turns.refused < 2);
+    expect!(rt; turns.refused < 2);
 }

@@ -1,106 +1,125 @@
 //! A tile in pieces.
 use super::rows::{ONE_POINT, UNKNOWN_FIRST};
-use super::support::{in_layer, joined, outer};
+use super::support::{both_of, expect_failed, in_layer, outer, tile_of};
+use crate::expect::{expect, expect_eq};
 use mvt_message::Cause;
-use mvt_tile::{DecodeError, TileDecoder, decode};
-use std::alloc::Global;
-use std::test::Fail;
+use mvt_tile::{DecodeError, Tile, TileDecoder};
+use std::process::Abort;
 
-// A decoder that was fed the input in pieces of this size.
-fn fed_by(alloc: Global, input: &[u8], size: usize) -> Result<TileDecoder, DecodeError> {
-    let mut decoder = TileDecoder::new(alloc);
+// A decoder that was fed the input in pieces of this size, and holds so many bytes.
+fn holding(rt: &(impl Abort + AllocGlobal), input: &[u8], size: usize, held: usize) -> TileDecoder {
+    let mut decoder = TileDecoder::new(rt.alloc());
     for piece in input.chunks(size.max(1)) {
-        decoder.feed(piece)?;
+        expect_eq!(rt; decoder.feed(piece), Ok(()));
     }
-    Ok(decoder)
+    expect_eq!(rt; decoder.held(), held);
+    decoder
+}
+
+fn expect_end(rt: &impl Abort, decoder: TileDecoder, tile: &Tile) {
+    let read = decoder.finish().expect(rt, "a tile");
+    expect!(rt; read == *tile);
+    drop(read);
+}
+
+fn expect_end_fault(rt: &impl Abort, decoder: TileDecoder, error: DecodeError) {
+    expect_eq!(rt; decoder.finish().err(), Some(error));
 }
 
 // Each front of the tile, byte by byte: how many bytes are held, and what the front is.
 #[test]
-fn holds_what_is_unfinished(rt: HostRuntime) -> Result<(), Fail> {
-    let alloc = rt.alloc();
-    for len in 0..=ONE_POINT.len() {
-        let front = &ONE_POINT[..len];
-        let decoder = fed_by(alloc, front, 1)?;
-        let is_whole = len == 0 || len == 19;
-        assert_eq!(rt; decoder.held(), if is_whole { 0 } else { len });
-        let answer = decoder.finish();
-        if is_whole {
-            assert!(rt; answer? == decode(alloc, front)?);
-        } else {
-            assert_eq!(rt; answer.err(), Some(outer(0, Cause::Truncated)));
-        }
+fn holds_what_is_unfinished(rt: HostRuntime) {
+    for front in [b"".as_slice(), ONE_POINT] {
+        let tile = tile_of(&rt, front);
+        expect_end(&rt, holding(&rt, front, 1, 0), &tile);
+        drop(tile);
     }
-    Ok(())
+    for len in 1..ONE_POINT.len() {
+        let decoder = holding(&rt, &ONE_POINT[..len], 1, len);
+        expect_end_fault(&rt, decoder, outer(0, Cause::Truncated));
+    }
 }
 
-// A decoder that was fed the input in pieces: a bit of `cuts` for each byte tells whether a piece ends with it.
-fn fed_cut(alloc: Global, input: &[u8], cuts: u32) -> Result<TileDecoder, Fail> {
-    let mut decoder = TileDecoder::new(alloc);
-    let mut piece = Vec::new(alloc);
+// Feeds an input in pieces: a bit of `cuts` for each byte tells whether a piece ends with it.
+fn feed_cut(
+    rt: &impl Abort,
+    decoder: &mut TileDecoder,
+    piece: &mut Vec<u8>,
+    input: &[u8],
+    cuts: u32,
+) {
     let mut rest = cuts;
     for byte in input {
-        piece.push(*byte)?;
+        piece.push(*byte).expect(rt, "a byte");
         if rest % 2 == 1 {
-            decoder.feed(&piece)?;
+            expect_eq!(rt; decoder.feed(piece), Ok(()));
             piece.clear();
         }
         rest /= 2;
     }
-    decoder.feed(&piece)?;
-    Ok(decoder)
+    expect_eq!(rt; decoder.feed(piece), Ok(()));
+}
+
+fn expect_cut(rt: &(impl Abort + AllocGlobal), input: &[u8], cuts: u32, tile: &Tile) {
+    let mut decoder = TileDecoder::new(rt.alloc());
+    let mut piece = Vec::new(rt.alloc());
+    feed_cut(rt, &mut decoder, &mut piece, input, cuts);
+    drop(piece);
+    expect_eq!(rt; decoder.held(), 0);
+    expect_end(rt, decoder, tile);
+}
+
+// Pieces of no bytes in front and behind.
+fn expect_between_nothing(rt: &(impl Abort + AllocGlobal), input: &[u8], tile: &Tile) {
+    let mut decoder = TileDecoder::new(rt.alloc());
+    let pieces: [&[u8]; 3] = [b"", input, b""];
+    for piece in pieces {
+        expect_eq!(rt; decoder.feed(piece), Ok(()));
+    }
+    expect_end(rt, decoder, tile);
 }
 
 // Every split into pieces: there are 18 places to cut the first input, and 11 to cut the second.
 #[test]
-fn takes_any_pieces(rt: HostRuntime) -> Result<(), Fail> {
-    let alloc = rt.alloc();
+fn takes_any_pieces(rt: HostRuntime) {
     for (input, splits) in [(ONE_POINT, 1u32 << 18), (UNKNOWN_FIRST, 1 << 11)] {
-        let tile = decode(alloc, input)?;
+        let tile = tile_of(&rt, input);
         for cuts in 0..splits {
-            let decoder = fed_cut(alloc, input, cuts)?;
-            assert_eq!(rt; decoder.held(), 0);
-            assert!(rt; decoder.finish()? == tile);
+            expect_cut(&rt, input, cuts, &tile);
         }
-        let mut decoder = TileDecoder::new(alloc);
-        let pieces: [&[u8]; 3] = [b"", input, b""];
-        for piece in pieces {
-            decoder.feed(piece)?;
-        }
-        assert!(rt; decoder.finish()? == tile);
+        expect_between_nothing(&rt, input, &tile);
+        drop(tile);
     }
-    Ok(())
+}
+
+// A layer is judged with its last byte, and the fault stays.
+#[test]
+fn tells_faults_early(rt: HostRuntime) {
+    let mut decoder = TileDecoder::new(rt.alloc());
+    for (index, byte) in b"\x1A\x03\x0A\x01".chunks(1).enumerate() {
+        expect_eq!(rt; decoder.feed(byte), Ok(()));
+        expect_eq!(rt; decoder.held(), index.saturating_add(1));
+    }
+    let error = in_layer(0, 0, Cause::NoVersion);
+    expect_eq!(rt; decoder.feed(b"\x61"), Err(error));
+    expect_failed(&rt, decoder, ONE_POINT, error);
 }
 
 #[test]
-fn tells_faults_early(rt: HostRuntime) -> Result<(), Fail> {
-    let alloc = rt.alloc();
-    // A layer is judged with its last byte, and the fault stays.
-    let mut decoder = TileDecoder::new(alloc);
-    for (index, byte) in b"\x1A\x03\x0A\x01".chunks(1).enumerate() {
-        assert_eq!(rt; decoder.feed(byte), Ok(()));
-        assert_eq!(rt; decoder.held(), index.saturating_add(1));
-    }
-    let error = in_layer(0, 0, Cause::NoVersion);
-    assert_eq!(rt; decoder.feed(b"\x61"), Err(error));
-    assert_eq!(rt; decoder.feed(ONE_POINT), Err(error));
-    assert_eq!(rt; decoder.held(), 0);
-    assert_eq!(rt; decoder.finish().err(), Some(error));
+fn tells_no_fault_of_what_is_unfinished(rt: HostRuntime) {
     // Inside a layer that isn't whole nothing is judged, neither a wrong version field nor another
     // version.
     for front in [b"\x1A\x05\x7A\x00", b"\x1A\x05\x78\x01"] {
-        let decoder = fed_by(alloc, front, 4)?;
-        assert_eq!(rt; decoder.held(), 4);
-        assert_eq!(rt; decoder.finish().err(), Some(outer(0, Cause::Truncated)));
+        let decoder = holding(&rt, front, 4, 4);
+        expect_end_fault(&rt, decoder, outer(0, Cause::Truncated));
     }
     // Nor is a field 3 that isn't whole.
-    let mut decoder = fed_by(alloc, b"\x18", 1)?;
-    assert_eq!(rt; decoder.held(), 1);
-    assert_eq!(rt; decoder.feed(b"\x00"), Err(outer(0, Cause::WrongType)));
+    let mut decoder = holding(&rt, b"\x18", 1, 1);
+    expect_eq!(rt; decoder.feed(b"\x00"), Err(outer(0, Cause::WrongType)));
+    drop(decoder);
     // What stands behind a whole field is held, and told at its place.
-    let longer = joined(alloc, ONE_POINT, b"\x1A\x11\x78")?;
-    let decoder = fed_by(alloc, &longer, 22)?;
-    assert_eq!(rt; decoder.held(), 3);
-    assert_eq!(rt; decoder.finish().err(), Some(outer(19, Cause::Truncated)));
-    Ok(())
+    let longer = both_of(&rt, ONE_POINT, b"\x1A\x11\x78");
+    let decoder = holding(&rt, &longer, 22, 3);
+    drop(longer);
+    expect_end_fault(&rt, decoder, outer(19, Cause::Truncated));
 }

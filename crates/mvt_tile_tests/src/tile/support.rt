@@ -1,4 +1,5 @@
 //! Tiles made by hand, and what several tests compare.
+use crate::expect::{expect, expect_eq};
 use mvt_attrs::{Attribute, Value};
 use mvt_base::{Items, Text};
 use mvt_geometry::{Geometry, Point};
@@ -10,7 +11,6 @@ use mvt_tile::{
 };
 use std::alloc::{AllocError, Global};
 use std::process::Abort;
-use std::test::Fail;
 
 // More keys than are compared without memory.
 pub(super) const KEYS: [&str; 20] = [
@@ -139,18 +139,45 @@ pub(super) fn names(alloc: Global, texts: &[&str]) -> Result<Vec<String>, AllocE
     Ok(names)
 }
 
+// The tile of an input, with memory that isn't refused.
+pub(super) fn tile_of(rt: &(impl Abort + AllocGlobal), input: &[u8]) -> Tile {
+    decode(rt.alloc(), input).expect(rt, "a tile")
+}
+
+pub(super) fn both_of(rt: &(impl Abort + AllocGlobal), front: &[u8], back: &[u8]) -> Vec<u8> {
+    joined(rt.alloc(), front, back).expect(rt, "bytes")
+}
+
+// Feeds an input byte by byte, up to the first error.
+pub(super) fn feed_bytes(decoder: &mut TileDecoder, input: &[u8]) -> Result<(), DecodeError> {
+    for byte in input.chunks(1) {
+        decoder.feed(byte)?;
+    }
+    Ok(())
+}
+
 // What comes of an input in pieces of one byte. An error stays.
 pub(super) fn fed(rt: &(impl Abort + AllocGlobal), input: &[u8]) -> Result<Tile, DecodeError> {
     let mut decoder = TileDecoder::new(rt.alloc());
-    for byte in input.chunks(1) {
-        if let Err(error) = decoder.feed(byte) {
-            assert_eq!(rt; decoder.feed(input), Err(error));
-            assert_eq!(rt; decoder.held(), 0);
-            assert_eq!(rt; decoder.finish().err(), Some(error));
-            return Err(error);
+    match feed_bytes(&mut decoder, input) {
+        Ok(()) => decoder.finish(),
+        Err(error) => {
+            expect_failed(rt, decoder, input, error);
+            Err(error)
         }
     }
-    decoder.finish()
+}
+
+// A decoder that has failed says so from then on.
+pub(super) fn expect_failed(
+    rt: &impl Abort,
+    mut decoder: TileDecoder,
+    more: &[u8],
+    error: DecodeError,
+) {
+    expect_eq!(rt; decoder.feed(more), Err(error));
+    expect_eq!(rt; decoder.held(), 0);
+    expect_eq!(rt; decoder.finish().err(), Some(error));
 }
 
 // The input is this tile, whole and byte by byte, and where it is only judged it has no fault; the tile is
@@ -160,78 +187,85 @@ pub(super) fn expect_tile(
     input: &[u8],
     tile: &Tile,
     canonical: &[u8],
-) -> Result<(), Fail> {
-    let read = decode(rt.alloc(), input)?;
-    assert!(rt; read == *tile && is_valid(&read));
-    assert!(rt; fed(rt, input)? == *tile);
-    judge(rt.alloc(), input)?;
-    let survey = survey_tile(rt.alloc(), input)?;
-    assert_eq!(rt; survey.layers, tile.items.as_slice().len());
-    assert_eq!(rt; survey.is_canonical, input == canonical, "of {input:?}");
-    let written = encode(rt.alloc(), &read).map_err(|_| AllocError)?;
-    assert_eq!(rt; written.as_slice(), canonical);
-    expect_rewritten(rt, input, canonical)?;
-    assert!(rt; validate(rt.alloc(), &read)?);
-    expect_canonical(rt, &read, input, input == canonical)?;
-    expect_canonical(rt, &read, canonical, true)?;
-    let longer = joined(rt.alloc(), canonical, b"\x20\x05")?;
-    expect_canonical(rt, &read, &longer, false)?;
+) {
+    let read = tile_of(rt, input);
+    expect!(rt; read == *tile);
+    expect_written(rt, &read, canonical);
+    expect_canonical(rt, &read, input, input == canonical);
+    drop(read);
+    let read = fed(rt, input).expect(rt, "a tile by bytes");
+    expect!(rt; read == *tile);
+    drop(read);
+    expect_eq!(rt; judge(rt.alloc(), input), Ok(()));
+    expect_surveyed(rt, input, tile.items.as_slice().len(), input == canonical);
+    expect_rewritten(rt, input, canonical);
+}
+
+// A tile that was read is valid, and written as these bytes, and as no others.
+fn expect_written(rt: &(impl Abort + AllocGlobal), tile: &Tile, canonical: &[u8]) {
+    expect!(rt; is_valid(tile));
+    expect_eq!(rt; validate(rt.alloc(), tile), Ok(true));
+    let written = encode(rt.alloc(), tile).expect(rt, "bytes");
+    expect_eq!(rt; written.as_slice(), canonical);
+    drop(written);
+    expect_canonical(rt, tile, canonical, true);
+    let longer = both_of(rt, canonical, b"\x20\x05");
+    expect_canonical(rt, tile, &longer, false);
+    drop(longer);
     if let [shorter @ .., _] = canonical {
-        expect_canonical(rt, &read, shorter, false)?;
+        expect_canonical(rt, tile, shorter, false);
     }
-    Ok(())
+}
+
+// The number of items in an input, and whether the input is what its tile is written as.
+fn expect_surveyed(
+    rt: &(impl Abort + AllocGlobal),
+    input: &[u8],
+    layers: usize,
+    is_canonical: bool,
+) {
+    let survey = survey_tile(rt.alloc(), input).expect(rt, "a survey");
+    expect_eq!(rt; survey.layers, layers);
+    expect_eq!(rt; survey.is_canonical, is_canonical, "of {input:?}");
+    drop(survey);
 }
 
 // The canonical bytes of a tile, by its bytes, and by a reader of them that gives seven at a time.
-fn expect_rewritten(
-    rt: &(impl Abort + AllocGlobal),
-    input: &[u8],
-    canonical: &[u8],
-) -> Result<(), Fail> {
-    let alloc = rt.alloc();
-    let made = rewrite(alloc, input)?.unwrap_or(Vec::new(alloc));
-    assert_eq!(rt; made.as_slice(), canonical, "of {input:?}");
-    let mut reader = MemorySource::new(Vec::from_slice(alloc, input)?, 7, u64::MAX);
-    let made = rewrite_tile(alloc, &mut reader)?.unwrap_or(Vec::new(alloc));
-    assert_eq!(rt; made.as_slice(), canonical, "of {input:?} by a reader");
-    Ok(())
+fn expect_rewritten(rt: &(impl Abort + AllocGlobal), input: &[u8], canonical: &[u8]) {
+    let made = rewrite(rt.alloc(), input).expect(rt, "bytes");
+    expect_eq!(rt; made.as_deref(), Some(canonical), "of {input:?}");
+    drop(made);
+    let mut reader = reader_of(rt, input, 7, u64::MAX);
+    let made = rewrite_tile(rt.alloc(), &mut reader).expect(rt, "bytes");
+    drop(reader);
+    expect_eq!(rt; made.as_deref(), Some(canonical), "of {input:?} by a reader");
+    drop(made);
 }
 
 // Whether bytes are what a tile is written as.
-fn expect_canonical(
+fn expect_canonical(rt: &(impl Abort + AllocGlobal), tile: &Tile, bytes: &[u8], answer: bool) {
+    expect!(rt; is_valid(tile));
+    expect_eq!(rt; is_canonical(rt.alloc(), tile, bytes), Ok(answer), "of {bytes:?}");
+}
+
+// A reader of these bytes, so many at a time, which fails from one of its reads on.
+pub(super) fn reader_of(
     rt: &(impl Abort + AllocGlobal),
-    tile: &Tile,
-    bytes: &[u8],
-    answer: bool,
-) -> Result<(), Fail> {
-    assert!(rt; is_valid(tile));
-    if is_valid(tile) {
-        assert_eq!(rt;
-            is_canonical(rt.alloc(), tile, bytes)?,
-            answer,
-            "of {bytes:?}"
-        );
-    }
-    Ok(())
+    input: &[u8],
+    step: usize,
+    fails_from: u64,
+) -> MemorySource {
+    let bytes = Vec::from_slice(rt.alloc(), input).expect(rt, "bytes");
+    MemorySource::new(bytes, step.max(1), fails_from)
 }
 
 // The input has this fault, whole, byte by byte, and where it is only judged, surveyed or rewritten.
 pub(super) fn expect_fault(rt: &(impl Abort + AllocGlobal), input: &[u8], error: DecodeError) {
-    assert_eq!(rt;
-        decode(rt.alloc(), input).err(),
-        Some(error),
-        "of {input:?}"
-    );
-    assert_eq!(rt; fed(rt, input).err(), Some(error), "of {input:?} by bytes");
-    assert_eq!(rt; judge(rt.alloc(), input), Err(error), "of {input:?} judged");
-    assert_eq!(rt;
-        survey_tile(rt.alloc(), input).err(),
-        Some(error),
-        "of {input:?} surveyed"
-    );
-    assert_eq!(rt;
-        rewrite(rt.alloc(), input).err(),
-        Some(error),
-        "of {input:?} rewritten"
-    );
+    let alloc = rt.alloc();
+    expect_eq!(rt; decode(alloc, input).err(), Some(error), "of {input:?}");
+    expect_eq!(rt; fed(rt, input).err(), Some(error), "of {input:?} by bytes");
+    expect_eq!(rt; judge(alloc, input), Err(error), "of {input:?} judged");
+    let surveyed = survey_tile(alloc, input).err();
+    expect_eq!(rt; surveyed, Some(error), "of {input:?} surveyed");
+    expect_eq!(rt; rewrite(alloc, input).err(), Some(error), "of {input:?} rewritten");
 }

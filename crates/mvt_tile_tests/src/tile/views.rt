@@ -1,33 +1,67 @@
 //! Extraction, notes and surveys.
 use super::rows::*;
-use super::support::{joined, names};
-use mvt_tile::{ExtractError, Note, Survey, decode, encode, extract, notes, survey_tile};
-use std::alloc::AllocError;
+use super::support::{both_of, names, tile_of};
+use crate::expect::{expect, expect_eq};
+use mvt_tile::{ExtractError, Note, Tile, encode, extract, is_valid, notes, survey_tile};
 use std::process::Abort;
-use std::test::Fail;
 
-#[test]
-fn extracts(rt: HostRuntime) -> Result<(), Fail> {
-    let alloc = rt.alloc();
-    let tile = decode(alloc, &joined(alloc, ONE_POINT, ONE_POINT_B)?)?;
-    let b = decode(alloc, ONE_POINT_B)?;
-    assert!(rt; extract(alloc, &tile, &names(alloc, &["b", "b"])?)? == b);
-    assert!(rt; extract(alloc, &tile, &names(alloc, &["b", "a"])?)? == tile);
-    let error = extract(alloc, &tile, &names(alloc, &["b", "c"])?).err();
-    assert_eq!(rt; error, Some(ExtractError::MissingLayer(1)));
-    // Foreign items have no name.
-    let mixed = decode(alloc, &joined(alloc, FOREIGN, ONE_POINT)?)?;
-    let picked = extract(alloc, &mixed, &names(alloc, &["a"])?)?;
-    assert!(rt; picked == decode(alloc, ONE_POINT)?);
-    let foreign = decode(alloc, FOREIGN)?;
-    let error = extract(alloc, &foreign, &names(alloc, &["a"])?).err();
-    assert_eq!(rt; error, Some(ExtractError::MissingLayer(0)));
-    Ok(())
+// The layers of these names are this tile.
+fn expect_extract(rt: &(impl Abort + AllocGlobal), tile: &Tile, texts: &[&str], expected: &Tile) {
+    let names = names(rt.alloc(), texts).expect(rt, "names");
+    let picked = extract(rt.alloc(), tile, &names).expect(rt, "layers");
+    drop(names);
+    expect!(rt; picked == *expected);
+    drop(picked);
+}
+
+// No layer has the name of this index, and those before it are there.
+fn expect_missing(rt: &(impl Abort + AllocGlobal), tile: &Tile, texts: &[&str], index: usize) {
+    let names = names(rt.alloc(), texts).expect(rt, "names");
+    let error = extract(rt.alloc(), tile, &names).err();
+    drop(names);
+    expect_eq!(rt; error, Some(ExtractError::MissingLayer(index)));
+}
+
+fn joined_of(rt: &(impl Abort + AllocGlobal), front: &[u8], back: &[u8]) -> Tile {
+    let input = both_of(rt, front, back);
+    let tile = tile_of(rt, &input);
+    drop(input);
+    tile
 }
 
 #[test]
-fn tells_notes(rt: HostRuntime) -> Result<(), Fail> {
-    let alloc = rt.alloc();
+fn extracts(rt: HostRuntime) {
+    let tile = joined_of(&rt, ONE_POINT, ONE_POINT_B);
+    let b = tile_of(&rt, ONE_POINT_B);
+    expect_extract(&rt, &tile, &["b", "b"], &b);
+    drop(b);
+    expect_extract(&rt, &tile, &["b", "a"], &tile);
+    expect_missing(&rt, &tile, &["b", "c"], 1);
+    drop(tile);
+}
+
+#[test]
+fn extracts_no_foreign_items(rt: HostRuntime) {
+    let mixed = joined_of(&rt, FOREIGN, ONE_POINT);
+    let a = tile_of(&rt, ONE_POINT);
+    expect_extract(&rt, &mixed, &["a"], &a);
+    drop(a);
+    drop(mixed);
+    let foreign = tile_of(&rt, FOREIGN);
+    expect_missing(&rt, &foreign, &["a"], 0);
+    drop(foreign);
+}
+
+fn expect_notes(rt: &(impl Abort + AllocGlobal), input: &[u8], expected: &[Note]) {
+    let tile = tile_of(rt, input);
+    let found = notes(rt.alloc(), &tile).expect(rt, "notes");
+    drop(tile);
+    expect_eq!(rt; found.as_slice(), expected);
+    drop(found);
+}
+
+#[test]
+fn tells_notes(rt: HostRuntime) {
     let rows: [(&[u8], &[Note]); 8] = [
         (b"", &[Note::NoLayers]),
         (ONE_POINT, &[]),
@@ -42,45 +76,45 @@ fn tells_notes(rt: HostRuntime) -> Result<(), Fail> {
         ),
     ];
     for (input, expected) in rows {
-        let found = notes(alloc, &decode(alloc, input)?)?;
-        assert_eq!(rt; found.as_slice(), expected);
+        expect_notes(&rt, input, expected);
     }
-    Ok(())
 }
 
 fn expect_survey(
-    rt: &impl Abort,
-    survey: &Survey,
-    layers: usize,
-    features: u128,
+    rt: &(impl Abort + AllocGlobal),
+    input: &[u8],
+    counts: (usize, u128),
     is_canonical: bool,
     notes: &[Note],
 ) {
-    assert_eq!(rt; survey.layers, layers);
-    assert_eq!(rt; survey.features, features);
-    assert_eq!(rt; survey.is_canonical, is_canonical);
-    assert_eq!(rt; survey.notes.as_slice(), notes);
+    let survey = survey_tile(rt.alloc(), input).expect(rt, "a survey");
+    expect_eq!(rt; survey.layers, counts.0);
+    expect_eq!(rt; survey.features, counts.1);
+    expect_eq!(rt; survey.is_canonical, is_canonical);
+    expect_eq!(rt; survey.notes.as_slice(), notes);
+    drop(survey);
+}
+
+fn canonical_of(rt: &(impl Abort + AllocGlobal), input: &[u8]) -> Vec<u8> {
+    let tile = tile_of(rt, input);
+    expect!(rt; is_valid(&tile));
+    let canonical = encode(rt.alloc(), &tile).expect(rt, "bytes");
+    drop(tile);
+    canonical
 }
 
 #[test]
-fn surveys(rt: HostRuntime) -> Result<(), Fail> {
-    let alloc = rt.alloc();
-    expect_survey(
-        &rt,
-        &survey_tile(alloc, b"")?,
-        0,
-        0,
-        true,
-        &[Note::NoLayers],
-    );
+fn surveys(rt: HostRuntime) {
+    expect_survey(&rt, b"", (0, 0), true, &[Note::NoLayers]);
     let flat = [Note::FlatRing(0, 0, 2)];
-    expect_survey(&rt, &survey_tile(alloc, RINGS)?, 1, 1, true, &flat);
-    let longer = joined(alloc, RINGS, b"\x20\x05")?;
-    expect_survey(&rt, &survey_tile(alloc, &longer)?, 1, 1, false, &flat);
-    let both = joined(alloc, FOREIGN, SAME_ID)?;
+    expect_survey(&rt, RINGS, (1, 1), true, &flat);
+    let longer = both_of(&rt, RINGS, b"\x20\x05");
+    expect_survey(&rt, &longer, (1, 1), false, &flat);
+    drop(longer);
+    let both = both_of(&rt, FOREIGN, SAME_ID);
+    let canonical = canonical_of(&rt, &both);
+    drop(both);
     let notes = [Note::Foreign(0, 1), Note::RepeatedId(1, 1, 0)];
-    let tile = decode(alloc, &both)?;
-    let canonical = encode(alloc, &tile).map_err(|_| AllocError)?;
-    expect_survey(&rt, &survey_tile(alloc, &canonical)?, 2, 2, true, &notes);
-    Ok(())
+    expect_survey(&rt, &canonical, (2, 2), true, &notes);
+    drop(canonical);
 }
