@@ -8,7 +8,7 @@ use crate::fault::Fault;
 use crate::lent::Bytes;
 use crate::names::read_names;
 use crate::refusal::{Refusal, hand_out, tell};
-use mvt_tile::{decode, encode, extract, rewrite};
+use mvt_tile::{NamedLayers, extract_bytes, rewrite};
 use std::alloc::Global;
 
 /// The canonical bytes of a tile (`mvt_rewrite`).
@@ -66,7 +66,9 @@ fn extracted(alloc: Global, bytes: &[u8], names: &[String]) -> Result<Vec<u8>, R
     ensures done { IfOk result (λ made. IsExtracted bytes.now (map string_bytes names.now) made.items) }
     ensures refused { IfErr result (NotExtracted bytes.now (map string_bytes names.now)) }
 {
-    let tile = decode(alloc, bytes)?;
-    let picked = extract(alloc, &tile, names)?;
-    Ok(encode(alloc, &picked)?)
+    match extract_bytes(alloc, bytes, names)? {
+        NamedLayers::Bytes(made) => Ok(made),
+        NamedLayers::Missing(_) => Err(Refusal::NoLayer),
+        NamedLayers::TooLarge => Err(Refusal::TooLarge),
+    }
 }

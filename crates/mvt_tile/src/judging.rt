@@ -31,6 +31,8 @@ pub fn judge(alloc: Global, bytes: &[u8]) -> Result<(), DecodeError>
 impl Taker for Names {
     ghost use Rattle.mvt_tile.specs.Inner.Judging.{AreNamed};
 
+    ghost Given = { Unit {0} };
+
     ghost has_taken = { λ _ names items. AreNamed names.count names.names.keys items };
 
     /// Judges a layer's payload, and adds its name.

@@ -1,11 +1,12 @@
 //! The items that were read so far, and the names of the layers among them.
-ghost use Rattle.std.specs.Prelude.{◌≡◌, ◌∷◌, ◌++◌, ◌||◌, ℕ, ◌+◌, ◌≤◌, List, [], false, length, not, bytes_eq, IfOk, IfErr, OnErr, OnOk, IsTrue};
+ghost use Rattle.std.specs.Prelude.{◌≡◌, ◌∷◌, ◌++◌, ◌||◌, ℕ, ◌+◌, ◌≤◌, List, [], false, length, map, not, bytes_eq, string_bytes, IfOk, IfErr, OnErr, OnOk, IsTrue};
 ghost use Rattle.std.specs.Bool.{OnFalse};
 ghost use Rattle.std.specs.List.{AllByRecursion, flat_map, list_any};
 ghost use Rattle.std.specs.Option.{option_to_list};
 ghost use Rattle.mvt_message.specs.Items.{IsItem, names_in};
 ghost use Rattle.mvt_message.specs.ValidItems.{ValidItem};
 ghost use Rattle.mvt_tile.specs.Inner.Judging.{AreNamed, name_fault, payload_fault};
+ghost use Rattle.mvt_tile.specs.Inner.Wanting.{IsSetOf};
 ghost use Rattle.mvt_tile.specs.Streams.{TellsEarly};
 ghost use Rattle.mvt_tile.specs.TileRules.{repeats};
 ghost use Rattle.mvt_model.specs.Tiles.{HasDistinctNames};
@@ -82,6 +83,8 @@ impl Layers {
 
 impl Taker for Layers {
     ghost use Rattle.std.specs.Prelude.{◌≡◌};
+
+    ghost Given = { Unit {0} };
 
     ghost has_taken = { λ _ layers items. layers ≡ items };
 
@@ -185,4 +188,22 @@ pub(crate) fn add_name(names: &mut BTreeSet<Text>, name: Option<Text>) -> Result
         Some(name) => Ok(names.insert(name)?),
         None => Ok(true),
     }
+}
+
+/// Whether a set holds a name.
+pub(crate) fn holds_name(names: &BTreeSet<Text>, name: &Text) -> bool
+    ensures { result ≡ list_any (bytes_eq name.now) names.now.keys }
+{
+    names.contains(name)
+}
+
+/// The set of some names.
+pub(crate) fn set_of(alloc: Global, names: &[String]) -> Result<BTreeSet<Text>, AllocError>
+    ensures { IfOk result (λ set. IsSetOf set.keys (map string_bytes names.now)) }
+{
+    let mut set = BTreeSet::new(alloc);
+    for name in names {
+        let _ = add_name(&mut set, Some(Text::from_str(alloc, name.as_str())?))?;
+    }
+    Ok(set)
 }

@@ -37,14 +37,14 @@ impl<T: Taker> Pieces<T> {
 
     /// Takes the items in a piece behind the bytes that are held, and holds what is then left.
     pub(crate) fn take(&mut self, alloc: Global, piece: &[u8]) -> Result<(), DecodeError>
-        requires few { (input : List ℕ) × (items : List Item) × T.has_taken input self.old.taker items × (length items ≤ self.old.offset) }
+        requires few { (given : T.Given) × (items : List Item) × T.has_taken given self.old.taker items × (length items ≤ self.old.offset) }
         requires small { self.old.offset + length self.old.raw.items ≤ LIMIT }
         ensures small { OnOk result (self.new.offset + length self.new.raw.items ≤ LIMIT) }
-        ensures live { (input : List ℕ) (items : List Item) → T.has_taken input self.old.taker items → length items ≤ self.old.offset
-            → OnOk result ((new : List Item) × T.has_taken input self.new.taker new × (length new ≤ self.new.offset)
+        ensures live { (given : T.Given) (items : List Item) → T.has_taken given self.old.taker items → length items ≤ self.old.offset
+            → OnOk result ((new : List Item) × T.has_taken given self.new.taker new × (length new ≤ self.new.offset)
             × ((s : List ℕ) → IsLive LIMIT self.old.offset items self.old.raw.items s
             → IsLive LIMIT self.new.offset new self.new.raw.items (s ++ piece.now))) }
-        ensures fault { (input : List ℕ) (items : List Item) → T.has_taken input self.old.taker items → IfErr result
+        ensures fault { (given : T.Given) (items : List Item) → T.has_taken given self.old.taker items → IfErr result
             (λ error. (s : List ℕ) → IsLive LIMIT self.old.offset items self.old.raw.items s
             → TellsEarly error (fault_within LIMIT (s ++ piece.now))) }
     {
@@ -82,13 +82,13 @@ fn swallow<T: Taker>(
     offset: u64,
     piece: &[u8],
 ) -> Result<usize, DecodeError>
-    requires few { (input : List ℕ) × (items : List Item) × T.has_taken input taker.old items × (length items ≤ offset) }
+    requires few { (given : T.Given) × (items : List Item) × T.has_taken given taker.old items × (length items ≤ offset) }
     requires small { offset + (length raw.old.items + length piece.now) ≤ LIMIT }
-    ensures judged { (input : List ℕ) (items : List Item) → T.has_taken input taker.old items → IfOk result
-        (λ used. (new : List Item) × T.has_taken input taker.new new × IsJudged offset (raw.old.items ++ piece.now) items new used) }
+    ensures judged { (given : T.Given) (items : List Item) → T.has_taken given taker.old items → IfOk result
+        (λ used. (new : List Item) × T.has_taken given taker.new new × IsJudged offset (raw.old.items ++ piece.now) items new used) }
     ensures raw { IfOk result (λ used. raw.new.items ≡ drop used (raw.old.items ++ piece.now)) }
     ensures within { IfOk result (λ used. used ≤ length raw.old.items + length piece.now) }
-    ensures fault { (input : List ℕ) (items : List Item) → T.has_taken input taker.old items → IfErr result
+    ensures fault { (given : T.Given) (items : List Item) → T.has_taken given taker.old items → IfErr result
         (λ error. TellsBehind error offset (raw.old.items ++ piece.now) items) }
 {
     if raw.is_empty() {

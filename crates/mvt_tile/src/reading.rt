@@ -59,14 +59,14 @@ pub(crate) fn read_whole<R: Source, T: Taker>(
     reader: &mut R,
     taker: T,
 ) -> Result<T, DecodeError>
-    requires start { (input : List ℕ) × T.has_taken input taker [] }
+    requires start { (given : T.Given) × T.has_taken given taker [] }
     ensures end { OnOk result (IsAtEnd (R.left reader.new)) }
     ensures fault { IfErr result (λ error. IfSome (R.left reader.old)
         (λ input. Tells (fault_of error) (fault_within LIMIT input))) }
     ensures early { StopsEarly LIMIT 65536 (R.left reader.old) (R.left reader.new) }
     ensures stops { StopsEarly LIMIT (R.given reader.new) (R.left reader.old) (R.left reader.new) }
-    ensures tile { (input : List ℕ) → T.has_taken input taker [] → IfOk result (λ after. (tile : Tile)
-        × T.has_taken input after tile.items × IfSome (R.left reader.old) (λ bytes. IsTile LIMIT bytes tile)) }
+    ensures tile { (given : T.Given) → T.has_taken given taker [] → IfOk result (λ after. (tile : Tile)
+        × T.has_taken given after tile.items × IfSome (R.left reader.old) (λ bytes. IsTile LIMIT bytes tile)) }
     ensures reads { R.reads reader.new ≤ R.reads reader.old + MOST_READS }
     ensures asked { R.asked reader.new ≤ max (R.asked reader.old) 65536 }
     ensures failed { IfErr result (λ error. IsReadError error
@@ -91,11 +91,11 @@ fn feed_all<R: Source, T: Taker>(
 ) -> Result<(), DecodeError>
     requires room { 0 < length buffer.old }
     requires few { length buffer.old ≤ 65536 }
-    requires start { (input : List ℕ) × T.has_taken input pieces.old.taker [] }
+    requires start { (given : T.Given) × T.has_taken given pieces.old.taker [] }
     requires raw { pieces.old.raw.items ≡ [] }
     requires offset { pieces.old.offset ≡ 0 }
-    ensures fed { (input : List ℕ) → T.has_taken input pieces.old.taker [] → OnOk result
-        (HasFed LIMIT (T.has_taken input pieces.new.taker) pieces.new.offset pieces.new.raw.items (R.left reader.old) (R.left reader.new) 0) }
+    ensures fed { (given : T.Given) → T.has_taken given pieces.old.taker [] → OnOk result
+        (HasFed LIMIT (T.has_taken given pieces.new.taker) pieces.new.offset pieces.new.raw.items (R.left reader.old) (R.left reader.new) 0) }
     ensures end { OnOk result (IsAtEnd (R.left reader.new)) }
     ensures stopped { IfErr result (HasStopped LIMIT (R.given reader.new) (R.left reader.old) (R.left reader.new)) }
     ensures given { R.given reader.new ≤ 65536 }

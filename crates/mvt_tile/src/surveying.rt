@@ -47,11 +47,14 @@ struct Surveyor<'a> {
 }
 
 impl<'a> Taker for Surveyor<'a> {
+    ghost use Rattle.std.specs.Prelude.{List, ℕ};
     ghost use Rattle.std.specs.List.{AllByRecursion};
     ghost use Rattle.mvt_base.specs.declared.TheConstants.{LIMIT};
     ghost use Rattle.mvt_message.specs.ValidItems.{ValidItem};
     ghost use Rattle.mvt_tile.specs.Inner.Judging.{AreNamed};
     ghost use Rattle.mvt_model.specs.Findings.{AreFound};
+
+    ghost Given = { List ℕ };
 
     ghost has_taken = { λ input s items. AreNamed s.names.count s.names.names.keys items
         × AreFound LIMIT input s.found items × AllByRecursion ValidItem items };
