@@ -1,9 +1,9 @@
 //! Rows that are tiles, and rows that are none.
+use crate::expect::expect_eq;
 use mvt_rows::{
     FeatureRow, LayerRow, PartRow, PointRow, Rows, RowsError, Span, ValueRow, write_rows,
 };
-use std::alloc::Global;
-use std::test::Fail;
+use std::process::Abort;
 
 const NOWHERE: Span = Span { start: 0, len: 0 };
 
@@ -123,19 +123,21 @@ const NUMBERS_BYTES: [u8; 82] = [
     0x80, 0x20,
 ];
 
-fn is_written_as(alloc: Global, rows: &Rows, bytes: &[u8]) -> Result<bool, RowsError> {
-    Ok(write_rows(alloc, rows)?.as_slice() == bytes)
+fn expect_written(rt: &(impl Abort + AllocGlobal), rows: &Rows, bytes: &[u8]) {
+    let written = write_rows(rt.alloc(), rows).expect(rt, "bytes");
+    expect_eq!(rt; written.as_slice(), bytes);
+    drop(written);
 }
 
-fn is_refused(alloc: Global, rows: &Rows) -> bool {
-    matches!(write_rows(alloc, rows), Err(RowsError::NoTile))
+fn expect_refused(rt: &(impl Abort + AllocGlobal), rows: &Rows) {
+    let error = write_rows(rt.alloc(), rows).err();
+    expect_eq!(rt; error, Some(RowsError::NoTile));
 }
 
 #[test]
-fn writes_rows(rt: HostRuntime) -> Result<(), Fail> {
-    let alloc = rt.alloc();
-    assert!(rt; matches!(is_written_as(alloc, &ONE_POINT, &ONE_POINT_BYTES), Ok(true)));
-    assert!(rt; matches!(is_written_as(alloc, &NUMBERS, &NUMBERS_BYTES), Ok(true)));
+fn writes_rows(rt: HostRuntime) {
+    expect_written(&rt, &ONE_POINT, &ONE_POINT_BYTES);
+    expect_written(&rt, &NUMBERS, &NUMBERS_BYTES);
     let rows = Rows {
         layers: &[LayerRow {
             version: 1,
@@ -145,167 +147,98 @@ fn writes_rows(rt: HostRuntime) -> Result<(), Fail> {
         texts: &[0x78, 0x01],
         ..ONE_POINT
     };
-    assert!(rt;
-        matches!(
-            is_written_as(alloc, &rows, &[0x1A, 0x02, 0x78, 0x01]),
-            Ok(true)
-        )
-    );
-    Ok(())
+    expect_written(&rt, &rows, &[0x1A, 0x02, 0x78, 0x01]);
 }
 
 #[test]
-fn refuses_what_is_not_there(rt: HostRuntime) -> Result<(), Fail> {
-    let alloc = rt.alloc();
-    assert!(rt;
-        is_refused(
-            alloc,
-            &Rows {
-                texts: &[],
-                ..ONE_POINT
-            }
-        )
-    );
-    assert!(rt;
-        is_refused(
-            alloc,
-            &Rows {
-                features: &[],
-                ..ONE_POINT
-            }
-        )
-    );
-    assert!(rt;
-        is_refused(
-            alloc,
-            &Rows {
-                parts: &[],
-                ..ONE_POINT
-            }
-        )
-    );
-    assert!(rt;
-        is_refused(
-            alloc,
-            &Rows {
-                points: &[],
-                ..ONE_POINT
-            }
-        )
-    );
-    assert!(rt;
-        is_refused(
-            alloc,
-            &Rows {
-                keys: &[],
-                ..NUMBERS
-            }
-        )
-    );
-    assert!(rt;
-        is_refused(
-            alloc,
-            &Rows {
-                values: &[],
-                ..NUMBERS
-            }
-        )
-    );
-    assert!(rt;
-        is_refused(
-            alloc,
-            &Rows {
-                tags: &[0, 0, 1, 1, 2, 2, 3, 3, 4, 4, 5, 6],
-                ..NUMBERS
-            }
-        )
-    );
-    Ok(())
+fn refuses_what_is_not_there(rt: HostRuntime) {
+    let rows = [
+        Rows {
+            texts: &[],
+            ..ONE_POINT
+        },
+        Rows {
+            features: &[],
+            ..ONE_POINT
+        },
+        Rows {
+            parts: &[],
+            ..ONE_POINT
+        },
+        Rows {
+            points: &[],
+            ..ONE_POINT
+        },
+        Rows {
+            keys: &[],
+            ..NUMBERS
+        },
+        Rows {
+            values: &[],
+            ..NUMBERS
+        },
+        Rows {
+            tags: &[0, 0, 1, 1, 2, 2, 3, 3, 4, 4, 5, 6],
+            ..NUMBERS
+        },
+    ];
+    for rows in &rows {
+        expect_refused(&rt, rows);
+    }
 }
 
 #[test]
-fn refuses_what_is_no_tile(rt: HostRuntime) -> Result<(), Fail> {
-    let alloc = rt.alloc();
-    assert!(rt;
-        is_refused(
-            alloc,
-            &Rows {
-                texts: &[0xFF],
-                ..ONE_POINT
-            }
-        )
-    );
-    assert!(rt;
-        is_refused(
-            alloc,
-            &Rows {
-                layers: &[LAYER, LAYER],
-                ..ONE_POINT
-            }
-        )
-    );
-    assert!(rt;
-        is_refused(
-            alloc,
-            &Rows {
-                points: &[PointRow { x: i32::MIN, y: 0 }],
-                ..ONE_POINT
-            }
-        )
-    );
-    assert!(rt;
-        is_refused(
-            alloc,
-            &Rows {
-                features: &[FeatureRow { kind: 2, ..FEATURE }],
-                ..ONE_POINT
-            }
-        )
-    );
-    assert!(rt;
-        is_refused(
-            alloc,
-            &Rows {
-                features: &[FeatureRow { kind: 4, ..FEATURE }],
-                ..ONE_POINT
-            }
-        )
-    );
-    assert!(rt;
-        is_refused(
-            alloc,
-            &Rows {
-                features: &[FeatureRow {
-                    has_id: 2,
-                    ..FEATURE
-                }],
-                ..ONE_POINT
-            }
-        )
-    );
-    assert!(rt;
-        is_refused(
-            alloc,
-            &Rows {
-                tags: &[0, 0, 0, 1, 2, 2, 3, 3, 4, 4, 5, 5],
-                ..NUMBERS
-            }
-        )
-    );
-    Ok(())
+fn refuses_what_is_no_tile(rt: HostRuntime) {
+    let rows = [
+        Rows {
+            texts: &[0xFF],
+            ..ONE_POINT
+        },
+        Rows {
+            layers: &[LAYER, LAYER],
+            ..ONE_POINT
+        },
+        Rows {
+            points: &[PointRow { x: i32::MIN, y: 0 }],
+            ..ONE_POINT
+        },
+        Rows {
+            features: &[FeatureRow { kind: 2, ..FEATURE }],
+            ..ONE_POINT
+        },
+        Rows {
+            features: &[FeatureRow { kind: 4, ..FEATURE }],
+            ..ONE_POINT
+        },
+        Rows {
+            features: &[FeatureRow {
+                has_id: 2,
+                ..FEATURE
+            }],
+            ..ONE_POINT
+        },
+        Rows {
+            tags: &[0, 0, 0, 1, 2, 2, 3, 3, 4, 4, 5, 5],
+            ..NUMBERS
+        },
+    ];
+    for rows in &rows {
+        expect_refused(&rt, rows);
+    }
 }
 
 #[test]
-fn tells_why_nothing_is_made(rt: HostRuntime) -> Result<(), Fail> {
+fn tells_why_nothing_is_made(rt: HostRuntime) {
     let text = format!(in rt.alloc();
         "{}, {}, {}",
         RowsError::Memory,
         RowsError::TooLarge,
         RowsError::NoTile
-    )?;
-    assert_eq!(rt;
+    )
+    .expect(&rt, "a text");
+    expect_eq!(rt;
         text.as_str(),
         "out of memory, the tile is too large, the rows are no tile"
     );
-    Ok(())
+    drop(text);
 }

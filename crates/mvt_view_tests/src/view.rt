@@ -1,4 +1,5 @@
 //! Tiles as JSON, the lines of fields, and the lines of faults.
+use crate::expect::{expect, expect_eq};
 use mvt_attrs::{Attribute, Value};
 use mvt_base::{Items, LIMIT, Text};
 use mvt_geometry::{Geometry, Point, Polygon};
@@ -7,7 +8,6 @@ use mvt_tile::{Fault, Tile};
 use mvt_view::*;
 use std::alloc::{AllocError, Global};
 use std::process::Abort;
-use std::test::Fail;
 
 mod svg;
 
@@ -53,19 +53,51 @@ fn one_point(alloc: Global) -> Result<Tile, AllocError> {
     tile_of(alloc, "a", vec![in alloc; point(alloc, None)?]?)
 }
 
-// A ring with two others in it, of which the second has no area.
-fn rings(alloc: Global) -> Result<Tile, AllocError> {
-    let outer = line(alloc, &[(0, 0), (10, 0), (10, 10), (0, 10)])?;
+// Layer `a` with one feature of this geometry.
+fn drawn(alloc: Global, geometry: Geometry) -> Result<Tile, AllocError> {
+    tile_of(alloc, "a", vec![in alloc; feature(alloc, None, geometry)]?)
+}
+
+// Two rings, of which the second has no area.
+fn holes(alloc: Global) -> Result<Items<Items<Point>>, AllocError> {
     let hole = line(alloc, &[(2, 2), (2, 8), (8, 8)])?;
     let flat = line(alloc, &[(1, 1), (2, 2), (3, 3)])?;
-    let rest = Items::new(vec![in alloc; hole, flat]?);
-    let polygons = Items::new(vec![in alloc; Polygon { outer, rest }]?);
-    let polygon = feature(alloc, None, Geometry::Polygons(polygons));
-    tile_of(alloc, "a", vec![in alloc; polygon]?)
+    Ok(Items::new(vec![in alloc; hole, flat]?))
+}
+
+fn polygon(alloc: Global) -> Result<Polygon, AllocError> {
+    let outer = line(alloc, &[(0, 0), (10, 0), (10, 10), (0, 10)])?;
+    let rest = holes(alloc)?;
+    Ok(Polygon { outer, rest })
+}
+
+// A ring with two others in it, of which the second has no area.
+fn rings(alloc: Global) -> Result<Tile, AllocError> {
+    let polygons = Items::new(vec![in alloc; polygon(alloc)?]?);
+    drawn(alloc, Geometry::Polygons(polygons))
+}
+
+// With memory that isn't refused.
+fn attribute(rt: &(impl Abort + AllocGlobal), key: &str, value: Value) -> Attribute {
+    let key = Text::from_str(rt.alloc(), key).expect(rt, "a key");
+    Attribute { key, value }
+}
+
+fn lines_of(rt: &(impl Abort + AllocGlobal), points: &[(i32, i32)]) -> Items<Point> {
+    line(rt.alloc(), points).expect(rt, "points")
+}
+
+fn one_layer(rt: &(impl Abort + AllocGlobal), name: &str, features: Vec<Feature>) -> Tile {
+    tile_of(rt.alloc(), name, features).expect(rt, "a tile")
+}
+
+fn one_feature(rt: &(impl Abort + AllocGlobal), name: &str, feature: Feature) -> Tile {
+    let features = vec![in rt.alloc(); feature].expect(rt, "features");
+    one_layer(rt, name, features)
 }
 
 // A value of each kind but text.
-fn all_kinds(alloc: Global) -> Result<Tile, AllocError> {
+fn all_kinds(rt: &(impl Abort + AllocGlobal)) -> Tile {
     let values = [
         ("a", Value::Int(5)),
         ("b", Value::Uint(5)),
@@ -74,34 +106,45 @@ fn all_kinds(alloc: Global) -> Result<Tile, AllocError> {
         ("e", Value::Double(9_223_372_036_854_775_808)),
         ("f", Value::Bool(true)),
     ];
-    let mut attributes = Vec::new(alloc);
-    for (key, value) in &values {
-        attributes.push(Attribute {
-            key: Text::from_str(alloc, key)?,
-            value: value.copy(alloc)?,
-        })?;
+    let mut attributes = Vec::new(rt.alloc());
+    for (key, value) in values {
+        attributes
+            .push(attribute(rt, key, value))
+            .expect(rt, "an attribute");
     }
     let kinds = Feature {
         id: None,
         attributes: Items::new(attributes),
-        geometry: Geometry::Unknown(Items::new(Vec::new(alloc))),
+        geometry: Geometry::Unknown(Items::new(Vec::new(rt.alloc()))),
     };
-    tile_of(alloc, "a", vec![in alloc; kinds]?)
+    one_feature(rt, "a", kinds)
 }
 
-fn foreign(alloc: Global) -> Result<Tile, AllocError> {
-    let bytes = Items::new(Vec::from_slice(alloc, b"\x78\x01\x0A\x01\x61")?);
-    let items = Items::new(vec![in alloc; Item::Foreign { version: 1, bytes }]?);
-    Ok(Tile { items })
+fn foreign(rt: &(impl Abort + AllocGlobal)) -> Tile {
+    let bytes = Vec::from_slice(rt.alloc(), b"\x78\x01\x0A\x01\x61").expect(rt, "bytes");
+    let item = Item::Foreign {
+        version: 1,
+        bytes: Items::new(bytes),
+    };
+    let items = Items::new(vec![in rt.alloc(); item].expect(rt, "items"));
+    Tile { items }
 }
 
-fn foreign_and_point(alloc: Global) -> Result<Tile, AllocError> {
-    let mut items = foreign(alloc)?.items.into_vec();
-    for item in one_point(alloc)?.items.into_vec() {
-        items.push(item)?;
+fn point_tile(rt: &(impl Abort + AllocGlobal)) -> Tile {
+    one_point(rt.alloc()).expect(rt, "a tile")
+}
+
+fn rings_tile(rt: &(impl Abort + AllocGlobal)) -> Tile {
+    rings(rt.alloc()).expect(rt, "a tile")
+}
+
+fn foreign_and_point(rt: &(impl Abort + AllocGlobal)) -> Tile {
+    let mut items = foreign(rt).items.into_vec();
+    for item in point_tile(rt).items.into_vec() {
+        items.push(item).expect(rt, "two items");
     }
     let items = Items::new(items);
-    Ok(Tile { items })
+    Tile { items }
 }
 
 fn empty(alloc: Global) -> Tile {
@@ -110,61 +153,67 @@ fn empty(alloc: Global) -> Tile {
 }
 
 fn tree_text(alloc: Global, tile: &Tile) -> Result<String, ViewError> {
-    Ok(json_of(alloc, tile)?.to_string(alloc)?)
+    let tree = json_of(alloc, tile)?;
+    let text = tree.to_string(alloc);
+    drop(tree);
+    Ok(text?)
 }
 
-// The tile's JSON is this text, by events and by the tree.
-fn expect(rt: &(impl Abort + AllocGlobal), tile: &Tile, expected: &str) {
-    let alloc = rt.alloc();
-    assert!(rt; json_text(alloc, tile).is_ok_and(|text| text.as_str() == expected));
-    assert!(rt; tree_text(alloc, tile).is_ok_and(|text| text.as_str() == expected));
+fn expect_text(rt: &impl Abort, found: Result<String, ViewError>, expected: &str) {
+    let text = found.expect(rt, "a text");
+    expect_eq!(rt; text.as_str(), expected);
+    drop(text);
+}
+
+// The JSON of a tile, which is let go, is this text, by events and by the tree.
+fn expect_json(rt: &(impl Abort + AllocGlobal), tile: Tile, expected: &str) {
+    expect_text(rt, json_text(rt.alloc(), &tile), expected);
+    expect_text(rt, tree_text(rt.alloc(), &tile), expected);
+    drop(tile);
 }
 
 #[test]
-fn shows_tiles(rt: HostRuntime) -> Result<(), Fail> {
-    let alloc = rt.alloc();
-    expect(&rt, &empty(alloc), r#"{"layers":[]}"#);
-    expect(&rt, &one_point(alloc)?, ONE_POINT);
-    expect(
+fn shows_tiles(rt: HostRuntime) {
+    expect_json(&rt, empty(rt.alloc()), r#"{"layers":[]}"#);
+    expect_json(&rt, point_tile(&rt), ONE_POINT);
+    expect_json(
         &rt,
-        &rings(alloc)?,
+        rings_tile(&rt),
         r#"{"layers":[{"extent":4096,"features":[{"attributes":[],"geometry":{"polygons":[{"outer":[[0,0],[10,0],[10,10],[0,10]],"rest":[[[2,2],[2,8],[8,8]],[[1,1],[2,2],[3,3]]]}]},"id":null}],"name":"a"}]}"#,
     );
-    expect(
+    expect_json(
         &rt,
-        &all_kinds(alloc)?,
+        all_kinds(&rt),
         r#"{"layers":[{"extent":4096,"features":[{"attributes":[["a",{"int":5}],["b",{"uint":5}],["c",{"sint":5}],["d",{"float_bits":2147483648}],["e",{"double_bits":9223372036854775808}],["f",{"bool":true}]],"geometry":{"unknown":[]},"id":null}],"name":"a"}]}"#,
     );
-    expect(
+    expect_json(
         &rt,
-        &foreign(alloc)?,
+        foreign(&rt),
         r#"{"layers":[{"foreign":{"length":5,"version":1}}]}"#,
     );
-    Ok(())
+}
+
+// A feature with a text and a number at its end, which is drawn by a line to the ends of the range.
+fn far_line(rt: &(impl Abort + AllocGlobal), text: &str) -> Feature {
+    let value = Value::Text(Text::from_str(rt.alloc(), text).expect(rt, "a text"));
+    let quoted = attribute(rt, "\"", value);
+    let least = attribute(rt, "", Value::Sint(i64::MIN));
+    let attributes = vec![in rt.alloc(); quoted, least].expect(rt, "attributes");
+    let line = lines_of(rt, &[(-9, 2_147_483_647), (-2_147_483_647, 0)]);
+    Feature {
+        id: Some(u64::MAX),
+        attributes: Items::new(attributes),
+        geometry: Geometry::Lines(Items::new(vec![in rt.alloc(); line].expect(rt, "a line"))),
+    }
 }
 
 // A text with quotes, control characters and characters beyond ASCII, and numbers at their ends. The
 // expected text was made by Python: json.dumps(tile, ensure_ascii=False, sort_keys=True,
 // separators=(",", ":")).
 #[test]
-fn shows_texts(rt: HostRuntime) -> Result<(), Fail> {
-    let alloc = rt.alloc();
+fn shows_texts(rt: HostRuntime) {
     let name = "a\"b\\c/\n\r\t\u{8}\u{c}\u{1}\u{1f}\u{7f}\u{e9}\u{2028}\u{6f22}\u{1f600}";
-    let attribute = Attribute {
-        key: Text::from_str(alloc, "\"")?,
-        value: Value::Text(Text::from_str(alloc, name)?),
-    };
-    let least = Attribute {
-        key: Text::from_str(alloc, "")?,
-        value: Value::Sint(i64::MIN),
-    };
-    let lines = vec![in alloc; line(alloc, &[(-9, 2_147_483_647), (-2_147_483_647, 0)])?]?;
-    let shown = Feature {
-        id: Some(u64::MAX),
-        attributes: Items::new(vec![in alloc; attribute, least]?),
-        geometry: Geometry::Lines(Items::new(lines)),
-    };
-    let tile = tile_of(alloc, name, vec![in alloc; shown]?)?;
+    let tile = one_feature(&rt, name, far_line(&rt, name));
     let expected = concat!(
         r#"{"layers":[{"extent":4096,"features":[{"attributes":[["\"",{"string":"#,
         "\"a\\\"b\\\\c/\\n\\r\\t\\b\\f\\u0001\\u001f\u{7f}\u{e9}\u{2028}\u{6f22}\u{1f600}\"",
@@ -172,8 +221,7 @@ fn shows_texts(rt: HostRuntime) -> Result<(), Fail> {
         "\"a\\\"b\\\\c/\\n\\r\\t\\b\\f\\u0001\\u001f\u{7f}\u{e9}\u{2028}\u{6f22}\u{1f600}\"",
         "}]}"
     );
-    expect(&rt, &tile, expected);
-    Ok(())
+    expect_json(&rt, tile, expected);
 }
 
 const fn fault(layer: Option<u32>, feature: Option<u32>, at: u64, cause: Cause) -> Fault {
@@ -186,8 +234,7 @@ const fn fault(layer: Option<u32>, feature: Option<u32>, at: u64, cause: Cause) 
 }
 
 #[test]
-fn tells_faults(rt: HostRuntime) -> Result<(), Fail> {
-    let alloc = rt.alloc();
+fn tells_faults(rt: HostRuntime) {
     let faults = [
         (
             fault(Some(0), None, 14, Cause::ValueKind),
@@ -203,14 +250,20 @@ fn tells_faults(rt: HostRuntime) -> Result<(), Fail> {
         ),
     ];
     for (fault, expected) in &faults {
-        assert!(rt; fault_text(alloc, fault).is_ok_and(|text| text.as_str() == *expected));
+        expect_text(&rt, fault_text(rt.alloc(), fault), expected);
     }
-    Ok(())
+}
+
+// A cause in feature 4 of layer 3, at 5.
+fn expect_cause(rt: &(impl Abort + AllocGlobal), cause: Cause, expected: &str) {
+    let text = fault_text(rt.alloc(), &fault(Some(3), Some(4), 5, cause)).expect(rt, "a text");
+    let told = text.as_str().strip_prefix("layer 3 feature 4 at 5: ");
+    expect_eq!(rt; told, Some(expected));
+    drop(text);
 }
 
 #[test]
-fn tells_causes(rt: HostRuntime) -> Result<(), Fail> {
-    let alloc = rt.alloc();
+fn tells_causes(rt: HostRuntime) {
     let causes = [
         (Cause::Truncated, "1 Truncated"),
         (Cause::VarintRange, "2 VarintRange"),
@@ -239,26 +292,19 @@ fn tells_causes(rt: HostRuntime) -> Result<(), Fail> {
         (Cause::ParameterRange, "26 ParameterRange"),
     ];
     for (cause, expected) in &causes {
-        let text = fault_text(alloc, &fault(Some(3), Some(4), 5, *cause));
-        assert!(rt;
-            text.is_ok_and(|text| text.as_str().strip_prefix("layer 3 feature 4 at 5: ")
-                == Some(*expected))
-        );
+        expect_cause(&rt, *cause, expected);
     }
-    Ok(())
 }
 
 fn expect_fields(rt: &(impl Abort + AllocGlobal), input: &[u8], lines: &str, fault: Option<Fault>) {
-    let Ok(found) = fields_text(rt.alloc(), input) else {
-        assert!(rt; false);
-        return;
-    };
-    assert_eq!(rt; found.lines.as_str(), lines);
-    assert_eq!(rt; found.fault, fault);
+    let found = fields_text(rt.alloc(), input).expect(rt, "the lines of fields");
+    expect_eq!(rt; found.lines.as_str(), lines);
+    expect_eq!(rt; found.fault, fault);
+    drop(found);
 }
 
 #[test]
-fn lists_fields(rt: HostRuntime) -> Result<(), Fail> {
+fn lists_fields(rt: HostRuntime) {
     expect_fields(
         &rt,
         b"\x1A\x03\x0A\x01\x61\x20\x05",
@@ -285,7 +331,6 @@ fn lists_fields(rt: HostRuntime) -> Result<(), Fail> {
     for (input, lines, at, cause) in &broken {
         expect_fields(&rt, input, lines, Some(fault(None, None, *at, *cause)));
     }
-    Ok(())
 }
 
 // The limit of an input's length, as a number that the proofs don't count to.
@@ -294,66 +339,86 @@ fn limit() -> usize {
 }
 
 // One field of this head at the limit, and a byte behind it.
-fn beyond_limit(alloc: Global, head: &[u8]) -> Result<Vec<u8>, AllocError> {
-    let mut input = Vec::from_slice(alloc, head)?;
-    input.resize(limit().saturating_add(1), 0)?;
-    Ok(input)
+fn beyond_limit(rt: &(impl Abort + AllocGlobal), head: &[u8]) -> Vec<u8> {
+    let mut input = Vec::from_slice(rt.alloc(), head).expect(rt, "bytes");
+    input
+        .resize(limit().saturating_add(1), 0)
+        .expect(rt, "more bytes than the limit");
+    input
 }
 
 #[test]
-fn lists_fields_up_to_the_limit(rt: HostRuntime) -> Result<(), Fail> {
-    let alloc = rt.alloc();
-    let whole = beyond_limit(alloc, b"\x0A\xFB\xFF\xFF\x1F")?;
+fn lists_fields_up_to_the_limit(rt: HostRuntime) {
+    let whole = beyond_limit(&rt, b"\x0A\xFB\xFF\xFF\x1F");
     let large = fault(None, None, 67_108_864, Cause::TooLarge);
     expect_fields(&rt, &whole, "0 1 len 67108859\n", Some(large));
-    let cut = beyond_limit(alloc, b"\x0A\xFC\xFF\xFF\x1F")?;
+    drop(whole);
+    let cut = beyond_limit(&rt, b"\x0A\xFC\xFF\xFF\x1F");
     expect_fields(&rt, &cut, "", Some(fault(None, None, 0, Cause::TooLarge)));
-    Ok(())
+    drop(cut);
 }
 
-fn expect_report(rt: &(impl Abort + AllocGlobal), tile: &Tile, canonical: bool, expected: &str) {
-    let found = report_text(rt.alloc(), tile, canonical);
-    assert!(rt; found.is_ok_and(|text| text.as_str() == expected));
+// The report of a tile, which is let go.
+fn expect_report(rt: &(impl Abort + AllocGlobal), tile: Tile, canonical: bool, expected: &str) {
+    expect_text(rt, report_text(rt.alloc(), &tile, canonical), expected);
+    drop(tile);
 }
 
 #[test]
-fn reports_tiles(rt: HostRuntime) -> Result<(), Fail> {
-    let alloc = rt.alloc();
+fn reports_tiles(rt: HostRuntime) {
     let nothing = "ok layers 0 features 0 canonical yes\nnote NoLayers\n";
-    expect_report(&rt, &empty(alloc), true, nothing);
-    let shown = one_point(alloc)?;
-    expect_report(&rt, &shown, true, "ok layers 1 features 1 canonical yes\n");
-    expect_report(&rt, &shown, false, "ok layers 1 features 1 canonical no\n");
-    expect_report(&rt, &rings(alloc)?, true, FLAT);
+    expect_report(&rt, empty(rt.alloc()), true, nothing);
+    let shown = "ok layers 1 features 1 canonical yes\n";
+    expect_report(&rt, point_tile(&rt), true, shown);
+    let otherwise = "ok layers 1 features 1 canonical no\n";
+    expect_report(&rt, point_tile(&rt), false, otherwise);
+    expect_report(&rt, rings_tile(&rt), true, FLAT);
     let other = "ok layers 1 features 0 canonical yes\nnote Foreign layer 0 version 1\n";
-    expect_report(&rt, &foreign(alloc)?, true, other);
+    expect_report(&rt, foreign(&rt), true, other);
     let both = "ok layers 2 features 1 canonical yes\nnote Foreign layer 0 version 1\n";
-    expect_report(&rt, &foreign_and_point(alloc)?, true, both);
-    let features = vec![in alloc; point(alloc, Some(7))?, point(alloc, Some(7))?]?;
+    expect_report(&rt, foreign_and_point(&rt), true, both);
+    let bare = "ok layers 1 features 0 canonical yes\nnote NoFeatures layer 0\n";
+    let no_features = one_layer(&rt, "a", Vec::new(rt.alloc()));
+    expect_report(&rt, no_features, true, bare);
+}
+
+// Layer `a` with two points of the id 7.
+fn same_ids(rt: &(impl Abort + AllocGlobal)) -> Tile {
+    let one = point(rt.alloc(), Some(7)).expect(rt, "a feature");
+    let two = point(rt.alloc(), Some(7)).expect(rt, "a feature");
+    one_layer(
+        rt,
+        "a",
+        vec![in rt.alloc(); one, two].expect(rt, "features"),
+    )
+}
+
+// Layer `a` with a polygon whose only ring ends where it begins.
+fn closed_ring(rt: &(impl Abort + AllocGlobal)) -> Tile {
+    let ring = Polygon {
+        outer: lines_of(rt, &[(0, 0), (4, 0), (0, 4), (0, 0)]),
+        rest: Items::new(Vec::new(rt.alloc())),
+    };
+    let polygons = Items::new(vec![in rt.alloc(); ring].expect(rt, "a polygon"));
+    drawn(rt.alloc(), Geometry::Polygons(polygons)).expect(rt, "a tile")
+}
+
+#[test]
+fn reports_ids_and_rings(rt: HostRuntime) {
     let twice =
         "ok layers 1 features 2 canonical yes\nnote RepeatedId layer 0 feature 1 earlier 0\n";
-    expect_report(&rt, &tile_of(alloc, "a", features)?, true, twice);
-    let bare = "ok layers 1 features 0 canonical yes\nnote NoFeatures layer 0\n";
-    expect_report(&rt, &tile_of(alloc, "a", Vec::new(alloc))?, true, bare);
-    let closed = line(alloc, &[(0, 0), (4, 0), (0, 4), (0, 0)])?;
-    let ring = Polygon {
-        outer: closed,
-        rest: Items::new(Vec::new(alloc)),
-    };
-    let polygons = Items::new(vec![in alloc; ring]?);
-    let polygon = feature(alloc, None, Geometry::Polygons(polygons));
-    let tile = tile_of(alloc, "a", vec![in alloc; polygon]?)?;
+    expect_report(&rt, same_ids(&rt), true, twice);
     let closed =
         "ok layers 1 features 1 canonical yes\nnote ClosedTwice layer 0 feature 0 ring 0\n";
-    expect_report(&rt, &tile, true, closed);
-    Ok(())
+    expect_report(&rt, closed_ring(&rt), true, closed);
 }
 
 // How often a text wanted memory; else it is the expected one.
-fn wants(rt: &(impl Abort + AllocGlobal), found: Result<String, ViewError>, expected: &str) -> u32 {
+fn wants(rt: &impl Abort, found: Result<String, ViewError>, expected: &str) -> u32 {
     match found {
         Ok(text) => {
-            assert_eq!(rt; text.as_str(), expected);
+            expect_eq!(rt; text.as_str(), expected);
+            drop(text);
             0
         }
         Err(ViewError::Memory) => 1,
@@ -371,7 +436,8 @@ fn json_refused_memory(rt: HostRuntime) {
         wanted = wanted.saturating_add(wants(&rt, json_text(alloc, &tile), ONE_POINT));
         wanted = wanted.saturating_add(wants(&rt, tree_text(alloc, &tile), ONE_POINT));
     }
-    assert!(rt; wanted <= 1);
+    drop(tile);
+    expect!(rt; wanted <= 1);
 }
 
 #[test]
@@ -383,7 +449,24 @@ fn lines_refused_memory(rt: HostRuntime) {
     for _ in 0..2 {
         wanted = wanted.saturating_add(wants(&rt, fault_text(alloc, &kind), line));
     }
-    assert!(rt; wanted <= 1);
+    expect!(rt; wanted <= 1);
+}
+
+fn are_fields_refused(
+    rt: &(impl Abort + AllocGlobal),
+    input: &[u8],
+    lines: &str,
+    fault: Option<Fault>,
+) -> bool {
+    match fields_text(rt.alloc(), input) {
+        Ok(text) => {
+            expect_eq!(rt; text.lines.as_str(), lines);
+            expect_eq!(rt; text.fault, fault);
+            drop(text);
+            false
+        }
+        Err(ViewError::Memory) => true,
+    }
 }
 
 #[test]
@@ -405,16 +488,11 @@ fn fields_refused_memory(rt: HostRuntime) {
     let mut wanted: u32 = 0;
     for (input, lines, fault) in &rows {
         for _ in 0..2 {
-            match fields_text(rt.alloc(), input) {
-                Ok(text) => {
-                    assert_eq!(rt; text.lines.as_str(), *lines);
-                    assert_eq!(rt; text.fault, *fault);
-                }
-                Err(ViewError::Memory) => wanted = wanted.saturating_add(1),
-            }
+            let is_refused = are_fields_refused(&rt, input, lines, *fault);
+            wanted = wanted.saturating_add(u32::from(is_refused));
         }
     }
-    assert!(rt; wanted <= 1);
+    expect!(rt; wanted <= 1);
 }
 
 #[test]
@@ -427,5 +505,6 @@ fn report_refused_memory(rt: HostRuntime) {
     for _ in 0..2 {
         wanted = wanted.saturating_add(wants(&rt, report_text(alloc, &tile, true), FLAT));
     }
-    assert!(rt; wanted <= 1);
+    drop(tile);
+    expect!(rt; wanted <= 1);
 }

@@ -14,21 +14,22 @@ const POINT: &str = concat!(
     "\n</svg>\n</svg>"
 );
 
-// The tile's picture is the head followed by this text.
-fn expect_svg(rt: &(impl Abort + AllocGlobal), tile: &Tile, expected: &str) {
-    let found = svg_text(rt.alloc(), tile);
-    assert!(rt; found.is_ok_and(|text| text.as_str().strip_prefix(HEAD) == Some(expected)));
+// The picture of a tile, which is let go, is the head followed by this text.
+fn expect_svg(rt: &(impl Abort + AllocGlobal), tile: Tile, expected: &str) {
+    let text = svg_text(rt.alloc(), &tile).expect(rt, "a picture");
+    drop(tile);
+    expect_eq!(rt; text.as_str().strip_prefix(HEAD), Some(expected));
+    drop(text);
 }
 
 #[test]
-fn draws_tiles(rt: HostRuntime) -> Result<(), Fail> {
-    let alloc = rt.alloc();
-    expect_svg(&rt, &empty(alloc), "</svg>");
-    expect_svg(&rt, &foreign(alloc)?, "</svg>");
-    expect_svg(&rt, &one_point(alloc)?, POINT);
+fn draws_tiles(rt: HostRuntime) {
+    expect_svg(&rt, empty(rt.alloc()), "</svg>");
+    expect_svg(&rt, foreign(&rt), "</svg>");
+    expect_svg(&rt, point_tile(&rt), POINT);
     expect_svg(
         &rt,
-        &rings(alloc)?,
+        rings_tile(&rt),
         concat!(
             r##"<svg color="#0072b2" viewBox="0 0 4096 4096"><title>a</title>"##,
             "\n",
@@ -38,7 +39,7 @@ fn draws_tiles(rt: HostRuntime) -> Result<(), Fail> {
     );
     expect_svg(
         &rt,
-        &all_kinds(alloc)?,
+        all_kinds(&rt),
         concat!(
             r##"<svg color="#0072b2" viewBox="0 0 4096 4096"><title>a</title>"##,
             "\n",
@@ -46,15 +47,14 @@ fn draws_tiles(rt: HostRuntime) -> Result<(), Fail> {
             "\n</svg>\n</svg>"
         ),
     );
-    Ok(())
 }
 
 // The layer behind one of another version has the second colour.
 #[test]
-fn draws_layers_by_index(rt: HostRuntime) -> Result<(), Fail> {
+fn draws_layers_by_index(rt: HostRuntime) {
     expect_svg(
         &rt,
-        &foreign_and_point(rt.alloc())?,
+        foreign_and_point(&rt),
         concat!(
             r##"<svg color="#d55e00" viewBox="0 0 4096 4096"><title>a</title>"##,
             "\n",
@@ -62,56 +62,76 @@ fn draws_layers_by_index(rt: HostRuntime) -> Result<(), Fail> {
             "\n</svg>\n</svg>"
         ),
     );
-    Ok(())
+}
+
+// A layer without features.
+fn bare_layer(rt: &(impl Abort + AllocGlobal), name: &str, extent: u32) -> Item {
+    Item::Layer(Layer {
+        name: Text::from_str(rt.alloc(), name).expect(rt, "a name"),
+        extent,
+        features: Items::new(Vec::new(rt.alloc())),
+    })
+}
+
+// What is drawn of such a layer in a colour, which goes behind the others.
+fn append_layer(
+    rt: &(impl Abort + AllocGlobal),
+    drawn: &mut String,
+    name: &str,
+    colour: &str,
+    extent: u32,
+) {
+    let layer = format!(in rt.alloc();
+        "<svg color=\"#{colour}\" viewBox=\"0 0 {extent} {extent}\"><title>{name}</title>\n</svg>\n"
+    ).expect(rt, "a text");
+    drawn.push_str(layer.as_str()).expect(rt, "a text");
+    drop(layer);
 }
 
 // Nine layers without features, of extents 1 to 9: the ninth has the colour of the first.
 #[test]
-fn draws_nine_layers(rt: HostRuntime) -> Result<(), Fail> {
-    let alloc = rt.alloc();
+fn draws_nine_layers(rt: HostRuntime) {
     let names = ["a", "b", "c", "d", "e", "f", "g", "h", "i"];
     let colours = [
         "0072b2", "d55e00", "009e73", "cc79a7", "e69f00", "56b4e9", "000000", "f0e442", "0072b2",
     ];
-    let mut items = Vec::new(alloc);
-    let mut expected = String::new(alloc);
+    let mut items = Vec::new(rt.alloc());
+    let mut expected = String::new(rt.alloc());
     let mut extent: u32 = 0;
     for (name, colour) in names.iter().zip(&colours) {
         extent = extent.saturating_add(1);
-        items.push(Item::Layer(Layer {
-            name: Text::from_str(alloc, name)?,
-            extent,
-            features: Items::new(Vec::new(alloc)),
-        }))?;
-        let layer = format!(in alloc;
-            "<svg color=\"#{colour}\" viewBox=\"0 0 {extent} {extent}\"><title>{name}</title>\n</svg>\n"
-        )?;
-        expected.push_str(layer.as_str())?;
+        items
+            .push(bare_layer(&rt, name, extent))
+            .expect(&rt, "layers");
+        append_layer(&rt, &mut expected, name, colour, extent);
     }
-    expected.push_str("</svg>")?;
+    expected.push_str("</svg>").expect(&rt, "a text");
     let items = Items::new(items);
-    expect_svg(&rt, &Tile { items }, expected.as_str());
-    Ok(())
+    expect_svg(&rt, Tile { items }, expected.as_str());
+    drop(expected);
+}
+
+// A feature with this text, drawn by two lines.
+fn two_lines(rt: &(impl Abort + AllocGlobal), text: &str) -> Feature {
+    let value = Value::Text(Text::from_str(rt.alloc(), text).expect(rt, "a text"));
+    let titled = attribute(rt, "</title>", value);
+    let attributes = vec![in rt.alloc(); titled].expect(rt, "attributes");
+    let far = lines_of(rt, &[(-9, 2_147_483_647), (-2_147_483_647, 0), (5, 5)]);
+    let near = lines_of(rt, &[(1, 2), (3, 4)]);
+    let lines = vec![in rt.alloc(); far, near].expect(rt, "lines");
+    Feature {
+        id: Some(u64::MAX),
+        attributes: Items::new(attributes),
+        geometry: Geometry::Lines(Items::new(lines)),
+    }
 }
 
 // Texts that XML doesn't take as they are: its marks, a carriage return, and characters that it
 // hasn't. In JSON those below U+0020 are spelled.
 #[test]
-fn draws_texts(rt: HostRuntime) -> Result<(), Fail> {
-    let alloc = rt.alloc();
+fn draws_texts(rt: HostRuntime) {
     let name =
         "a<b>&\"'\r\n\t\u{0}\u{8}\u{1f}\u{7f}\u{e9}\u{d7ff}\u{e000}\u{fffd}\u{fffe}\u{ffff}\u{10000}]]>";
-    let attribute = Attribute {
-        key: Text::from_str(alloc, "</title>")?,
-        value: Value::Text(Text::from_str(alloc, name)?),
-    };
-    let lines = line(alloc, &[(-9, 2_147_483_647), (-2_147_483_647, 0), (5, 5)])?;
-    let other = line(alloc, &[(1, 2), (3, 4)])?;
-    let drawn = Feature {
-        id: Some(u64::MAX),
-        attributes: Items::new(vec![in alloc; attribute]?),
-        geometry: Geometry::Lines(Items::new(vec![in alloc; lines, other]?)),
-    };
     let expected = concat!(
         r##"<svg color="#0072b2" viewBox="0 0 4096 4096"><title>"##,
         "a&lt;b&gt;&amp;\"'&#13;\n\t\u{fffd}\u{fffd}\u{fffd}\u{7f}\u{e9}\u{d7ff}\u{e000}\u{fffd}\u{fffd}\u{fffd}\u{10000}]]&gt;",
@@ -121,29 +141,30 @@ fn draws_texts(rt: HostRuntime) -> Result<(), Fail> {
         r#"}]],"id":18446744073709551615}</title></path>"#,
         "\n</svg>\n</svg>"
     );
-    expect_svg(
-        &rt,
-        &tile_of(alloc, name, vec![in alloc; drawn]?)?,
-        expected,
-    );
-    Ok(())
+    let tile = one_feature(&rt, name, two_lines(&rt, name));
+    expect_svg(&rt, tile, expected);
+}
+
+fn is_svg_refused(rt: &(impl Abort + AllocGlobal), tile: &Tile) -> bool {
+    match svg_text(rt.alloc(), tile) {
+        Ok(text) => {
+            expect_eq!(rt; text.as_str().strip_prefix(HEAD), Some(POINT));
+            drop(text);
+            false
+        }
+        Err(ViewError::Memory) => true,
+    }
 }
 
 #[test]
 fn svg_refused_memory(rt: HostRuntime) {
-    let alloc = rt.alloc();
-    let Ok(tile) = one_point(alloc) else {
-        return;
-    };
-    let Ok(mut expected) = String::from_str(alloc, HEAD) else {
-        return;
-    };
-    let Ok(()) = expected.push_str(POINT) else {
+    let Ok(tile) = one_point(rt.alloc()) else {
         return;
     };
     let mut wanted: u32 = 0;
     for _ in 0..2 {
-        wanted = wanted.saturating_add(wants(&rt, svg_text(alloc, &tile), expected.as_str()));
+        wanted = wanted.saturating_add(u32::from(is_svg_refused(&rt, &tile)));
     }
-    assert!(rt; wanted <= 1);
+    drop(tile);
+    expect!(rt; wanted <= 1);
 }
