@@ -1,6 +1,6 @@
 //! The fields of a layer besides its version and the contents of its values and features (Mapbox
 //! Vector Tile Specification 2.1, 4.1).
-ghost use Rattle.std.specs.Prelude.{◌≡◌, ◌+◌, ◌^◌, ◌<◌, List, [], ◌∷◌, ◌++◌, None, IfErr, OnOk};
+ghost use Rattle.std.specs.Prelude.{◌≡◌, ◌+◌, ◌^◌, ◌<◌, List, ◌∷◌, ◌++◌, [], None, IfErr, OnOk};
 ghost use Rattle.std.specs.Option.{option_map, option_copied};
 ghost use Rattle.mvt_base.specs.Tells.{Tells};
 ghost use Rattle.mvt_base.specs.Rules.{first};
@@ -70,22 +70,20 @@ impl<'a> Head<'a> {
 #[inline(always)]
 pub(crate) fn take_head<'a>(
     alloc: Global,
-    head: &mut Head<'a>,
-    fault: &mut Option<MessageError>,
+    head: &mut Result<Head<'a>, MessageError>,
     field: &Field<'a>,
     payload_at: u64,
 )
     requires { payload_at + field.now.at < 2 ^ 64 }
-    ensures { (done : List Entry)
-        → IsHeadSoFar payload_at done fault.old (option_copied head.old.name) head.old.extent head.old.keys.items
-        → IsHeadSoFar payload_at (done ++ entry_of field.now ∷ []) fault.new
-        (option_copied head.new.name) head.new.extent head.new.keys.items }
+    ensures { (done : List Entry) → IsHeadSoFar payload_at done head.old
+        → IsHeadSoFar payload_at (done ++ entry_of field.now ∷ []) head.new }
 {
-    if fault.is_some() {
-        return;
-    }
-    match head.take(alloc, field, payload_at + field.at as u64) {
+    let taken = match head {
+        Ok(head) => head.take(alloc, field, payload_at + field.at as u64),
+        Err(_) => return,
+    };
+    match taken {
         Ok(()) => {}
-        Err(error) => *fault = Some(error),
+        Err(error) => *head = Err(error),
     }
 }
