@@ -24,11 +24,13 @@ use std::alloc::Global;
 pub fn answer<R: Source>(alloc: Global, task: Task, reader: &mut R) -> Result<Reply, Failure>
     ensures reply { IfOk result (IsReplyTo LIMIT task (R.left reader.old)) }
     ensures output { IfOk result HasOutput }
-    ensures failed { IfErr result (FailsReading (R.failed reader.old) (R.failed reader.new) (R.ended reader.new)) }
+    ensures failed { IfErr result (FailsReading (R.failed reader.old) (R.failed reader.new)
+        (R.ended reader.new)) }
     ensures sound { OnOk result (R.failed reader.new ≡ R.failed reader.old) }
     ensures reads { R.reads reader.new ≤ R.reads reader.old + MOST_READS }
     ensures asked { R.asked reader.new ≤ max (R.asked reader.old) 65536 }
-    ensures leaves { ReadsNoFurther LIMIT task (R.given reader.new) (R.left reader.old) (R.left reader.new) }
+    ensures leaves { ReadsNoFurther LIMIT task (R.given reader.new) (R.left reader.old)
+        (R.left reader.new) }
 {
     match task {
         Task::Fields => list_fields(alloc, reader),

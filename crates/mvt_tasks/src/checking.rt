@@ -17,9 +17,11 @@ use std::alloc::Global;
 
 /// Checks a tile, and reports on it.
 pub fn check<R: Source>(alloc: Global, reader: &mut R) -> Result<Reply, Failure>
-    ensures reply { IfOk result (λ reply. IfSome (R.left reader.old) (λ input. IsReply LIMIT Task.Check input reply)) }
+    ensures reply { IfOk result (λ reply. IfSome (R.left reader.old)
+        (λ input. IsReply LIMIT Task.Check input reply)) }
     ensures output { IfOk result HasOutput }
-    ensures failed { IfErr result (FailsReading (R.failed reader.old) (R.failed reader.new) (R.ended reader.new)) }
+    ensures failed { IfErr result (FailsReading (R.failed reader.old) (R.failed reader.new)
+        (R.ended reader.new)) }
     ensures sound { OnOk result (R.failed reader.new ≡ R.failed reader.old) }
     ensures reads { R.reads reader.new ≤ R.reads reader.old + MOST_READS }
     ensures asked { R.asked reader.new ≤ max (R.asked reader.old) 65536 }

@@ -15,16 +15,19 @@ use mvt_io::Source;
 use mvt_tile::{MOST_READS, NamedLayers, extract_tile};
 use std::alloc::{AllocError, Global};
 
-/// Reads a tile, and makes the canonical bytes of its named layers. It reads no further after a fault.
+/// Reads a tile, and makes the canonical bytes of its named layers. It reads no further after a
+/// fault.
 pub fn extract_layers<R: Source>(
     alloc: Global,
     names: &Names,
     reader: &mut R,
 ) -> Result<Reply, Failure>
     ensures reply { IfOk result
-        (λ reply. IfSome (R.left reader.old) (λ input. IsTold LIMIT (layers_reply LIMIT names.now) input reply)) }
+        (λ reply. IfSome (R.left reader.old)
+        (λ input. IsTold LIMIT (layers_reply LIMIT names.now) input reply)) }
     ensures output { IfOk result HasOutput }
-    ensures failed { IfErr result (FailsReading (R.failed reader.old) (R.failed reader.new) (R.ended reader.new)) }
+    ensures failed { IfErr result (FailsReading (R.failed reader.old) (R.failed reader.new)
+        (R.ended reader.new)) }
     ensures sound { OnOk result (R.failed reader.new ≡ R.failed reader.old) }
     ensures reads { R.reads reader.new ≤ R.reads reader.old + MOST_READS }
     ensures asked { R.asked reader.new ≤ max (R.asked reader.old) 65536 }
@@ -42,7 +45,8 @@ pub fn extract_layers<R: Source>(
 
 fn extracted(alloc: Global, names: &[String], layers: NamedLayers) -> Result<Reply, Failure>
     requires { (tile : Tile) × AreExtracted LIMIT tile (map string_bytes names.now) layers }
-    ensures reply { IfOk result (λ reply. (tile : Tile) → AreExtracted LIMIT tile (map string_bytes names.now) layers
+    ensures reply { IfOk result (λ reply. (tile : Tile)
+        → AreExtracted LIMIT tile (map string_bytes names.now) layers
         → reply ≡ layers_reply LIMIT (map string_bytes names.now) tile) }
     ensures output { IfOk result HasOutput }
     ensures failed { IfErr result (λ failure. failure ≡ Failure.Memory) }

@@ -1,5 +1,5 @@
-//! What the program `mvt` does with tiles: it lists, shows, draws, checks, rewrites and extracts, over any reader and
-//! writer, and checks the files of any folder.
+//! What the program `mvt` does with tiles: it lists, shows, draws, checks, rewrites and extracts,
+//! over any reader and writer, and checks the files of any folder.
 #![tactic(auto)]
 
 mod answering;

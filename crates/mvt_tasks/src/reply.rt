@@ -11,8 +11,8 @@ use crate::failure::Failure;
 use mvt_base::{Items, Text};
 use mvt_io::{Sink, write_all};
 
-/// What a command answers: the bytes for the output, if there are any due, and the line for the error
-/// stream, if there is one. The status is 1 exactly where there is a line.
+/// What a command answers: the bytes for the output, if there are any due, and the line for the
+/// error stream, if there is one. The status is 1 exactly where there is a line.
 #[derive(Debug, Drop)]
 pub struct Reply {
     pub written: Option<Items<u8>>,
@@ -29,7 +29,8 @@ fn deliver<W: Sink>(reply: Reply, writer: &mut W) -> Result<Option<Text>, Failur
     ensures put { OnOk result (PutsOut (writer.new ≡ writer.old)
         (λ text. Appends (W.taken writer.old) (W.taken writer.new) text
         × (W.flushes writer.new ≡ counted (W.flushes writer.old))) reply) }
-    ensures prefix { OnErr result (PutsOut ⊥ (TakesPrefix (W.taken writer.old) (W.taken writer.new)) reply) }
+    ensures prefix { OnErr result (PutsOut ⊥
+        (TakesPrefix (W.taken writer.old) (W.taken writer.new)) reply) }
     ensures failed { IfErr result (λ failure. (failure ≡ Failure.Write)
         × EndsFailed (W.failed writer.old) (W.failed writer.new) (W.ended writer.new)) }
     ensures honest { OnOk result (W.failed writer.new ≡ W.failed writer.old) }
@@ -45,7 +46,8 @@ fn deliver<W: Sink>(reply: Reply, writer: &mut W) -> Result<Option<Text>, Failur
 fn put_out<W: Sink>(bytes: &[u8], writer: &mut W) -> Result<(), Failure>
     ensures taken { OnOk result (Appends (W.taken writer.old) (W.taken writer.new) bytes.now) }
     ensures flushed { OnOk result (W.flushes writer.new ≡ counted (W.flushes writer.old)) }
-    ensures prefix { OnErr result (TakesPrefix (W.taken writer.old) (W.taken writer.new) bytes.now) }
+    ensures prefix { OnErr result (TakesPrefix (W.taken writer.old)
+        (W.taken writer.new) bytes.now) }
     ensures failed { IfErr result (λ failure. (failure ≡ Failure.Write)
         × EndsFailed (W.failed writer.old) (W.failed writer.new) (W.ended writer.new)) }
     ensures honest { OnOk result (W.failed writer.new ≡ W.failed writer.old) }
@@ -59,11 +61,15 @@ pub(crate) fn give<W: Sink, E: Sink>(reply: Reply, writer: &mut W, errors: &mut 
     ensures done { result < 2 → Gives result (writer.new ≡ writer.old)
         (λ text. Appends (W.taken writer.old) (W.taken writer.new) text
         × (W.flushes writer.new ≡ counted (W.flushes writer.old)))
-        (errors.new ≡ errors.old) (Tells (E.failed errors.old) (E.failed errors.new) (E.taken errors.old) (E.taken errors.new)) reply }
+        (errors.new ≡ errors.old) (Tells (E.failed errors.old) (E.failed errors.new)
+        (E.taken errors.old) (E.taken errors.new)) reply }
     ensures honest { result < 2 → W.failed writer.new ≡ W.failed writer.old }
-    ensures prefix { 2 < result → PutsOut ⊥ (TakesPrefix (W.taken writer.old) (W.taken writer.new)) reply }
-    ensures failed { 2 < result → EndsFailed (W.failed writer.old) (W.failed writer.new) (W.ended writer.new) }
-    ensures line { 2 < result → Tells (E.failed errors.old) (E.failed errors.new) (E.taken errors.old) (E.taken errors.new)
+    ensures prefix { 2 < result → PutsOut ⊥
+        (TakesPrefix (W.taken writer.old) (W.taken writer.new)) reply }
+    ensures failed { 2 < result → EndsFailed (W.failed writer.old) (W.failed writer.new)
+        (W.ended writer.new) }
+    ensures line { 2 < result → Tells (E.failed errors.old) (E.failed errors.new)
+        (E.taken errors.old) (E.taken errors.new)
         (line_of Failure.Write) }
     ensures statuses { (result < 2) ⊎ (result ≡ 3) }
 {
@@ -81,7 +87,8 @@ pub(crate) fn give<W: Sink, E: Sink>(reply: Reply, writer: &mut W, errors: &mut 
 pub(crate) fn fail<E: Sink>(failure: Failure, errors: &mut E) -> u8
     ensures status { result ≡ status_of failure }
     ensures above { 2 < result }
-    ensures line { Tells (E.failed errors.old) (E.failed errors.new) (E.taken errors.old) (E.taken errors.new) (line_of failure) }
+    ensures line { Tells (E.failed errors.old) (E.failed errors.new) (E.taken errors.old)
+        (E.taken errors.new) (line_of failure) }
 {
     tell(errors, failure.line());
     failure.status()
@@ -89,7 +96,8 @@ pub(crate) fn fail<E: Sink>(failure: Failure, errors: &mut E) -> u8
 
 /// Puts a line on the error stream, whose faults are ignored.
 pub fn tell<E: Sink>(errors: &mut E, line: &str)
-    ensures { Tells (E.failed errors.old) (E.failed errors.new) (E.taken errors.old) (E.taken errors.new) line.now }
+    ensures { Tells (E.failed errors.old) (E.failed errors.new) (E.taken errors.old)
+        (E.taken errors.new) line.now }
 {
     let _ = write_all(errors, line.as_bytes());
 }

@@ -15,9 +15,11 @@ use std::alloc::Global;
 /// Reads a tile, and makes its canonical bytes. It reads no further after a fault.
 pub fn rewrite<R: Source>(alloc: Global, reader: &mut R) -> Result<Reply, Failure>
     ensures reply { IfOk result
-        (λ reply. IfSome (R.left reader.old) (λ input. IsTold LIMIT (bytes_reply LIMIT) input reply)) }
+        (λ reply. IfSome (R.left reader.old)
+        (λ input. IsTold LIMIT (bytes_reply LIMIT) input reply)) }
     ensures output { IfOk result HasOutput }
-    ensures failed { IfErr result (FailsReading (R.failed reader.old) (R.failed reader.new) (R.ended reader.new)) }
+    ensures failed { IfErr result (FailsReading (R.failed reader.old) (R.failed reader.new)
+        (R.ended reader.new)) }
     ensures sound { OnOk result (R.failed reader.new ≡ R.failed reader.old) }
     ensures reads { R.reads reader.new ≤ R.reads reader.old + MOST_READS }
     ensures asked { R.asked reader.new ≤ max (R.asked reader.old) 65536 }

@@ -23,9 +23,11 @@ pub enum View {
 /// Reads a tile, and makes its text. It reads no further after a fault.
 pub fn view_tile<R: Source>(alloc: Global, view: View, reader: &mut R) -> Result<Reply, Failure>
     ensures reply { IfOk result
-        (λ reply. IfSome (R.left reader.old) (λ input. IsTold LIMIT (λ tile. done (view_lines view tile)) input reply)) }
+        (λ reply. IfSome (R.left reader.old)
+        (λ input. IsTold LIMIT (λ tile. done (view_lines view tile)) input reply)) }
     ensures output { IfOk result HasOutput }
-    ensures failed { IfErr result (FailsReading (R.failed reader.old) (R.failed reader.new) (R.ended reader.new)) }
+    ensures failed { IfErr result (FailsReading (R.failed reader.old) (R.failed reader.new)
+        (R.ended reader.new)) }
     ensures sound { OnOk result (R.failed reader.new ≡ R.failed reader.old) }
     ensures reads { R.reads reader.new ≤ R.reads reader.old + MOST_READS }
     ensures asked { R.asked reader.new ≤ max (R.asked reader.old) 65536 }
