@@ -176,6 +176,22 @@ fn copies_values(rt: HostRuntime) {
     }
 }
 
+fn expect_shown(rt: &(impl Abort + AllocGlobal), text: &str, expected: &str) {
+    let text = Text::from_str(rt.alloc(), text).expect(rt, "a text");
+    let shown = format!(in rt.alloc(); "{text:?}").expect(rt, "what is shown");
+    drop(text);
+    expect_eq!(rt; shown.as_str(), expected);
+    drop(shown);
+}
+
+// A text is shown as a `str` is, wherever its bytes lie.
+#[test]
+fn shows_texts(rt: HostRuntime) {
+    expect_shown(&rt, "", "\"\"");
+    expect_shown(&rt, "a \"b\"", "\"a \\\"b\\\"\"");
+    expect_shown(&rt, LONG, "\"a key that is long\"");
+}
+
 // Of an attribute, and of none, over pools that may have its key and value.
 fn expect_tags(
     rt: &(impl Abort + AllocGlobal),
