@@ -63,7 +63,8 @@ pub extern "C" fn mvt_extract(
 }
 
 fn extracted(alloc: Global, bytes: &[u8], names: &[String]) -> Result<Vec<u8>, Refusal>
-    ensures done { IfOk result (λ made. IsExtracted bytes.now (map string_bytes names.now) made.items) }
+    ensures done { IfOk result (λ made. IsExtracted bytes.now
+        (map string_bytes names.now) made.items) }
     ensures refused { IfErr result (NotExtracted bytes.now (map string_bytes names.now)) }
 {
     match extract_bytes(alloc, bytes, names)? {

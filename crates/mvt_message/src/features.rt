@@ -38,14 +38,19 @@ pub(crate) fn visit_features<V: LayerVisitor>(
     requires whole { (split payload.now).rest ≡ [] }
     requires held { (items : List Item) × (held : List Value) × (length held ≡ values)
         × V.has_features items keys.now held visitor.old [] }
-    ensures ok { (items : List Item) (held : List Value) → length held ≡ values → V.has_features items keys.now held visitor.old []
+    ensures ok { (items : List Item) (held : List Value) → length held ≡ values
+        → V.has_features items keys.now held visitor.old []
         → OnOk result (features_fault payload_at keys.now held (split payload.now).fields ≡ None) }
     ensures features { (items : List Item) (held : List Value) → length held ≡ values
-        → V.has_features items keys.now held visitor.old [] → OnOk result ((features : List AFeature)
-        × AreRelated (HoldsFeature keys.now held) (only FEATURES (split payload.now).fields) features
+        → V.has_features items keys.now held visitor.old []
+        → OnOk result ((features : List AFeature)
+        × AreRelated (HoldsFeature keys.now held)
+        (only FEATURES (split payload.now).fields) features
         × V.has_features items keys.now held visitor.new features) }
-    ensures err { (items : List Item) (held : List Value) → length held ≡ values → V.has_features items keys.now held visitor.old []
-        → IfErr result (λ error. Tells (fault_of error) (features_fault payload_at keys.now held (split payload.now).fields)) }
+    ensures err { (items : List Item) (held : List Value) → length held ≡ values
+        → V.has_features items keys.now held visitor.old []
+        → IfErr result (λ error. Tells (fault_of error)
+        (features_fault payload_at keys.now held (split payload.now).fields)) }
 {
     let mut keys = LayerKeys::new(alloc, keys);
     let mut scratch = Scratch::new(alloc);
@@ -70,7 +75,8 @@ pub(crate) fn visit_features<V: LayerVisitor>(
     Ok(())
 }
 
-/// Has a visitor take the feature of a field that holds one, behind so many, and answers how many it has.
+/// Has a visitor take the feature of a field that holds one, behind so many, and answers how many
+/// it has.
 fn visit_field<V: LayerVisitor>(
     alloc: Global,
     visitor: &mut V,
@@ -82,13 +88,18 @@ fn visit_field<V: LayerVisitor>(
     count: usize,
 ) -> Result<usize, MessageError>
     requires few { count < 2 ^ 32 }
-    requires body { payload_at + (field.now.body + bytes_size (content_of field.now.payload)) < 2 ^ 64 }
+    requires body { payload_at + (field.now.body + bytes_size
+        (content_of field.now.payload)) < 2 ^ 64 }
     ensures ok { (items : List Item) (held : List Value) (done : List Entry) → length held ≡ values
-        → AreFeaturesHeld (V.has_features items keys.old held visitor.old) payload_at keys.old held done count
-        → IfOk result (AreFeaturesHeld (V.has_features items keys.old held visitor.new) payload_at keys.old held
+        → AreFeaturesHeld (V.has_features items keys.old held visitor.old) payload_at keys.old held
+        done count
+        → IfOk result (AreFeaturesHeld
+        (V.has_features items keys.old held visitor.new) payload_at keys.old held
         (done ++ entry_of field.now ∷ [])) }
-    ensures err { (items : List Item) (held : List Value) (done more : List Entry) → length held ≡ values
-        → AreFeaturesHeld (V.has_features items keys.old held visitor.old) payload_at keys.old held done count
+    ensures err { (items : List Item) (held : List Value) (done more : List Entry)
+        → length held ≡ values
+        → AreFeaturesHeld (V.has_features items keys.old held visitor.old) payload_at keys.old held
+        done count
         → IfErr result (λ error. Tells (fault_of error)
         (features_fault payload_at keys.old held ((done ++ entry_of field.now ∷ []) ++ more))) }
     ensures same { keys.new ≡ keys.old }

@@ -17,8 +17,8 @@ use mvt_feature::{MessageError, rest_fault};
 use mvt_wire::Fields;
 use std::alloc::Global;
 
-/// The head of a layer and how many values it has, or the first fault of each, which counts where no rule
-/// of an earlier rank is broken.
+/// The head of a layer and how many values it has, or the first fault of each, which counts where
+/// no rule of an earlier rank is broken.
 #[derive(Drop)]
 pub(crate) struct Front<'a> {
     pub(crate) head: Result<Head<'a>, MessageError>,
@@ -27,7 +27,8 @@ pub(crate) struct Front<'a> {
     pub(crate) features: usize,
 }
 
-/// The version of a payload, and what its fields say in a layer of version 2, whose values a visitor takes.
+/// The version of a payload, and what its fields say in a layer of version 2, whose values a
+/// visitor takes.
 pub(crate) fn read_front<'a, V: LayerVisitor>(
     alloc: Global,
     visitor: &mut V,
@@ -40,11 +41,14 @@ pub(crate) fn read_front<'a, V: LayerVisitor>(
     requires start { (items : List Item) × V.has_values items visitor.old [] }
     ensures version { IfOk result (λ found. version_in (split payload.now).fields ≡ Some found.0) }
     ensures front { (items : List Item) → V.has_values items visitor.old []
-        → IfOk result (λ found. IsFront (V.has_values items visitor.new) payload_at (split payload.now).fields found.1) }
-    ensures kept { (items : List Item) → V.has_values items visitor.old [] → V.has_items items visitor.old
+        → IfOk result (λ found. IsFront (V.has_values items visitor.new) payload_at
+        (split payload.now).fields found.1) }
+    ensures kept { (items : List Item) → V.has_values items visitor.old []
+        → V.has_items items visitor.old
         → OnOk result (V.has_items items visitor.new) }
     ensures ok { OnOk result (head_fault payload.now payload_at tag_at ≡ None) }
-    ensures err { IfErr result (λ error. Tells (fault_of error) (head_fault payload.now payload_at tag_at)) }
+    ensures err { IfErr result (λ error. Tells (fault_of error)
+        (head_fault payload.now payload_at tag_at)) }
 {
     let mut version = Ok(None);
     let mut head = Ok(Head::new(alloc));

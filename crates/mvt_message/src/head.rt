@@ -41,15 +41,18 @@ impl<'a> Head<'a> {
     /// Takes one more field, which is told to stand at this place.
     #[inline(always)]
     fn take(&mut self, alloc: Global, field: &Field<'a>, at: u64) -> Result<(), MessageError>
-        ensures ok { OnOk result (first (number_rules layer_forms field.now.number (content_of field.now.payload)) ≡ None) }
+        ensures ok { OnOk result (first
+            (number_rules layer_forms field.now.number (content_of field.now.payload)) ≡ None) }
         ensures name { OnOk result (option_copied self.new.name
-            ≡ name_after (option_copied self.old.name) field.now.number (content_of field.now.payload)) }
+            ≡ name_after (option_copied self.old.name) field.now.number
+            (content_of field.now.payload)) }
         ensures extent { OnOk result (self.new.extent
             ≡ extent_after self.old.extent field.now.number (content_of field.now.payload)) }
         ensures keys { OnOk result (self.new.keys.items
             ≡ self.old.keys.items ++ keys_at field.now.number (content_of field.now.payload)) }
         ensures err { IfErr result (λ error. Tells (fault_of error)
-            (option_map (the_fault_at at) (first (number_rules layer_forms field.now.number (content_of field.now.payload))))) }
+            (option_map (the_fault_at at) (first
+            (number_rules layer_forms field.now.number (content_of field.now.payload))))) }
     {
         let payload = &field.payload;
         match field.number {

@@ -35,7 +35,8 @@ pub fn read_item(
     ensures ok { OnOk result (item_fault payload.now payload_at tag_at ≡ None) }
     ensures item { IfOk result (λ item. IsItem payload.now item) }
     ensures valid { IfOk result (λ item. ValidItem item) }
-    ensures fault { IfErr result (λ error. Tells (fault_of error) (item_fault payload.now payload_at tag_at)) }
+    ensures fault { IfErr result (λ error. Tells (fault_of error)
+        (item_fault payload.now payload_at tag_at)) }
 {
     let mut kept = Kept::new(alloc);
     match visit_layer(alloc, &mut kept, payload, payload_at, tag_at) {
@@ -67,8 +68,10 @@ pub fn judge_item<'a>(
     requires small { length payload.now ≤ LIMIT }
     requires fits { payload_at + length payload.now < 2 ^ 64 }
     ensures ok { OnOk result (item_fault payload.now payload_at tag_at ≡ None) }
-    ensures names { IfOk result (λ name. option_to_list (option_copied name) ≡ payload_names payload.now) }
-    ensures fault { IfErr result (λ error. Tells (fault_of error) (item_fault payload.now payload_at tag_at)) }
+    ensures names { IfOk result (λ name. option_to_list (option_copied name)
+        ≡ payload_names payload.now) }
+    ensures fault { IfErr result (λ error. Tells (fault_of error)
+        (item_fault payload.now payload_at tag_at)) }
 {
     match visit_layer(alloc, &mut Judged, payload, payload_at, tag_at) {
         Ok(Visited::Layer { name, .. }) => Ok(Some(name)),

@@ -26,10 +26,12 @@ pub(crate) fn take_value<V: LayerVisitor>(
 )
     requires few { IfOk values.old (λ count. count < 2 ^ 32) }
     requires at { payload_at + field.now.at < 2 ^ 64 }
-    requires body { payload_at + (field.now.body + bytes_size (content_of field.now.payload)) < 2 ^ 64 }
+    requires body { payload_at + (field.now.body + bytes_size
+        (content_of field.now.payload)) < 2 ^ 64 }
     ensures said { (items : List Item) (done : List Entry)
         → AreValuesSaid (V.has_values items visitor.old) payload_at done values.old
-        → AreValuesSaid (V.has_values items visitor.new) payload_at (done ++ entry_of field.now ∷ []) values.new }
+        → AreValuesSaid (V.has_values items visitor.new) payload_at
+        (done ++ entry_of field.now ∷ []) values.new }
     ensures kept { (items : List Item) (done : List Entry)
         → AreValuesSaid (V.has_values items visitor.old) payload_at done values.old
         → V.has_items items visitor.old → V.has_items items visitor.new }
@@ -41,7 +43,8 @@ pub(crate) fn take_value<V: LayerVisitor>(
     *values = visit_field(alloc, visitor, field, payload_at, count);
 }
 
-/// Has a visitor take the value of a field that holds one, behind so many, and answers how many it has.
+/// Has a visitor take the value of a field that holds one, behind so many, and answers how many it
+/// has.
 #[inline(always)]
 fn visit_field<V: LayerVisitor>(
     alloc: Global,
@@ -52,12 +55,16 @@ fn visit_field<V: LayerVisitor>(
 ) -> Result<usize, MessageError>
     requires few { count < 2 ^ 32 }
     requires at { payload_at + field.now.at < 2 ^ 64 }
-    requires body { payload_at + (field.now.body + bytes_size (content_of field.now.payload)) < 2 ^ 64 }
-    ensures ok { (items : List Item) (done : List Entry) → AreValuesHeld (V.has_values items visitor.old) payload_at done count
-        → IfOk result (AreValuesHeld (V.has_values items visitor.new) payload_at (done ++ entry_of field.now ∷ [])) }
+    requires body { payload_at + (field.now.body + bytes_size
+        (content_of field.now.payload)) < 2 ^ 64 }
+    ensures ok { (items : List Item) (done : List Entry)
+        → AreValuesHeld (V.has_values items visitor.old) payload_at done count
+        → IfOk result (AreValuesHeld (V.has_values items visitor.new) payload_at
+        (done ++ entry_of field.now ∷ [])) }
     ensures err { (items : List Item) (done more : List Entry)
         → AreValuesHeld (V.has_values items visitor.old) payload_at done count
-        → IfErr result (λ error. Tells (fault_of error) (values_fault payload_at ((done ++ entry_of field.now ∷ []) ++ more))) }
+        → IfErr result (λ error. Tells (fault_of error)
+        (values_fault payload_at ((done ++ entry_of field.now ∷ []) ++ more))) }
     ensures kept { (items : List Item) (held : List Value) → V.has_values items visitor.old held
         → V.has_items items visitor.old → V.has_items items visitor.new }
 {

@@ -1,5 +1,5 @@
-//! The one walk over an item (Mapbox Vector Tile Specification 2.1, 4.1): a visitor is told the values,
-//! the keys and the features of a layer.
+//! The one walk over an item (Mapbox Vector Tile Specification 2.1, 4.1): a visitor is told the
+//! values, the keys and the features of a layer.
 ghost use Rattle.std.specs.Prelude.{◌≡◌, ◌+◌, ◌^◌, ◌<◌, ◌≤◌, ℕ, List, [], ◌∷◌, ◌++◌, length, Some, None, IfOk, IfErr, OnOk};
 ghost use Rattle.mvt_base.specs.Tells.{Tells};
 ghost use Rattle.mvt_attrs.specs.declared.value.Value.{Value};
@@ -26,8 +26,8 @@ use mvt_base::{LIMIT, Text};
 use mvt_feature::{Cause, MessageError, Scratch, fault_at};
 use std::alloc::{AllocError, Global};
 
-/// What is told the parts of a layer, each kind in the layer's order: its values, then its keys, then its
-/// features. It judges a value or a feature while it takes it.
+/// What is told the parts of a layer, each kind in the layer's order: its values, then its keys,
+/// then its features. It judges a value or a feature while it takes it.
 pub trait LayerVisitor: Drop {
     // What it has of the items before this one, whatever it took of this one's values.
     ghost has_items: { List Item → Self → Type 0 };
@@ -38,7 +38,8 @@ pub trait LayerVisitor: Drop {
     // And of the features so far, in a layer with these keys and values.
     ghost has_features: { List Item → List (List ℕ) → List Value → Self → List AFeature → Type 0 };
 
-    /// Takes the value of a payload. The payload's first byte and the tag of its field stand at these places.
+    /// Takes the value of a payload. The payload's first byte and the tag of its field stand at
+    /// these places.
     ///
     /// # Errors
     ///
@@ -52,11 +53,15 @@ pub trait LayerVisitor: Drop {
     ) -> Result<(), MessageError>
         requires { payload_at + length payload.now < 2 ^ 64 }
         ensures ok { OnOk result (value_fault payload.now payload_at tag_at ≡ None) }
-        ensures value { (items : List Item) (values : List Value) → has_values items self.old values → OnOk result
-            ((value : Value) × IsValueOf payload.now value × has_values items self.new (values ++ value ∷ [])) }
+        ensures value { (items : List Item) (values : List Value) → has_values items self.old values
+            → OnOk result
+            ((value : Value) × IsValueOf payload.now value
+            × has_values items self.new (values ++ value ∷ [])) }
         // Also behind an error: then it may have more of this layer's values.
-        ensures kept { (items : List Item) (values : List Value) → has_values items self.old values → has_items items self.new }
-        ensures err { IfErr result (λ error. Tells (fault_of error) (value_fault payload.now payload_at tag_at)) };
+        ensures kept { (items : List Item) (values : List Value) → has_values items self.old values
+            → has_items items self.new }
+        ensures err { IfErr result (λ error. Tells (fault_of error)
+            (value_fault payload.now payload_at tag_at)) };
 
     /// Takes the keys, when it has all values. The number of features is only a hint.
     ///
@@ -87,14 +92,17 @@ pub trait LayerVisitor: Drop {
         scratch: &mut Scratch,
     ) -> Result<(), MessageError>
         requires { payload_at + length payload.now < 2 ^ 64 }
-        ensures ok { (items : List Item) (held : List Value) (features : List AFeature) → length held ≡ values
+        ensures ok { (items : List Item) (held : List Value) (features : List AFeature)
+            → length held ≡ values
             → has_features items keys.old held self.old features
             → OnOk result (feature_fault payload.now payload_at keys.old held ≡ None) }
-        ensures feature { (items : List Item) (held : List Value) (features : List AFeature) → length held ≡ values
+        ensures feature { (items : List Item) (held : List Value) (features : List AFeature)
+            → length held ≡ values
             → has_features items keys.old held self.old features → OnOk result ((feature : AFeature)
             × IsFeatureOf payload.now keys.old held feature
             × has_features items keys.old held self.new (features ++ feature ∷ [])) }
-        ensures err { (items : List Item) (held : List Value) (features : List AFeature) → length held ≡ values
+        ensures err { (items : List Item) (held : List Value) (features : List AFeature)
+            → length held ≡ values
             → has_features items keys.old held self.old features → IfErr result
             (λ error. Tells (fault_of error) (feature_fault payload.now payload_at keys.old held)) }
         ensures same { keys.new ≡ keys.old };
@@ -108,8 +116,8 @@ pub enum Visited<'a> {
     Foreign { version: u32 },
 }
 
-/// Goes over the item of a payload whose first byte stands at `payload_at`, and the tag of its field at
-/// `tag_at`.
+/// Goes over the item of a payload whose first byte stands at `payload_at`, and the tag of its
+/// field at `tag_at`.
 ///
 /// # Errors
 ///
@@ -125,10 +133,12 @@ pub fn visit_layer<'a, V: LayerVisitor>(
     requires fits { payload_at + length payload.now < 2 ^ 64 }
     requires start { (items : List Item) × V.has_values items visitor.old [] }
     ensures ok { OnOk result (item_fault payload.now payload_at tag_at ≡ None) }
-    ensures item { (items : List Item) → V.has_values items visitor.old [] → V.has_items items visitor.old
+    ensures item { (items : List Item) → V.has_values items visitor.old []
+        → V.has_items items visitor.old
         → IfOk result (λ visited. (item : Item) × IsItem payload.now item × ValidItem item
         × IsVisited (V.has_items items) (V.has_features items) visitor.new visited item) }
-    ensures fault { IfErr result (λ error. Tells (fault_of error) (item_fault payload.now payload_at tag_at)) }
+    ensures fault { IfErr result (λ error. Tells (fault_of error)
+        (item_fault payload.now payload_at tag_at)) }
 {
     let (version, front) = read_front(alloc, visitor, payload, payload_at, tag_at)?;
     if version == VERSION_2 {
@@ -137,8 +147,8 @@ pub fn visit_layer<'a, V: LayerVisitor>(
     Ok(Visited::Foreign { version })
 }
 
-/// Goes over the keys and the features of a layer that splits into fields and has version 2, whose front
-/// was read.
+/// Goes over the keys and the features of a layer that splits into fields and has version 2, whose
+/// front was read.
 fn visit_parts<'a, V: LayerVisitor>(
     alloc: Global,
     visitor: &mut V,
@@ -150,13 +160,15 @@ fn visit_parts<'a, V: LayerVisitor>(
     requires small { length payload.now ≤ LIMIT }
     requires fits { payload_at + length payload.now < 2 ^ 64 }
     requires whole { (split payload.now).rest ≡ [] }
-    requires front { (items : List Item) × IsFront (V.has_values items visitor.old) payload_at (split payload.now).fields front }
+    requires front { (items : List Item)
+        × IsFront (V.has_values items visitor.old) payload_at (split payload.now).fields front }
     ensures ok { OnOk result (layer_fault payload_at tag_at (split payload.now).fields ≡ None) }
     ensures layer { (items : List Item)
         → IsFront (V.has_values items visitor.old) payload_at (split payload.now).fields front.entry
         → IfOk result (λ visited. (layer : ALayer) × IsLayer (split payload.now).fields layer
         × HasLayer (V.has_features items) visitor.new visited layer) }
-    ensures fault { IfErr result (λ error. Tells (fault_of error) (layer_fault payload_at tag_at (split payload.now).fields)) }
+    ensures fault { IfErr result (λ error. Tells (fault_of error)
+        (layer_fault payload_at tag_at (split payload.now).fields)) }
 {
     let Front {
         head,

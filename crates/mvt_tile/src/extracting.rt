@@ -1,5 +1,5 @@
-//! The named layers of a tile's bytes: its items are read one after the other, and only the canonical bytes of
-//! those layers are kept.
+//! The named layers of a tile's bytes: its items are read one after the other, and only the
+//! canonical bytes of those layers are kept.
 ghost use Rattle.std.specs.Prelude.{◌≡◌, ◌+◌, ◌≤◌, max, true, List, [], map, not, bytes_eq, string_bytes, IfOk, IfErr, IfSome, OnOk};
 ghost use Rattle.std.specs.Io.KnownBytes.{IsAtEnd};
 ghost use Rattle.std.specs.List.{list_any, position_from};
@@ -35,13 +35,13 @@ pub enum NamedLayers {
     TooLarge,
 }
 
-/// The canonical bytes of the layers of version 2 that are named, in the order of the tile. A name that stands
-/// twice counts once. One item is held at a time.
+/// The canonical bytes of the layers of version 2 that are named, in the order of the tile. A name
+/// that stands twice counts once. One item is held at a time.
 ///
 /// # Errors
 ///
-/// The first fault of the whole tile, which is the one that [`decode`](crate::decode) tells; want of memory.
-/// Never a failed read.
+/// The first fault of the whole tile, which is the one that [`decode`](crate::decode) tells; want
+/// of memory. Never a failed read.
 pub fn extract_bytes(
     alloc: Global,
     bytes: &[u8],
@@ -71,7 +71,8 @@ pub fn extract_tile<R: Source>(
         (λ input. Tells (fault_of error) (fault_within LIMIT input))) }
     ensures early { StopsEarly LIMIT 65536 (R.left reader.old) (R.left reader.new) }
     ensures stops { StopsEarly LIMIT (R.given reader.new) (R.left reader.old) (R.left reader.new) }
-    ensures layers { IfOk result (λ layers. (tile : Tile) × AreExtracted LIMIT tile (map string_bytes names.now) layers
+    ensures layers { IfOk result (λ layers. (tile : Tile)
+        × AreExtracted LIMIT tile (map string_bytes names.now) layers
         × IfSome (R.left reader.old) (λ input. IsTile LIMIT input tile)) }
     ensures reads { R.reads reader.new ≤ R.reads reader.old + MOST_READS }
     ensures asked { R.asked reader.new ≤ max (R.asked reader.old) 65536 }
@@ -80,7 +81,8 @@ pub fn extract_tile<R: Source>(
     ensures ended { IfErr result (λ error. IsReadError error → R.ended reader.new ≡ true) }
     ensures kind { IfErr result (λ error. IsKindOf error (R.fault reader.new)) }
     ensures honest { OnOk result (R.failed reader.new ≡ R.failed reader.old) }
-    ensures sound { IfErr result (λ error. (IsReadError error → ⊥) → R.failed reader.new ≡ R.failed reader.old) }
+    ensures sound { IfErr result (λ error. (IsReadError error → ⊥)
+        → R.failed reader.new ≡ R.failed reader.old) }
 {
     let rewriter = Rewriter::new(alloc, Some(set_of(alloc, names)?));
     let rewriter = read_whole(alloc, reader, rewriter)?;
@@ -89,7 +91,8 @@ pub fn extract_tile<R: Source>(
 
 /// What was rewritten of the named layers, after the last item.
 fn rewritten(alloc: Global, rewriter: Rewriter, names: &[String]) -> Result<NamedLayers, AllocError>
-    ensures { (items : List AnItem) → HasRewritten LIMIT (is_among (map string_bytes names.now)) rewriter items
+    ensures { (items : List AnItem)
+        → HasRewritten LIMIT (is_among (map string_bytes names.now)) rewriter items
         → IfOk result (AreExtracted LIMIT (record { items = items }) (map string_bytes names.now)) }
 {
     let Rewriter {
@@ -113,7 +116,8 @@ fn first_missing(
     names: &[String],
 ) -> Result<Option<usize>, AllocError>
     ensures { IfOk result (λ found. found
-        ≡ position_from (λ name. not (list_any (bytes_eq name) there.now.keys)) 0 (map string_bytes names.now)) }
+        ≡ position_from (λ name. not (list_any (bytes_eq name) there.now.keys)) 0
+        (map string_bytes names.now)) }
 {
     for (index, name) in names.iter().enumerate() {
         if !holds_name(there, &Text::from_str(alloc, name.as_str())?) {

@@ -19,7 +19,8 @@ use std::alloc::{AllocError, Global};
 use std::collections::BTreeSet;
 use std::marker::Model;
 
-/// The items so far. An ordered set of the names beside them tells a repeated one without a walk, whatever the names are.
+/// The items so far. An ordered set of the names beside them tells a repeated one without a walk,
+/// whatever the names are.
 #[derive(Drop)]
 pub(crate) struct Layers {
     items: Vec<Item>,
@@ -124,12 +125,17 @@ impl Names {
     /// Adds one item more, with its name where it has one. A name that is there is a fault.
     pub(crate) fn add(&mut self, name: Option<Text>, tag_at: u64) -> Result<(), DecodeError>
         requires { self.old.count ≤ LIMIT }
-        ensures added { OnOk result ((items : List Item) (item : Item) → AreNamed self.old.count self.old.names.keys items
-            → names_in item ≡ option_to_list name → AreNamed self.new.count self.new.names.keys (items ++ item ∷ [])
+        ensures added { OnOk result ((items : List Item) (item : Item)
+            → AreNamed self.old.count self.old.names.keys items
+            → names_in item ≡ option_to_list name
+            → AreNamed self.new.count self.new.names.keys (items ++ item ∷ [])
             × (repeats (flat_map names_in items) (names_in item) ≡ false)) }
-        ensures fault { IfErr result (λ error. (items : List Item) → AreNamed self.old.count self.old.names.keys items
-            → TellsEarly error (name_fault (length items) (flat_map names_in items) (option_to_list name) tag_at)) }
-        ensures same { OnErr result ((self.new.count ≡ self.old.count) × (self.new.names.keys ≡ self.old.names.keys)) }
+        ensures fault { IfErr result (λ error. (items : List Item)
+            → AreNamed self.old.count self.old.names.keys items
+            → TellsEarly error (name_fault (length items) (flat_map names_in items)
+            (option_to_list name) tag_at)) }
+        ensures same { OnErr result ((self.new.count ≡ self.old.count)
+            × (self.new.names.keys ≡ self.old.names.keys)) }
     {
         if !add_name(&mut self.names, name)? {
             return Err(repeated_name(self.count, tag_at));
@@ -150,11 +156,14 @@ impl Names {
         requires fits { payload_at + length payload.now ≤ LIMIT }
         ensures item { IfOk result (IsItem payload.now) }
         ensures valid { IfOk result ValidItem }
-        ensures named { IfOk result (λ item. (items : List Item) → AreNamed self.old.count self.old.names.keys items
+        ensures named { IfOk result (λ item. (items : List Item)
+            → AreNamed self.old.count self.old.names.keys items
             → AreNamed self.new.count self.new.names.keys (items ++ item ∷ [])
             × (repeats (flat_map names_in items) (names_in item) ≡ false)) }
-        ensures fault { IfErr result (λ error. (items : List Item) → AreNamed self.old.count self.old.names.keys items
-            → TellsEarly error (payload_fault (length items) (flat_map names_in items) payload.now payload_at tag_at)) }
+        ensures fault { IfErr result (λ error. (items : List Item)
+            → AreNamed self.old.count self.old.names.keys items
+            → TellsEarly error (payload_fault (length items)
+            (flat_map names_in items) payload.now payload_at tag_at)) }
     {
         match read_item(alloc, payload, payload_at, tag_at) {
             Ok(item) => {
@@ -179,7 +188,8 @@ pub(crate) fn name_of(alloc: Global, item: &Item) -> Result<Option<Text>, AllocE
 /// Adds a name, where there is one, and answers whether it is new.
 pub(crate) fn add_name(names: &mut BTreeSet<Text>, name: Option<Text>) -> Result<bool, AllocError>
     ensures new { IfOk result (λ new. new ≡ not (repeats names.old.keys (option_to_list name))) }
-    ensures named { IfOk result (λ new. IsTrue new → (n : List ℕ) → list_any (bytes_eq n) names.new.keys
+    ensures named { IfOk result (λ new. IsTrue new → (n : List ℕ)
+        → list_any (bytes_eq n) names.new.keys
         ≡ (list_any (bytes_eq n) names.old.keys || list_any (bytes_eq n) (option_to_list name))) }
     ensures same { IfOk result (λ new. OnFalse new (names.new.keys ≡ names.old.keys)) }
     ensures err { OnErr result (names.new.keys ≡ names.old.keys) }

@@ -1,5 +1,5 @@
-//! A tile made canonical: its items are read one after the other, and only the canonical bytes of those that
-//! are wanted are kept.
+//! A tile made canonical: its items are read one after the other, and only the canonical bytes of
+//! those that are wanted are kept.
 ghost use Rattle.std.specs.Prelude.{◌≡◌, ◌+◌, ◌≤◌, max, true, List, [], ◌∷◌, ◌++◌, if◌then◌else◌, IfOk, IfErr, IfSome, OnOk};
 ghost use Rattle.std.specs.Io.KnownBytes.{IsAtEnd};
 ghost use Rattle.mvt_base.specs.Tells.{Tells};
@@ -26,14 +26,16 @@ use mvt_model::encode_more;
 use std::alloc::{AllocError, Global};
 use std::collections::BTreeSet;
 
-/// The canonical bytes of a tile; `None` where these are more than the limit. One item is held at a time.
+/// The canonical bytes of a tile; `None` where these are more than the limit. One item is held at a
+/// time.
 ///
 /// # Errors
 ///
-/// The first fault, which is the one that [`decode`](crate::decode) tells; want of memory. Never a failed
-/// read.
+/// The first fault, which is the one that [`decode`](crate::decode) tells; want of memory. Never a
+/// failed read.
 pub fn rewrite(alloc: Global, bytes: &[u8]) -> Result<Option<Vec<u8>>, DecodeError>
-    ensures tile { IfOk result (λ out. (tile : Tile) × IsTile LIMIT bytes.now tile × Valid tile × IsEncoded LIMIT tile out) }
+    ensures tile { IfOk result (λ out. (tile : Tile) × IsTile LIMIT bytes.now tile × Valid tile
+        × IsEncoded LIMIT tile out) }
     ensures fault { IfErr result (λ error. TellsAtEnd error (fault_within LIMIT bytes.now)) }
 {
     let mut rewriter = Rewriter::of_all(alloc);
@@ -41,8 +43,8 @@ pub fn rewrite(alloc: Global, bytes: &[u8]) -> Result<Option<Vec<u8>>, DecodeErr
     Ok(rewriter.out)
 }
 
-/// The canonical bytes of the tile that a reader has left; `None` where these are more than the limit. One
-/// item is held at a time. It reads no further after a fault.
+/// The canonical bytes of the tile that a reader has left; `None` where these are more than the
+/// limit. One item is held at a time. It reads no further after a fault.
 ///
 /// # Errors
 ///
@@ -65,14 +67,15 @@ pub fn rewrite_tile<R: Source>(
     ensures ended { IfErr result (λ error. IsReadError error → R.ended reader.new ≡ true) }
     ensures kind { IfErr result (λ error. IsKindOf error (R.fault reader.new)) }
     ensures honest { OnOk result (R.failed reader.new ≡ R.failed reader.old) }
-    ensures sound { IfErr result (λ error. (IsReadError error → ⊥) → R.failed reader.new ≡ R.failed reader.old) }
+    ensures sound { IfErr result (λ error. (IsReadError error → ⊥)
+        → R.failed reader.new ≡ R.failed reader.old) }
 {
     let rewriter = read_whole(alloc, reader, Rewriter::of_all(alloc))?;
     Ok(rewriter.out)
 }
 
-/// The names of the layers so far, and the canonical bytes of the items that are wanted: of all of them, or of
-/// the layers whose names are in a set.
+/// The names of the layers so far, and the canonical bytes of the items that are wanted: of all of
+/// them, or of the layers whose names are in a set.
 #[derive(Drop)]
 pub(crate) struct Rewriter {
     pub(crate) names: Names,

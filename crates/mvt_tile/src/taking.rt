@@ -39,12 +39,16 @@ pub(crate) trait Taker: Drop {
         payload_at: u64,
         tag_at: u64,
     ) -> Result<(), DecodeError>
-        requires few { (given : Given) × (items : List Item) × has_taken given self.old items × (length items ≤ LIMIT) }
+        requires few { (given : Given) × (items : List Item) × has_taken given self.old items
+            × (length items ≤ LIMIT) }
         requires fits { payload_at + length payload.now ≤ LIMIT }
-        ensures item { (given : Given) (items : List Item) → has_taken given self.old items → OnOk result
+        ensures item { (given : Given) (items : List Item) → has_taken given self.old items
+            → OnOk result
             ((new : List Item) × has_taken given self.new new × TakesItem items new payload.now) }
-        ensures fault { (given : Given) (items : List Item) → has_taken given self.old items → IfErr result
-            (λ error. TellsEarly error (payload_fault (length items) (flat_map names_in items) payload.now payload_at tag_at)) };
+        ensures fault { (given : Given) (items : List Item) → has_taken given self.old items
+            → IfErr result
+            (λ error. TellsEarly error (payload_fault (length items)
+            (flat_map names_in items) payload.now payload_at tag_at)) };
 }
 
 /// Takes the items of a tile: all bytes, which stand at the front of an input.
@@ -69,19 +73,23 @@ pub(crate) fn take_whole<T: Taker>(
     Ok(())
 }
 
-/// Takes the items of the whole fields at the front, and answers how many bytes those are. The bytes
-/// stand at an offset of the input.
+/// Takes the items of the whole fields at the front, and answers how many bytes those are. The
+/// bytes stand at an offset of the input.
 pub(crate) fn take_fields<T: Taker>(
     alloc: Global,
     taker: &mut T,
     bytes: &[u8],
     offset: u64,
 ) -> Result<usize, DecodeError>
-    requires few { (given : T.Given) × (items : List Item) × T.has_taken given taker.old items × (length items ≤ offset) }
+    requires few { (given : T.Given) × (items : List Item) × T.has_taken given taker.old items
+        × (length items ≤ offset) }
     requires fits { offset + length bytes.now ≤ LIMIT }
-    ensures judged { (given : T.Given) (items : List Item) → T.has_taken given taker.old items → IfOk result
-        (λ used. (new : List Item) × T.has_taken given taker.new new × IsJudged offset bytes.now items new used) }
-    ensures fault { (given : T.Given) (items : List Item) → T.has_taken given taker.old items → IfErr result
+    ensures judged { (given : T.Given) (items : List Item) → T.has_taken given taker.old items
+        → IfOk result
+        (λ used. (new : List Item) × T.has_taken given taker.new new
+        × IsJudged offset bytes.now items new used) }
+    ensures fault { (given : T.Given) (items : List Item) → T.has_taken given taker.old items
+        → IfErr result
         (λ error. TellsBehind error offset bytes.now items) }
 {
     for field in Fields::new(bytes) {
@@ -122,7 +130,8 @@ fn layer_in<'a>(field: &Field<'a>, offset: u64) -> Result<Option<Place<'a>>, Dec
     requires place { offset + field.now.at ≤ LIMIT }
     requires fits { offset + (field.now.body + bytes_size (entry_of field.now).content) ≤ LIMIT }
     ensures place { IfOk result (λ found. MatchOption found (field.now.number ≢ LAYERS)
-        (λ place. IsPlaceOf offset (entry_of field.now) place.payload.now place.payload_at place.tag_at)) }
+        (λ place. IsPlaceOf offset (entry_of field.now) place.payload.now place.payload_at
+        place.tag_at)) }
     ensures fault { IfErr result (λ error. (front : List Entry) →
         TellsEarly error (first (field_rules front (shifted offset (entry_of field.now))))) }
 {
@@ -149,14 +158,19 @@ fn take_field<T: Taker>(
     field: &Field<'_>,
     offset: u64,
 ) -> Result<(), DecodeError>
-    requires few { (given : T.Given) × (items : List Item) × T.has_taken given taker.old items × (length items ≤ LIMIT) }
+    requires few { (given : T.Given) × (items : List Item) × T.has_taken given taker.old items
+        × (length items ≤ LIMIT) }
     requires place { offset + field.now.at ≤ LIMIT }
     requires fits { offset + (field.now.body + bytes_size (entry_of field.now).content) ≤ LIMIT }
-    ensures items { (given : T.Given) (items : List Item) → T.has_taken given taker.old items → OnOk result ((new : List Item)
+    ensures items { (given : T.Given) (items : List Item) → T.has_taken given taker.old items
+        → OnOk result ((new : List Item)
         × T.has_taken given taker.new new × (length new ≤ length items + 1)
-        × ((front : List Entry) → AreItems front items → AreItems (front ++ shifted offset (entry_of field.now) ∷ []) new)) }
-    ensures fault { (given : T.Given) (items : List Item) → T.has_taken given taker.old items → IfErr result (λ error.
-        (front : List Entry) → AreItems front items → TellsEarly error (first (field_rules front (shifted offset (entry_of field.now))))) }
+        × ((front : List Entry) → AreItems front items
+        → AreItems (front ++ shifted offset (entry_of field.now) ∷ []) new)) }
+    ensures fault { (given : T.Given) (items : List Item) → T.has_taken given taker.old items
+        → IfErr result (λ error.
+        (front : List Entry) → AreItems front items
+        → TellsEarly error (first (field_rules front (shifted offset (entry_of field.now))))) }
 {
     match layer_in(field, offset)? {
         None => Ok(()),
