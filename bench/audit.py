@@ -3,8 +3,9 @@
 
 TILES is a folder that examples/producers/gdal and tilemaker filled. Of its tiles those of 700 to 1,400 bytes are taken in
 turn, compressed by gzip, as caches are, until there are so many: 100,000 and 1,000,000 where no count is given. MVT is the
-program. The module mvt has to be found (PYTHONPATH, MVT_LIBRARY). Peaks are of the client and of its largest worker, seen
-twenty times a second."""
+program. The module mvt has to be found (PYTHONPATH, MVT_LIBRARY). Peaks of memory are of the client and of its largest
+worker; seconds of processors are those of the client and of all workers together, without what they took before the first
+tile. Both are seen twenty times a second."""
 
 import gzip
 import json
@@ -44,44 +45,71 @@ def make(path, tiles, count):
     database.close()
 
 
-def peaks(process):
-    """The largest memory of a process and of the largest below it, in MB, while it runs."""
-    client, worker = 0, 0
-    told = psutil.Process(process.pid)
-    while process.poll() is None:
-        try:
-            client = max(client, told.memory_info().rss)
-            worker = max([worker, *(each.memory_info().rss for each in told.children(recursive=True))])
-        except psutil.Error:
-            pass
-        time.sleep(0.05)
-    return client // 1_000_000, worker // 1_000_000
+class Seen:
+    """What a process and those below it take while it runs: most memory in MB, and seconds of processors."""
+
+    def __init__(self):
+        self.client = self.worker = 0
+        self.times = {}
+
+    def look(self, process):
+        told = psutil.Process(process.pid)
+        while process.poll() is None:
+            try:
+                below = told.children(recursive=True)
+                self.client = max(self.client, told.memory_info().rss // 1_000_000)
+                self.worker = max([self.worker, *(each.memory_info().rss // 1_000_000 for each in below)])
+                for each in [told, *below]:
+                    times = each.cpu_times()
+                    self.times[each.pid] = times.user + times.system
+            except psutil.Error:
+                pass
+            time.sleep(0.05)
+
+    def spent(self, client):
+        """By the client, and by the workers."""
+        return self.times[client], sum(self.times.values()) - self.times[client]
 
 
-def audited(path, room):
-    words = [sys.executable, "-m", "mvt.audit", path, "--into", room, "--workers", str(WORKERS), "--json"]
+def audited(path, room, *more):
+    words = [sys.executable, "-m", "mvt.audit", path, "--into", room, "--workers", str(WORKERS), "--json", *more]
+    seen = Seen()
     with open(Path(room, "out"), "w+") as out:
         begun = time.monotonic()
         process = subprocess.Popen(words, stdout=out)
-        client, worker = peaks(process)
+        seen.look(process)
         seconds = time.monotonic() - begun
         out.seek(0)
-        found = json.load(out)
-    return found, seconds, client, worker
+        return json.load(out), seconds, seen, seen.spent(process.pid)
+
+
+def measured(tiles, count):
+    """A row of the table. What the beginning and the end take is measured with one tile, and taken off."""
+    with tempfile.TemporaryDirectory() as room:
+        make(Path(room, "a.mbtiles"), tiles, 1)
+        none = audited(Path(room, "a.mbtiles"), room)[3]
+    with tempfile.TemporaryDirectory() as room:
+        make(Path(room, "a.mbtiles"), tiles, count)
+        found, seconds, seen, spent = audited(Path(room, "a.mbtiles"), room)
+    client, workers = (1e6 * (all_of - begin) / count for all_of, begin in zip(spent, none))
+    return (f"| {count:,} | `mvt-audit`, {WORKERS} workers | {seconds:.1f} | {found['seconds']['start']:.1f} | {found['seconds']['work']:.1f} |"
+            f" {found['tiles_a_second']:,} | {client:.0f} and {workers:.0f} | {seen.client} and {seen.worker} | {found['verdicts']['refused']:,} |")
 
 
 def checked(mvt, tiles, count, room):
-    """The seconds of `mvt check` over so many files, by xargs on as many processes, and how many are refused."""
+    """`mvt check` over so many files, by xargs on as many processes: seconds, those of processors, how many are refused."""
     names = []
     for number in range(count):
         path = Path(room, str(number // 1000), f"{number}.mvt")
         path.parent.mkdir(exist_ok=True)
         path.write_bytes(tiles[number % len(tiles)])
         names.append(str(path))
-    begun = time.monotonic()
+    begun, before = time.monotonic(), os.times()
     told = subprocess.run(["xargs", "-0", "-P", str(WORKERS), "-n", "2000", mvt, "check"], input="\0".join(names),
                           capture_output=True, text=True)
-    return time.monotonic() - begun, sum(": layer " in line for line in told.stderr.splitlines())
+    seconds, after = time.monotonic() - begun, os.times()
+    spent = after.children_user + after.children_system - before.children_user - before.children_system
+    return seconds, spent, sum(": layer " in line for line in told.stderr.splitlines())
 
 
 def main():
@@ -89,18 +117,15 @@ def main():
     counts = [int(word) for word in sys.argv[3:]] or [100_000, 1_000_000]
     mean = sum(map(len, tiles)) / len(tiles)
     print(f"{len(tiles)} tiles of {mean:,.0f} bytes on average, in turn; load {os.getloadavg()[0]:.1f}\n")
-    print("| Tiles | Program | Seconds | Of them the start | Tiles a second | Peak, client, MB | Peak, worker, MB | Refused |")
-    print("|---|---|---|---|---|---|---|---|")
+    print("| Tiles | Program | Seconds | The start | Judging | Tiles a second | Processor, µs a tile | Peak, MB | Refused |")
+    print("|---|---|---|---|---|---|---|---|---|")
     for count in counts:
-        with tempfile.TemporaryDirectory() as room:
-            make(Path(room, "a.mbtiles"), tiles, count)
-            found, seconds, client, worker = audited(Path(room, "a.mbtiles"), room)
-            print(f"| {count:,} | `mvt-audit`, {WORKERS} workers | {seconds:.1f} | {found['seconds']['start']:.1f} |"
-                  f" {found['tiles_a_second']:,} | {client} | {worker} | {found['verdicts']['refused']:,} |", flush=True)
+        print(measured(tiles, count), flush=True)
         if count <= FILES:
             with tempfile.TemporaryDirectory() as room:
-                seconds, refused = checked(sys.argv[2], tiles, count, room)
-                print(f"| {count:,} | `mvt check`, {WORKERS} processes | {seconds:.1f} | - | {count / seconds:,.0f} | - | - | {refused:,} |", flush=True)
+                seconds, spent, refused = checked(sys.argv[2], tiles, count, room)
+            print(f"| {count:,} | `mvt check`, {WORKERS} processes | {seconds:.1f} | | {seconds:.1f} |"
+                  f" {count / seconds:,.0f} | {1e6 * spent / count:.0f} | | {refused:,} |", flush=True)
 
 
 main()

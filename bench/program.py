@@ -1,5 +1,5 @@
 #!/usr/bin/env python3
-"""Measures `mvt check`, `show` and `rewrite` on a tile of 500 kB and on one of 60 MiB, beside
+"""Measures `mvt check`, `show`, `rewrite` and `extract` on a tile of 500 kB and on one of 60 MiB, beside
 `protoc --decode` and GDAL's `ogrinfo` on the same tiles.
 
     bench/program.py [crates/mvt_cli/out/mvt_cli]
@@ -126,6 +126,9 @@ def main():
             maker.start()
             maker.join()
             runs = [("`mvt %s`" % word, [program, word]) for word in ("check", "show", "rewrite")]
+            names = ["layer %d" % index for index in range(layers)]
+            runs += [("`mvt extract` of all layers", [program, "extract"] + names),
+                     ("`mvt extract` of one layer", [program, "extract", names[0]])]
             runs += [("`protoc --decode`", PROTO),
                      ("`ogrinfo -al -so`", ["ogrinfo", "-al", "-so", "MVT:" + file.name]),
                      ("`ogrinfo -al -q`", ["ogrinfo", "-al", "-q", "MVT:" + file.name])]

@@ -5,11 +5,11 @@ import { faultyShape } from './faulty.js';
 import { FeatureTable } from './features.js';
 import { prepared, readFile } from './files.js';
 import { JsonIndex } from './json-index.js';
-import { judged, reasonOf } from './judging.js';
+import { judged, readRows } from './judging.js';
 import { locate } from './locate.js';
 import { Finder } from './near.js';
 import { Painter } from './painter.js';
-import { Rows, SHAPES } from './rows.js';
+import { SHAPES } from './rows.js';
 import { text } from './text.js';
 
 export class Desk {
@@ -27,18 +27,40 @@ export class Desk {
     this.#codec = codec;
   }
 
-  /** Reads and judges a file or bytes; `place` is that of a fault, and `shape` what can be drawn of its feature. */
+  /**
+   * Reads and judges a file or bytes. `facts` are the counts of an accepted tile, and `why` the reason where it can't be
+   * drawn; `place` is that of a fault, and `shape` what can be drawn of its feature.
+   */
   async open({ source, name }) {
     const size = source.size ?? source.length;
     const read = source instanceof Uint8Array ? await prepared(source) : await readFile(source);
-    const { verdict, report = null, tile = null } = judged(this.#codec, read, name);
     this.#bytes = read.bytes;
-    this.#report = report;
-    this.#tile = tile;
+    const { verdict, facts = null, why = null } = this.#read(read, name);
     const { fault } = verdict;
     const place = fault && locate(read.bytes, fault);
     const shape = fault && faultyShape(read.bytes, fault);
-    return { size, length: read.bytes.length, note: read.note, verdict, place, shape, first: report?.first ?? null };
+    return { size, length: read.bytes.length, note: read.note, verdict, facts, why, place, shape };
+  }
+
+  /** Reads the rows; where there is no memory for them, only judges. */
+  #read(read, name) {
+    const { verdict, rows } = readRows(this.#codec, read, name);
+    if (verdict.kind === 'unjudged') {
+      const { report = null, ...told } = this.#judge(read, name);
+      return { ...told, facts: report?.counts, why: verdict.why };
+    }
+    if (rows === undefined) return { verdict };
+    this.#rows = rows;
+    this.#painter = new Painter(rows);
+    this.#finder = new Finder(rows);
+    return { verdict, facts: { layers: rows.layerCount, features: rows.featureCount, points: rows.pointCount } };
+  }
+
+  #judge(read, name) {
+    const told = judged(this.#codec, read, name);
+    this.#report = told.report ?? null;
+    this.#tile = told.tile ?? null;
+    return told;
   }
 
   /**
@@ -73,23 +95,14 @@ export class Desk {
     return this.#bytes.slice();
   }
 
-  notes({ kind, from, end }) {
-    return this.#report.some(kind, from, end);
+  /** The notes by kind; or `why` they can't be told. */
+  report() {
+    const { why = null } = this.#report === null ? this.#judge({ bytes: this.#bytes, damaged: null }, '').verdict : {};
+    return { notes: this.#report?.kinds() ?? [], why };
   }
 
-  /** Reads the rows: how many of each there are, or why there are none. */
-  read() {
-    try {
-      const answer = this.#codec.open(this.#bytes).read();
-      if (answer.status !== OK) return { why: 'the browser gave no memory for it' };
-      this.#rows = new Rows(answer.rows);
-    } catch (error) {
-      return { why: reasonOf(error) };
-    }
-    this.#painter = new Painter(this.#rows);
-    this.#finder = new Finder(this.#rows);
-    const { layerCount, featureCount, pointCount } = this.#rows;
-    return { layers: layerCount, features: featureCount, points: pointCount };
+  notes({ kind, from, end }) {
+    return this.#report.some(kind, from, end);
   }
 
   /** Some layers, by their indices. */
@@ -100,10 +113,16 @@ export class Desk {
 
   // ---- the canonical bytes, and other forms
 
+  /** The tile in a memory of its own, beside that of its rows. */
+  #opened() {
+    this.#tile ??= this.#codec.open(this.#bytes);
+    return this.#tile;
+  }
+
   /** Whether the bytes are the canonical ones; if not, the length of those, and what differs first. */
   canonical() {
-    if (this.#report.isCanonical) return { isSame: true };
-    const { status, bytes } = this.#tile.rewrite();
+    if (this.#report?.isCanonical) return { isSame: true };
+    const { status, bytes } = this.#opened().rewrite();
     if (status !== OK) return { isSame: false, status };
     const difference = firstDifference(this.#bytes, bytes);
     return { isSame: false, length: bytes.length, said: difference?.said ?? null, at: difference?.at ?? 0, trail: difference?.trail ?? [] };
@@ -113,7 +132,7 @@ export class Desk {
   made({ what, hidden = null, colours = [], chosen = {} }) {
     if (what === 'svg') return this.#svg(hidden ?? [], (index) => chosen[index] ?? colours[index % colours.length]);
     if (what === 'extract') return this.#extract(hidden);
-    return what === 'json' ? this.#tile.json() : this.#tile.rewrite();
+    return what === 'json' ? this.#opened().json() : this.#opened().rewrite();
   }
 
   #extract(hidden) {
@@ -122,12 +141,12 @@ export class Desk {
       const layer = this.#rows.layer(index);
       if (layer.version === 2 && hidden[index] !== 1) names.push(layer.name);
     }
-    return names.length === 0 ? { status: NO_LAYER } : this.#tile.extract(names);
+    return names.length === 0 ? { status: NO_LAYER } : this.#opened().extract(names);
   }
 
   /** The library's picture, with the page's colours and without the layers that are off; rings are filled as on the page. */
   #svg(hidden, colourOf) {
-    const answer = this.#tile.svg();
+    const answer = this.#opened().svg();
     if (answer.status !== OK) return answer;
     const drawn = Array.from({ length: this.#rows.layerCount }, (_, index) => index).filter((index) => this.#rows.layerBox(index).version === 2);
     let next = 0;
@@ -141,7 +160,7 @@ export class Desk {
 
   /** Makes the JSON: how many bytes and layers it has. */
   json() {
-    const { status, bytes } = this.#tile.json();
+    const { status, bytes } = this.#opened().json();
     if (status !== OK) throw new RangeError('the browser gave no memory for it');
     this.#json = new JsonIndex(bytes);
     return { length: bytes.length, layers: this.#json.layerCount };

@@ -2,6 +2,7 @@
 import { NO_MEMORY, OK, REFUSED } from './codec.js';
 import { kindOfFile } from './kinds.js';
 import { Report } from './report.js';
+import { Rows } from './rows.js';
 import { text } from './text.js';
 
 /**
@@ -10,21 +11,38 @@ import { text } from './text.js';
  * - refused, with the fault; or other, where the bytes are no tile but what `other` says;
  * - unjudged, with the reason.
  */
-export function judged(codec, { bytes, damaged }, name) {
+export function judged(codec, read, name) {
+  return answered(codec, read, name, (tile) => tile.report(), ({ bytes }, tile) => {
+    const report = new Report(text(bytes));
+    return { verdict: acceptance(report.foreign, report.kinds()), report, tile };
+  });
+}
+
+/** Reads the rows of what is to be shown, which judges it too: `{verdict, rows}`. The notes are left to the report. */
+export function readRows(codec, read, name) {
+  return answered(codec, read, name, (tile) => tile.read(), (answer) => {
+    const rows = new Rows(answer.rows);
+    return { verdict: acceptance(rows.foreignCount, []), rows };
+  });
+}
+
+function answered(codec, { bytes, damaged }, name, call, accept) {
   try {
     const tile = codec.open(bytes);
-    const answer = tile.report();
-    if (answer.status === REFUSED) return { verdict: refusal(answer.fault, bytes, damaged, name), report: null, tile };
-    if (answer.status !== OK) return { verdict: unjudged(answer.status === NO_MEMORY ? NO_ROOM : `the library answers ${answer.status}`) };
-    const report = new Report(text(answer.bytes));
-    const kind = report.foreign > 0 ? 'partly' : 'accepted';
-    return { verdict: { kind, fault: null, foreign: report.foreign, notes: report.kinds() }, report, tile };
+    const answer = call(tile);
+    if (answer.status === OK) return accept(answer, tile);
+    if (answer.status === REFUSED) return { verdict: refusal(answer.fault, bytes, damaged, name) };
+    return { verdict: unjudged(answer.status === NO_MEMORY ? NO_ROOM : `the library answers ${answer.status}`) };
   } catch (error) {
     return { verdict: unjudged(reasonOf(error)) };
   }
 }
 
 const NO_ROOM = 'the browser gave no memory for it';
+
+function acceptance(foreign, notes) {
+  return { kind: foreign > 0 ? 'partly' : 'accepted', fault: null, foreign, notes };
+}
 
 function refusal(fault, bytes, damaged, name) {
   const broken = damaged && { name: `damaged ${damaged}`, sentence: `This is a damaged file: it begins as ${damaged} does, but it can’t be unpacked to its end.` };
@@ -37,7 +55,7 @@ function unjudged(why) {
 }
 
 /** Why a call of the library ended by an error: want of memory, or a defect, which nobody should take for one. */
-export function reasonOf(error) {
+function reasonOf(error) {
   const isStack = /call stack/i.test(error.message);
   if (error instanceof RangeError && !isStack) return NO_ROOM;
   return `the page failed (${error.name}: ${error.message}), which is a defect of the page and not of the tile`;

@@ -19,10 +19,11 @@ export class TileList {
   #pending = null;
   #current = null;
 
-  /** `inputs` are the tiles; `open(index)` opens one of them. */
-  constructor(inputs, open) {
+  /** `inputs` are the tiles; `open(index)` opens one of them; `turned()` is told when others are shown, or in another order. */
+  constructor(inputs, { open, turned }) {
     this.#inputs = inputs;
     this.open = open;
+    this.turned = turned;
     this.title = element('h2', { tabindex: '-1' });
     this.chips = element('div', { class: 'chips', role: 'group', 'aria-label': 'Show only those of one kind' });
     const filter = element('input', { type: 'search', 'aria-label': 'Filter by text', placeholder: 'filter by name or verdict' });
@@ -98,6 +99,7 @@ export class TileList {
     const isAll = this.#shown.length === this.count;
     this.told.textContent = isAll ? '' : `${grouped(this.#shown.length)} shown`;
     this.table.resize(this.#shown.length);
+    this.turned();
   }
 
   #isShown({ name, line, group }) {
@@ -135,10 +137,14 @@ export class TileList {
   }
 
   #sort() {
+    this.#shown.sort(this.#comparison());
+  }
+
+  #comparison() {
     const { by, isDown } = this.#order;
     const rows = this.#rows;
     const compare = by === 'name' ? byName(rows) : (a, b) => (rows[a][by] < rows[b][by] ? -1 : rows[a][by] > rows[b][by] ? 1 : a - b);
-    this.#shown.sort(isDown ? (a, b) => compare(b, a) : compare);
+    return isDown ? (a, b) => compare(b, a) : compare;
   }
 
   // ---- rows
@@ -163,10 +169,16 @@ export class TileList {
     this.table.reveal(Math.max(0, this.#shown.indexOf(index)), true);
   }
 
-  /** The tile before or behind another one, as the list is sorted and filtered now; null where there is none. */
+  /**
+   * The tile before or behind another one, as the list is sorted and filtered now; null where there is none. From a tile
+   * that isn't shown it goes on from where that would stand.
+   */
   beside(index, step) {
     const place = this.#shown.indexOf(index);
-    return place === -1 ? null : (this.#shown[place + step] ?? null);
+    if (place !== -1) return this.#shown[place + step] ?? null;
+    const compare = this.#comparison();
+    const isOnTheWay = (other) => compare(other, index) * step > 0;
+    return (step > 0 ? this.#shown.find(isOnTheWay) : this.#shown.findLast(isOnTheWay)) ?? null;
   }
 
   #save() {

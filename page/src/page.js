@@ -6,7 +6,6 @@ import { foreign, plain } from './foreign.js';
 import { TileList } from './list.js';
 import { counted } from './text.js';
 import { TileView } from './tile.js';
-import { lineOf, titleOf } from './verdict.js';
 
 /** So many files are handed to the worker at once: each handing over takes the page some time. */
 const HANDED = 100;
@@ -20,6 +19,7 @@ export class Page {
   #lists = null;
   #list = null;
   #inputs = [];
+  #waysNow = () => {};
   #working = new Map();
   #scrolled = 0;
 
@@ -46,6 +46,7 @@ export class Page {
     this.#tiles?.stop();
     this.#tiles = this.#newClient();
     this.#done('tile');
+    this.#waysNow = () => {};
     part('tile').replaceChildren();
   }
 
@@ -61,9 +62,11 @@ export class Page {
       opened.note = [note, opened.note].filter(Boolean).join(' ') || null;
       const view = new TileView(this.#tiles, name, opened, { ways: this.#ways(index), data: this.#data });
       this.#put(view);
-      this.#say(`${plain(name)}: ${titleOf(opened.verdict, 0)}. ${lineOf(opened.verdict)}`);
+      const { told } = view;
+      this.#say(told);
       await view.fill();
       this.#stay(view);
+      if (view.told !== told) this.#say(view.told);
     } catch (error) {
       console.error(error);
       part('tile').append(element('p', { class: 'verdict unjudged' }, [foreign(name), ` can’t be shown: ${error.message}`]));
@@ -94,9 +97,15 @@ export class Page {
   #ways(index) {
     if (this.#list === null) return [];
     const list = this.#list;
-    const to = (title, step) => element('button', { type: 'button', onclick: () => list.beside(index, step) !== null && this.#show(list.beside(index, step)) }, [title]);
+    const to = (title, step) => element('button', { type: 'button', onclick: () => this.#show(list.beside(index, step)) }, [title]);
     const back = element('button', { type: 'button', onclick: () => this.#back(index) }, ['Back to the list']);
-    return [element('div', { class: 'buttons ways' }, [back, to('Previous', -1), to('Next', 1)])];
+    const [previous, next] = [to('Previous', -1), to('Next', 1)];
+    this.#waysNow = () => {
+      previous.disabled = list.beside(index, -1) === null;
+      next.disabled = list.beside(index, 1) === null;
+    };
+    this.#waysNow();
+    return [element('div', { class: 'buttons ways' }, [back, previous, next])];
   }
 
   #back(index) {
@@ -108,7 +117,7 @@ export class Page {
 
   async #listAll() {
     const inputs = this.#inputs;
-    const list = new TileList(inputs, (index) => this.#show(index));
+    const list = new TileList(inputs, { open: (index) => this.#show(index), turned: () => this.#waysNow() });
     const judging = this.#newClient();
     this.#list = list;
     this.#lists = judging;

@@ -21,6 +21,7 @@ export class Picture {
   #marked = [];
   #asked = 0;
   #isHovering = false;
+  #first = Promise.withResolvers();
   hidden;
   chosenColours = {};
 
@@ -56,6 +57,11 @@ export class Picture {
       element('label', {}, [this.beyond, ' what lies beyond the edge']),
       this.stop, this.state,
     ]);
+  }
+
+  /** Resolves when the picture has been drawn for the first time, or its drawing was stopped. */
+  get drawn() {
+    return this.#first.promise;
   }
 
   get #home() {
@@ -104,7 +110,7 @@ export class Picture {
     this.#asked += 1;
     const asked = this.#asked;
     this.paper.dataset.state = 'drawing';
-    requestAnimationFrame(() => asked === this.#asked && this.#draw(asked));
+    requestAnimationFrame(() => asked === this.#asked && this.#draw(asked).catch((error) => this.#fail(error)));
   }
 
   async #draw(asked) {
@@ -118,7 +124,13 @@ export class Picture {
     if (asked !== this.#asked) return last.frame.close();
     this.#show('base', last.frame, plan.view);
     this.#say(last.behind, true, last.isDone);
+    this.#first.resolve();
     return this.#mark();
+  }
+
+  #fail(error) {
+    this.#first.reject(error);
+    throw error;
   }
 
   #show(layer, frame, view) {

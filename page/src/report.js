@@ -16,6 +16,12 @@ export class Report {
     }
   }
 
+  /** How many layers and features there are. */
+  get counts() {
+    const [, layers, features] = /^ok layers (\d+) features (\d+)/.exec(this.first);
+    return { layers: Number(layers), features: Number(features) };
+  }
+
   /** How many notes there are of each kind, `{kind, count}`. */
   kinds() {
     return [...this.#notes].map(([kind, lines]) => ({ kind, count: lines.length }));

@@ -48,6 +48,13 @@ export class Rows {
     return this.#lists.points.count;
   }
 
+  /** How many layers are of another version than 2. */
+  get foreignCount() {
+    let count = 0;
+    for (let at = 0; at < this.layerWords.length; at += LAYER) count += this.layerWords[at] === 2 ? 0 : 1;
+    return count;
+  }
+
   layer(index) {
     const at = LAYER * index;
     const words = this.layerWords;

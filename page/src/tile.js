@@ -1,6 +1,6 @@
 // The part of the page about one tile.
 import { element, folded } from './dom.js';
-import { foreign } from './foreign.js';
+import { foreign, plain } from './foreign.js';
 import { HexView } from './hex.js';
 import { jsonView } from './json-view.js';
 import { Look } from './look.js';
@@ -8,7 +8,7 @@ import { showNotes } from './notes.js';
 import { showFault } from './refused.js';
 import { Saving } from './saving.js';
 import { counted, grouped, size, sizeWith } from './text.js';
-import { titleOf } from './verdict.js';
+import { lineOf, titleOf } from './verdict.js';
 import { sayTrail } from './words.js';
 
 /** Shows a tile that the worker has open; `ways` lead back to a list, `data` are the rules and what notes mean. */
@@ -17,7 +17,6 @@ export class TileView {
   #name;
   #opened;
   #data;
-  #facts = null;
 
   constructor(client, name, opened, { ways = [], data }) {
     this.#client = client;
@@ -25,52 +24,60 @@ export class TileView {
     this.#opened = opened;
     this.#data = data;
     const { verdict, note } = opened;
-    const counts = this.#counts();
     this.title = element('h2', { tabindex: '-1' }, [foreign(name)]);
     this.rest = element('div');
     this.root = element('article', {}, [
       element('div', { class: 'titled' }, [this.title, ...ways]),
-      element('p', { class: `verdict ${verdict.kind}` }, [titleOf(verdict, counts.layers)]),
+      element('p', { class: `verdict ${verdict.kind}` }, [this.#verdict]),
       note ? element('p', { class: 'note' }, [note]) : '',
       this.rest,
     ]);
   }
 
-  /** How many layers and features the report tells. */
-  #counts() {
-    const [, layers = 0, features = 0] = /^ok layers (\d+) features (\d+)/.exec(this.#opened.first ?? '') ?? [];
-    return { layers: Number(layers), features: Number(features) };
+  get #verdict() {
+    return titleOf(this.#opened.verdict, this.#opened.facts?.layers);
+  }
+
+  /** What is spoken of the tile: more, once the notes are known. */
+  get told() {
+    return `${plain(this.#name)}: ${this.#verdict}. ${lineOf(this.#opened.verdict)}`;
   }
 
   /** Makes the rest: for an accepted tile what it holds, for a refused one the fault. */
   async fill() {
-    const { verdict, place, shape } = this.#opened;
+    const { verdict, facts, place, shape } = this.#opened;
     if (place !== null) {
       const bytes = await this.#client.ask('bytes');
       this.rest.append(...showFault(bytes, verdict, { place, shape }, this.#data.rules));
-    } else if (this.#opened.first !== null) await this.#fillAccepted();
+    } else if (facts !== null) await this.#fillAccepted();
   }
 
+  /** What takes longer, the notes and the canonical form, comes when the picture is drawn. */
   async #fillAccepted() {
-    const { layers, features } = this.#counts();
-    const { length, size: own, note, verdict } = this.#opened;
-    const facts = element('p', { class: 'facts' }, [`${sizeWith(own, length, note)}, ${counted(layers, 'layer')}, ${counted(features, 'feature')}`]);
+    const { facts, why } = this.#opened;
     const canonical = element('p', { class: 'canonical' }, ['…']);
     const notes = element('div');
-    const looking = element('p', { class: 'quiet' }, ['Reading the features …']);
     const saving = new Saving(this.#client, this.#name);
-    const jump = (layer, feature) => this.look?.chooseIn(layer, feature);
-    if (verdict.notes.length > 0) notes.append(showNotes(this.#client, verdict.notes, this.#data.notes, jump));
+    if (why === null) this.look = new Look(this.#client, facts, (picture) => saving.layers(picture));
+    const looking = this.look?.root ?? element('p', { class: 'quiet' }, [`There is no picture: ${why}.`]);
     const buttons = element('div', { class: 'buttons' }, [saving.canonical, saving.picture(() => this.look?.picture), saving.json, saving.told]);
-    this.rest.append(facts, canonical, notes, looking, buttons, folded('JSON', () => jsonView(this.#client)), this.#bytes());
-    const read = await this.#client.ask('read');
-    if (read.why) looking.textContent = `There is no picture: ${read.why}.`;
-    else {
-      facts.append(`, ${counted(read.points, 'position')}.`);
-      this.look = new Look(this.#client, read, (picture) => saving.layers(picture));
-      looking.replaceWith(this.look.root);
-    }
+    this.rest.append(this.#facts(), canonical, notes, looking, buttons, folded('JSON', () => jsonView(this.#client)), this.#bytes());
+    if (!document.hidden) await this.look?.picture.drawn;
+    notes.append(this.#notes(await this.#client.ask('report')));
     this.#sayCanonical(canonical, await this.#client.ask('canonical'));
+  }
+
+  #facts() {
+    const { length, size: own, note, facts: { layers, features, points } } = this.#opened;
+    const positions = points === undefined ? '' : `, ${counted(points, 'position')}`;
+    return element('p', { class: 'facts' }, [`${sizeWith(own, length, note)}, ${counted(layers, 'layer')}, ${counted(features, 'feature')}${positions}.`]);
+  }
+
+  #notes({ notes, why }) {
+    this.#opened.verdict.notes = notes;
+    if (why !== null) return element('p', { class: 'quiet' }, [`Whether there are notes isn’t known: ${why}.`]);
+    const jump = (layer, feature) => this.look?.chooseIn(layer, feature);
+    return notes.length === 0 ? '' : showNotes(this.#client, notes, this.#data.notes, jump);
   }
 
   #sayCanonical(box, { isSame, length, said, at, trail, status }) {

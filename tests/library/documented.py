@@ -1,6 +1,7 @@
 """The examples in docs/LIBRARY.md, as programs: documented.py FOLDER
 
-Those that list read a tile from standard input; those that make one write it, or print what is in it.
+Those that list read a tile from standard input; those that make one write it, or print what is in it; those that bound
+their memory make JSON of one from standard input.
 """
 
 import sys
@@ -8,6 +9,7 @@ from pathlib import Path
 
 DOCUMENT = (Path(__file__).resolve().parents[2] / "docs" / "LIBRARY.md").read_text()
 BUILD = "\n### A tile made step by step\n"
+BOUND = "Texts that are much larger than their tile"
 PROGRAMS = {
     "list.c": ("From C", "", "int main(void) { static uint8_t b[1 << 16]; list(b, fread(b, 1, sizeof b, stdin)); }"),
     "make.c": (
@@ -23,6 +25,13 @@ PROGRAMS = {
         " list(mvt::bytes_of(s)); }",
     ),
     "make.cpp": ("From C++", BUILD, "#include <iostream>\nint main() { std::cout << make().str(); }"),
+    "bound.c": (
+        BOUND,
+        "and the process goes on.\n",
+        "#include <stdio.h>\nint main(void) { static uint8_t b[1 << 20]; mvt_bytes t; mvt_fault f; bound();"
+        ' puts(mvt_json(b, fread(b, 1, sizeof b, stdin), &t, &f) == MVT_NO_MEMORY ? "out of memory" : "made"); }',
+    ),
+    "bound.py": (BOUND, "In Python:\n", ""),
     "list.py": ("From Python", "", ""),
     "make.py": ("From Python", BUILD, ""),
 }

@@ -165,6 +165,31 @@ await onPage('a list counts causes in words, is filtered by them and by text, an
       ['14-KeyIndex.mvt', '20-ZeroSegment.mvt', '22-FirstRing.mvt', '22-FirstRing.mvt', 'gdal.mvt', 'postgis.mvt']]);
 });
 
+await onPage('previous and next go through what the list shows', WIDE, async (page) => {
+  await look(page, several);
+  const filter = (text) => page.value(`(() => { const filter = document.querySelector('#list input'); filter.value = '${text}'; filter.dispatchEvent(new Event('input')); })()`);
+  const ways = "[...document.querySelectorAll('.ways button')].map((way) => way.disabled)";
+  const seen = [];
+  const see = async () => {
+    await page.until("document.querySelector('#tile .hex, #tile .paper') && !document.body.classList.contains('busy')");
+    seen.push(`${await page.value(textOf('#tile h2'))} ${(await page.value(ways)).map(Number).join('')}`);
+  };
+  await page.value("document.querySelectorAll('#list tbody button')[1].click()");
+  await see();
+  await filter('key');
+  await see();
+  await page.value(clickNamed('Next'));
+  await see();
+  await filter('');
+  await page.value(clickNamed('Next'));
+  await see();
+  await page.value(clickNamed('Tile'));
+  await see();
+  await page.value(clickNamed('Previous'));
+  await see();
+  return same(seen, ['22-FirstRing.mvt 000', '22-FirstRing.mvt 010', '14-KeyIndex.mvt 011', 'postgis.mvt 000', 'postgis.mvt 001', 'gdal.mvt 000']);
+});
+
 await onPage('a list tells of a tile of version 1 that it was not looked into', WIDE, async (page) => {
   await look(page, [gdal, made('first.mvt', Buffer.of(0x1a, 5, 0x78, 1, 0x0a, 1, 0x61))]);
   const rows = await page.value(texts('#list tbody td:last-child'));

@@ -5,8 +5,7 @@
 
 SHIM is the library built of refuse.c, MVT the executable that `rt ci` leaves. The tile and all that the
 commands answer for it are made here, from the format alone. A run answers as ever, or wants memory: then
-its status is 4, its line stands on the error stream, and on the output is nothing, or a front of the answer for
-`rewrite`, `extract` and `check` of files. The last line is 'N passed, M failed'.
+its status is 4, its line stands on the error stream, and nothing on the output. The last line is 'N passed, M failed'.
 """
 
 import json
@@ -109,7 +108,7 @@ def run(mvt, words, canonical, shim, refused):
     return done.returncode, done.stdout, done.stderr, int(told) if told.isdigit() else None
 
 
-def sweep(mvt, words, canonical, shim, written, is_made_whole):
+def sweep(mvt, words, canonical, shim, written):
     """Why a command fails, or None, and how many runs there were."""
     status, output, errors, count = run(mvt, words, canonical, shim, 0)
     if count is None:
@@ -122,8 +121,7 @@ def sweep(mvt, words, canonical, shim, written, is_made_whole):
         if (status, output, errors) == (0, written, b""):
             continue
         wanted += 1
-        is_front = output == b"" if is_made_whole else written.startswith(output)
-        if (status, errors) != (4, b"mvt: out of memory\n") or not is_front:
+        if (status, output, errors) != (4, b"", b"mvt: out of memory\n"):
             return "allocation %d refused: status %d, %d bytes, %r" % (refused, status, len(output), errors), refused + 1
     return None if wanted else "no run wanted memory", count + 1
 
@@ -137,19 +135,19 @@ def main():
     with open(file, "wb") as out:
         out.write(canonical)
     commands = [
-        (["fields"], b"0 3 len %d\n" % length, True),
-        (["show"], shown(), True),
-        (["draw"], drawn(), True),
-        (["check"], report, True),
-        (["check", file], os.fsencode(file) + b": " + report, False),
-        ([], report, True),
-        (["rewrite"], canonical, False),
-        (["extract", "places"], canonical, False),
+        (["fields"], b"0 3 len %d\n" % length),
+        (["show"], shown()),
+        (["draw"], drawn()),
+        (["check"], report),
+        (["check", file], os.fsencode(file) + b": " + report),
+        ([], report),
+        (["rewrite"], canonical),
+        (["extract", "places"], canonical),
     ]
     passed = failed = 0
-    for words, written, is_made_whole in commands:
+    for words, written in commands:
         line = " ".join(["mvt", *("FILE" if word == file else word for word in words)])
-        why, runs = sweep(mvt, words, canonical, shim, written, is_made_whole)
+        why, runs = sweep(mvt, words, canonical, shim, written)
         if why is None:
             passed += 1
             print("%s: want of memory or the answer, %d runs on %d bytes" % (line, runs, len(canonical)))

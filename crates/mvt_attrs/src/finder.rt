@@ -72,7 +72,8 @@ pub(crate) fn note<T: Entry>(
     requires new { ¬ (Contains entries.now entry.now) }
     requires room { IsRoomFor T.hash_input finder.old entry.now slot }
     requires few { length entries.now + 1 < 2 ^ 32 }
-    ensures added { OnOk result (Knows T.cmp T.hash_input finder.new (entries.now ++ entry.now ∷ [])) }
+    ensures added { OnOk result (Knows T.cmp T.hash_input finder.new
+        (entries.now ++ entry.now ∷ [])) }
     ensures unchanged { OnErr result (Knows T.cmp T.hash_input finder.new entries.now) }
 {
     if is_outgrown(finder, entries.len()) {
@@ -105,7 +106,8 @@ fn outgrow<T: Entry>(
     requires distinct { AreDistinct entries.now }
     requires new { ¬ (Contains entries.now entry.now) }
     requires few { length entries.now + 1 < 2 ^ 32 }
-    ensures added { OnOk result (Knows T.cmp T.hash_input finder.new (entries.now ++ entry.now ∷ [])) }
+    ensures added { OnOk result (Knows T.cmp T.hash_input finder.new
+        (entries.now ++ entry.now ∷ [])) }
     ensures unchanged { OnErr result (finder.new ≡ finder.old) }
 {
     *finder = grown(alloc, entries, entry)?;
@@ -117,7 +119,8 @@ fn grown<T: Entry>(alloc: Global, entries: &[T], entry: &T) -> Result<Finder<T>,
     requires distinct { AreDistinct entries.now }
     requires new { ¬ (Contains entries.now entry.now) }
     requires few { length entries.now + 1 < 2 ^ 32 }
-    ensures { IfOk result (λ finder. Knows T.cmp T.hash_input finder (entries.now ++ entry.now ∷ [])) }
+    ensures { IfOk result (λ finder. Knows T.cmp T.hash_input finder
+        (entries.now ++ entry.now ∷ [])) }
 {
     if entries.len() < T::most_hashed() {
         let mut places = hashed(alloc, entries)?;

@@ -25,7 +25,8 @@ pub fn judge_tags(
     values: usize,
     tags: &[u32],
 ) -> Result<(), TagError>
-    ensures ok { OnOk result ((held : List Value) → length held ≡ values → tag_fault keys.old held tags.now ≡ None) }
+    ensures ok { OnOk result ((held : List Value) → length held ≡ values
+        → tag_fault keys.old held tags.now ≡ None) }
     ensures err { IfErr result (λ error. (held : List Value) → length held ≡ values
         → Tells (fault_of error) (tag_fault keys.old held tags.now)) }
     ensures memory { IsErrOf result TagError.Memory → 2 < length tags.now }
@@ -52,7 +53,8 @@ pub fn judge_tags(
 /// The same where there is one pair at most, which repeats no key.
 fn judge_pair(texts: &[Text], values: usize, tags: &[u32]) -> Result<(), TagError>
     requires { length tags.now ≤ 2 }
-    ensures ok { OnOk result ((held : List Value) → length held ≡ values → tag_fault texts.now held tags.now ≡ None) }
+    ensures ok { OnOk result ((held : List Value) → length held ≡ values
+        → tag_fault texts.now held tags.now ≡ None) }
     ensures err { IfErr result (λ error. (held : List Value) → length held ≡ values
         → Tells (fault_of error) (tag_fault texts.now held tags.now)) }
     ensures never { IsErrOf result TagError.Memory → ⊥ }
@@ -76,7 +78,8 @@ fn judge_marked(
     requires grouped { IsGrouped texts.now places.now }
     requires room { length marks.old ≡ length texts.now }
     requires fresh { AreBelow marks.old turn }
-    ensures ok { OnOk result ((held : List Value) → length held ≡ values → tag_fault texts.now held tags.now ≡ None) }
+    ensures ok { OnOk result ((held : List Value) → length held ≡ values
+        → tag_fault texts.now held tags.now ≡ None) }
     ensures err { IfErr result (λ error. (held : List Value) → length held ≡ values
         → Tells (fault_of error) (tag_fault texts.now held tags.now)) }
     ensures below { AreBelow marks.new (turn + 1) }

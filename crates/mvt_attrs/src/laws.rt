@@ -18,31 +18,40 @@ pub fn attributes_or_fault()
     ensures there { (keys : List (List ℕ)) (values : List Value) (tags : List ℕ) →
         tag_fault keys values tags ≡ None →
         (attributes : List Attribute) × Resolved keys values tags attributes }
-    ensures clean { (keys : List (List ℕ)) (values : List Value) (tags : List ℕ) (attributes : List Attribute) →
+    ensures clean { (keys : List (List ℕ)) (values : List Value) (tags : List ℕ)
+        (attributes : List Attribute) →
         Resolved keys values tags attributes → tag_fault keys values tags ≡ None }
-    ensures once { (keys : List (List ℕ)) (values : List Value) (tags : List ℕ) (attributes others : List Attribute) →
-        Resolved keys values tags attributes → Resolved keys values tags others → attributes ≡ others }
+    ensures once { (keys : List (List ℕ)) (values : List Value) (tags : List ℕ)
+        (attributes others : List Attribute) →
+        Resolved keys values tags attributes → Resolved keys values tags others
+        → attributes ≡ others }
 {}
 
 /// The rules stand in order of rank.
 pub fn rules_in_order()
     ensures count { (tags : List ℕ) → AreOrdered (count_rules tags) }
-    ensures pairs { (keys : List (List ℕ)) (values : List Value) (tags : List ℕ) → AreOrdered (pair_rules keys values tags) }
-    ensures tags { (keys : List (List ℕ)) (values : List Value) (tags : List ℕ) → AreOrdered (tag_rules keys values tags) }
+    ensures pairs { (keys : List (List ℕ)) (values : List Value) (tags : List ℕ)
+        → AreOrdered (pair_rules keys values tags) }
+    ensures tags { (keys : List (List ℕ)) (values : List Value) (tags : List ℕ)
+        → AreOrdered (tag_rules keys values tags) }
 {}
 
 /// The fault is that of the broken rule of least rank: of the count, and then of the pairs.
 pub fn fault_is_least()
-    ensures least { (keys : List (List ℕ)) (values : List Value) (tags : List ℕ) (fault : ℕ × TagCause) →
+    ensures least { (keys : List (List ℕ)) (values : List Value) (tags : List ℕ)
+        (fault : ℕ × TagCause) →
         (tag_fault keys values tags ≡ Some fault) ↔ IsLeast (tag_rules keys values tags) fault }
     ensures parts { (keys : List (List ℕ)) (values : List Value) (tags : List ℕ) →
-        tag_fault keys values tags ≡ option_or (first (count_rules tags)) (first (pair_rules keys values tags)) }
+        tag_fault keys values tags ≡ option_or (first (count_rules tags))
+        (first (pair_rules keys values tags)) }
 {}
 
 /// No entry stands twice in a pool, and each comes from what it held or from an attribute.
 pub fn pool_entries()
-    ensures distinct_keys { (held : List (List ℕ)) (attributes : List Attribute) → AreDistinct (key_pool held attributes) }
-    ensures distinct_values { (held : List Value) (attributes : List Attribute) → AreDistinct (value_pool held attributes) }
+    ensures distinct_keys { (held : List (List ℕ)) (attributes : List Attribute)
+        → AreDistinct (key_pool held attributes) }
+    ensures distinct_values { (held : List Value) (attributes : List Attribute)
+        → AreDistinct (value_pool held attributes) }
     ensures from_keys { (held : List (List ℕ)) (attributes : List Attribute) (key : List ℕ) →
         Contains (key_pool held attributes) key →
         Contains (held ++ map (λ (a : Attribute). a.key) attributes) key }
@@ -62,9 +71,11 @@ pub fn pools_by_parts()
 /// A pool only grows, and behind what it holds.
 pub fn pools_grow()
     ensures keys { (held : List (List ℕ)) (attributes more : List Attribute) →
-        (added : List (List ℕ)) × (key_pool held (attributes ++ more) ≡ key_pool held attributes ++ added) }
+        (added : List (List ℕ)) × (key_pool held (attributes ++ more)
+        ≡ key_pool held attributes ++ added) }
     ensures values { (held : List Value) (attributes more : List Attribute) →
-        (added : List Value) × (value_pool held (attributes ++ more) ≡ value_pool held attributes ++ added) }
+        (added : List Value) × (value_pool held (attributes ++ more)
+        ≡ value_pool held attributes ++ added) }
     ensures held_keys { (held : List (List ℕ)) (attributes : List Attribute) →
         AreDistinct held → (added : List (List ℕ)) × (key_pool held attributes ≡ held ++ added) }
     ensures held_values { (held : List Value) (attributes : List Attribute) →
@@ -73,7 +84,8 @@ pub fn pools_grow()
 
 /// Attributes that were placed in pools are there, whatever was placed before and after them.
 pub fn pools_hold()
-    ensures { (held_keys : List (List ℕ)) (held_values : List Value) (front attributes back : List Attribute) →
+    ensures { (held_keys : List (List ℕ)) (held_values : List Value)
+        (front attributes back : List Attribute) →
         AllByRecursion (IsIn (key_pool held_keys (front ++ (attributes ++ back)))
         (value_pool held_values (front ++ (attributes ++ back)))) attributes }
 {}
@@ -81,15 +93,18 @@ pub fn pools_hold()
 /// The places of attributes name them.
 pub fn places_name()
     ensures names { (keys : List (List ℕ)) (values : List Value) (attributes : List Attribute) →
-        AllByRecursion (IsIn keys values) attributes → Names keys values (tags_in keys values attributes) attributes }
-    ensures small { (keys : List (List ℕ)) (values : List Value) (attributes : List Attribute) (bound : ℕ) →
+        AllByRecursion (IsIn keys values) attributes
+        → Names keys values (tags_in keys values attributes) attributes }
+    ensures small { (keys : List (List ℕ)) (values : List Value) (attributes : List Attribute)
+        (bound : ℕ) →
         AllByRecursion (IsIn keys values) attributes → length keys ≤ bound → length values ≤ bound →
         AllByRecursion (λ tag. tag < bound) (tags_in keys values attributes) }
 {}
 
 /// Tags stay when pools grow: what names attributes are their places, also in longer pools.
 pub fn tags_stay()
-    ensures { (keys more : List (List ℕ)) (values further : List Value) (tags : List ℕ) (attributes : List Attribute) →
+    ensures { (keys more : List (List ℕ)) (values further : List Value) (tags : List ℕ)
+        (attributes : List Attribute) →
         AreDistinct keys → AreDistinct values → Names keys values tags attributes →
         tags ≡ tags_in (keys ++ more) (values ++ further) attributes }
 {}

@@ -140,7 +140,8 @@ fn place_of<'k>(
     text: &'k str,
     index: usize,
 ) -> Result<usize, AllocError>
-    ensures place { IfOk result (λ place. place ≡ unwrap_or (place_in_map known.old text.now) index) }
+    ensures place { IfOk result (λ place. place ≡ unwrap_or
+        (place_in_map known.old text.now) index) }
     ensures known { IfOk result (λ place. (q : List ℕ) → place_in_map known.new q
         ≡ update bytes_eq (place_in_map known.old) text.now (Some place) q) }
 {

@@ -26,17 +26,21 @@ pub fn tags_of(
     values: &mut ValuePool,
 ) -> Result<Vec<u32>, PoolError>
     ensures tags { IfOk result (λ tags. Names keys.new values.new tags.items attributes.now) }
-    ensures positions { IfOk result (λ tags. tags.items ≡ tags_in keys.new values.new attributes.now) }
+    ensures positions { IfOk result
+        (λ tags. tags.items ≡ tags_in keys.new values.new attributes.now) }
 
     // Each pool gains the entries that it lacked, in order of first use.
     ensures keys { OnOk result (keys.new ≡ key_pool keys.old attributes.now) }
     ensures values { OnOk result (values.new ≡ value_pool values.old attributes.now) }
-    ensures left { OnErr result ((n : ℕ) × ArePlaced n attributes.now keys.old keys.new values.old values.new) }
+    ensures left { OnErr result ((n : ℕ)
+        × ArePlaced n attributes.now keys.old keys.new values.old values.new) }
 
     // `Full` says that a full pool has met an entry that is new, `Memory` that none has.
-    ensures full { IsErrOf result PoolError.Full → (length keys.new ≡ LIMIT) ⊎ (length values.new ≡ LIMIT) }
+    ensures full { IsErrOf result PoolError.Full → (length keys.new ≡ LIMIT)
+        ⊎ (length values.new ≡ LIMIT) }
     ensures too_many { IsErrOf result PoolError.Full
-        → (LIMIT < length (key_pool keys.old attributes.now)) ⊎ (LIMIT < length (value_pool values.old attributes.now)) }
+        → (LIMIT < length (key_pool keys.old attributes.now))
+        ⊎ (LIMIT < length (value_pool values.old attributes.now)) }
     ensures memory { IsErrOf result PoolError.Memory → (n : ℕ)
         × AreTold n attributes.now keys.old keys.new values.old values.new
         × ¬ (IsFullAt n attributes.now keys.new values.new) }
@@ -61,19 +65,24 @@ pub fn append_tags(
     last: &[u32],
     tags: &mut Vec<u32>,
 ) -> Result<(), PoolError>
-    ensures tags { OnOk result (tags.new.items ≡ tags.old.items ++ tags_in keys.new values.new attributes.now) }
-    ensures names { OnOk result (Names keys.new values.new (tags_in keys.new values.new attributes.now) attributes.now) }
+    ensures tags { OnOk result (tags.new.items
+        ≡ tags.old.items ++ tags_in keys.new values.new attributes.now) }
+    ensures names { OnOk result (Names keys.new values.new
+        (tags_in keys.new values.new attributes.now) attributes.now) }
     ensures tags_left { OnErr result ((more : List ℕ) × (tags.new.items ≡ tags.old.items ++ more)) }
 
     // Each pool gains the entries that it lacked, in order of first use.
     ensures keys { OnOk result (keys.new ≡ key_pool keys.old attributes.now) }
     ensures values { OnOk result (values.new ≡ value_pool values.old attributes.now) }
-    ensures left { OnErr result ((n : ℕ) × ArePlaced n attributes.now keys.old keys.new values.old values.new) }
+    ensures left { OnErr result ((n : ℕ)
+        × ArePlaced n attributes.now keys.old keys.new values.old values.new) }
 
     // `Full` says that a full pool has met an entry that is new, `Memory` that none has.
-    ensures full { IsErrOf result PoolError.Full → (length keys.new ≡ LIMIT) ⊎ (length values.new ≡ LIMIT) }
+    ensures full { IsErrOf result PoolError.Full → (length keys.new ≡ LIMIT)
+        ⊎ (length values.new ≡ LIMIT) }
     ensures too_many { IsErrOf result PoolError.Full
-        → (LIMIT < length (key_pool keys.old attributes.now)) ⊎ (LIMIT < length (value_pool values.old attributes.now)) }
+        → (LIMIT < length (key_pool keys.old attributes.now))
+        ⊎ (LIMIT < length (value_pool values.old attributes.now)) }
     ensures memory { IsErrOf result PoolError.Memory → (n : ℕ)
         × AreTold n attributes.now keys.old keys.new values.old values.new
         × (tags.new.items ≡ tags.old.items ++ tags_in keys.new values.new (take n attributes.now))

@@ -93,7 +93,8 @@ pub fn resolve(
 ) -> Result<Vec<Attribute>, TagError>
     ensures attributes { IfOk result (λ found. Resolved keys.now values.now tags.now found.items) }
     ensures ok { OnOk result (tag_fault keys.now values.now tags.now ≡ None) }
-    ensures err { IfErr result (λ error. Tells (fault_of error) (tag_fault keys.now values.now tags.now)) }
+    ensures err { IfErr result (λ error. Tells (fault_of error)
+        (tag_fault keys.now values.now tags.now)) }
 {
     resolve_in(alloc, &mut LayerKeys::new(alloc, keys), values, tags)
 }
@@ -113,7 +114,8 @@ pub fn resolve_in(
 ) -> Result<Vec<Attribute>, TagError>
     ensures attributes { IfOk result (λ found. Resolved keys.old values.now tags.now found.items) }
     ensures ok { OnOk result (tag_fault keys.old values.now tags.now ≡ None) }
-    ensures err { IfErr result (λ error. Tells (fault_of error) (tag_fault keys.old values.now tags.now)) }
+    ensures err { IfErr result (λ error. Tells (fault_of error)
+        (tag_fault keys.old values.now tags.now)) }
     ensures same { keys.new ≡ keys.old }
 {
     judge_tags(alloc, keys, values.len(), tags)?;

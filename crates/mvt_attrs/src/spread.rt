@@ -42,7 +42,8 @@ pub(crate) fn find_spread<T: Entry>(spread: &Spread<T>, entries: &[T], entry: &T
 fn find_second<T: Entry>(spread: &Spread<T>, entries: &[T], entry: &T) -> Spot
     requires known { IsSpread T.cmp T.hash_input spread.now entries.now }
     requires first { IsToldBy spread.now.slots.items
-        (first_slot T.hash_input (length spread.now.slots.items) entry.now) entries.now entry.now None }
+        (first_slot T.hash_input (length spread.now.slots.items) entry.now) entries.now entry.now
+        None }
     ensures { IsSpotOf entries.now entry.now (IsFreeFor T.hash_input spread.now entry.now) result }
 {
     let slots = spread.slots.as_slice();
@@ -110,7 +111,8 @@ pub(crate) fn add_spread<T: Entry>(
     requires known { IsSpread T.cmp T.hash_input spread.old entries.now }
     requires new { ¬ (Contains entries.now entry.now) }
     requires few { length entries.now + 1 < 2 ^ 32 }
-    ensures added { OnOk result (IsSpread T.cmp T.hash_input spread.new (entries.now ++ entry.now ∷ [])) }
+    ensures added { OnOk result (IsSpread T.cmp T.hash_input spread.new
+        (entries.now ++ entry.now ∷ [])) }
     ensures unchanged { OnErr result (IsSpread T.cmp T.hash_input spread.new entries.now) }
 {
     match find_spread(spread, entries, entry) {
@@ -132,7 +134,8 @@ pub(crate) fn note_spread<T: Entry>(
     requires new { ¬ (Contains entries.now entry.now) }
     requires free { IsFreeFor T.hash_input spread.old entry.now slot }
     requires few { length entries.now + 1 < 2 ^ 32 }
-    ensures added { OnOk result (IsSpread T.cmp T.hash_input spread.new (entries.now ++ entry.now ∷ [])) }
+    ensures added { OnOk result (IsSpread T.cmp T.hash_input spread.new
+        (entries.now ++ entry.now ∷ [])) }
     ensures unchanged { OnErr result (IsSpread T.cmp T.hash_input spread.new entries.now) }
 {
     let Some(slot) = slot else {
@@ -154,7 +157,8 @@ fn note_in_order<T: Entry>(
     requires new { ¬ (Contains entries.now entry.now) }
     requires taken { IsFreeFor T.hash_input spread.old entry.now None }
     requires few { length entries.now + 1 < 2 ^ 32 }
-    ensures added { OnOk result (IsSpread T.cmp T.hash_input spread.new (entries.now ++ entry.now ∷ [])) }
+    ensures added { OnOk result (IsSpread T.cmp T.hash_input spread.new
+        (entries.now ++ entry.now ∷ [])) }
     ensures unchanged { OnErr result (IsSpread T.cmp T.hash_input spread.new entries.now) }
 {
     spread

@@ -4,5 +4,6 @@ ghost use Rattle.mvt_base.specs.Rules.{Rules, AreOrdered, IsLeast, first};
 
 /// In a table in order, the fault listed first is that of the broken rule of least rank.
 pub fn first_is_least<F>()
-    ensures { (rules : Rules F) (fault : F) → AreOrdered rules → (first rules ≡ Some fault) ↔ IsLeast rules fault }
+    ensures { (rules : Rules F) (fault : F) → AreOrdered rules → (first rules ≡ Some fault)
+        ↔ IsLeast rules fault }
 {}

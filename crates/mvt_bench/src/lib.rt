@@ -40,8 +40,8 @@ pub extern "C" fn mvt_read_packed(alloc: Global, bytes: &[u8]) -> u64 {
     u64::from(first) + u64::from(last) + numbers.len() as u64
 }
 
-/// Reads a geometry, and counts its points and lists. 0 for integers that draw none, and for want of
-/// memory. Kinds are numbered as in a feature.
+/// Reads a geometry, and counts its points and lists. 0 for integers that draw none, and for want
+/// of memory. Kinds are numbered as in a feature.
 #[unsafe(no_mangle)]
 pub extern "C" fn mvt_read_geometry(alloc: Global, kind: u32, integers: &[u32]) -> u64 {
     let kind = match kind {

@@ -3,12 +3,8 @@ use Rattle.std.specs.Prelude.{◌≡◌, ℕ, ◌<◌, List, length, Any, Option
 use Rattle.mvt_base.specs.declared.TheConstants.{LIMIT}
 use Rattle.mvt_attrs.specs.declared.pool_error.PoolError.{PoolError}
 use Rattle.mvt_attrs.specs.declared.pool_error.PoolError.TheVariants as pools
-use Rattle.mvt_message.specs.declared.writing.PutError.{PutError}
-use Rattle.mvt_message.specs.declared.writing.PutError.TheVariants as put
 use Rattle.mvt_tile.specs.declared.fault.DecodeError.{DecodeError}
 use Rattle.mvt_tile.specs.declared.fault.DecodeError.TheVariants as decoding
-use Rattle.mvt_tile.specs.declared.extract_error.ExtractError.{ExtractError}
-use Rattle.mvt_tile.specs.declared.extract_error.ExtractError.TheVariants as extracting
 use Rattle.mvt_tile.specs.declared.fault.Fault.{Fault as TileFault}
 use Rattle.mvt_model.specs.declared.tile.Tile.{Tile}
 use Rattle.mvt_model.specs.CanonicalTiles.{canonical}
@@ -51,14 +47,6 @@ of_decode (decoding.Read kind) = Memory
 abbrev pub status_of_failure : Option DecodeError → ℕ
 status_of_failure None = 0
 status_of_failure (Some error) = status_of_refusal (of_decode error)
-
-abbrev pub of_put : PutError → Refusal
-of_put put.Memory = Memory
-of_put put.TooLarge = TooLarge
-
-abbrev pub of_extract : ExtractError → Refusal
-of_extract extracting.Memory = Memory
-of_extract (extracting.MissingLayer index) = NoLayer
 
 abbrev pub of_pool : PoolError → Refusal
 of_pool pools.Memory = Memory

@@ -8,7 +8,7 @@ use crate::fault::Fault;
 use crate::lent::Bytes;
 use crate::names::read_names;
 use crate::refusal::{Refusal, hand_out, tell};
-use mvt_tile::{decode, encode, extract, rewrite};
+use mvt_tile::{NamedLayers, extract_bytes, rewrite};
 use std::alloc::Global;
 
 /// The canonical bytes of a tile (`mvt_rewrite`).
@@ -63,10 +63,13 @@ pub extern "C" fn mvt_extract(
 }
 
 fn extracted(alloc: Global, bytes: &[u8], names: &[String]) -> Result<Vec<u8>, Refusal>
-    ensures done { IfOk result (λ made. IsExtracted bytes.now (map string_bytes names.now) made.items) }
+    ensures done { IfOk result (λ made. IsExtracted bytes.now
+        (map string_bytes names.now) made.items) }
     ensures refused { IfErr result (NotExtracted bytes.now (map string_bytes names.now)) }
 {
-    let tile = decode(alloc, bytes)?;
-    let picked = extract(alloc, &tile, names)?;
-    Ok(encode(alloc, &picked)?)
+    match extract_bytes(alloc, bytes, names)? {
+        NamedLayers::Bytes(made) => Ok(made),
+        NamedLayers::Missing(_) => Err(Refusal::NoLayer),
+        NamedLayers::TooLarge => Err(Refusal::TooLarge),
+    }
 }

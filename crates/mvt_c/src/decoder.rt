@@ -1,5 +1,5 @@
-//! A decoder that lives across calls: C keeps a handle, hands it to each call and takes it back. `library/free.c`
-//! answers an empty handle before it comes here.
+//! A decoder that lives across calls: C keeps a handle, hands it to each call and takes it back.
+//! `library/free.c` answers an empty handle before it comes here.
 ghost use Rattle.std.specs.Prelude.{◌≡◌, ◌≢◌, ◌≤◌, [], ◌++◌, ℕ, List, None, IsSome, IfOk, IfErr, IfSome};
 ghost use Rattle.mvt_tile.specs.Streams.{IsCalm, StandsFor};
 ghost use Rattle.mvt_tile.specs.TileRules.{fault_within};
@@ -20,8 +20,9 @@ use mvt_tile::TileDecoder;
 use std::alloc::Global;
 use std::mem;
 
-/// Puts a handle where C keeps it. The type says that a handle stood there; C hands over fresh memory, or a handle that it
-/// has just given away, so that what stood there is neither looked at nor dropped.
+/// Puts a handle where C keeps it. The type says that a handle stood there; C hands over fresh
+/// memory, or a handle that it has just given away, so that what stood there is neither looked at
+/// nor dropped.
 fn keep(held: Held, out: &mut Held)
     ensures { out.new.decoder ≡ held.decoder }
 {
@@ -78,7 +79,8 @@ pub extern "C" fn mvt_held_feed(
 }
 
 fn fed(decoder: &mut TileDecoder, piece: &[u8]) -> Result<(), Refusal>
-    ensures stands { (s : List ℕ) → StandsFor LIMIT decoder.old s → StandsFor LIMIT decoder.new (s ++ piece.now) }
+    ensures stands { (s : List ℕ) → StandsFor LIMIT decoder.old s
+        → StandsFor LIMIT decoder.new (s ++ piece.now) }
     ensures refused { IfErr result (λ refusal. (s : List ℕ) → StandsFor LIMIT decoder.old s
         → NotShown (s ++ piece.now) refusal) }
     ensures status { status_of result ≡ status_of_failure decoder.new.failure }
@@ -97,13 +99,18 @@ pub extern "C" fn mvt_held_finish(
     out: &mut Rows,
     fault: &mut Fault,
 ) -> u32
-    ensures done { result ≡ 0 → (s : List ℕ) → StandsFor LIMIT held.decoder.inner s → IsRead s (table_of out.new) }
-    ensures refused { result ≡ 1 → (s : List ℕ) → StandsFor LIMIT held.decoder.inner s → IsTold s fault.new }
-    ensures too_large { result ≡ 3 → (s : List ℕ) → StandsFor LIMIT held.decoder.inner s → IsTooLargeToRead s }
+    ensures done { result ≡ 0 → (s : List ℕ) → StandsFor LIMIT held.decoder.inner s
+        → IsRead s (table_of out.new) }
+    ensures refused { result ≡ 1 → (s : List ℕ) → StandsFor LIMIT held.decoder.inner s
+        → IsTold s fault.new }
+    ensures too_large { result ≡ 3 → (s : List ℕ) → StandsFor LIMIT held.decoder.inner s
+        → IsTooLargeToRead s }
     // A decoder that hasn't failed wants memory for the rows of a tile alone.
-    ensures memory { result ≡ 2 → held.decoder.inner.failure ≡ None → (s : List ℕ) → StandsFor LIMIT held.decoder.inner s
+    ensures memory { result ≡ 2 → held.decoder.inner.failure ≡ None → (s : List ℕ)
+        → StandsFor LIMIT held.decoder.inner s
         → IsAccepted s }
-    ensures kept { IfSome held.decoder.inner.failure (λ error. result ≡ status_of_refusal (of_decode error)) }
+    ensures kept { IfSome held.decoder.inner.failure
+        (λ error. result ≡ status_of_refusal (of_decode error)) }
     ensures few { result ≤ 3 }
     ensures out_kept { result ≢ 0 → out.new ≡ out.old }
     ensures fault_kept { result ≢ 1 → fault.new ≡ fault.old }
@@ -118,11 +125,15 @@ pub extern "C" fn mvt_held_finish(
 }
 
 fn finished(alloc: Global, decoder: Decoder) -> Result<Table, Refusal>
-    ensures done { IfOk result (λ table. (s : List ℕ) → StandsFor LIMIT decoder.inner s → IsRead s table) }
-    ensures refused { IfErr result (λ refusal. (s : List ℕ) → StandsFor LIMIT decoder.inner s → NotRead s refusal) }
-    ensures memory { status_of result ≡ 2 → decoder.inner.failure ≡ None → (s : List ℕ) → StandsFor LIMIT decoder.inner s
+    ensures done { IfOk result (λ table. (s : List ℕ) → StandsFor LIMIT decoder.inner s
+        → IsRead s table) }
+    ensures refused { IfErr result
+        (λ refusal. (s : List ℕ) → StandsFor LIMIT decoder.inner s → NotRead s refusal) }
+    ensures memory { status_of result ≡ 2 → decoder.inner.failure ≡ None → (s : List ℕ)
+        → StandsFor LIMIT decoder.inner s
         → IsAccepted s }
-    ensures kept { IfSome decoder.inner.failure (λ error. status_of result ≡ status_of_refusal (of_decode error)) }
+    ensures kept { IfSome decoder.inner.failure
+        (λ error. status_of result ≡ status_of_refusal (of_decode error)) }
     ensures few { IfErr result (λ refusal. status_of_refusal refusal ≤ 3) }
 {
     let Decoder { inner } = decoder;

@@ -5,7 +5,7 @@ ghost use Rattle.mvt_c.specs.Calls.{status_of, status_of_refusal, TellsFault};
 use crate::fault::Fault;
 use crate::lent::Bytes;
 use mvt_attrs::PoolError;
-use mvt_tile::{DecodeError, ExtractError, Fault as TileFault, PutError};
+use mvt_tile::{DecodeError, Fault as TileFault};
 use mvt_view::ViewError;
 use std::alloc::{AllocError, AllocFailed};
 
@@ -47,34 +47,6 @@ impl From<DecodeError> for Refusal {
             DecodeError::Memory => Refusal::Memory,
             DecodeError::Fault(fault) => Refusal::Refused(fault),
             DecodeError::Read(_) => Refusal::Memory,
-        }
-    }
-}
-
-impl From<PutError> for Refusal {
-    ghost use Rattle.std.specs.Prelude.{◌≡◌};
-    ghost use Rattle.mvt_c.specs.Calls.{of_put};
-
-    ghost from_gives = { λ error refusal. refusal ≡ of_put error };
-
-    fn from(error: PutError) -> Self {
-        match error {
-            PutError::Memory => Refusal::Memory,
-            PutError::TooLarge => Refusal::TooLarge,
-        }
-    }
-}
-
-impl From<ExtractError> for Refusal {
-    ghost use Rattle.std.specs.Prelude.{◌≡◌};
-    ghost use Rattle.mvt_c.specs.Calls.{of_extract};
-
-    ghost from_gives = { λ error refusal. refusal ≡ of_extract error };
-
-    fn from(error: ExtractError) -> Self {
-        match error {
-            ExtractError::Memory => Refusal::Memory,
-            ExtractError::MissingLayer(_) => Refusal::NoLayer,
         }
     }
 }

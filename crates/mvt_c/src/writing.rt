@@ -19,7 +19,8 @@ pub extern "C" fn mvt_write(alloc: Global, rows: &Rows, out: &mut Bytes) -> u32
     ensures out_kept { result ≢ 0 → out.new ≡ out.old }
 
     // The rows are one tile at most.
-    ensures one { (tile other : Tile) → IsTileOf (table_of rows.now) tile → IsTileOf (table_of rows.now) other
+    ensures one { (tile other : Tile) → IsTileOf (table_of rows.now) tile
+        → IsTileOf (table_of rows.now) other
         → tile ≡ other }
 {
     match write_rows(alloc, rows) {

@@ -39,8 +39,8 @@ const NOTHING_DRAWN: &str = concat!(
     ".points{stroke-width:1%}.polygons{fill:currentColor;fill-opacity:.2;fill-rule:evenodd}</style>\n</svg>\n"
 );
 
-// How a run's devices behave: the most bytes in a call, the first read and the first write that fail,
-// whether the flush fails, and the room of the writer.
+// How a run's devices behave: the most bytes in a call, the first read and the first write that
+// fail, whether the flush fails, and the room of the writer.
 #[derive(Clone, Copy)]
 struct Streams {
     step: usize,
@@ -147,7 +147,8 @@ fn expect(
     Ok(found)
 }
 
-// A command on an input in hexadecimal digits, over sound devices. A complete output is flushed once.
+// A command on an input in hexadecimal digits, over sound devices. A complete output is flushed
+// once.
 fn answers(
     rt: &(impl Abort + AllocGlobal),
     words: &[&str],

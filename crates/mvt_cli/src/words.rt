@@ -126,7 +126,8 @@ pub fn read_words(alloc: Global, words: &[String]) -> Result<Asked, Refusal>
     ensures task { IfOk result (λ asked. asked.task ≡ task_in (map string_bytes words.now)) }
     ensures files { IfOk result (λ asked. asked.files ≡ files_in (map string_bytes words.now)) }
     ensures ok { OnOk result (faults_in (map string_bytes words.now) ≡ []) }
-    ensures usage { IfErr result (λ refusal. IsUsage refusal → faults_in (map string_bytes words.now) ≢ []) }
+    ensures usage { IfErr result (λ refusal. IsUsage refusal
+        → faults_in (map string_bytes words.now) ≢ []) }
 {
     if words.is_empty() {
         let files = Names::new(Vec::new(alloc));

@@ -38,8 +38,10 @@ pub(crate) fn read_known(
 ) -> Result<Known, MessageError>
     requires { payload_at + length payload.now < 2 ^ 64 }
     ensures whole { OnOk result ((split payload.now).rest ≡ []) }
-    ensures ok { OnOk result (first (each (λ _. feature_field_rules payload_at) [] (split payload.now).fields) ≡ None) }
-    ensures known { IfOk result (λ known. IsKnown (split payload.now).fields known scratch.new.tags.items scratch.new.integers.items) }
+    ensures ok { OnOk result (first
+        (each (λ _. feature_field_rules payload_at) [] (split payload.now).fields) ≡ None) }
+    ensures known { IfOk result (λ known. IsKnown
+        (split payload.now).fields known scratch.new.tags.items scratch.new.integers.items) }
     ensures err { IfErr result (λ error. Tells (fault_of error) (option_or
         (first (rest_rules payload_at (split payload.now)))
         (first (each (λ _. feature_field_rules payload_at) [] (split payload.now).fields)))) }
@@ -66,16 +68,22 @@ impl Known {
     /// What is known with one more field, which is told to stand at this place.
     #[inline(always)]
     fn with(self, field: &Field<'_>, at: u64, scratch: &mut Scratch) -> Result<Known, MessageError>
-        ensures ok { OnOk result (first (feature_form_rules field.now.number (content_of field.now.payload)) ≡ None) }
-        ensures id { IfOk result (λ known. known.id ≡ id_after self.id field.now.number (content_of field.now.payload)) }
-        ensures kind { IfOk result (λ known. known.kind ≡ kind_after self.kind field.now.number (content_of field.now.payload)) }
+        ensures ok { OnOk result (first
+            (feature_form_rules field.now.number (content_of field.now.payload)) ≡ None) }
+        ensures id { IfOk result (λ known. known.id ≡ id_after self.id field.now.number
+            (content_of field.now.payload)) }
+        ensures kind { IfOk result (λ known. known.kind ≡ kind_after self.kind field.now.number
+            (content_of field.now.payload)) }
         ensures tags { OnOk result
-            (scratch.new.tags.items ≡ scratch.old.tags.items ++ numbers_at TAGS field.now.number (content_of field.now.payload)) }
+            (scratch.new.tags.items ≡ scratch.old.tags.items ++ numbers_at TAGS field.now.number
+            (content_of field.now.payload)) }
         ensures integers { OnOk result
-            (scratch.new.integers.items ≡ scratch.old.integers.items ++ numbers_at GEOMETRY field.now.number
+            (scratch.new.integers.items ≡ scratch.old.integers.items
+            ++ numbers_at GEOMETRY field.now.number
             (content_of field.now.payload)) }
         ensures err { IfErr result (λ error. Tells (fault_of error)
-            (option_map (the_fault_at at) (first (feature_form_rules field.now.number (content_of field.now.payload))))) }
+            (option_map (the_fault_at at) (first
+            (feature_form_rules field.now.number (content_of field.now.payload))))) }
     {
         let payload = &field.payload;
         let mut known = self;
@@ -109,7 +117,8 @@ fn kind_of_payload(payload: &Payload<'_>, at: u64) -> Result<Kind, MessageError>
     ensures kind { IfOk result (λ kind. kind ≡ kind_of_type (number_of (content_of payload.now))) }
     ensures ok { OnOk result (first (form_rules geom_type (content_of payload.now)) ≡ None) }
     ensures err { IfErr result
-        (λ error. Tells (fault_of error) (option_map (the_fault_at at) (first (form_rules geom_type (content_of payload.now))))) }
+        (λ error. Tells (fault_of error)
+        (option_map (the_fault_at at) (first (form_rules geom_type (content_of payload.now))))) }
 {
     let Payload::Varint(number) = payload else {
         return Err(fault_at(at, Cause::WrongType));
@@ -130,10 +139,12 @@ fn append_numbers(
     at: u64,
     numbers: &mut Vec<u32>,
 ) -> Result<(), MessageError>
-    ensures numbers { OnOk result (numbers.new.items ≡ numbers.old.items ++ numbers_of (content_of payload.now)) }
+    ensures numbers { OnOk result (numbers.new.items ≡ numbers.old.items ++ numbers_of
+        (content_of payload.now)) }
     ensures ok { OnOk result (first (list_rules (content_of payload.now)) ≡ None) }
     ensures err { IfErr result
-        (λ error. Tells (fault_of error) (option_map (the_fault_at at) (first (list_rules (content_of payload.now))))) }
+        (λ error. Tells (fault_of error)
+        (option_map (the_fault_at at) (first (list_rules (content_of payload.now))))) }
 {
     match payload {
         Payload::Varint(number) => {

@@ -30,18 +30,21 @@ ghost use Rattle.mvt_feature.specs.ValueIn.{value_in};
 ghost use Rattle.mvt_feature.specs.ValueRules.{value_rules, value_fault};
 ghost use Rattle.mvt_feature.specs.Walks.{Walk};
 
-/// The fields of a feature, and those of a value, have the standard's numbers (4.1). Definitions and
-/// code name the constants, so this alone refuses another number.
+/// The fields of a feature, and those of a value, have the standard's numbers (4.1). Definitions
+/// and code name the constants, so this alone refuses another number.
 pub fn field_numbers()
     ensures feature { (ID ≡ 1) × (TAGS ≡ 2) × (TYPE ≡ 3) × (GEOMETRY ≡ 4) }
-    ensures value { (STRING ≡ 1) × (FLOAT ≡ 2) × (DOUBLE ≡ 3) × (INT ≡ 4) × (UINT ≡ 5) × (SINT ≡ 6) × (BOOL ≡ 7) }
+    ensures value { (STRING ≡ 1) × (FLOAT ≡ 2) × (DOUBLE ≡ 3) × (INT ≡ 4) × (UINT ≡ 5) × (SINT ≡ 6)
+        × (BOOL ≡ 7) }
 {}
 
 /// A payload without a fault is just one value, and a payload that is a value has no fault.
 pub fn value_or_fault()
-    ensures there { (payload : List ℕ) (payload_at tag_at : ℕ) → value_fault payload payload_at tag_at ≡ None
+    ensures there { (payload : List ℕ) (payload_at tag_at : ℕ)
+        → value_fault payload payload_at tag_at ≡ None
         → (value : Value) × IsValueOf payload value }
-    ensures clean { (payload : List ℕ) (payload_at tag_at : ℕ) (value : Value) → IsValueOf payload value
+    ensures clean { (payload : List ℕ) (payload_at tag_at : ℕ) (value : Value)
+        → IsValueOf payload value
         → value_fault payload payload_at tag_at ≡ None }
     ensures once { (payload : List ℕ) (value other : Value) → IsValueOf payload value
         → IsValueOf payload other → value ≡ other }
@@ -49,75 +52,101 @@ pub fn value_or_fault()
 
 /// The value of a payload that is one is `value_in` of it.
 pub fn value_function()
-    ensures { (payload : List ℕ) (value : Value) → IsValueOf payload value → value_in payload ≡ Some value }
+    ensures { (payload : List ℕ) (value : Value) → IsValueOf payload value
+        → value_in payload ≡ Some value }
 {}
 
 /// The fault of a value is that of the broken rule of least rank.
 pub fn value_fault_is_least()
-    ensures ordered { (payload : List ℕ) (payload_at tag_at : ℕ) → AreOrdered (value_rules payload payload_at tag_at) }
+    ensures ordered { (payload : List ℕ) (payload_at tag_at : ℕ)
+        → AreOrdered (value_rules payload payload_at tag_at) }
     ensures least { (payload : List ℕ) (payload_at tag_at : ℕ) (fault : MessageFault) →
-        (value_fault payload payload_at tag_at ≡ Some fault) ↔ IsLeast (value_rules payload payload_at tag_at) fault }
+        (value_fault payload payload_at tag_at ≡ Some fault)
+        ↔ IsLeast (value_rules payload payload_at tag_at) fault }
 {}
 
 /// A payload without a fault is just one feature, and a payload that is a feature has no fault.
 pub fn feature_or_fault()
-    ensures there { (payload : List ℕ) (payload_at : ℕ) (keys : List (List ℕ)) (values : List Value) →
-        feature_fault payload payload_at keys values ≡ None → (feature : Feature) × IsFeatureOf payload keys values feature }
-    ensures clean { (payload : List ℕ) (payload_at : ℕ) (keys : List (List ℕ)) (values : List Value) (feature : Feature) →
-        IsFeatureOf payload keys values feature → feature_fault payload payload_at keys values ≡ None }
-    ensures once { (payload : List ℕ) (keys : List (List ℕ)) (values : List Value) (feature other : Feature) →
-        IsFeatureOf payload keys values feature → IsFeatureOf payload keys values other → feature ≡ other }
+    ensures there { (payload : List ℕ) (payload_at : ℕ) (keys : List (List ℕ))
+        (values : List Value) →
+        feature_fault payload payload_at keys values ≡ None → (feature : Feature)
+        × IsFeatureOf payload keys values feature }
+    ensures clean { (payload : List ℕ) (payload_at : ℕ) (keys : List (List ℕ)) (values : List Value)
+        (feature : Feature) →
+        IsFeatureOf payload keys values feature
+        → feature_fault payload payload_at keys values ≡ None }
+    ensures once { (payload : List ℕ) (keys : List (List ℕ)) (values : List Value)
+        (feature other : Feature) →
+        IsFeatureOf payload keys values feature → IsFeatureOf payload keys values other
+        → feature ≡ other }
 {}
 
 /// The fault of a feature is that of the broken rule of least rank.
 pub fn feature_fault_is_least()
-    ensures ordered { (payload : List ℕ) (payload_at : ℕ) (keys : List (List ℕ)) (values : List Value) →
+    ensures ordered { (payload : List ℕ) (payload_at : ℕ) (keys : List (List ℕ))
+        (values : List Value) →
         AreOrdered (feature_rules payload payload_at keys values) }
-    ensures least { (payload : List ℕ) (payload_at : ℕ) (keys : List (List ℕ)) (values : List Value) (fault : MessageFault) →
-        (feature_fault payload payload_at keys values ≡ Some fault) ↔ IsLeast (feature_rules payload payload_at keys values) fault }
+    ensures least { (payload : List ℕ) (payload_at : ℕ) (keys : List (List ℕ)) (values : List Value)
+        (fault : MessageFault) →
+        (feature_fault payload payload_at keys values ≡ Some fault)
+        ↔ IsLeast (feature_rules payload payload_at keys values) fault }
 {}
 
 /// What is written for a valid value reads as that value, and what is written for a valid feature,
 /// with tags that name its attributes, reads as that feature.
 pub fn canonical_reads()
-    ensures value { (value : Value) → ValidValue value → length (spelled (value_fields value)) < 2 ^ 64
+    ensures value { (value : Value) → ValidValue value
+        → length (spelled (value_fields value)) < 2 ^ 64
         → IsValueOf (spelled (value_fields value)) value }
-    ensures feature { (keys : List (List ℕ)) (values : List Value) (tags : List ℕ) (feature : Feature) →
-        ValidFeature feature → Names keys values tags feature.attributes → AllByRecursion (λ tag. tag < 2 ^ 32) tags
+    ensures feature { (keys : List (List ℕ)) (values : List Value) (tags : List ℕ)
+        (feature : Feature) →
+        ValidFeature feature → Names keys values tags feature.attributes
+        → AllByRecursion (λ tag. tag < 2 ^ 32) tags
         → length (spelled (feature_fields tags feature)) < 2 ^ 64
         → IsFeatureOf (spelled (feature_fields tags feature)) keys values feature }
 {}
 
 /// The payload of a feature, with tags of 32 bits, takes no more bytes than its bound says.
 pub fn bound_holds()
-    ensures { (keys : List (List ℕ)) (values : List Value) (feature : Feature) → IsValid feature.geometry
+    ensures { (keys : List (List ℕ)) (values : List Value) (feature : Feature)
+        → IsValid feature.geometry
         → AllByRecursion (λ tag. tag < 2 ^ 32) (tags_in keys values feature.attributes)
-        → length (spelled (feature_fields (tags_in keys values feature.attributes) feature)) ≤ feature_bound feature }
+        → length (spelled (feature_fields
+        (tags_in keys values feature.attributes) feature)) ≤ feature_bound feature }
 {}
 
 /// What bytes are read as is valid; a feature, where the keys and the values of its layer are.
 pub fn read_is_valid()
-    ensures fields { (payload : List ℕ) (fields : List Entry) → AreBytes payload → Whole payload fields
+    ensures fields { (payload : List ℕ) (fields : List Entry) → AreBytes payload
+        → Whole payload fields
         → AllByRecursion (λ (x : Entry). IsInRange x.content) fields }
-    ensures value { (payload : List ℕ) (value : Value) → AreBytes payload → IsValueOf payload value → ValidValue value }
-    ensures feature { (payload : List ℕ) (keys : List (List ℕ)) (values : List Value) (feature : Feature) →
+    ensures value { (payload : List ℕ) (value : Value) → AreBytes payload → IsValueOf payload value
+        → ValidValue value }
+    ensures feature { (payload : List ℕ) (keys : List (List ℕ)) (values : List Value)
+        (feature : Feature) →
         AreBytes payload → AllByRecursion IsUtf8 keys → AllByRecursion ValidValue values
         → IsFeatureOf payload keys values feature → ValidFeature feature }
 {}
 
 /// Fields break no rule of their forms exactly where they have them, and these rules are in order.
 pub fn forms()
-    ensures have { (forms : List (ℕ × Form)) (payload_at : ℕ) (fields : List Entry) → AllByRecursion (IsFirst forms) forms
-        → first (each (λ _. forms_rules forms payload_at) [] fields) ≡ None → HaveForms forms fields }
-    ensures clean { (forms : List (ℕ × Form)) (payload_at : ℕ) (fields : List Entry) → HaveForms forms fields
+    ensures have { (forms : List (ℕ × Form)) (payload_at : ℕ) (fields : List Entry)
+        → AllByRecursion (IsFirst forms) forms
+        → first (each (λ _. forms_rules forms payload_at) [] fields) ≡ None
+        → HaveForms forms fields }
+    ensures clean { (forms : List (ℕ × Form)) (payload_at : ℕ) (fields : List Entry)
+        → HaveForms forms fields
         → first (each (λ _. forms_rules forms payload_at) [] fields) ≡ None }
-    ensures ordered { (forms : List (ℕ × Form)) (payload_at : ℕ) (x : Entry) → AreOrdered (forms_rules forms payload_at x) }
+    ensures ordered { (forms : List (ℕ × Form)) (payload_at : ℕ) (x : Entry)
+        → AreOrdered (forms_rules forms payload_at x) }
 {}
 
 /// A rest has no fault exactly where no bytes are left, and its rules are in order.
 pub fn rests()
-    ensures none { (payload_at : ℕ) (parts : Parts) → parts.rest ≡ [] → first (rest_rules payload_at parts) ≡ None }
-    ensures nothing { (payload_at : ℕ) (parts : Parts) → first (rest_rules payload_at parts) ≡ None → parts.rest ≡ [] }
+    ensures none { (payload_at : ℕ) (parts : Parts) → parts.rest ≡ []
+        → first (rest_rules payload_at parts) ≡ None }
+    ensures nothing { (payload_at : ℕ) (parts : Parts) → first (rest_rules payload_at parts) ≡ None
+        → parts.rest ≡ [] }
     ensures ordered { (payload_at : ℕ) (parts : Parts) → AreOrdered (rest_rules payload_at parts) }
 {}
 
@@ -126,19 +155,26 @@ pub fn rests()
 pub fn walks()
     ensures start { (payload : List ℕ) (it : Parts) → it ≡ split payload
         → it.rest_at + length it.rest ≡ length payload → Walk payload it [] }
-    ensures step { (payload : List ℕ) (old new : Parts) (done : List Entry) (field : Field) → Walk payload old done
+    ensures step { (payload : List ℕ) (old new : Parts) (done : List Entry) (field : Field)
+        → Walk payload old done
         → GivesEntry old (Some (Ok field)) new → Walk payload new (done ++ entry_of field ∷ []) }
-    ensures fits { (payload : List ℕ) (old new : Parts) (done : List Entry) (field : Field) (payload_at : ℕ)
-        → Walk payload old done → GivesEntry old (Some (Ok field)) new → payload_at + length payload < 2 ^ 64
+    ensures fits { (payload : List ℕ) (old new : Parts) (done : List Entry) (field : Field)
+        (payload_at : ℕ)
+        → Walk payload old done → GivesEntry old (Some (Ok field)) new
+        → payload_at + length payload < 2 ^ 64
         → payload_at + field.at < 2 ^ 64 }
     ensures end { (payload : List ℕ) (old new : Parts) (done : List Entry) → Walk payload old done
         → GivesEntry old None new → ((split payload).fields ≡ done) × ((split payload).rest ≡ []) }
-    ensures fault_fits { (payload : List ℕ) (old new : Parts) (done : List Entry) (fault : WireFault) (payload_at : ℕ)
-        → Walk payload old done → GivesEntry old (Some (Err fault)) new → payload_at + length payload < 2 ^ 64
-        → payload_at + fault.at < 2 ^ 64 }
-    ensures fault { (payload : List ℕ) (old new : Parts) (done : List Entry) (fault : WireFault) (payload_at : ℕ)
+    ensures fault_fits { (payload : List ℕ) (old new : Parts) (done : List Entry)
+        (fault : WireFault) (payload_at : ℕ)
         → Walk payload old done → GivesEntry old (Some (Err fault)) new
-        → first (rest_rules payload_at (split payload)) ≡ Some (fault_at (payload_at + fault.at) (of_wire fault.cause)) }
+        → payload_at + length payload < 2 ^ 64
+        → payload_at + fault.at < 2 ^ 64 }
+    ensures fault { (payload : List ℕ) (old new : Parts) (done : List Entry) (fault : WireFault)
+        (payload_at : ℕ)
+        → Walk payload old done → GivesEntry old (Some (Err fault)) new
+        → first (rest_rules payload_at (split payload)) ≡ Some
+        (fault_at (payload_at + fault.at) (of_wire fault.cause)) }
 {}
 
 /// One more field is the last of its number.

@@ -33,7 +33,8 @@ pub fn read_feature(
     requires { payload_at + length payload.now < 2 ^ 64 }
     ensures feature { IfOk result (IsFeatureOf payload.now keys.now values.now) }
     ensures ok { OnOk result (feature_fault payload.now payload_at keys.now values.now ≡ None) }
-    ensures err { IfErr result (λ error. Tells (fault_of error) (feature_fault payload.now payload_at keys.now values.now)) }
+    ensures err { IfErr result (λ error. Tells (fault_of error)
+        (feature_fault payload.now payload_at keys.now values.now)) }
 {
     let mut keys = LayerKeys::new(alloc, keys);
     let mut scratch = Scratch::new(alloc);
@@ -58,7 +59,8 @@ pub fn read_feature_in(
     requires { payload_at + length payload.now < 2 ^ 64 }
     ensures feature { IfOk result (IsFeatureOf payload.now keys.old values.now) }
     ensures ok { OnOk result (feature_fault payload.now payload_at keys.old values.now ≡ None) }
-    ensures err { IfErr result (λ error. Tells (fault_of error) (feature_fault payload.now payload_at keys.old values.now)) }
+    ensures err { IfErr result (λ error. Tells (fault_of error)
+        (feature_fault payload.now payload_at keys.old values.now)) }
     ensures same { keys.new ≡ keys.old }
 {
     let known = read_known(payload, payload_at, scratch)?;

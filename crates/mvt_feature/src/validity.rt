@@ -63,7 +63,8 @@ fn have_distinct_keys(attributes: &[Attribute]) -> bool
 /// The same by a set of the keys so far.
 fn have_keys_apart(alloc: Global, attributes: &[Attribute]) -> Result<bool, AllocError>
     ensures distinct { IfOk result (λ distinct. IsTrue distinct ↔ HasDistinctKeys attributes.now) }
-    ensures valid { IfOk result (λ distinct. IsTrue distinct → AllByRecursion ValidAttribute attributes.now) }
+    ensures valid { IfOk result (λ distinct. IsTrue distinct
+        → AllByRecursion ValidAttribute attributes.now) }
 {
     let mut keys = BTreeSet::new(alloc);
     for attribute in attributes {

@@ -40,7 +40,8 @@ pub fn read_value(
     requires { payload_at + length payload.now < 2 ^ 64 }
     ensures value { IfOk result (IsValueOf payload.now) }
     ensures ok { OnOk result (value_fault payload.now payload_at tag_at ≡ None) }
-    ensures err { IfErr result (λ error. Tells (fault_of error) (value_fault payload.now payload_at tag_at)) }
+    ensures err { IfErr result (λ error. Tells (fault_of error)
+        (value_fault payload.now payload_at tag_at)) }
     ensures memory { IsErrOf result MessageError.Memory
         → (text : List ℕ) × IsValueOf payload.now (values.Text text) × (14 < length text) }
 {
@@ -55,7 +56,8 @@ pub fn read_value(
 pub fn judge_value(payload: &[u8], payload_at: u64, tag_at: u64) -> Result<(), MessageError>
     requires { payload_at + length payload.now < 2 ^ 64 }
     ensures ok { OnOk result (value_fault payload.now payload_at tag_at ≡ None) }
-    ensures err { IfErr result (λ error. Tells (fault_of error) (value_fault payload.now payload_at tag_at)) }
+    ensures err { IfErr result (λ error. Tells (fault_of error)
+        (value_fault payload.now payload_at tag_at)) }
     ensures never { IsErrOf result MessageError.Memory → ⊥ }
 {
     read_meaning(payload, payload_at, tag_at)?;
@@ -68,7 +70,8 @@ fn read_meaning(payload: &[u8], payload_at: u64, tag_at: u64) -> Result<Meaning<
     requires { payload_at + length payload.now < 2 ^ 64 }
     ensures value { IfOk result (λ meaning. IsValueOf payload.now (value_of meaning)) }
     ensures ok { OnOk result (value_fault payload.now payload_at tag_at ≡ None) }
-    ensures err { IfErr result (λ error. Tells (fault_of error) (value_fault payload.now payload_at tag_at)) }
+    ensures err { IfErr result (λ error. Tells (fault_of error)
+        (value_fault payload.now payload_at tag_at)) }
     ensures never { IsErrOf result MessageError.Memory → ⊥ }
 {
     match read_kinds(payload, payload_at)? {
@@ -104,7 +107,8 @@ enum Meaning<'a> {
 fn read_kinds(payload: &[u8], payload_at: u64) -> Result<Kinds<'_>, MessageError>
     requires { payload_at + length payload.now < 2 ^ 64 }
     ensures whole { OnOk result ((split payload.now).rest ≡ []) }
-    ensures ok { OnOk result (first (each (λ _. value_field_rules payload_at) [] (split payload.now).fields) ≡ None) }
+    ensures ok { OnOk result (first
+        (each (λ _. value_field_rules payload_at) [] (split payload.now).fields) ≡ None) }
     ensures kinds { IfOk result (AreKinds (split payload.now).fields) }
     ensures err { IfErr result (λ error. Tells (fault_of error) (option_or
         (first (rest_rules payload_at (split payload.now)))
@@ -143,7 +147,8 @@ impl<'a> Kinds<'a> {
 impl Meaning<'_> {
     fn into_value(self, alloc: Global) -> Result<Value, AllocError>
         ensures same { IfOk result (λ value. value ≡ value_of self.entry) }
-        ensures memory { OnErr result ((text : List ℕ) × (value_of self.entry ≡ values.Text text) × (14 < length text)) }
+        ensures memory { OnErr result ((text : List ℕ) × (value_of self.entry ≡ values.Text text)
+            × (14 < length text)) }
     {
         match self {
             Meaning::Text(text) => Ok(Value::Text(Text::from_str(alloc, text)?)),
@@ -160,11 +165,14 @@ impl Meaning<'_> {
 /// What a field says, if it is of one of the seven kinds.
 #[inline(always)]
 fn meaning_of<'a>(field: &Field<'a>) -> Result<Option<Meaning<'a>>, Cause>
-    ensures ok { OnOk result (first (number_rules value_forms field.now.number (content_of field.now.payload)) ≡ None) }
+    ensures ok { OnOk result (first
+        (number_rules value_forms field.now.number (content_of field.now.payload)) ≡ None) }
     ensures means { IfOk result (λ meaning. MatchOption meaning
         (is_kind (entry_of field.now) ≡ false)
-        (λ m. (is_kind (entry_of field.now) ≡ true) × Means field.now.number (content_of field.now.payload) (value_of m))) }
-    ensures err { IfErr result (λ cause. first (number_rules value_forms field.now.number (content_of field.now.payload)) ≡ Some cause) }
+        (λ m. (is_kind (entry_of field.now) ≡ true)
+        × Means field.now.number (content_of field.now.payload) (value_of m))) }
+    ensures err { IfErr result (λ cause. first
+        (number_rules value_forms field.now.number (content_of field.now.payload)) ≡ Some cause) }
 {
     let payload = &field.payload;
     let meaning = match field.number {
@@ -189,7 +197,8 @@ fn meaning_of<'a>(field: &Field<'a>) -> Result<Option<Meaning<'a>>, Cause>
 pub fn text_of<'a>(payload: &Payload<'a>) -> Result<&'a str, Cause>
     ensures text { IfOk result (λ text. content_of payload.now ≡ bytes text.now) }
     ensures ok { OnOk result (first (form_rules string (content_of payload.now)) ≡ None) }
-    ensures err { IfErr result (λ cause. first (form_rules string (content_of payload.now)) ≡ Some cause) }
+    ensures err { IfErr result (λ cause. first (form_rules string (content_of payload.now))
+        ≡ Some cause) }
 {
     let Payload::Len(bytes) = payload else {
         return Err(Cause::WrongType);
@@ -203,7 +212,8 @@ pub fn text_of<'a>(payload: &Payload<'a>) -> Result<&'a str, Cause>
 fn fixed32_of(payload: &Payload<'_>) -> Result<u32, Cause>
     ensures number { IfOk result (λ n. content_of payload.now ≡ fixed32 n) }
     ensures ok { OnOk result (first (form_rules float (content_of payload.now)) ≡ None) }
-    ensures err { IfErr result (λ cause. first (form_rules float (content_of payload.now)) ≡ Some cause) }
+    ensures err { IfErr result (λ cause. first (form_rules float (content_of payload.now))
+        ≡ Some cause) }
 {
     let Payload::I32(number) = payload else {
         return Err(Cause::WrongType);
@@ -214,7 +224,8 @@ fn fixed32_of(payload: &Payload<'_>) -> Result<u32, Cause>
 fn fixed64_of(payload: &Payload<'_>) -> Result<u64, Cause>
     ensures number { IfOk result (λ n. content_of payload.now ≡ fixed64 n) }
     ensures ok { OnOk result (first (form_rules double (content_of payload.now)) ≡ None) }
-    ensures err { IfErr result (λ cause. first (form_rules double (content_of payload.now)) ≡ Some cause) }
+    ensures err { IfErr result (λ cause. first (form_rules double (content_of payload.now))
+        ≡ Some cause) }
 {
     let Payload::I64(number) = payload else {
         return Err(Cause::WrongType);
@@ -230,7 +241,8 @@ fn fixed64_of(payload: &Payload<'_>) -> Result<u64, Cause>
 pub fn varint_of(payload: &Payload<'_>) -> Result<u64, Cause>
     ensures number { IfOk result (λ n. content_of payload.now ≡ varint n) }
     ensures ok { OnOk result (first (form_rules any_varint (content_of payload.now)) ≡ None) }
-    ensures err { IfErr result (λ cause. first (form_rules any_varint (content_of payload.now)) ≡ Some cause) }
+    ensures err { IfErr result (λ cause. first (form_rules any_varint (content_of payload.now))
+        ≡ Some cause) }
 {
     let Payload::Varint(number) = payload else {
         return Err(Cause::WrongType);

@@ -25,7 +25,8 @@ pub fn rest_fault(payload_at: u64, fault: WireFault) -> MessageError
 pub(crate) fn rest_fault_or(payload: &[u8], payload_at: u64, error: MessageError) -> MessageError
     requires { payload_at + length payload.now < 2 ^ 64 }
     ensures told { (fault : Option MessageFault) → Tells (fault_of error) fault
-        → Tells (fault_of result) (option_or (first (rest_rules payload_at (split payload.now))) fault) }
+        → Tells (fault_of result) (option_or
+        (first (rest_rules payload_at (split payload.now))) fault) }
     ensures memory { result ≡ MessageError.Memory → error ≡ MessageError.Memory }
 {
     for field in Fields::new(payload) {

@@ -69,9 +69,11 @@ pub fn append_feature(
 ) -> Result<(), PoolError>
     requires { IsValid feature.now.geometry }
     ensures ok { OnOk result (out.new.items ≡ out.old.items
-        ++ spelled (feature_fields (tags_in keys.new values.new feature.now.attributes) feature.now)) }
+        ++ spelled (feature_fields (tags_in keys.new values.new feature.now.attributes)
+        feature.now)) }
     ensures names { OnOk result
-        (Names keys.new values.new (tags_in keys.new values.new feature.now.attributes) feature.now.attributes) }
+        (Names keys.new values.new (tags_in keys.new values.new feature.now.attributes)
+        feature.now.attributes) }
 
     // Each pool gains the entries that it lacked, in order of first use.
     ensures keys { OnOk result (keys.new ≡ key_pool keys.old feature.now.attributes) }
@@ -81,7 +83,8 @@ pub fn append_feature(
         ((n : ℕ) × ArePlaced n feature.now.attributes keys.old keys.new values.old values.new) }
 
     // `Full` says that a full pool has met an entry that is new, `Memory` that none has.
-    ensures full { IsErrOf result PoolError.Full → (length keys.new ≡ LIMIT) ⊎ (length values.new ≡ LIMIT) }
+    ensures full { IsErrOf result PoolError.Full → (length keys.new ≡ LIMIT)
+        ⊎ (length values.new ≡ LIMIT) }
     ensures too_many { IsErrOf result PoolError.Full →
         (LIMIT < length (key_pool keys.old feature.now.attributes))
         ⊎ (LIMIT < length (value_pool values.old feature.now.attributes)) }
@@ -148,7 +151,8 @@ fn append_tags_field(out: &mut Vec<u8>, tags: &[u32]) -> Result<(), AllocError>
 }
 
 fn append_drawing(out: &mut Vec<u8>, kind: Kind, integers: &PackedNumbers) -> Result<(), AllocError>
-    ensures ok { OnOk result (out.new.items ≡ out.old.items ++ spelled (drawing_fields kind integers.now)) }
+    ensures ok { OnOk result (out.new.items ≡ out.old.items ++ spelled
+        (drawing_fields kind integers.now)) }
     ensures left { OnErr result (Extends out.old.items out.new.items) }
 {
     put_field(out, feature::TYPE, &Payload::Varint(type_number(kind)))?;

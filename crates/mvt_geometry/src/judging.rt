@@ -49,7 +49,8 @@ pub fn judge_geometry(kind: Kind, integers: &[u32]) -> Result<(), GeometryError>
 /// How many lines or polygons the integers draw, or the first broken rule.
 pub(crate) fn judge(kind: Kind, integers: &[u32]) -> Result<usize, Fault>
     ensures ok { OnOk result (geometry_fault kind integers.now ≡ None) }
-    ensures count { IfOk result (λ n. (g : Geometry) → Draws kind integers.now g → n ≡ part_count g) }
+    ensures count { IfOk result (λ n. (g : Geometry) → Draws kind integers.now g
+        → n ≡ part_count g) }
     ensures err { IfErr result (λ f. geometry_fault kind integers.now ≡ Some (f.index, f.cause)) }
 {
     if kind == Kind::Unknown {
@@ -72,8 +73,10 @@ pub(crate) fn judge(kind: Kind, integers: &[u32]) -> Result<usize, Fault>
 fn judge_points(integers: &[u32]) -> Result<usize, Fault>
     requires { 0 < length integers.now }
     ensures ok { OnOk result (geometry_fault Kind.Point integers.now ≡ None) }
-    ensures count { IfOk result (λ n. (g : Geometry) → Draws Kind.Point integers.now g → n ≡ part_count g) }
-    ensures err { IfErr result (λ f. geometry_fault Kind.Point integers.now ≡ Some (f.index, f.cause)) }
+    ensures count { IfOk result (λ n. (g : Geometry) → Draws Kind.Point integers.now g
+        → n ≡ part_count g) }
+    ensures err { IfErr result (λ f. geometry_fault Kind.Point integers.now ≡ Some
+        (f.index, f.cause)) }
 {
     let pen = Pen {
         at: 0,
@@ -92,8 +95,10 @@ fn judge_points(integers: &[u32]) -> Result<usize, Fault>
 fn judge_lines(integers: &[u32]) -> Result<usize, Fault>
     requires { 0 < length integers.now }
     ensures ok { OnOk result (geometry_fault Kind.LineString integers.now ≡ None) }
-    ensures count { IfOk result (λ n. (g : Geometry) → Draws Kind.LineString integers.now g → n ≡ part_count g) }
-    ensures err { IfErr result (λ f. geometry_fault Kind.LineString integers.now ≡ Some (f.index, f.cause)) }
+    ensures count { IfOk result (λ n. (g : Geometry) → Draws Kind.LineString integers.now g
+        → n ≡ part_count g) }
+    ensures err { IfErr result (λ f. geometry_fault Kind.LineString integers.now ≡ Some
+        (f.index, f.cause)) }
 {
     let mut pen = Pen {
         at: 0,
@@ -111,8 +116,10 @@ fn judge_lines(integers: &[u32]) -> Result<usize, Fault>
 fn judge_polygons(integers: &[u32]) -> Result<usize, Fault>
     requires { 0 < length integers.now }
     ensures ok { OnOk result (geometry_fault Kind.Polygon integers.now ≡ None) }
-    ensures count { IfOk result (λ n. (g : Geometry) → Draws Kind.Polygon integers.now g → n ≡ part_count g) }
-    ensures err { IfErr result (λ f. geometry_fault Kind.Polygon integers.now ≡ Some (f.index, f.cause)) }
+    ensures count { IfOk result (λ n. (g : Geometry) → Draws Kind.Polygon integers.now g
+        → n ≡ part_count g) }
+    ensures err { IfErr result (λ f. geometry_fault Kind.Polygon integers.now ≡ Some
+        (f.index, f.cause)) }
 {
     let mut pen = Pen {
         at: 0,
@@ -136,10 +143,13 @@ fn judge_ring(integers: &[u32], pen: Pen) -> Result<(Pen, i128), Fault>
     ensures ok { IfOk result (λ r. (k : ℕ) → k % 3 ≡ 0
         → Reached Kind.Polygon integers.now k pen.at pen.cursor
         → Reached Kind.Polygon integers.now (k + 3) r.0.at r.0.cursor) }
-    ensures ring { IfOk result (λ r. (k : ℕ) (p : Point) (ps : List Point) (more : List ℕ) → k % 3 ≡ 0
-        → Reached Kind.Polygon integers.now k pen.at pen.cursor → IsStroke 3 (p ∷ ps) → AreSteps pen.cursor (p ∷ ps)
+    ensures ring { IfOk result (λ r. (k : ℕ) (p : Point) (ps : List Point) (more : List ℕ)
+        → k % 3 ≡ 0
+        → Reached Kind.Polygon integers.now k pen.at pen.cursor → IsStroke 3 (p ∷ ps)
+        → AreSteps pen.cursor (p ∷ ps)
         → drop pen.at integers.now ≡ stroke (15 ∷ []) pen.cursor (p ∷ ps) ++ more
-        → (r.1 ≡ area2 (p ∷ ps)) × (drop r.0.at integers.now ≡ more) × (r.0.cursor ≡ last_of p ps)) }
+        → (r.1 ≡ area2 (p ∷ ps)) × (drop r.0.at integers.now ≡ more)
+        × (r.0.cursor ≡ last_of p ps)) }
     ensures err { IfErr result (λ f. (k : ℕ) → k % 3 ≡ 0
         → Reached Kind.Polygon integers.now k pen.at pen.cursor
         → geometry_fault Kind.Polygon integers.now ≡ Some (f.index, f.cause)) }
@@ -173,9 +183,11 @@ fn judge_command(kind: Kind, command: Command, integers: &[u32], pen: Pen) -> Re
     requires has_pairs { command ≢ Command.ClosePath }
     ensures further { IfOk result (λ next. (pen.at < next.at) × (next.at ≤ length integers.now)) }
     ensures ok { IfOk result (λ next. (k : ℕ) → due kind k ≡ Some command
-        → Reached kind integers.now k pen.at pen.cursor → Reached kind integers.now (suc k) next.at next.cursor) }
+        → Reached kind integers.now k pen.at pen.cursor
+        → Reached kind integers.now (suc k) next.at next.cursor) }
     ensures err { IfErr result (λ f. (k : ℕ) → due kind k ≡ Some command
-        → Reached kind integers.now k pen.at pen.cursor → (pen.at ≡ length integers.now → may_not_end kind k ≡ true)
+        → Reached kind integers.now k pen.at pen.cursor
+        → (pen.at ≡ length integers.now → may_not_end kind k ≡ true)
         → geometry_fault kind integers.now ≡ Some (f.index, f.cause)) }
 {
     let count = judge_header(kind, command, integers, pen.at)?;
@@ -190,9 +202,12 @@ fn judge_command(kind: Kind, command: Command, integers: &[u32], pen: Pen) -> Re
 fn judge_header(kind: Kind, command: Command, integers: &[u32], at: usize) -> Result<usize, Fault>
     requires { at ≤ length integers.now }
     ensures ok { OnOk result (IsHeader kind command integers.now at) }
-    ensures count { IfOk result (λ n. n ≡ pair_count (Some command) (slice_index integers.now at / 8)) }
-    ensures err { IfErr result (λ f. (must_not : Bool) → (at ≡ length integers.now → must_not ≡ true)
-        → first (rows (header_rows must_not kind (Some command) integers.now at)) ≡ Some (f.index, f.cause)) }
+    ensures count { IfOk result (λ n. n ≡ pair_count (Some command)
+        (slice_index integers.now at / 8)) }
+    ensures err { IfErr result (λ f. (must_not : Bool)
+        → (at ≡ length integers.now → must_not ≡ true)
+        → first (rows (header_rows must_not kind (Some command) integers.now at)) ≡ Some
+        (f.index, f.cause)) }
 {
     let Some(integer) = integers.get(at) else {
         return Err(Fault {
@@ -229,10 +244,12 @@ fn judge_header(kind: Kind, command: Command, integers: &[u32], at: usize) -> Re
 /// The cursor behind pairs, the first of which is numbered `begin`.
 fn judge_pairs(is_line: bool, begin: usize, from: Point, parameters: &[u32]) -> Result<Point, Fault>
     requires { begin + length parameters.now < 2 ^ 64 }
-    ensures ok { OnOk result (first (each (pair_rules is_line begin from) [] (pairs_of parameters.now)) ≡ None) }
+    ensures ok { OnOk result (first
+        (each (pair_rules is_line begin from) [] (pairs_of parameters.now)) ≡ None) }
     ensures cursor { IfOk result (λ to. to ≡ moved from (pairs_of parameters.now)) }
     ensures err { IfErr result (λ f.
-        first (each (pair_rules is_line begin from) [] (pairs_of parameters.now)) ≡ Some (f.index, f.cause)) }
+        first (each (pair_rules is_line begin from) [] (pairs_of parameters.now)) ≡ Some
+        (f.index, f.cause)) }
 {
     let mut x = from.x;
     let mut y = from.y;
@@ -252,12 +269,14 @@ fn judge_pairs(is_line: bool, begin: usize, from: Point, parameters: &[u32]) -> 
 /// The cursor behind pairs of a ring, and what its edges add to twice the area.
 fn judge_edges(begin: usize, from: Point, parameters: &[u32]) -> Result<(Point, i128), Fault>
     requires { begin + length parameters.now < 2 ^ 64 }
-    ensures ok { OnOk result (first (each (pair_rules true begin from) [] (pairs_of parameters.now)) ≡ None) }
+    ensures ok { OnOk result (first (each (pair_rules true begin from) [] (pairs_of parameters.now))
+        ≡ None) }
     ensures cursor { IfOk result (λ r. r.0 ≡ moved from (pairs_of parameters.now)) }
     ensures area { IfOk result (λ r. r.1 ≡ edges from (positions from (pairs_of parameters.now))) }
     ensures small { IfOk result (λ r. unsigned_abs r.1 ≤ length parameters.now * 2 ^ 62) }
     ensures err { IfErr result (λ f.
-        first (each (pair_rules true begin from) [] (pairs_of parameters.now)) ≡ Some (f.index, f.cause)) }
+        first (each (pair_rules true begin from) [] (pairs_of parameters.now)) ≡ Some
+        (f.index, f.cause)) }
 {
     let mut x = from.x;
     let mut y = from.y;
@@ -282,9 +301,11 @@ fn judge_edges(begin: usize, from: Point, parameters: &[u32]) -> Result<(Point, 
 fn step_fault(is_line: bool, at: usize, from: Point, dx: u32, dy: u32) -> Option<Fault>
     requires { at + 1 < 2 ^ 64 }
     ensures none { let d : Pair = record { dx = dx; dy = dy } in
-        IfNone result ((first (step_rules is_line at d (stepped from d)) ≡ None) × IsPlace (stepped from d)) }
+        IfNone result ((first (step_rules is_line at d (stepped from d)) ≡ None)
+        × IsPlace (stepped from d)) }
     ensures some { let d : Pair = record { dx = dx; dy = dy } in
-        IfSome result (λ f. first (step_rules is_line at d (stepped from d)) ≡ Some (f.index, f.cause)) }
+        IfSome result (λ f. first (step_rules is_line at d (stepped from d)) ≡ Some
+        (f.index, f.cause)) }
 {
     let cause = GeometryCause::ParameterRange;
     if dx == REFUSED {

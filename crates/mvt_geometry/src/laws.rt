@@ -13,12 +13,14 @@ ghost use Rattle.mvt_geometry.specs.Table.{IndexedCause, geometry_rules, geometr
 
 /// Integers draw at most one geometry.
 pub fn one_geometry()
-    ensures { (kind : Kind) (ints : List ℕ) (g h : Geometry) → Draws kind ints g → Draws kind ints h → g ≡ h }
+    ensures { (kind : Kind) (ints : List ℕ) (g h : Geometry) → Draws kind ints g → Draws kind ints h
+        → g ≡ h }
 {}
 
 /// Integers that draw a geometry have no fault.
 pub fn drawn_is_faultless()
-    ensures { (kind : Kind) (ints : List ℕ) (g : Geometry) → Draws kind ints g → geometry_fault kind ints ≡ None }
+    ensures { (kind : Kind) (ints : List ℕ) (g : Geometry) → Draws kind ints g
+        → geometry_fault kind ints ≡ None }
 {}
 
 /// Integers of 32 bits without a fault draw a geometry.

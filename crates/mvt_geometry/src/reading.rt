@@ -32,7 +32,8 @@ pub fn read_geometry(alloc: Global, kind: Kind, integers: &[u32]) -> Result<Geom
     ensures err { IfErr result (λ e. Tells e (geometry_fault kind integers.now)) }
     ensures found { (g : Geometry) → Draws kind integers.now g
         → (result ≡ Ok g) ⊎ (result ≡ Err GeometryError.Memory) }
-    ensures memory { result ≡ Err GeometryError.Memory → (g : Geometry) × Draws kind integers.now g }
+    ensures memory { result ≡ Err GeometryError.Memory → (g : Geometry)
+        × Draws kind integers.now g }
 {
     let count = judge(kind, integers)?;
     Ok(build(alloc, kind, integers, count)?)
@@ -70,8 +71,10 @@ fn build_lines(
     integers: &[u32],
     count: usize,
 ) -> Result<Vec<Items<Point>>, AllocError>
-    requires { (ls : List (List Point)) × SpellLines [] origin integers.now ls × (count ≡ length ls) }
-    ensures { (ls : List (List Point)) → SpellLines [] origin integers.now ls → IfOk result (λ r. r.items ≡ ls) }
+    requires { (ls : List (List Point)) × SpellLines [] origin integers.now ls
+        × (count ≡ length ls) }
+    ensures { (ls : List (List Point)) → SpellLines [] origin integers.now ls
+        → IfOk result (λ r. r.items ≡ ls) }
 {
     let mut lines = Vec::with_capacity(alloc, count)?;
     let mut cursor = ORIGIN;
@@ -86,7 +89,8 @@ fn build_lines(
 }
 
 fn build_polygons(alloc: Global, integers: &[u32], count: usize) -> Result<Vec<Polygon>, AllocError>
-    requires { (rings : List (List Point)) × SpellRings integers.now rings × (count ≡ length (polygons_of rings)) }
+    requires { (rings : List (List Point)) × SpellRings integers.now rings
+        × (count ≡ length (polygons_of rings)) }
     ensures { (rings : List (List Point)) → SpellRings integers.now rings
         → IfOk result (λ r. r.items ≡ polygons_of rings) }
 {
@@ -198,7 +202,8 @@ fn build_ring<'a>(alloc: Global, from: Point, integers: &'a [u32]) -> Result<Lin
 /// Appends the points that pairs lead to, and answers the last.
 fn push_path(points: &mut Vec<Point>, from: Point, parameters: &[u32]) -> Result<Point, AllocError>
     requires { ArePlaces (positions from (pairs_of parameters.now)) }
-    ensures points { OnOk result (points.new.items ≡ points.old.items ++ positions from (pairs_of parameters.now)) }
+    ensures points { OnOk result (points.new.items ≡ points.old.items ++ positions from
+        (pairs_of parameters.now)) }
     ensures last { IfOk result (λ last. last ≡ moved from (pairs_of parameters.now)) }
 {
     let mut cursor = from;

@@ -17,7 +17,8 @@ const MOST_POINTS: usize = 536_870_912;
 
 /// Whether some integers draw the geometry.
 pub fn is_valid_geometry(geometry: &Geometry) -> bool
-    ensures drawn { IsTrue result ↔ ((kind : Kind) × (ints : List ℕ) × Draws kind ints geometry.now) }
+    ensures drawn { IsTrue result ↔
+        ((kind : Kind) × (ints : List ℕ) × Draws kind ints geometry.now) }
     ensures valid { IsTrue result ↔ IsValid geometry.now }
 {
     can_be_drawn(geometry)
@@ -75,7 +76,8 @@ fn are_polygons(polygons: &[Polygon]) -> bool
 
 /// The last point of a polygon; None where none can be drawn from the cursor.
 fn polygon_end(from: Point, polygon: &Polygon, is_first: bool) -> Option<Point>
-    ensures some { IfSome result (λ last. IsPolygonFrom is_first from polygon.now × (last ≡ end_of_polygon from polygon.now)) }
+    ensures some { IfSome result (λ last. IsPolygonFrom is_first from polygon.now
+        × (last ≡ end_of_polygon from polygon.now)) }
     ensures none { IfNone result (IsPolygonFrom is_first from polygon.now → ⊥) }
 {
     let outer = polygon.outer.as_slice();
@@ -109,7 +111,8 @@ fn are_inner(rings: &[Items<Point>]) -> bool
 /// The last point of lines; None where they can't be drawn from the cursor.
 fn lines_end(from: Point, lines: &[Items<Point>], least: usize) -> Option<Point>
     requires { 0 < least }
-    ensures some { IfSome result (λ last. AreLinesFrom least from lines.now × (last ≡ end_of_lines from lines.now)) }
+    ensures some { IfSome result (λ last. AreLinesFrom least from lines.now
+        × (last ≡ end_of_lines from lines.now)) }
     ensures none { IfNone result (AreLinesFrom least from lines.now → ⊥) }
 {
     let mut cursor = from;
@@ -122,7 +125,8 @@ fn lines_end(from: Point, lines: &[Items<Point>], least: usize) -> Option<Point>
 /// The last point of a line; None where it can't be drawn from the cursor.
 fn line_end(from: Point, line: &[Point], least: usize) -> Option<Point>
     requires { 0 < least }
-    ensures some { IfSome result (λ last. IsLineFrom least from line.now × (last ≡ last_of from line.now)) }
+    ensures some { IfSome result (λ last. IsLineFrom least from line.now
+        × (last ≡ last_of from line.now)) }
     ensures none { IfNone result (IsLineFrom least from line.now → ⊥) }
 {
     if line.len() < least || line.len() > MOST_POINTS {
@@ -135,7 +139,8 @@ fn line_end(from: Point, line: &[Point], least: usize) -> Option<Point>
 
 /// The last point of a path; None where it can't be drawn from the cursor.
 fn path_end(from: Point, points: &[Point], is_line: bool) -> Option<Point>
-    ensures some { IfSome result (λ last. IsPath is_line from points.now × (last ≡ last_of from points.now)) }
+    ensures some { IfSome result (λ last. IsPath is_line from points.now
+        × (last ≡ last_of from points.now)) }
     ensures none { IfNone result (IsPath is_line from points.now → ⊥) }
 {
     let mut cursor = from;

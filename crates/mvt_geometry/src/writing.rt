@@ -38,7 +38,8 @@ pub fn append_geometry<N: NumberList>(
     integers: &mut N,
 ) -> Result<(), AllocError>
     requires { IsValid geometry.now }
-    ensures integers { OnOk result (N.numbers integers.new ≡ N.numbers integers.old ++ drawn geometry.now) }
+    ensures integers { OnOk result
+        (N.numbers integers.new ≡ N.numbers integers.old ++ drawn geometry.now) }
     ensures integers_left { OnErr result
         ((more : List ℕ) × (N.numbers integers.new ≡ N.numbers integers.old ++ more)) }
 {
@@ -115,7 +116,8 @@ fn put_line<N: NumberList>(
 ) -> Result<Point, AllocError>
     requires steps { AreSteps from line.now }
     requires short { IsShort line.now }
-    ensures integers { OnOk result (N.numbers integers.new ≡ N.numbers integers.old ++ stroke (ending is_ring) from line.now) }
+    ensures integers { OnOk result
+        (N.numbers integers.new ≡ N.numbers integers.old ++ stroke (ending is_ring) from line.now) }
     ensures left { OnErr result (Extends (N.numbers integers.old) (N.numbers integers.new)) }
     ensures last { IfOk result (λ last. last ≡ last_of from line.now) }
 {
@@ -138,7 +140,8 @@ fn put_path<N: NumberList>(
     points: &[Point],
 ) -> Result<Point, AllocError>
     requires { AreSteps from points.now }
-    ensures integers { OnOk result (N.numbers integers.new ≡ N.numbers integers.old ++ path_from from points.now) }
+    ensures integers { OnOk result
+        (N.numbers integers.new ≡ N.numbers integers.old ++ path_from from points.now) }
     ensures left { OnErr result (Extends (N.numbers integers.old) (N.numbers integers.new)) }
     ensures last { IfOk result (λ last. last ≡ last_of from points.now) }
 {

@@ -24,7 +24,12 @@ impl Failures {
     }
 
     pub(crate) fn add(&mut self, kind: ErrorKind)
-        ensures { self.new ≡ record { count = counted self.old.count; last = Some kind; ended = true } }
+        ensures { self.new ≡ record {
+          count = counted self.old.count;
+          last = Some kind;
+          ended =
+              true;
+        } }
     {
         self.count = self.count.saturating_add(1);
         self.last = Some(kind);

@@ -5,7 +5,8 @@ ghost use Rattle.mvt_io.specs.Transfers.{TakesPrefix};
 
 /// A writer that took nothing took a front of any bytes.
 pub fn nothing_is_a_prefix()
-    ensures { (old new : Option (List ℕ)) (bytes : List ℕ) → Keeps old new → TakesPrefix old new bytes }
+    ensures { (old new : Option (List ℕ)) (bytes : List ℕ) → Keeps old new
+        → TakesPrefix old new bytes }
 {}
 
 /// A front of some bytes, taken after those before them, is a front of the whole.

@@ -32,7 +32,8 @@ pub trait Sink {
         ensures ended { ended self.new ≡ write_fails result piece.now }
         ensures flushes { flushes self.new ≡ flushes self.old }
         ensures failed { failed self.new
-            ≡ (if write_fails result piece.now then counted (failed self.old) else failed self.old) };
+            ≡ (if write_fails result piece.now then counted
+            (failed self.old) else failed self.old) };
 
     /// Passes on what was taken, if the writer keeps it back.
     fn flush(&mut self) -> Result<(), ErrorKind>

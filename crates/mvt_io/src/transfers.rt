@@ -21,7 +21,8 @@ pub fn read_up_to<R: Source>(
     reader: &mut R,
     most: usize,
 ) -> Result<Vec<u8>, ReadError>
-    ensures front { IfOk result (λ bytes. Consumes (R.left reader.old) (R.left reader.new) bytes.items) }
+    ensures front { IfOk result (λ bytes. Consumes (R.left reader.old)
+        (R.left reader.new) bytes.items) }
     ensures bytes { IfOk result (λ bytes. IfSome (R.left reader.old)
         (λ left. bytes.items ≡ take most left)) }
     ensures short { IfOk result (λ bytes. length bytes.items < most → IsAtEnd (R.left reader.new)) }
@@ -63,7 +64,8 @@ pub fn read_up_to<R: Source>(
 pub fn write_all<W: Sink>(writer: &mut W, bytes: &[u8]) -> Result<(), ErrorKind>
     ensures taken { OnOk result (Appends (W.taken writer.old) (W.taken writer.new) bytes.now) }
     ensures honest { OnOk result (W.failed writer.new ≡ W.failed writer.old) }
-    ensures prefix { OnErr result (TakesPrefix (W.taken writer.old) (W.taken writer.new) bytes.now) }
+    ensures prefix { OnErr result (TakesPrefix (W.taken writer.old)
+        (W.taken writer.new) bytes.now) }
     ensures failed { OnErr result (HasFailed (W.failed writer.old) (W.failed writer.new)) }
     ensures ended { OnErr result (W.ended writer.new ≡ true) }
     ensures kind { IfErr result (λ kind. W.fault writer.new ≡ Some kind) }

@@ -11,3 +11,4 @@ mod PutLemmas
 mod LenLemmas
 mod HeldLemmas
 mod BoundLemmas
+mod VisitLemmas

@@ -1,7 +1,7 @@
 -- The steps of the walks over a layer's fields.
 use Rattle.std.proofs.Common.{◌≡◌, ◌≢◌, ℕ, ◌+◌, ◌^◌, ◌<◌, ◌≤◌, ◌==◌, Bool, true, false, List, [], ◌∷◌, ◌++◌, length, map, Option, Some, None, Result, Ok, Err, refl, sym, ap, ap₂, ◌∙◌, subst, append_assoc, append-nil, arith, if◌then◌else◌, length-append}
 use Rattle.std.specs.Prelude.{is_none, unwrap_or}
-use Rattle.std.specs.Option.{option_map, option_to_list, is_some}
+use Rattle.std.specs.Option.{option_map}
 use Rattle.std.specs.Result.{is_err}
 use Rattle.std.proofs.lemmas.Bool.{eq-eqb, ne_eqb}
 use Rattle.std.proofs.lemmas.List.{map-append}
@@ -32,10 +32,10 @@ use Rattle.mvt_feature.specs.Causes.{of_wire}
 use Rattle.mvt_message.specs.declared.numbers.layer.TheConstants.{NAME, FEATURES, KEYS, VALUES, EXTENT, VERSION}
 use Rattle.mvt_message.specs.declared.item.Layer.{Layer as ALayer}
 use Rattle.mvt_message.specs.declared.item.Item.TheVariants.{Layer, Foreign}
-use Rattle.mvt_message.specs.LayerFields.{version_forms, layer_forms, bytes_of, version_in, is_two, name_in, extent_in, keys_in, values_in}
-use Rattle.mvt_message.specs.ItemRules.{version_rules, layer_field_rules, feature_rules_of, item_fault, payload_names}
+use Rattle.mvt_message.specs.LayerFields.{version_forms, layer_forms, bytes_of, version_in, name_in, extent_in, keys_in, values_in}
+use Rattle.mvt_message.specs.ItemRules.{version_rules, layer_field_rules, feature_rules_of, item_fault}
 use Rattle.mvt_message.specs.Items.{HoldsValue, HoldsFeature, IsLayer, IsItem}
-use Rattle.mvt_message.specs.Inner.{rest_fault, versions_fault, forms_fault, no_name_fault, values_fault, features_fault, head_fault, layer_fault, IsVersionSoFar, OrFault, IsHead, name_after, extent_after, keys_at, AreValuesSoFar}
+use Rattle.mvt_message.specs.Inner.{rest_fault, versions_fault, forms_fault, no_name_fault, values_fault, features_fault, head_fault, layer_fault, IsVersionSoFar, IsHead, name_after, extent_after, keys_at, AreValuesSoFar}
 use Rattle.mvt_message.proofs.ChainLemmas.{item_chain, layer_chain}
 use Rattle.mvt_message.proofs.FormLemmas.{versions_form}
 use Rattle.mvt_message.proofs.SaidLemmas.{values_said}
@@ -128,17 +128,6 @@ pub fault_stays : (fault : List Entry → Option MessageFault) (done : List Entr
     → Tells (fault_of e) (fault ((done ++ x ∷ []) ++ more))
 fault_stays fault done x e stays more = subst (λ xs. Tells (fault_of e) (fault xs))
     (sym (append_assoc done (x ∷ []) more)) (stays (x ∷ more))
-
--- where there is no fault, what the fields say holds
-pub or_clean : (fault : List Entry → Option MessageFault) (Say : List Entry → Type 0) (done : List Entry) (kept : Option MessageError)
-    → false ≡ is_some kept → OrFault fault Say done kept → Say done
-or_clean fault Say done None none h = h
-or_clean fault Say done (Some e) none h = absurd (let clash : false ≡ true = none in cc)
-
-pub or_said : (fault : List Entry → Option MessageFault) (Say : List Entry → Type 0) (done : List Entry) (kept : Option MessageError)
-    → false ≡ is_some kept → Say done → OrFault fault Say done kept
-or_said fault Say done None none h = h
-or_said fault Say done (Some e) none h = absurd (let clash : false ≡ true = none in cc)
 
 -- at the end of a walk a fault is that of all fields
 pub or_told : (fault : List Entry → Option MessageFault) (done : List Entry) (e : MessageError)
@@ -387,16 +376,3 @@ pub other_item : (payload : List ℕ) (payload_at tag_at n : ℕ) (content : Lis
 other_item payload payload_at tag_at n content head version other is =
     let parts = head_clean payload payload_at tag_at head in
     item_from payload (Foreign n content) parts.0 parts.1 (version, other, is)
-
--- the names of a payload
-pub names_of_layer : (payload name : List ℕ) → version_in (split payload).fields ≡ Some 2 → Some name ≡ name_in (split payload).fields
-    → payload_names payload ≡ name ∷ []
-unfolding payload_names
-names_of_layer payload name version is =
-    ap (λ o. if is_two o then option_to_list (name_in (split payload).fields) else []) version ∙ ap option_to_list (sym is)
-
-pub names_of_other : (payload : List ℕ) (n : ℕ) → version_in (split payload).fields ≡ Some n → n ≢ 2 → payload_names payload ≡ []
-unfolding payload_names
-names_of_other payload n version other =
-    ap (λ o. if is_two o then option_to_list (name_in (split payload).fields) else []) version
-    ∙ ap (λ b. if b then option_to_list (name_in (split payload).fields) else []) (ne_eqb n 2 other)

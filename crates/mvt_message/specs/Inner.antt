@@ -1,6 +1,5 @@
 -- Definitions between private functions, which no public contract cites.
-use Rattle.std.specs.Prelude.{◌≡◌, ℕ, ◌==◌, Bool, List, [], ◌∷◌, ◌++◌, length, Option, Some, None, Result, is_none, unwrap_or, ⊤, if◌then◌else◌}
-use Rattle.std.specs.Bool.{OnTrue}
+use Rattle.std.specs.Prelude.{◌≡◌, ℕ, ◌==◌, List, [], ◌∷◌, ◌++◌, length, Option, Some, None, Result, Ok, Err, is_none, unwrap_or, ⊤, if◌then◌else◌}
 use Rattle.std.specs.Option.{option_or, option_copied}
 use Rattle.mvt_base.specs.Tells.{Tells}
 use Rattle.mvt_base.specs.Related.{AreRelated}
@@ -18,7 +17,7 @@ use Rattle.mvt_feature.specs.Walks.{IsSoFar}
 use Rattle.mvt_feature.specs.Selection.{only, last_only}
 use Rattle.mvt_message.specs.declared.numbers.layer.TheConstants.{NAME, FEATURES, KEYS, VALUES, EXTENT, VERSION}
 use Rattle.mvt_message.specs.declared.front.Front.{Front}
-use Rattle.mvt_message.specs.declared.item.Layer.{Layer as ALayer}
+use Rattle.mvt_message.specs.declared.head.Head.{Head}
 use Rattle.mvt_message.specs.ItemRules.{version_rules, layer_field_rules, value_rules_of, feature_rules_of, layer_table}
 use Rattle.mvt_message.specs.Items.{HoldsValue, HoldsFeature}
 use Rattle.mvt_message.specs.LayerFields.{bytes_of, version_in, name_in, extent_in, keys_in}
@@ -69,9 +68,9 @@ abbrev pub keys_at : ℕ → Content → List (List ℕ)
 keys_at number content = if number == KEYS then bytes_of content ∷ [] else []
 
 -- what the fields so far say, or the first fault that they have, which stays whatever fields follow
-abbrev pub OrFault : (List Entry → Option MessageFault) → (List Entry → Type 0) → List Entry → Option MessageError → Type 0
-OrFault fault Say done None = Say done
-OrFault fault Say done (Some error) = (more : List Entry) → Tells (fault_of error) (fault (done ++ more))
+abbrev pub OrFault : {K : Type 0} → (List Entry → Option MessageFault) → (List Entry → K → Type 0) → List Entry → Result K MessageError → Type 0
+OrFault fault Say done (Ok k) = Say done k
+OrFault fault Say done (Err error) = (more : List Entry) → Tells (fault_of error) (fault (done ++ more))
 
 -- the name, the extent and the keys by fields that break no rule
 pub record IsHead (payload_at : ℕ) (name : Option (List ℕ)) (extent : ℕ) (keys : List (List ℕ)) (fields : List Entry) : Type 0 where
@@ -80,8 +79,11 @@ pub record IsHead (payload_at : ℕ) (name : Option (List ℕ)) (extent : ℕ) (
   pub extent_is : extent ≡ extent_in fields
   pub keys_are : keys ≡ keys_in fields
 
-abbrev pub IsHeadSoFar : ℕ → List Entry → Option MessageError → Option (List ℕ) → ℕ → List (List ℕ) → Type 0
-IsHeadSoFar payload_at done fault name extent keys = OrFault (forms_fault payload_at) (IsHead payload_at name extent keys) done fault
+abbrev pub IsHeadOf : ℕ → List Entry → Head → Type 0
+IsHeadOf payload_at fields head = IsHead payload_at (option_copied head.name) head.extent head.keys.items fields
+
+abbrev pub IsHeadSoFar : ℕ → List Entry → Result Head MessageError → Type 0
+IsHeadSoFar payload_at done head = OrFault (forms_fault payload_at) (IsHeadOf payload_at) done head
 
 -- the values, and the features, by the fields so far
 abbrev pub AreValuesSoFar : ℕ → List Entry → List Value → Type 0
@@ -91,36 +93,27 @@ abbrev pub AreFeaturesSoFar : ℕ → List (List ℕ) → List Value → List En
 AreFeaturesSoFar payload_at keys values done features =
     (features_fault payload_at keys values done ≡ None) × AreRelated (HoldsFeature keys values) (only FEATURES done) features
 
--- things that are counted, and kept where that is wanted
-abbrev pub AreHeld : {A : Type 0} → Bool → List A → ℕ → List A → Type 0
-AreHeld keep things count kept = (count ≡ length things) × OnTrue keep (kept ≡ things)
-
-pub record AreValuesHeld (keep : Bool) (payload_at : ℕ) (done : List Entry) (count : ℕ) (kept : List Value) : Type 0 where
+-- values that are counted, and that a visitor has
+pub record AreValuesHeld (Has : List Value → Type 0) (payload_at : ℕ) (done : List Entry) (count : ℕ) : Type 0 where
   pub values : List Value
   pub so_far : AreValuesSoFar payload_at done values
-  pub held : AreHeld keep values count kept
+  pub counted : count ≡ length values
+  pub has : Has values
 
-abbrev pub AreValuesSaid : Bool → ℕ → List Entry → Option MessageError → ℕ → List Value → Type 0
-AreValuesSaid keep payload_at done fault count kept =
-    OrFault (values_fault payload_at) (λ fields. AreValuesHeld keep payload_at fields count kept) done fault
+abbrev pub AreValuesSaid : (List Value → Type 0) → ℕ → List Entry → Result ℕ MessageError → Type 0
+AreValuesSaid Has payload_at done count = OrFault (values_fault payload_at) (AreValuesHeld Has payload_at) done count
 
 -- the head and the values of a layer with these fields
-abbrev pub IsFront : Bool → ℕ → List Entry → Front → Type 0
-IsFront keep payload_at fields front =
-    IsHeadSoFar payload_at fields front.head_fault (option_copied front.head.name) front.head.extent front.head.keys.items
-    × AreValuesSaid keep payload_at fields front.values_fault front.values.count front.values.kept.items
+abbrev pub IsFront : (List Value → Type 0) → ℕ → List Entry → Front → Type 0
+IsFront Has payload_at fields front = IsHeadSoFar payload_at fields front.head × AreValuesSaid Has payload_at fields front.values
 
-pub record AreFeaturesHeld (keep : Bool) (payload_at : ℕ) (keys : List (List ℕ)) (values : List Value) (done : List Entry)
-    (count : ℕ) (kept : List Feature) : Type 0 where
+-- features that are counted, and that a visitor has
+pub record AreFeaturesHeld (Has : List Feature → Type 0) (payload_at : ℕ) (keys : List (List ℕ)) (values : List Value)
+    (done : List Entry) (count : ℕ) : Type 0 where
   pub features : List Feature
   pub so_far : AreFeaturesSoFar payload_at keys values done features
-  pub held : AreHeld keep features count kept
-
--- what was read of a layer: its name, and the rest where it is kept
-pub record AreParts (keep : Bool) (layer : ALayer) (name : List ℕ) (extent : ℕ) (features : List Feature) : Type 0 where
-  pub name_is : name ≡ layer.name
-  pub extent_is : extent ≡ layer.extent
-  pub features_are : OnTrue keep (features ≡ layer.features)
+  pub counted : count ≡ length features
+  pub has : Has features
 
 -- an error that isn't want of memory
 abbrev pub IsFault : MessageError → Type 0

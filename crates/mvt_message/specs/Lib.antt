@@ -5,4 +5,5 @@ pub mod CanonicalItems
 pub mod Bounds
 pub mod ValidItems
 pub mod PutErrors
+pub mod Visiting
 pub mod Inner

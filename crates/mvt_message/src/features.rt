@@ -1,6 +1,5 @@
 //! The features of a layer (Mapbox Vector Tile Specification 2.1, 4.1).
 ghost use Rattle.std.specs.Prelude.{◌≡◌, ◌+◌, ◌^◌, ◌<◌, List, [], ◌∷◌, ◌++◌, length, Option, None, IfOk, IfErr, OnOk};
-ghost use Rattle.std.specs.Bool.{OnTrue};
 ghost use Rattle.std.specs.Option.{option_map};
 ghost use Rattle.mvt_base.specs.Tells.{Tells};
 ghost use Rattle.mvt_base.specs.Related.{AreRelated};
@@ -8,116 +7,111 @@ ghost use Rattle.mvt_attrs.specs.declared.value.Value.{Value};
 ghost use Rattle.mvt_wire.specs.Field.{Entry, entry_of, content_of};
 ghost use Rattle.mvt_wire.specs.Fields.{bytes_size};
 ghost use Rattle.mvt_wire.specs.Split.{split};
+ghost use Rattle.mvt_feature.specs.declared.feature.Feature.{Feature as AFeature};
 ghost use Rattle.mvt_feature.specs.Faults.{MessageFault, fault_of, in_feature as the_in_feature};
 ghost use Rattle.mvt_feature.specs.Selection.{only};
+ghost use Rattle.mvt_message.specs.declared.item.Item.{Item};
 ghost use Rattle.mvt_message.specs.declared.numbers.layer.TheConstants.{FEATURES};
 ghost use Rattle.mvt_message.specs.Items.{HoldsFeature};
-ghost use Rattle.mvt_message.specs.Inner.{features_fault, AreHeld, AreFeaturesHeld};
+ghost use Rattle.mvt_message.specs.Inner.{features_fault, AreFeaturesHeld};
 
 use crate::numbers::layer;
 use crate::payload::bytes_of;
-use crate::values::LayerValues;
+use crate::visiting::LayerVisitor;
 use mvt_attrs::LayerKeys;
 use mvt_base::Text;
-use mvt_feature::{Feature, MessageError, Scratch, judge_feature, read_feature_in};
+use mvt_feature::{MessageError, Scratch};
 use mvt_wire::{Field, Fields};
 use std::alloc::Global;
 
-/// The features of a layer, in order: how many, and the features themselves where they are kept.
-#[derive(Drop)]
-struct LayerFeatures {
-    count: usize,
-    kept: Vec<Feature>,
-}
-
-/// The features of a layer with these keys and values, which are built where they are to be kept,
-/// and only judged otherwise. The list has room for `room` of them at first.
-pub(crate) fn read_features(
+/// Has a visitor take the features of a layer with these keys and this number of values.
+pub(crate) fn visit_features<V: LayerVisitor>(
     alloc: Global,
+    visitor: &mut V,
     payload: &[u8],
     payload_at: u64,
     keys: &[Text],
-    values: &LayerValues,
-    keeps: bool,
-    room: usize,
-) -> Result<Vec<Feature>, MessageError>
+    values: usize,
+) -> Result<(), MessageError>
     requires small { length payload.now < 2 ^ 32 }
     requires fits { payload_at + length payload.now < 2 ^ 64 }
     requires whole { (split payload.now).rest ≡ [] }
-    requires held { (held : List Value) × AreHeld keeps held values.now.count values.now.kept.items }
-    ensures ok { (held : List Value) → AreHeld keeps held values.now.count values.now.kept.items
+    requires held { (items : List Item) × (held : List Value) × (length held ≡ values)
+        × V.has_features items keys.now held visitor.old [] }
+    ensures ok { (items : List Item) (held : List Value) → length held ≡ values
+        → V.has_features items keys.now held visitor.old []
         → OnOk result (features_fault payload_at keys.now held (split payload.now).fields ≡ None) }
-    ensures features { (held : List Value) → AreHeld keeps held values.now.count values.now.kept.items
-        → IfOk result (λ found. (features : List Feature)
-        × AreRelated (HoldsFeature keys.now held) (only FEATURES (split payload.now).fields) features
-        × OnTrue keeps (found.items ≡ features)) }
-    ensures err { (held : List Value) → AreHeld keeps held values.now.count values.now.kept.items
-        → IfErr result (λ error. Tells (fault_of error) (features_fault payload_at keys.now held (split payload.now).fields)) }
+    ensures features { (items : List Item) (held : List Value) → length held ≡ values
+        → V.has_features items keys.now held visitor.old []
+        → OnOk result ((features : List AFeature)
+        × AreRelated (HoldsFeature keys.now held)
+        (only FEATURES (split payload.now).fields) features
+        × V.has_features items keys.now held visitor.new features) }
+    ensures err { (items : List Item) (held : List Value) → length held ≡ values
+        → V.has_features items keys.now held visitor.old []
+        → IfErr result (λ error. Tells (fault_of error)
+        (features_fault payload_at keys.now held (split payload.now).fields)) }
 {
     let mut keys = LayerKeys::new(alloc, keys);
     let mut scratch = Scratch::new(alloc);
-    let mut features = LayerFeatures {
-        count: 0,
-        kept: Vec::with_capacity(alloc, room)?,
-    };
+    let mut count = 0usize;
     for field in Fields::new(payload) {
         match field {
-            Ok(field) => append_feature(
-                alloc,
-                &field,
-                payload_at,
-                &mut keys,
-                values,
-                &mut scratch,
-                keeps,
-                &mut features,
-            )?,
+            Ok(field) => {
+                count = visit_field(
+                    alloc,
+                    visitor,
+                    &field,
+                    payload_at,
+                    &mut keys,
+                    values,
+                    &mut scratch,
+                    count,
+                )?;
+            }
             Err(_) => unreachable!(),
         }
     }
-    Ok(features.kept)
+    Ok(())
 }
 
-/// Appends the feature of a field that holds one.
-fn append_feature(
+/// Has a visitor take the feature of a field that holds one, behind so many, and answers how many
+/// it has.
+fn visit_field<V: LayerVisitor>(
     alloc: Global,
+    visitor: &mut V,
     field: &Field<'_>,
     payload_at: u64,
     keys: &mut LayerKeys<'_>,
-    values: &LayerValues,
+    values: usize,
     scratch: &mut Scratch,
-    keeps: bool,
-    features: &mut LayerFeatures,
-) -> Result<(), MessageError>
-    requires few { features.old.count < 2 ^ 32 }
-    requires body { payload_at + (field.now.body + bytes_size (content_of field.now.payload)) < 2 ^ 64 }
-    ensures ok { (held : List Value) (done : List Entry) → AreHeld keeps held values.now.count values.now.kept.items
-        → AreFeaturesHeld keeps payload_at keys.old held done features.old.count features.old.kept.items
-        → OnOk result (AreFeaturesHeld keeps payload_at keys.old held (done ++ entry_of field.now ∷ [])
-        features.new.count features.new.kept.items) }
-    ensures err { (held : List Value) (done more : List Entry) → AreHeld keeps held values.now.count values.now.kept.items
-        → AreFeaturesHeld keeps payload_at keys.old held done features.old.count features.old.kept.items
+    count: usize,
+) -> Result<usize, MessageError>
+    requires few { count < 2 ^ 32 }
+    requires body { payload_at + (field.now.body + bytes_size
+        (content_of field.now.payload)) < 2 ^ 64 }
+    ensures ok { (items : List Item) (held : List Value) (done : List Entry) → length held ≡ values
+        → AreFeaturesHeld (V.has_features items keys.old held visitor.old) payload_at keys.old held
+        done count
+        → IfOk result (AreFeaturesHeld
+        (V.has_features items keys.old held visitor.new) payload_at keys.old held
+        (done ++ entry_of field.now ∷ [])) }
+    ensures err { (items : List Item) (held : List Value) (done more : List Entry)
+        → length held ≡ values
+        → AreFeaturesHeld (V.has_features items keys.old held visitor.old) payload_at keys.old held
+        done count
         → IfErr result (λ error. Tells (fault_of error)
         (features_fault payload_at keys.old held ((done ++ entry_of field.now ∷ []) ++ more))) }
     ensures same { keys.new ≡ keys.old }
 {
     if field.number != layer::FEATURES {
-        return Ok(());
+        return Ok(count);
     }
-    let index = features.count as u32;
-    features.count += 1;
     let payload = bytes_of(&field.payload);
     let body = payload_at + field.body as u64;
-    if keeps {
-        match read_feature_in(alloc, payload, body, keys, &values.kept, scratch) {
-            Ok(feature) => features.kept.push(feature)?,
-            Err(error) => return Err(in_feature(error, index)),
-        }
-        return Ok(());
-    }
-    match judge_feature(alloc, payload, body, keys, values.count, scratch) {
-        Ok(()) => Ok(()),
-        Err(error) => Err(in_feature(error, index)),
+    match visitor.visit_feature(alloc, payload, body, keys, values, scratch) {
+        Ok(()) => Ok(count + 1),
+        Err(error) => Err(in_feature(error, count as u32)),
     }
 }
 

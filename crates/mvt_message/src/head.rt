@@ -1,6 +1,6 @@
 //! The fields of a layer besides its version and the contents of its values and features (Mapbox
 //! Vector Tile Specification 2.1, 4.1).
-ghost use Rattle.std.specs.Prelude.{◌≡◌, ◌+◌, ◌^◌, ◌<◌, List, [], ◌∷◌, ◌++◌, None, IfErr, OnOk};
+ghost use Rattle.std.specs.Prelude.{◌≡◌, ◌+◌, ◌^◌, ◌<◌, List, ◌∷◌, ◌++◌, [], None, IfErr, OnOk};
 ghost use Rattle.std.specs.Option.{option_map, option_copied};
 ghost use Rattle.mvt_base.specs.Tells.{Tells};
 ghost use Rattle.mvt_base.specs.Rules.{first};
@@ -41,15 +41,18 @@ impl<'a> Head<'a> {
     /// Takes one more field, which is told to stand at this place.
     #[inline(always)]
     fn take(&mut self, alloc: Global, field: &Field<'a>, at: u64) -> Result<(), MessageError>
-        ensures ok { OnOk result (first (number_rules layer_forms field.now.number (content_of field.now.payload)) ≡ None) }
+        ensures ok { OnOk result (first
+            (number_rules layer_forms field.now.number (content_of field.now.payload)) ≡ None) }
         ensures name { OnOk result (option_copied self.new.name
-            ≡ name_after (option_copied self.old.name) field.now.number (content_of field.now.payload)) }
+            ≡ name_after (option_copied self.old.name) field.now.number
+            (content_of field.now.payload)) }
         ensures extent { OnOk result (self.new.extent
             ≡ extent_after self.old.extent field.now.number (content_of field.now.payload)) }
         ensures keys { OnOk result (self.new.keys.items
             ≡ self.old.keys.items ++ keys_at field.now.number (content_of field.now.payload)) }
         ensures err { IfErr result (λ error. Tells (fault_of error)
-            (option_map (the_fault_at at) (first (number_rules layer_forms field.now.number (content_of field.now.payload))))) }
+            (option_map (the_fault_at at) (first
+            (number_rules layer_forms field.now.number (content_of field.now.payload))))) }
     {
         let payload = &field.payload;
         match field.number {
@@ -70,22 +73,20 @@ impl<'a> Head<'a> {
 #[inline(always)]
 pub(crate) fn take_head<'a>(
     alloc: Global,
-    head: &mut Head<'a>,
-    fault: &mut Option<MessageError>,
+    head: &mut Result<Head<'a>, MessageError>,
     field: &Field<'a>,
     payload_at: u64,
 )
     requires { payload_at + field.now.at < 2 ^ 64 }
-    ensures { (done : List Entry)
-        → IsHeadSoFar payload_at done fault.old (option_copied head.old.name) head.old.extent head.old.keys.items
-        → IsHeadSoFar payload_at (done ++ entry_of field.now ∷ []) fault.new
-        (option_copied head.new.name) head.new.extent head.new.keys.items }
+    ensures { (done : List Entry) → IsHeadSoFar payload_at done head.old
+        → IsHeadSoFar payload_at (done ++ entry_of field.now ∷ []) head.new }
 {
-    if fault.is_some() {
-        return;
-    }
-    match head.take(alloc, field, payload_at + field.at as u64) {
+    let taken = match head {
+        Ok(head) => head.take(alloc, field, payload_at + field.at as u64),
+        Err(_) => return,
+    };
+    match taken {
         Ok(()) => {}
-        Err(error) => *fault = Some(error),
+        Err(error) => *head = Err(error),
     }
 }

@@ -16,22 +16,27 @@ ghost use Rattle.mvt_message.specs.ValidItems.{ValidItem, WasValidItem};
 
 use mvt_base::LIMIT;
 
-/// The fields of a layer have the standard's numbers (4.1). Definitions and code name the constants,
-/// so this alone refuses another number.
+/// The fields of a layer have the standard's numbers (4.1). Definitions and code name the
+/// constants, so this alone refuses another number.
 pub fn field_numbers()
-    ensures { (NAME ≡ 1) × (FEATURES ≡ 2) × (KEYS ≡ 3) × (VALUES ≡ 4) × (EXTENT ≡ 5) × (VERSION ≡ 15) }
+    ensures { (NAME ≡ 1) × (FEATURES ≡ 2) × (KEYS ≡ 3) × (VALUES ≡ 4) × (EXTENT ≡ 5)
+        × (VERSION ≡ 15) }
 {}
 
 /// A payload without a fault is an item, and that of an item has no fault.
 pub fn item_or_fault()
-    ensures there { (b : List ℕ) (payload_at tag_at : ℕ) → item_fault b payload_at tag_at ≡ None → (item : Item) × IsItem b item }
-    ensures clean { (b : List ℕ) (payload_at tag_at : ℕ) (item : Item) → IsItem b item → item_fault b payload_at tag_at ≡ None }
+    ensures there { (b : List ℕ) (payload_at tag_at : ℕ) → item_fault b payload_at tag_at ≡ None
+        → (item : Item) × IsItem b item }
+    ensures clean { (b : List ℕ) (payload_at tag_at : ℕ) (item : Item) → IsItem b item
+        → item_fault b payload_at tag_at ≡ None }
 {}
 
 /// The fault is the first of the table, which is in order.
 pub fn item_in_order()
-    ensures fault { (b : List ℕ) (payload_at tag_at : ℕ) → item_fault b payload_at tag_at ≡ first (item_rules b payload_at tag_at) }
-    ensures ordered { (b : List ℕ) (payload_at tag_at : ℕ) → AreOrdered (item_rules b payload_at tag_at) }
+    ensures fault { (b : List ℕ) (payload_at tag_at : ℕ)
+        → item_fault b payload_at tag_at ≡ first (item_rules b payload_at tag_at) }
+    ensures ordered { (b : List ℕ) (payload_at tag_at : ℕ)
+        → AreOrdered (item_rules b payload_at tag_at) }
 {}
 
 /// A payload is one item at most.
@@ -46,7 +51,8 @@ pub fn item_names()
 
 /// The canonical payload of a valid item is that item.
 pub fn canonical_reads()
-    ensures { (item : Item) → ValidItem item → length (canonical_item item) ≤ LIMIT → IsItem (canonical_item item) item }
+    ensures { (item : Item) → ValidItem item → length (canonical_item item) ≤ LIMIT
+        → IsItem (canonical_item item) item }
 {}
 
 /// The keys and the values that features use: where the features are valid they can be written, and
@@ -57,7 +63,8 @@ pub fn pools_of_features()
     ensures values { (features : List Feature) → AllByRecursion ValidFeature features
         → AllByRecursion ValidValue (values_of features) }
     ensures held { (features : List Feature)
-        → AllByRecursion (λ (f : Feature). AllByRecursion (IsIn (keys_of features) (values_of features)) f.attributes) features }
+        → AllByRecursion (λ (f : Feature). AllByRecursion
+        (IsIn (keys_of features) (values_of features)) f.attributes) features }
 {}
 
 /// Feature by feature the keys and the values grow: with one more feature, and where a feature
@@ -69,10 +76,12 @@ pub fn pools_by_features()
         value_pool (values_of done) feature.attributes ≡ values_of (done ++ feature ∷ []) }
     ensures beyond_keys { (features : List Feature) (i bound : ℕ) (feature : Feature) →
         i < length features → feature ≡ get_or features i feature
-        → bound < length (key_pool (keys_of (take i features)) feature.attributes) → bound < length (keys_of features) }
+        → bound < length (key_pool (keys_of (take i features)) feature.attributes)
+        → bound < length (keys_of features) }
     ensures beyond_values { (features : List Feature) (i bound : ℕ) (feature : Feature) →
         i < length features → feature ≡ get_or features i feature
-        → bound < length (value_pool (values_of (take i features)) feature.attributes) → bound < length (values_of features) }
+        → bound < length (value_pool (values_of (take i features)) feature.attributes)
+        → bound < length (values_of features) }
 {}
 
 /// The canonical payload of an item takes no more bytes than its bound says, where that is within

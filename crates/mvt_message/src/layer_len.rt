@@ -21,7 +21,8 @@ use std::alloc::Global;
 pub(crate) fn layer_len(alloc: Global, layer: &Layer) -> Result<u64, PutError>
     requires { ValidLayer layer.now }
     ensures len { IfOk result (λ n. (n ≡ length (spelled (layer_fields layer.now))) × (n ≤ LIMIT)) }
-    ensures too_large { IsErrOf result PutError.TooLarge → LIMIT < length (spelled (layer_fields layer.now)) }
+    ensures too_large { IsErrOf result PutError.TooLarge
+        → LIMIT < length (spelled (layer_fields layer.now)) }
 {
     let mut keys = KeyPool::new(alloc);
     let mut values = ValuePool::new(alloc);
@@ -39,7 +40,8 @@ fn len_of_parts(
     requires no_keys { keys.old ≡ [] }
     requires no_values { values.old ≡ [] }
     ensures len { IfOk result (λ n. (n ≡ length (spelled (layer_fields layer.now))) × (n ≤ LIMIT)) }
-    ensures too_large { IsErrOf result PutError.TooLarge → LIMIT < length (spelled (layer_fields layer.now)) }
+    ensures too_large { IsErrOf result PutError.TooLarge
+        → LIMIT < length (spelled (layer_fields layer.now)) }
 {
     // The version takes two bytes.
     let len = with_field(2, layer::NAME, layer.name.as_str().len() as u64)?;
@@ -86,13 +88,15 @@ fn with_features(
     requires no_keys { keys.old ≡ [] }
     requires no_values { values.old ≡ [] }
     ensures len { IfOk result (λ n. n ≡ start
-        + length (spelled (map (feature_field (keys_of features.now) (values_of features.now)) features.now))) }
+        + length (spelled (map (feature_field (keys_of features.now)
+        (values_of features.now)) features.now))) }
     ensures limit { IfOk result (λ n. n ≤ LIMIT) }
     ensures keys { OnOk result (keys.new ≡ keys_of features.now) }
     ensures values { OnOk result (values.new ≡ values_of features.now) }
     ensures too_large { IsErrOf result PutError.TooLarge →
         (LIMIT < start
-        + length (spelled (map (feature_field (keys_of features.now) (values_of features.now)) features.now)))
+        + length (spelled (map (feature_field (keys_of features.now)
+        (values_of features.now)) features.now)))
         ⊎ (LIMIT ≤ length (keys_of features.now)) ⊎ (LIMIT ≤ length (values_of features.now)) }
 {
     let mut scratch = Scratch::new(alloc);
@@ -111,7 +115,8 @@ fn with_keys(start: u64, keys: &KeyPool) -> Result<u64, PutError>
     requires { start ≤ LIMIT }
     ensures len { IfOk result (λ n. n ≡ start + length (spelled (map key_field keys.now))) }
     ensures limit { IfOk result (λ n. n ≤ LIMIT) }
-    ensures too_large { IsErrOf result PutError.TooLarge → LIMIT < start + length (spelled (map key_field keys.now)) }
+    ensures too_large { IsErrOf result PutError.TooLarge
+        → LIMIT < start + length (spelled (map key_field keys.now)) }
 {
     let mut len = start;
     for index in 0..keys.len() as u32 {
@@ -128,7 +133,8 @@ fn with_values(start: u64, values: &ValuePool) -> Result<u64, PutError>
     requires { start ≤ LIMIT }
     ensures len { IfOk result (λ n. n ≡ start + length (spelled (map value_field values.now))) }
     ensures limit { IfOk result (λ n. n ≤ LIMIT) }
-    ensures too_large { IsErrOf result PutError.TooLarge → LIMIT < start + length (spelled (map value_field values.now)) }
+    ensures too_large { IsErrOf result PutError.TooLarge
+        → LIMIT < start + length (spelled (map value_field values.now)) }
 {
     let mut len = start;
     for index in 0..values.len() as u32 {

@@ -37,12 +37,14 @@ pub(crate) fn put_features(
     requires no_keys { keys.old ≡ [] }
     requires no_values { values.old ≡ [] }
     ensures ok { OnOk result (out.new.items ≡ out.old.items
-        ++ spelled (map (feature_field (keys_of features.now) (values_of features.now)) features.now)) }
+        ++ spelled (map (feature_field (keys_of features.now)
+        (values_of features.now)) features.now)) }
     ensures keys { OnOk result (keys.new ≡ keys_of features.now) }
     ensures values { OnOk result (values.new ≡ values_of features.now) }
     ensures too_large { IsErrOf result PutError.TooLarge →
         (LIMIT < length out.old.items
-        + length (spelled (map (feature_field (keys_of features.now) (values_of features.now)) features.now)))
+        + length (spelled (map (feature_field (keys_of features.now)
+        (values_of features.now)) features.now)))
         ⊎ (LIMIT ≤ length (keys_of features.now)) ⊎ (LIMIT ≤ length (values_of features.now)) }
 {
     let mut scratch = Scratch::with_room(alloc)?;

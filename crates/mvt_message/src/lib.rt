@@ -16,6 +16,7 @@ mod reading;
 mod validity;
 mod values;
 mod version;
+mod visiting;
 mod writing;
 
 pub use bound::room_behind_item;
@@ -24,4 +25,5 @@ pub use mvt_base::LIMIT;
 pub use mvt_feature::{Cause, Feature, MessageError, read_feature, read_value};
 pub use reading::{judge_item, read_item};
 pub use validity::{is_valid_item, is_valid_layer, validate_item};
+pub use visiting::{LayerVisitor, Visited, visit_layer};
 pub use writing::{PutError, item_len, put_item};

@@ -1,91 +1,78 @@
 //! The values of a layer (Mapbox Vector Tile Specification 2.1, 4.1).
-ghost use Rattle.std.specs.Prelude.{◌≡◌, ◌+◌, ◌^◌, ◌<◌, List, [], ◌∷◌, ◌++◌, None, IfErr, OnOk};
+ghost use Rattle.std.specs.Prelude.{◌≡◌, ◌+◌, ◌^◌, ◌<◌, List, [], ◌∷◌, ◌++◌, IfOk, IfErr};
 ghost use Rattle.mvt_base.specs.Tells.{Tells};
+ghost use Rattle.mvt_attrs.specs.declared.value.Value.{Value};
 ghost use Rattle.mvt_wire.specs.Field.{Entry, entry_of, content_of};
 ghost use Rattle.mvt_wire.specs.Fields.{bytes_size};
 ghost use Rattle.mvt_feature.specs.Faults.{fault_of};
-ghost use Rattle.mvt_feature.specs.Selection.{only};
+ghost use Rattle.mvt_message.specs.declared.item.Item.{Item};
 ghost use Rattle.mvt_message.specs.Inner.{values_fault, AreValuesHeld, AreValuesSaid};
 
 use crate::numbers::layer;
 use crate::payload::bytes_of;
-use mvt_attrs::Value;
-use mvt_feature::{MessageError, judge_value, read_value};
-use mvt_wire::{Field, Fields};
+use crate::visiting::LayerVisitor;
+use mvt_feature::MessageError;
+use mvt_wire::Field;
 use std::alloc::Global;
 
-/// The values of a layer, in order: how many, and the values themselves where they are kept.
-#[derive(Drop)]
-pub(crate) struct LayerValues {
-    pub(crate) count: usize,
-    pub(crate) kept: Vec<Value>,
-}
-
-impl LayerValues {
-    pub(crate) fn new(alloc: Global) -> Self
-        ensures count { result.count ≡ 0 }
-        ensures kept { result.kept.items ≡ [] }
-    {
-        LayerValues {
-            count: 0,
-            kept: Vec::new(alloc),
-        }
-    }
-}
-
-/// The values with one more field, unless a fault was met before it. They are built where they are
-/// to be kept, and only judged otherwise.
+/// How many values there are with one more field, unless a fault was met before it.
 #[inline(always)]
-pub(crate) fn take_value(
+pub(crate) fn take_value<V: LayerVisitor>(
     alloc: Global,
-    values: &mut LayerValues,
-    fault: &mut Option<MessageError>,
+    visitor: &mut V,
+    values: &mut Result<usize, MessageError>,
     field: &Field<'_>,
     payload_at: u64,
-    keeps: bool,
 )
-    requires few { fault.old ≡ None → values.old.count < 2 ^ 32 }
+    requires few { IfOk values.old (λ count. count < 2 ^ 32) }
     requires at { payload_at + field.now.at < 2 ^ 64 }
-    requires body { payload_at + (field.now.body + bytes_size (content_of field.now.payload)) < 2 ^ 64 }
-    ensures { (done : List Entry) → AreValuesSaid keeps payload_at done fault.old values.old.count values.old.kept.items
-        → AreValuesSaid keeps payload_at (done ++ entry_of field.now ∷ []) fault.new values.new.count values.new.kept.items }
+    requires body { payload_at + (field.now.body + bytes_size
+        (content_of field.now.payload)) < 2 ^ 64 }
+    ensures said { (items : List Item) (done : List Entry)
+        → AreValuesSaid (V.has_values items visitor.old) payload_at done values.old
+        → AreValuesSaid (V.has_values items visitor.new) payload_at
+        (done ++ entry_of field.now ∷ []) values.new }
+    ensures kept { (items : List Item) (done : List Entry)
+        → AreValuesSaid (V.has_values items visitor.old) payload_at done values.old
+        → V.has_items items visitor.old → V.has_items items visitor.new }
 {
-    if fault.is_some() {
-        return;
-    }
-    match append_value(alloc, field, payload_at, keeps, values) {
-        Ok(()) => {}
-        Err(error) => *fault = Some(error),
-    }
+    let count = match *values {
+        Ok(count) => count,
+        Err(_) => return,
+    };
+    *values = visit_field(alloc, visitor, field, payload_at, count);
 }
 
-/// Appends the value of a field that holds one.
+/// Has a visitor take the value of a field that holds one, behind so many, and answers how many it
+/// has.
 #[inline(always)]
-fn append_value(
+fn visit_field<V: LayerVisitor>(
     alloc: Global,
+    visitor: &mut V,
     field: &Field<'_>,
     payload_at: u64,
-    keeps: bool,
-    values: &mut LayerValues,
-) -> Result<(), MessageError>
-    requires few { values.old.count < 2 ^ 32 }
+    count: usize,
+) -> Result<usize, MessageError>
+    requires few { count < 2 ^ 32 }
     requires at { payload_at + field.now.at < 2 ^ 64 }
-    requires body { payload_at + (field.now.body + bytes_size (content_of field.now.payload)) < 2 ^ 64 }
-    ensures ok { (done : List Entry) → AreValuesHeld keeps payload_at done values.old.count values.old.kept.items
-        → OnOk result (AreValuesHeld keeps payload_at (done ++ entry_of field.now ∷ []) values.new.count values.new.kept.items) }
-    ensures err { (done more : List Entry) → AreValuesHeld keeps payload_at done values.old.count values.old.kept.items
-        → IfErr result (λ error. Tells (fault_of error) (values_fault payload_at ((done ++ entry_of field.now ∷ []) ++ more))) }
+    requires body { payload_at + (field.now.body + bytes_size
+        (content_of field.now.payload)) < 2 ^ 64 }
+    ensures ok { (items : List Item) (done : List Entry)
+        → AreValuesHeld (V.has_values items visitor.old) payload_at done count
+        → IfOk result (AreValuesHeld (V.has_values items visitor.new) payload_at
+        (done ++ entry_of field.now ∷ [])) }
+    ensures err { (items : List Item) (done more : List Entry)
+        → AreValuesHeld (V.has_values items visitor.old) payload_at done count
+        → IfErr result (λ error. Tells (fault_of error)
+        (values_fault payload_at ((done ++ entry_of field.now ∷ []) ++ more))) }
+    ensures kept { (items : List Item) (held : List Value) → V.has_values items visitor.old held
+        → V.has_items items visitor.old → V.has_items items visitor.new }
 {
     if field.number != layer::VALUES {
-        return Ok(());
+        return Ok(count);
     }
-    values.count += 1;
     let payload = bytes_of(&field.payload);
     let body = payload_at + field.body as u64;
-    let tag_at = payload_at + field.at as u64;
-    if keeps {
-        values.kept.push(read_value(alloc, payload, body, tag_at)?)?;
-        return Ok(());
-    }
-    judge_value(payload, body, tag_at)
+    visitor.visit_value(alloc, payload, body, payload_at + field.at as u64)?;
+    Ok(count + 1)
 }

@@ -19,9 +19,11 @@ pub(crate) fn read_version(
     tag_at: u64,
 ) -> Result<u32, MessageError>
     requires { payload_at + length payload.now < 2 ^ 64 }
-    ensures version { IfOk result (λ version. version_in (split payload.now).fields ≡ Some version) }
+    ensures version { IfOk result (λ version. version_in (split payload.now).fields
+        ≡ Some version) }
     ensures ok { OnOk result (head_fault payload.now payload_at tag_at ≡ None) }
-    ensures err { IfErr result (λ error. Tells (fault_of error) (head_fault payload.now payload_at tag_at)) }
+    ensures err { IfErr result (λ error. Tells (fault_of error)
+        (head_fault payload.now payload_at tag_at)) }
     ensures fault { IfErr result IsFault }
 {
     let mut version = Ok(None);
@@ -63,10 +65,12 @@ pub(crate) fn version_of(
     version: Result<Option<u32>, MessageError>,
     tag_at: u64,
 ) -> Result<u32, MessageError>
-    ensures version { (payload_at : ℕ) (fields : List Entry) → IsVersionSoFar payload_at fields version
+    ensures version { (payload_at : ℕ) (fields : List Entry)
+        → IsVersionSoFar payload_at fields version
         → IfOk result (λ found. version_in fields ≡ Some found) }
     ensures ok { (payload : List ℕ) (payload_at : ℕ) → (split payload).rest ≡ []
-        → IsVersionSoFar payload_at (split payload).fields version → OnOk result (head_fault payload payload_at tag_at ≡ None) }
+        → IsVersionSoFar payload_at (split payload).fields version
+        → OnOk result (head_fault payload payload_at tag_at ≡ None) }
     ensures err { (payload : List ℕ) (payload_at : ℕ) → (split payload).rest ≡ []
         → IsVersionSoFar payload_at (split payload).fields version
         → IfErr result (λ error. Tells (fault_of error) (head_fault payload payload_at tag_at)) }

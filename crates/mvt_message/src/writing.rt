@@ -74,8 +74,10 @@ impl Error for PutError {}
 #[tactic(auto, unfolding(crate::specs::CanonicalItems::canonical_item, crate::specs::ValidItems::ValidItem))]
 pub fn put_item(alloc: Global, item: &Item) -> Result<Vec<u8>, PutError>
     requires { ValidItem item.now }
-    ensures put { IfOk result (λ v. (v.items ≡ canonical_item item.now) × (length v.items ≤ LIMIT)) }
-    ensures too_large { IsErrOf result PutError.TooLarge → LIMIT < length (canonical_item item.now) }
+    ensures put { IfOk result (λ v. (v.items ≡ canonical_item item.now)
+        × (length v.items ≤ LIMIT)) }
+    ensures too_large { IsErrOf result PutError.TooLarge
+        → LIMIT < length (canonical_item item.now) }
 {
     match item {
         Item::Layer(layer) => put_layer(alloc, layer),
@@ -92,7 +94,8 @@ pub fn put_item(alloc: Global, item: &Item) -> Result<Vec<u8>, PutError>
 pub fn item_len(alloc: Global, item: &Item) -> Result<u64, PutError>
     requires { ValidItem item.now }
     ensures len { IfOk result (λ n. (n ≡ length (canonical_item item.now)) × (n ≤ LIMIT)) }
-    ensures too_large { IsErrOf result PutError.TooLarge → LIMIT < length (canonical_item item.now) }
+    ensures too_large { IsErrOf result PutError.TooLarge
+        → LIMIT < length (canonical_item item.now) }
 {
     match item {
         Item::Layer(layer) => layer_len(alloc, layer),
@@ -112,8 +115,10 @@ fn put_foreign(alloc: Global, bytes: &[u8]) -> Result<Vec<u8>, PutError>
 
 fn put_layer(alloc: Global, layer: &Layer) -> Result<Vec<u8>, PutError>
     requires { ValidLayer layer.now }
-    ensures put { IfOk result (λ v. (v.items ≡ spelled (layer_fields layer.now)) × (length v.items ≤ LIMIT)) }
-    ensures too_large { IsErrOf result PutError.TooLarge → LIMIT < length (spelled (layer_fields layer.now)) }
+    ensures put { IfOk result (λ v. (v.items ≡ spelled (layer_fields layer.now))
+        × (length v.items ≤ LIMIT)) }
+    ensures too_large { IsErrOf result PutError.TooLarge
+        → LIMIT < length (spelled (layer_fields layer.now)) }
 {
     let mut out = Vec::with_capacity(alloc, LAYER_ROOM)?;
     let mut keys = KeyPool::new(alloc);
@@ -136,7 +141,8 @@ fn put_parts(
     requires no_values { values.old ≡ [] }
     ensures put { OnOk result (out.new.items ≡ spelled (layer_fields layer.now)) }
     ensures limit { OnOk result (length out.new.items ≤ LIMIT) }
-    ensures too_large { IsErrOf result PutError.TooLarge → LIMIT < length (spelled (layer_fields layer.now)) }
+    ensures too_large { IsErrOf result PutError.TooLarge
+        → LIMIT < length (spelled (layer_fields layer.now)) }
 {
     put_head(out, layer.name.as_str())?;
     put_features(alloc, layer.features.as_slice(), out, keys, values)?;

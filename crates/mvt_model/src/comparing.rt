@@ -20,7 +20,8 @@ use std::alloc::{AllocError, Global};
 /// up to the first difference.
 pub fn is_canonical(alloc: Global, tile: &Tile, bytes: &[u8]) -> Result<bool, AllocError>
     requires { Valid tile.now }
-    ensures { IfOk result (λ yes. IsTrue yes ↔ ((bytes.now ≡ canonical tile.now) × (length bytes.now ≤ LIMIT))) }
+    ensures { IfOk result (λ yes. IsTrue yes
+        ↔ ((bytes.now ≡ canonical tile.now) × (length bytes.now ≤ LIMIT))) }
 {
     if bytes.len() as u64 > LIMIT {
         return Ok(false);
@@ -44,7 +45,8 @@ pub(crate) fn behind_item<'b>(
 ) -> Result<Option<&'b [u8]>, AllocError>
     requires valid { ValidItem item.now }
     requires small { length bytes.now ≤ LIMIT }
-    ensures { IfOk result (IsBehind bytes.now (short_field LAYERS (in_bytes (canonical_item item.now)))) }
+    ensures { IfOk result (IsBehind bytes.now
+        (short_field LAYERS (in_bytes (canonical_item item.now)))) }
 {
     let payload = match put_item(alloc, item) {
         Ok(payload) => payload,

@@ -38,15 +38,16 @@ pub fn encode(alloc: Global, tile: &Tile) -> Result<Vec<u8>, PutError>
     out.ok_or(PutError::TooLarge)
 }
 
-/// The canonical bytes of one item more, behind those of the items before it; `None` from where they are
-/// more than the limit.
+/// The canonical bytes of one item more, behind those of the items before it; `None` from where
+/// they are more than the limit.
 pub fn encode_more(
     alloc: Global,
     out: Option<Vec<u8>>,
     item: &Item,
 ) -> Result<Option<Vec<u8>>, AllocError>
     requires { ValidItem item.now }
-    ensures { (items : List Item) → AreEncoded LIMIT items out → IfOk result (AreEncoded LIMIT (items ++ item.now ∷ [])) }
+    ensures { (items : List Item) → AreEncoded LIMIT items out
+        → IfOk result (AreEncoded LIMIT (items ++ item.now ∷ [])) }
 {
     let Some(mut bytes) = out else {
         return Ok(None);

@@ -19,8 +19,8 @@ use mvt_base::{Items, LIMIT};
 use mvt_message::Item;
 use std::alloc::{AllocError, Global};
 
-/// What was found of the items of an input so far. Each is compared with the input where it stands, so
-/// that none has to be kept.
+/// What was found of the items of an input so far. Each is compared with the input where it stands,
+/// so that none has to be kept.
 #[derive(Drop)]
 pub struct Findings<'a> {
     features: u128,
@@ -46,8 +46,10 @@ impl<'a> Findings<'a> {
     pub fn add(&mut self, alloc: Global, index: usize, item: &Item) -> Result<(), AllocError>
         requires valid { ValidItem item.now }
         requires few { index ≤ LIMIT }
-        requires found { (input : List ℕ) × (items : List Item) × AreFound LIMIT input self.old items × (length items ≡ index) }
-        ensures { (input : List ℕ) (items : List Item) → AreFound LIMIT input self.old items → length items ≡ index
+        requires found { (input : List ℕ) × (items : List Item)
+            × AreFound LIMIT input self.old items × (length items ≡ index) }
+        ensures { (input : List ℕ) (items : List Item) → AreFound LIMIT input self.old items
+            → length items ≡ index
             → OnOk result (AreFound LIMIT input self.new (items ++ item.now ∷ [])) }
     {
         self.features += feature_count(item) as u128;
@@ -57,7 +59,8 @@ impl<'a> Findings<'a> {
 
     /// The survey of so many layers.
     pub fn into_survey(self, layers: u32) -> Result<Survey, AllocError>
-        ensures { (input : List ℕ) (tile : Tile) → AreFound LIMIT input self.entry tile.items → length tile.items ≡ layers
+        ensures { (input : List ℕ) (tile : Tile) → AreFound LIMIT input self.entry tile.items
+            → length tile.items ≡ layers
             → IfOk result (λ survey. survey ≡ survey_of tile (bytes_eq input (canonical tile))) }
     {
         let Findings {
@@ -75,7 +78,8 @@ impl<'a> Findings<'a> {
     }
 }
 
-/// How many features an item has: those of a layer of version 2, and of other layers none are known.
+/// How many features an item has: those of a layer of version 2, and of other layers none are
+/// known.
 pub fn feature_count(item: &Item) -> usize
     ensures { result ≡ the_feature_count item.now }
 {
@@ -94,7 +98,8 @@ fn behind_next<'b>(
     requires valid { ValidItem item.now }
     requires small { IfSome behind (λ rest. length rest.now ≤ LIMIT) }
     ensures { (input front : List ℕ) → IsBehind input front behind.entry
-        → IfOk result (IsBehind input (front ++ short_field LAYERS (in_bytes (canonical_item item.now)))) }
+        → IfOk result (IsBehind input (front ++ short_field LAYERS
+        (in_bytes (canonical_item item.now)))) }
 {
     match behind {
         Some(rest) => behind_item(alloc, item, rest),
@@ -104,7 +109,8 @@ fn behind_next<'b>(
 
 /// Whether nothing stands behind the bytes that an input begins with.
 fn is_end(behind: Option<&[u8]>) -> bool
-    ensures { (input front : List ℕ) → IsBehind input front behind.entry → result ≡ bytes_eq input front }
+    ensures { (input front : List ℕ) → IsBehind input front behind.entry
+        → result ≡ bytes_eq input front }
 {
     match behind {
         Some(rest) => rest.is_empty(),

@@ -8,8 +8,8 @@ ghost use Rattle.mvt_model.specs.ValidTiles.{Valid};
 
 use mvt_base::LIMIT;
 
-/// The layers of a tile have the standard's number (4.1). Definitions and code name the constant, so
-/// this alone refuses another number.
+/// The layers of a tile have the standard's number (4.1). Definitions and code name the constant,
+/// so this alone refuses another number.
 pub fn field_numbers()
     ensures { LAYERS ≡ 3 }
 {}

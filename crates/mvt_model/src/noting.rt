@@ -131,7 +131,8 @@ fn note_id(
     feature: usize,
     id: Option<u64>,
 ) -> Result<(), AllocError>
-    ensures notes { OnOk result (notes.new.items ≡ notes.old.items ++ id_note layer feature (get nat_cmp ids.old) id) }
+    ensures notes { OnOk result (notes.new.items ≡ notes.old.items ++ id_note layer feature
+        (get nat_cmp ids.old) id) }
     ensures ids { OnOk result ((q : ℕ) → get nat_cmp ids.new q
         ≡ option_or (get nat_cmp ids.old q) (if is_id q id then Some feature else None)) }
 {
@@ -148,7 +149,8 @@ fn keep_id(
     feature: usize,
     id: u64,
 ) -> Result<(), AllocError>
-    ensures notes { OnOk result (notes.new.items ≡ notes.old.items ++ earlier_note layer feature (get nat_cmp ids.old id)) }
+    ensures notes { OnOk result (notes.new.items ≡ notes.old.items ++ earlier_note layer feature
+        (get nat_cmp ids.old id)) }
     ensures ids { OnOk result ((q : ℕ) → get nat_cmp ids.new q
         ≡ option_or (get nat_cmp ids.old q) (if q == id then Some feature else None)) }
 {
@@ -166,7 +168,8 @@ fn note_geometry(
     feature: usize,
     geometry: &Geometry,
 ) -> Result<(), AllocError>
-    ensures { OnOk result (notes.new.items ≡ notes.old.items ++ geometry_notes layer feature geometry.now) }
+    ensures { OnOk result (notes.new.items
+        ≡ notes.old.items ++ geometry_notes layer feature geometry.now) }
 {
     match geometry {
         Geometry::Polygons(polygons) => note_polygons(notes, layer, feature, polygons.as_slice()),
@@ -201,7 +204,8 @@ fn note_rings(
     first: usize,
     rings: &[Items<Point>],
 ) -> Result<usize, AllocError>
-    ensures notes { OnOk result (notes.new.items ≡ notes.old.items ++ numbered (ring_notes layer feature) first rings.now) }
+    ensures notes { OnOk result (notes.new.items ≡ notes.old.items ++ numbered
+        (ring_notes layer feature) first rings.now) }
     ensures count { IfOk result (λ count. count ≡ first + length rings.now) }
 {
     let mut count = first;
@@ -219,7 +223,8 @@ fn note_ring(
     number: usize,
     ring: &[Point],
 ) -> Result<(), AllocError>
-    ensures { OnOk result (notes.new.items ≡ notes.old.items ++ ring_notes layer feature number ring.now) }
+    ensures { OnOk result (notes.new.items
+        ≡ notes.old.items ++ ring_notes layer feature number ring.now) }
 {
     let is_flat = twice_area(ring) == 0;
     note_if(notes, is_flat, Note::FlatRing(layer, feature, number))?;

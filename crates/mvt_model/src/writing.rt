@@ -24,9 +24,9 @@ use mvt_wire::{field_len, put_field_head};
 use std::alloc::Global;
 use std::io::ErrorKind;
 
-/// Has a writer take the canonical bytes of a tile: one item after the other is made and written. Where
-/// there are several and a quick bound of their length is beyond the limit, the lengths of all items are
-/// added up first. The writer isn't flushed.
+/// Has a writer take the canonical bytes of a tile: one item after the other is made and written.
+/// Where there are several and a quick bound of their length is beyond the limit, the lengths of
+/// all items are added up first. The writer isn't flushed.
 ///
 /// # Errors
 ///
@@ -34,16 +34,19 @@ use std::io::ErrorKind;
 /// memory. The writer has then taken a front of the bytes.
 pub fn write_tile<W: Sink>(alloc: Global, tile: &Tile, writer: &mut W) -> Result<(), WriteError>
     requires { Valid tile.now }
-    ensures taken { OnOk result (Appends (W.taken writer.old) (W.taken writer.new) (canonical tile.now)) }
+    ensures taken { OnOk result (Appends (W.taken writer.old) (W.taken writer.new)
+        (canonical tile.now)) }
     ensures small { OnOk result (length (canonical tile.now) ≤ LIMIT) }
     ensures honest { OnOk result (W.failed writer.new ≡ W.failed writer.old) }
     ensures too_large { IsErrOf result WriteError.TooLarge
         → (LIMIT < length (canonical tile.now)) × (writer.new ≡ writer.old) }
-    ensures prefix { OnErr result (TakesPrefix (W.taken writer.old) (W.taken writer.new) (canonical tile.now)) }
+    ensures prefix { OnErr result (TakesPrefix (W.taken writer.old) (W.taken writer.new)
+        (canonical tile.now)) }
     ensures failed { IfErr result (λ error. IsWriteFault error
         → HasFailed (W.failed writer.old) (W.failed writer.new)) }
     ensures ended { IfErr result (λ error. IsWriteFault error → W.ended writer.new ≡ true) }
-    ensures sound { IfErr result (λ error. (IsWriteFault error → ⊥) → W.failed writer.new ≡ W.failed writer.old) }
+    ensures sound { IfErr result (λ error. (IsWriteFault error → ⊥)
+        → W.failed writer.new ≡ W.failed writer.old) }
     ensures kind { IfErr result (λ error. IsWriteKind error (W.fault writer.new)) }
     ensures flushes { W.flushes writer.new ≡ W.flushes writer.old }
 {
@@ -83,7 +86,8 @@ fn items_len(alloc: Global, items: &[Item]) -> Result<u64, PutError>
     requires { AllByRecursion ValidItem items.now }
     ensures len { IfOk result (λ len. len ≡ length (spelled (map item_field items.now))) }
     ensures small { IfOk result (λ len. len ≤ LIMIT) }
-    ensures too_large { IsErrOf result PutError.TooLarge → LIMIT < length (spelled (map item_field items.now)) }
+    ensures too_large { IsErrOf result PutError.TooLarge
+        → LIMIT < length (spelled (map item_field items.now)) }
 {
     let mut total = 0;
     for item in items {
@@ -98,9 +102,11 @@ fn items_len(alloc: Global, items: &[Item]) -> Result<u64, PutError>
 /// How many bytes the field of an item has.
 fn layer_len(alloc: Global, item: &Item) -> Result<u64, PutError>
     requires { ValidItem item.now }
-    ensures len { IfOk result (λ len. len ≡ length (short_field LAYERS (bytes (canonical_item item.now)))) }
+    ensures len { IfOk result (λ len. len ≡ length
+        (short_field LAYERS (bytes (canonical_item item.now)))) }
     ensures most { IfOk result (λ len. len ≤ LIMIT + 20) }
-    ensures too_large { IsErrOf result PutError.TooLarge → LIMIT < length (canonical_item item.now) }
+    ensures too_large { IsErrOf result PutError.TooLarge
+        → LIMIT < length (canonical_item item.now) }
 {
     let len = item_len(alloc, item)?;
     Ok(field_len(tile::LAYERS, len))
@@ -115,11 +121,13 @@ fn write_items<W: Sink>(alloc: Global, items: &[Item], writer: &mut W) -> Result
     ensures honest { OnOk result (W.failed writer.new ≡ W.failed writer.old) }
     ensures never { IsErrOf result WriteError.TooLarge → ⊥ }
     ensures prefix { OnErr result
-        (TakesPrefix (W.taken writer.old) (W.taken writer.new) (spelled (map item_field items.now))) }
+        (TakesPrefix (W.taken writer.old) (W.taken writer.new)
+        (spelled (map item_field items.now))) }
     ensures failed { IfErr result (λ error. IsWriteFault error
         → HasFailed (W.failed writer.old) (W.failed writer.new)) }
     ensures ended { IfErr result (λ error. IsWriteFault error → W.ended writer.new ≡ true) }
-    ensures sound { IfErr result (λ error. (IsWriteFault error → ⊥) → W.failed writer.new ≡ W.failed writer.old) }
+    ensures sound { IfErr result (λ error. (IsWriteFault error → ⊥)
+        → W.failed writer.new ≡ W.failed writer.old) }
     ensures kind { IfErr result (λ error. IsWriteKind error (W.fault writer.new)) }
     ensures flushes { W.flushes writer.new ≡ W.flushes writer.old }
 {
@@ -135,16 +143,19 @@ fn write_item<W: Sink>(alloc: Global, item: &Item, writer: &mut W) -> Result<(),
     requires { ValidItem item.now }
     ensures taken { OnOk result (Appends (W.taken writer.old) (W.taken writer.new)
         (short_field LAYERS (bytes (canonical_item item.now)))) }
-    ensures small { OnOk result (length (short_field LAYERS (bytes (canonical_item item.now))) ≤ LIMIT) }
+    ensures small { OnOk result (length
+        (short_field LAYERS (bytes (canonical_item item.now))) ≤ LIMIT) }
     ensures honest { OnOk result (W.failed writer.new ≡ W.failed writer.old) }
     ensures too_large { IsErrOf result WriteError.TooLarge
-        → (LIMIT < length (short_field LAYERS (bytes (canonical_item item.now)))) × (writer.new ≡ writer.old) }
+        → (LIMIT < length (short_field LAYERS (bytes (canonical_item item.now))))
+        × (writer.new ≡ writer.old) }
     ensures prefix { OnErr result (TakesPrefix (W.taken writer.old) (W.taken writer.new)
         (short_field LAYERS (bytes (canonical_item item.now)))) }
     ensures failed { IfErr result (λ error. IsWriteFault error
         → HasFailed (W.failed writer.old) (W.failed writer.new)) }
     ensures ended { IfErr result (λ error. IsWriteFault error → W.ended writer.new ≡ true) }
-    ensures sound { IfErr result (λ error. (IsWriteFault error → ⊥) → W.failed writer.new ≡ W.failed writer.old) }
+    ensures sound { IfErr result (λ error. (IsWriteFault error → ⊥)
+        → W.failed writer.new ≡ W.failed writer.old) }
     ensures kind { IfErr result (λ error. IsWriteKind error (W.fault writer.new)) }
     ensures flushes { W.flushes writer.new ≡ W.flushes writer.old }
 {

@@ -14,14 +14,18 @@ pub fn rows_are_the_tile()
 
 /// Rows are one tile at most.
 pub fn rows_are_one_tile()
-    ensures { (table : Table) (tile other : Tile) → IsTileOf table tile → IsTileOf table other → tile ≡ other }
+    ensures { (table : Table) (tile other : Tile) → IsTileOf table tile → IsTileOf table other
+        → tile ≡ other }
 {}
 
-/// Rows that were read can be written, and are written as the canonical bytes of the tile that was read.
+/// Rows that were read can be written, and are written as the canonical bytes of the tile that was
+/// read.
 pub fn read_rows_are_written()
-    ensures written { (input made : List ℕ) (table : Table) → IsRead input table → IsWritten table made
+    ensures written { (input made : List ℕ) (table : Table) → IsRead input table
+        → IsWritten table made
         → IsRewritten input made }
-    ensures too_large { (input : List ℕ) (table : Table) → IsRead input table → IsTooLargeOfRows table
+    ensures too_large { (input : List ℕ) (table : Table) → IsRead input table
+        → IsTooLargeOfRows table
         → IsTooLarge input }
     ensures taken { (input : List ℕ) (table : Table) → IsRead input table → IsNoTile table → ⊥ }
 {}

@@ -1,5 +1,6 @@
-//! A tile as flat rows, and the tile that rows are: each row names the parts that belong to it by where they stand in the
-//! list of their kind. So code in any language follows a tile without calls.
+//! A tile as flat rows, and the tile that rows are: each row names the parts that belong to it by
+//! where they stand in the list of their kind. So code in any language follows a tile without
+//! calls.
 #![tactic(auto)]
 
 pub mod laws;

@@ -1,5 +1,5 @@
-//! A tile as flat rows, which C reads as they stand: each row names the parts that belong to it by where
-//! they stand in the list of their kind.
+//! A tile as flat rows, which C reads as they stand: each row names the parts that belong to it by
+//! where they stand in the list of their kind.
 
 /// Where a part of a list stands: its first entry, and how many there are.
 #[repr(C)]
@@ -9,8 +9,8 @@ pub struct Span {
     pub len: u64,
 }
 
-/// A layer. One of version 2 has a name, an extent, features and its keys and values, each once in order
-/// of first use; one of another version its bytes. What it hasn't is 0.
+/// A layer. One of version 2 has a name, an extent, features and its keys and values, each once in
+/// order of first use; one of another version its bytes. What it hasn't is 0.
 #[repr(C)]
 #[derive(Clone, Copy, Debug, PartialEq, Eq)]
 pub struct LayerRow {
@@ -41,8 +41,9 @@ pub struct FeatureRow {
     pub integers: Span,
 }
 
-/// A value. Its kind is the number of its field (4.1, message Value): 1 a text, 2 a float and 3 a double
-/// by their bit patterns, 4 an int, 5 a uint, 6 a sint, 7 a bool. Negative numbers are in two's complement.
+/// A value. Its kind is the number of its field (4.1, message Value): 1 a text, 2 a float and 3 a
+/// double by their bit patterns, 4 an int, 5 a uint, 6 a sint, 7 a bool. Negative numbers are in
+/// two's complement.
 #[repr(C)]
 #[derive(Clone, Copy, Debug, PartialEq, Eq)]
 pub struct ValueRow {
@@ -52,7 +53,8 @@ pub struct ValueRow {
     pub text: Span,
 }
 
-/// A line, a ring, or all points of a feature of points. A ring's last point is joined to its first.
+/// A line, a ring, or all points of a feature of points. A ring's last point is joined to its
+/// first.
 #[repr(C)]
 #[derive(Clone, Copy, Debug, PartialEq, Eq)]
 pub struct PartRow {
@@ -69,7 +71,8 @@ pub struct PointRow {
     pub y: i32,
 }
 
-/// The rows of a tile, as lists that last until C frees them. An empty list has nothing to be freed.
+/// The rows of a tile, as lists that last until C frees them. An empty list has nothing to be
+/// freed.
 #[repr(C)]
 #[derive(Clone, Copy, Debug)]
 pub struct Rows {

@@ -17,17 +17,12 @@ use Rattle.mvt_tasks.specs.declared.tally.Tally.{Tally}
 use Rattle.mvt_tasks.specs.declared.tally.Verdict.{Verdict}
 use Rattle.mvt_tasks.specs.declared.tally.Verdict.TheVariants.{Accepted, Refused, Unread}
 use Rattle.mvt_tasks.specs.Visits.{AddsAll}
-use Rattle.mvt_tasks.specs.Checks.{AreChecked, Checked, IsCutShort, IsLater, IsSaid, IsSaidOf, IsSaidOfOne, Moment, TakesUntil, Tells, TellsSome, count_of, is_accepted, is_refused, is_unread, tally_of, told_of, verdict_of, visit_of, written_of}
+use Rattle.mvt_tasks.specs.Checks.{AreChecked, Checked, IsCutShort, IsLater, IsNext, IsSaid, IsSaidOf, IsSaidOfOne, Moment, TakesUntil, Tells, count_of, is_accepted, is_refused, is_unread, tally_of, told_of, verdict_of, visit_of, written_of}
 
 -- ---- the error stream
 
 pub tells_nothing : (n : ℕ) (o : Option (List ℕ)) → Tells n n o o []
 tells_nothing n o = record { counts = inl (omega arith); tells = λ none. Appends-nil o }
-
--- an error before anything was told
-pub tells_none : {A F : Type 0} (result : Result A F) (n : ℕ) (o : Option (List ℕ)) → OnErr result (TellsSome n n o o)
-tells_none (Ok answer) n o = tt
-tells_none (Err failure) n o = ([], tells_nothing n o)
 
 later-trans : (a b c : ℕ) → IsLater a b → IsLater b c → IsLater a c
 later-trans a b c (inl h) (inl k) = inl (omega arith)
@@ -50,9 +45,6 @@ tells-trans a b c x y z s t first then = record {
       let small : a < last_count = none.1 in
       Appends-trans x y z s t (first.tells (one, small)) (then.tells (two, (let e : b < last_count = omega arith in e)));
 }
-
-pub tells_more : (a b c : ℕ) (x y z : Option (List ℕ)) (s : List ℕ) → Tells a b x y s → TellsSome b c y z → TellsSome a c x z
-tells_more a b c x y z s first (lines, then) = (s ++ lines, tells-trans a b c x y z s lines first then)
 
 -- ---- visits
 
@@ -183,15 +175,6 @@ said_step limit holds held all names name shown a b c old new verdict said one s
     subst (λ (ns : List (List ℕ)). IsSaidOf limit holds ns a c [] new) (sym all_is)
     (said_more limit holds names name a b c old new verdict said here adds)
 
--- what was told when an error came
-pub told_before : {T F : Type 0} → (r : Result T F) (limit : ℕ) (holds : List ℕ → Option (List ℕ)) (names : List (List ℕ)) (a b : Moment)
-    (failed : ℕ) (errors : Option (List ℕ)) (tally : Tally)
-    → IsSaidOf limit holds names a b [] tally → TellsSome b.failed failed b.errors errors
-    → OnErr r (TellsSome a.failed failed a.errors errors)
-told_before (Ok x) limit holds names a b failed errors tally said some = tt
-told_before (Err x) limit holds names a b failed errors tally said some =
-    tells_more a.failed b.failed failed a.errors b.errors errors (flat_map told_of said.files ++ []) said.told some
-
 -- ---- a run that was over early
 
 -- what is said of a first part of the files, and then until the run was over
@@ -210,61 +193,93 @@ keeps_nothing None y keeps = tt
 keeps_nothing (Some xs) None keeps = absurd keeps
 keeps_nothing (Some xs) (Some ys) keeps = keeps ∙ sym (append-nil xs)
 
--- an end before the first file
-pub cut_first : (limit : ℕ) (holds : List ℕ → Option (List ℕ)) (names : List (List ℕ)) (w : Option (List ℕ))
-    → IsCutShort limit holds names w w Memory
-cut_first limit holds names w = record {
+weaker_err : {T E : Type 0} (r : Result T E) {P Q : E → Type 0} → ((e : E) → P e → Q e) → IfErr r P → IfErr r Q
+weaker_err (Ok x) f h = tt
+weaker_err (Err e) f h = f e h
+
+-- an end before the first file was checked
+pub cut_first : (limit : ℕ) (holds : List ℕ → Option (List ℕ)) (names : List (List ℕ)) (old : Moment) (visits : Option (List Visit))
+    (next : List Visit)
+    → IsNext names next → AddsAll old.visits visits next → IsCutShort limit holds names old (record old { visits = visits }) [] Memory
+cut_first limit holds names old visits next is_next visited = record {
   front = [];
   rest = names;
   files = [];
+  next = next;
   of_names = refl;
   checked = tt;
-  taken = Appends-nil w;
+  is_next = is_next;
+  visited = visited;
+  taken = Appends-nil old.output;
+  told = tells_nothing old.failed old.errors;
 }
 
 -- an end within a file, of which there is something to say
-pub cut_within : (limit : ℕ) (holds : List ℕ → Option (List ℕ)) (name : List ℕ) (w0 w1 : Option (List ℕ)) (failure : Failure)
-    (reply : Option Reply)
-    → IsSaid limit (holds name) reply → TakesUntil w0 w1 (written_of (record { name = name; reply = reply })) failure
-    → IsCutShort limit holds (name ∷ []) w0 w1 failure
-cut_within limit holds name w0 w1 failure reply said takes =
+cut_within : (limit : ℕ) (holds : List ℕ → Option (List ℕ)) (name : List ℕ) (reply : Option Reply) (old new : Moment) (failure : Failure)
+    → IsSaid limit (holds name) reply → AddsAll old.visits new.visits (visit_of name reply ∷ [])
+    → TakesUntil old.output new.output (written_of (record { name = name; reply = reply })) failure
+    → Tells old.failed new.failed old.errors new.errors (told_of (record { name = name; reply = reply }))
+    → IsCutShort limit holds (name ∷ []) old new [] failure
+cut_within limit holds name reply old new failure said visited takes told =
     let file : Checked = record { name = name; reply = reply } in
     record {
       front = name ∷ [];
       rest = [];
       files = file ∷ [];
+      next = [];
       of_names = refl;
       checked = ((refl, said), tt);
-      taken = subst (λ text. TakesUntil w0 w1 text failure) (sym (append-nil (written_of file))) takes;
+      is_next = tt;
+      visited = visited;
+      taken = subst (λ text. TakesUntil old.output new.output text failure) (sym (append-nil (written_of file))) takes;
+      told = subst (Tells old.failed new.failed old.errors new.errors)
+          (sym (append-nil (told_of file ++ []) ∙ append-nil (told_of file))) told;
     }
 
 -- an end after the last file
-pub cut_last : (limit : ℕ) (holds : List ℕ → Option (List ℕ)) (names : List (List ℕ)) (a b : Moment) (line : List ℕ) (tally : Tally)
+cut_last : (limit : ℕ) (holds : List ℕ → Option (List ℕ)) (names : List (List ℕ)) (a b : Moment) (tally : Tally)
     (w : Option (List ℕ)) (failure : Failure)
-    → IsSaidOf limit holds names a b line tally → TakesUntil b.output w [] failure → IsCutShort limit holds names a.output w failure
-cut_last limit holds names a b line tally w failure said takes = record {
+    → IsSaidOf limit holds names a b [] tally → TakesUntil b.output w [] failure
+    → IsCutShort limit holds names a (record b { output = w }) [] failure
+cut_last limit holds names a b tally w failure said takes = record {
   front = names;
   rest = [];
   files = said.files;
+  next = [];
   of_names = sym (append-nil names);
   checked = said.checked;
+  is_next = tt;
+  visited =
+      subst (AddsAll a.visits b.visits) (sym (append-nil (map (λ (f : Checked). visit_of f.name f.reply) said.files))) said.visited;
   taken =
       subst (λ text. TakesUntil a.output w text failure) (append-nil (flat_map written_of said.files))
       (takes_on a.output b.output w (flat_map written_of said.files) [] failure said.written takes);
+  told = said.told;
 }
 
+next_more : (rest behind : List (List ℕ)) (next : List Visit) → IsNext rest next → IsNext (rest ++ behind) next
+next_more rest behind [] is = tt
+next_more [] behind (v ∷ vs) is = absurd is
+next_more (name ∷ names) behind (v ∷ []) is = is
+next_more (name ∷ names) behind (v ∷ w ∷ vs) is = absurd is
+
 -- an end at a file behind others
-pub cut_later : (limit : ℕ) (holds held : List ℕ → Option (List ℕ)) (all names : List (List ℕ)) (name shown : List ℕ)
-    (behind : List (List ℕ))
-    (a b : Moment) (line : List ℕ) (tally : Tally) (w : Option (List ℕ)) (failure : Failure)
-    → IsSaidOf limit holds names a b line tally → IsCutShort limit held (shown ∷ []) b.output w failure → held ≡ holds → shown ≡ name
-    → all ≡ names ++ name ∷ behind → IsCutShort limit holds all a.output w failure
-cut_later limit holds held all names name shown behind a b line tally w failure said cut same shows all_is =
+cut_later : (limit : ℕ) (holds held : List ℕ → Option (List ℕ)) (all names : List (List ℕ)) (name shown : List ℕ)
+    (behind : List (List ℕ)) (a b c : Moment) (tally : Tally) (failure : Failure)
+    → IsSaidOf limit holds names a b [] tally → IsCutShort limit held (shown ∷ []) b c [] failure → held ≡ holds → shown ≡ name
+    → all ≡ names ++ name ∷ behind → IsCutShort limit holds all a c [] failure
+cut_later limit holds held all names name shown behind a b c tally failure said cut same shows all_is =
     let one : shown ∷ [] ≡ cut.front ++ cut.rest = cut.of_names in
+    let visits = λ (fs : List Checked). map (λ f. visit_of f.name f.reply) fs in
+    let lines : (flat_map told_of said.files ++ []) ++ (flat_map told_of cut.files ++ []) ≡ flat_map told_of (said.files ++ cut.files) ++ [] =
+    ap (λ t. t ++ (flat_map told_of cut.files ++ [])) (append-nil (flat_map told_of said.files))
+    ∙ sym (append_assoc (flat_map told_of said.files) (flat_map told_of cut.files) [])
+    ∙ ap (λ t. t ++ []) (sym (flat_map-append told_of said.files cut.files)) in
     record {
       front = names ++ cut.front;
       rest = cut.rest ++ behind;
       files = said.files ++ cut.files;
+      next = cut.next;
       of_names =
           all_is ∙ ap (λ n. names ++ n ∷ behind) (sym shows) ∙ ap (λ ns. names ++ (ns ++ behind)) one
           ∙ ap (λ ns. names ++ ns) (append_assoc cut.front cut.rest behind) ∙ sym (append_assoc names cut.front (cut.rest ++ behind));
@@ -272,50 +287,83 @@ cut_later limit holds held all names name shown behind a b line tally w failure 
           related-append (λ n (f : Checked). (f.name ≡ n) × IsSaid limit (holds n) f.reply) names said.files cut.front
           cut.files said.checked
           (subst (λ (h : List ℕ → Option (List ℕ)). AreChecked limit h cut.front cut.files) same cut.checked);
+      is_next = next_more cut.rest behind cut.next cut.is_next;
+      visited =
+          subst (AddsAll a.visits c.visits)
+          (sym (ap (λ l. l ++ cut.next) (map-append (λ (f : Checked). visit_of f.name f.reply) said.files cut.files)
+          ∙ append_assoc (visits said.files) (visits cut.files) cut.next))
+          (adds-trans a.visits b.visits c.visits (visits said.files) (visits cut.files ++ cut.next) said.visited cut.visited);
       taken =
-          subst (λ text. TakesUntil a.output w text failure) (sym (flat_map-append written_of said.files cut.files))
-          (takes_on a.output b.output w (flat_map written_of said.files) (flat_map written_of cut.files) failure said.written cut.taken);
+          subst (λ text. TakesUntil a.output c.output text failure) (sym (flat_map-append written_of said.files cut.files))
+          (takes_on a.output b.output c.output (flat_map written_of said.files) (flat_map written_of cut.files) failure said.written cut.taken);
+      told =
+          subst (Tells a.failed c.failed a.errors c.errors) lines
+          (tells-trans a.failed b.failed c.failed a.errors b.errors c.errors (flat_map told_of said.files ++ [])
+          (flat_map told_of cut.files ++ []) said.told cut.told);
     }
 
-pub cut_first_of : {T : Type 0}
-    → (r : Result T Failure) (limit : ℕ) (holds : List ℕ → Option (List ℕ)) (names : List (List ℕ)) (w : Option (List ℕ))
-    → IfErr r (λ failure. failure ≡ Memory) → IfErr r (IsCutShort limit holds names w w)
-cut_first_of (Ok x) limit holds names w is = tt
-cut_first_of (Err failure) limit holds names w is = subst (IsCutShort limit holds names w w) (sym is) (cut_first limit holds names w)
+-- the line that tells why
+pub cut_told : (limit : ℕ) (holds : List ℕ → Option (List ℕ)) (names : List (List ℕ)) (a b : Moment) (failed : ℕ)
+    (errors : Option (List ℕ)) (line : List ℕ) (failure : Failure)
+    → IsCutShort limit holds names a b [] failure → Tells b.failed failed b.errors errors line
+    → IsCutShort limit holds names a (record b { failed = failed; errors = errors }) line failure
+cut_told limit holds names a b failed errors line failure cut told = record {
+  front = cut.front;
+  rest = cut.rest;
+  files = cut.files;
+  next = cut.next;
+  of_names = cut.of_names;
+  checked = cut.checked;
+  is_next = cut.is_next;
+  visited = cut.visited;
+  taken = cut.taken;
+  told =
+      subst (λ text. Tells a.failed failed a.errors errors (text ++ line)) (append-nil (flat_map told_of cut.files))
+      (tells-trans a.failed b.failed failed a.errors b.errors errors (flat_map told_of cut.files ++ []) line cut.told told);
+}
 
-pub cut_within_of : {T : Type 0}
-    → (r : Result T Failure) (limit : ℕ) (holds : List ℕ → Option (List ℕ)) (name : List ℕ) (w0 w1 : Option (List ℕ))
-    (reply : Option Reply)
-    → IsSaid limit (holds name) reply → IfErr r (TakesUntil w0 w1 (written_of (record { name = name; reply = reply })))
-    → IfErr r (IsCutShort limit holds (name ∷ []) w0 w1)
-cut_within_of (Ok x) limit holds name w0 w1 reply said takes = tt
-cut_within_of (Err failure) limit holds name w0 w1 reply said takes = cut_within limit holds name w0 w1 failure reply said takes
+pub cut_at_first : (limit : ℕ) (holds : List ℕ → Option (List ℕ)) (names : List (List ℕ)) (old : Moment) (failed : ℕ)
+    (errors : Option (List ℕ)) (line : List ℕ)
+    → Tells old.failed failed old.errors errors line
+    → IsCutShort limit holds names old (record old { failed = failed; errors = errors }) line Memory
+cut_at_first limit holds names old failed errors line told =
+    cut_told limit holds names old old failed errors line Memory
+    (cut_first limit holds names old old.visits [] tt (adds_nothing old.visits)) told
 
-pub cut_unwritten : {T : Type 0}
-    → (r : Result T Failure) (limit : ℕ) (holds : List ℕ → Option (List ℕ)) (names : List (List ℕ)) (a b : Moment)
-    (line : List ℕ) (tally : Tally)
-    → IsSaidOf limit holds names a b line tally → IfErr r (λ failure. failure ≡ Memory)
-    → IfErr r (IsCutShort limit holds names a.output b.output)
-cut_unwritten (Ok x) limit holds names a b line tally said is = tt
-cut_unwritten (Err failure) limit holds names a b line tally said is =
-    cut_last limit holds names a b line tally b.output failure said
-    (subst (TakesUntil b.output b.output []) (sym is) (Appends-nil b.output))
+-- of an answer
 
-pub cut_unflushed : {T : Type 0}
-    → (r : Result T Failure) (limit : ℕ) (holds : List ℕ → Option (List ℕ)) (names : List (List ℕ)) (a b : Moment)
-    (line : List ℕ) (tally : Tally) (w : Option (List ℕ))
-    → IsSaidOf limit holds names a b line tally → Keeps b.output w → IfErr r (λ failure. failure ≡ Write)
-    → IfErr r (IsCutShort limit holds names a.output w)
-cut_unflushed (Ok x) limit holds names a b line tally w said keeps is = tt
-cut_unflushed (Err failure) limit holds names a b line tally w said keeps is =
-    cut_last limit holds names a b line tally w failure said
-    (subst (TakesUntil b.output w []) (sym is) (0, (omega arith), keeps_nothing b.output w keeps))
+module _ {T : Type 0} (r : Result T Failure) (limit : ℕ) (holds : List ℕ → Option (List ℕ)) where
+  pub cut_first_of : (name : List ℕ) (old : Moment) (visits : Option (List Visit)) (v : Visit) → v.name ≡ name
+      → AddsAll old.visits visits (v ∷ []) → IfErr r (λ failure. failure ≡ Memory)
+      → IfErr r (IsCutShort limit holds (name ∷ []) old (record old { visits = visits }) [])
+  cut_first_of name old visits v of_name visited is =
+      weaker_err r (λ failure is_memory. subst (IsCutShort limit holds (name ∷ []) old (record old { visits = visits }) []) (sym is_memory)
+      (cut_first limit holds (name ∷ []) old visits (v ∷ []) of_name visited)) is
 
-pub cut_later_of : {T : Type 0}
-    → (r : Result T Failure) (limit : ℕ) (holds held : List ℕ → Option (List ℕ)) (all names : List (List ℕ)) (name shown : List ℕ)
-    (behind : List (List ℕ)) (a b : Moment) (line : List ℕ) (tally : Tally) (w : Option (List ℕ))
-    → IsSaidOf limit holds names a b line tally → IfErr r (IsCutShort limit held (shown ∷ []) b.output w) → held ≡ holds → shown ≡ name
-    → all ≡ names ++ name ∷ behind → IfErr r (IsCutShort limit holds all a.output w)
-cut_later_of (Ok x) limit holds held all names name shown behind a b line tally w said cut same shows all_is = tt
-cut_later_of (Err failure) limit holds held all names name shown behind a b line tally w said cut same shows all_is =
-    cut_later limit holds held all names name shown behind a b line tally w failure said cut same shows all_is
+  pub cut_within_of : (name : List ℕ) (reply : Option Reply) (old new : Moment) → IsSaid limit (holds name) reply
+      → AddsAll old.visits new.visits (visit_of name reply ∷ [])
+      → IfErr r (TakesUntil old.output new.output (written_of (record { name = name; reply = reply })))
+      → Tells old.failed new.failed old.errors new.errors (told_of (record { name = name; reply = reply }))
+      → IfErr r (IsCutShort limit holds (name ∷ []) old new [])
+  cut_within_of name reply old new said visited takes told =
+      weaker_err r (λ failure took. cut_within limit holds name reply old new failure said visited took told) takes
+
+  pub cut_unwritten : (names : List (List ℕ)) (a b : Moment) (tally : Tally) → IsSaidOf limit holds names a b [] tally
+      → IfErr r (λ failure. failure ≡ Memory) → IfErr r (IsCutShort limit holds names a b [])
+  cut_unwritten names a b tally said is =
+      weaker_err r (λ failure is_memory. cut_last limit holds names a b tally b.output failure said
+      (subst (TakesUntil b.output b.output []) (sym is_memory) (Appends-nil b.output))) is
+
+  pub cut_unflushed : (names : List (List ℕ)) (a b : Moment) (tally : Tally) (w : Option (List ℕ))
+      → IsSaidOf limit holds names a b [] tally → Keeps b.output w → IfErr r (λ failure. failure ≡ Write)
+      → IfErr r (IsCutShort limit holds names a (record b { output = w }) [])
+  cut_unflushed names a b tally w said keeps is =
+      weaker_err r (λ failure is_write. cut_last limit holds names a b tally w failure said
+      (subst (TakesUntil b.output w []) (sym is_write) (0, (omega arith), keeps_nothing b.output w keeps))) is
+
+  pub cut_later_of : (held : List ℕ → Option (List ℕ)) (all names : List (List ℕ)) (name shown : List ℕ)
+      (behind : List (List ℕ)) (a b c : Moment) (tally : Tally)
+      → IsSaidOf limit holds names a b [] tally → IfErr r (IsCutShort limit held (shown ∷ []) b c []) → held ≡ holds → shown ≡ name
+      → all ≡ names ++ name ∷ behind → IfErr r (IsCutShort limit holds all a c [])
+  cut_later_of held all names name shown behind a b c tally said cut same shows all_is =
+      weaker_err r (λ failure one. cut_later limit holds held all names name shown behind a b c tally failure said one same shows all_is) cut

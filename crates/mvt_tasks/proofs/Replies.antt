@@ -1,5 +1,5 @@
 -- A reply that was put out answers its input.
-use Rattle.std.proofs.Common.{◌≡◌, ℕ, ◌<◌, ◌≤◌, Bool, true, false, nat_lt, List, length, slice_get, Option, Some, None, Result, Ok, Err, IfErr, OnErr, inl, inr, refl, sym, ap, subst, ◌∙◌, arith, codes, if◌then◌else◌}
+use Rattle.std.proofs.Common.{◌≡◌, ℕ, ◌<◌, ◌≤◌, Bool, true, false, nat_lt, List, length, slice_get, Option, Some, None, inl, inr, refl, sym, ap, ◌∙◌, arith, codes, if◌then◌else◌}
 use Rattle.std.specs.Prelude.{IfSome}
 use Rattle.std.specs.Option.{option_map}
 use Rattle.std.proofs.lemmas.Bool.Decides.{nat_tests}
@@ -15,20 +15,9 @@ use Rattle.mvt_tile.specs.Extraction.{pick, first_missing}
 use Rattle.mvt_tile.specs.Reading.{fault_of}
 use Rattle.mvt_tile.specs.TileRules.{fault_within}
 use Rattle.mvt_tasks.specs.declared.reply.Reply.{Reply}
-use Rattle.mvt_tasks.specs.declared.task.Task.TheVariants.{Rewrite, Extract}
-use Rattle.mvt_tasks.specs.declared.failure.Failure.{Failure}
-use Rattle.mvt_tasks.specs.declared.failure.Failure.TheVariants.{Write}
-use Rattle.mvt_tasks.specs.Failures.{IsRefusal, LeavesOutput}
-use Rattle.mvt_tasks.specs.Output.{IsTold, IsWhole, Answers, PutsOut, done, refused, bytes_reply, layers_reply, layers_reply_or, missing_line}
+use Rattle.mvt_tasks.specs.Failures.{IsRefusal}
+use Rattle.mvt_tasks.specs.Output.{IsTold, done, refused, bytes_reply, layers_reply, layers_reply_or, missing_line}
 use Rattle.mvt_tasks.proofs.Picks.{missing_at, none_missing}
-
-pub done_put : (reply : Reply) (text : List ℕ) (Untouched : Type 0) (Writes : List ℕ → Type 0) → reply ≡ done text → Writes text
-    → (None ≡ reply.told) × PutsOut Untouched Writes reply
-done_put reply text Untouched Writes is writes = (sym (ap (λ (r : Reply). r.told) is), subst (PutsOut Untouched Writes) (sym is) writes)
-
-pub refused_put : (reply : Reply) (line : List ℕ) (Untouched : Type 0) (Writes : List ℕ → Type 0) → reply ≡ refused line → Untouched
-    → (Some line ≡ reply.told) × PutsOut Untouched Writes reply
-refused_put reply line Untouched Writes is same = (sym (ap (λ (r : Reply). r.told) is), subst (PutsOut Untouched Writes) (sym is) same)
 
 pub small_reply : (limit : ℕ) (tile : Tile) → length (canonical tile) ≤ limit → bytes_reply limit tile ≡ done (canonical tile)
 unfolding bytes_reply
@@ -65,6 +54,26 @@ refused_told limit of_tile input Memory line tells is = absurd is
 refused_told limit of_tile input (Fault fault) line tells is = inr (fault, tells, ap refused is)
 refused_told limit of_tile input (Read kind) line tells is = absurd is
 
+-- the reply for the named layers of a tile
+
+module _ (limit : ℕ) (tile : Tile) (names : List (List ℕ)) where
+  pub extracted_bytes : (bytes made : List ℕ) → made ≡ bytes
+      → (first_missing tile names ≡ None) × (bytes ≡ canonical (pick tile names)) × (length (canonical (pick tile names)) ≤ limit)
+      → done made ≡ layers_reply limit names tile
+  extracted_bytes bytes made same (none, is, small) =
+      ap done (same ∙ is) ∙ sym (picked_reply limit tile (pick tile names) names none refl ∙ small_reply limit (pick tile names) small)
+
+  pub extracted_large : (line : List ℕ) → line ≡ codes "mvt: result larger than 67108864 bytes\n"
+      → (first_missing tile names ≡ None) × (limit < length (canonical (pick tile names))) → refused line ≡ layers_reply limit names tile
+  extracted_large line is (none, large) =
+      ap refused is ∙ sym (picked_reply limit tile (pick tile names) names none refl ∙ large_reply limit (pick tile names) large)
+
+pub layers_told : (limit : ℕ) (left : Option (List ℕ)) (names shown : List (List ℕ)) (tile : Tile) (reply : Reply) → shown ≡ names
+    → reply ≡ layers_reply limit shown tile → IfSome left (λ input. IsTile limit input tile)
+    → IfSome left (λ input. IsTold limit (layers_reply limit names) input reply)
+layers_told limit left names shown tile reply same is there =
+    IfSome_then left there (λ input is_tile. inl (tile, is_tile, is ∙ ap (λ ns. layers_reply limit ns tile) same))
+
 -- the canonical bytes of a tile, or that they are more than the limit
 
 module _ (limit : ℕ) (left : Option (List ℕ)) (tile : Tile) (there : IfSome left (λ input. IsTile limit input tile × Valid tile)) where
@@ -77,36 +86,3 @@ module _ (limit : ℕ) (left : Option (List ℕ)) (tile : Tile) (there : IfSome 
       → IfSome left (λ input. IsTold limit (bytes_reply limit) input (refused line))
   not_rewritten line is large =
       IfSome_then left there (λ input both. inl (tile, both.0, ap refused is ∙ sym (large_reply limit tile large)))
-
--- after a failed write
-
-pub left_partly : {A : Type 0} (r : Result A Failure) (Untouched Partly Failed : Type 0) → IfErr r (λ failure. (failure ≡ Write) × Failed)
-    → OnErr r Partly → IfErr r (LeavesOutput true Untouched Partly)
-left_partly (Ok x) Untouched Partly Failed failed partly = tt
-left_partly (Err e) Untouched Partly Failed failed partly = subst (LeavesOutput true Untouched Partly) (sym failed.0) partly
-
-put_bytes : (limit : ℕ) (tile : Tile) (Taken : List ℕ → Type 0) (large : Bool) → nat_lt limit (length (canonical tile)) ≡ large
-    → PutsOut ⊥ Taken (bytes_reply limit tile) → Taken (canonical tile)
-unfolding bytes_reply
-put_bytes limit tile Taken true is put =
-    absurd (subst (λ (b : Bool). PutsOut ⊥ Taken (if b then refused (codes "mvt: result larger than 67108864 bytes\n") else done (canonical tile)))
-    is put)
-put_bytes limit tile Taken false is put =
-    subst (λ (b : Bool). PutsOut ⊥ Taken (if b then refused (codes "mvt: result larger than 67108864 bytes\n") else done (canonical tile)))
-    is put
-
-pub rewrite_partly : (limit : ℕ) (left : Option (List ℕ)) (reply : Reply) (Taken : List ℕ → Type 0)
-    → IfSome left (λ input. IsTold limit (bytes_reply limit) input reply) → PutsOut ⊥ Taken reply
-    → IfSome left (λ input. (text : List ℕ) × IsWhole limit Rewrite input text × Taken text)
-rewrite_partly limit None reply Taken told put = tt
-rewrite_partly limit (Some input) reply Taken (inl (tile, is, e)) put =
-    (canonical tile, (tile, is, refl), put_bytes limit tile Taken (nat_lt limit (length (canonical tile))) refl (subst (PutsOut ⊥ Taken) e put))
-rewrite_partly limit (Some input) reply Taken (inr (fault, is, e)) put = absurd (subst (PutsOut ⊥ Taken) e put)
-
-pub extract_refused : (limit : ℕ) (names : List (List ℕ)) (left : Option (List ℕ)) (error : DecodeError) (line : List ℕ)
-    (Untouched : Type 0) (Writes : List ℕ → Type 0)
-    → IfSome left (λ input. Tells (fault_of error) (fault_within limit input)) → IsRefusal error line → Untouched
-    → IfSome left (Answers limit (Extract names) (Some line) Untouched Writes)
-extract_refused limit names None error line Untouched Writes tells is same = tt
-extract_refused limit names (Some input) error line Untouched Writes tells is same =
-    (refused line, refused_told limit (layers_reply limit names) input error line tells is, refl, same)

@@ -14,7 +14,7 @@ use Rattle.mvt_tasks.specs.declared.tally.Tally.{Tally}
 use Rattle.mvt_tasks.specs.declared.tally.Verdict.{Verdict}
 use Rattle.mvt_tasks.specs.declared.tally.Verdict.TheVariants.{Accepted, Refused, Unread}
 use Rattle.mvt_tasks.specs.declared.task.Task.TheVariants.{Check}
-use Rattle.mvt_tasks.specs.Failures.{line_of, status_of, EndsFailed, IsCaused}
+use Rattle.mvt_tasks.specs.Failures.{line_of, status_of, FailsWriting}
 use Rattle.mvt_tasks.specs.Output.{IsReply}
 use Rattle.mvt_tasks.specs.Visits.{visit, Adds, AddsAll}
 
@@ -145,30 +145,37 @@ pub record IsSaidOfOne (limit : ℕ) (holds : List ℕ → Option (List ℕ)) (n
   pub told : Tells old.failed new.failed old.errors new.errors (told_of (record { name = name; reply = reply }))
   pub judged : verdict ≡ verdict_of reply
 
--- a run ends before its last file only where a call of the output failed, which was the only one that did, and the last;
--- or for want of memory, where none failed
-abbrev pub IsOver : ℕ → ℕ → Bool → Failure → Type 0
-IsOver failed_old failed_new ended failure = IsCaused ⊥ (EndsFailed failed_old failed_new ended) (failed_new ≡ failed_old) failure
-
 -- what was taken of a text when a run was over: a front after a failed write, and all of it where memory was wanting
 abbrev pub TakesUntil : Option (List ℕ) → Option (List ℕ) → List ℕ → Failure → Type 0
 TakesUntil old new text Read = ⊥
 TakesUntil old new text Write = TakesPrefix old new text
 TakesUntil old new text Memory = Appends old new text
 
--- a run that was over early: the files of a front of the names were checked, in order, and what there is to say of them was taken
-pub record IsCutShort (limit : ℕ) (holds : List ℕ → Option (List ℕ)) (names : List (List ℕ))
-    (output_old output_new : Option (List ℕ)) (failure : Failure) : Type 0 where
+-- at most one visit more, to the first of these files
+abbrev pub IsNext : List (List ℕ) → List Visit → Type 0
+IsNext names [] = ⊤
+IsNext [] (v ∷ vs) = ⊥
+IsNext (name ∷ names) (v ∷ []) = v.name ≡ name
+IsNext (name ∷ names) (v ∷ w ∷ vs) = ⊥
+
+-- a run that was over early: the files of a front of the names were checked, in order, at most one more was visited, what
+-- there is to say of the checked ones was taken, and on the error stream one line more
+pub record IsCutShort (limit : ℕ) (holds : List ℕ → Option (List ℕ)) (names : List (List ℕ)) (old new : Moment)
+    (line : List ℕ) (failure : Failure) : Type 0 where
   pub front : List (List ℕ)
   pub rest : List (List ℕ)
   pub files : List Checked
+  pub next : List Visit
   pub of_names : names ≡ front ++ rest
   pub checked : AreChecked limit holds front files
-  pub taken : TakesUntil output_old output_new (flat_map written_of files) failure
+  pub is_next : IsNext rest next
+  pub visited : AddsAll old.visits new.visits (map (λ file. visit_of file.name file.reply) files ++ next)
+  pub taken : TakesUntil old.output new.output (flat_map written_of files) failure
+  pub told : Tells old.failed new.failed old.errors new.errors (flat_map told_of files ++ line)
 
--- the error stream grew by some lines
-abbrev pub TellsSome : ℕ → ℕ → Option (List ℕ) → Option (List ℕ) → Type 0
-TellsSome failed_old failed_new old new = (lines : List ℕ) × Tells failed_old failed_new old new lines
+-- the output was flushed where a flush failed, and else not
+abbrev pub FlushesAtMost : ℕ → ℕ → Failure → Type 0
+FlushesAtMost old new failure = (new ≡ old) ⊎ ((failure ≡ Write) × (new ≡ counted old))
 
 -- of the output: how often it was flushed, how many of its calls failed, and whether the last one did
 pub record Calls : Type 0 where
@@ -180,11 +187,11 @@ abbrev pub calls : ℕ → ℕ → Bool → Calls
 calls flushes failed ended = record { flushes = flushes; failed = failed; ended = ended }
 
 -- all is said of the files of these names, the output was flushed once, none of its calls failed, and the status tells how
--- the files were judged; or the run was over before, with a front of this on the output, and the last line tells why
+-- the files were judged; or the run was over before, with a front of this on the output, not flushed but by a call that
+-- failed, and the last line tells why
 abbrev pub IsToldOfAll : ℕ → (List ℕ → Option (List ℕ)) → List (List ℕ) → Moment → Moment → Calls → Calls → ℕ → Type 0
 IsToldOfAll limit holds names old new before after status =
     ((tally : Tally) × IsSaidOf limit holds names old new (summary (length names) tally) tally
     × (after.flushes ≡ counted before.flushes) × (after.failed ≡ before.failed) × (status ≡ status_after tally))
-    ⊎ ((failure : Failure) × IsOver before.failed after.failed after.ended failure × (status ≡ status_of failure)
-    × IsCutShort limit holds names old.output new.output failure
-    × ((lines : List ℕ) × (NoneFailed old.failed new.failed → Appends old.errors new.errors (lines ++ line_of failure))))
+    ⊎ ((failure : Failure) × FailsWriting before.failed after.failed after.ended failure × (status ≡ status_of failure)
+    × IsCutShort limit holds names old new (line_of failure) failure × FlushesAtMost before.flushes after.flushes failure)

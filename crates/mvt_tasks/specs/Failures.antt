@@ -1,5 +1,5 @@
--- Why a run ends before its output is complete: its status, its line, its cause, and what it leaves of the output.
-use Rattle.std.specs.Prelude.{◌≡◌, ℕ, ◌⊎◌, Bool, true, false, List, ◌++◌, codes}
+-- Why a run ends before its output is complete: its status, its line and its cause.
+use Rattle.std.specs.Prelude.{◌≡◌, ℕ, Bool, true, List, ◌++◌, codes}
 use Rattle.mvt_io.specs.Counts.{HasFailed}
 use Rattle.mvt_io.specs.declared.read_error.ReadError.{ReadError}
 use Rattle.mvt_io.specs.declared.read_error.ReadError.TheVariants as reading
@@ -28,19 +28,17 @@ failure_of reading.Memory = Memory
 abbrev pub EndsFailed : ℕ → ℕ → Bool → Type 0
 EndsFailed old new ended = HasFailed old new × (ended ≡ true)
 
--- a failure has its cause in the reader, in the writer, or in neither
-abbrev pub IsCaused : Type 0 → Type 0 → Type 0 → Failure → Type 0
-IsCaused ReadFailed WriteFailed NothingFailed Read = ReadFailed
-IsCaused ReadFailed WriteFailed NothingFailed Write = WriteFailed
-IsCaused ReadFailed WriteFailed NothingFailed Memory = NothingFailed
+-- the reader where no reply could be made: a read failed, and was the last; or memory was wanting, and none failed
+abbrev pub FailsReading : ℕ → ℕ → Bool → Failure → Type 0
+FailsReading old new ended Read = EndsFailed old new ended
+FailsReading old new ended Write = ⊥
+FailsReading old new ended Memory = new ≡ old
 
--- a failure leaves the output as it was, or partly written: after a failed write, and for want of memory where the text
--- isn't made whole before it is written
-abbrev pub LeavesOutput : Bool → Type 0 → Type 0 → Failure → Type 0
-LeavesOutput is_made_whole Untouched Partly Read = Untouched
-LeavesOutput is_made_whole Untouched Partly Write = Partly
-LeavesOutput true Untouched Partly Memory = Untouched
-LeavesOutput false Untouched Partly Memory = Untouched ⊎ Partly
+-- the output where not all could be put out: a call failed, and was the last; or memory was wanting, and none failed
+abbrev pub FailsWriting : ℕ → ℕ → Bool → Failure → Type 0
+FailsWriting old new ended Read = ⊥
+FailsWriting old new ended Write = EndsFailed old new ended
+FailsWriting old new ended Memory = new ≡ old
 
 -- the line, with its line feed, of a tile that is refused
 abbrev pub IsRefusal : DecodeError → List ℕ → Type 0

@@ -1,12 +1,14 @@
 -- What a run puts on its output and its error stream, and its status.
-use Rattle.std.specs.Prelude.{◌≡◌, ℕ, ◌⊎◌, List, ◌++◌, length, nat_lt, find, not, Bool, Option, Some, None, bytes_eq, if◌then◌else◌, codes, true, false, MatchOption, IsSome, ⊤}
+use Rattle.std.specs.Prelude.{◌≡◌, ℕ, ◌+◌, ◌⊎◌, Bool, List, ◌++◌, length, nat_lt, find, not, Option, Some, None, bytes_eq, if◌then◌else◌, codes, MatchOption, IfSome, IsSome, ⊤}
 use Rattle.std.specs.Option.{option_map}
 use Rattle.std.specs.List.{list_any}
+use Rattle.mvt_io.specs.Transfers.{TakesAtMost}
 use Rattle.serde_json.specs.Written.{compact_text}
 use Rattle.mvt_tile.specs.declared.fault.Fault.{Fault}
 use Rattle.mvt_model.specs.declared.tile.Tile.{Tile}
 use Rattle.mvt_model.specs.CanonicalTiles.{canonical}
 use Rattle.mvt_tile.specs.Extraction.{is_named, pick}
+use Rattle.mvt_tile.specs.Reading.{StopsEarly}
 use Rattle.mvt_tile.specs.TileRules.{fault_within}
 use Rattle.mvt_model.specs.Tiles.{IsTile}
 use Rattle.mvt_view.specs.FaultLines.{fault_line}
@@ -88,61 +90,33 @@ IsReply limit Check input reply = IsTold limit (λ tile. done (check_lines input
 IsReply limit Rewrite input reply = IsTold limit (bytes_reply limit) input reply
 IsReply limit (Extract names) input reply = IsTold limit (layers_reply limit names) input reply
 
--- the text that is made of the tile that an input is
-abbrev pub IsOf : ℕ → (Tile → List ℕ) → List ℕ → List ℕ → Type 0
-IsOf limit of_tile input text = (tile : Tile) × IsTile limit input tile × (text ≡ of_tile tile)
-
--- all that a task writes for an input, where nothing keeps it from that
-abbrev pub IsWhole : ℕ → Task → List ℕ → List ℕ → Type 0
-IsWhole limit Fields input text = text ≡ fields_lines limit input
-IsWhole limit Show input text = IsOf limit json_lines input text
-IsWhole limit Draw input text = IsOf limit svg_lines input text
-IsWhole limit Check input text = IsOf limit (check_lines input) input text
-IsWhole limit Rewrite input text = IsOf limit canonical input text
-IsWhole limit (Extract names) input text = IsOf limit (λ tile. canonical (pick tile names)) input text
-
--- the text is made whole before its first byte is written
-abbrev pub is_made_whole : Task → Bool
-is_made_whole Fields = true
-is_made_whole Show = true
-is_made_whole Draw = true
-is_made_whole Check = true
-is_made_whole Rewrite = true
-is_made_whole (Extract names) = false
-
--- of a task that reads its input whole before it works
-abbrev pub IfReadWhole : Task → Type 0 → Type 0
-IfReadWhole Fields P = P
-IfReadWhole Show P = ⊤
-IfReadWhole Draw P = ⊤
-IfReadWhole Check P = P
-IfReadWhole Rewrite P = ⊤
-IfReadWhole (Extract names) P = ⊤
+-- how far a task reads: at most one byte beyond the limit; or no further behind a fault
+abbrev pub ReadsNoFurther : ℕ → Task → ℕ → Option (List ℕ) → Option (List ℕ) → Type 0
+ReadsNoFurther limit Fields given old new = TakesAtMost (limit + 1) old new
+ReadsNoFurther limit Show given old new = StopsEarly limit given old new
+ReadsNoFurther limit Draw given old new = StopsEarly limit given old new
+ReadsNoFurther limit Check given old new = TakesAtMost (limit + 1) old new
+ReadsNoFurther limit Rewrite given old new = StopsEarly limit given old new
+ReadsNoFurther limit (Extract names) given old new = StopsEarly limit given old new
 
 -- a line is told exactly with status 1
 abbrev pub status_with : Option (List ℕ) → ℕ
 status_with None = 0
 status_with (Some line) = 1
 
+-- a reply without a line has a text
+abbrev pub HasOutput : Reply → Type 0
+HasOutput reply = MatchOption reply.told (IsSome reply.written) (λ line. ⊤)
+
 -- the text of a reply was put out; of a reply without a text the output stayed as it was
 abbrev pub PutsOut : Type 0 → (List ℕ → Type 0) → Reply → Type 0
 PutsOut Untouched Writes reply = MatchOption reply.written Untouched Writes
 
--- what was told, and what was put out, is a reply of the task
-abbrev pub Answers : ℕ → Task → Option (List ℕ) → Type 0 → (List ℕ → Type 0) → List ℕ → Type 0
-Answers limit task told Untouched Writes input =
-    (reply : Reply) × IsReply limit task input reply × (told ≡ reply.told) × PutsOut Untouched Writes reply
+-- a reply was given: its text was put out, its line was told, and the status says whether there is one
+abbrev pub Gives : ℕ → Type 0 → (List ℕ → Type 0) → Type 0 → (List ℕ → Type 0) → Reply → Type 0
+Gives status Untouched Writes Silent Tells reply =
+    (status ≡ status_with reply.told) × PutsOut Untouched Writes reply × MatchOption reply.told Silent Tells
 
--- the status, what was told and what was put out are a reply of the task
-abbrev pub Gives : ℕ → Task → ℕ → Type 0 → (List ℕ → Type 0) → Type 0 → (List ℕ → Type 0) → List ℕ → Type 0
-Gives limit task status Untouched Writes Silent Tells input =
-    (reply : Reply) × IsReply limit task input reply × (status ≡ status_with reply.told)
-    × PutsOut Untouched Writes reply × MatchOption reply.told Silent Tells
-
--- a complete output was flushed; where a line is told the output may also have stayed as it was
-abbrev pub IsFlushed : Type 0 → Type 0 → Option (List ℕ) → Type 0
-IsFlushed Untouched Flushed told = MatchOption told Flushed (λ line. Untouched ⊎ Flushed)
-
--- a reply without a line has a text
-abbrev pub HasOutput : Reply → Type 0
-HasOutput reply = MatchOption reply.told (IsSome reply.written) (λ line. ⊤)
+-- what a task answers for what a reader had left, where that is known
+abbrev pub IsReplyTo : ℕ → Task → Option (List ℕ) → Reply → Type 0
+IsReplyTo limit task left reply = IfSome left (λ input. IsReply limit task input reply)

@@ -1,102 +1,69 @@
 //! The command `extract`.
-ghost use Rattle.std.specs.Prelude.{◌≡◌, ◌+◌, ◌<◌, ◌≤◌, max, false, List, ℕ, length, map, option_map, slice_get, string_bytes, IfOk, IfErr, IfSome, OnOk};
-ghost use Rattle.std.specs.Io.KnownBytes.{Appends};
-ghost use Rattle.mvt_io.specs.Counts.{counted};
-ghost use Rattle.mvt_io.specs.Transfers.{TakesPrefix};
-ghost use Rattle.mvt_model.specs.CanonicalTiles.{canonical};
-ghost use Rattle.mvt_tile.specs.Extraction.{pick};
-ghost use Rattle.mvt_model.specs.ValidTiles.{Valid};
-ghost use Rattle.mvt_tasks.specs.Failures.{EndsFailed, IsCaused, LeavesOutput};
-ghost use Rattle.mvt_tasks.specs.Output.{Answers, IsFlushed, IsWhole, PutsOut, bytes_reply, layers_reply, missing_line};
+ghost use Rattle.std.specs.Prelude.{◌≡◌, ◌+◌, ◌<◌, ◌≤◌, max, length, map, option_map, slice_get, string_bytes, Some, IfOk, IfErr, IfSome, OnOk};
+ghost use Rattle.mvt_model.specs.declared.tile.Tile.{Tile};
+ghost use Rattle.mvt_tile.specs.Extraction.{AreExtracted};
+ghost use Rattle.mvt_tile.specs.Reading.{StopsEarly};
+ghost use Rattle.mvt_tasks.specs.Failures.{FailsReading};
+ghost use Rattle.mvt_tasks.specs.Output.{IsTold, HasOutput, layers_reply, missing_line};
 
 use crate::failure::Failure;
 use crate::names::Names;
 use crate::refusal::{refusal, too_large};
-use crate::task::Task;
-use mvt_base::{LIMIT, Text};
-use mvt_io::{Sink, Source};
-use mvt_tile::{ExtractError, MOST_READS, Tile, WriteError, extract, read_tile, write_tile};
+use crate::reply::Reply;
+use mvt_base::{Items, LIMIT, Text};
+use mvt_io::Source;
+use mvt_tile::{MOST_READS, NamedLayers, extract_tile};
 use std::alloc::{AllocError, Global};
 
-/// Writes the named layers of a tile.
-pub fn extract_layers<R: Source, W: Sink>(
+/// Reads a tile, and makes the canonical bytes of its named layers. It reads no further after a
+/// fault.
+pub fn extract_layers<R: Source>(
     alloc: Global,
     names: &Names,
     reader: &mut R,
-    writer: &mut W,
-) -> Result<Option<Text>, Failure>
-    ensures output { IfOk result (λ told. IfSome (R.left reader.old) (Answers LIMIT (Task.Extract names.now) told (writer.new ≡ writer.old)
-        (λ text. Appends (W.taken writer.old) (W.taken writer.new) text
-        × (W.flushes writer.new ≡ counted (W.flushes writer.old))))) }
-    ensures flushed { IfOk result (IsFlushed (writer.new ≡ writer.old)
-        (W.flushes writer.new ≡ counted (W.flushes writer.old))) }
-    ensures caused { IfErr result
-        (IsCaused ((EndsFailed (R.failed reader.old) (R.failed reader.new) (R.ended reader.new))
-        × (W.failed writer.new ≡ W.failed writer.old))
-        ((R.failed reader.new ≡ R.failed reader.old) × (EndsFailed (W.failed writer.old) (W.failed writer.new) (W.ended writer.new)))
-        ((R.failed reader.new ≡ R.failed reader.old) × (W.failed writer.new ≡ W.failed writer.old))) }
-    ensures sound { OnOk result ((R.failed reader.new ≡ R.failed reader.old) × (W.failed writer.new ≡ W.failed writer.old)) }
-    ensures partly { IfErr result (LeavesOutput false (writer.new ≡ writer.old)
-        (IfSome (R.left reader.old) (λ input. (text : List ℕ) × IsWhole LIMIT (Task.Extract names.now) input text
-        × TakesPrefix (W.taken writer.old) (W.taken writer.new) text))) }
+) -> Result<Reply, Failure>
+    ensures reply { IfOk result
+        (λ reply. IfSome (R.left reader.old)
+        (λ input. IsTold LIMIT (layers_reply LIMIT names.now) input reply)) }
+    ensures output { IfOk result HasOutput }
+    ensures failed { IfErr result (FailsReading (R.failed reader.old) (R.failed reader.new)
+        (R.ended reader.new)) }
+    ensures sound { OnOk result (R.failed reader.new ≡ R.failed reader.old) }
     ensures reads { R.reads reader.new ≤ R.reads reader.old + MOST_READS }
     ensures asked { R.asked reader.new ≤ max (R.asked reader.old) 65536 }
+    ensures stops { StopsEarly LIMIT (R.given reader.new) (R.left reader.old) (R.left reader.new) }
 {
-    match read_tile(alloc, reader) {
-        Ok(tile) => put_layers(alloc, &tile, names.as_slice(), writer),
-        Err(error) => Ok(Some(refusal(alloc, error)?)),
+    let wanted = names.as_slice();
+    match extract_tile(alloc, wanted, reader) {
+        Ok(layers) => extracted(alloc, wanted, layers),
+        Err(error) => Ok(Reply {
+            written: None,
+            told: Some(refusal(alloc, error)?),
+        }),
     }
 }
 
-fn put_layers<W: Sink>(
-    alloc: Global,
-    tile: &Tile,
-    names: &[String],
-    writer: &mut W,
-) -> Result<Option<Text>, Failure>
-    requires { Valid tile.now }
-    ensures output { IfOk result (λ told. (told ≡ (layers_reply LIMIT (map string_bytes names.now) tile.now).told)
-        × PutsOut (writer.new ≡ writer.old) (λ text. Appends (W.taken writer.old) (W.taken writer.new) text
-        × (W.flushes writer.new ≡ counted (W.flushes writer.old))) (layers_reply LIMIT (map string_bytes names.now) tile.now)) }
-    ensures flushed { IfOk result (IsFlushed (writer.new ≡ writer.old)
-        (W.flushes writer.new ≡ counted (W.flushes writer.old))) }
-    ensures caused { IfErr result
-        (IsCaused ⊥ (EndsFailed (W.failed writer.old) (W.failed writer.new) (W.ended writer.new))
-        (W.failed writer.new ≡ W.failed writer.old)) }
-    ensures honest { OnOk result (W.failed writer.new ≡ W.failed writer.old) }
-    ensures partly { IfErr result (LeavesOutput false (writer.new ≡ writer.old)
-        (TakesPrefix (W.taken writer.old) (W.taken writer.new) (canonical (pick tile.now (map string_bytes names.now))))) }
+fn extracted(alloc: Global, names: &[String], layers: NamedLayers) -> Result<Reply, Failure>
+    requires { (tile : Tile) × AreExtracted LIMIT tile (map string_bytes names.now) layers }
+    ensures reply { IfOk result (λ reply. (tile : Tile)
+        → AreExtracted LIMIT tile (map string_bytes names.now) layers
+        → reply ≡ layers_reply LIMIT (map string_bytes names.now) tile) }
+    ensures output { IfOk result HasOutput }
+    ensures failed { IfErr result (λ failure. failure ≡ Failure.Memory) }
 {
-    match extract(alloc, tile, names) {
-        Ok(picked) => put_tile(alloc, &picked, writer),
-        Err(ExtractError::MissingLayer(index)) => Ok(Some(missing(alloc, names, index)?)),
-        Err(ExtractError::Memory) => Err(Failure::Memory),
-    }
-}
-
-/// Writes a tile and flushes once. Answers the line that is to be told, if there is one.
-fn put_tile<W: Sink>(alloc: Global, tile: &Tile, writer: &mut W) -> Result<Option<Text>, Failure>
-    requires { Valid tile.now }
-    ensures output { IfOk result (λ told. (told ≡ (bytes_reply LIMIT tile.now).told)
-        × PutsOut (writer.new ≡ writer.old) (λ text. Appends (W.taken writer.old) (W.taken writer.new) text
-        × (W.flushes writer.new ≡ counted (W.flushes writer.old))) (bytes_reply LIMIT tile.now)) }
-    ensures flushed { IfOk result (IsFlushed (writer.new ≡ writer.old)
-        (W.flushes writer.new ≡ counted (W.flushes writer.old))) }
-    ensures caused { IfErr result
-        (IsCaused ⊥ (EndsFailed (W.failed writer.old) (W.failed writer.new) (W.ended writer.new))
-        (W.failed writer.new ≡ W.failed writer.old)) }
-    ensures honest { OnOk result (W.failed writer.new ≡ W.failed writer.old) }
-    ensures partly { IfErr result (LeavesOutput false (writer.new ≡ writer.old)
-        (TakesPrefix (W.taken writer.old) (W.taken writer.new) (canonical tile.now))) }
-{
-    match write_tile(alloc, tile, writer) {
-        Ok(()) => match writer.flush() {
-            Ok(()) => Ok(None),
-            Err(_) => Err(Failure::Write),
-        },
-        Err(WriteError::TooLarge) => Ok(Some(too_large(alloc)?)),
-        Err(WriteError::Write(_)) => Err(Failure::Write),
-        Err(WriteError::Memory) => Err(Failure::Memory),
+    match layers {
+        NamedLayers::Bytes(bytes) => Ok(Reply {
+            written: Some(Items::new(bytes)),
+            told: None,
+        }),
+        NamedLayers::Missing(index) => Ok(Reply {
+            written: None,
+            told: Some(missing(alloc, names, index)?),
+        }),
+        NamedLayers::TooLarge => Ok(Reply {
+            written: None,
+            told: Some(too_large(alloc)?),
+        }),
     }
 }
 

@@ -1,5 +1,5 @@
 //! Why a run ends before its output is complete.
-ghost use Rattle.std.specs.Prelude.{◌≡◌};
+ghost use Rattle.std.specs.Prelude.{◌≡◌, ◌<◌};
 ghost use Rattle.mvt_tasks.specs.Failures.{status_of, line_of, failure_of};
 
 use mvt_io::ReadError;
@@ -17,7 +17,8 @@ pub enum Failure {
 impl Failure {
     /// The program's status.
     pub fn status(self) -> u8
-        ensures { result ≡ status_of self }
+        ensures status { result ≡ status_of self }
+        ensures above { 2 < result }
     {
         match self {
             Failure::Read | Failure::Write => 3,

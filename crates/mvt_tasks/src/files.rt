@@ -1,24 +1,26 @@
 //! The command `check` over files.
-ghost use Rattle.std.specs.Prelude.{◌≡◌, ◌≢◌, ◌<◌, ◌⊎◌, [], ◌∷◌, ◌++◌, ℕ, List, length, map, string_bytes, IfOk, IfErr, OnOk, OnErr};
+ghost use Rattle.std.specs.Prelude.{◌≡◌, ◌≢◌, ◌<◌, ◌⊎◌, [], ◌∷◌, ◌++◌, ℕ, Bool, List, length, map, string_bytes, IfOk, IfErr, OnOk, OnErr};
 ghost use Rattle.std.specs.List.{flat_map};
 ghost use Rattle.std.specs.Io.KnownBytes.{Appends};
 ghost use Rattle.mvt_io.specs.Counts.{counted};
-ghost use Rattle.mvt_tasks.specs.Checks.{Checked, IsCutShort, IsOver, IsSaid, IsSaidOf, IsSaidOfOne, IsToldOfAll, TakesUntil, Tells, TellsSome, calls, line_told, marked_text, moment, status_after, summary, text_of, told_of, verdict_of, visit_of, written_of};
-ghost use Rattle.mvt_tasks.specs.Visits.{Adds};
+ghost use Rattle.mvt_tasks.specs.Checks.{Checked, FlushesAtMost, IsCutShort, IsSaid, IsSaidOf, IsSaidOfOne, IsToldOfAll, TakesUntil, Tells, calls, line_told, marked_text, moment, status_after, summary, text_of, told_of, verdict_of, visit_of, written_of};
+ghost use Rattle.mvt_tasks.specs.Failures.{FailsWriting};
+ghost use Rattle.mvt_tasks.specs.Visits.{Adds, visit};
 
 use crate::checking::check;
 use crate::failure::Failure;
 use crate::folder::Folder;
 use crate::marks::named;
-use crate::reply::Reply;
+use crate::reply::{Reply, fail};
 use crate::tally::{Tally, Verdict};
 use mvt_base::LIMIT;
 use mvt_io::{Sink, write_all};
 use std::alloc::Global;
 use std::io::ErrorKind;
 
-/// Checks files, one after another, and answers the status. What is said of a file stands behind its
-/// name; a file that can't be read doesn't end the run, and of more than one file a line sums up.
+/// Checks files, one after another, and answers the status. What is said of a file stands behind
+/// its name; a file that can't be read doesn't end the run, and of more than one file a line sums
+/// up.
 pub fn check_files<F: Folder, W: Sink, E: Sink>(
     alloc: Global,
     names: &[String],
@@ -27,18 +29,17 @@ pub fn check_files<F: Folder, W: Sink, E: Sink>(
     errors: &mut E,
 ) -> u8
     ensures told { IsToldOfAll LIMIT (F.holds folder.old) (map string_bytes names.now)
-        (moment (F.visits folder.old) (W.taken writer.old) (E.failed errors.old) (E.taken errors.old))
-        (moment (F.visits folder.new) (W.taken writer.new) (E.failed errors.new) (E.taken errors.new))
+        (moment (F.visits folder.old) (W.taken writer.old) (E.failed errors.old)
+        (E.taken errors.old))
+        (moment (F.visits folder.new) (W.taken writer.new) (E.failed errors.new)
+        (E.taken errors.new))
         (calls (W.flushes writer.old) (W.failed writer.old) (W.ended writer.old))
         (calls (W.flushes writer.new) (W.failed writer.new) (W.ended writer.new)) result }
     ensures sound { result < 2 → W.failed writer.new ≡ W.failed writer.old }
 {
     match check_all(alloc, names, folder, writer, errors) {
         Ok(tally) => tally.status(),
-        Err(failure) => {
-            note(errors, failure.line().as_bytes());
-            failure.status()
-        }
+        Err(failure) => fail(failure, errors),
     }
 }
 
@@ -49,16 +50,23 @@ fn check_all<F: Folder, W: Sink, E: Sink>(
     writer: &mut W,
     errors: &mut E,
 ) -> Result<Tally, Failure>
-    ensures said { IfOk result (λ tally. IsSaidOf LIMIT (F.holds folder.old) (map string_bytes names.now)
-        (moment (F.visits folder.old) (W.taken writer.old) (E.failed errors.old) (E.taken errors.old))
-        (moment (F.visits folder.new) (W.taken writer.new) (E.failed errors.new) (E.taken errors.new))
+    ensures said { IfOk result (λ tally. IsSaidOf LIMIT (F.holds folder.old)
+        (map string_bytes names.now)
+        (moment (F.visits folder.old) (W.taken writer.old) (E.failed errors.old)
+        (E.taken errors.old))
+        (moment (F.visits folder.new) (W.taken writer.new) (E.failed errors.new)
+        (E.taken errors.new))
         (summary (length (map string_bytes names.now)) tally) tally) }
     ensures flushed { OnOk result (W.flushes writer.new ≡ counted (W.flushes writer.old)) }
+    ensures unflushed { IfErr result (FlushesAtMost (W.flushes writer.old) (W.flushes writer.new)) }
     ensures sound { OnOk result (W.failed writer.new ≡ W.failed writer.old) }
-    ensures failed { IfErr result (IsOver (W.failed writer.old) (W.failed writer.new) (W.ended writer.new)) }
-    ensures partly { OnErr result (TellsSome (E.failed errors.old) (E.failed errors.new) (E.taken errors.old) (E.taken errors.new)) }
+    ensures failed { IfErr result (FailsWriting (W.failed writer.old) (W.failed writer.new)
+        (W.ended writer.new)) }
     ensures cut { IfErr result (IsCutShort LIMIT (F.holds folder.old) (map string_bytes names.now)
-        (W.taken writer.old) (W.taken writer.new)) }
+        (moment (F.visits folder.old) (W.taken writer.old) (E.failed errors.old)
+        (E.taken errors.old))
+        (moment (F.visits folder.new) (W.taken writer.new) (E.failed errors.new)
+        (E.taken errors.new)) []) }
 {
     let tally = check_each(alloc, names, folder, writer, errors)?;
     let line = tally.line(alloc, names.len())?;
@@ -75,14 +83,19 @@ fn check_each<F: Folder, W: Sink, E: Sink>(
     errors: &mut E,
 ) -> Result<Tally, Failure>
     ensures said { IfOk result (IsSaidOf LIMIT (F.holds folder.old) (map string_bytes names.now)
-        (moment (F.visits folder.old) (W.taken writer.old) (E.failed errors.old) (E.taken errors.old))
-        (moment (F.visits folder.new) (W.taken writer.new) (E.failed errors.new) (E.taken errors.new)) []) }
-    ensures unflushed { OnOk result (W.flushes writer.new ≡ W.flushes writer.old) }
+        (moment (F.visits folder.old) (W.taken writer.old) (E.failed errors.old)
+        (E.taken errors.old))
+        (moment (F.visits folder.new) (W.taken writer.new) (E.failed errors.new)
+        (E.taken errors.new)) []) }
+    ensures unflushed { W.flushes writer.new ≡ W.flushes writer.old }
     ensures sound { OnOk result (W.failed writer.new ≡ W.failed writer.old) }
-    ensures failed { IfErr result (IsOver (W.failed writer.old) (W.failed writer.new) (W.ended writer.new)) }
-    ensures partly { OnErr result (TellsSome (E.failed errors.old) (E.failed errors.new) (E.taken errors.old) (E.taken errors.new)) }
+    ensures failed { IfErr result (FailsWriting (W.failed writer.old) (W.failed writer.new)
+        (W.ended writer.new)) }
     ensures cut { IfErr result (IsCutShort LIMIT (F.holds folder.old) (map string_bytes names.now)
-        (W.taken writer.old) (W.taken writer.new)) }
+        (moment (F.visits folder.old) (W.taken writer.old) (E.failed errors.old)
+        (E.taken errors.old))
+        (moment (F.visits folder.new) (W.taken writer.new) (E.failed errors.new)
+        (E.taken errors.new)) []) }
 {
     let mut tally = Tally::none();
     for name in names {
@@ -101,13 +114,19 @@ fn check_one<F: Folder, W: Sink, E: Sink>(
     errors: &mut E,
 ) -> Result<Verdict, Failure>
     ensures said { IfOk result (λ verdict. IsSaidOfOne LIMIT (F.holds folder.old) name.now
-        (moment (F.visits folder.old) (W.taken writer.old) (E.failed errors.old) (E.taken errors.old))
-        (moment (F.visits folder.new) (W.taken writer.new) (E.failed errors.new) (E.taken errors.new)) verdict) }
-    ensures unflushed { OnOk result (W.flushes writer.new ≡ W.flushes writer.old) }
+        (moment (F.visits folder.old) (W.taken writer.old) (E.failed errors.old)
+        (E.taken errors.old))
+        (moment (F.visits folder.new) (W.taken writer.new) (E.failed errors.new)
+        (E.taken errors.new)) verdict) }
+    ensures unflushed { W.flushes writer.new ≡ W.flushes writer.old }
     ensures sound { OnOk result (W.failed writer.new ≡ W.failed writer.old) }
-    ensures failed { IfErr result (IsOver (W.failed writer.old) (W.failed writer.new) (W.ended writer.new)) }
-    ensures partly { OnErr result (TellsSome (E.failed errors.old) (E.failed errors.new) (E.taken errors.old) (E.taken errors.new)) }
-    ensures cut { IfErr result (IsCutShort LIMIT (F.holds folder.old) (name.now ∷ []) (W.taken writer.old) (W.taken writer.new)) }
+    ensures failed { IfErr result (FailsWriting (W.failed writer.old) (W.failed writer.new)
+        (W.ended writer.new)) }
+    ensures cut { IfErr result (IsCutShort LIMIT (F.holds folder.old) (name.now ∷ [])
+        (moment (F.visits folder.old) (W.taken writer.old) (E.failed errors.old)
+        (E.taken errors.old))
+        (moment (F.visits folder.new) (W.taken writer.new) (E.failed errors.new)
+        (E.taken errors.new)) []) }
     ensures same { F.holds folder.new ≡ F.holds folder.old }
 {
     let reply = check_file(alloc, name, folder)?;
@@ -126,7 +145,10 @@ fn check_file<F: Folder>(
     folder: &mut F,
 ) -> Result<Option<Reply>, Failure>
     ensures said { IfOk result (IsSaid LIMIT (F.holds folder.old name.now)) }
-    ensures visited { IfOk result (λ reply. Adds (F.visits folder.old) (F.visits folder.new) (visit_of name.now reply)) }
+    ensures visited { IfOk result (λ reply. Adds (F.visits folder.old) (F.visits folder.new)
+        (visit_of name.now reply)) }
+    ensures asked { OnErr result ((is_read : Bool)
+        × Adds (F.visits folder.old) (F.visits folder.new) (visit name.now is_read)) }
     ensures failed { IfErr result (λ failure. failure ≡ Failure.Memory) }
     ensures same { F.holds folder.new ≡ F.holds folder.old }
 {
@@ -162,7 +184,8 @@ fn written(alloc: Global, name: &str, reply: &Option<Reply>) -> Result<Vec<u8>, 
 
 /// What is told of a file on the error stream.
 fn told(alloc: Global, name: &str, reply: &Option<Reply>) -> Result<Vec<u8>, Failure>
-    ensures bytes { IfOk result (λ bytes. bytes.items ≡ marked_text name.now (line_told reply.now)) }
+    ensures bytes { IfOk result (λ bytes. bytes.items ≡ marked_text name.now
+        (line_told reply.now)) }
     ensures failed { IfErr result (λ failure. failure ≡ Failure.Memory) }
 {
     match reply {
@@ -179,7 +202,8 @@ fn told(alloc: Global, name: &str, reply: &Option<Reply>) -> Result<Vec<u8>, Fai
 
 /// Puts a text on the error stream, whose faults are ignored.
 fn note<E: Sink>(errors: &mut E, text: &[u8])
-    ensures { Tells (E.failed errors.old) (E.failed errors.new) (E.taken errors.old) (E.taken errors.new) text.now }
+    ensures { Tells (E.failed errors.old) (E.failed errors.new) (E.taken errors.old)
+        (E.taken errors.new) text.now }
 {
     let _ = write_all(errors, text);
 }
@@ -190,7 +214,8 @@ fn put<W: Sink>(writer: &mut W, text: &[u8]) -> Result<(), Failure>
     ensures prefix { IfErr result (TakesUntil (W.taken writer.old) (W.taken writer.new) text.now) }
     ensures sound { OnOk result (W.failed writer.new ≡ W.failed writer.old) }
     ensures unflushed { W.flushes writer.new ≡ W.flushes writer.old }
-    ensures failed { IfErr result (IsOver (W.failed writer.old) (W.failed writer.new) (W.ended writer.new)) }
+    ensures failed { IfErr result (FailsWriting (W.failed writer.old) (W.failed writer.new)
+        (W.ended writer.new)) }
 {
     write_all(writer, text).map_err(|_| Failure::Write)
 }

@@ -26,17 +26,21 @@ pub trait Folder {
     // The files that were asked for so far, where they are known.
     ghost visits: { Self → Option (List AVisit) };
 
-    /// Opens a file. A file that can't be opened has been visited; another one is when it is closed.
+    /// Opens a file. A file that can't be opened has been visited; another one is when it is
+    /// closed.
     fn open(&mut self, name: &str) -> Result<Self::Reader, ErrorKind>
-        ensures bytes { IfOk result (λ reader. IfSome (holds self.old name.now) (λ bytes. Self.Reader.left reader ≡ Some bytes)) }
+        ensures bytes { IfOk result (λ reader. IfSome (holds self.old name.now)
+            (λ bytes. Self.Reader.left reader ≡ Some bytes)) }
         ensures fresh { IfOk result (λ reader. Self.Reader.failed reader ≡ 0) }
         ensures opened { OnOk result (visits self.new ≡ visits self.old) }
-        ensures unopened { OnErr result (Adds (visits self.old) (visits self.new) (visit name.now false)) }
+        ensures unopened { OnErr result
+            (Adds (visits self.old) (visits self.new) (visit name.now false)) }
         ensures same { holds self.new ≡ holds self.old };
 
     /// Closes a file of this name. It was read if none of its reads failed.
     fn close(&mut self, name: &str, reader: Self::Reader)
-        ensures closed { Adds (visits self.old) (visits self.new) (visit name.now (Self.Reader.failed reader == 0)) }
+        ensures closed { Adds (visits self.old) (visits self.new)
+            (visit name.now (Self.Reader.failed reader == 0)) }
         ensures same { holds self.new ≡ holds self.old };
 }
 

@@ -1,6 +1,6 @@
 //! Laws about the definitions alone: functions without effect, whose contract is the law.
 ghost use Rattle.std.specs.Prelude.{◌≡◌, ℕ, List, Option};
-ghost use Rattle.mvt_tasks.specs.Checks.{IsCutShort};
+ghost use Rattle.mvt_tasks.specs.Checks.{IsCutShort, Moment, Tells};
 ghost use Rattle.mvt_tasks.specs.declared.failure.Failure.TheVariants.{Memory as MemoryFailure};
 ghost use Rattle.mvt_tasks.specs.declared.reply.Reply.{Reply as AReply};
 ghost use Rattle.mvt_tasks.specs.declared.task.Task.{Task as ATask};
@@ -10,13 +10,18 @@ use mvt_base::LIMIT;
 
 /// A task has one reply for each input.
 pub fn one_reply()
-    ensures there { (task : ATask) (input : List ℕ) → (reply : AReply) × IsReply LIMIT task input reply }
+    ensures there { (task : ATask) (input : List ℕ) → (reply : AReply)
+        × IsReply LIMIT task input reply }
     ensures once { (task : ATask) (input : List ℕ) (a b : AReply)
         → IsReply LIMIT task input a → IsReply LIMIT task input b → a ≡ b }
 {}
 
-/// A check of files that was over before its first file, for want of memory, was cut short and put nothing out.
+/// A check of files that was over before its first file, for want of memory, was cut short, with
+/// one line told.
 pub fn cut_at_first()
-    ensures { (limit : ℕ) (holds : List ℕ → Option (List ℕ)) (names : List (List ℕ)) (output : Option (List ℕ))
-        → IsCutShort limit holds names output output MemoryFailure }
+    ensures { (limit : ℕ) (holds : List ℕ → Option (List ℕ)) (names : List (List ℕ)) (old : Moment)
+        (failed : ℕ) (errors : Option (List ℕ))
+        (line : List ℕ) → Tells old.failed failed old.errors errors line
+        → IsCutShort limit holds names old
+        (record old { failed = failed; errors = errors }) line MemoryFailure }
 {}

@@ -1,5 +1,5 @@
-//! What the program `mvt` does with tiles: it lists, shows, draws, checks, rewrites and extracts, over any reader and
-//! writer, and checks the files of any folder.
+//! What the program `mvt` does with tiles: it lists, shows, draws, checks, rewrites and extracts,
+//! over any reader and writer, and checks the files of any folder.
 #![tactic(auto)]
 
 mod answering;
@@ -16,6 +16,7 @@ mod names;
 mod refusal;
 mod reply;
 mod rewriting;
+mod running;
 mod tally;
 mod task;
 mod viewing;
@@ -32,6 +33,7 @@ pub use mvt_tile::MOST_READS;
 pub use names::Names;
 pub use reply::{Reply, tell};
 pub use rewriting::rewrite;
+pub use running::run_task;
 pub use tally::{Tally, Verdict};
 pub use task::Task;
 pub use viewing::{View, view_tile};

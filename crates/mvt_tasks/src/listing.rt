@@ -1,7 +1,7 @@
 //! The command `fields`.
 ghost use Rattle.std.specs.Prelude.{◌≡◌, ◌+◌, ◌≤◌, max, IfOk, IfErr, IfSome, OnOk};
 ghost use Rattle.mvt_io.specs.Transfers.{TakesAtMost};
-ghost use Rattle.mvt_tasks.specs.Failures.{EndsFailed, IsCaused};
+ghost use Rattle.mvt_tasks.specs.Failures.{FailsReading};
 ghost use Rattle.mvt_tasks.specs.Output.{IsReply, fields_reply, HasOutput};
 
 use crate::failure::Failure;
@@ -16,10 +16,11 @@ use std::alloc::Global;
 
 /// Lists the top-level fields of an input.
 pub fn list_fields<R: Source>(alloc: Global, reader: &mut R) -> Result<Reply, Failure>
-    ensures reply { IfOk result (λ reply. IfSome (R.left reader.old) (λ input. IsReply LIMIT Task.Fields input reply)) }
+    ensures reply { IfOk result (λ reply. IfSome (R.left reader.old)
+        (λ input. IsReply LIMIT Task.Fields input reply)) }
     ensures output { IfOk result HasOutput }
-    ensures failed { IfErr result (IsCaused (EndsFailed (R.failed reader.old) (R.failed reader.new) (R.ended reader.new))
-        ⊥ (R.failed reader.new ≡ R.failed reader.old)) }
+    ensures failed { IfErr result (FailsReading (R.failed reader.old) (R.failed reader.new)
+        (R.ended reader.new)) }
     ensures sound { OnOk result (R.failed reader.new ≡ R.failed reader.old) }
     ensures reads { R.reads reader.new ≤ R.reads reader.old + MOST_READS }
     ensures asked { R.asked reader.new ≤ max (R.asked reader.old) 65536 }

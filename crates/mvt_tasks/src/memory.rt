@@ -10,8 +10,8 @@ use std::alloc::{AllocError, Global};
 use std::io::ErrorKind;
 use std::marker::Model;
 
-/// A file: its name, its bytes, and the first of its reads that fails, from 0. Without bytes it can't
-/// be opened.
+/// A file: its name, its bytes, and the first of its reads that fails, from 0. Without bytes it
+/// can't be opened.
 #[derive(Debug, Drop)]
 pub struct MemoryFile {
     pub name: Text,

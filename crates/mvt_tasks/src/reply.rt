@@ -1,17 +1,18 @@
 //! What a command answers, and how it is put out.
-ghost use Rattle.std.specs.Prelude.{◌≡◌, OnOk, OnErr, IfOk, IfErr};
+ghost use Rattle.std.specs.Prelude.{◌≡◌, ◌<◌, ◌⊎◌, OnOk, OnErr, IfOk, IfErr};
 ghost use Rattle.std.specs.Io.KnownBytes.{Appends};
-ghost use Rattle.mvt_io.specs.Counts.{counted, NoneFailed};
+ghost use Rattle.mvt_io.specs.Counts.{counted};
 ghost use Rattle.mvt_io.specs.Transfers.{TakesPrefix};
-ghost use Rattle.mvt_tasks.specs.Failures.{EndsFailed};
-ghost use Rattle.mvt_tasks.specs.Output.{PutsOut};
+ghost use Rattle.mvt_tasks.specs.Checks.{Tells};
+ghost use Rattle.mvt_tasks.specs.Failures.{EndsFailed, line_of, status_of};
+ghost use Rattle.mvt_tasks.specs.Output.{Gives, PutsOut};
 
 use crate::failure::Failure;
 use mvt_base::{Items, Text};
 use mvt_io::{Sink, write_all};
 
-/// What a command answers: the bytes for the output, if there are any due, and the line for the error
-/// stream, if there is one. The status is 1 exactly where there is a line.
+/// What a command answers: the bytes for the output, if there are any due, and the line for the
+/// error stream, if there is one. The status is 1 exactly where there is a line.
 #[derive(Debug, Drop)]
 pub struct Reply {
     pub written: Option<Items<u8>>,
@@ -23,12 +24,13 @@ pub struct Reply {
 /// # Errors
 ///
 /// Write, where a write or the flush fails; the writer has then taken a front of the bytes.
-pub(crate) fn deliver<W: Sink>(reply: Reply, writer: &mut W) -> Result<Option<Text>, Failure>
+fn deliver<W: Sink>(reply: Reply, writer: &mut W) -> Result<Option<Text>, Failure>
     ensures told { IfOk result (λ told. told ≡ reply.told) }
     ensures put { OnOk result (PutsOut (writer.new ≡ writer.old)
         (λ text. Appends (W.taken writer.old) (W.taken writer.new) text
         × (W.flushes writer.new ≡ counted (W.flushes writer.old))) reply) }
-    ensures prefix { OnErr result (PutsOut ⊥ (TakesPrefix (W.taken writer.old) (W.taken writer.new)) reply) }
+    ensures prefix { OnErr result (PutsOut ⊥
+        (TakesPrefix (W.taken writer.old) (W.taken writer.new)) reply) }
     ensures failed { IfErr result (λ failure. (failure ≡ Failure.Write)
         × EndsFailed (W.failed writer.old) (W.failed writer.new) (W.ended writer.new)) }
     ensures honest { OnOk result (W.failed writer.new ≡ W.failed writer.old) }
@@ -44,7 +46,8 @@ pub(crate) fn deliver<W: Sink>(reply: Reply, writer: &mut W) -> Result<Option<Te
 fn put_out<W: Sink>(bytes: &[u8], writer: &mut W) -> Result<(), Failure>
     ensures taken { OnOk result (Appends (W.taken writer.old) (W.taken writer.new) bytes.now) }
     ensures flushed { OnOk result (W.flushes writer.new ≡ counted (W.flushes writer.old)) }
-    ensures prefix { OnErr result (TakesPrefix (W.taken writer.old) (W.taken writer.new) bytes.now) }
+    ensures prefix { OnErr result (TakesPrefix (W.taken writer.old)
+        (W.taken writer.new) bytes.now) }
     ensures failed { IfErr result (λ failure. (failure ≡ Failure.Write)
         × EndsFailed (W.failed writer.old) (W.failed writer.new) (W.ended writer.new)) }
     ensures honest { OnOk result (W.failed writer.new ≡ W.failed writer.old) }
@@ -53,10 +56,48 @@ fn put_out<W: Sink>(bytes: &[u8], writer: &mut W) -> Result<(), Failure>
     writer.flush().map_err(|_| Failure::Write)
 }
 
+/// Puts a reply out, and answers its status; 3 where that failed.
+pub(crate) fn give<W: Sink, E: Sink>(reply: Reply, writer: &mut W, errors: &mut E) -> u8
+    ensures done { result < 2 → Gives result (writer.new ≡ writer.old)
+        (λ text. Appends (W.taken writer.old) (W.taken writer.new) text
+        × (W.flushes writer.new ≡ counted (W.flushes writer.old)))
+        (errors.new ≡ errors.old) (Tells (E.failed errors.old) (E.failed errors.new)
+        (E.taken errors.old) (E.taken errors.new)) reply }
+    ensures honest { result < 2 → W.failed writer.new ≡ W.failed writer.old }
+    ensures prefix { 2 < result → PutsOut ⊥
+        (TakesPrefix (W.taken writer.old) (W.taken writer.new)) reply }
+    ensures failed { 2 < result → EndsFailed (W.failed writer.old) (W.failed writer.new)
+        (W.ended writer.new) }
+    ensures line { 2 < result → Tells (E.failed errors.old) (E.failed errors.new)
+        (E.taken errors.old) (E.taken errors.new)
+        (line_of Failure.Write) }
+    ensures statuses { (result < 2) ⊎ (result ≡ 3) }
+{
+    match deliver(reply, writer) {
+        Ok(None) => 0,
+        Ok(Some(line)) => {
+            tell(errors, line.as_str());
+            1
+        }
+        Err(failure) => fail(failure, errors),
+    }
+}
+
+/// Tells a failure, and answers its status.
+pub(crate) fn fail<E: Sink>(failure: Failure, errors: &mut E) -> u8
+    ensures status { result ≡ status_of failure }
+    ensures above { 2 < result }
+    ensures line { Tells (E.failed errors.old) (E.failed errors.new) (E.taken errors.old)
+        (E.taken errors.new) (line_of failure) }
+{
+    tell(errors, failure.line());
+    failure.status()
+}
+
 /// Puts a line on the error stream, whose faults are ignored.
 pub fn tell<E: Sink>(errors: &mut E, line: &str)
-    ensures { NoneFailed (E.failed errors.old) (E.failed errors.new)
-        → Appends (E.taken errors.old) (E.taken errors.new) line.now }
+    ensures { Tells (E.failed errors.old) (E.failed errors.new) (E.taken errors.old)
+        (E.taken errors.new) line.now }
 {
     let _ = write_all(errors, line.as_bytes());
 }

@@ -1,7 +1,7 @@
 //! The command `rewrite`.
 ghost use Rattle.std.specs.Prelude.{◌≡◌, ◌+◌, ◌≤◌, max, IfOk, IfErr, IfSome, OnOk};
 ghost use Rattle.mvt_tile.specs.Reading.{StopsEarly};
-ghost use Rattle.mvt_tasks.specs.Failures.{EndsFailed, IsCaused};
+ghost use Rattle.mvt_tasks.specs.Failures.{FailsReading};
 ghost use Rattle.mvt_tasks.specs.Output.{IsTold, HasOutput, bytes_reply};
 
 use crate::failure::Failure;
@@ -15,10 +15,11 @@ use std::alloc::Global;
 /// Reads a tile, and makes its canonical bytes. It reads no further after a fault.
 pub fn rewrite<R: Source>(alloc: Global, reader: &mut R) -> Result<Reply, Failure>
     ensures reply { IfOk result
-        (λ reply. IfSome (R.left reader.old) (λ input. IsTold LIMIT (bytes_reply LIMIT) input reply)) }
+        (λ reply. IfSome (R.left reader.old)
+        (λ input. IsTold LIMIT (bytes_reply LIMIT) input reply)) }
     ensures output { IfOk result HasOutput }
-    ensures failed { IfErr result (IsCaused (EndsFailed (R.failed reader.old) (R.failed reader.new) (R.ended reader.new))
-        ⊥ (R.failed reader.new ≡ R.failed reader.old)) }
+    ensures failed { IfErr result (FailsReading (R.failed reader.old) (R.failed reader.new)
+        (R.ended reader.new)) }
     ensures sound { OnOk result (R.failed reader.new ≡ R.failed reader.old) }
     ensures reads { R.reads reader.new ≤ R.reads reader.old + MOST_READS }
     ensures asked { R.asked reader.new ≤ max (R.asked reader.old) 65536 }

@@ -52,8 +52,10 @@ impl Tally {
     /// Counts one file more.
     pub fn add(&mut self, verdict: Verdict)
         requires { self.old.accepted + self.old.refused + self.old.unread + 1 < 2 ^ 64 }
-        ensures accepted { self.new.accepted ≡ self.old.accepted + (if is_accepted verdict then 1 else 0) }
-        ensures refused { self.new.refused ≡ self.old.refused + (if is_refused verdict then 1 else 0) }
+        ensures accepted { self.new.accepted ≡ self.old.accepted +
+            (if is_accepted verdict then 1 else 0) }
+        ensures refused { self.new.refused ≡ self.old.refused +
+            (if is_refused verdict then 1 else 0) }
         ensures unread { self.new.unread ≡ self.old.unread + (if is_unread verdict then 1 else 0) }
     {
         match verdict {

@@ -1,6 +1,7 @@
 //! The commands `show` and `draw`.
 ghost use Rattle.std.specs.Prelude.{◌≡◌, ◌+◌, ◌≤◌, max, IfOk, IfErr, IfSome, OnOk};
-ghost use Rattle.mvt_tasks.specs.Failures.{EndsFailed, IsCaused};
+ghost use Rattle.mvt_tile.specs.Reading.{StopsEarly};
+ghost use Rattle.mvt_tasks.specs.Failures.{FailsReading};
 ghost use Rattle.mvt_tasks.specs.Output.{IsTold, HasOutput, done, view_lines};
 
 use crate::failure::Failure;
@@ -19,16 +20,18 @@ pub enum View {
     Svg,
 }
 
-/// Reads a tile, and makes its text.
+/// Reads a tile, and makes its text. It reads no further after a fault.
 pub fn view_tile<R: Source>(alloc: Global, view: View, reader: &mut R) -> Result<Reply, Failure>
     ensures reply { IfOk result
-        (λ reply. IfSome (R.left reader.old) (λ input. IsTold LIMIT (λ tile. done (view_lines view tile)) input reply)) }
+        (λ reply. IfSome (R.left reader.old)
+        (λ input. IsTold LIMIT (λ tile. done (view_lines view tile)) input reply)) }
     ensures output { IfOk result HasOutput }
-    ensures failed { IfErr result (IsCaused (EndsFailed (R.failed reader.old) (R.failed reader.new) (R.ended reader.new))
-        ⊥ (R.failed reader.new ≡ R.failed reader.old)) }
+    ensures failed { IfErr result (FailsReading (R.failed reader.old) (R.failed reader.new)
+        (R.ended reader.new)) }
     ensures sound { OnOk result (R.failed reader.new ≡ R.failed reader.old) }
     ensures reads { R.reads reader.new ≤ R.reads reader.old + MOST_READS }
     ensures asked { R.asked reader.new ≤ max (R.asked reader.old) 65536 }
+    ensures stops { StopsEarly LIMIT (R.given reader.new) (R.left reader.old) (R.left reader.new) }
 {
     match read_tile(alloc, reader) {
         Ok(tile) => viewed(alloc, view, &tile),

@@ -131,6 +131,10 @@ pub fed_early : (limit size : ℕ) (Has : List Item → Type 0) (offset : ℕ) (
 fed_early limit size Has offset raw a b reads has =
     early_from limit size a b has.given [] (subst (Consumes a b) (sym (append-nil has.given)) has.consumed) (omega arith) has.live.calm
 
+-- a reader that gave nothing
+pub unread_early : (limit size : ℕ) (a : Option (List ℕ)) → StopsEarly limit size a a
+unread_early limit size a = early_from limit size a a [] [] (Consumes-nil a) (omega arith) (live_start limit).calm
+
 tells_input : (limit : ℕ) (e : DecodeError) (taken left input : List ℕ) → input ≡ taken ++ left → TellsFed e (fault_within limit taken)
     → Tells (fault_of e) (fault_within limit input)
 tells_input limit Memory taken left input is h = tt

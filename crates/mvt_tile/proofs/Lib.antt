@@ -8,9 +8,9 @@ mod ShiftLemmas
 mod JudgeLemmas
 mod NamedLemmas
 mod DecoderLemmas
+mod WantedLemmas
 mod WholeLemmas
 mod FeedingLemmas
-mod RewritingLemmas
 mod RoundTripLemmas
 mod ExtractionLemmas
 mod PickLemmas

@@ -1,8 +1,11 @@
 -- Names that are distinct, one by one.
-use Rattle.std.proofs.Common.{◌≡◌, ◌≢◌, ℕ, Bool, true, false, ◌||◌, List, [], ◌∷◌, ◌++◌, bytes_eq, refl, sym, ap, subst, ◌∙◌, append-nil}
+use Rattle.std.proofs.Common.{◌≡◌, ◌≢◌, ℕ, Bool, true, false, ◌||◌, List, [], ◌∷◌, ◌++◌, bytes_eq, refl, sym, ap, ap₂, subst, ◌∙◌, append-nil}
 use Rattle.std.specs.Prelude.{AllPairs}
 use Rattle.std.specs.List.{AllByRecursion, IsDistinct, list_any, flat_map}
 use Rattle.std.specs.Cmp.{IsEquivalence}
+use Rattle.std.specs.Cmp.Lexicographic.{slice_cmp}
+use Rattle.std.specs.Ordering.{is_eq, nat_cmp}
+use Rattle.std.proofs.lemmas.Map.Text.{is_eq-slice_cmp}
 use Rattle.std.proofs.lemmas.Bool.Decides.{same_from_decides, Decides-like}
 use Rattle.std.proofs.lemmas.Grind.{flat_map-append}
 use Rattle.std.proofs.lemmas.Slice.Eq.{bytes_eq-Decides}
@@ -26,6 +29,10 @@ bytes_eq_congr a b c e = ap (λ x. bytes_eq x c) ((bytes_eq-Decides a b).0 e)
 
 pub bytes_equivalence : IsEquivalence bytes_eq
 bytes_equivalence = record { refl = λ x. (bytes_eq-Decides x x).1 refl; symm = bytes_eq_comm; congr = bytes_eq_congr }
+
+pub any_text : (n : List ℕ) (ks : List (List ℕ)) → list_any (λ k. is_eq (slice_cmp nat_cmp n k)) ks ≡ list_any (bytes_eq n) ks
+any_text n [] = refl
+any_text n (k ∷ ks) = ap₂ (λ a b. a || b) (is_eq-slice_cmp n k) (any_text n ks)
 
 abbrev AreApart : List (List ℕ) → Type 0
 AreApart names = AllPairs (λ a b. a ≢ b) names

@@ -8,7 +8,7 @@ use Rattle.mvt_message.specs.declared.item.Item.TheVariants.{Layer, Foreign}
 use Rattle.mvt_message.specs.Items.{names_in}
 use Rattle.mvt_message.specs.ValidItems.{ValidItem}
 use Rattle.mvt_model.specs.declared.tile.Tile.{Tile}
-use Rattle.mvt_tile.specs.Extraction.{is_named, pick}
+use Rattle.mvt_tile.specs.Extraction.{is_among, is_named, pick}
 use Rattle.mvt_model.specs.ValidTiles.{Valid}
 
 all_kept : (b : Bool) (P : AnItem → Type 0) (x : AnItem) (xs : List AnItem) → P x → AllByRecursion P xs
@@ -32,9 +32,6 @@ name_kept false name xs ys e = e
 nothing_kept : (b : Bool) (xs : List (List ℕ)) → cond b xs xs ≡ xs
 nothing_kept true xs = refl
 nothing_kept false xs = refl
-
-abbrev is_among : List (List ℕ) → AnItem → Bool
-is_among names item = list_any (λ name. is_named name item) names
 
 abbrev is_one_of : List (List ℕ) → List ℕ → Bool
 is_one_of names other = list_any (λ name. bytes_eq name other) names

@@ -1,3 +1,4 @@
 -- What the private calls of the crate promise each other.
 pub mod Judging
 pub mod Feeding
+pub mod Wanting

@@ -23,9 +23,9 @@ use std::marker::Model;
 /// let tile = decoder.finish()?;
 /// ```
 ///
-/// It keeps the items that it read, their names, and the bytes behind the last whole field. A field is
-/// judged once, when it is whole, so a fault is told as soon as no further byte can change it. After an
-/// error it answers that error for good, and holds no bytes.
+/// It keeps the items that it read, their names, and the bytes behind the last whole field. A field
+/// is judged once, when it is whole, so a fault is told as soon as no further byte can change it.
+/// After an error it answers that error for good, and holds no bytes.
 #[derive(Drop)]
 pub struct TileDecoder {
     alloc: Global,
@@ -43,7 +43,8 @@ impl Model for TileDecoder {
     ghost view = { λ d. record { failure = d.failure; items = d.pieces.taker; raw = d.pieces.raw.items; offset = d.pieces.offset } };
 
     ghost invariant = { λ d. IfNone d.failure
-        ((length d.pieces.taker ≤ d.pieces.offset) × (d.pieces.offset + length d.pieces.raw.items ≤ LIMIT)) };
+        ((length d.pieces.taker ≤ d.pieces.offset)
+        × (d.pieces.offset + length d.pieces.raw.items ≤ LIMIT)) };
 }
 
 impl TileDecoder {
@@ -72,7 +73,8 @@ impl TileDecoder {
     ///
     /// The first fault of the input so far, unless further bytes may change it; want of memory.
     pub fn feed(&mut self, piece: &[u8]) -> Result<(), DecodeError>
-        ensures stands { (s : List ℕ) → StandsFor LIMIT self.old s → StandsFor LIMIT self.new (s ++ piece.now) }
+        ensures stands { (s : List ℕ) → StandsFor LIMIT self.old s
+            → StandsFor LIMIT self.new (s ++ piece.now) }
         ensures answer { Answers self.new.failure result }
         ensures sticky { IsSome self.old.failure → self.new ≡ self.old }
     {
@@ -95,11 +97,14 @@ impl TileDecoder {
     ///
     /// The error that the decoder keeps, or the fault of the field that isn't finished.
     pub fn finish(self) -> Result<Tile, DecodeError>
-        ensures tile { IfOk result (λ tile. (s : List ℕ) → StandsFor LIMIT self s → IsTile LIMIT s tile) }
+        ensures tile { IfOk result (λ tile. (s : List ℕ) → StandsFor LIMIT self s
+            → IsTile LIMIT s tile) }
         ensures valid { IfOk result Valid }
-        ensures fault { IfErr result (λ error. (s : List ℕ) → StandsFor LIMIT self s → TellsAtEnd error (fault_within LIMIT s)) }
+        ensures fault { IfErr result (λ error. (s : List ℕ) → StandsFor LIMIT self s
+            → TellsAtEnd error (fault_within LIMIT s)) }
         ensures kept { IfSome self.failure (λ error. result ≡ Err error) }
-        ensures no_memory { self.failure ≡ None → IfErr result (λ error. (error ≡ DecodeError.Memory → ⊥)) }
+        ensures no_memory { self.failure ≡ None
+            → IfErr result (λ error. (error ≡ DecodeError.Memory → ⊥)) }
     {
         let TileDecoder {
             pieces,

@@ -10,8 +10,8 @@ use mvt_message::Item;
 use mvt_model::Tile;
 use std::alloc::{AllocError, Global};
 
-/// The layers of version 2 that are named, in the order of the tile. Foreign items are left out, and
-/// a name that stands twice counts once. Of a valid tile that is a valid tile.
+/// The layers of version 2 that are named, in the order of the tile. Foreign items are left out,
+/// and a name that stands twice counts once. Of a valid tile that is a valid tile.
 ///
 /// # Errors
 ///
@@ -21,7 +21,8 @@ pub fn extract(alloc: Global, tile: &Tile, names: &[String]) -> Result<Tile, Ext
     ensures pick { IfOk result (λ picked. picked ≡ pick tile.now (map string_bytes names.now)) }
     ensures valid { Valid tile.now → IfOk result Valid }
     ensures there { OnOk result (first_missing tile.now (map string_bytes names.now) ≡ None) }
-    ensures missing { IfErr result (λ error. TellsMissing error (first_missing tile.now (map string_bytes names.now))) }
+    ensures missing { IfErr result
+        (λ error. TellsMissing error (first_missing tile.now (map string_bytes names.now))) }
 {
     let items = tile.items.as_slice();
     if let Some(index) = missing_name(items, names) {
@@ -44,7 +45,8 @@ fn add_picked(
     names: &[String],
 ) -> Result<(), AllocError>
     ensures { OnOk result (picked.new.items ≡ picked.old.items
-        ++ (if list_any (λ name. is_named name item.now) (map string_bytes names.now) then item.now ∷ [] else [])) }
+        ++ (if list_any (λ name. is_named name item.now)
+        (map string_bytes names.now) then item.now ∷ [] else [])) }
 {
     if is_picked(item, names) {
         picked.push(item.copy(alloc)?)?;
@@ -54,7 +56,8 @@ fn add_picked(
 
 /// The position of the first name that no layer has.
 fn missing_name(items: &[Item], names: &[String]) -> Option<usize>
-    ensures { result ≡ position_from (λ name. not (list_any (is_named name) items.now)) 0 (map string_bytes names.now) }
+    ensures { result ≡ position_from (λ name. not (list_any (is_named name) items.now)) 0
+        (map string_bytes names.now) }
 {
     for (index, name) in names.iter().enumerate() {
         if !has_layer(items, name.as_str()) {

@@ -13,13 +13,13 @@ use mvt_base::{LIMIT, Text};
 use mvt_message::judge_item;
 use std::alloc::{AllocError, Global};
 
-/// Judges a tile without building one: it keeps the names of the layers, and of one layer at a time its
-/// keys, and the tags and the integers of one feature.
+/// Judges a tile without building one: it keeps the names of the layers, and of one layer at a time
+/// its keys, and the tags and the integers of one feature.
 ///
 /// # Errors
 ///
-/// The first fault, which is the one that [`decode`](crate::decode) tells; want of memory. Never a failed
-/// read.
+/// The first fault, which is the one that [`decode`](crate::decode) tells; want of memory. Never a
+/// failed read.
 pub fn judge(alloc: Global, bytes: &[u8]) -> Result<(), DecodeError>
     ensures ok { OnOk result (fault_within LIMIT bytes.now ≡ None) }
     ensures tile { OnOk result ((tile : Tile) × IsTile LIMIT bytes.now tile) }
@@ -30,6 +30,8 @@ pub fn judge(alloc: Global, bytes: &[u8]) -> Result<(), DecodeError>
 
 impl Taker for Names {
     ghost use Rattle.mvt_tile.specs.Inner.Judging.{AreNamed};
+
+    ghost Given = { Unit {0} };
 
     ghost has_taken = { λ _ names items. AreNamed names.count names.names.keys items };
 

@@ -14,8 +14,10 @@ use mvt_base::LIMIT;
 /// Two valid tiles within the limit with the same canonical bytes are equal, and these bytes are
 /// read as the tile.
 pub fn one_tile()
-    ensures one { (s t : Tile) → Valid s → Valid t → length (canonical s) ≤ LIMIT → canonical s ≡ canonical t → s ≡ t }
-    ensures reads { (t : Tile) → Valid t → length (canonical t) ≤ LIMIT → IsTile LIMIT (canonical t) t }
+    ensures one { (s t : Tile) → Valid s → Valid t → length (canonical s) ≤ LIMIT
+        → canonical s ≡ canonical t → s ≡ t }
+    ensures reads { (t : Tile) → Valid t → length (canonical t) ≤ LIMIT
+        → IsTile LIMIT (canonical t) t }
 {}
 
 /// A fault stays, whatever bytes follow, but for a field that isn't finished.
@@ -32,7 +34,8 @@ pub fn fault_past_limit()
 
 /// Bytes are a tile exactly where they have no fault, and then one tile.
 pub fn tile_or_fault()
-    ensures there { (b : List ℕ) → fault_within LIMIT b ≡ None → (tile : Tile) × IsTile LIMIT b tile }
+    ensures there { (b : List ℕ) → fault_within LIMIT b ≡ None → (tile : Tile)
+        × IsTile LIMIT b tile }
     ensures clean { (b : List ℕ) (tile : Tile) → IsTile LIMIT b tile → fault_within LIMIT b ≡ None }
     ensures once { (b : List ℕ) (s t : Tile) → IsTile LIMIT b s → IsTile LIMIT b t → s ≡ t }
 {}

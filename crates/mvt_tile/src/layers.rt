@@ -1,11 +1,12 @@
 //! The items that were read so far, and the names of the layers among them.
-ghost use Rattle.std.specs.Prelude.{◌≡◌, ◌∷◌, ◌++◌, ◌||◌, ℕ, ◌+◌, ◌≤◌, List, [], false, length, not, bytes_eq, IfOk, IfErr, OnErr, OnOk, IsTrue};
+ghost use Rattle.std.specs.Prelude.{◌≡◌, ◌∷◌, ◌++◌, ◌||◌, ℕ, ◌+◌, ◌≤◌, List, [], false, length, map, not, bytes_eq, string_bytes, IfOk, IfErr, OnErr, OnOk, IsTrue};
 ghost use Rattle.std.specs.Bool.{OnFalse};
 ghost use Rattle.std.specs.List.{AllByRecursion, flat_map, list_any};
 ghost use Rattle.std.specs.Option.{option_to_list};
 ghost use Rattle.mvt_message.specs.Items.{IsItem, names_in};
 ghost use Rattle.mvt_message.specs.ValidItems.{ValidItem};
 ghost use Rattle.mvt_tile.specs.Inner.Judging.{AreNamed, name_fault, payload_fault};
+ghost use Rattle.mvt_tile.specs.Inner.Wanting.{IsSetOf};
 ghost use Rattle.mvt_tile.specs.Streams.{TellsEarly};
 ghost use Rattle.mvt_tile.specs.TileRules.{repeats};
 ghost use Rattle.mvt_model.specs.Tiles.{HasDistinctNames};
@@ -18,7 +19,8 @@ use std::alloc::{AllocError, Global};
 use std::collections::BTreeSet;
 use std::marker::Model;
 
-/// The items so far. An ordered set of the names beside them tells a repeated one without a walk, whatever the names are.
+/// The items so far. An ordered set of the names beside them tells a repeated one without a walk,
+/// whatever the names are.
 #[derive(Drop)]
 pub(crate) struct Layers {
     items: Vec<Item>,
@@ -83,6 +85,8 @@ impl Layers {
 impl Taker for Layers {
     ghost use Rattle.std.specs.Prelude.{◌≡◌};
 
+    ghost Given = { Unit {0} };
+
     ghost has_taken = { λ _ layers items. layers ≡ items };
 
     /// Reads an item, and keeps it.
@@ -121,12 +125,17 @@ impl Names {
     /// Adds one item more, with its name where it has one. A name that is there is a fault.
     pub(crate) fn add(&mut self, name: Option<Text>, tag_at: u64) -> Result<(), DecodeError>
         requires { self.old.count ≤ LIMIT }
-        ensures added { OnOk result ((items : List Item) (item : Item) → AreNamed self.old.count self.old.names.keys items
-            → names_in item ≡ option_to_list name → AreNamed self.new.count self.new.names.keys (items ++ item ∷ [])
+        ensures added { OnOk result ((items : List Item) (item : Item)
+            → AreNamed self.old.count self.old.names.keys items
+            → names_in item ≡ option_to_list name
+            → AreNamed self.new.count self.new.names.keys (items ++ item ∷ [])
             × (repeats (flat_map names_in items) (names_in item) ≡ false)) }
-        ensures fault { IfErr result (λ error. (items : List Item) → AreNamed self.old.count self.old.names.keys items
-            → TellsEarly error (name_fault (length items) (flat_map names_in items) (option_to_list name) tag_at)) }
-        ensures same { OnErr result ((self.new.count ≡ self.old.count) × (self.new.names.keys ≡ self.old.names.keys)) }
+        ensures fault { IfErr result (λ error. (items : List Item)
+            → AreNamed self.old.count self.old.names.keys items
+            → TellsEarly error (name_fault (length items) (flat_map names_in items)
+            (option_to_list name) tag_at)) }
+        ensures same { OnErr result ((self.new.count ≡ self.old.count)
+            × (self.new.names.keys ≡ self.old.names.keys)) }
     {
         if !add_name(&mut self.names, name)? {
             return Err(repeated_name(self.count, tag_at));
@@ -147,11 +156,14 @@ impl Names {
         requires fits { payload_at + length payload.now ≤ LIMIT }
         ensures item { IfOk result (IsItem payload.now) }
         ensures valid { IfOk result ValidItem }
-        ensures named { IfOk result (λ item. (items : List Item) → AreNamed self.old.count self.old.names.keys items
+        ensures named { IfOk result (λ item. (items : List Item)
+            → AreNamed self.old.count self.old.names.keys items
             → AreNamed self.new.count self.new.names.keys (items ++ item ∷ [])
             × (repeats (flat_map names_in items) (names_in item) ≡ false)) }
-        ensures fault { IfErr result (λ error. (items : List Item) → AreNamed self.old.count self.old.names.keys items
-            → TellsEarly error (payload_fault (length items) (flat_map names_in items) payload.now payload_at tag_at)) }
+        ensures fault { IfErr result (λ error. (items : List Item)
+            → AreNamed self.old.count self.old.names.keys items
+            → TellsEarly error (payload_fault (length items)
+            (flat_map names_in items) payload.now payload_at tag_at)) }
     {
         match read_item(alloc, payload, payload_at, tag_at) {
             Ok(item) => {
@@ -176,7 +188,8 @@ pub(crate) fn name_of(alloc: Global, item: &Item) -> Result<Option<Text>, AllocE
 /// Adds a name, where there is one, and answers whether it is new.
 pub(crate) fn add_name(names: &mut BTreeSet<Text>, name: Option<Text>) -> Result<bool, AllocError>
     ensures new { IfOk result (λ new. new ≡ not (repeats names.old.keys (option_to_list name))) }
-    ensures named { IfOk result (λ new. IsTrue new → (n : List ℕ) → list_any (bytes_eq n) names.new.keys
+    ensures named { IfOk result (λ new. IsTrue new → (n : List ℕ)
+        → list_any (bytes_eq n) names.new.keys
         ≡ (list_any (bytes_eq n) names.old.keys || list_any (bytes_eq n) (option_to_list name))) }
     ensures same { IfOk result (λ new. OnFalse new (names.new.keys ≡ names.old.keys)) }
     ensures err { OnErr result (names.new.keys ≡ names.old.keys) }
@@ -185,4 +198,22 @@ pub(crate) fn add_name(names: &mut BTreeSet<Text>, name: Option<Text>) -> Result
         Some(name) => Ok(names.insert(name)?),
         None => Ok(true),
     }
+}
+
+/// Whether a set holds a name.
+pub(crate) fn holds_name(names: &BTreeSet<Text>, name: &Text) -> bool
+    ensures { result ≡ list_any (bytes_eq name.now) names.now.keys }
+{
+    names.contains(name)
+}
+
+/// The set of some names.
+pub(crate) fn set_of(alloc: Global, names: &[String]) -> Result<BTreeSet<Text>, AllocError>
+    ensures { IfOk result (λ set. IsSetOf set.keys (map string_bytes names.now)) }
+{
+    let mut set = BTreeSet::new(alloc);
+    for name in names {
+        let _ = add_name(&mut set, Some(Text::from_str(alloc, name.as_str())?))?;
+    }
+    Ok(set)
 }

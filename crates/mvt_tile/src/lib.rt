@@ -5,6 +5,7 @@
 
 mod decoder;
 mod extract_error;
+mod extracting;
 mod extraction;
 mod fault;
 mod judging;
@@ -20,6 +21,7 @@ mod validity;
 
 pub use decoder::{TileDecoder, decode};
 pub use extract_error::ExtractError;
+pub use extracting::{NamedLayers, extract_bytes, extract_tile};
 pub use extraction::extract;
 pub use fault::{DecodeError, Fault};
 pub use judging::judge;

@@ -22,7 +22,8 @@ use std::alloc::Global;
 /// The most bytes that one read asks for.
 const PIECE: usize = 65_536;
 
-/// The most reads of one tile: each but the last gives a byte, and a byte beyond the limit ends the call.
+/// The most reads of one tile: each but the last gives a byte, and a byte beyond the limit ends the
+/// call.
 pub const MOST_READS: u64 = LIMIT + 2;
 
 /// Reads a tile: all that the reader has left. It reads no further after a fault.
@@ -31,7 +32,8 @@ pub const MOST_READS: u64 = LIMIT + 2;
 ///
 /// The input's first fault; a read that failed; want of memory.
 pub fn read_tile<R: Source>(alloc: Global, reader: &mut R) -> Result<Tile, DecodeError>
-    ensures tile { IfOk result (λ tile. IfSome (R.left reader.old) (λ input. IsTile LIMIT input tile)) }
+    ensures tile { IfOk result (λ tile. IfSome (R.left reader.old)
+        (λ input. IsTile LIMIT input tile)) }
     ensures valid { IfOk result Valid }
     ensures end { OnOk result (IsAtEnd (R.left reader.new)) }
     ensures fault { IfErr result (λ error. IfSome (R.left reader.old)
@@ -45,7 +47,8 @@ pub fn read_tile<R: Source>(alloc: Global, reader: &mut R) -> Result<Tile, Decod
     ensures ended { IfErr result (λ error. IsReadError error → R.ended reader.new ≡ true) }
     ensures kind { IfErr result (λ error. IsKindOf error (R.fault reader.new)) }
     ensures honest { OnOk result (R.failed reader.new ≡ R.failed reader.old) }
-    ensures sound { IfErr result (λ error. (IsReadError error → ⊥) → R.failed reader.new ≡ R.failed reader.old) }
+    ensures sound { IfErr result (λ error. (IsReadError error → ⊥)
+        → R.failed reader.new ≡ R.failed reader.old) }
 {
     let layers = read_whole(alloc, reader, Layers::new(alloc))?;
     Ok(Tile {
@@ -59,14 +62,16 @@ pub(crate) fn read_whole<R: Source, T: Taker>(
     reader: &mut R,
     taker: T,
 ) -> Result<T, DecodeError>
-    requires start { (input : List ℕ) × T.has_taken input taker [] }
+    requires start { (given : T.Given) × T.has_taken given taker [] }
     ensures end { OnOk result (IsAtEnd (R.left reader.new)) }
     ensures fault { IfErr result (λ error. IfSome (R.left reader.old)
         (λ input. Tells (fault_of error) (fault_within LIMIT input))) }
     ensures early { StopsEarly LIMIT 65536 (R.left reader.old) (R.left reader.new) }
     ensures stops { StopsEarly LIMIT (R.given reader.new) (R.left reader.old) (R.left reader.new) }
-    ensures tile { (input : List ℕ) → T.has_taken input taker [] → IfOk result (λ after. (tile : Tile)
-        × T.has_taken input after tile.items × IfSome (R.left reader.old) (λ bytes. IsTile LIMIT bytes tile)) }
+    ensures tile { (given : T.Given) → T.has_taken given taker []
+        → IfOk result (λ after. (tile : Tile)
+        × T.has_taken given after tile.items
+        × IfSome (R.left reader.old) (λ bytes. IsTile LIMIT bytes tile)) }
     ensures reads { R.reads reader.new ≤ R.reads reader.old + MOST_READS }
     ensures asked { R.asked reader.new ≤ max (R.asked reader.old) 65536 }
     ensures failed { IfErr result (λ error. IsReadError error
@@ -74,7 +79,8 @@ pub(crate) fn read_whole<R: Source, T: Taker>(
     ensures ended { IfErr result (λ error. IsReadError error → R.ended reader.new ≡ true) }
     ensures kind { IfErr result (λ error. IsKindOf error (R.fault reader.new)) }
     ensures honest { OnOk result (R.failed reader.new ≡ R.failed reader.old) }
-    ensures sound { IfErr result (λ error. (IsReadError error → ⊥) → R.failed reader.new ≡ R.failed reader.old) }
+    ensures sound { IfErr result (λ error. (IsReadError error → ⊥)
+        → R.failed reader.new ≡ R.failed reader.old) }
 {
     let mut pieces = Pieces::new(alloc, taker);
     let mut buffer = [0; PIECE];
@@ -91,13 +97,15 @@ fn feed_all<R: Source, T: Taker>(
 ) -> Result<(), DecodeError>
     requires room { 0 < length buffer.old }
     requires few { length buffer.old ≤ 65536 }
-    requires start { (input : List ℕ) × T.has_taken input pieces.old.taker [] }
+    requires start { (given : T.Given) × T.has_taken given pieces.old.taker [] }
     requires raw { pieces.old.raw.items ≡ [] }
     requires offset { pieces.old.offset ≡ 0 }
-    ensures fed { (input : List ℕ) → T.has_taken input pieces.old.taker [] → OnOk result
-        (HasFed LIMIT (T.has_taken input pieces.new.taker) pieces.new.offset pieces.new.raw.items (R.left reader.old) (R.left reader.new) 0) }
+    ensures fed { (given : T.Given) → T.has_taken given pieces.old.taker [] → OnOk result
+        (HasFed LIMIT (T.has_taken given pieces.new.taker) pieces.new.offset pieces.new.raw.items
+        (R.left reader.old) (R.left reader.new) 0) }
     ensures end { OnOk result (IsAtEnd (R.left reader.new)) }
-    ensures stopped { IfErr result (HasStopped LIMIT (R.given reader.new) (R.left reader.old) (R.left reader.new)) }
+    ensures stopped { IfErr result
+        (HasStopped LIMIT (R.given reader.new) (R.left reader.old) (R.left reader.new)) }
     ensures given { R.given reader.new ≤ 65536 }
     ensures reads { R.reads reader.new ≤ R.reads reader.old + MOST_READS }
     ensures asked { R.asked reader.new ≤ max (R.asked reader.old) 65536 }
@@ -106,7 +114,8 @@ fn feed_all<R: Source, T: Taker>(
     ensures ended { IfErr result (λ error. IsReadError error → R.ended reader.new ≡ true) }
     ensures kind { IfErr result (λ error. IsKindOf error (R.fault reader.new)) }
     ensures honest { OnOk result (R.failed reader.new ≡ R.failed reader.old) }
-    ensures sound { IfErr result (λ error. (IsReadError error → ⊥) → R.failed reader.new ≡ R.failed reader.old) }
+    ensures sound { IfErr result (λ error. (IsReadError error → ⊥)
+        → R.failed reader.new ≡ R.failed reader.old) }
 {
     for _turn in 0..MOST_READS {
         let count = match reader.read(buffer) {

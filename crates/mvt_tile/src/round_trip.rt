@@ -18,11 +18,12 @@ use mvt_io::{Sink, Source};
 use mvt_model::{Tile, WriteError, write_tile};
 use std::alloc::Global;
 
-/// Writes a tile, and then reads what a reader has left, which may be what the writer took: the same
-/// store opened again.
+/// Writes a tile, and then reads what a reader has left, which may be what the writer took: the
+/// same store opened again.
 ///
-/// The writer takes exactly the canonical bytes, and a reader of these bytes gives the tile, however
-/// they are cut; any other bytes are read as the one tile that they are, or as their first fault.
+/// The writer takes exactly the canonical bytes, and a reader of these bytes gives the tile,
+/// however they are cut; any other bytes are read as the one tile that they are, or as their first
+/// fault.
 ///
 /// # Errors
 ///
@@ -34,14 +35,18 @@ pub fn write_and_read<W: Sink, R: Source>(
     reader: &mut R,
 ) -> Result<Result<Tile, DecodeError>, WriteError>
     requires { Valid tile.now }
-    ensures written { OnOk result (Appends (W.taken writer.old) (W.taken writer.new) (canonical tile.now)) }
+    ensures written { OnOk result (Appends (W.taken writer.old) (W.taken writer.new)
+        (canonical tile.now)) }
     ensures small { OnOk result (length (canonical tile.now) ≤ LIMIT) }
-    ensures prefix { OnErr result (TakesPrefix (W.taken writer.old) (W.taken writer.new) (canonical tile.now)) }
+    ensures prefix { OnErr result (TakesPrefix (W.taken writer.old) (W.taken writer.new)
+        (canonical tile.now)) }
     ensures flushes { W.flushes writer.new ≡ W.flushes writer.old }
     ensures honest { OnOk result (W.failed writer.new ≡ W.failed writer.old) }
-    ensures same { IfOk result (λ read. R.left reader.old ≡ Some (canonical tile.now) → ReadsBack read tile.now) }
+    ensures same { IfOk result (λ read. R.left reader.old ≡ Some (canonical tile.now)
+        → ReadsBack read tile.now) }
     ensures exact { IfOk result (λ read. IfSome (R.left reader.old)
-        (λ input. MatchResult read (IsTile LIMIT input) (λ error. Tells (fault_of error) (fault_within LIMIT input)))) }
+        (λ input. MatchResult read (IsTile LIMIT input)
+        (λ error. Tells (fault_of error) (fault_within LIMIT input)))) }
     ensures too_large { IsErrOf result WriteError.TooLarge
         → (LIMIT < length (canonical tile.now)) × (writer.new ≡ writer.old) }
 
@@ -58,14 +63,18 @@ pub fn write_and_read<W: Sink, R: Source>(
     ensures valid { IfOk result (λ read. IfOk read Valid) }
     ensures end { IfOk result (λ read. OnOk read (IsAtEnd (R.left reader.new))) }
     ensures early { OnOk result (StopsEarly LIMIT 65536 (R.left reader.old) (R.left reader.new)) }
-    ensures stops { OnOk result (StopsEarly LIMIT (R.given reader.new) (R.left reader.old) (R.left reader.new)) }
+    ensures stops { OnOk result (StopsEarly LIMIT (R.given reader.new) (R.left reader.old)
+        (R.left reader.new)) }
     ensures reads { R.reads reader.new ≤ R.reads reader.old + MOST_READS }
     ensures asked { R.asked reader.new ≤ max (R.asked reader.old) 65536 }
     ensures read_failed { IfOk result (λ read. IfErr read (λ error. IsReadError error
         → HasFailed (R.failed reader.old) (R.failed reader.new))) }
-    ensures read_ended { IfOk result (λ read. IfErr read (λ error. IsReadError error → R.ended reader.new ≡ true)) }
-    ensures read_kind { IfOk result (λ read. IfErr read (λ error. IsKindOf error (R.fault reader.new))) }
-    ensures read_honest { IfOk result (λ read. OnOk read (R.failed reader.new ≡ R.failed reader.old)) }
+    ensures read_ended { IfOk result
+        (λ read. IfErr read (λ error. IsReadError error → R.ended reader.new ≡ true)) }
+    ensures read_kind { IfOk result
+        (λ read. IfErr read (λ error. IsKindOf error (R.fault reader.new))) }
+    ensures read_honest { IfOk result
+        (λ read. OnOk read (R.failed reader.new ≡ R.failed reader.old)) }
     ensures read_sound { IfOk result (λ read. IfErr read (λ error. (IsReadError error → ⊥)
         → R.failed reader.new ≡ R.failed reader.old)) }
 {

@@ -17,13 +17,13 @@ use mvt_base::LIMIT;
 use mvt_model::{Findings, Survey};
 use std::alloc::Global;
 
-/// Surveys a tile. One item is read at a time, compared with the bytes where it stands, and let go: so
-/// what is kept are the names of the layers and the notes.
+/// Surveys a tile. One item is read at a time, compared with the bytes where it stands, and let go:
+/// so what is kept are the names of the layers and the notes.
 ///
 /// # Errors
 ///
-/// The first fault, which is the one that [`decode`](crate::decode) tells; want of memory. Never a failed
-/// read.
+/// The first fault, which is the one that [`decode`](crate::decode) tells; want of memory. Never a
+/// failed read.
 pub fn survey_tile(alloc: Global, bytes: &[u8]) -> Result<Survey, DecodeError>
     ensures survey { IfOk result (λ survey. (tile : Tile) × IsTile LIMIT bytes.now tile × Valid tile
         × (survey ≡ survey_of tile (bytes_eq bytes.now (canonical tile)))) }
@@ -47,11 +47,14 @@ struct Surveyor<'a> {
 }
 
 impl<'a> Taker for Surveyor<'a> {
+    ghost use Rattle.std.specs.Prelude.{List, ℕ};
     ghost use Rattle.std.specs.List.{AllByRecursion};
     ghost use Rattle.mvt_base.specs.declared.TheConstants.{LIMIT};
     ghost use Rattle.mvt_message.specs.ValidItems.{ValidItem};
     ghost use Rattle.mvt_tile.specs.Inner.Judging.{AreNamed};
     ghost use Rattle.mvt_model.specs.Findings.{AreFound};
+
+    ghost Given = { List ℕ };
 
     ghost has_taken = { λ input s items. AreNamed s.names.count s.names.names.keys items
         × AreFound LIMIT input s.found items × AllByRecursion ValidItem items };

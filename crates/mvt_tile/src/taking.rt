@@ -25,8 +25,11 @@ use std::alloc::Global;
 
 /// What takes the items of a tile, one after the other.
 pub(crate) trait Taker: Drop {
-    // What it knows of an input when it has taken these items.
-    ghost has_taken: { List ℕ → Self → List Item → Type 0 };
+    // What it was given beside the items.
+    ghost Given: { Type 0 };
+
+    // What it knows of that when it has taken these items.
+    ghost has_taken: { Given → Self → List Item → Type 0 };
 
     /// Takes the item of a payload. Its first byte and the tag of its field stand at these places.
     fn take_item(
@@ -36,12 +39,16 @@ pub(crate) trait Taker: Drop {
         payload_at: u64,
         tag_at: u64,
     ) -> Result<(), DecodeError>
-        requires few { (input : List ℕ) × (items : List Item) × has_taken input self.old items × (length items ≤ LIMIT) }
+        requires few { (given : Given) × (items : List Item) × has_taken given self.old items
+            × (length items ≤ LIMIT) }
         requires fits { payload_at + length payload.now ≤ LIMIT }
-        ensures item { (input : List ℕ) (items : List Item) → has_taken input self.old items → OnOk result
-            ((new : List Item) × has_taken input self.new new × TakesItem items new payload.now) }
-        ensures fault { (input : List ℕ) (items : List Item) → has_taken input self.old items → IfErr result
-            (λ error. TellsEarly error (payload_fault (length items) (flat_map names_in items) payload.now payload_at tag_at)) };
+        ensures item { (given : Given) (items : List Item) → has_taken given self.old items
+            → OnOk result
+            ((new : List Item) × has_taken given self.new new × TakesItem items new payload.now) }
+        ensures fault { (given : Given) (items : List Item) → has_taken given self.old items
+            → IfErr result
+            (λ error. TellsEarly error (payload_fault (length items)
+            (flat_map names_in items) payload.now payload_at tag_at)) };
 }
 
 /// Takes the items of a tile: all bytes, which stand at the front of an input.
@@ -50,9 +57,9 @@ pub(crate) fn take_whole<T: Taker>(
     taker: &mut T,
     bytes: &[u8],
 ) -> Result<(), DecodeError>
-    requires start { (input : List ℕ) × T.has_taken input taker.old [] }
-    ensures tile { (input : List ℕ) → T.has_taken input taker.old [] → OnOk result
-        ((tile : Tile) × IsTile LIMIT bytes.now tile × T.has_taken input taker.new tile.items) }
+    requires start { (given : T.Given) × T.has_taken given taker.old [] }
+    ensures tile { (given : T.Given) → T.has_taken given taker.old [] → OnOk result
+        ((tile : Tile) × IsTile LIMIT bytes.now tile × T.has_taken given taker.new tile.items) }
     ensures fault { IfErr result (λ error. TellsAtEnd error (fault_within LIMIT bytes.now)) }
 {
     let (fitting, beyond) = bytes.split_at(bytes.len().min(LIMIT as usize));
@@ -66,19 +73,23 @@ pub(crate) fn take_whole<T: Taker>(
     Ok(())
 }
 
-/// Takes the items of the whole fields at the front, and answers how many bytes those are. The bytes
-/// stand at an offset of the input.
+/// Takes the items of the whole fields at the front, and answers how many bytes those are. The
+/// bytes stand at an offset of the input.
 pub(crate) fn take_fields<T: Taker>(
     alloc: Global,
     taker: &mut T,
     bytes: &[u8],
     offset: u64,
 ) -> Result<usize, DecodeError>
-    requires few { (input : List ℕ) × (items : List Item) × T.has_taken input taker.old items × (length items ≤ offset) }
+    requires few { (given : T.Given) × (items : List Item) × T.has_taken given taker.old items
+        × (length items ≤ offset) }
     requires fits { offset + length bytes.now ≤ LIMIT }
-    ensures judged { (input : List ℕ) (items : List Item) → T.has_taken input taker.old items → IfOk result
-        (λ used. (new : List Item) × T.has_taken input taker.new new × IsJudged offset bytes.now items new used) }
-    ensures fault { (input : List ℕ) (items : List Item) → T.has_taken input taker.old items → IfErr result
+    ensures judged { (given : T.Given) (items : List Item) → T.has_taken given taker.old items
+        → IfOk result
+        (λ used. (new : List Item) × T.has_taken given taker.new new
+        × IsJudged offset bytes.now items new used) }
+    ensures fault { (given : T.Given) (items : List Item) → T.has_taken given taker.old items
+        → IfErr result
         (λ error. TellsBehind error offset bytes.now items) }
 {
     for field in Fields::new(bytes) {
@@ -119,7 +130,8 @@ fn layer_in<'a>(field: &Field<'a>, offset: u64) -> Result<Option<Place<'a>>, Dec
     requires place { offset + field.now.at ≤ LIMIT }
     requires fits { offset + (field.now.body + bytes_size (entry_of field.now).content) ≤ LIMIT }
     ensures place { IfOk result (λ found. MatchOption found (field.now.number ≢ LAYERS)
-        (λ place. IsPlaceOf offset (entry_of field.now) place.payload.now place.payload_at place.tag_at)) }
+        (λ place. IsPlaceOf offset (entry_of field.now) place.payload.now place.payload_at
+        place.tag_at)) }
     ensures fault { IfErr result (λ error. (front : List Entry) →
         TellsEarly error (first (field_rules front (shifted offset (entry_of field.now))))) }
 {
@@ -146,14 +158,19 @@ fn take_field<T: Taker>(
     field: &Field<'_>,
     offset: u64,
 ) -> Result<(), DecodeError>
-    requires few { (input : List ℕ) × (items : List Item) × T.has_taken input taker.old items × (length items ≤ LIMIT) }
+    requires few { (given : T.Given) × (items : List Item) × T.has_taken given taker.old items
+        × (length items ≤ LIMIT) }
     requires place { offset + field.now.at ≤ LIMIT }
     requires fits { offset + (field.now.body + bytes_size (entry_of field.now).content) ≤ LIMIT }
-    ensures items { (input : List ℕ) (items : List Item) → T.has_taken input taker.old items → OnOk result ((new : List Item)
-        × T.has_taken input taker.new new × (length new ≤ length items + 1)
-        × ((front : List Entry) → AreItems front items → AreItems (front ++ shifted offset (entry_of field.now) ∷ []) new)) }
-    ensures fault { (input : List ℕ) (items : List Item) → T.has_taken input taker.old items → IfErr result (λ error.
-        (front : List Entry) → AreItems front items → TellsEarly error (first (field_rules front (shifted offset (entry_of field.now))))) }
+    ensures items { (given : T.Given) (items : List Item) → T.has_taken given taker.old items
+        → OnOk result ((new : List Item)
+        × T.has_taken given taker.new new × (length new ≤ length items + 1)
+        × ((front : List Entry) → AreItems front items
+        → AreItems (front ++ shifted offset (entry_of field.now) ∷ []) new)) }
+    ensures fault { (given : T.Given) (items : List Item) → T.has_taken given taker.old items
+        → IfErr result (λ error.
+        (front : List Entry) → AreItems front items
+        → TellsEarly error (first (field_rules front (shifted offset (entry_of field.now))))) }
 {
     match layer_in(field, offset)? {
         None => Ok(()),

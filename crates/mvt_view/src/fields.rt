@@ -51,7 +51,8 @@ fn fields_within(alloc: Global, input: &[u8], limit: usize) -> Result<FieldsText
 /// Appends the line of a field: its offset, its number, its form, and its number or its length.
 #[tactic(auto, unfolding(crate::specs::FieldLines::field_line))]
 fn push_line(lines: &mut String, field: &Field<'_>) -> Result<(), AllocError>
-    ensures { OnOk result (string_bytes lines.new ≡ string_bytes lines.old ++ field_line (entry_of field.now)) }
+    ensures { OnOk result (string_bytes lines.new ≡ string_bytes lines.old ++ field_line
+        (entry_of field.now)) }
 {
     let at = field.at;
     let number = field.number;

@@ -10,7 +10,8 @@ use std::fmt::Write;
 
 /// Appends the path of a geometry; nothing for one of unknown type.
 pub(crate) fn push_geometry(text: &mut String, geometry: &Geometry) -> Result<(), AllocError>
-    ensures { OnOk result (string_bytes text.new ≡ string_bytes text.old ++ geometry_path geometry.now) }
+    ensures { OnOk result (string_bytes text.new
+        ≡ string_bytes text.old ++ geometry_path geometry.now) }
 {
     match geometry {
         Geometry::Unknown(_) => Ok(()),
@@ -21,7 +22,8 @@ pub(crate) fn push_geometry(text: &mut String, geometry: &Geometry) -> Result<()
 }
 
 fn push_dots(text: &mut String, points: &[Point]) -> Result<(), AllocError>
-    ensures { OnOk result (string_bytes text.new ≡ string_bytes text.old ++ flat_map dot_path points.now) }
+    ensures { OnOk result (string_bytes text.new
+        ≡ string_bytes text.old ++ flat_map dot_path points.now) }
 {
     for point in points {
         push_dot(text, *point)?;
@@ -38,7 +40,8 @@ fn push_dot(text: &mut String, point: Point) -> Result<(), AllocError>
 }
 
 fn push_lines(text: &mut String, lines: &[Items<Point>]) -> Result<(), AllocError>
-    ensures { OnOk result (string_bytes text.new ≡ string_bytes text.old ++ flat_map line_path lines.now) }
+    ensures { OnOk result (string_bytes text.new
+        ≡ string_bytes text.old ++ flat_map line_path lines.now) }
 {
     for line in lines {
         push_line(text, line.as_slice())?;
@@ -59,7 +62,8 @@ fn push_line(text: &mut String, points: &[Point]) -> Result<(), AllocError>
 }
 
 fn push_strokes(text: &mut String, points: &[Point]) -> Result<(), AllocError>
-    ensures { OnOk result (string_bytes text.new ≡ string_bytes text.old ++ flat_map line_to points.now) }
+    ensures { OnOk result (string_bytes text.new
+        ≡ string_bytes text.old ++ flat_map line_to points.now) }
 {
     for point in points {
         push_stroke(text, *point)?;
@@ -68,7 +72,8 @@ fn push_strokes(text: &mut String, points: &[Point]) -> Result<(), AllocError>
 }
 
 fn push_polygons(text: &mut String, polygons: &[Polygon]) -> Result<(), AllocError>
-    ensures { OnOk result (string_bytes text.new ≡ string_bytes text.old ++ flat_map polygon_path polygons.now) }
+    ensures { OnOk result (string_bytes text.new
+        ≡ string_bytes text.old ++ flat_map polygon_path polygons.now) }
 {
     for polygon in polygons {
         push_polygon(text, polygon)?;
@@ -78,14 +83,16 @@ fn push_polygons(text: &mut String, polygons: &[Polygon]) -> Result<(), AllocErr
 
 #[tactic(auto, unfolding(crate::specs::Svg::polygon_path))]
 fn push_polygon(text: &mut String, polygon: &Polygon) -> Result<(), AllocError>
-    ensures { OnOk result (string_bytes text.new ≡ string_bytes text.old ++ polygon_path polygon.now) }
+    ensures { OnOk result (string_bytes text.new
+        ≡ string_bytes text.old ++ polygon_path polygon.now) }
 {
     push_ring(text, polygon.outer.as_slice())?;
     push_rings(text, polygon.rest.as_slice())
 }
 
 fn push_rings(text: &mut String, rings: &[Items<Point>]) -> Result<(), AllocError>
-    ensures { OnOk result (string_bytes text.new ≡ string_bytes text.old ++ flat_map ring_path rings.now) }
+    ensures { OnOk result (string_bytes text.new
+        ≡ string_bytes text.old ++ flat_map ring_path rings.now) }
 {
     for ring in rings {
         push_ring(text, ring.as_slice())?;

@@ -61,7 +61,8 @@ fn all_features(tile: &Tile) -> u128
 }
 
 fn push_notes(text: &mut String, notes: &[Note]) -> Result<(), AllocError>
-    ensures { OnOk result (string_bytes text.new ≡ string_bytes text.old ++ flat_map note_line notes.now) }
+    ensures { OnOk result (string_bytes text.new
+        ≡ string_bytes text.old ++ flat_map note_line notes.now) }
 {
     for note in notes {
         push_note(text, *note)?;

@@ -19,7 +19,8 @@ pub(crate) trait Shown {
 
     /// Sends the events of that form.
     fn send<S: Serializer>(&self, out: &mut S) -> Result<(), S::Error>
-        ensures { OnOk result (SendsValue (shown self.now) (S.written out.old) (S.written out.new)) };
+        ensures { OnOk result (SendsValue (shown self.now) (S.written out.old)
+            (S.written out.new)) };
 }
 
 /// An object of one member.
@@ -36,7 +37,8 @@ pub(crate) fn send_alone<T: Shown, S: Serializer>(
     out: &mut S,
 ) -> Result<(), S::Error>
     ensures { OnOk result
-        (SendsValue (alone_json key.now (T.shown value.now)) (S.written out.old) (S.written out.new)) }
+        (SendsValue (alone_json key.now (T.shown value.now)) (S.written out.old)
+        (S.written out.new)) }
 {
     out.begin_map(Some(1))?;
     out.key(key)?;

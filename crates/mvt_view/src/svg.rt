@@ -48,7 +48,8 @@ fn push_items(alloc: Global, text: &mut String, items: &[Item]) -> Result<(), Vi
 }
 
 fn push_item(alloc: Global, text: &mut String, index: usize, item: &Item) -> Result<(), ViewError>
-    ensures { OnOk result (string_bytes text.new ≡ string_bytes text.old ++ item_svg index item.now) }
+    ensures { OnOk result (string_bytes text.new
+        ≡ string_bytes text.old ++ item_svg index item.now) }
 {
     match item {
         Item::Layer(layer) => push_layer(alloc, text, index, layer),
@@ -63,7 +64,8 @@ fn push_layer(
     index: usize,
     layer: &Layer,
 ) -> Result<(), ViewError>
-    ensures { OnOk result (string_bytes text.new ≡ string_bytes text.old ++ layer_svg index layer.now) }
+    ensures { OnOk result (string_bytes text.new
+        ≡ string_bytes text.old ++ layer_svg index layer.now) }
 {
     push_square(text, index, layer.extent)?;
     push_title(text, layer.name.as_str())?;
@@ -76,7 +78,8 @@ fn push_layer(
 /// Appends the tag of a square of so many units.
 #[tactic(auto, unfolding(crate::specs::Svg::square_svg))]
 fn push_square(text: &mut String, index: usize, extent: u32) -> Result<(), AllocError>
-    ensures { OnOk result (string_bytes text.new ≡ string_bytes text.old ++ square_svg index extent) }
+    ensures { OnOk result (string_bytes text.new
+        ≡ string_bytes text.old ++ square_svg index extent) }
 {
     let colour = colour(index % 8);
     write!(
@@ -103,7 +106,8 @@ fn colour(index: usize) -> &'static str
 }
 
 fn push_features(alloc: Global, text: &mut String, features: &[Feature]) -> Result<(), ViewError>
-    ensures { OnOk result (string_bytes text.new ≡ string_bytes text.old ++ flat_map feature_svg features.now) }
+    ensures { OnOk result (string_bytes text.new
+        ≡ string_bytes text.old ++ flat_map feature_svg features.now) }
 {
     for feature in features {
         push_feature(alloc, text, feature)?;
@@ -113,7 +117,8 @@ fn push_features(alloc: Global, text: &mut String, features: &[Feature]) -> Resu
 
 #[tactic(auto, unfolding(crate::specs::Svg::feature_svg))]
 fn push_feature(alloc: Global, text: &mut String, feature: &Feature) -> Result<(), ViewError>
-    ensures { OnOk result (string_bytes text.new ≡ string_bytes text.old ++ feature_svg feature.now) }
+    ensures { OnOk result (string_bytes text.new
+        ≡ string_bytes text.old ++ feature_svg feature.now) }
 {
     let class = class(&feature.geometry);
     write!(text, "<path class=\"{class}\" d=\"")?;

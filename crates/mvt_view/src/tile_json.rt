@@ -3,7 +3,8 @@
 //! A tile is `{"layers":[..]}`, a layer `{"extent":4096,"features":[..],"name":"a"}`, a layer of
 //! another version `{"foreign":{"length":5,"version":1}}`, and a feature
 //! `{"attributes":[["k",{"uint":5}]],"geometry":{"points":[[25,17]]},"id":null}`. The keys of every
-//! object stand in byte order. There are no floats: a float or a double is shown as its bit pattern.
+//! object stand in byte order. There are no floats: a float or a double is shown as its bit
+//! pattern.
 ghost use Rattle.std.specs.Prelude.{◌≡◌, IfOk, string_bytes};
 ghost use Rattle.serde_json.specs.Events.{SendsValue};
 ghost use Rattle.serde_json.specs.View.{view};

@@ -111,7 +111,8 @@ pub fn front_stays()
 /// what is behind it.
 pub fn split_more()
     ensures fields { (at : ℕ) (b more : List ℕ) → (split_from at (b ++ more)).fields
-        ≡ (split_from at b).fields ++ (split_from (split_from at b).rest_at ((split_from at b).rest ++ more)).fields }
+        ≡ (split_from at b).fields ++ (split_from (split_from at b).rest_at
+        ((split_from at b).rest ++ more)).fields }
     ensures rest { (at : ℕ) (b more : List ℕ) → (split_from at (b ++ more)).rest
         ≡ (split_from (split_from at b).rest_at ((split_from at b).rest ++ more)).rest }
     ensures place { (at : ℕ) (b more : List ℕ) → (split_from at (b ++ more)).rest_at
@@ -143,14 +144,17 @@ pub fn packed_is_least()
 
 /// The shortest spellings of numbers, joined, are packed just so, and only so.
 pub fn short_packed()
-    ensures packed { (ns : List ℕ) → AllByRecursion (λ n. n < 2 ^ 32) ns → ArePacked (short_numbers ns) ns }
-    ensures only { (ns ms : List ℕ) → AllByRecursion (λ n. n < 2 ^ 32) ns → ArePacked (short_numbers ns) ms → ms ≡ ns }
+    ensures packed { (ns : List ℕ) → AllByRecursion (λ n. n < 2 ^ 32) ns
+        → ArePacked (short_numbers ns) ns }
+    ensures only { (ns ms : List ℕ) → AllByRecursion (λ n. n < 2 ^ 32) ns
+        → ArePacked (short_numbers ns) ms → ms ≡ ns }
 {}
 
 /// The shortest spellings of fields, joined, are just these fields.
 pub fn spelled_whole()
     ensures whole { (fs : List Plain) → AllByRecursion IsFit fs → IsWholeAs (spelled fs) fs }
-    ensures field { (f : Plain) → IsFit f → IsField (short_field f.number f.content) f.number f.content }
+    ensures field { (f : Plain) → IsFit f
+        → IsField (short_field f.number f.content) f.number f.content }
     ensures only { (b : List ℕ) (fs gs : List Plain) → IsWholeAs b fs → IsWholeAs b gs → fs ≡ gs }
 {}
 
@@ -162,13 +166,15 @@ pub fn short_lengths()
     ensures five { (n : ℕ) → n < 2 ^ 32 → length (short n) ≤ 5 }
     ensures field { (number : ℕ) (c : Content) → length (short_field number c)
         ≡ length (short (8 * number + wire_type c)) + length (short_payload c) }
-    ensures bytes { (number : ℕ) (d : List ℕ) → length d + 2 ≤ length (short_field number (bytes d)) }
+    ensures bytes { (number : ℕ) (d : List ℕ)
+        → length d + 2 ≤ length (short_field number (bytes d)) }
     ensures numbers { (ns : List ℕ) → length ns ≤ length (short_numbers ns) }
 {}
 
 /// Packed numbers of 32 bits take five bytes each at most.
 pub fn packed_lengths()
-    ensures { (ns : List ℕ) → AllByRecursion (λ n. n < 2 ^ 32) ns → length (short_numbers ns) ≤ 5 * length ns }
+    ensures { (ns : List ℕ) → AllByRecursion (λ n. n < 2 ^ 32) ns
+        → length (short_numbers ns) ≤ 5 * length ns }
 {}
 
 /// Fields behind others are spelled behind them.
@@ -178,7 +184,8 @@ pub fn spelled_parts()
 
 /// A field of bytes whose tag takes one byte takes at most eleven bytes more than they are.
 pub fn bytes_lengths()
-    ensures { (number : ℕ) (d : List ℕ) → number < 16 → length (short_field number (bytes d)) ≤ 11 + length d }
+    ensures { (number : ℕ) (d : List ℕ) → number < 16
+        → length (short_field number (bytes d)) ≤ 11 + length d }
 {}
 
 /// `unzig` gives the number of a zigzag code, and `zig` the code of a number.

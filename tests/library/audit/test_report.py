@@ -1,6 +1,7 @@
 """The parts of the page: where a fault lies, what is said of it, what its feature draws, and where maps lie."""
 
 import re
+import resource
 import unittest
 from pathlib import Path
 
@@ -90,6 +91,21 @@ class Shapes(unittest.TestCase):
         wanted = [(2, 3)] * 4 + [(10, 3)] * 2 + [(10, 13)] * 4 + [(11, 14)] * 2
         self.assertEqual(points, wanted)
         self.assertIsNone(shapes.position([], 0))
+
+
+class Pictures(unittest.TestCase):
+    def test_a_text_of_many_features_makes_no_large_picture(self):
+        points = [mvt.Feature(None, {"a": "x" * 100_000}, "points", [(5, 5)])] * 3000
+        tile = mvt.write(mvt.Tile([mvt.Layer("a", 4096, points)]))
+        # a layer "b" with a line that stands still
+        broken = b"\x1a\x12\x78\x02\x0a\x01b\x12\x0b\x18\x02\x22\x07\x09\x04\x04\x0a\x00\x00\x00"
+        with self.assertRaises(mvt.Refused) as refused:
+            mvt.judge(tile + broken)
+        before = resource.getrusage(resource.RUSAGE_SELF).ru_maxrss
+        picture = pictures.of_tile(tile + broken, refused.exception)
+        self.assertLess(resource.getrusage(resource.RUSAGE_SELF).ru_maxrss - before, 100_000)
+        self.assertIn('class="points"', picture.svg)
+        self.assertNotIn("xxx", picture.svg)
 
 
 class Maps(unittest.TestCase):

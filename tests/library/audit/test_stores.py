@@ -135,7 +135,7 @@ class Stores(Case):
 
 class Unpacking(unittest.TestCase):
     def test_each_compression(self):
-        for tile in example_tiles().values():
+        for tile in [*example_tiles().values(), bytes(1 << 20)]:
             if len(tile) < LIMIT:
                 for kind, stored in packings(tile).items():
                     if kind != "plain" or not tile.startswith(b"\x1f\x8b"):

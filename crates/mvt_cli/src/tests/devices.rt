@@ -8,7 +8,8 @@ const READ_FAILED: &str = "mvt: read failed\n";
 
 const WRITE_FAILED: &str = "mvt: write failed\n";
 
-// Each read fails in turn, of which there is one a byte and one at the end; the writer isn't touched.
+// Each read fails in turn, of which there is one a byte and one at the end; the writer isn't
+// touched.
 fn fails_reading(
     rt: &(impl Abort + AllocGlobal),
     words: &[&str],

@@ -10,8 +10,8 @@ use mvt_tasks::MemoryFile;
 use std::test::Fail;
 
 // A tile, one that is refused, one that can't be opened, one whose second read fails, one with a
-// note, and one with a name that begins with a hyphen: the name, the bytes in hexadecimal digits, and
-// the first read that fails.
+// note, and one with a name that begins with a hyphen: the name, the bytes in hexadecimal digits,
+// and the first read that fails.
 const FILES: [(&str, Option<&str>, u64); 6] = [
     ("good", Some(ONE_POINT), u64::MAX),
     ("bad", Some("1B"), u64::MAX),
@@ -38,8 +38,8 @@ fn folder_of(alloc: Global) -> Result<MemoryFolder, AllocError> {
     Ok(MemoryFolder::new(alloc, files))
 }
 
-// A run over files whose bytes are known, into writers that keep theirs: what it says of each file is
-// what `check` answers for its bytes.
+// A run over files whose bytes are known, into writers that keep theirs: what it says of each file
+// is what `check` answers for its bytes.
 fn run_files(
     alloc: Global,
     words: &[String],
@@ -48,11 +48,13 @@ fn run_files(
     writer: &mut MemorySink,
     errors: &mut MemorySink,
 ) -> u8
-    ensures { files_in (map string_bytes words.now) ≢ [] → faults_in (map string_bytes words.now) ≡ []
+    ensures { files_in (map string_bytes words.now) ≢ []
+        → faults_in (map string_bytes words.now) ≡ []
         → IsToldOfAll LIMIT (held_in folder.old.files) (files_in (map string_bytes words.now))
         (moment folder.old.visits (Some writer.old.taken) errors.old.failed (Some errors.old.taken))
         (moment folder.new.visits (Some writer.new.taken) errors.new.failed (Some errors.new.taken))
-        (calls writer.old.flushes writer.old.failed writer.old.ended) (calls writer.new.flushes writer.new.failed writer.new.ended) result }
+        (calls writer.old.flushes writer.old.failed writer.old.ended)
+        (calls writer.new.flushes writer.new.failed writer.new.ended) result }
 {
     run(alloc, words, folder, reader, writer, errors)
 }

@@ -11,13 +11,11 @@ enum Told {
 
 const NOTHING: Told = Told::Line("");
 
-// Want of memory, or the answer; how often it was want of memory. The commands that make their text
-// whole have then written nothing, the others a front of it.
+// Want of memory, or the answer; how often it was want of memory. Nothing was written then.
 fn wants(
     rt: &(impl Abort + AllocGlobal),
     words: &[&str],
     input: &str,
-    is_made_whole: bool,
     answer: (u8, &[u8], Told),
 ) -> u32 {
     let alloc = rt.alloc();
@@ -29,8 +27,7 @@ fn wants(
     };
     if found.status == 4 {
         assert_eq!(rt; found.errors.taken(), "mvt: out of memory\n".as_bytes());
-        assert!(rt; answer.1.starts_with(found.writer.taken()));
-        assert!(rt; !is_made_whole || found.writer.calls() == 0);
+        assert_eq!(rt; found.writer.calls(), 0);
         assert_eq!(rt; found.writer.flushes(), 0);
         return 1;
     }
@@ -48,58 +45,50 @@ fn wants_once(
     rt: &(impl Abort + AllocGlobal),
     words: &[&str],
     input: &str,
-    is_made_whole: bool,
     answer: (u8, &[u8], Told),
 ) {
-    let first = wants(rt, words, input, is_made_whole, answer);
-    let second = wants(rt, words, input, is_made_whole, answer);
+    let first = wants(rt, words, input, answer);
+    let second = wants(rt, words, input, answer);
     assert!(rt; first.saturating_add(second) <= 1);
 }
 
 #[test]
-fn made_whole_refused_memory(rt: HostRuntime) {
+fn texts_refused_memory(rt: HostRuntime) {
     let lines = b"0 3 len 3\n5 4 varint 5\n";
     let cut = Told::Line("layer - feature - at 7: 1 Truncated\n");
-    wants_once(
-        &rt,
-        &["mvt", "fields"],
-        "1A030A016120051A",
-        true,
-        (1, lines, cut),
-    );
+    wants_once(&rt, &["mvt", "fields"], "1A030A016120051A", (1, lines, cut));
     let fields = ["mvt", "fields"];
     let point = b"0 3 len 17\n";
-    wants_once(&rt, &fields, ONE_POINT, true, (0, point, NOTHING));
+    wants_once(&rt, &fields, ONE_POINT, (0, point, NOTHING));
     let shown = ONE_POINT_SHOWN.as_bytes();
-    wants_once(&rt, &["mvt", "show"], ONE_POINT, true, (0, shown, NOTHING));
+    wants_once(&rt, &["mvt", "show"], ONE_POINT, (0, shown, NOTHING));
     let drawn = ONE_POINT_DRAWN.as_bytes();
-    wants_once(&rt, &["mvt", "draw"], ONE_POINT, true, (0, drawn, NOTHING));
+    wants_once(&rt, &["mvt", "draw"], ONE_POINT, (0, drawn, NOTHING));
     let report = b"ok layers 1 features 1 canonical yes\n";
     let lines: [&[&str]; 3] = [&["mvt", "check"], &["mvt"], &[]];
     for words in lines {
-        wants_once(&rt, words, ONE_POINT, true, (0, report, NOTHING));
+        wants_once(&rt, words, ONE_POINT, (0, report, NOTHING));
     }
 }
 
-// `extract` writes one layer after the other, `rewrite` all at once.
 #[test]
 fn tiles_refused_memory(rt: HostRuntime) {
     let both = "1A1178020A0161120718012203093222288020 1A1178020A0162120718012203093222288020";
     let (Ok(bytes), Ok(point)) = (hex(rt.alloc(), both), hex(rt.alloc(), ONE_POINT)) else {
         return;
     };
-    wants_once(&rt, &["mvt", "rewrite"], both, true, (0, &bytes, NOTHING));
+    wants_once(&rt, &["mvt", "rewrite"], both, (0, &bytes, NOTHING));
     let several = ["mvt", "extract", "b", "a"];
-    wants_once(&rt, &several, both, false, (0, &bytes, NOTHING));
+    wants_once(&rt, &several, both, (0, &bytes, NOTHING));
     let one = ["mvt", "extract", "a"];
-    wants_once(&rt, &one, both, false, (0, &point, NOTHING));
+    wants_once(&rt, &one, both, (0, &point, NOTHING));
 }
 
 #[test]
 fn lines_refused_memory(rt: HostRuntime) {
     let usage = (2, b"".as_slice(), Told::Usage);
-    wants_once(&rt, &["mvt", "frob"], ONE_POINT, true, usage);
-    wants_once(&rt, &["mvt", "extract"], ONE_POINT, true, usage);
+    wants_once(&rt, &["mvt", "frob"], ONE_POINT, usage);
+    wants_once(&rt, &["mvt", "extract"], ONE_POINT, usage);
     let rows: [(&[&str], &str, &str); 4] = [
         (
             &["mvt", "extract", "c"],
@@ -123,6 +112,6 @@ fn lines_refused_memory(rt: HostRuntime) {
         ),
     ];
     for (words, input, line) in rows {
-        wants_once(&rt, words, input, true, (1, b"", Told::Line(line)));
+        wants_once(&rt, words, input, (1, b"", Told::Line(line)));
     }
 }

@@ -42,11 +42,13 @@ impl Table {
         keys: &mut KeyPool,
         values: &mut ValuePool,
     ) -> Result<(), PoolError>
-        ensures row { OnOk result (self.new ≡ with_feature keys.new values.new self.old feature.now) }
+        ensures row { OnOk result (self.new
+            ≡ with_feature keys.new values.new self.old feature.now) }
         ensures keys { OnOk result (keys.new ≡ key_pool keys.old feature.now.attributes) }
         ensures values { OnOk result (values.new ≡ value_pool values.old feature.now.attributes) }
         ensures too_many { IsErrOf result PoolError.Full
-            → AreTooMany (key_pool keys.old feature.now.attributes) (value_pool values.old feature.now.attributes) }
+            → AreTooMany (key_pool keys.old feature.now.attributes)
+            (value_pool values.old feature.now.attributes) }
     {
         let tags = self.tags.len();
         let parts = self.parts.len();
@@ -79,7 +81,8 @@ impl Table {
         requires no_keys { keys.old ≡ [] }
         requires no_values { values.old ≡ [] }
         ensures rows { OnOk result (self.new
-            ≡ fold (with_feature (keys_of features.now) (values_of features.now)) self.old features.now) }
+            ≡ fold (with_feature (keys_of features.now)
+            (values_of features.now)) self.old features.now) }
         ensures keys { OnOk result (keys.new ≡ keys_of features.now) }
         ensures values { OnOk result (values.new ≡ values_of features.now) }
         ensures too_many { IsErrOf result PoolError.Full

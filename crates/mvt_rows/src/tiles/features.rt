@@ -28,7 +28,8 @@ fn id(row: &FeatureRow) -> Option<Option<u64>>
 }
 
 fn geometry(alloc: Global, rows: &Rows, row: &FeatureRow) -> Result<Geometry, RowsError>
-    ensures drawn { IfOk result (λ geometry. geometry_of (table_of rows.now) row.now ≡ Some geometry) }
+    ensures drawn { IfOk result (λ geometry. geometry_of (table_of rows.now) row.now
+        ≡ Some geometry) }
     ensures none { IfErr result (FailsAs (geometry_of (table_of rows.now) row.now ≡ None)) }
 {
     if row.kind == 0 {
@@ -46,7 +47,8 @@ fn feature(
     row: &FeatureRow,
 ) -> Result<Feature, RowsError>
     ensures feature { IfOk result (IsFeature (table_of rows.now) keys.old values.now row.now) }
-    ensures none { IfErr result (FailsAs (IsNone (IsFeature (table_of rows.now) keys.old values.now row.now))) }
+    ensures none { IfErr result (FailsAs
+        (IsNone (IsFeature (table_of rows.now) keys.old values.now row.now))) }
     ensures same { keys.new ≡ keys.old }
 {
     let Some(id) = id(row) else {
@@ -70,7 +72,8 @@ pub(crate) fn features(
     values: &[Value],
     of_layer: &[FeatureRow],
 ) -> Result<Vec<Feature>, RowsError>
-    ensures features { IfOk result (λ features. AreRelated (IsFeature (table_of rows.now) keys.now values.now)
+    ensures features { IfOk result
+        (λ features. AreRelated (IsFeature (table_of rows.now) keys.now values.now)
         of_layer.now features.items) }
     ensures none { IfErr result (FailsAs (IsNone (AreRelated
         (IsFeature (table_of rows.now) keys.now values.now) of_layer.now))) }

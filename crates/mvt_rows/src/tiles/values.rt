@@ -61,7 +61,8 @@ pub(crate) fn values(
     texts: &[u8],
     rows: &[ValueRow],
 ) -> Result<Vec<Value>, RowsError>
-    ensures values { IfOk result (λ values. each (value_of texts.now) rows.now ≡ Some values.items) }
+    ensures values { IfOk result (λ values. each (value_of texts.now) rows.now
+        ≡ Some values.items) }
     ensures none { IfErr result (FailsAs (each (value_of texts.now) rows.now ≡ None)) }
 {
     let mut values = Vec::with_capacity(alloc, rows.len())?;

@@ -8,7 +8,7 @@ import os
 import signal
 from typing import Any, Callable, Dict, Iterator, List, NamedTuple, Optional, Sequence, Tuple
 
-from .judging import judged_part
+from .judging import judged_part, rows_of
 from .results import Done, Results
 from .stores import Store
 
@@ -67,7 +67,7 @@ def run(client: Any, results: Results, stores: Sequence[Store], done: Dict[str, 
     lost: List[Lost] = []
 
     def take(finished: Tuple[Any, Any]) -> None:
-        future, rows = finished
+        future, packed = finished
         path, part = handed.pop(future.key)
         if future.cancelled():
             raise EngineError("the scheduler went away")
@@ -75,6 +75,7 @@ def run(client: Any, results: Results, stores: Sequence[Store], done: Dict[str, 
         if why is not None:
             lost.append(Lost(path, part, f"{type(why).__name__}: {why}".splitlines()[0]))
             return
+        rows = rows_of(packed)
         results.add(path, part, rows)
         told(rows)
 

@@ -1,10 +1,10 @@
 """What is said of each tile: a row of the table."""
 
+import pickle
 from typing import Any, List, NamedTuple, Optional, Tuple
 
 import mvt
 
-from . import wire
 from .stores import Address, Content, Store
 from .unpacking import LIMIT, NotUnpacked, is_zlib, unpacked
 
@@ -57,9 +57,15 @@ def judged(address: Address, content: Content) -> Row:
     return Row(*address, ACCEPTED, len(tile), notes="; ".join(notes))
 
 
-def judged_part(store: Store, part: Any) -> List[Tuple[Any, ...]]:
-    """The rows of a range, as plain tuples, which are sent faster."""
-    return [tuple(judged(address, content)) for address, content in store.tiles(part)]
+def judged_part(store: Store, part: Any) -> bytes:
+    """The rows of a range, packed: Dask would weigh, pickle and unpickle each row by itself."""
+    return pickle.dumps([tuple(judged(address, content)) for address, content in store.tiles(part)])
+
+
+def rows_of(packed: bytes) -> List[Tuple[Any, ...]]:
+    """The rows that a worker packed, as plain tuples."""
+    rows: List[Tuple[Any, ...]] = pickle.loads(packed)
+    return rows
 
 
 def _tile_of(stored: bytes) -> bytes:
@@ -84,8 +90,8 @@ def _columns(tile: bytes, fault: mvt.Refused, is_packed: bool) -> Tuple[Any, ...
     """The columns of a fault. What unpacks beyond the limit is too large, whatever its front breaks."""
     if is_packed and len(tile) > LIMIT and fault.cause != TOO_LARGE:
         return (None, None, None, None, LIMIT, TOO_LARGE, "TooLarge", f"the front breaks a rule too: {fault}")
-    layer, feature = wire.named(tile, fault.layer, fault.feature)
-    return (fault.layer, layer, fault.feature, feature, fault.at, fault.cause, fault.name)
+    id = None if fault.feature_id is None else str(fault.feature_id)
+    return (fault.layer, fault.layer_name, fault.feature, id, fault.at, fault.cause, fault.name)
 
 
 def _told(why: Exception) -> str:

@@ -8,6 +8,8 @@ LIMIT = 67_108_864
 
 GZIP = b"\x1f\x8b"
 _WINDOW_OF_EITHER = 47
+# Tiles seldom unpack to more than so many times their bytes, and room that isn't used costs time.
+_USUAL = 8
 
 
 class NotUnpacked(Exception):
@@ -40,7 +42,9 @@ def _member(stored: bytes, most: int) -> Tuple[bytes, bytes]:
     """The first member of a gzip, or the whole of a zlib, and what stands behind it."""
     stream = zlib.decompressobj(_WINDOW_OF_EITHER)
     try:
-        made = stream.decompress(stored, most)
+        made = stream.decompress(stored, min(most, _USUAL * len(stored)))
+        if not stream.eof and len(made) < most:
+            made += stream.decompress(stream.unconsumed_tail, most - len(made))
     except zlib.error as why:
         raise NotUnpacked(_reason(why)) from why
     if len(made) < most and not stream.eof:

@@ -10,7 +10,7 @@ NAMES: Dict[str, Dict[int, str]] = {
     "feature": {1: "id", 2: "tags", 3: "type", 4: "geometry"},
     "value": {1: "string", 2: "float", 3: "double", 4: "int", 5: "uint", 6: "sint", 7: "bool"},
 }
-LAYERS, FEATURES, LAYER_NAME, KEYS, EXTENT, FEATURE_ID, TAGS, KIND, GEOMETRY = 3, 2, 1, 3, 5, 1, 2, 3, 4
+LAYERS, FEATURES, KEYS, EXTENT, TAGS, KIND, GEOMETRY = 3, 2, 3, 5, 2, 3, 4
 
 
 class Field(NamedTuple):
@@ -95,15 +95,6 @@ def holders(content: bytes, layer: Optional[int], feature: Optional[int]) -> Tup
     """A layer and a feature of it, by their indices."""
     held = nth(content, whole(content), LAYERS, layer)
     return held, nth(content, held, FEATURES, feature)
-
-
-def named(content: bytes, layer: Optional[int], feature: Optional[int]) -> Tuple[Optional[str], Optional[str]]:
-    """The name of a layer and the id of a feature, where they have such."""
-    layer_field, feature_field = holders(content, layer, feature)
-    name = last(content, layer_field, LAYER_NAME, 2)
-    id = last(content, feature_field, FEATURE_ID, 0)
-    text = None if name is None else content[name.body : name.end].decode("utf-8", "replace")
-    return text, None if id is None else str(id.value)
 
 
 def packed(content: bytes, field: Field) -> Iterator[Tuple[Optional[int], int, int]]:

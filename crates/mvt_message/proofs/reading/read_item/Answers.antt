@@ -1,56 +1,55 @@
-use Rattle.std.proofs.Common.{◌∙◌}
-use Rattle.std.proofs.lemmas.Result.{err_from_is_err_and}
-use Rattle.std.proofs.Math.Facts.{Fits-lt-pow}
-use Rattle.mvt_wire.specs.Split.{split}
-use Rattle.mvt_message.proofs.ReadLemmas.{as_two, head_told, head_whole, layer_told, layer_item, other_item}
-use Rattle.mvt_message.proofs.OrFaultLemmas.{item_of_layer, item_of_other}
-use Rattle.mvt_message.proofs.ValidLemmas.{item_valid}
+use Rattle.std.proofs.Common.{◌≡◌, ℕ, List, [], ◌∙◌}
+use Rattle.mvt_attrs.specs.declared.value.Value.{Value}
+use Rattle.mvt_feature.specs.declared.feature.Feature.{Feature}
+use Rattle.mvt_message.specs.declared.reading.Kept.{Kept}
+use Rattle.mvt_message.specs.declared.visiting.Visited.TheVariants.{Layer, Foreign}
+use Rattle.mvt_message.specs.Items.{IsItem}
+use Rattle.mvt_message.specs.ValidItems.{ValidItem}
+use Rattle.mvt_message.proofs.VisitLemmas.{layer_visited, foreign_visited, put_together, foreign_bytes, foreign_made}
 use Rattle.mvt_message.proofs.reading.read_item.Goals as goal
 
-pub returns-in_err-version-clause-fault : goal.returns-in_err-version-clause-fault
-returns-in_err-version-clause-fault c =
-    let p = err_from_is_err_and c.from_residual.result c.from_residual.ensures.1 in
-    rw (p.1, p.2) (head_told c.args.payload.now c.args.payload_at c.args.tag_at _ c.in_err-version.ensures.err)
+-- what is kept of items, and of features
+abbrev HasItems : Kept → Type 0
+HasItems kept = Unit {0}
 
-pub read_layer-requires-clause-whole : goal.read_layer-requires-clause-whole
-read_layer-requires-clause-whole c = head_whole c.args.payload.now c.args.payload_at c.args.tag_at c.in_ok-version.ensures.ok
+abbrev HasFeatures : List (List ℕ) → List Value → Kept → List Feature → Type 0
+HasFeatures keys values kept features = (kept.values.items ≡ values) × (kept.features.items ≡ features)
 
-pub returns-in_err-read_layer-clause-fault : goal.returns-in_err-read_layer-clause-fault
-returns-in_err-read_layer-clause-fault c =
-    let p = err_from_is_err_and c.from_residual-in_err-read_layer.result c.from_residual-in_err-read_layer.ensures.1 in
-    let two = as_two (split c.args.payload.now).fields c.in_ok-version.ensures.version c.if-version-eq-VERSION_2.true in
-    rw (p.1, p.2) (layer_told c.args.payload.now c.args.payload_at c.args.tag_at _ c.in_ok-version.ensures.ok two
-    c.in_err-read_layer.ensures.fault)
+pub returns-in_ok-from_str-in-Ok-Layer-clause-item : goal.returns-in_ok-from_str-in-Ok-Layer-clause-item
+returns-in_ok-from_str-in-Ok-Layer-clause-item c =
+    let (item, is, valid, visited) = c.in-Ok-Layer.ensures.item [] (c.new-kept.ensures.values, c.new-kept.ensures.features) tt in
+    let told = rw c.in-Ok-Layer.field-0-is at visited in
+    let (layer, has, p) =
+    layer_visited HasItems HasFeatures c.visit_layer.new.visitor (Layer c.in-Ok-Layer.name c.in-Ok-Layer.extent) (IsItem c.args.payload.now)
+    (λ number content none. none) item told is in
+    put_together (IsItem c.args.payload.now) layer _ _ _ (c.in_ok-from_str-in-Ok-Layer.ensures.same ∙ has.0) has.1
+    (c.new.ensures ∙ has.2.2.1) p
 
-pub returns-then-version-eq-VERSION_2-clause-ok : goal.returns-then-version-eq-VERSION_2-clause-ok
-returns-then-version-eq-VERSION_2-clause-ok c =
-    let two = as_two (split c.args.payload.now).fields c.in_ok-version.ensures.version c.if-version-eq-VERSION_2.true in
-    item_of_layer c.args.payload.now c.args.payload_at c.args.tag_at c.in_ok-version.ensures.ok two ∙ c.in_ok-read_layer.ensures.ok
+pub returns-in_ok-from_str-in-Ok-Layer-clause-valid : goal.returns-in_ok-from_str-in-Ok-Layer-clause-valid
+returns-in_ok-from_str-in-Ok-Layer-clause-valid c =
+    let (item, is, valid, visited) = c.in-Ok-Layer.ensures.item [] (c.new-kept.ensures.values, c.new-kept.ensures.features) tt in
+    let told = rw c.in-Ok-Layer.field-0-is at visited in
+    let (layer, has, p) =
+    layer_visited HasItems HasFeatures c.visit_layer.new.visitor (Layer c.in-Ok-Layer.name c.in-Ok-Layer.extent) ValidItem
+    (λ number content none. none) item told valid in
+    put_together ValidItem layer _ _ _ (c.in_ok-from_str-in-Ok-Layer.ensures.same ∙ has.0) has.1 (c.new.ensures ∙ has.2.2.1) p
 
-pub returns-then-version-eq-VERSION_2-clause-item : goal.returns-then-version-eq-VERSION_2-clause-item
-returns-then-version-eq-VERSION_2-clause-item c =
-    let two = as_two (split c.args.payload.now).fields c.in_ok-version.ensures.version c.if-version-eq-VERSION_2.true in
-    layer_item c.args.payload.now c.args.payload_at c.args.tag_at _ c.in_ok-version.ensures.ok two c.in_ok-read_layer.ensures.layer
+pub returns-in_ok-from_slice-in-Ok-Foreign-clause-item : goal.returns-in_ok-from_slice-in-Ok-Foreign-clause-item
+returns-in_ok-from_slice-in-Ok-Foreign-clause-item c =
+    let (item, is, valid, visited) = c.in-Ok-Foreign.ensures.item [] (c.new-kept.ensures.values, c.new-kept.ensures.features) tt in
+    let told = rw c.in-Ok-Foreign.field-0-is at visited in
+    let (number, content, has, p) =
+    foreign_visited HasItems HasFeatures c.visit_layer.new.visitor (Foreign c.in-Ok-Foreign.version) (IsItem c.args.payload.now)
+    (λ layer none. none) item told is in
+    foreign_made (IsItem c.args.payload.now) _ _ (foreign_bytes c.args.payload.now number content p) has.0
+    (c.new-in-Ok-Foreign.ensures ∙ c.in_ok-from_slice-in-Ok-Foreign.ensures.items) p
 
-pub returns-clause-ok : goal.returns-clause-ok
-returns-clause-ok c =
-    item_of_other c.args.payload.now c.args.payload_at c.args.tag_at c.in_ok-version.version c.in_ok-version.ensures.ok
-    c.in_ok-version.ensures.version c.if-version-eq-VERSION_2.false
-
-pub returns-clause-item : goal.returns-clause-item
-returns-clause-item c =
-    other_item c.args.payload.now c.args.payload_at c.args.tag_at c.in_ok-version.version _ c.in_ok-version.ensures.ok
-    c.in_ok-version.ensures.version c.if-version-eq-VERSION_2.false (c.new-bytes.ensures ∙ c.in_ok-from_slice.ensures.items)
-
-pub returns-then-version-eq-VERSION_2-clause-valid : goal.returns-then-version-eq-VERSION_2-clause-valid
-returns-then-version-eq-VERSION_2-clause-valid c =
-    let two = as_two (split c.args.payload.now).fields c.in_ok-version.ensures.version c.if-version-eq-VERSION_2.true in
-    item_valid c.args.payload.now _ (λ k. Fits-lt-pow (c.type_inv.payload k))
-    (layer_item c.args.payload.now c.args.payload_at c.args.tag_at c.in_ok-read_layer.field-0 c.in_ok-version.ensures.ok two
-    c.in_ok-read_layer.ensures.layer)
-
-pub returns-clause-valid : goal.returns-clause-valid
-returns-clause-valid c =
-    item_valid c.args.payload.now _ (λ k. Fits-lt-pow (c.type_inv.payload k))
-    (other_item c.args.payload.now c.args.payload_at c.args.tag_at c.in_ok-version.version _ c.in_ok-version.ensures.ok
-    c.in_ok-version.ensures.version c.if-version-eq-VERSION_2.false (c.new-bytes.ensures ∙ c.in_ok-from_slice.ensures.items))
+pub returns-in_ok-from_slice-in-Ok-Foreign-clause-valid : goal.returns-in_ok-from_slice-in-Ok-Foreign-clause-valid
+returns-in_ok-from_slice-in-Ok-Foreign-clause-valid c =
+    let (item, is, valid, visited) = c.in-Ok-Foreign.ensures.item [] (c.new-kept.ensures.values, c.new-kept.ensures.features) tt in
+    let told = rw c.in-Ok-Foreign.field-0-is at visited in
+    let (other, bytes, same, q) =
+    foreign_visited HasItems HasFeatures c.visit_layer.new.visitor (Foreign c.in-Ok-Foreign.version) (λ i. IsItem c.args.payload.now i × ValidItem i)
+    (λ layer none. none) item told (is, valid) in
+    foreign_made ValidItem _ _ (foreign_bytes c.args.payload.now other bytes q.0) same.0
+    (c.new-in-Ok-Foreign.ensures ∙ c.in_ok-from_slice-in-Ok-Foreign.ensures.items) q.1

@@ -1,13 +1,17 @@
-use Rattle.std.proofs.Common.{◌≡◌, refl}
-use Rattle.std.specs.Io.KnownBytes.{Appends}
-use Rattle.mvt_io.specs.Counts.{counted}
-use Rattle.mvt_tasks.proofs.Replies.{extract_refused}
+use Rattle.std.proofs.Common.{map, string_bytes}
+use Rattle.std.proofs.lemmas.Result.{IfOk-weaker}
+use Rattle.mvt_base.specs.declared.TheConstants.{LIMIT}
+use Rattle.mvt_tasks.proofs.Replies.{layers_told}
 use Rattle.mvt_tasks.proofs.extraction.extract_layers.Goals as goal
 
-pub returns-in_ok-refusal-in-Err-clause-output : goal.returns-in_ok-refusal-in-Err-clause-output
-returns-in_ok-refusal-in-Err-clause-output g c =
-    extract_refused _ c.args.names.now (g.R.Source.left c.args.reader.now) c.in-Err.error _
-    (c.args.writer.now ≡ c.args.writer.now) (λ text. Appends (g.W.Sink.taken c.args.writer.now)
-    (g.W.Sink.taken c.args.writer.now) text
-    × (g.W.Sink.flushes c.args.writer.now ≡ counted (g.W.Sink.flushes c.args.writer.now)))
-    c.in-Err.ensures.fault c.in_ok-refusal-in-Err.ensures.line refl
+pub extracted-requires : goal.extracted-requires
+extracted-requires g c =
+    let layers = c.in-Ok.ensures.layers in
+    (layers.0, layers.1)
+
+pub returns-in-Ok-clause-reply : goal.returns-in-Ok-clause-reply
+returns-in-Ok-clause-reply g c =
+    let (tile, are, there) = c.in-Ok.ensures.layers in
+    IfOk-weaker c.extracted.result _ _
+    (λ reply made. layers_told LIMIT (g.R.Source.left c.args.reader.now) c.args.names.now
+    (map string_bytes c.as_slice-wanted.result.now) tile reply c.as_slice-wanted.ensures (made tile are) there) c.extracted.ensures.reply

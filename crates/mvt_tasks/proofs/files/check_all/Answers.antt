@@ -5,11 +5,11 @@ use Rattle.mvt_tasks.proofs.files.check_all.Goals as goal
 
 pub returns-in_err-line-clause-cut : goal.returns-in_err-line-clause-cut
 returns-in_err-line-clause-cut g c =
-    cut_unwritten c.from_residual-in_err-line.result _ _ _ _ _ _ _ c.in_ok-tally.ensures.said
+    cut_unwritten c.from_residual-in_err-line.result _ _ _ _ _ _ c.in_ok-tally.ensures.said
     (let h : IfErr c.from_residual-in_err-line.result (λ failure. failure ≡ Memory) = search rules in h)
 
 pub returns-in_err-map_err-clause-cut : goal.returns-in_err-map_err-clause-cut
 returns-in_err-map_err-clause-cut g c =
-    cut_unflushed c.from_residual-in_err-map_err.result _ _ _ _ _ _ _ _ c.in_ok-tally.ensures.said
+    cut_unflushed c.from_residual-in_err-map_err.result _ _ _ _ _ _ _ c.in_ok-tally.ensures.said
     c.flush.ensures.bytes (let h : IfErr c.from_residual-in_err-map_err.result
     (λ failure. failure ≡ Write) = search rules in h)

@@ -2,7 +2,7 @@ use Rattle.std.proofs.Common.{rules, ◌≡◌, ◌++◌, ◌∷◌, [], length,
 use Rattle.std.proofs.lemmas.List.{map-append, length-map, length-take}
 use Rattle.std.proofs.Math.Seq.{split_at}
 use Rattle.mvt_base.proofs.ListLemmas.{front_more}
-use Rattle.mvt_tasks.proofs.CheckLemmas.{cut_later_of, said_none, said_step, said_size, told_before}
+use Rattle.mvt_tasks.proofs.CheckLemmas.{cut_later_of, said_none, said_step, said_size}
 use Rattle.mvt_tasks.proofs.files.check_each.Goals as goal
 
 pub add-requires : goal.add-requires
@@ -29,14 +29,10 @@ loop-name-preserved g c = record {
   same = c.in_ok-verdict.ensures.same ∙ c.loop-name.invariant.same;
 }
 
-pub returns-in_err-verdict-clause-partly : goal.returns-in_err-verdict-clause-partly
-returns-in_err-verdict-clause-partly g c =
-    told_before c.from_residual.result _ _ _ _ _ _ _ _ c.loop-name.invariant.said c.in_err-verdict.ensures.partly
-
 pub returns-in_err-verdict-clause-cut : goal.returns-in_err-verdict-clause-cut
 returns-in_err-verdict-clause-cut g c =
     cut_later_of c.from_residual.result _ _ _ _ _ (string_bytes c.name-item.result) _
-    (map string_bytes (drop (suc c.loop-name.name-index) c.args.names.now)) _ _ _ _ _ c.loop-name.invariant.said
+    (map string_bytes (drop (suc c.loop-name.name-index) c.args.names.now)) _ _ _ _ c.loop-name.invariant.said
     (search rules) c.loop-name.invariant.same c.as_str.ensures.value
     (ap (map string_bytes) (split_at c.args.names.now c.loop-name.name-index c.name-item.result c.loop-name-test.true
     ∙ ap (λ y. take c.loop-name.name-index c.args.names.now ++ y ∷ drop (suc c.loop-name.name-index)

@@ -1,8 +1,9 @@
-use Rattle.std.proofs.Common.{rules, ◌≡◌, IfErr, subst, ◌∙◌}
+use Rattle.std.proofs.Common.{rules, ◌≡◌, IfErr, refl, subst, ◌∙◌}
 use Rattle.std.specs.Io.KnownBytes.{Appends}
 use Rattle.mvt_tasks.specs.declared.failure.Failure.TheVariants.{Memory}
-use Rattle.mvt_tasks.specs.Checks.{TakesUntil, Tells, written_of, told_of}
-use Rattle.mvt_tasks.proofs.CheckLemmas.{cut_first_of, cut_within_of, tells_none}
+use Rattle.mvt_tasks.specs.Checks.{TakesUntil, Tells, visit_of, written_of, told_of}
+use Rattle.mvt_tasks.specs.Visits.{visit}
+use Rattle.mvt_tasks.proofs.CheckLemmas.{cut_first_of, cut_within_of}
 use Rattle.mvt_tasks.proofs.files.check_one.Goals as goal
 
 pub returns-clause-said : goal.returns-clause-said
@@ -19,30 +20,29 @@ returns-clause-said g c = record {
   judged = c.of-verdict.ensures;
 }
 
-pub returns-in_err-written-clause-partly : goal.returns-in_err-written-clause-partly
-returns-in_err-written-clause-partly g c = tells_none c.from_residual-in_err-written.result _ _
-
-pub returns-in_err-told-clause-partly : goal.returns-in_err-told-clause-partly
-returns-in_err-told-clause-partly g c = tells_none c.from_residual-in_err-told.result _ _
-
 pub returns-in_err-reply-clause-cut : goal.returns-in_err-reply-clause-cut
 returns-in_err-reply-clause-cut g c =
-    cut_first_of c.from_residual.result _ _ _ _ (let h : IfErr c.from_residual.result (λ failure. failure ≡ Memory) = search rules in h)
+    let asked = c.in_err-reply.ensures.asked in
+    cut_first_of c.from_residual.result _ _ _ _ _ (visit c.args.name.now asked.0) refl asked.1
+    (let h : IfErr c.from_residual.result (λ failure. failure ≡ Memory) = search rules in h)
 
 pub returns-in_err-written-clause-cut : goal.returns-in_err-written-clause-cut
 returns-in_err-written-clause-cut g c =
-    cut_first_of c.from_residual-in_err-written.result _ _ _ _ (let h : IfErr c.from_residual-in_err-written.result
-    (λ failure. failure ≡ Memory) = search rules in h)
+    cut_first_of c.from_residual-in_err-written.result _ _ _ _ _ (visit_of c.args.name.now c.in_ok-reply.reply) refl c.in_ok-reply.ensures.visited
+    (let h : IfErr c.from_residual-in_err-written.result (λ failure. failure ≡ Memory) = search rules in h)
 
 pub returns-in_err-told-clause-cut : goal.returns-in_err-told-clause-cut
 returns-in_err-told-clause-cut g c =
-    cut_first_of c.from_residual-in_err-told.result _ _ _ _ (let h : IfErr c.from_residual-in_err-told.result
-    (λ failure. failure ≡ Memory) = search rules in h)
+    cut_first_of c.from_residual-in_err-told.result _ _ _ _ _ (visit_of c.args.name.now c.in_ok-reply.reply) refl c.in_ok-reply.ensures.visited
+    (let h : IfErr c.from_residual-in_err-told.result (λ failure. failure ≡ Memory) = search rules in h)
 
 pub returns-in_err-put-clause-cut : goal.returns-in_err-put-clause-cut
-unfolding written_of
+unfolding written_of told_of
 returns-in_err-put-clause-cut g c =
-    cut_within_of c.from_residual-in_err-put.result _ _ _ _ _ c.in_ok-reply.reply c.in_ok-reply.ensures.said
+    cut_within_of c.from_residual-in_err-put.result _ _ _ c.in_ok-reply.reply _ _ c.in_ok-reply.ensures.said c.in_ok-reply.ensures.visited
     (subst (λ text. IfErr c.from_residual-in_err-put.result (TakesUntil (g.W.Sink.taken c.args.writer.now)
     (g.W.Sink.taken c.put.new.writer) text)) (c.deref-2.ensures.value ∙ c.in_ok-written.ensures.bytes)
     (search rules))
+    (subst (λ text. Tells (g.E.Sink.failed c.args.errors.now) (g.E.Sink.failed c.note.new.errors)
+    (g.E.Sink.taken c.args.errors.now) (g.E.Sink.taken c.note.new.errors) text)
+    (c.deref.ensures.value ∙ c.in_ok-told.ensures.bytes) c.note.ensures)

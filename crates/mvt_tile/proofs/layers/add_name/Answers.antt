@@ -4,12 +4,8 @@ use Rattle.std.specs.Cmp.Lexicographic.{slice_cmp}
 use Rattle.std.specs.List.{list_any}
 use Rattle.std.proofs.lemmas.Map.Text.{is_eq-slice_cmp}
 use Rattle.mvt_tile.specs.TileRules.{repeats}
-use Rattle.mvt_tile.proofs.NameLemmas.{bytes_eq_comm, or_right_false}
+use Rattle.mvt_tile.proofs.NameLemmas.{any_text, bytes_eq_comm, or_right_false}
 use Rattle.mvt_tile.proofs.layers.add_name.Goals as goal
-
-any_text : (n : List ℕ) (ks : List (List ℕ)) → list_any (λ k. is_eq (slice_cmp nat_cmp n k)) ks ≡ list_any (bytes_eq n) ks
-any_text n [] = refl
-any_text n (k ∷ ks) = ap₂ (λ a b. a || b) (is_eq-slice_cmp n k) (any_text n ks)
 
 cond_or : (b held : Bool) → cond b true held ≡ (held || (b || false))
 cond_or true true = refl

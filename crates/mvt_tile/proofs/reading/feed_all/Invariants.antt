@@ -1,10 +1,10 @@
-use Rattle.std.proofs.Common.{◌≡◌, ℕ, ◌+◌, ◌≤◌, List, [], length, max}
+use Rattle.std.proofs.Common.{◌≡◌, ◌+◌, ◌≤◌, [], length, max}
 use Rattle.mvt_tile.specs.Inner.Feeding.{HasFed}
 use Rattle.mvt_tile.proofs.reading.feed_all.Given as goal
 
 abbrev pub invariant-loop-turn : goal.invariant-loop-turn
 invariant-loop-turn g l = record {
-  fed : (input : List ℕ) → g.T.Taker.has_taken input l.initial.pieces.taker []
+  fed : (input : g.T.Taker.Given) → g.T.Taker.has_taken input l.initial.pieces.taker []
       → HasFed 67108864 (g.T.Taker.has_taken input l.pieces.taker) l.pieces.offset l.pieces.raw.items
       (g.R.Source.left l.initial.reader) (g.R.Source.left l.reader) l._turn;
   small : l.pieces.offset + length l.pieces.raw.items ≤ 67108864;

@@ -1,9 +1,8 @@
-use Rattle.std.proofs.Common.{[]}
 use Rattle.mvt_tile.proofs.reading.read_tile.Goals as goal
 
 pub returns-clause-tile : goal.returns-clause-tile
 returns-clause-tile g c =
-    let taken = c.in_ok-layers.ensures.tile [] c.new.ensures in
+    let taken = c.in_ok-layers.ensures.tile tt c.new.ensures in
     rw (c.new-2.ensures, c.into_items.ensures.items, taken.1) taken.2
 
 pub returns-clause-valid : goal.returns-clause-valid

@@ -196,7 +196,10 @@ def _within(example: Example) -> str:
 
 
 def _pictures(tile: bytes, fault: Any) -> Iterable[str]:
-    whole = pictures.of_tile(tile, fault)
+    try:
+        whole = pictures.of_tile(tile, fault)
+    except MemoryError:
+        whole = None
     if whole is None:
         yield '<p class="quiet">No picture: nothing of the tile can be drawn, or it is too large for this page.</p>'
     for picture in (whole, pictures.close_up(tile, fault)):

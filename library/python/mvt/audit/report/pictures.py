@@ -61,6 +61,14 @@ def mended(tile: bytes) -> Tuple[Optional[bytes], int]:
     return None, dropped
 
 
+def _drawing(tile: bytes) -> str:
+    """The picture of a tile without attributes, since a text that many features have would stand in it for each."""
+    rows = mvt.rows(tile)
+    for feature in rows.features:
+        feature.tags.len = 0
+    return _TITLE.sub("", mvt.to_svg(mvt.write(rows)))
+
+
 def _document(content: str, box: str = "0 0 1 1") -> str:
     style = "path{stroke-linecap:round;stroke-linejoin:round}"
     return f'<svg xmlns="http://www.w3.org/2000/svg" viewBox="{box}"><style>{style}</style>{content}</svg>'
@@ -98,7 +106,7 @@ def of_tile(tile: bytes, fault: mvt.Refused) -> Optional[Picture]:
     """The whole tile: what is good of it, and the broken feature in red, with a circle round the place."""
     good, dropped = mended(tile) if len(tile) <= MOST_OF_TILE else (None, 0)
     drawn, extent, _ = _drawn(tile, fault)
-    parts = [] if good is None else [_TITLE.sub("", mvt.to_svg(good))]
+    parts = [] if good is None else [_drawing(good)]
     over = "".join(_line(path, _RED, ".5%") for path in drawn)
     found = position(drawn, fault.at)
     if found is not None:

@@ -192,6 +192,6 @@ def _turned(z: Optional[int], y: int) -> int:
 
 
 def _address(z: Any, x: Any, row: Any) -> Address:
-    if all(isinstance(number, int) for number in (z, x, row)) and 0 <= z < 64:
+    if isinstance(z, int) and isinstance(x, int) and isinstance(row, int) and 0 <= z < 64:
         return Address(z, x, _turned(z, row))
     return Address(None, None, None, f"{z}/{x}/{row}")

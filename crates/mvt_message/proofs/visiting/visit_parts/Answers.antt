@@ -1,0 +1,77 @@
+use Rattle.std.proofs.Common.{◌≡◌, [], None, ap, refl, sym, subst, ◌∙◌}
+use Rattle.std.specs.Option.{option_copied}
+use Rattle.std.proofs.lemmas.Result.{err_from_is_err_and}
+use Rattle.mvt_wire.specs.Split.{split}
+use Rattle.mvt_message.specs.declared.item.Layer.{Layer as ALayer}
+use Rattle.mvt_message.specs.Inner.{forms_fault, values_fault}
+use Rattle.mvt_message.specs.LayerFields.{name_in}
+use Rattle.mvt_message.proofs.ReadLemmas.{or_told, forms_told, name_told, values_told, front_clean, features_told, layer_ok, layer_read}
+use Rattle.mvt_message.proofs.visiting.visit_parts.Goals as goal
+
+pub returns-in-Err-clause-fault : goal.returns-in-Err-clause-fault
+returns-in-Err-clause-fault g c =
+    let fields = (split c.args.payload.now).fields in
+    let told = or_told (forms_fault c.args.payload_at) fields _ (rw c.in-Err.is at c.requires.front.1.0) in
+    forms_told c.args.payload_at c.args.tag_at fields _ told
+
+pub returns-in-None-clause-fault : goal.returns-in-None-clause-fault
+returns-in-None-clause-fault g c =
+    let fields = (split c.args.payload.now).fields in
+    let head = rw c.in-Ok.is at c.requires.front.1.0 in
+    let none : None ≡ name_in fields = ap option_copied (sym c.in-None.is) ∙ head.name_is in
+    rw c.fault_at.ensures (name_told c.args.payload_at c.args.tag_at fields head.clean none)
+
+pub returns-in-Err-values-clause-fault : goal.returns-in-Err-values-clause-fault
+returns-in-Err-values-clause-fault g c =
+    let fields = (split c.args.payload.now).fields in
+    let head = rw c.in-Ok.is at c.requires.front.1.0 in
+    let name = ap option_copied (sym c.in-Some.is) ∙ head.name_is in
+    let told = or_told (values_fault c.args.payload_at) fields _ (rw c.in-Err-values.is at c.requires.front.1.1) in
+    values_told c.args.payload_at c.args.tag_at fields _ head.clean name told
+
+pub visit_features-requires-clause-held : goal.visit_features-requires-clause-held
+visit_features-requires-clause-held g c =
+    let (items, front) = c.requires.front in
+    let values = rw c.in-Ok-values.is at front.1 in (
+      items,
+      values.values,
+      sym values.counted,
+      subst (λ ks. g.V.LayerVisitor.has_features items ks values.values c.visit_keys.new.self [])
+          (c.deref.ensures.value ∙ sym c.deref-2.ensures.value) (c.in_ok-visit_keys.ensures items values.values values.has),
+    )
+
+pub returns-in_err-visit_features-clause-fault : goal.returns-in_err-visit_features-clause-fault
+returns-in_err-visit_features-clause-fault g c =
+    let p = err_from_is_err_and c.from_residual-in_err-visit_features.result c.from_residual-in_err-visit_features.ensures.1 in
+    let (items, front) = c.requires.front in
+    let head = rw c.in-Ok.is at front.0 in
+    let values = rw c.in-Ok-values.is at front.1 in
+    let clean = front_clean values.values head (ap option_copied c.in-Some.is) c.deref-2.ensures.value values.so_far in
+    let has =
+    subst (λ ks. g.V.LayerVisitor.has_features items ks values.values c.visit_keys.new.self [])
+    (c.deref.ensures.value ∙ sym c.deref-2.ensures.value) (c.in_ok-visit_keys.ensures items values.values values.has) in
+    rw (p.1, p.2) (features_told c.args.tag_at _ clean
+    (c.in_err-visit_features.ensures.err items values.values (sym values.counted) has))
+
+pub returns-clause-ok : goal.returns-clause-ok
+returns-clause-ok g c =
+    let (items, front) = c.requires.front in
+    let head = rw c.in-Ok.is at front.0 in
+    let values = rw c.in-Ok-values.is at front.1 in
+    let clean = front_clean values.values head (ap option_copied c.in-Some.is) c.deref-2.ensures.value values.so_far in
+    let has =
+    subst (λ ks. g.V.LayerVisitor.has_features items ks values.values c.visit_keys.new.self [])
+    (c.deref.ensures.value ∙ sym c.deref-2.ensures.value) (c.in_ok-visit_keys.ensures items values.values values.has) in
+    layer_ok c.args.tag_at clean (c.in_ok-visit_features.ensures.ok items values.values (sym values.counted) has)
+
+pub returns-clause-layer : goal.returns-clause-layer
+returns-clause-layer g c = λ items front.
+    let head = rw c.in-Ok.is at front.0 in
+    let values = rw c.in-Ok-values.is at front.1 in
+    let clean = front_clean values.values head (ap option_copied c.in-Some.is) c.deref-2.ensures.value values.so_far in
+    let has =
+    subst (λ ks. g.V.LayerVisitor.has_features items ks values.values c.visit_keys.new.self [])
+    (c.deref.ensures.value ∙ sym c.deref-2.ensures.value) (c.in_ok-visit_keys.ensures items values.values values.has) in
+    let features = c.in_ok-visit_features.ensures.features items values.values (sym values.counted) has in
+    let layer : ALayer = record { name = c.in-Some.name.now; extent = c.in-Ok.head.extent; features = features.0 } in
+    (layer, layer_read layer clean head.extent_is features.1, (refl, refl, (c.deref-2.result.now, values.values, features.2)))

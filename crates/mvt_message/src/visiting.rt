@@ -1,0 +1,196 @@
+//! The one walk over an item (Mapbox Vector Tile Specification 2.1, 4.1): a visitor is told the
+//! values, the keys and the features of a layer.
+ghost use Rattle.std.specs.Prelude.{◌≡◌, ◌+◌, ◌^◌, ◌<◌, ◌≤◌, ℕ, List, [], ◌∷◌, ◌++◌, length, Some, None, IfOk, IfErr, OnOk};
+ghost use Rattle.mvt_base.specs.Tells.{Tells};
+ghost use Rattle.mvt_attrs.specs.declared.value.Value.{Value};
+ghost use Rattle.mvt_wire.specs.Split.{split};
+ghost use Rattle.mvt_feature.specs.declared.feature.Feature.{Feature as AFeature};
+ghost use Rattle.mvt_feature.specs.Faults.{fault_of};
+ghost use Rattle.mvt_feature.specs.FeatureRules.{feature_fault};
+ghost use Rattle.mvt_feature.specs.Features.{IsFeatureOf};
+ghost use Rattle.mvt_feature.specs.ValueRules.{value_fault};
+ghost use Rattle.mvt_feature.specs.Values.{IsValueOf};
+ghost use Rattle.mvt_message.specs.declared.item.Item.{Item};
+ghost use Rattle.mvt_message.specs.declared.item.Layer.{Layer as ALayer};
+ghost use Rattle.mvt_message.specs.Items.{IsItem, IsLayer};
+ghost use Rattle.mvt_message.specs.ItemRules.{item_fault};
+ghost use Rattle.mvt_message.specs.ValidItems.{ValidItem};
+ghost use Rattle.mvt_message.specs.Inner.{layer_fault, IsFront};
+ghost use Rattle.mvt_message.specs.Visiting.{HasLayer, IsVisited};
+
+use crate::features::visit_features;
+use crate::front::{Front, read_front};
+use crate::numbers::VERSION_2;
+use mvt_attrs::LayerKeys;
+use mvt_base::{LIMIT, Text};
+use mvt_feature::{Cause, MessageError, Scratch, fault_at};
+use std::alloc::{AllocError, Global};
+
+/// What is told the parts of a layer, each kind in the layer's order: its values, then its keys,
+/// then its features. It judges a value or a feature while it takes it.
+pub trait LayerVisitor: Drop {
+    // What it has of the items before this one, whatever it took of this one's values.
+    ghost has_items: { List Item → Self → Type 0 };
+
+    // And of this layer's values so far.
+    ghost has_values: { List Item → Self → List Value → Type 0 };
+
+    // And of the features so far, in a layer with these keys and values.
+    ghost has_features: { List Item → List (List ℕ) → List Value → Self → List AFeature → Type 0 };
+
+    /// Takes the value of a payload. The payload's first byte and the tag of its field stand at
+    /// these places.
+    ///
+    /// # Errors
+    ///
+    /// As [`read_value`](crate::read_value).
+    fn visit_value(
+        &mut self,
+        alloc: Global,
+        payload: &[u8],
+        payload_at: u64,
+        tag_at: u64,
+    ) -> Result<(), MessageError>
+        requires { payload_at + length payload.now < 2 ^ 64 }
+        ensures ok { OnOk result (value_fault payload.now payload_at tag_at ≡ None) }
+        ensures value { (items : List Item) (values : List Value) → has_values items self.old values
+            → OnOk result
+            ((value : Value) × IsValueOf payload.now value
+            × has_values items self.new (values ++ value ∷ [])) }
+        // Also behind an error: then it may have more of this layer's values.
+        ensures kept { (items : List Item) (values : List Value) → has_values items self.old values
+            → has_items items self.new }
+        ensures err { IfErr result (λ error. Tells (fault_of error)
+            (value_fault payload.now payload_at tag_at)) };
+
+    /// Takes the keys, when it has all values. The number of features is only a hint.
+    ///
+    /// # Errors
+    ///
+    /// When memory runs out.
+    fn visit_keys(
+        &mut self,
+        alloc: Global,
+        keys: &[Text],
+        features: usize,
+    ) -> Result<(), AllocError>
+        ensures { (items : List Item) (values : List Value) → has_values items self.old values
+            → OnOk result (has_features items keys.now values self.new []) };
+
+    /// Takes the feature of a payload, in a layer with these keys and this number of values.
+    ///
+    /// # Errors
+    ///
+    /// As [`read_feature`](crate::read_feature).
+    fn visit_feature(
+        &mut self,
+        alloc: Global,
+        payload: &[u8],
+        payload_at: u64,
+        keys: &mut LayerKeys<'_>,
+        values: usize,
+        scratch: &mut Scratch,
+    ) -> Result<(), MessageError>
+        requires { payload_at + length payload.now < 2 ^ 64 }
+        ensures ok { (items : List Item) (held : List Value) (features : List AFeature)
+            → length held ≡ values
+            → has_features items keys.old held self.old features
+            → OnOk result (feature_fault payload.now payload_at keys.old held ≡ None) }
+        ensures feature { (items : List Item) (held : List Value) (features : List AFeature)
+            → length held ≡ values
+            → has_features items keys.old held self.old features → OnOk result ((feature : AFeature)
+            × IsFeatureOf payload.now keys.old held feature
+            × has_features items keys.old held self.new (features ++ feature ∷ [])) }
+        ensures err { (items : List Item) (held : List Value) (features : List AFeature)
+            → length held ≡ values
+            → has_features items keys.old held self.old features → IfErr result
+            (λ error. Tells (fault_of error) (feature_fault payload.now payload_at keys.old held)) }
+        ensures same { keys.new ≡ keys.old };
+}
+
+/// What a visitor isn't told of an item.
+#[derive(Clone, Copy, Debug)]
+pub enum Visited<'a> {
+    Layer { name: &'a str, extent: u32 },
+    /// A layer of another version, of whose parts the visitor knows nothing.
+    Foreign { version: u32 },
+}
+
+/// Goes over the item of a payload whose first byte stands at `payload_at`, and the tag of its
+/// field at `tag_at`.
+///
+/// # Errors
+///
+/// As [`read_item`](crate::read_item).
+pub fn visit_layer<'a, V: LayerVisitor>(
+    alloc: Global,
+    visitor: &mut V,
+    payload: &'a [u8],
+    payload_at: u64,
+    tag_at: u64,
+) -> Result<Visited<'a>, MessageError>
+    requires small { length payload.now ≤ LIMIT }
+    requires fits { payload_at + length payload.now < 2 ^ 64 }
+    requires start { (items : List Item) × V.has_values items visitor.old [] }
+    ensures ok { OnOk result (item_fault payload.now payload_at tag_at ≡ None) }
+    ensures item { (items : List Item) → V.has_values items visitor.old []
+        → V.has_items items visitor.old
+        → IfOk result (λ visited. (item : Item) × IsItem payload.now item × ValidItem item
+        × IsVisited (V.has_items items) (V.has_features items) visitor.new visited item) }
+    ensures fault { IfErr result (λ error. Tells (fault_of error)
+        (item_fault payload.now payload_at tag_at)) }
+{
+    let (version, front) = read_front(alloc, visitor, payload, payload_at, tag_at)?;
+    if version == VERSION_2 {
+        return visit_parts(alloc, visitor, payload, payload_at, tag_at, front);
+    }
+    Ok(Visited::Foreign { version })
+}
+
+/// Goes over the keys and the features of a layer that splits into fields and has version 2, whose
+/// front was read.
+fn visit_parts<'a, V: LayerVisitor>(
+    alloc: Global,
+    visitor: &mut V,
+    payload: &'a [u8],
+    payload_at: u64,
+    tag_at: u64,
+    front: Front<'a>,
+) -> Result<Visited<'a>, MessageError>
+    requires small { length payload.now ≤ LIMIT }
+    requires fits { payload_at + length payload.now < 2 ^ 64 }
+    requires whole { (split payload.now).rest ≡ [] }
+    requires front { (items : List Item)
+        × IsFront (V.has_values items visitor.old) payload_at (split payload.now).fields front }
+    ensures ok { OnOk result (layer_fault payload_at tag_at (split payload.now).fields ≡ None) }
+    ensures layer { (items : List Item)
+        → IsFront (V.has_values items visitor.old) payload_at (split payload.now).fields front.entry
+        → IfOk result (λ visited. (layer : ALayer) × IsLayer (split payload.now).fields layer
+        × HasLayer (V.has_features items) visitor.new visited layer) }
+    ensures fault { IfErr result (λ error. Tells (fault_of error)
+        (layer_fault payload_at tag_at (split payload.now).fields)) }
+{
+    let Front {
+        head,
+        values,
+        features,
+    } = front;
+    let head = match head {
+        Ok(head) => head,
+        Err(error) => return Err(error),
+    };
+    let name = match head.name {
+        Some(name) => name,
+        None => return Err(fault_at(tag_at, Cause::NoName)),
+    };
+    let values = match values {
+        Ok(values) => values,
+        Err(error) => return Err(error),
+    };
+    visitor.visit_keys(alloc, &head.keys, features)?;
+    visit_features(alloc, visitor, payload, payload_at, &head.keys, values)?;
+    Ok(Visited::Layer {
+        name,
+        extent: head.extent,
+    })
+}

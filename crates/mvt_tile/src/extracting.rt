@@ -1,0 +1,128 @@
+//! The named layers of a tile's bytes: its items are read one after the other, and only the
+//! canonical bytes of those layers are kept.
+ghost use Rattle.std.specs.Prelude.{◌≡◌, ◌+◌, ◌≤◌, max, true, List, [], map, not, bytes_eq, string_bytes, IfOk, IfErr, IfSome, OnOk};
+ghost use Rattle.std.specs.Io.KnownBytes.{IsAtEnd};
+ghost use Rattle.std.specs.List.{list_any, position_from};
+ghost use Rattle.mvt_base.specs.Tells.{Tells};
+ghost use Rattle.mvt_io.specs.Counts.{HasFailed};
+ghost use Rattle.mvt_message.specs.declared.item.Item.{Item as AnItem};
+ghost use Rattle.mvt_model.specs.declared.tile.Tile.{Tile};
+ghost use Rattle.mvt_model.specs.Tiles.{IsTile};
+ghost use Rattle.mvt_tile.specs.Extraction.{AreExtracted, is_among};
+ghost use Rattle.mvt_tile.specs.Inner.Wanting.{HasRewritten};
+ghost use Rattle.mvt_tile.specs.Reading.{IsReadError, IsKindOf, StopsEarly, fault_of};
+ghost use Rattle.mvt_tile.specs.Streams.{TellsAtEnd};
+ghost use Rattle.mvt_tile.specs.TileRules.{fault_within};
+
+use crate::fault::DecodeError;
+use crate::layers::{holds_name, set_of};
+use crate::reading::{MOST_READS, read_whole};
+use crate::rewriting::Rewriter;
+use crate::taking::take_whole;
+use mvt_base::{LIMIT, Text};
+use mvt_io::Source;
+use std::alloc::{AllocError, Global};
+use std::collections::BTreeSet;
+
+/// What there is of the named layers of a tile.
+#[derive(Debug, Drop)]
+pub enum NamedLayers {
+    /// Their canonical bytes, in the order of the tile.
+    Bytes(Vec<u8>),
+    /// The position of the first name that no layer of version 2 has.
+    Missing(usize),
+    /// More canonical bytes than the limit.
+    TooLarge,
+}
+
+/// The canonical bytes of the layers of version 2 that are named, in the order of the tile. A name
+/// that stands twice counts once. One item is held at a time.
+///
+/// # Errors
+///
+/// The first fault of the whole tile, which is the one that [`decode`](crate::decode) tells; want
+/// of memory. Never a failed read.
+pub fn extract_bytes(
+    alloc: Global,
+    bytes: &[u8],
+    names: &[String],
+) -> Result<NamedLayers, DecodeError>
+    ensures layers { IfOk result (λ layers. (tile : Tile) × IsTile LIMIT bytes.now tile
+        × AreExtracted LIMIT tile (map string_bytes names.now) layers) }
+    ensures fault { IfErr result (λ error. TellsAtEnd error (fault_within LIMIT bytes.now)) }
+{
+    let mut rewriter = Rewriter::new(alloc, Some(set_of(alloc, names)?));
+    take_whole(alloc, &mut rewriter, bytes)?;
+    Ok(rewritten(alloc, rewriter, names)?)
+}
+
+/// The same of the tile that a reader has left. It reads no further after a fault.
+///
+/// # Errors
+///
+/// The input's first fault; a read that failed; want of memory.
+pub fn extract_tile<R: Source>(
+    alloc: Global,
+    names: &[String],
+    reader: &mut R,
+) -> Result<NamedLayers, DecodeError>
+    ensures end { OnOk result (IsAtEnd (R.left reader.new)) }
+    ensures fault { IfErr result (λ error. IfSome (R.left reader.old)
+        (λ input. Tells (fault_of error) (fault_within LIMIT input))) }
+    ensures early { StopsEarly LIMIT 65536 (R.left reader.old) (R.left reader.new) }
+    ensures stops { StopsEarly LIMIT (R.given reader.new) (R.left reader.old) (R.left reader.new) }
+    ensures layers { IfOk result (λ layers. (tile : Tile)
+        × AreExtracted LIMIT tile (map string_bytes names.now) layers
+        × IfSome (R.left reader.old) (λ input. IsTile LIMIT input tile)) }
+    ensures reads { R.reads reader.new ≤ R.reads reader.old + MOST_READS }
+    ensures asked { R.asked reader.new ≤ max (R.asked reader.old) 65536 }
+    ensures failed { IfErr result (λ error. IsReadError error
+        → HasFailed (R.failed reader.old) (R.failed reader.new)) }
+    ensures ended { IfErr result (λ error. IsReadError error → R.ended reader.new ≡ true) }
+    ensures kind { IfErr result (λ error. IsKindOf error (R.fault reader.new)) }
+    ensures honest { OnOk result (R.failed reader.new ≡ R.failed reader.old) }
+    ensures sound { IfErr result (λ error. (IsReadError error → ⊥)
+        → R.failed reader.new ≡ R.failed reader.old) }
+{
+    let rewriter = Rewriter::new(alloc, Some(set_of(alloc, names)?));
+    let rewriter = read_whole(alloc, reader, rewriter)?;
+    Ok(rewritten(alloc, rewriter, names)?)
+}
+
+/// What was rewritten of the named layers, after the last item.
+fn rewritten(alloc: Global, rewriter: Rewriter, names: &[String]) -> Result<NamedLayers, AllocError>
+    ensures { (items : List AnItem)
+        → HasRewritten LIMIT (is_among (map string_bytes names.now)) rewriter items
+        → IfOk result (AreExtracted LIMIT (record { items = items }) (map string_bytes names.now)) }
+{
+    let Rewriter {
+        names: there,
+        out,
+        ..
+    } = rewriter;
+    if let Some(index) = first_missing(alloc, &there.names, names)? {
+        return Ok(NamedLayers::Missing(index));
+    }
+    match out {
+        Some(bytes) => Ok(NamedLayers::Bytes(bytes)),
+        None => Ok(NamedLayers::TooLarge),
+    }
+}
+
+/// The position of the first name that a set doesn't hold.
+fn first_missing(
+    alloc: Global,
+    there: &BTreeSet<Text>,
+    names: &[String],
+) -> Result<Option<usize>, AllocError>
+    ensures { IfOk result (λ found. found
+        ≡ position_from (λ name. not (list_any (bytes_eq name) there.now.keys)) 0
+        (map string_bytes names.now)) }
+{
+    for (index, name) in names.iter().enumerate() {
+        if !holds_name(there, &Text::from_str(alloc, name.as_str())?) {
+            return Ok(Some(index));
+        }
+    }
+    Ok(None)
+}
