@@ -55,8 +55,9 @@ typedef struct {
     uint64_t start, len;
 } mvt_span;
 
-/* A layer of version 2 has a name, an extent, features and its keys and values; one of another version has its bytes,
- * which are carried as they are. What a layer hasn't is 0. */
+/* A layer of version 2 has a name, an extent, features and its keys and values: as the tile has them where mvt_read gives
+ * them, also those that no feature names, and each once where a decoder does. One of another version has its bytes, which
+ * are carried as they are. What a layer hasn't is 0. */
 typedef struct {
     uint32_t version, extent;
     mvt_span name;      /* of texts */
@@ -145,8 +146,7 @@ mvt_status mvt_judge(const uint8_t *bytes, size_t len, mvt_fault *fault);
  * canonical, and a line for each note. Each ends in a line feed. MVT_OK, MVT_REFUSED, MVT_NO_MEMORY. */
 mvt_status mvt_report(const uint8_t *bytes, size_t len, mvt_bytes *out, mvt_fault *fault);
 
-/* A tile as rows. MVT_OK, MVT_REFUSED, MVT_NO_MEMORY; MVT_TOO_LARGE for a layer of more than 67,108,864 keys or
- * values. */
+/* A tile as rows. MVT_OK, MVT_REFUSED, MVT_NO_MEMORY. */
 mvt_status mvt_read(const uint8_t *bytes, size_t len, mvt_tile *out, mvt_fault *fault);
 
 /* The canonical bytes of the tile that rows are. The rows may come from anywhere: from mvt_read, or made by hand, in any
@@ -177,7 +177,8 @@ mvt_status mvt_decoder_new(mvt_decoder *decoder);
 mvt_status mvt_decoder_feed(mvt_decoder *decoder, const uint8_t *piece, size_t len, mvt_fault *fault);
 
 /* The tile as rows, after the last piece. The decoder is given back, whatever the answer, and is none afterwards.
- * MVT_OK, MVT_REFUSED, MVT_NO_MEMORY, MVT_NO_DECODER; MVT_TOO_LARGE as of mvt_read. */
+ * MVT_OK, MVT_REFUSED, MVT_NO_MEMORY, MVT_NO_DECODER; MVT_TOO_LARGE for a
+ * layer of more than 67,108,864 keys or values. */
 mvt_status mvt_decoder_finish(mvt_decoder *decoder, mvt_tile *out, mvt_fault *fault);
 
 /* Gives a decoder back; nothing happens where there is none. */

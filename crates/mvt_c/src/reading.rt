@@ -1,13 +1,13 @@
 //! A tile's bytes judged, and read as rows.
 ghost use Rattle.std.specs.Prelude.{◌≡◌, ◌≢◌, ◌≤◌, IfOk, IfErr, OnOk};
-ghost use Rattle.mvt_c.specs.Calls.{IsAccepted, IsTold, IsTooLargeToRead, NotRead, NotShown};
+ghost use Rattle.mvt_c.specs.Calls.{IsAccepted, IsTold, NotShown};
 ghost use Rattle.mvt_rows.specs.Lent.{table_of};
 ghost use Rattle.mvt_rows.specs.Reading.{IsRead};
 
 use crate::fault::Fault;
 use crate::refusal::{Refusal, tell};
-use mvt_rows::{Rows, Table};
-use mvt_tile::{decode, judge};
+use mvt_rows::{Rows, Table, read_rows};
+use mvt_tile::judge;
 use std::alloc::Global;
 
 /// Whether the bytes are a tile (`mvt_judge`).
@@ -37,8 +37,7 @@ fn judged(alloc: Global, bytes: &[u8]) -> Result<(), Refusal>
 pub extern "C" fn mvt_read(alloc: Global, bytes: &[u8], out: &mut Rows, fault: &mut Fault) -> u32
     ensures done { result ≡ 0 → IsRead bytes.now (table_of out.new) }
     ensures refused { result ≡ 1 → IsTold bytes.now fault.new }
-    ensures too_large { result ≡ 3 → IsTooLargeToRead bytes.now }
-    ensures few { result ≤ 3 }
+    ensures few { result ≤ 2 }
     ensures out_kept { result ≢ 0 → out.new ≡ out.old }
     ensures fault_kept { result ≢ 1 → fault.new ≡ fault.old }
 {
@@ -53,8 +52,7 @@ pub extern "C" fn mvt_read(alloc: Global, bytes: &[u8], out: &mut Rows, fault: &
 
 fn read(alloc: Global, bytes: &[u8]) -> Result<Table, Refusal>
     ensures done { IfOk result (IsRead bytes.now) }
-    ensures refused { IfErr result (NotRead bytes.now) }
+    ensures refused { IfErr result (NotShown bytes.now) }
 {
-    let tile = decode(alloc, bytes)?;
-    Ok(Table::of_tile(alloc, &tile)?)
+    Ok(read_rows(alloc, bytes)?)
 }

@@ -23,7 +23,7 @@ same_feature : (keys others : List (List ℕ)) (values further : List Value) (t 
 same_feature keys others values further t f same =
     ap
     (λ tags. let drawn = with_geometry (record t { tags = t.tags ++ tags }) f.geometry in
-    record drawn { features = drawn.features ++ feature_row t drawn f ∷ [] }) same
+    record drawn { features = drawn.features ++ feature_row t drawn f.id f.geometry ∷ [] }) same
 
 -- the attributes of features stand in the pools
 abbrev AreHeld : List (List ℕ) → List Value → List Feature → Type 0

@@ -7,3 +7,4 @@ mod RowLemmas
 mod GrowthLemmas
 mod TableLemmas
 mod RowsOfLemmas
+mod VisitLemmas

@@ -34,7 +34,7 @@ use Rattle.mvt_rows.proofs.GrowthLemmas.{Grown, same, pushed, grown_more, grown_
 use Rattle.mvt_rows.proofs.TableLemmas.{Pushes, fold_keeps, rows_pushed, text_behind, value_row, value_push, value_keeps, value_holds, drawn, geometry_keeps}
 
 -- more rows of features, and of layers
-more_features : (t : Table) (rows : List FeatureRow) → Grown t (record t { features = t.features ++ rows })
+pub more_features : (t : Table) (rows : List FeatureRow) → Grown t (record t { features = t.features ++ rows })
 more_features t rows =
     record {
       features = pushed _ rows;
@@ -47,7 +47,7 @@ more_features t rows =
       texts = same _;
     }
 
-more_tags : (t : Table) (tags : List ℕ) → Grown t (record t { tags = t.tags ++ tags })
+pub more_tags : (t : Table) (tags : List ℕ) → Grown t (record t { tags = t.tags ++ tags })
 more_tags t tags =
     record {
       features = same _;
@@ -60,7 +60,7 @@ more_tags t tags =
       texts = same _;
     }
 
-more_texts : (t : Table) (layers : List LayerRow) (text : List ℕ) → Grown t (record t { layers = layers; texts = t.texts ++ text })
+pub more_texts : (t : Table) (layers : List LayerRow) (text : List ℕ) → Grown t (record t { layers = layers; texts = t.texts ++ text })
 more_texts t layers text =
     record {
       features = same _;
@@ -94,7 +94,7 @@ abbrev drawn_in : List (List ℕ) → List Value → Table → Feature → Table
 drawn_in keys values t f = with_geometry (tagged_in keys values t f) f.geometry
 
 abbrev row_in : List (List ℕ) → List Value → Table → Feature → FeatureRow
-row_in keys values t f = feature_row t (drawn_in keys values t f) f
+row_in keys values t f = feature_row t (drawn_in keys values t f) f.id f.geometry
 
 feature_grows : (keys : List (List ℕ)) (values : List Value) (t : Table) (f : Feature) → Grown t (with_feature keys values t f)
 feature_grows keys values t f =
@@ -109,7 +109,7 @@ feature_push keys values t f =
     ap (λ l. l ++ row_in keys values t f ∷ [])
     (geometry_keeps (λ (t : Table). t.features) (λ t exterior points. refl) (λ t integers. refl) (tagged_in keys values t f) f.geometry)
 
-id_is : (id : Option ℕ) → option_map (λ has. if has then Some (unwrap_or id 0) else None) (truth_of (if is_some id then 1 else 0)) ≡ Some id
+pub id_is : (id : Option ℕ) → option_map (λ has. if has then Some (unwrap_or id 0) else None) (truth_of (if is_some id then 1 else 0)) ≡ Some id
 id_is None = refl
 id_is (Some n) = refl
 
@@ -305,20 +305,16 @@ tile_holds tile valid =
     subst (λ rows. AreRelated (IsItem (fold with_item no_rows tile.items)) rows tile.items) (sym made.1) made.2
 
 -- rows that were read are the tile that was read, and no other
-read_is : (input : List ℕ) (table : Table) (read : IsRead input table) → IsTileOf table read.0
-read_is input table read = subst (λ t. IsTileOf t read.0) (sym read.3) (tile_holds read.0 read.2)
-
 pub read_written : (input made : List ℕ) (table : Table) → IsRead input table → IsWritten table made → IsRewritten input made
 read_written input made table read wrote =
-    (read.0, read.1, wrote.3 ∙ ap canonical (tile_once table wrote.0 read.0 wrote.1 (read_is input table read)))
+    (read.0, read.1, wrote.3 ∙ ap canonical (tile_once table wrote.0 read.0 wrote.1 read.3))
 
 pub read_too_large : (input : List ℕ) (table : Table) → IsRead input table → IsTooLargeOfRows table → IsTooLarge input
 read_too_large input table read large = (
   read.0,
   read.1,
-  subst (λ tile. LIMIT < length (canonical tile)) (tile_once table large.0 read.0 large.1
-      (read_is input table read)) large.3,
+  subst (λ tile. LIMIT < length (canonical tile)) (tile_once table large.0 read.0 large.1 read.3) large.3,
 )
 
 pub read_taken : (input : List ℕ) (table : Table) → IsRead input table → IsNoTile table → ⊥
-read_taken input table read none = none read.0 (read_is input table read) read.2
+read_taken input table read none = none read.0 read.3 read.2

@@ -9,7 +9,8 @@ use Rattle.mvt_model.specs.declared.tile.Tile.{Tile}
 use Rattle.mvt_model.specs.CanonicalTiles.{canonical}
 use Rattle.mvt_model.specs.Tiles.{IsTile}
 use Rattle.mvt_model.specs.ValidTiles.{Valid}
-use Rattle.mvt_rows.specs.Tables.{Table, rows_of}
+use Rattle.mvt_rows.specs.Tables.{Table}
+use Rattle.mvt_rows.specs.TileRows.{IsTileOf}
 
 -- the bytes are a tile, and these are its canonical bytes
 abbrev pub IsRewritten : List ℕ → List ℕ → Type 0
@@ -19,9 +20,9 @@ IsRewritten input made = (tile : Tile) × IsTile LIMIT input tile × (made ≡ c
 abbrev pub IsTooLarge : List ℕ → Type 0
 IsTooLarge input = (tile : Tile) × IsTile LIMIT input tile × (LIMIT < length (canonical tile))
 
--- the bytes are a tile, which can be written, and these are its rows
+-- the bytes are a tile, which can be written, and the rows are that tile
 abbrev pub IsRead : List ℕ → Table → Type 0
-IsRead input table = (tile : Tile) × IsTile LIMIT input tile × Valid tile × (table ≡ rows_of tile)
+IsRead input table = (tile : Tile) × IsTile LIMIT input tile × Valid tile × IsTileOf table tile
 
 -- the features of a layer use more keys or values than the limit
 abbrev pub AreTooMany : List (List ℕ) → List Value → Type 0

@@ -1,6 +1,6 @@
 -- A tile as flat rows. Each row names the parts that belong to it by where they stand in the list of their kind; parts are
 -- appended in the order of the tile.
-use Rattle.std.specs.Prelude.{ℕ, ◌-◌, List, [], ◌∷◌, ◌++◌, length, map, unwrap_or, is_some, if◌then◌else◌}
+use Rattle.std.specs.Prelude.{ℕ, ◌-◌, List, [], ◌∷◌, ◌++◌, length, map, Option, unwrap_or, is_some, if◌then◌else◌}
 use Rattle.std.specs.Int.{w64, cast_unsigned}
 use Rattle.std.specs.List.{fold}
 use Rattle.mvt_attrs.specs.declared.value.Value.{Value}
@@ -18,6 +18,7 @@ use Rattle.mvt_message.specs.declared.item.Item.TheVariants.{Layer, Foreign}
 use Rattle.mvt_message.specs.declared.item.Layer.{Layer as ALayer}
 use Rattle.mvt_message.specs.CanonicalItems.{keys_of, values_of}
 use Rattle.mvt_model.specs.declared.tile.Tile.{Tile}
+use Rattle.mvt_rows.specs.declared.places.Places.{Places}
 use Rattle.mvt_rows.specs.declared.rows.Span.{Span}
 use Rattle.mvt_rows.specs.declared.rows.LayerRow.{LayerRow}
 use Rattle.mvt_rows.specs.declared.rows.FeatureRow.{FeatureRow}
@@ -91,21 +92,41 @@ abbrev pub added : {A : Type 0} → List A → List A → Span
 added old new = record { start = length old; len = length new - length old }
 
 -- the row of a feature that took a table from one state to another
-abbrev pub feature_row : Table → Table → Feature → FeatureRow
-feature_row old new f = record {
-  id = unwrap_or f.id 0;
-  has_id = if is_some f.id then 1 else 0;
-  kind = type_number (kind_of f.geometry);
+abbrev pub feature_row : Table → Table → Option ℕ → Geometry → FeatureRow
+feature_row old new id geometry = record {
+  id = unwrap_or id 0;
+  has_id = if is_some id then 1 else 0;
+  kind = type_number (kind_of geometry);
   tags = added old.tags new.tags;
   parts = added old.parts new.parts;
   integers = added old.integers new.integers;
 }
 
--- a feature of a layer with these keys and values: its tags, its geometry and its row
+-- a feature: its tags, its geometry and its row
+abbrev pub with_drawn : List ℕ → Table → Option ℕ → Geometry → Table
+with_drawn tags t id geometry =
+    let drawn = with_geometry (record t { tags = t.tags ++ tags }) geometry in
+    record drawn { features = drawn.features ++ feature_row t drawn id geometry ∷ [] }
+
+-- a feature of a layer with these keys and values
 abbrev pub with_feature : List (List ℕ) → List Value → Table → Feature → Table
-with_feature keys values t f =
-    let drawn = with_geometry (record t { tags = t.tags ++ tags_in keys values f.attributes }) f.geometry in
-    record drawn { features = drawn.features ++ feature_row t drawn f ∷ [] }
+with_feature keys values t f = with_drawn (tags_in keys values f.attributes) t f.id f.geometry
+
+-- the row of a layer whose features, keys and values stand behind these places
+abbrev pub open_row : Table → List ℕ → ℕ → Places → LayerRow
+open_row t name extent open_at = record {
+  version = 2;
+  extent = extent;
+  name = behind t.texts (length name);
+  features = record { start = open_at.features; len = length t.features - open_at.features };
+  keys = record { start = open_at.keys; len = length t.keys - open_at.keys };
+  values = record { start = open_at.values; len = length t.values - open_at.values };
+  bytes = nowhere;
+}
+
+abbrev pub with_layer_row : Table → List ℕ → ℕ → Places → Table
+with_layer_row t name extent open_at =
+    record t { layers = t.layers ++ open_row t name extent open_at ∷ []; texts = t.texts ++ name }
 
 -- the row of a layer that took a table from one state to another
 abbrev pub layer_row : Table → Table → ALayer → LayerRow

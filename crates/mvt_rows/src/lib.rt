@@ -3,6 +3,7 @@
 #![tactic(auto)]
 
 pub mod laws;
+mod places;
 mod rows;
 mod rows_error;
 mod table;
@@ -11,6 +12,6 @@ mod writing;
 
 pub use rows::{FeatureRow, LayerRow, PartRow, PointRow, Rows, Span, ValueRow};
 pub use rows_error::RowsError;
-pub use table::Table;
+pub use table::{Table, read_rows};
 pub use tiles::tile_of;
 pub use writing::write_rows;

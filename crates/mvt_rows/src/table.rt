@@ -1,14 +1,18 @@
 //! The lists of a tile's rows, as they grow.
-ghost use Rattle.std.specs.Prelude.{◌≡◌, ◌++◌, ◌∷◌, ◌*◌, [], OnOk, map};
-ghost use Rattle.std.specs.List.{fold};
+ghost use Rattle.std.specs.Prelude.{◌≡◌, ◌++◌, ◌∷◌, ◌*◌, [], IsUtf8, OnOk, OnErr, length, map};
+ghost use Rattle.std.specs.List.{AllByRecursion, fold};
 ghost use Rattle.mvt_rows.specs.Lent.{table_of};
 ghost use Rattle.mvt_rows.specs.Tables.{no_rows, behind, with_part, with_polygon, with_geometry, with_key, with_value, with_number, point_row};
 
 mod layers;
+mod visiting;
 
+pub use visiting::read_rows;
+
+use crate::places::Places;
 use crate::rows::{FeatureRow, LayerRow, PartRow, PointRow, Rows, Span, ValueRow};
 use mvt_attrs::{KeyPool, Value, ValuePool};
-use mvt_base::Items;
+use mvt_base::{Items, Text};
 use mvt_geometry::{Geometry, Point, Polygon};
 use std::alloc::{AllocError, Global};
 use std::marker::Model;
@@ -69,6 +73,18 @@ impl Table {
             points: Vec::new(alloc),
             integers: Vec::new(alloc),
             texts: Vec::new(alloc),
+        }
+    }
+
+    pub(crate) fn places(&self) -> Places
+        ensures features { result.features ≡ length self.now.features }
+        ensures keys { result.keys ≡ length self.now.keys }
+        ensures values { result.values ≡ length self.now.values }
+    {
+        Places {
+            features: self.features.len(),
+            keys: self.keys.len(),
+            values: self.values.len(),
         }
     }
 
@@ -143,7 +159,8 @@ impl Table {
     }
 
     fn add_key(&mut self, key: &str) -> Result<(), AllocError>
-        ensures { OnOk result (self.new ≡ with_key self.old key.now) }
+        ensures key { OnOk result (self.new ≡ with_key self.old key.now) }
+        ensures utf8 { IsUtf8 key.now }
     {
         let text = behind_list(self.texts.len(), key.len());
         self.keys.push(text)?;
@@ -151,7 +168,8 @@ impl Table {
     }
 
     fn add_number(&mut self, kind: u32, bits: u64) -> Result<(), AllocError>
-        ensures { OnOk result (self.new ≡ with_number self.old kind bits) }
+        ensures ok { OnOk result (self.new ≡ with_number self.old kind bits) }
+        ensures err { OnErr result (self.new ≡ self.old) }
     {
         self.values.push(ValueRow {
             kind,
@@ -162,19 +180,26 @@ impl Table {
     }
 
     fn add_text(&mut self, text: &str) -> Result<(), AllocError>
-        ensures { OnOk result (self.new ≡ with_value self.old (Value.Text text.now)) }
+        ensures ok { OnOk result (self.new ≡ with_value self.old (Value.Text text.now)) }
+        ensures err { OnErr result (self.new ≡ self.old) }
     {
         let place = behind_list(self.texts.len(), text.len());
-        self.values.push(ValueRow {
-            kind: 1,
-            bits: 0,
-            text: place,
-        })?;
-        self.texts.extend_from_slice(text.as_bytes())
+        self.values.reserve(1)?;
+        self.texts.extend_from_slice(text.as_bytes())?;
+        self.values
+            .push(ValueRow {
+                kind: 1,
+                bits: 0,
+                text: place,
+            })
+            .unwrap();
+        Ok(())
     }
 
+    /// Adds a value, or nothing where memory runs out.
     fn add_value(&mut self, value: &Value) -> Result<(), AllocError>
-        ensures { OnOk result (self.new ≡ with_value self.old value.now) }
+        ensures ok { OnOk result (self.new ≡ with_value self.old value.now) }
+        ensures err { OnErr result (self.new ≡ self.old) }
     {
         match value {
             Value::Text(text) => self.add_text(text.as_str()),
@@ -185,6 +210,17 @@ impl Table {
             Value::Sint(number) => self.add_number(6, number.cast_unsigned()),
             Value::Bool(truth) => self.add_number(7, u64::from(*truth)),
         }
+    }
+
+    /// Adds the keys of a layer as they stand.
+    fn add_texts(&mut self, keys: &[Text]) -> Result<(), AllocError>
+        ensures keys { OnOk result (self.new ≡ fold with_key self.old keys.now) }
+        ensures utf8 { OnOk result (AllByRecursion IsUtf8 keys.now) }
+    {
+        for key in keys {
+            self.add_key(key.as_str())?;
+        }
+        Ok(())
     }
 
     /// Adds the keys of a layer.

@@ -17,6 +17,7 @@ mod round_trip;
 mod surveying;
 mod taking;
 mod validity;
+mod visiting;
 
 pub use decoder::{TileDecoder, decode};
 pub use extract_error::ExtractError;
@@ -36,3 +37,4 @@ pub use rewriting::{rewrite, rewrite_tile};
 pub use round_trip::write_and_read;
 pub use surveying::survey_tile;
 pub use validity::{is_valid, validate};
+pub use visiting::{TileVisitor, visit_tile};

@@ -5,11 +5,13 @@ ghost use Rattle.mvt_feature.specs.Canonical.{type_number};
 ghost use Rattle.mvt_attrs.specs.Pools.{key_pool, value_pool};
 ghost use Rattle.mvt_message.specs.CanonicalItems.{keys_of, values_of};
 ghost use Rattle.mvt_rows.specs.Reading.{AreTooMany, HasTooMany};
-ghost use Rattle.mvt_rows.specs.Tables.{rows_of, with_feature, with_foreign, with_item, with_layer};
+ghost use Rattle.mvt_rows.specs.Tables.{rows_of, with_drawn, with_feature, with_foreign, with_item, with_layer, with_layer_row};
 
 use super::{Table, behind_list};
+use crate::places::Places;
 use crate::rows::{FeatureRow, LayerRow, Span};
 use mvt_attrs::{KeyPool, PoolError, ValuePool, append_tags};
+use mvt_feature::Drawn;
 use mvt_geometry::{Kind, kind_of};
 use mvt_message::{Feature, Item, Layer};
 use mvt_tile::Tile;
@@ -35,6 +37,47 @@ fn type_of(kind: Kind) -> u32
 }
 
 impl Table {
+    /// Adds a feature with its tags as they stand.
+    pub(super) fn add_drawn(&mut self, tags: &[u32], drawn: &Drawn) -> Result<(), AllocError>
+        ensures { OnOk result (self.new ≡ with_drawn tags.now self.old drawn.now.id drawn.now.geometry) }
+    {
+        let tags_at = self.tags.len();
+        let parts = self.parts.len();
+        let integers = self.integers.len();
+        self.tags.extend_from_slice(tags)?;
+        self.add_geometry(&drawn.geometry)?;
+        self.features.push(FeatureRow {
+            id: drawn.id.unwrap_or(0),
+            has_id: u32::from(drawn.id.is_some()),
+            kind: type_of(kind_of(&drawn.geometry)),
+            tags: added(tags_at, self.tags.len()),
+            parts: added(parts, self.parts.len()),
+            integers: added(integers, self.integers.len()),
+        })?;
+        Ok(())
+    }
+
+    /// Adds the row of a layer whose features, keys and values stand behind these places, and its name.
+    pub(super) fn add_layer_row(
+        &mut self,
+        name: &str,
+        extent: u32,
+        opened: Places,
+    ) -> Result<(), AllocError>
+        ensures { OnOk result (self.new ≡ with_layer_row self.old name.now extent opened) }
+    {
+        self.layers.push(LayerRow {
+            version: 2,
+            extent,
+            name: behind_list(self.texts.len(), name.len()),
+            features: added(opened.features, self.features.len()),
+            keys: added(opened.keys, self.keys.len()),
+            values: added(opened.values, self.values.len()),
+            bytes: behind_list(0, 0),
+        })?;
+        self.texts.extend_from_slice(name.as_bytes())
+    }
+
     /// Adds a feature, whose keys and values are placed in the pools of its layer.
     fn add_feature(
         &mut self,
@@ -119,7 +162,7 @@ impl Table {
         Ok(())
     }
 
-    fn add_foreign(&mut self, version: u32, bytes: &[u8]) -> Result<(), AllocError>
+    pub(super) fn add_foreign(&mut self, version: u32, bytes: &[u8]) -> Result<(), AllocError>
         ensures { OnOk result (self.new ≡ with_foreign self.old version bytes.now) }
     {
         let nowhere = behind_list(0, 0);
