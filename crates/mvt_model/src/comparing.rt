@@ -1,41 +1,17 @@
-//! Whether bytes are the canonical bytes of a tile.
-ghost use Rattle.std.specs.Prelude.{◌≡◌, ◌↔◌, ◌≤◌, ◌++◌, ℕ, List, length, IfOk, IsTrue};
+//! Whether bytes begin with the canonical bytes of an item.
+ghost use Rattle.std.specs.Prelude.{◌≡◌, ◌≤◌, ◌++◌, ℕ, List, length, IfOk};
 ghost use Rattle.mvt_wire.specs.Field.{bytes as in_bytes};
 ghost use Rattle.mvt_wire.specs.Spelling.{short_field};
 ghost use Rattle.mvt_message.specs.CanonicalItems.{canonical_item};
 ghost use Rattle.mvt_message.specs.ValidItems.{ValidItem};
 ghost use Rattle.mvt_model.specs.declared.numbers.tile.TheConstants.{LAYERS};
-ghost use Rattle.mvt_model.specs.CanonicalTiles.{canonical};
 ghost use Rattle.mvt_model.specs.Comparing.{IsBehind};
-ghost use Rattle.mvt_model.specs.ValidTiles.{Valid};
 
 use crate::numbers::tile;
-use crate::tile::Tile;
 use mvt_base::LIMIT;
 use mvt_message::{Item, PutError, put_item};
 use mvt_wire::put_field_head;
 use std::alloc::{AllocError, Global};
-
-/// Whether these are the bytes that `encode` makes of a tile. One item's bytes are made at a time,
-/// up to the first difference.
-pub fn is_canonical(alloc: Global, tile: &Tile, bytes: &[u8]) -> Result<bool, AllocError>
-    requires { Valid tile.now }
-    ensures { IfOk result (λ yes. IsTrue yes
-        ↔ ((bytes.now ≡ canonical tile.now) × (length bytes.now ≤ LIMIT))) }
-{
-    if bytes.len() as u64 > LIMIT {
-        return Ok(false);
-    }
-    let items = tile.items.as_slice();
-    let mut rest = bytes;
-    for item in items {
-        match behind_item(alloc, item, rest)? {
-            Some(behind) => rest = behind,
-            None => return Ok(false),
-        }
-    }
-    Ok(rest.is_empty())
-}
 
 /// What stands behind the field of an item, where that is at the front of some bytes.
 pub(crate) fn behind_item<'b>(

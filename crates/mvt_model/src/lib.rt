@@ -14,7 +14,6 @@ mod tile;
 mod write_error;
 mod writing;
 
-pub use comparing::is_canonical;
 pub use encoding::{encode, encode_more};
 pub use findings::{Findings, feature_count};
 pub use note::Note;

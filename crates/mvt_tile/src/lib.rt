@@ -31,7 +31,7 @@ pub use mvt_feature::{Cause, Feature};
 pub use mvt_geometry::{Geometry, Kind, Point, Polygon};
 pub use mvt_message::{Item, Layer, PutError};
 pub use mvt_model::{
-    Note, Survey, Tile, WriteError, encode, feature_count, is_canonical, notes, numbers, write_tile,
+    Note, Survey, Tile, WriteError, encode, feature_count, notes, numbers, write_tile,
 };
 pub use reading::{MOST_READS, read_tile};
 pub use rewriting::{rewrite, rewrite_tile};

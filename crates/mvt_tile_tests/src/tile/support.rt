@@ -6,7 +6,7 @@ use mvt_geometry::{Geometry, Point};
 use mvt_io::MemorySource;
 use mvt_message::{Cause, Feature, Item, Layer};
 use mvt_tile::{
-    DecodeError, Fault, Tile, TileDecoder, decode, encode, is_canonical, is_valid, judge, rewrite,
+    DecodeError, Fault, Tile, TileDecoder, decode, encode, is_valid, judge, rewrite,
     rewrite_tile, survey_tile, validate,
 };
 use std::alloc::{AllocError, Global};
@@ -191,7 +191,6 @@ pub(super) fn expect_tile(
     let read = tile_of(rt, input);
     expect!(rt; read == *tile);
     expect_written(rt, &read, canonical);
-    expect_canonical(rt, &read, input, input == canonical);
     drop(read);
     let read = fed(rt, input).expect(rt, "a tile by bytes");
     expect!(rt; read == *tile);
@@ -201,20 +200,18 @@ pub(super) fn expect_tile(
     expect_rewritten(rt, input, canonical);
 }
 
-// A tile that was read is valid, and written as these bytes, and as no others.
+// A tile that was read is valid, and written as these bytes; a survey tells them from longer ones.
 fn expect_written(rt: &(impl Abort + AllocGlobal), tile: &Tile, canonical: &[u8]) {
     expect!(rt; is_valid(tile));
     expect_eq!(rt; validate(rt.alloc(), tile), Ok(true));
     let written = encode(rt.alloc(), tile).expect(rt, "bytes");
     expect_eq!(rt; written.as_slice(), canonical);
     drop(written);
-    expect_canonical(rt, tile, canonical, true);
+    let layers = tile.items.as_slice().len();
+    expect_surveyed(rt, canonical, layers, true);
     let longer = both_of(rt, canonical, b"\x20\x05");
-    expect_canonical(rt, tile, &longer, false);
+    expect_surveyed(rt, &longer, layers, false);
     drop(longer);
-    if let [shorter @ .., _] = canonical {
-        expect_canonical(rt, tile, shorter, false);
-    }
 }
 
 // The number of items in an input, and whether the input is what its tile is written as.
@@ -240,12 +237,6 @@ fn expect_rewritten(rt: &(impl Abort + AllocGlobal), input: &[u8], canonical: &[
     drop(reader);
     expect_eq!(rt; made.as_deref(), Some(canonical), "of {input:?} by a reader");
     drop(made);
-}
-
-// Whether bytes are what a tile is written as.
-fn expect_canonical(rt: &(impl Abort + AllocGlobal), tile: &Tile, bytes: &[u8], answer: bool) {
-    expect!(rt; is_valid(tile));
-    expect_eq!(rt; is_canonical(rt.alloc(), tile, bytes), Ok(answer), "of {bytes:?}");
 }
 
 // A reader of these bytes, so many at a time, which fails from one of its reads on.
