@@ -1,6 +1,6 @@
 //! Laws about the definitions alone: functions without effect, whose contract is the law.
 ghost use Rattle.std.specs.Prelude.{◌≡◌, ℕ, List, [], ◌∷◌, codes};
-ghost use Rattle.mvt_cli.specs.Words.{files_in, task_in};
+ghost use Rattle.mvt_cli.specs.Words.{IsPlainLine, faults_in, files_in, task_in};
 
 use mvt_tasks::Task;
 
@@ -20,4 +20,9 @@ pub fn lines_ask()
         ≡ codes "b" ∷ codes "a" ∷ [] }
     ensures hyphens { (name : List ℕ) → files_in (name ∷ codes "check" ∷ codes "--" ∷ codes "-b" ∷ [])
         ≡ codes "-b" ∷ [] }
+{}
+
+/// A line without words of its own is never refused.
+pub fn plain_lines()
+    ensures { (words : List (List ℕ)) → IsPlainLine words → faults_in words ≡ [] }
 {}

@@ -1,11 +1,14 @@
 -- Fronts of bytes: those that a source gives, and those that a writer takes.
-use Rattle.std.proofs.Common.{◌≡◌, ℕ, ◌+◌, ◌-◌, ◌≤◌, List, [], ◌++◌, length, take, drop, Option, Result, Ok, Err, OnErr, sym, ap, ap₂, ◌∙◌, subst, arith, append_assoc, length-append, length-take, take-append-drop}
+use Rattle.std.proofs.Common.{◌≡◌, ℕ, ◌+◌, ◌-◌, ◌<◌, ◌≤◌, max, List, [], ◌++◌, length, take, drop, Option, Some, None, refl, sym, ap, ap₂, ◌∙◌, subst, arith, append_assoc, length-append, length-take, take-append-drop}
 use Rattle.std.proofs.lemmas.List.{drop-drop, take-append-le}
 use Rattle.std.proofs.Math.Seq.{take-append_seam, take-append-add}
 use Rattle.std.proofs.lemmas.Grind.{common_steps}
 use Rattle.std.specs.Io.KnownBytes.{Appends, Consumes, Keeps}
-use Rattle.std.proofs.KnownBytes.{Appends-nil, Appends-trans, Appends-kept, Consumes-trans}
-use Rattle.mvt_io.specs.Transfers.{TakesAtMost, TakesPrefix}
+use Rattle.std.proofs.KnownBytes.{Appends-nil, Appends-trans, Appends-kept, Consumes-kept, Consumes-nil, Consumes-trans}
+use Rattle.std.specs.declared.io.ErrorKind.{ErrorKind}
+use Rattle.mvt_io.specs.Counts.{counted}
+use Rattle.mvt_io.specs.States.{EndedBy, Faults, Inflow, NoneFailed, Outflow}
+use Rattle.mvt_io.specs.Transfers.{Reads, TakesAtMost, TakesPrefix, Wrote, WroteFront}
 
 -- the next n bytes stand at the front of a buffer, before bytes of its own
 pub front_given : (left all front rest : List ℕ) (at n : ℕ) → drop at all ≡ left → front ≡ take n left → n ≤ length left
@@ -52,17 +55,13 @@ TakesPrefix-from_front a b bytes rest f =
     let same : take (length f.front) bytes ≡ f.front = ap (take (length f.front)) f.splits ∙ take-append_seam f.front rest in
     (length f.front, omega (arith, ap length f.splits, length-append f.front rest), subst (Appends a b) (sym same) f.taken)
 
-pub on_err : {T E P : Type 0} (r : Result T E) → P → OnErr r P
-on_err (Ok x) p = tt
-on_err (Err e) p = p
-
-pub TakesPrefix-nil : (a b : Option (List ℕ)) (bytes : List ℕ) → Keeps a b → TakesPrefix a b bytes
+TakesPrefix-nil : (a b : Option (List ℕ)) (bytes : List ℕ) → Keeps a b → TakesPrefix a b bytes
 TakesPrefix-nil a b bytes kept = (0, omega arith, Appends-kept a a b [] (Appends-nil a) kept)
 
 middle : (n : ℕ) (xs ys zs : List ℕ) → n ≤ length ys → take (length xs + n) (xs ++ (ys ++ zs)) ≡ xs ++ take n ys
 middle n xs ys zs h = take-append-add xs (ys ++ zs) n ∙ ap (λ l. xs ++ l) (take-append-le n ys zs h)
 
-pub TakesPrefix-after : (a b c : Option (List ℕ)) (before bytes after whole : List ℕ) → whole ≡ before ++ (bytes ++ after)
+TakesPrefix-after : (a b c : Option (List ℕ)) (before bytes after whole : List ℕ) → whole ≡ before ++ (bytes ++ after)
     → Appends a b before → TakesPrefix b c bytes → TakesPrefix a c whole
 TakesPrefix-after a b c before bytes after whole e p q =
     let within : length before + q.0 ≤ length (before ++ (bytes ++ after)) =
@@ -71,3 +70,54 @@ TakesPrefix-after a b c before bytes after whole e p q =
     let front : TakesPrefix a c (before ++ (bytes ++ after)) =
     (length before + q.0, within, subst (Appends a c) (sym (middle q.0 before bytes after q.1)) taken) in
     subst (TakesPrefix a c) (sym e) front
+
+-- the states of a writer
+
+pub Wrote-nil : (s : Outflow) → Wrote s s []
+Wrote-nil s = record { taken = Appends-nil s.taken; flushes = refl; faults = refl }
+
+pub Wrote-more : (a b c : Outflow) (first then : List ℕ) → Wrote a b first → Wrote b c then → Wrote a c (first ++ then)
+Wrote-more a b c first then p q = record {
+  taken = Appends-trans a.taken b.taken c.taken first then p.taken q.taken;
+  flushes = q.flushes ∙ p.flushes;
+  faults = q.faults ∙ p.faults;
+}
+
+pub WroteFront-nil : (s : Outflow) (bytes : List ℕ) → WroteFront s s bytes None
+WroteFront-nil s bytes = record { taken = TakesPrefix-nil s.taken s.taken bytes (keeps s.taken); flushes = refl; faults = refl }
+  where
+    keeps : (o : Option (List ℕ)) → Keeps o o
+    keeps None = tt
+    keeps (Some bytes) = refl
+
+ended_later : (a b c : Faults) (kind : Option ErrorKind) → NoneFailed a b → EndedBy kind b c → EndedBy kind a c
+ended_later a b c None first then = then ∙ first
+ended_later a b c (Some kind) first then =
+    record { once = then.once ∙ ap counted first; told = then.told; ended = then.ended }
+
+pub WroteFront-after : (a b c : Outflow) (before bytes after whole : List ℕ) (kind : Option ErrorKind)
+    → whole ≡ before ++ (bytes ++ after) → Wrote a b before → WroteFront b c bytes kind → WroteFront a c whole kind
+WroteFront-after a b c before bytes after whole kind is p q = record {
+  taken = TakesPrefix-after a.taken b.taken c.taken before bytes after whole is p.taken q.taken;
+  flushes = q.flushes ∙ p.flushes;
+  faults = ended_later a.faults b.faults c.faults kind p.faults q.faults;
+}
+
+-- the states of a reader
+
+-- one read more, which may be the last
+pub Reads-once : (most : ℕ) (old now new : Inflow) (given more : List ℕ) → Consumes old.left now.left given → Consumes now.left new.left more
+    → length given < most → now.reads ≤ old.reads + length given → new.reads ≤ now.reads + 1 → new.asked ≤ max old.asked 65536
+    → Reads most old new
+Reads-once most old now new given more before then few reads once asked = record {
+  count = omega arith;
+  asked = asked;
+  turns = (
+    given ++ more,
+    Consumes-trans old.left now.left new.left given more before then,
+    omega (arith, length-append given more),
+  );
+}
+
+pub Consumes-none : (a b : Option (List ℕ)) → Keeps a b → Consumes a b []
+Consumes-none a b kept = Consumes-kept a a b [] (Consumes-nil a) kept

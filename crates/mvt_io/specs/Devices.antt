@@ -1,8 +1,9 @@
 -- The devices over memory: what each of their calls answers, and their state after it.
-use Rattle.std.specs.Prelude.{ℕ, ◌-◌, ◌&&◌, ◌||◌, min, max, nat_lt, nat_le, Bool, true, false, List, ◌++◌, length, take, drop, Option, Some, Result, Ok, Err, if◌then◌else◌}
+use Rattle.std.specs.Prelude.{ℕ, ◌-◌, ◌&&◌, ◌||◌, min, max, nat_lt, nat_le, Bool, List, ◌++◌, length, take, drop, Some, Result, Ok, Err, if◌then◌else◌}
 use Rattle.std.specs.declared.io.ErrorKind.{ErrorKind}
 use Rattle.std.specs.declared.io.ErrorKind.TheVariants.{Other, WriteZero}
 use Rattle.mvt_io.specs.Counts.{counted}
+use Rattle.mvt_io.specs.States.{Faults, Inflow, Outflow, failed, passed}
 
 -- a source: the bytes that it has left, the most that it gives in a read, the number of the first
 -- read that fails
@@ -13,9 +14,11 @@ pub record SourceState : Type 0 where
   pub calls : ℕ
   pub given : ℕ
   pub asked : ℕ
-  pub failed : ℕ
-  pub fault : Option ErrorKind
-  pub ended : Bool
+  pub faults : Faults
+
+-- what is known of it as of any reader
+abbrev pub inflow_of : SourceState → Inflow
+inflow_of s = record { left = Some s.left; reads = s.calls; given = s.given; asked = s.asked; faults = s.faults }
 
 -- reads are numbered from 0
 abbrev pub read_fails : SourceState → Bool
@@ -34,16 +37,14 @@ after_read s room = if read_fails s
       calls = counted s.calls;
       given = 0;
       asked = max s.asked room;
-      failed = counted s.failed;
-      fault = Some Other;
-      ended = true;
+      faults = failed Other s.faults;
     }
     else record s {
       left = drop (can_give s room) s.left;
       calls = counted s.calls;
       given = can_give s room;
       asked = max s.asked room;
-      ended = false;
+      faults = passed s.faults;
     }
 
 -- a sink: the bytes that it took, the most that it takes in all and in a write, the number of the
@@ -56,9 +57,11 @@ pub record SinkState : Type 0 where
   pub flush_fails : Bool
   pub calls : ℕ
   pub flushes : ℕ
-  pub failed : ℕ
-  pub fault : Option ErrorKind
-  pub ended : Bool
+  pub faults : Faults
+
+-- what is known of it as of any writer
+abbrev pub outflow_of : SinkState → Outflow
+outflow_of s = record { taken = Some s.taken; flushes = s.flushes; faults = s.faults }
 
 -- writes are numbered from 0, and a nonempty one fails once the room is used up
 abbrev pub refuses : SinkState → List ℕ → Bool
@@ -77,13 +80,11 @@ write_answer s piece = if refuses s piece then Err Other else Ok (accepted s pie
 
 abbrev pub after_write : SinkState → List ℕ → SinkState
 after_write s piece = if refuses s piece
-    then record s { calls = counted s.calls; failed = counted s.failed; fault = Some Other; ended = true }
+    then record s { calls = counted s.calls; faults = failed Other s.faults }
     else record s {
       taken = s.taken ++ take (accepted s piece) piece;
       calls = counted s.calls;
-      failed = if stalls s piece then counted s.failed else s.failed;
-      fault = if stalls s piece then Some WriteZero else s.fault;
-      ended = stalls s piece;
+      faults = if stalls s piece then failed WriteZero s.faults else passed s.faults;
     }
 
 abbrev pub flush_answer : SinkState → Result (Unit {0}) ErrorKind
@@ -91,5 +92,5 @@ flush_answer s = if s.flush_fails then Err Other else Ok tt
 
 abbrev pub after_flush : SinkState → SinkState
 after_flush s = if s.flush_fails
-    then record s { flushes = counted s.flushes; failed = counted s.failed; fault = Some Other; ended = true }
-    else record s { flushes = counted s.flushes; ended = false }
+    then record s { flushes = counted s.flushes; faults = failed Other s.faults }
+    else record s { flushes = counted s.flushes; faults = passed s.faults }

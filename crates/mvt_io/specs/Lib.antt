@@ -1,5 +1,5 @@
 pub mod Counts
-pub mod Kinds
+pub mod States
 pub mod Hosts
 pub mod Devices
 pub mod Transfers

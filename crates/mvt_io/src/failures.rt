@@ -1,15 +1,24 @@
-//! The count that readers and writers keep of their failed calls.
-ghost use Rattle.std.specs.Prelude.{◌≡◌, None, Some, true, false};
-ghost use Rattle.mvt_io.specs.Counts.{counted};
+//! What readers and writers keep of their failed calls.
+ghost use Rattle.std.specs.Prelude.{◌≡◌, None, false};
+ghost use Rattle.mvt_io.specs.States.{failed, passed};
 
 use std::io::ErrorKind;
+use std::marker::Model;
 
 /// How many calls failed, the kind of the last that did, and whether the last call did.
-#[derive(Clone, Copy)]
+#[derive(Drop)]
 pub(crate) struct Failures {
-    pub(crate) count: u64,
-    pub(crate) last: Option<ErrorKind>,
-    pub(crate) ended: bool,
+    count: u64,
+    last: Option<ErrorKind>,
+    ended: bool,
+}
+
+impl Model for Failures {
+    ghost use Rattle.mvt_io.specs.States.{Faults};
+
+    ghost Value = { Faults };
+
+    ghost view = { λ f. record { count = f.count; last = f.last; ended = f.ended } };
 }
 
 impl Failures {
@@ -23,13 +32,14 @@ impl Failures {
         }
     }
 
+    pub(crate) fn count(&self) -> u64
+        ensures { result ≡ self.now.count }
+    {
+        self.count
+    }
+
     pub(crate) fn add(&mut self, kind: ErrorKind)
-        ensures { self.new ≡ record {
-          count = counted self.old.count;
-          last = Some kind;
-          ended =
-              true;
-        } }
+        ensures { self.new ≡ failed kind self.old }
     {
         self.count = self.count.saturating_add(1);
         self.last = Some(kind);
@@ -38,7 +48,7 @@ impl Failures {
 
     /// A call that didn't fail.
     pub(crate) fn pass(&mut self)
-        ensures { self.new ≡ record self.old { ended = false } }
+        ensures { self.new ≡ passed self.old }
     {
         self.ended = false;
     }

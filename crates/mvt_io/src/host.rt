@@ -33,9 +33,7 @@ impl<T> Model for Host<T> {
       reads = h.reads;
       given = h.given;
       asked = h.asked;
-      failed = h.failures.count;
-      fault = h.failures.last;
-      ended = h.failures.ended;
+      faults = h.failures;
       flushes = h.flushes;
     } };
 }
@@ -47,9 +45,7 @@ impl<T> Host<T> {
           reads = 0;
           given = 0;
           asked = 0;
-          failed = 0;
-          fault = None;
-          ended = false;
+          faults = record { count = 0; last = None; ended = false };
           flushes = 0;
         } }
     {
@@ -65,19 +61,13 @@ impl<T> Host<T> {
 }
 
 impl<T: Read> Source for Host<T> {
-    ghost left = { λ h. T.remaining h.inner };
-
-    ghost reads = { λ h. h.reads };
-
-    ghost failed = { λ h. h.failed };
-
-    ghost fault = { λ h. h.fault };
-
-    ghost ended = { λ h. h.ended };
-
-    ghost given = { λ h. h.given };
-
-    ghost asked = { λ h. h.asked };
+    ghost state = { λ h. record {
+      left = T.remaining h.inner;
+      reads = h.reads;
+      given = h.given;
+      asked = h.asked;
+      faults = h.faults;
+    } };
 
     fn read(&mut self, buffer: &mut [u8]) -> Result<usize, ErrorKind> {
         self.reads = self.reads.saturating_add(1);
@@ -99,15 +89,7 @@ impl<T: Read> Source for Host<T> {
 }
 
 impl<T: Write> Sink for Host<T> {
-    ghost taken = { λ h. T.contents h.inner };
-
-    ghost failed = { λ h. h.failed };
-
-    ghost fault = { λ h. h.fault };
-
-    ghost ended = { λ h. h.ended };
-
-    ghost flushes = { λ h. h.flushes };
+    ghost state = { λ h. record { taken = T.contents h.inner; flushes = h.flushes; faults = h.faults } };
 
     fn write(&mut self, piece: &[u8]) -> Result<usize, ErrorKind> {
         match self.inner.write(piece) {

@@ -1,17 +1,17 @@
 //! Laws about the definitions alone: functions without effect, whose contract is the law.
-ghost use Rattle.std.specs.Prelude.{◌≡◌, ℕ, List, ◌++◌, Option};
-ghost use Rattle.std.specs.Io.KnownBytes.{Appends, Keeps};
-ghost use Rattle.mvt_io.specs.Transfers.{TakesPrefix};
+ghost use Rattle.std.specs.Prelude.{◌≡◌, List, ℕ, [], ◌++◌, Option, None};
+ghost use Rattle.std.specs.declared.io.ErrorKind.{ErrorKind as AnErrorKind};
+ghost use Rattle.mvt_io.specs.States.{Outflow};
+ghost use Rattle.mvt_io.specs.Transfers.{Wrote, WroteFront};
 
-/// A writer that took nothing took a front of any bytes.
-pub fn nothing_is_a_prefix()
-    ensures { (old new : Option (List ℕ)) (bytes : List ℕ) → Keeps old new
-        → TakesPrefix old new bytes }
-{}
-
-/// A front of some bytes, taken after those before them, is a front of the whole.
-pub fn prefix_in_the_middle()
-    ensures { (old mid new : Option (List ℕ)) (before bytes after whole : List ℕ)
-        → whole ≡ before ++ (bytes ++ after) → Appends old mid before → TakesPrefix mid new bytes
-        → TakesPrefix old new whole }
+/// Pieces that were written one after the other are written as a whole, and a front of a later one
+/// ends a front of the whole.
+pub fn writes_add_up()
+    ensures nothing { (s : Outflow) → Wrote s s [] }
+    ensures more { (a b c : Outflow) (first then : List ℕ) → Wrote a b first → Wrote b c then
+        → Wrote a c (first ++ then) }
+    ensures none { (s : Outflow) (bytes : List ℕ) → WroteFront s s bytes None }
+    ensures part { (a b c : Outflow) (before bytes after whole : List ℕ)
+        (kind : Option AnErrorKind) → whole ≡ before ++ (bytes ++ after) → Wrote a b before
+        → WroteFront b c bytes kind → WroteFront a c whole kind }
 {}

@@ -1,9 +1,9 @@
 //! A writer into memory, for tests.
-ghost use Rattle.std.specs.Prelude.{◌≡◌, ◌≤◌, [], false, length, None, Some, IfOk, is_ok, is_err, if◌then◌else◌};
+ghost use Rattle.std.specs.Prelude.{◌≡◌, ◌≤◌, [], false, length, None, Some, IfOk};
 ghost use Rattle.std.specs.Io.KnownBytes.{Keeps, WriteAppends};
-ghost use Rattle.mvt_io.specs.Counts.{counted, write_fails};
-ghost use Rattle.mvt_io.specs.Kinds.{fault_after, write_fault};
-ghost use Rattle.mvt_io.specs.Devices.{write_answer, after_write, flush_answer, after_flush};
+ghost use Rattle.mvt_io.specs.Counts.{counted};
+ghost use Rattle.mvt_io.specs.Devices.{outflow_of, write_answer, after_write, flush_answer, after_flush};
+ghost use Rattle.mvt_io.specs.States.{after_call, after_writing};
 
 use super::Sink;
 use super::failures::Failures;
@@ -43,9 +43,7 @@ impl Model for MemorySink {
       flush_fails = s.flush_fails;
       calls = s.calls;
       flushes = s.flushes;
-      failed = s.failures.count;
-      fault = s.failures.last;
-      ended = s.failures.ended;
+      faults = s.failures;
     } };
 
     ghost invariant = { λ s. (vec_len s.bytes ≤ s.room) × (s.room ≤ vec_capacity s.bytes) };
@@ -71,9 +69,7 @@ impl MemorySink {
           flush_fails = flush_fails;
           calls = 0;
           flushes = 0;
-          failed = 0;
-          fault = None;
-          ended = false;
+          faults = record { count = 0; last = None; ended = false };
         }) }
     {
         Ok(MemorySink {
@@ -111,15 +107,7 @@ impl MemorySink {
 }
 
 impl Sink for MemorySink {
-    ghost taken = { λ s. Some s.taken };
-
-    ghost failed = { λ s. s.failed };
-
-    ghost fault = { λ s. s.fault };
-
-    ghost ended = { λ s. s.ended };
-
-    ghost flushes = { λ s. s.flushes };
+    ghost state = { outflow_of };
 
     fn write(&mut self, piece: &[u8]) -> Result<usize, ErrorKind>
         ensures answer { result ≡ write_answer self.old piece.now }
@@ -128,11 +116,8 @@ impl Sink for MemorySink {
         // What every writer promises.
         ensures within { IfOk result (λ n. n ≤ length piece.now) }
         ensures bytes { WriteAppends (Some self.old.taken) (Some self.new.taken) result piece.now }
-        ensures fault { self.new.fault ≡ write_fault result piece.now self.old.fault }
-        ensures ended { self.new.ended ≡ write_fails result piece.now }
         ensures flushes { self.new.flushes ≡ self.old.flushes }
-        ensures failed { self.new.failed
-            ≡ (if write_fails result piece.now then counted self.old.failed else self.old.failed) }
+        ensures faults { self.new.faults ≡ after_writing result piece.now self.old.faults }
     {
         let number = self.calls;
         let left = self.room - self.bytes.len();
@@ -157,11 +142,8 @@ impl Sink for MemorySink {
 
         // What every writer promises.
         ensures bytes { Keeps (Some self.old.taken) (Some self.new.taken) }
-        ensures fault { self.new.fault ≡ fault_after result self.old.fault }
-        ensures ended { self.new.ended ≡ is_err result }
         ensures flushes { self.new.flushes ≡ counted self.old.flushes }
-        ensures failed { self.new.failed
-            ≡ (if is_ok result then self.old.failed else counted self.old.failed) }
+        ensures faults { self.new.faults ≡ after_call result self.old.faults }
     {
         self.flushes = self.flushes.saturating_add(1);
         if self.flush_fails {

@@ -1,9 +1,9 @@
 //! A reader over memory, for tests.
-ghost use Rattle.std.specs.Prelude.{◌≡◌, ◌≤◌, max, length, false, None, Some, IfOk, is_ok, is_err, if◌then◌else◌};
+ghost use Rattle.std.specs.Prelude.{◌≡◌, ◌≤◌, max, length, false, None, Some, IfOk};
 ghost use Rattle.std.specs.Io.KnownBytes.{ReadConsumes};
 ghost use Rattle.mvt_io.specs.Counts.{counted, given_by};
-ghost use Rattle.mvt_io.specs.Kinds.{fault_after};
-ghost use Rattle.mvt_io.specs.Devices.{read_answer, after_read};
+ghost use Rattle.mvt_io.specs.Devices.{inflow_of, read_answer, after_read};
+ghost use Rattle.mvt_io.specs.States.{after_call};
 
 use super::Source;
 use super::failures::Failures;
@@ -40,9 +40,7 @@ impl Model for MemorySource {
       calls = s.calls;
       given = s.given;
       asked = s.asked;
-      failed = s.failures.count;
-      fault = s.failures.last;
-      ended = s.failures.ended;
+      faults = s.failures;
     } };
 
     ghost invariant = { λ s. (s.at ≤ vec_len s.bytes) × (1 ≤ s.step) };
@@ -60,9 +58,7 @@ impl MemorySource {
           calls = 0;
           given = 0;
           asked = 0;
-          failed = 0;
-          fault = None;
-          ended = false;
+          faults = record { count = 0; last = None; ended = false };
         } }
     {
         MemorySource {
@@ -86,26 +82,14 @@ impl MemorySource {
 
     /// How many reads failed, up to 2^64 - 1.
     pub fn failed(&self) -> u64
-        ensures { result ≡ self.now.failed }
+        ensures { result ≡ self.now.faults.count }
     {
-        self.failures.count
+        self.failures.count()
     }
 }
 
 impl Source for MemorySource {
-    ghost left = { λ s. Some s.left };
-
-    ghost reads = { λ s. s.calls };
-
-    ghost failed = { λ s. s.failed };
-
-    ghost fault = { λ s. s.fault };
-
-    ghost ended = { λ s. s.ended };
-
-    ghost given = { λ s. s.given };
-
-    ghost asked = { λ s. s.asked };
+    ghost state = { inflow_of };
 
     fn read(&mut self, buffer: &mut [u8]) -> Result<usize, ErrorKind>
         ensures answer { result ≡ read_answer self.old (length buffer.old) }
@@ -115,12 +99,9 @@ impl Source for MemorySource {
         ensures within { IfOk result (λ n. n ≤ length buffer.new) }
         ensures bytes { ReadConsumes (Some self.old.left) (Some self.new.left) result buffer.new }
         ensures reads { self.new.calls ≡ counted self.old.calls }
-        ensures fault { self.new.fault ≡ fault_after result self.old.fault }
-        ensures ended { self.new.ended ≡ is_err result }
         ensures given { self.new.given ≡ given_by result }
         ensures asked { self.new.asked ≡ max self.old.asked (length buffer.old) }
-        ensures failed { self.new.failed
-            ≡ (if is_ok result then self.old.failed else counted self.old.failed) }
+        ensures faults { self.new.faults ≡ after_call result self.old.faults }
     {
         let number = self.calls;
         self.calls = number.saturating_add(1);

@@ -1,8 +1,7 @@
 //! Reading a whole reader and writing a whole slice.
-ghost use Rattle.std.specs.Prelude.{◌≡◌, ◌+◌, ◌<◌, ◌≤◌, max, true, length, take, Some, Err, IfOk, IfErr, IfSome, OnOk, OnErr};
-ghost use Rattle.std.specs.Io.KnownBytes.{Appends, Consumes, IsAtEnd};
-ghost use Rattle.mvt_io.specs.Counts.{HasFailed};
-ghost use Rattle.mvt_io.specs.Transfers.{IsReadFault, IsFaultOf, TakesAtMost, TakesPrefix};
+ghost use Rattle.std.specs.Prelude.{Some, IfOk, IfErr, OnOk};
+ghost use Rattle.mvt_io.specs.States.{EndedBy};
+ghost use Rattle.mvt_io.specs.Transfers.{ReadFront, Reads, TakesAtMost, Wrote, WroteFront, kind_read};
 
 use super::{ReadError, Sink, Source};
 use std::alloc::Global;
@@ -21,21 +20,12 @@ pub fn read_up_to<R: Source>(
     reader: &mut R,
     most: usize,
 ) -> Result<Vec<u8>, ReadError>
-    ensures front { IfOk result (λ bytes. Consumes (R.left reader.old)
-        (R.left reader.new) bytes.items) }
-    ensures bytes { IfOk result (λ bytes. IfSome (R.left reader.old)
-        (λ left. bytes.items ≡ take most left)) }
-    ensures short { IfOk result (λ bytes. length bytes.items < most → IsAtEnd (R.left reader.new)) }
-    ensures most { IfOk result (λ bytes. length bytes.items ≤ most) }
-    ensures leaves { TakesAtMost most (R.left reader.old) (R.left reader.new) }
-    ensures reads { R.reads reader.new ≤ R.reads reader.old + most }
-    ensures asked { R.asked reader.new ≤ max (R.asked reader.old) 65536 }
-    ensures honest { OnOk result (R.failed reader.new ≡ R.failed reader.old) }
-    ensures failed { IfErr result (λ error. IsReadFault error
-        → HasFailed (R.failed reader.old) (R.failed reader.new)) }
-    ensures ended { IfErr result (λ error. IsReadFault error → R.ended reader.new ≡ true) }
-    ensures kind { IfErr result (λ error. IsFaultOf error (R.fault reader.new)) }
-    ensures memory { result ≡ Err ReadError.Memory → R.failed reader.new ≡ R.failed reader.old }
+    ensures read { IfOk result
+        (λ bytes. ReadFront most (R.state reader.old) (R.state reader.new) bytes.items) }
+    ensures leaves { TakesAtMost most (R.state reader.old).left (R.state reader.new).left }
+    ensures reads { Reads most (R.state reader.old) (R.state reader.new) }
+    ensures faults { EndedBy (kind_read result) (R.state reader.old).faults
+        (R.state reader.new).faults }
 {
     let mut bytes = Vec::new(alloc);
     let mut piece = [0; PIECE];
@@ -62,14 +52,9 @@ pub fn read_up_to<R: Source>(
 /// A write that failed ends the call, with its kind; one that took nothing with `WriteZero`. The
 /// writer has then taken a front of the bytes.
 pub fn write_all<W: Sink>(writer: &mut W, bytes: &[u8]) -> Result<(), ErrorKind>
-    ensures taken { OnOk result (Appends (W.taken writer.old) (W.taken writer.new) bytes.now) }
-    ensures honest { OnOk result (W.failed writer.new ≡ W.failed writer.old) }
-    ensures prefix { OnErr result (TakesPrefix (W.taken writer.old)
-        (W.taken writer.new) bytes.now) }
-    ensures failed { OnErr result (HasFailed (W.failed writer.old) (W.failed writer.new)) }
-    ensures ended { OnErr result (W.ended writer.new ≡ true) }
-    ensures kind { IfErr result (λ kind. W.fault writer.new ≡ Some kind) }
-    ensures flushes { W.flushes writer.new ≡ W.flushes writer.old }
+    ensures wrote { OnOk result (Wrote (W.state writer.old) (W.state writer.new) bytes.now) }
+    ensures stopped { IfErr result (λ kind. WroteFront (W.state writer.old) (W.state writer.new)
+        bytes.now (Some kind)) }
 {
     let mut rest = bytes;
     while !rest.is_empty() {

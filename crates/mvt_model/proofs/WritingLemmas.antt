@@ -1,13 +1,10 @@
 -- Items written one after the other.
-use Rattle.std.proofs.Common.{◌≡◌, ℕ, ◌+◌, ◌<◌, ◌≤◌, List, [], ◌∷◌, ◌++◌, length, map, take, drop, get_or, Vec, Global, Option, None, Some, Result, Ok, Err, OnOk, OnErr, IfOk, refl, sym, ap, subst, ◌∙◌, arith, append_assoc, append-nil, length-append, take-append-drop}
+use Rattle.std.proofs.Common.{◌≡◌, ℕ, ◌+◌, ◌<◌, ◌≤◌, List, [], ◌∷◌, ◌++◌, length, map, take, drop, get_or, Vec, Global, Option, None, Some, Result, Ok, Err, OnOk, IfOk, refl, sym, ap, subst, ◌∙◌, arith, append_assoc, append-nil, length-append, take-append-drop}
 use Rattle.std.proofs.lemmas.List.{take_all, map-append}
 use Rattle.std.proofs.lemmas.Grind.{flat_map-append}
 use Rattle.std.specs.Option.{ok_or}
 use Rattle.mvt_base.specs.declared.TheConstants.{LIMIT}
-use Rattle.std.specs.Io.KnownBytes.{Appends}
 use Rattle.mvt_base.proofs.ListLemmas.{front_more}
-use Rattle.mvt_io.specs.Transfers.{TakesPrefix}
-use Rattle.mvt_io.proofs.IoLaws.{prefix_in_the_middle}
 use Rattle.mvt_wire.specs.Field.{bytes}
 use Rattle.mvt_wire.specs.Spelling.{Plain, short_field, spelled}
 use Rattle.mvt_message.specs.declared.item.Item.{Item}
@@ -105,13 +102,6 @@ on_ok (Ok x) p = p
 on_ok (Err e) p = tt
 
 -- of two pieces the first was taken, and a front of the second
-pub second_in_part : {T E : Type 0} (r : Result T E) (a b c : Option (List ℕ)) (head payload : List ℕ) → Appends a b head
-    → OnErr r (TakesPrefix b c payload)
-    → OnErr r (TakesPrefix a c (head ++ payload))
-second_in_part (Ok x) a b c head payload taken part = tt
-second_in_part (Err e) a b c head payload taken part =
-    prefix_in_the_middle a b c head payload [] (head ++ payload) (ap (λ p. head ++ p) (sym (append-nil payload))) taken part
-
 pub put_large : (e : PutError) → write_error e ≡ write.TooLarge → e ≡ put.TooLarge
 put_large put.Memory h = cc
 put_large put.TooLarge h = refl

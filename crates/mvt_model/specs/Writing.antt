@@ -1,5 +1,5 @@
 -- What writing a tile answers.
-use Rattle.std.specs.Prelude.{◌≡◌, Option, Some, ⊤}
+use Rattle.std.specs.Prelude.{Option, Some, None}
 use Rattle.std.specs.declared.io.ErrorKind.{ErrorKind}
 use Rattle.mvt_message.specs.declared.writing.PutError.{PutError}
 use Rattle.mvt_message.specs.declared.writing.PutError.TheVariants as put
@@ -11,13 +11,8 @@ abbrev pub write_error : PutError → WriteError
 write_error put.Memory = Memory
 write_error put.TooLarge = TooLarge
 
-abbrev pub IsWriteFault : WriteError → Type 0
-IsWriteFault Memory = ⊥
-IsWriteFault TooLarge = ⊥
-IsWriteFault (Write kind) = ⊤
-
--- the error has the kind that the failed write told
-abbrev pub IsWriteKind : WriteError → Option ErrorKind → Type 0
-IsWriteKind Memory told = ⊤
-IsWriteKind TooLarge told = ⊤
-IsWriteKind (Write kind) told = told ≡ Some kind
+-- the kind of the write that failed, where one did
+abbrev pub kind_written : WriteError → Option ErrorKind
+kind_written Memory = None
+kind_written TooLarge = None
+kind_written (Write kind) = Some kind

@@ -1,9 +1,7 @@
 //! Writing a tile as its canonical bytes.
-ghost use Rattle.std.specs.Prelude.{◌≡◌, ◌↔◌, ◌+◌, ◌<◌, ◌≤◌, ◌++◌, Some, true, length, map, IfOk, IfErr, IfSome, IfNone, IsErrOf, IsTrue, OnOk, OnErr};
-ghost use Rattle.std.specs.Io.KnownBytes.{Appends};
+ghost use Rattle.std.specs.Prelude.{◌≡◌, ◌↔◌, ◌+◌, ◌<◌, ◌≤◌, ◌++◌, Some, length, map, IfOk, IfErr, IfSome, IfNone, IsErrOf, IsTrue, OnOk};
 ghost use Rattle.std.specs.List.{AllByRecursion};
-ghost use Rattle.mvt_io.specs.Counts.{HasFailed};
-ghost use Rattle.mvt_io.specs.Transfers.{TakesPrefix};
+ghost use Rattle.mvt_io.specs.Transfers.{Wrote, WroteFront};
 ghost use Rattle.mvt_wire.specs.Field.{bytes};
 ghost use Rattle.mvt_wire.specs.Spelling.{short_field, spelled};
 ghost use Rattle.mvt_message.specs.CanonicalItems.{canonical_item};
@@ -12,7 +10,7 @@ ghost use Rattle.mvt_model.specs.declared.numbers.tile.TheConstants.{LAYERS};
 ghost use Rattle.mvt_model.specs.Bounds.{items_bound};
 ghost use Rattle.mvt_model.specs.CanonicalTiles.{canonical, item_field};
 ghost use Rattle.mvt_model.specs.ValidTiles.{Valid};
-ghost use Rattle.mvt_model.specs.Writing.{IsWriteFault, IsWriteKind};
+ghost use Rattle.mvt_model.specs.Writing.{kind_written};
 
 use crate::numbers::tile;
 use crate::tile::Tile;
@@ -34,21 +32,13 @@ use std::io::ErrorKind;
 /// memory. The writer has then taken a front of the bytes.
 pub fn write_tile<W: Sink>(alloc: Global, tile: &Tile, writer: &mut W) -> Result<(), WriteError>
     requires { Valid tile.now }
-    ensures taken { OnOk result (Appends (W.taken writer.old) (W.taken writer.new)
-        (canonical tile.now)) }
+    ensures wrote { OnOk result
+        (Wrote (W.state writer.old) (W.state writer.new) (canonical tile.now)) }
     ensures small { OnOk result (length (canonical tile.now) ≤ LIMIT) }
-    ensures honest { OnOk result (W.failed writer.new ≡ W.failed writer.old) }
     ensures too_large { IsErrOf result WriteError.TooLarge
         → (LIMIT < length (canonical tile.now)) × (writer.new ≡ writer.old) }
-    ensures prefix { OnErr result (TakesPrefix (W.taken writer.old) (W.taken writer.new)
-        (canonical tile.now)) }
-    ensures failed { IfErr result (λ error. IsWriteFault error
-        → HasFailed (W.failed writer.old) (W.failed writer.new)) }
-    ensures ended { IfErr result (λ error. IsWriteFault error → W.ended writer.new ≡ true) }
-    ensures sound { IfErr result (λ error. (IsWriteFault error → ⊥)
-        → W.failed writer.new ≡ W.failed writer.old) }
-    ensures kind { IfErr result (λ error. IsWriteKind error (W.fault writer.new)) }
-    ensures flushes { W.flushes writer.new ≡ W.flushes writer.old }
+    ensures stopped { IfErr result (λ error. WroteFront (W.state writer.old) (W.state writer.new)
+        (canonical tile.now) (kind_written error)) }
 {
     let items = tile.items.as_slice();
     if let [item] = items {
@@ -116,20 +106,11 @@ fn layer_len(alloc: Global, item: &Item) -> Result<u64, PutError>
 fn write_items<W: Sink>(alloc: Global, items: &[Item], writer: &mut W) -> Result<(), WriteError>
     requires valid { AllByRecursion ValidItem items.now }
     requires small { length (spelled (map item_field items.now)) ≤ LIMIT }
-    ensures taken { OnOk result
-        (Appends (W.taken writer.old) (W.taken writer.new) (spelled (map item_field items.now))) }
-    ensures honest { OnOk result (W.failed writer.new ≡ W.failed writer.old) }
-    ensures never { IsErrOf result WriteError.TooLarge → ⊥ }
-    ensures prefix { OnErr result
-        (TakesPrefix (W.taken writer.old) (W.taken writer.new)
+    ensures wrote { OnOk result (Wrote (W.state writer.old) (W.state writer.new)
         (spelled (map item_field items.now))) }
-    ensures failed { IfErr result (λ error. IsWriteFault error
-        → HasFailed (W.failed writer.old) (W.failed writer.new)) }
-    ensures ended { IfErr result (λ error. IsWriteFault error → W.ended writer.new ≡ true) }
-    ensures sound { IfErr result (λ error. (IsWriteFault error → ⊥)
-        → W.failed writer.new ≡ W.failed writer.old) }
-    ensures kind { IfErr result (λ error. IsWriteKind error (W.fault writer.new)) }
-    ensures flushes { W.flushes writer.new ≡ W.flushes writer.old }
+    ensures never { IsErrOf result WriteError.TooLarge → ⊥ }
+    ensures stopped { IfErr result (λ error. WroteFront (W.state writer.old) (W.state writer.new)
+        (spelled (map item_field items.now)) (kind_written error)) }
 {
     for item in items {
         write_item(alloc, item, writer)?;
@@ -138,26 +119,18 @@ fn write_items<W: Sink>(alloc: Global, items: &[Item], writer: &mut W) -> Result
 }
 
 /// Makes the payload of an item, and writes its field where that is within the limit.
-#[tactic(auto, using(mvt_io::proofs::IoLaws::nothing_is_a_prefix))]
+#[tactic(auto, using(mvt_io::proofs::IoLaws::writes_add_up_none))]
 fn write_item<W: Sink>(alloc: Global, item: &Item, writer: &mut W) -> Result<(), WriteError>
     requires { ValidItem item.now }
-    ensures taken { OnOk result (Appends (W.taken writer.old) (W.taken writer.new)
+    ensures wrote { OnOk result (Wrote (W.state writer.old) (W.state writer.new)
         (short_field LAYERS (bytes (canonical_item item.now)))) }
     ensures small { OnOk result (length
         (short_field LAYERS (bytes (canonical_item item.now))) ≤ LIMIT) }
-    ensures honest { OnOk result (W.failed writer.new ≡ W.failed writer.old) }
     ensures too_large { IsErrOf result WriteError.TooLarge
         → (LIMIT < length (short_field LAYERS (bytes (canonical_item item.now))))
         × (writer.new ≡ writer.old) }
-    ensures prefix { OnErr result (TakesPrefix (W.taken writer.old) (W.taken writer.new)
-        (short_field LAYERS (bytes (canonical_item item.now)))) }
-    ensures failed { IfErr result (λ error. IsWriteFault error
-        → HasFailed (W.failed writer.old) (W.failed writer.new)) }
-    ensures ended { IfErr result (λ error. IsWriteFault error → W.ended writer.new ≡ true) }
-    ensures sound { IfErr result (λ error. (IsWriteFault error → ⊥)
-        → W.failed writer.new ≡ W.failed writer.old) }
-    ensures kind { IfErr result (λ error. IsWriteKind error (W.fault writer.new)) }
-    ensures flushes { W.flushes writer.new ≡ W.flushes writer.old }
+    ensures stopped { IfErr result (λ error. WroteFront (W.state writer.old) (W.state writer.new)
+        (short_field LAYERS (bytes (canonical_item item.now))) (kind_written error)) }
 {
     let payload = put_item(alloc, item)?;
     let len = payload.len() as u64;
@@ -174,15 +147,10 @@ fn write_item<W: Sink>(alloc: Global, item: &Item, writer: &mut W) -> Result<(),
 
 /// Writes what stands before a payload, and then the payload.
 fn write_both<W: Sink>(writer: &mut W, head: &[u8], payload: &[u8]) -> Result<(), ErrorKind>
-    ensures taken { OnOk result
-        (Appends (W.taken writer.old) (W.taken writer.new) (head.now ++ payload.now)) }
-    ensures honest { OnOk result (W.failed writer.new ≡ W.failed writer.old) }
-    ensures prefix { OnErr result
-        (TakesPrefix (W.taken writer.old) (W.taken writer.new) (head.now ++ payload.now)) }
-    ensures failed { OnErr result (HasFailed (W.failed writer.old) (W.failed writer.new)) }
-    ensures ended { OnErr result (W.ended writer.new ≡ true) }
-    ensures kind { IfErr result (λ kind. W.fault writer.new ≡ Some kind) }
-    ensures flushes { W.flushes writer.new ≡ W.flushes writer.old }
+    ensures wrote { OnOk result
+        (Wrote (W.state writer.old) (W.state writer.new) (head.now ++ payload.now)) }
+    ensures stopped { IfErr result (λ kind. WroteFront (W.state writer.old) (W.state writer.new)
+        (head.now ++ payload.now) (Some kind)) }
 {
     write_all(writer, head)?;
     write_all(writer, payload)

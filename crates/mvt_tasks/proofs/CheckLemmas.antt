@@ -1,5 +1,5 @@
 -- What is said of files, one after another.
-use Rattle.std.proofs.Common.{◌≡◌, ℕ, ◌+◌, ◌<◌, ◌≤◌, inl, inr, Bool, cond, List, [], ◌∷◌, ◌++◌, length, map, take, Option, Some, None, Result, Ok, Err, IfErr, OnErr, refl, sym, ap, ap₂, subst, ◌∙◌, append_assoc, append-nil, zero-add, suc, arith}
+use Rattle.std.proofs.Common.{◌≡◌, ℕ, ◌+◌, ◌<◌, ◌≤◌, inl, inr, Bool, cond, List, [], ◌∷◌, ◌++◌, length, map, take, Option, Some, None, Result, Ok, Err, IfErr, refl, sym, ap, ap₂, subst, ◌∙◌, append_assoc, append-nil, zero-add, suc, arith}
 use Rattle.std.proofs.lemmas.List.{map-append, length-append}
 use Rattle.std.proofs.Math.Seq.{take-append-add}
 use Rattle.std.proofs.lemmas.List.Sums.{sum_by-append}
@@ -8,7 +8,8 @@ use Rattle.std.proofs.KnownBytes.{Appends-nil, Appends-trans}
 use Rattle.std.specs.List.{flat_map}
 use Rattle.std.specs.Io.KnownBytes.{Appends, Keeps}
 use Rattle.mvt_base.proofs.ListLemmas.{related-append, length-related}
-use Rattle.mvt_io.specs.Counts.{NoneFailed, last_count}
+use Rattle.mvt_io.specs.Counts.{last_count}
+use Rattle.mvt_io.specs.States.{Outflow}
 use Rattle.mvt_tasks.specs.declared.failure.Failure.{Failure}
 use Rattle.mvt_tasks.specs.declared.failure.Failure.TheVariants.{Read, Write, Memory}
 use Rattle.mvt_tasks.specs.declared.folder.Visit.{Visit}
@@ -21,8 +22,8 @@ use Rattle.mvt_tasks.specs.Checks.{AreChecked, Checked, IsCutShort, IsLater, IsN
 
 -- ---- the error stream
 
-pub tells_nothing : (n : ℕ) (o : Option (List ℕ)) → Tells n n o o []
-tells_nothing n o = record { counts = inl (omega arith); tells = λ none. Appends-nil o }
+pub tells_nothing : (o : Outflow) → Tells o o []
+tells_nothing o = record { counts = inl (omega arith); tells = λ none. Appends-nil o.taken }
 
 later-trans : (a b c : ℕ) → IsLater a b → IsLater b c → IsLater a c
 later-trans a b c (inl h) (inl k) = inl (omega arith)
@@ -31,19 +32,20 @@ later-trans a b c (inr h) (inl k) = inr (omega arith)
 later-trans a b c (inr h) (inr k) = inr k
 
 -- where none failed in all, none failed at first and none afterwards
-none_between : (a b c : ℕ) → IsLater a b → IsLater b c → NoneFailed a c → (b ≡ a) × (c ≡ b)
+none_between : (a b c : ℕ) → IsLater a b → IsLater b c → (c ≡ a) × (a < last_count) → (b ≡ a) × (c ≡ b)
 none_between a b c (inl h) (inl k) (same, small) = ((let e : b ≡ a = omega arith in e), (let e : c ≡ b = omega arith in e))
 none_between a b c (inl h) (inr k) (same, small) = absurd (omega arith)
 none_between a b c (inr h) (inl k) (same, small) = absurd (omega arith)
 none_between a b c (inr h) (inr k) (same, small) = absurd (omega arith)
 
-pub tells-trans : (a b c : ℕ) (x y z : Option (List ℕ)) (s t : List ℕ) → Tells a b x y s → Tells b c y z t → Tells a c x z (s ++ t)
-tells-trans a b c x y z s t first then = record {
-  counts = later-trans a b c first.counts then.counts;
+pub tells-trans : (a b c : Outflow) (s t : List ℕ) → Tells a b s → Tells b c t → Tells a c (s ++ t)
+tells-trans a b c s t first then = record {
+  counts = later-trans a.faults.count b.faults.count c.faults.count first.counts then.counts;
   tells = λ none.
-      let (one, two) = none_between a b c first.counts then.counts none in
-      let small : a < last_count = none.1 in
-      Appends-trans x y z s t (first.tells (one, small)) (then.tells (two, (let e : b < last_count = omega arith in e)));
+      let (one, two) = none_between a.faults.count b.faults.count c.faults.count first.counts then.counts none in
+      let small : a.faults.count < last_count = none.1 in
+      Appends-trans a.taken b.taken c.taken s t (first.tells (one, small))
+      (then.tells (two, (let e : b.faults.count < last_count = omega arith in e)));
 }
 
 -- ---- visits
@@ -100,8 +102,8 @@ said_none limit holds now tally is = record {
   files = [];
   checked = tt;
   visited = adds_nothing now.visits;
-  written = Appends-nil now.output;
-  told = tells_nothing now.failed now.errors;
+  written = Appends-nil now.output.taken;
+  told = tells_nothing now.errors;
   counted = is;
 }
 
@@ -147,12 +149,12 @@ said_more limit holds names name a b c old new verdict said one adds =
           subst (AddsAll a.visits c.visits) (sym (map-append (λ (f : Checked). visit_of f.name f.reply) files (file ∷ [])))
           (adds-trans a.visits b.visits c.visits (visits files) (visits (file ∷ [])) said.visited one.visited);
       written =
-          subst (Appends a.output c.output)
+          subst (Appends a.output.taken c.output.taken)
           (sym (flat_map-append written_of files (file ∷ []) ∙ ap (λ t. flat_map written_of files ++ t) (append-nil (written_of file))))
-          (Appends-trans a.output b.output c.output (flat_map written_of files) (written_of file) said.written one.written);
+          (Appends-trans a.output.taken b.output.taken c.output.taken (flat_map written_of files) (written_of file) said.written one.written);
       told =
-          subst (Tells a.failed c.failed a.errors c.errors) lines
-          (tells-trans a.failed b.failed c.failed a.errors b.errors c.errors (flat_map told_of files ++ [])
+          subst (Tells a.errors c.errors) lines
+          (tells-trans a.errors b.errors c.errors (flat_map told_of files ++ [])
           (told_of file) said.told one.told);
       counted = counted_more files file old new verdict said.counted one.judged adds;
     }
@@ -210,15 +212,15 @@ cut_first limit holds names old visits next is_next visited = record {
   checked = tt;
   is_next = is_next;
   visited = visited;
-  taken = Appends-nil old.output;
-  told = tells_nothing old.failed old.errors;
+  taken = Appends-nil old.output.taken;
+  told = tells_nothing old.errors;
 }
 
 -- an end within a file, of which there is something to say
 cut_within : (limit : ℕ) (holds : List ℕ → Option (List ℕ)) (name : List ℕ) (reply : Option Reply) (old new : Moment) (failure : Failure)
     → IsSaid limit (holds name) reply → AddsAll old.visits new.visits (visit_of name reply ∷ [])
-    → TakesUntil old.output new.output (written_of (record { name = name; reply = reply })) failure
-    → Tells old.failed new.failed old.errors new.errors (told_of (record { name = name; reply = reply }))
+    → TakesUntil old.output.taken new.output.taken (written_of (record { name = name; reply = reply })) failure
+    → Tells old.errors new.errors (told_of (record { name = name; reply = reply }))
     → IsCutShort limit holds (name ∷ []) old new [] failure
 cut_within limit holds name reply old new failure said visited takes told =
     let file : Checked = record { name = name; reply = reply } in
@@ -231,15 +233,15 @@ cut_within limit holds name reply old new failure said visited takes told =
       checked = ((refl, said), tt);
       is_next = tt;
       visited = visited;
-      taken = subst (λ text. TakesUntil old.output new.output text failure) (sym (append-nil (written_of file))) takes;
-      told = subst (Tells old.failed new.failed old.errors new.errors)
+      taken = subst (λ text. TakesUntil old.output.taken new.output.taken text failure) (sym (append-nil (written_of file))) takes;
+      told = subst (Tells old.errors new.errors)
           (sym (append-nil (told_of file ++ []) ∙ append-nil (told_of file))) told;
     }
 
 -- an end after the last file
 cut_last : (limit : ℕ) (holds : List ℕ → Option (List ℕ)) (names : List (List ℕ)) (a b : Moment) (tally : Tally)
-    (w : Option (List ℕ)) (failure : Failure)
-    → IsSaidOf limit holds names a b [] tally → TakesUntil b.output w [] failure
+    (w : Outflow) (failure : Failure)
+    → IsSaidOf limit holds names a b [] tally → TakesUntil b.output.taken w.taken [] failure
     → IsCutShort limit holds names a (record b { output = w }) [] failure
 cut_last limit holds names a b tally w failure said takes = record {
   front = names;
@@ -252,8 +254,8 @@ cut_last limit holds names a b tally w failure said takes = record {
   visited =
       subst (AddsAll a.visits b.visits) (sym (append-nil (map (λ (f : Checked). visit_of f.name f.reply) said.files))) said.visited;
   taken =
-      subst (λ text. TakesUntil a.output w text failure) (append-nil (flat_map written_of said.files))
-      (takes_on a.output b.output w (flat_map written_of said.files) [] failure said.written takes);
+      subst (λ text. TakesUntil a.output.taken w.taken text failure) (append-nil (flat_map written_of said.files))
+      (takes_on a.output.taken b.output.taken w.taken (flat_map written_of said.files) [] failure said.written takes);
   told = said.told;
 }
 
@@ -294,20 +296,20 @@ cut_later limit holds held all names name shown behind a b c tally failure said 
           ∙ append_assoc (visits said.files) (visits cut.files) cut.next))
           (adds-trans a.visits b.visits c.visits (visits said.files) (visits cut.files ++ cut.next) said.visited cut.visited);
       taken =
-          subst (λ text. TakesUntil a.output c.output text failure) (sym (flat_map-append written_of said.files cut.files))
-          (takes_on a.output b.output c.output (flat_map written_of said.files) (flat_map written_of cut.files) failure said.written cut.taken);
+          subst (λ text. TakesUntil a.output.taken c.output.taken text failure) (sym (flat_map-append written_of said.files cut.files))
+          (takes_on a.output.taken b.output.taken c.output.taken (flat_map written_of said.files) (flat_map written_of cut.files) failure said.written cut.taken);
       told =
-          subst (Tells a.failed c.failed a.errors c.errors) lines
-          (tells-trans a.failed b.failed c.failed a.errors b.errors c.errors (flat_map told_of said.files ++ [])
+          subst (Tells a.errors c.errors) lines
+          (tells-trans a.errors b.errors c.errors (flat_map told_of said.files ++ [])
           (flat_map told_of cut.files ++ []) said.told cut.told);
     }
 
 -- the line that tells why
-pub cut_told : (limit : ℕ) (holds : List ℕ → Option (List ℕ)) (names : List (List ℕ)) (a b : Moment) (failed : ℕ)
-    (errors : Option (List ℕ)) (line : List ℕ) (failure : Failure)
-    → IsCutShort limit holds names a b [] failure → Tells b.failed failed b.errors errors line
-    → IsCutShort limit holds names a (record b { failed = failed; errors = errors }) line failure
-cut_told limit holds names a b failed errors line failure cut told = record {
+pub cut_told : (limit : ℕ) (holds : List ℕ → Option (List ℕ)) (names : List (List ℕ)) (a b : Moment) (errors : Outflow)
+    (line : List ℕ) (failure : Failure)
+    → IsCutShort limit holds names a b [] failure → Tells b.errors errors line
+    → IsCutShort limit holds names a (record b { errors = errors }) line failure
+cut_told limit holds names a b errors line failure cut told = record {
   front = cut.front;
   rest = cut.rest;
   files = cut.files;
@@ -318,16 +320,14 @@ cut_told limit holds names a b failed errors line failure cut told = record {
   visited = cut.visited;
   taken = cut.taken;
   told =
-      subst (λ text. Tells a.failed failed a.errors errors (text ++ line)) (append-nil (flat_map told_of cut.files))
-      (tells-trans a.failed b.failed failed a.errors b.errors errors (flat_map told_of cut.files ++ []) line cut.told told);
+      subst (λ text. Tells a.errors errors (text ++ line)) (append-nil (flat_map told_of cut.files))
+      (tells-trans a.errors b.errors errors (flat_map told_of cut.files ++ []) line cut.told told);
 }
 
-pub cut_at_first : (limit : ℕ) (holds : List ℕ → Option (List ℕ)) (names : List (List ℕ)) (old : Moment) (failed : ℕ)
-    (errors : Option (List ℕ)) (line : List ℕ)
-    → Tells old.failed failed old.errors errors line
-    → IsCutShort limit holds names old (record old { failed = failed; errors = errors }) line Memory
-cut_at_first limit holds names old failed errors line told =
-    cut_told limit holds names old old failed errors line Memory
+pub cut_at_first : (limit : ℕ) (holds : List ℕ → Option (List ℕ)) (names : List (List ℕ)) (old : Moment) (errors : Outflow) (line : List ℕ)
+    → Tells old.errors errors line → IsCutShort limit holds names old (record old { errors = errors }) line Memory
+cut_at_first limit holds names old errors line told =
+    cut_told limit holds names old old errors line Memory
     (cut_first limit holds names old old.visits [] tt (adds_nothing old.visits)) told
 
 -- of an answer
@@ -342,8 +342,8 @@ module _ {T : Type 0} (r : Result T Failure) (limit : ℕ) (holds : List ℕ →
 
   pub cut_within_of : (name : List ℕ) (reply : Option Reply) (old new : Moment) → IsSaid limit (holds name) reply
       → AddsAll old.visits new.visits (visit_of name reply ∷ [])
-      → IfErr r (TakesUntil old.output new.output (written_of (record { name = name; reply = reply })))
-      → Tells old.failed new.failed old.errors new.errors (told_of (record { name = name; reply = reply }))
+      → IfErr r (TakesUntil old.output.taken new.output.taken (written_of (record { name = name; reply = reply })))
+      → Tells old.errors new.errors (told_of (record { name = name; reply = reply }))
       → IfErr r (IsCutShort limit holds (name ∷ []) old new [])
   cut_within_of name reply old new said visited takes told =
       weaker_err r (λ failure took. cut_within limit holds name reply old new failure said visited took told) takes
@@ -352,14 +352,14 @@ module _ {T : Type 0} (r : Result T Failure) (limit : ℕ) (holds : List ℕ →
       → IfErr r (λ failure. failure ≡ Memory) → IfErr r (IsCutShort limit holds names a b [])
   cut_unwritten names a b tally said is =
       weaker_err r (λ failure is_memory. cut_last limit holds names a b tally b.output failure said
-      (subst (TakesUntil b.output b.output []) (sym is_memory) (Appends-nil b.output))) is
+      (subst (TakesUntil b.output.taken b.output.taken []) (sym is_memory) (Appends-nil b.output.taken))) is
 
-  pub cut_unflushed : (names : List (List ℕ)) (a b : Moment) (tally : Tally) (w : Option (List ℕ))
-      → IsSaidOf limit holds names a b [] tally → Keeps b.output w → IfErr r (λ failure. failure ≡ Write)
+  pub cut_unflushed : (names : List (List ℕ)) (a b : Moment) (tally : Tally) (w : Outflow)
+      → IsSaidOf limit holds names a b [] tally → Keeps b.output.taken w.taken → IfErr r (λ failure. failure ≡ Write)
       → IfErr r (IsCutShort limit holds names a (record b { output = w }) [])
   cut_unflushed names a b tally w said keeps is =
       weaker_err r (λ failure is_write. cut_last limit holds names a b tally w failure said
-      (subst (TakesUntil b.output w []) (sym is_write) (0, (omega arith), keeps_nothing b.output w keeps))) is
+      (subst (TakesUntil b.output.taken w.taken []) (sym is_write) (0, (omega arith), keeps_nothing b.output.taken w.taken keeps))) is
 
   pub cut_later_of : (held : List ℕ → Option (List ℕ)) (all names : List (List ℕ)) (name shown : List ℕ)
       (behind : List (List ℕ)) (a b c : Moment) (tally : Tally)

@@ -1,10 +1,13 @@
 -- A reply that was put out answers its input.
-use Rattle.std.proofs.Common.{◌≡◌, ℕ, ◌<◌, ◌≤◌, Bool, true, false, nat_lt, List, length, slice_get, Option, Some, None, inl, inr, refl, sym, ap, ◌∙◌, arith, codes, if◌then◌else◌}
-use Rattle.std.specs.Prelude.{IfSome}
+use Rattle.std.proofs.Common.{◌≡◌, ℕ, ◌<◌, ◌≤◌, Bool, true, false, nat_lt, List, length, slice_get, Option, Some, None, Result, Ok, Err, IfErr, inl, inr, refl, sym, subst, ap, ◌∙◌, arith, codes, if◌then◌else◌}
+use Rattle.std.specs.Prelude.{IfSome, is_err}
+use Rattle.std.specs.declared.io.ErrorKind.{ErrorKind}
 use Rattle.std.specs.Option.{option_map}
 use Rattle.std.proofs.lemmas.Bool.Decides.{nat_tests}
 use Rattle.std.proofs.lemmas.Option.{IfSome_then}
 use Rattle.mvt_base.specs.Tells.{Tells}
+use Rattle.mvt_io.specs.Counts.{counted}
+use Rattle.mvt_io.specs.States.{Faults, NoneFailed, after_call, failed}
 use Rattle.mvt_model.specs.declared.tile.Tile.{Tile}
 use Rattle.mvt_tile.specs.declared.fault.DecodeError.{DecodeError}
 use Rattle.mvt_tile.specs.declared.fault.DecodeError.TheVariants.{Memory, Fault, Read}
@@ -14,8 +17,10 @@ use Rattle.mvt_model.specs.ValidTiles.{Valid}
 use Rattle.mvt_tile.specs.Extraction.{pick, first_missing}
 use Rattle.mvt_tile.specs.Reading.{fault_of}
 use Rattle.mvt_tile.specs.TileRules.{fault_within}
+use Rattle.mvt_tasks.specs.declared.failure.Failure.{Failure}
+use Rattle.mvt_tasks.specs.declared.failure.Failure.TheVariants.{Write}
 use Rattle.mvt_tasks.specs.declared.reply.Reply.{Reply}
-use Rattle.mvt_tasks.specs.Failures.{IsRefusal}
+use Rattle.mvt_tasks.specs.Failures.{EndsFailed, FailsWriting, IsRefusal}
 use Rattle.mvt_tasks.specs.Output.{IsTold, done, refused, bytes_reply, layers_reply, layers_reply_or, missing_line}
 use Rattle.mvt_tasks.proofs.Picks.{missing_at, none_missing}
 
@@ -86,3 +91,27 @@ module _ (limit : ℕ) (left : Option (List ℕ)) (tile : Tile) (there : IfSome 
       → IfSome left (λ input. IsTold limit (bytes_reply limit) input (refused line))
   not_rewritten line is large =
       IfSome_then left there (λ input both. inl (tile, both.0, ap refused is ∙ sym (large_reply limit tile large)))
+
+-- the output, where its flush failed
+
+ends_failed : (a b c : Faults) (kind : ErrorKind) → NoneFailed a b → c ≡ failed kind b → EndsFailed a c
+ends_failed a b c kind none is = (
+  kind,
+  record { once = ap (λ (f : Faults). f.count) is ∙ ap counted none; told = ap (λ (f : Faults). f.last) is; ended = ap (λ (f : Faults). f.ended) is },
+)
+
+module _ {T U : Type 0} (s : Result T Failure) (r : Result U ErrorKind) (a b c : Faults) where
+  pub fails_flushing : IfErr s (λ failure. failure ≡ Write) → is_err s ≡ is_err r → NoneFailed a b → c ≡ after_call r b
+      → IfErr s (FailsWriting a c)
+  fails_flushing is same none after = of s r is same after
+    where
+      of : (s : Result T Failure) (r : Result U ErrorKind) → IfErr s (λ failure. failure ≡ Write) → is_err s ≡ is_err r → c ≡ after_call r b
+          → IfErr s (FailsWriting a c)
+      of (Ok x) r is same after = tt
+      of (Err f) (Ok u) is same after = cc
+      of (Err f) (Err kind) is same after = subst (FailsWriting a c) (sym is) (ends_failed a b c kind none after)
+
+pub is_writing : {T : Type 0} (s : Result T Failure) (a c : Faults) → IfErr s (λ failure. failure ≡ Write) → IfErr s (FailsWriting a c)
+    → IfErr s (λ failure. (failure ≡ Write) × EndsFailed a c)
+is_writing (Ok x) a c is fails = tt
+is_writing (Err f) a c is fails = (is, subst (FailsWriting a c) is fails)

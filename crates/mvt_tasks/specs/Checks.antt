@@ -4,7 +4,8 @@ use Rattle.std.specs.Fmt.{decimal}
 use Rattle.std.specs.List.{flat_map}
 use Rattle.std.specs.Io.KnownBytes.{Appends}
 use Rattle.mvt_base.specs.Related.{AreRelated}
-use Rattle.mvt_io.specs.Counts.{NoneFailed, counted, last_count}
+use Rattle.mvt_io.specs.Counts.{counted, last_count}
+use Rattle.mvt_io.specs.States.{AllPassed, NoneFailed, Outflow}
 use Rattle.mvt_io.specs.Transfers.{TakesPrefix}
 use Rattle.mvt_tasks.specs.declared.failure.Failure.{Failure}
 use Rattle.mvt_tasks.specs.declared.failure.Failure.TheVariants.{Read, Write, Memory}
@@ -110,20 +111,18 @@ abbrev pub IsLater : ℕ → ℕ → Type 0
 IsLater old new = (old ≤ new) ⊎ (last_count ≤ new)
 
 -- the error stream grew by a text, unless one of its writes failed
-pub record Tells (failed_old failed_new : ℕ) (old new : Option (List ℕ)) (text : List ℕ) : Type 0 where
-  pub counts : IsLater failed_old failed_new
-  pub tells : NoneFailed failed_old failed_new → Appends old new text
+pub record Tells (old new : Outflow) (text : List ℕ) : Type 0 where
+  pub counts : IsLater old.faults.count new.faults.count
+  pub tells : AllPassed old.faults new.faults → Appends old.taken new.taken text
 
--- what is known at one moment of a run: of the visits of the folder, of the output, of the failed writes of the error stream,
--- and of what this took
+-- what is known at one moment of a run: the visits of the folder, the output, and the error stream
 pub record Moment : Type 0 where
   pub visits : Option (List Visit)
-  pub output : Option (List ℕ)
-  pub failed : ℕ
-  pub errors : Option (List ℕ)
+  pub output : Outflow
+  pub errors : Outflow
 
-abbrev pub moment : Option (List Visit) → Option (List ℕ) → ℕ → Option (List ℕ) → Moment
-moment visits output failed errors = record { visits = visits; output = output; failed = failed; errors = errors }
+abbrev pub moment : Option (List Visit) → Outflow → Outflow → Moment
+moment visits output errors = record { visits = visits; output = output; errors = errors }
 
 -- the files of these names were checked, each once and in order, and all was put out that there is to say of them, and on
 -- the error stream one line more
@@ -132,8 +131,8 @@ pub record IsSaidOf (limit : ℕ) (holds : List ℕ → Option (List ℕ)) (name
   pub files : List Checked
   pub checked : AreChecked limit holds names files
   pub visited : AddsAll old.visits new.visits (map (λ file. visit_of file.name file.reply) files)
-  pub written : Appends old.output new.output (flat_map written_of files)
-  pub told : Tells old.failed new.failed old.errors new.errors (flat_map told_of files ++ line)
+  pub written : Appends old.output.taken new.output.taken (flat_map written_of files)
+  pub told : Tells old.errors new.errors (flat_map told_of files ++ line)
   pub counted : tally ≡ tally_of files
 
 -- the same of one file
@@ -141,8 +140,8 @@ pub record IsSaidOfOne (limit : ℕ) (holds : List ℕ → Option (List ℕ)) (n
   pub reply : Option Reply
   pub checked : IsSaid limit (holds name) reply
   pub visited : Adds old.visits new.visits (visit_of name reply)
-  pub written : Appends old.output new.output (written_of (record { name = name; reply = reply }))
-  pub told : Tells old.failed new.failed old.errors new.errors (told_of (record { name = name; reply = reply }))
+  pub written : Appends old.output.taken new.output.taken (written_of (record { name = name; reply = reply }))
+  pub told : Tells old.errors new.errors (told_of (record { name = name; reply = reply }))
   pub judged : verdict ≡ verdict_of reply
 
 -- what was taken of a text when a run was over: a front after a failed write, and all of it where memory was wanting
@@ -170,28 +169,19 @@ pub record IsCutShort (limit : ℕ) (holds : List ℕ → Option (List ℕ)) (na
   pub checked : AreChecked limit holds front files
   pub is_next : IsNext rest next
   pub visited : AddsAll old.visits new.visits (map (λ file. visit_of file.name file.reply) files ++ next)
-  pub taken : TakesUntil old.output new.output (flat_map written_of files) failure
-  pub told : Tells old.failed new.failed old.errors new.errors (flat_map told_of files ++ line)
+  pub taken : TakesUntil old.output.taken new.output.taken (flat_map written_of files) failure
+  pub told : Tells old.errors new.errors (flat_map told_of files ++ line)
 
 -- the output was flushed where a flush failed, and else not
 abbrev pub FlushesAtMost : ℕ → ℕ → Failure → Type 0
 FlushesAtMost old new failure = (new ≡ old) ⊎ ((failure ≡ Write) × (new ≡ counted old))
 
--- of the output: how often it was flushed, how many of its calls failed, and whether the last one did
-pub record Calls : Type 0 where
-  pub flushes : ℕ
-  pub failed : ℕ
-  pub ended : Bool
-
-abbrev pub calls : ℕ → ℕ → Bool → Calls
-calls flushes failed ended = record { flushes = flushes; failed = failed; ended = ended }
-
 -- all is said of the files of these names, the output was flushed once, none of its calls failed, and the status tells how
 -- the files were judged; or the run was over before, with a front of this on the output, not flushed but by a call that
 -- failed, and the last line tells why
-abbrev pub IsToldOfAll : ℕ → (List ℕ → Option (List ℕ)) → List (List ℕ) → Moment → Moment → Calls → Calls → ℕ → Type 0
-IsToldOfAll limit holds names old new before after status =
+abbrev pub IsToldOfAll : ℕ → (List ℕ → Option (List ℕ)) → List (List ℕ) → Moment → Moment → ℕ → Type 0
+IsToldOfAll limit holds names old new status =
     ((tally : Tally) × IsSaidOf limit holds names old new (summary (length names) tally) tally
-    × (after.flushes ≡ counted before.flushes) × (after.failed ≡ before.failed) × (status ≡ status_after tally))
-    ⊎ ((failure : Failure) × FailsWriting before.failed after.failed after.ended failure × (status ≡ status_of failure)
-    × IsCutShort limit holds names old new (line_of failure) failure × FlushesAtMost before.flushes after.flushes failure)
+    × (new.output.flushes ≡ counted old.output.flushes) × NoneFailed old.output.faults new.output.faults × (status ≡ status_after tally))
+    ⊎ ((failure : Failure) × FailsWriting old.output.faults new.output.faults failure × (status ≡ status_of failure)
+    × IsCutShort limit holds names old new (line_of failure) failure × FlushesAtMost old.output.flushes new.output.flushes failure)

@@ -1,6 +1,7 @@
 -- Why a run ends before its output is complete: its status, its line and its cause.
-use Rattle.std.specs.Prelude.{◌≡◌, ℕ, Bool, true, List, ◌++◌, codes}
-use Rattle.mvt_io.specs.Counts.{HasFailed}
+use Rattle.std.specs.Prelude.{◌≡◌, ℕ, List, ◌++◌, codes}
+use Rattle.std.specs.declared.io.ErrorKind.{ErrorKind}
+use Rattle.mvt_io.specs.States.{FailedLast, Faults, NoneFailed}
 use Rattle.mvt_io.specs.declared.read_error.ReadError.{ReadError}
 use Rattle.mvt_io.specs.declared.read_error.ReadError.TheVariants as reading
 use Rattle.mvt_tile.specs.declared.fault.DecodeError.{DecodeError}
@@ -24,21 +25,21 @@ abbrev pub failure_of : ReadError → Failure
 failure_of (reading.Read kind) = Read
 failure_of reading.Memory = Memory
 
--- one call of a device failed, and it was the last
-abbrev pub EndsFailed : ℕ → ℕ → Bool → Type 0
-EndsFailed old new ended = HasFailed old new × (ended ≡ true)
+-- one call of a reader or a writer failed, and it was the last
+abbrev pub EndsFailed : Faults → Faults → Type 0
+EndsFailed old new = (kind : ErrorKind) × FailedLast old new kind
 
 -- the reader where no reply could be made: a read failed, and was the last; or memory was wanting, and none failed
-abbrev pub FailsReading : ℕ → ℕ → Bool → Failure → Type 0
-FailsReading old new ended Read = EndsFailed old new ended
-FailsReading old new ended Write = ⊥
-FailsReading old new ended Memory = new ≡ old
+abbrev pub FailsReading : Faults → Faults → Failure → Type 0
+FailsReading old new Read = EndsFailed old new
+FailsReading old new Write = ⊥
+FailsReading old new Memory = NoneFailed old new
 
 -- the output where not all could be put out: a call failed, and was the last; or memory was wanting, and none failed
-abbrev pub FailsWriting : ℕ → ℕ → Bool → Failure → Type 0
-FailsWriting old new ended Read = ⊥
-FailsWriting old new ended Write = EndsFailed old new ended
-FailsWriting old new ended Memory = new ≡ old
+abbrev pub FailsWriting : Faults → Faults → Failure → Type 0
+FailsWriting old new Read = ⊥
+FailsWriting old new Write = EndsFailed old new
+FailsWriting old new Memory = NoneFailed old new
 
 -- the line, with its line feed, of a tile that is refused
 abbrev pub IsRefusal : DecodeError → List ℕ → Type 0

@@ -2,6 +2,9 @@
 use Rattle.std.specs.Prelude.{◌≡◌, ℕ, ◌+◌, ◌⊎◌, Bool, List, ◌++◌, length, nat_lt, find, not, Option, Some, None, bytes_eq, if◌then◌else◌, codes, MatchOption, IfSome, IsSome, ⊤}
 use Rattle.std.specs.Option.{option_map}
 use Rattle.std.specs.List.{list_any}
+use Rattle.std.specs.Io.KnownBytes.{Appends}
+use Rattle.mvt_io.specs.Counts.{counted}
+use Rattle.mvt_io.specs.States.{Inflow, Outflow}
 use Rattle.mvt_io.specs.Transfers.{TakesAtMost}
 use Rattle.serde_json.specs.Written.{compact_text}
 use Rattle.mvt_tile.specs.declared.fault.Fault.{Fault}
@@ -91,13 +94,13 @@ IsReply limit Rewrite input reply = IsTold limit (bytes_reply limit) input reply
 IsReply limit (Extract names) input reply = IsTold limit (layers_reply limit names) input reply
 
 -- how far a task reads: at most one byte beyond the limit; or no further behind a fault
-abbrev pub ReadsNoFurther : ℕ → Task → ℕ → Option (List ℕ) → Option (List ℕ) → Type 0
-ReadsNoFurther limit Fields given old new = TakesAtMost (limit + 1) old new
-ReadsNoFurther limit Show given old new = StopsEarly limit given old new
-ReadsNoFurther limit Draw given old new = StopsEarly limit given old new
-ReadsNoFurther limit Check given old new = TakesAtMost (limit + 1) old new
-ReadsNoFurther limit Rewrite given old new = StopsEarly limit given old new
-ReadsNoFurther limit (Extract names) given old new = StopsEarly limit given old new
+abbrev pub ReadsNoFurther : ℕ → Task → Inflow → Inflow → Type 0
+ReadsNoFurther limit Fields old new = TakesAtMost (limit + 1) old.left new.left
+ReadsNoFurther limit Show old new = StopsEarly limit new.given old.left new.left
+ReadsNoFurther limit Draw old new = StopsEarly limit new.given old.left new.left
+ReadsNoFurther limit Check old new = TakesAtMost (limit + 1) old.left new.left
+ReadsNoFurther limit Rewrite old new = StopsEarly limit new.given old.left new.left
+ReadsNoFurther limit (Extract names) old new = StopsEarly limit new.given old.left new.left
 
 -- a line is told exactly with status 1
 abbrev pub status_with : Option (List ℕ) → ℕ
@@ -107,6 +110,10 @@ status_with (Some line) = 1
 -- a reply without a line has a text
 abbrev pub HasOutput : Reply → Type 0
 HasOutput reply = MatchOption reply.told (IsSome reply.written) (λ line. ⊤)
+
+-- a writer took a text whole, and was flushed once
+abbrev pub PutOut : Outflow → Outflow → List ℕ → Type 0
+PutOut old new text = Appends old.taken new.taken text × (new.flushes ≡ counted old.flushes)
 
 -- the text of a reply was put out; of a reply without a text the output stayed as it was
 abbrev pub PutsOut : Type 0 → (List ℕ → Type 0) → Reply → Type 0

@@ -1,5 +1,7 @@
 //! What a task answers for its input.
-ghost use Rattle.std.specs.Prelude.{◌≡◌, ◌+◌, ◌≤◌, max, IfOk, IfErr, OnOk};
+ghost use Rattle.std.specs.Prelude.{◌≡◌, ◌+◌, IfOk, IfErr, OnOk};
+ghost use Rattle.mvt_io.specs.States.{NoneFailed};
+ghost use Rattle.mvt_io.specs.Transfers.{Reads};
 ghost use Rattle.mvt_tasks.specs.Failures.{FailsReading};
 ghost use Rattle.mvt_tasks.specs.Output.{HasOutput, IsReplyTo, ReadsNoFurther};
 
@@ -13,7 +15,6 @@ use crate::task::Task;
 use crate::viewing::{View, view_tile};
 use mvt_base::LIMIT;
 use mvt_io::Source;
-use mvt_tile::MOST_READS;
 use std::alloc::Global;
 
 /// The reply of a task for what the reader has left.
@@ -22,15 +23,14 @@ use std::alloc::Global;
 ///
 /// A read that failed; want of memory.
 pub fn answer<R: Source>(alloc: Global, task: Task, reader: &mut R) -> Result<Reply, Failure>
-    ensures reply { IfOk result (IsReplyTo LIMIT task (R.left reader.old)) }
+    ensures reply { IfOk result (IsReplyTo LIMIT task (R.state reader.old).left) }
     ensures output { IfOk result HasOutput }
-    ensures failed { IfErr result (FailsReading (R.failed reader.old) (R.failed reader.new)
-        (R.ended reader.new)) }
-    ensures sound { OnOk result (R.failed reader.new ≡ R.failed reader.old) }
-    ensures reads { R.reads reader.new ≤ R.reads reader.old + MOST_READS }
-    ensures asked { R.asked reader.new ≤ max (R.asked reader.old) 65536 }
-    ensures leaves { ReadsNoFurther LIMIT task (R.given reader.new) (R.left reader.old)
-        (R.left reader.new) }
+    ensures failed { IfErr result
+        (FailsReading (R.state reader.old).faults (R.state reader.new).faults) }
+    ensures sound { OnOk result
+        (NoneFailed (R.state reader.old).faults (R.state reader.new).faults) }
+    ensures reads { Reads (LIMIT + 2) (R.state reader.old) (R.state reader.new) }
+    ensures leaves { ReadsNoFurther LIMIT task (R.state reader.old) (R.state reader.new) }
 {
     match task {
         Task::Fields => list_fields(alloc, reader),

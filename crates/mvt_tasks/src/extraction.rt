@@ -1,5 +1,7 @@
 //! The command `extract`.
-ghost use Rattle.std.specs.Prelude.{◌≡◌, ◌+◌, ◌<◌, ◌≤◌, max, length, map, option_map, slice_get, string_bytes, Some, IfOk, IfErr, IfSome, OnOk};
+ghost use Rattle.std.specs.Prelude.{◌≡◌, ◌+◌, ◌<◌, length, map, option_map, slice_get, string_bytes, Some, IfOk, IfErr, IfSome, OnOk};
+ghost use Rattle.mvt_io.specs.States.{NoneFailed};
+ghost use Rattle.mvt_io.specs.Transfers.{Reads};
 ghost use Rattle.mvt_model.specs.declared.tile.Tile.{Tile};
 ghost use Rattle.mvt_tile.specs.Extraction.{AreExtracted};
 ghost use Rattle.mvt_tile.specs.Reading.{StopsEarly};
@@ -12,7 +14,7 @@ use crate::refusal::{refusal, too_large};
 use crate::reply::Reply;
 use mvt_base::{Items, LIMIT, Text};
 use mvt_io::Source;
-use mvt_tile::{MOST_READS, NamedLayers, extract_tile};
+use mvt_tile::{NamedLayers, extract_tile};
 use std::alloc::{AllocError, Global};
 
 /// Reads a tile, and makes the canonical bytes of its named layers. It reads no further after a
@@ -23,15 +25,16 @@ pub fn extract_layers<R: Source>(
     reader: &mut R,
 ) -> Result<Reply, Failure>
     ensures reply { IfOk result
-        (λ reply. IfSome (R.left reader.old)
+        (λ reply. IfSome (R.state reader.old).left
         (λ input. IsTold LIMIT (layers_reply LIMIT names.now) input reply)) }
     ensures output { IfOk result HasOutput }
-    ensures failed { IfErr result (FailsReading (R.failed reader.old) (R.failed reader.new)
-        (R.ended reader.new)) }
-    ensures sound { OnOk result (R.failed reader.new ≡ R.failed reader.old) }
-    ensures reads { R.reads reader.new ≤ R.reads reader.old + MOST_READS }
-    ensures asked { R.asked reader.new ≤ max (R.asked reader.old) 65536 }
-    ensures stops { StopsEarly LIMIT (R.given reader.new) (R.left reader.old) (R.left reader.new) }
+    ensures failed { IfErr result
+        (FailsReading (R.state reader.old).faults (R.state reader.new).faults) }
+    ensures sound { OnOk result
+        (NoneFailed (R.state reader.old).faults (R.state reader.new).faults) }
+    ensures reads { Reads (LIMIT + 2) (R.state reader.old) (R.state reader.new) }
+    ensures stops { StopsEarly LIMIT (R.state reader.new).given (R.state reader.old).left
+        (R.state reader.new).left }
 {
     let wanted = names.as_slice();
     match extract_tile(alloc, wanted, reader) {

@@ -3,7 +3,8 @@ ghost use Rattle.std.specs.Prelude.{◌≡◌, ◌≢◌, ◌<◌, ◌⊎◌, []
 ghost use Rattle.std.specs.List.{flat_map};
 ghost use Rattle.std.specs.Io.KnownBytes.{Appends};
 ghost use Rattle.mvt_io.specs.Counts.{counted};
-ghost use Rattle.mvt_tasks.specs.Checks.{Checked, FlushesAtMost, IsCutShort, IsSaid, IsSaidOf, IsSaidOfOne, IsToldOfAll, TakesUntil, Tells, calls, line_told, marked_text, moment, status_after, summary, text_of, told_of, verdict_of, visit_of, written_of};
+ghost use Rattle.mvt_io.specs.States.{NoneFailed};
+ghost use Rattle.mvt_tasks.specs.Checks.{Checked, FlushesAtMost, IsCutShort, IsSaid, IsSaidOf, IsSaidOfOne, IsToldOfAll, TakesUntil, Tells, line_told, marked_text, moment, status_after, summary, text_of, told_of, verdict_of, visit_of, written_of};
 ghost use Rattle.mvt_tasks.specs.Failures.{FailsWriting};
 ghost use Rattle.mvt_tasks.specs.Visits.{Adds, visit};
 
@@ -29,13 +30,10 @@ pub fn check_files<F: Folder, W: Sink, E: Sink>(
     errors: &mut E,
 ) -> u8
     ensures told { IsToldOfAll LIMIT (F.holds folder.old) (map string_bytes names.now)
-        (moment (F.visits folder.old) (W.taken writer.old) (E.failed errors.old)
-        (E.taken errors.old))
-        (moment (F.visits folder.new) (W.taken writer.new) (E.failed errors.new)
-        (E.taken errors.new))
-        (calls (W.flushes writer.old) (W.failed writer.old) (W.ended writer.old))
-        (calls (W.flushes writer.new) (W.failed writer.new) (W.ended writer.new)) result }
-    ensures sound { result < 2 → W.failed writer.new ≡ W.failed writer.old }
+        (moment (F.visits folder.old) (W.state writer.old) (E.state errors.old))
+        (moment (F.visits folder.new) (W.state writer.new) (E.state errors.new)) result }
+    ensures sound { result < 2
+        → NoneFailed (W.state writer.old).faults (W.state writer.new).faults }
 {
     match check_all(alloc, names, folder, writer, errors) {
         Ok(tally) => tally.status(),
@@ -52,21 +50,20 @@ fn check_all<F: Folder, W: Sink, E: Sink>(
 ) -> Result<Tally, Failure>
     ensures said { IfOk result (λ tally. IsSaidOf LIMIT (F.holds folder.old)
         (map string_bytes names.now)
-        (moment (F.visits folder.old) (W.taken writer.old) (E.failed errors.old)
-        (E.taken errors.old))
-        (moment (F.visits folder.new) (W.taken writer.new) (E.failed errors.new)
-        (E.taken errors.new))
+        (moment (F.visits folder.old) (W.state writer.old) (E.state errors.old))
+        (moment (F.visits folder.new) (W.state writer.new) (E.state errors.new))
         (summary (length (map string_bytes names.now)) tally) tally) }
-    ensures flushed { OnOk result (W.flushes writer.new ≡ counted (W.flushes writer.old)) }
-    ensures unflushed { IfErr result (FlushesAtMost (W.flushes writer.old) (W.flushes writer.new)) }
-    ensures sound { OnOk result (W.failed writer.new ≡ W.failed writer.old) }
-    ensures failed { IfErr result (FailsWriting (W.failed writer.old) (W.failed writer.new)
-        (W.ended writer.new)) }
+    ensures flushed { OnOk result
+        ((W.state writer.new).flushes ≡ counted (W.state writer.old).flushes) }
+    ensures unflushed { IfErr result
+        (FlushesAtMost (W.state writer.old).flushes (W.state writer.new).flushes) }
+    ensures sound { OnOk result
+        (NoneFailed (W.state writer.old).faults (W.state writer.new).faults) }
+    ensures failed { IfErr result
+        (FailsWriting (W.state writer.old).faults (W.state writer.new).faults) }
     ensures cut { IfErr result (IsCutShort LIMIT (F.holds folder.old) (map string_bytes names.now)
-        (moment (F.visits folder.old) (W.taken writer.old) (E.failed errors.old)
-        (E.taken errors.old))
-        (moment (F.visits folder.new) (W.taken writer.new) (E.failed errors.new)
-        (E.taken errors.new)) []) }
+        (moment (F.visits folder.old) (W.state writer.old) (E.state errors.old))
+        (moment (F.visits folder.new) (W.state writer.new) (E.state errors.new)) []) }
 {
     let tally = check_each(alloc, names, folder, writer, errors)?;
     let line = tally.line(alloc, names.len())?;
@@ -83,19 +80,16 @@ fn check_each<F: Folder, W: Sink, E: Sink>(
     errors: &mut E,
 ) -> Result<Tally, Failure>
     ensures said { IfOk result (IsSaidOf LIMIT (F.holds folder.old) (map string_bytes names.now)
-        (moment (F.visits folder.old) (W.taken writer.old) (E.failed errors.old)
-        (E.taken errors.old))
-        (moment (F.visits folder.new) (W.taken writer.new) (E.failed errors.new)
-        (E.taken errors.new)) []) }
-    ensures unflushed { W.flushes writer.new ≡ W.flushes writer.old }
-    ensures sound { OnOk result (W.failed writer.new ≡ W.failed writer.old) }
-    ensures failed { IfErr result (FailsWriting (W.failed writer.old) (W.failed writer.new)
-        (W.ended writer.new)) }
+        (moment (F.visits folder.old) (W.state writer.old) (E.state errors.old))
+        (moment (F.visits folder.new) (W.state writer.new) (E.state errors.new)) []) }
+    ensures unflushed { (W.state writer.new).flushes ≡ (W.state writer.old).flushes }
+    ensures sound { OnOk result
+        (NoneFailed (W.state writer.old).faults (W.state writer.new).faults) }
+    ensures failed { IfErr result
+        (FailsWriting (W.state writer.old).faults (W.state writer.new).faults) }
     ensures cut { IfErr result (IsCutShort LIMIT (F.holds folder.old) (map string_bytes names.now)
-        (moment (F.visits folder.old) (W.taken writer.old) (E.failed errors.old)
-        (E.taken errors.old))
-        (moment (F.visits folder.new) (W.taken writer.new) (E.failed errors.new)
-        (E.taken errors.new)) []) }
+        (moment (F.visits folder.old) (W.state writer.old) (E.state errors.old))
+        (moment (F.visits folder.new) (W.state writer.new) (E.state errors.new)) []) }
 {
     let mut tally = Tally::none();
     for name in names {
@@ -114,19 +108,16 @@ fn check_one<F: Folder, W: Sink, E: Sink>(
     errors: &mut E,
 ) -> Result<Verdict, Failure>
     ensures said { IfOk result (λ verdict. IsSaidOfOne LIMIT (F.holds folder.old) name.now
-        (moment (F.visits folder.old) (W.taken writer.old) (E.failed errors.old)
-        (E.taken errors.old))
-        (moment (F.visits folder.new) (W.taken writer.new) (E.failed errors.new)
-        (E.taken errors.new)) verdict) }
-    ensures unflushed { W.flushes writer.new ≡ W.flushes writer.old }
-    ensures sound { OnOk result (W.failed writer.new ≡ W.failed writer.old) }
-    ensures failed { IfErr result (FailsWriting (W.failed writer.old) (W.failed writer.new)
-        (W.ended writer.new)) }
+        (moment (F.visits folder.old) (W.state writer.old) (E.state errors.old))
+        (moment (F.visits folder.new) (W.state writer.new) (E.state errors.new)) verdict) }
+    ensures unflushed { (W.state writer.new).flushes ≡ (W.state writer.old).flushes }
+    ensures sound { OnOk result
+        (NoneFailed (W.state writer.old).faults (W.state writer.new).faults) }
+    ensures failed { IfErr result
+        (FailsWriting (W.state writer.old).faults (W.state writer.new).faults) }
     ensures cut { IfErr result (IsCutShort LIMIT (F.holds folder.old) (name.now ∷ [])
-        (moment (F.visits folder.old) (W.taken writer.old) (E.failed errors.old)
-        (E.taken errors.old))
-        (moment (F.visits folder.new) (W.taken writer.new) (E.failed errors.new)
-        (E.taken errors.new)) []) }
+        (moment (F.visits folder.old) (W.state writer.old) (E.state errors.old))
+        (moment (F.visits folder.new) (W.state writer.new) (E.state errors.new)) []) }
     ensures same { F.holds folder.new ≡ F.holds folder.old }
 {
     let reply = check_file(alloc, name, folder)?;
@@ -202,20 +193,22 @@ fn told(alloc: Global, name: &str, reply: &Option<Reply>) -> Result<Vec<u8>, Fai
 
 /// Puts a text on the error stream, whose faults are ignored.
 fn note<E: Sink>(errors: &mut E, text: &[u8])
-    ensures { Tells (E.failed errors.old) (E.failed errors.new) (E.taken errors.old)
-        (E.taken errors.new) text.now }
+    ensures { Tells (E.state errors.old) (E.state errors.new) text.now }
 {
     let _ = write_all(errors, text);
 }
 
 /// Puts a text on the output. It doesn't flush.
 fn put<W: Sink>(writer: &mut W, text: &[u8]) -> Result<(), Failure>
-    ensures taken { OnOk result (Appends (W.taken writer.old) (W.taken writer.new) text.now) }
-    ensures prefix { IfErr result (TakesUntil (W.taken writer.old) (W.taken writer.new) text.now) }
-    ensures sound { OnOk result (W.failed writer.new ≡ W.failed writer.old) }
-    ensures unflushed { W.flushes writer.new ≡ W.flushes writer.old }
-    ensures failed { IfErr result (FailsWriting (W.failed writer.old) (W.failed writer.new)
-        (W.ended writer.new)) }
+    ensures taken { OnOk result
+        (Appends (W.state writer.old).taken (W.state writer.new).taken text.now) }
+    ensures prefix { IfErr result
+        (TakesUntil (W.state writer.old).taken (W.state writer.new).taken text.now) }
+    ensures sound { OnOk result
+        (NoneFailed (W.state writer.old).faults (W.state writer.new).faults) }
+    ensures unflushed { (W.state writer.new).flushes ≡ (W.state writer.old).flushes }
+    ensures failed { IfErr result
+        (FailsWriting (W.state writer.old).faults (W.state writer.new).faults) }
 {
     write_all(writer, text).map_err(|_| Failure::Write)
 }

@@ -30,8 +30,8 @@ pub trait Folder {
     /// closed.
     fn open(&mut self, name: &str) -> Result<Self::Reader, ErrorKind>
         ensures bytes { IfOk result (λ reader. IfSome (holds self.old name.now)
-            (λ bytes. Self.Reader.left reader ≡ Some bytes)) }
-        ensures fresh { IfOk result (λ reader. Self.Reader.failed reader ≡ 0) }
+            (λ bytes. (Self.Reader.state reader).left ≡ Some bytes)) }
+        ensures fresh { IfOk result (λ reader. (Self.Reader.state reader).faults.count ≡ 0) }
         ensures opened { OnOk result (visits self.new ≡ visits self.old) }
         ensures unopened { OnErr result
             (Adds (visits self.old) (visits self.new) (visit name.now false)) }
@@ -40,7 +40,7 @@ pub trait Folder {
     /// Closes a file of this name. It was read if none of its reads failed.
     fn close(&mut self, name: &str, reader: Self::Reader)
         ensures closed { Adds (visits self.old) (visits self.new)
-            (visit name.now (Self.Reader.failed reader == 0)) }
+            (visit name.now ((Self.Reader.state reader).faults.count == 0)) }
         ensures same { holds self.new ≡ holds self.old };
 }
 

@@ -1,5 +1,6 @@
 //! Laws about the definitions alone: functions without effect, whose contract is the law.
 ghost use Rattle.std.specs.Prelude.{◌≡◌, ℕ, List, Option};
+ghost use Rattle.mvt_io.specs.States.{Outflow};
 ghost use Rattle.mvt_tasks.specs.Checks.{IsCutShort, Moment, Tells};
 ghost use Rattle.mvt_tasks.specs.declared.failure.Failure.TheVariants.{Memory as MemoryFailure};
 ghost use Rattle.mvt_tasks.specs.declared.reply.Reply.{Reply as AReply};
@@ -20,8 +21,6 @@ pub fn one_reply()
 /// one line told.
 pub fn cut_at_first()
     ensures { (limit : ℕ) (holds : List ℕ → Option (List ℕ)) (names : List (List ℕ)) (old : Moment)
-        (failed : ℕ) (errors : Option (List ℕ))
-        (line : List ℕ) → Tells old.failed failed old.errors errors line
-        → IsCutShort limit holds names old
-        (record old { failed = failed; errors = errors }) line MemoryFailure }
+        (errors : Outflow) (line : List ℕ) → Tells old.errors errors line
+        → IsCutShort limit holds names old (record old { errors = errors }) line MemoryFailure }
 {}

@@ -29,7 +29,6 @@ pub use files::check_files;
 pub use folder::{Disk, Folder, Visit};
 pub use listing::list_fields;
 pub use memory::{MemoryFile, MemoryFolder};
-pub use mvt_tile::MOST_READS;
 pub use names::Names;
 pub use reply::{Reply, tell};
 pub use rewriting::rewrite;

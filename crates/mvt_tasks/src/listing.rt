@@ -1,6 +1,7 @@
 //! The command `fields`.
-ghost use Rattle.std.specs.Prelude.{◌≡◌, ◌+◌, ◌≤◌, max, IfOk, IfErr, IfSome, OnOk};
-ghost use Rattle.mvt_io.specs.Transfers.{TakesAtMost};
+ghost use Rattle.std.specs.Prelude.{◌≡◌, ◌+◌, IfOk, IfErr, IfSome, OnOk};
+ghost use Rattle.mvt_io.specs.States.{NoneFailed};
+ghost use Rattle.mvt_io.specs.Transfers.{Reads, TakesAtMost};
 ghost use Rattle.mvt_tasks.specs.Failures.{FailsReading};
 ghost use Rattle.mvt_tasks.specs.Output.{IsReply, fields_reply, HasOutput};
 
@@ -10,21 +11,20 @@ use crate::reply::Reply;
 use crate::task::Task;
 use mvt_base::{Items, LIMIT};
 use mvt_io::{Source, read_up_to};
-use mvt_tile::MOST_READS;
 use mvt_view::{FieldsText, fields_text};
 use std::alloc::Global;
 
 /// Lists the top-level fields of an input.
 pub fn list_fields<R: Source>(alloc: Global, reader: &mut R) -> Result<Reply, Failure>
-    ensures reply { IfOk result (λ reply. IfSome (R.left reader.old)
+    ensures reply { IfOk result (λ reply. IfSome (R.state reader.old).left
         (λ input. IsReply LIMIT Task.Fields input reply)) }
     ensures output { IfOk result HasOutput }
-    ensures failed { IfErr result (FailsReading (R.failed reader.old) (R.failed reader.new)
-        (R.ended reader.new)) }
-    ensures sound { OnOk result (R.failed reader.new ≡ R.failed reader.old) }
-    ensures reads { R.reads reader.new ≤ R.reads reader.old + MOST_READS }
-    ensures asked { R.asked reader.new ≤ max (R.asked reader.old) 65536 }
-    ensures leaves { TakesAtMost (LIMIT + 1) (R.left reader.old) (R.left reader.new) }
+    ensures failed { IfErr result
+        (FailsReading (R.state reader.old).faults (R.state reader.new).faults) }
+    ensures sound { OnOk result
+        (NoneFailed (R.state reader.old).faults (R.state reader.new).faults) }
+    ensures reads { Reads (LIMIT + 1) (R.state reader.old) (R.state reader.new) }
+    ensures leaves { TakesAtMost (LIMIT + 1) (R.state reader.old).left (R.state reader.new).left }
 {
     let input = read_up_to(alloc, reader, LIMIT as usize + 1)?;
     listed(alloc, &input)

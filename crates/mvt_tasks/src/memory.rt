@@ -82,7 +82,7 @@ fn no_memory(_: AllocError) -> ErrorKind {
 /// A reader of the first file of a name.
 fn opened(alloc: Global, files: &[MemoryFile], name: &str) -> Result<MemorySource, ErrorKind>
     ensures bytes { IfOk result (λ reader. held_in files.now name.now ≡ Some reader.left) }
-    ensures fresh { IfOk result (λ reader. reader.failed ≡ 0) }
+    ensures fresh { IfOk result (λ reader. reader.faults.count ≡ 0) }
 {
     for file in files {
         if file.name.as_str() == name {
@@ -94,7 +94,7 @@ fn opened(alloc: Global, files: &[MemoryFile], name: &str) -> Result<MemorySourc
 
 fn reader_of(alloc: Global, file: &MemoryFile) -> Result<MemorySource, ErrorKind>
     ensures bytes { IfOk result (λ reader. bytes_of (Some file.now) ≡ Some reader.left) }
-    ensures fresh { IfOk result (λ reader. reader.failed ≡ 0) }
+    ensures fresh { IfOk result (λ reader. reader.faults.count ≡ 0) }
 {
     let Some(bytes) = &file.bytes else {
         return Err(ErrorKind::PermissionDenied);

@@ -1,11 +1,10 @@
 //! What a command answers, and how it is put out.
 ghost use Rattle.std.specs.Prelude.{◌≡◌, ◌<◌, ◌⊎◌, OnOk, OnErr, IfOk, IfErr};
-ghost use Rattle.std.specs.Io.KnownBytes.{Appends};
-ghost use Rattle.mvt_io.specs.Counts.{counted};
+ghost use Rattle.mvt_io.specs.States.{NoneFailed};
 ghost use Rattle.mvt_io.specs.Transfers.{TakesPrefix};
 ghost use Rattle.mvt_tasks.specs.Checks.{Tells};
 ghost use Rattle.mvt_tasks.specs.Failures.{EndsFailed, line_of, status_of};
-ghost use Rattle.mvt_tasks.specs.Output.{Gives, PutsOut};
+ghost use Rattle.mvt_tasks.specs.Output.{Gives, PutOut, PutsOut};
 
 use crate::failure::Failure;
 use mvt_base::{Items, Text};
@@ -27,13 +26,13 @@ pub struct Reply {
 fn deliver<W: Sink>(reply: Reply, writer: &mut W) -> Result<Option<Text>, Failure>
     ensures told { IfOk result (λ told. told ≡ reply.told) }
     ensures put { OnOk result (PutsOut (writer.new ≡ writer.old)
-        (λ text. Appends (W.taken writer.old) (W.taken writer.new) text
-        × (W.flushes writer.new ≡ counted (W.flushes writer.old))) reply) }
+        (PutOut (W.state writer.old) (W.state writer.new)) reply) }
     ensures prefix { OnErr result (PutsOut ⊥
-        (TakesPrefix (W.taken writer.old) (W.taken writer.new)) reply) }
+        (TakesPrefix (W.state writer.old).taken (W.state writer.new).taken) reply) }
     ensures failed { IfErr result (λ failure. (failure ≡ Failure.Write)
-        × EndsFailed (W.failed writer.old) (W.failed writer.new) (W.ended writer.new)) }
-    ensures honest { OnOk result (W.failed writer.new ≡ W.failed writer.old) }
+        × EndsFailed (W.state writer.old).faults (W.state writer.new).faults) }
+    ensures honest { OnOk result
+        (NoneFailed (W.state writer.old).faults (W.state writer.new).faults) }
 {
     let Reply { written, told } = reply;
     if let Some(bytes) = written {
@@ -44,13 +43,13 @@ fn deliver<W: Sink>(reply: Reply, writer: &mut W) -> Result<Option<Text>, Failur
 
 /// Puts bytes out whole and flushes once.
 fn put_out<W: Sink>(bytes: &[u8], writer: &mut W) -> Result<(), Failure>
-    ensures taken { OnOk result (Appends (W.taken writer.old) (W.taken writer.new) bytes.now) }
-    ensures flushed { OnOk result (W.flushes writer.new ≡ counted (W.flushes writer.old)) }
-    ensures prefix { OnErr result (TakesPrefix (W.taken writer.old)
-        (W.taken writer.new) bytes.now) }
+    ensures put { OnOk result (PutOut (W.state writer.old) (W.state writer.new) bytes.now) }
+    ensures prefix { OnErr result
+        (TakesPrefix (W.state writer.old).taken (W.state writer.new).taken bytes.now) }
     ensures failed { IfErr result (λ failure. (failure ≡ Failure.Write)
-        × EndsFailed (W.failed writer.old) (W.failed writer.new) (W.ended writer.new)) }
-    ensures honest { OnOk result (W.failed writer.new ≡ W.failed writer.old) }
+        × EndsFailed (W.state writer.old).faults (W.state writer.new).faults) }
+    ensures honest { OnOk result
+        (NoneFailed (W.state writer.old).faults (W.state writer.new).faults) }
 {
     write_all(writer, bytes).map_err(|_| Failure::Write)?;
     writer.flush().map_err(|_| Failure::Write)
@@ -59,18 +58,16 @@ fn put_out<W: Sink>(bytes: &[u8], writer: &mut W) -> Result<(), Failure>
 /// Puts a reply out, and answers its status; 3 where that failed.
 pub(crate) fn give<W: Sink, E: Sink>(reply: Reply, writer: &mut W, errors: &mut E) -> u8
     ensures done { result < 2 → Gives result (writer.new ≡ writer.old)
-        (λ text. Appends (W.taken writer.old) (W.taken writer.new) text
-        × (W.flushes writer.new ≡ counted (W.flushes writer.old)))
-        (errors.new ≡ errors.old) (Tells (E.failed errors.old) (E.failed errors.new)
-        (E.taken errors.old) (E.taken errors.new)) reply }
-    ensures honest { result < 2 → W.failed writer.new ≡ W.failed writer.old }
+        (PutOut (W.state writer.old) (W.state writer.new)) (errors.new ≡ errors.old)
+        (Tells (E.state errors.old) (E.state errors.new)) reply }
+    ensures honest { result < 2
+        → NoneFailed (W.state writer.old).faults (W.state writer.new).faults }
     ensures prefix { 2 < result → PutsOut ⊥
-        (TakesPrefix (W.taken writer.old) (W.taken writer.new)) reply }
-    ensures failed { 2 < result → EndsFailed (W.failed writer.old) (W.failed writer.new)
-        (W.ended writer.new) }
-    ensures line { 2 < result → Tells (E.failed errors.old) (E.failed errors.new)
-        (E.taken errors.old) (E.taken errors.new)
-        (line_of Failure.Write) }
+        (TakesPrefix (W.state writer.old).taken (W.state writer.new).taken) reply }
+    ensures failed { 2 < result
+        → EndsFailed (W.state writer.old).faults (W.state writer.new).faults }
+    ensures line { 2 < result
+        → Tells (E.state errors.old) (E.state errors.new) (line_of Failure.Write) }
     ensures statuses { (result < 2) ⊎ (result ≡ 3) }
 {
     match deliver(reply, writer) {
@@ -87,8 +84,7 @@ pub(crate) fn give<W: Sink, E: Sink>(reply: Reply, writer: &mut W, errors: &mut 
 pub(crate) fn fail<E: Sink>(failure: Failure, errors: &mut E) -> u8
     ensures status { result ≡ status_of failure }
     ensures above { 2 < result }
-    ensures line { Tells (E.failed errors.old) (E.failed errors.new) (E.taken errors.old)
-        (E.taken errors.new) (line_of failure) }
+    ensures line { Tells (E.state errors.old) (E.state errors.new) (line_of failure) }
 {
     tell(errors, failure.line());
     failure.status()
@@ -96,8 +92,7 @@ pub(crate) fn fail<E: Sink>(failure: Failure, errors: &mut E) -> u8
 
 /// Puts a line on the error stream, whose faults are ignored.
 pub fn tell<E: Sink>(errors: &mut E, line: &str)
-    ensures { Tells (E.failed errors.old) (E.failed errors.new) (E.taken errors.old)
-        (E.taken errors.new) line.now }
+    ensures { Tells (E.state errors.old) (E.state errors.new) line.now }
 {
     let _ = write_all(errors, line.as_bytes());
 }

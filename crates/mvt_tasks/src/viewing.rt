@@ -1,5 +1,7 @@
 //! The commands `show` and `draw`.
-ghost use Rattle.std.specs.Prelude.{◌≡◌, ◌+◌, ◌≤◌, max, IfOk, IfErr, IfSome, OnOk};
+ghost use Rattle.std.specs.Prelude.{◌≡◌, ◌+◌, IfOk, IfErr, IfSome, OnOk};
+ghost use Rattle.mvt_io.specs.States.{NoneFailed};
+ghost use Rattle.mvt_io.specs.Transfers.{Reads};
 ghost use Rattle.mvt_tile.specs.Reading.{StopsEarly};
 ghost use Rattle.mvt_tasks.specs.Failures.{FailsReading};
 ghost use Rattle.mvt_tasks.specs.Output.{IsTold, HasOutput, done, view_lines};
@@ -9,7 +11,7 @@ use crate::refusal::refusal;
 use crate::reply::Reply;
 use mvt_base::{Items, LIMIT};
 use mvt_io::Source;
-use mvt_tile::{MOST_READS, Tile, read_tile};
+use mvt_tile::{Tile, read_tile};
 use mvt_view::{json_text, svg_text};
 use std::alloc::Global;
 
@@ -23,15 +25,16 @@ pub enum View {
 /// Reads a tile, and makes its text. It reads no further after a fault.
 pub fn view_tile<R: Source>(alloc: Global, view: View, reader: &mut R) -> Result<Reply, Failure>
     ensures reply { IfOk result
-        (λ reply. IfSome (R.left reader.old)
+        (λ reply. IfSome (R.state reader.old).left
         (λ input. IsTold LIMIT (λ tile. done (view_lines view tile)) input reply)) }
     ensures output { IfOk result HasOutput }
-    ensures failed { IfErr result (FailsReading (R.failed reader.old) (R.failed reader.new)
-        (R.ended reader.new)) }
-    ensures sound { OnOk result (R.failed reader.new ≡ R.failed reader.old) }
-    ensures reads { R.reads reader.new ≤ R.reads reader.old + MOST_READS }
-    ensures asked { R.asked reader.new ≤ max (R.asked reader.old) 65536 }
-    ensures stops { StopsEarly LIMIT (R.given reader.new) (R.left reader.old) (R.left reader.new) }
+    ensures failed { IfErr result
+        (FailsReading (R.state reader.old).faults (R.state reader.new).faults) }
+    ensures sound { OnOk result
+        (NoneFailed (R.state reader.old).faults (R.state reader.new).faults) }
+    ensures reads { Reads (LIMIT + 2) (R.state reader.old) (R.state reader.new) }
+    ensures stops { StopsEarly LIMIT (R.state reader.new).given (R.state reader.old).left
+        (R.state reader.new).left }
 {
     match read_tile(alloc, reader) {
         Ok(tile) => viewed(alloc, view, &tile),

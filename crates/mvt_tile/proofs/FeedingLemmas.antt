@@ -1,14 +1,17 @@
 -- A reader whose bytes are taken piece by piece.
-use Rattle.std.proofs.Common.{◌≡◌, ℕ, ◌+◌, ◌-◌, ◌<◌, ◌≤◌, List, [], ◌++◌, length, take, drop, Option, Some, None, IfSome, sym, ap, subst, ◌∙◌, arith, append-nil, length-append, length-take, take-append-drop}
+use Rattle.std.proofs.Common.{◌≡◌, ℕ, ◌+◌, ◌-◌, ◌<◌, ◌≤◌, max, List, [], ◌++◌, length, take, drop, Option, Some, None, IfSome, IfErr, Result, Ok, Err, refl, sym, ap, subst, ◌∙◌, arith, append-nil, length-append, length-take, take-append-drop}
+use Rattle.std.proofs.lemmas.Grind.{common_steps}
 use Rattle.std.proofs.lemmas.List.{take-append-le}
 use Rattle.std.specs.Io.KnownBytes.{Consumes, IsAtEnd, Keeps}
 use Rattle.std.proofs.KnownBytes.{Consumes-nil, Consumes-trans, Consumes-kept, Consumes-whole}
+use Rattle.mvt_io.specs.States.{EndedBy, Faults, Inflow, NoneFailed}
+use Rattle.mvt_io.specs.Transfers.{Reads}
 use Rattle.mvt_message.specs.declared.item.Item.{Item}
 use Rattle.mvt_tile.specs.declared.fault.DecodeError.{DecodeError}
 use Rattle.mvt_tile.specs.declared.fault.DecodeError.TheVariants.{Memory, Fault, Read}
 use Rattle.mvt_tile.specs.declared.fault.Fault.{Fault as AFault}
 use Rattle.mvt_tile.specs.Inner.Feeding.{HasFed, HasStopped, TellsFed}
-use Rattle.mvt_tile.specs.Reading.{StopsEarly, fault_of}
+use Rattle.mvt_tile.specs.Reading.{ReadsTile, StopsEarly, fault_of, kind_of, kind_told}
 use Rattle.std.specs.declared.io.ErrorKind.{ErrorKind}
 use Rattle.mvt_base.specs.Tells.{Tells}
 use Rattle.mvt_model.specs.declared.tile.Tile.{Tile}
@@ -58,9 +61,9 @@ module _ (limit : ℕ) (Has : List Item → Type 0) (offset : ℕ) (raw : List �
       }
 
   pub fed_fails : (buffer piece : List ℕ) (n size : ℕ) (e : DecodeError) → Consumes b c (take n buffer)
-      → piece ≡ take n buffer → size ≡ n
+      → piece ≡ take n buffer → size ≡ n → size ≤ 65536
       → ((s : List ℕ) → IsLive limit offset has.items raw s → TellsEarly e (fault_within limit (s ++ piece))) → HasStopped limit size a c e
-  fed_fails buffer piece n size e consumed is of_size tells =
+  fed_fails buffer piece n size e consumed is of_size small tells =
       let short : length piece ≤ size =
       let count : length piece ≡ length (take n buffer) = ap length is in omega (arith, length-take n buffer) in
       record {
@@ -68,19 +71,54 @@ module _ (limit : ℕ) (Has : List Item → Type 0) (offset : ℕ) (raw : List �
         back = piece;
         consumed = Consumes-trans a b c has.given piece has.consumed (subst (Consumes b c) (sym is) consumed);
         few = short;
+        small = small;
         calm = has.live.calm;
         told = weaker_fed e (fault_within limit (has.given ++ piece)) (tells has.given has.live);
       }
 
-  pub fed_read : (size : ℕ) (k : ErrorKind) → Keeps b c → HasStopped limit size a c (Read k)
-  fed_read size k kept = record {
+  pub fed_read : (size : ℕ) (k : ErrorKind) → Keeps b c → size ≤ 65536 → HasStopped limit size a c (Read k)
+  fed_read size k kept small = record {
     front = has.given;
     back = [];
     consumed = subst (Consumes a c) (sym (append-nil has.given)) (Consumes-kept a b c has.given has.consumed kept);
     few = omega arith;
+    small = small;
     calm = has.live.calm;
     told = tt;
   }
+
+-- one read more, which may be the last
+
+pub fed_reads : (limit : ℕ) (Has : List Item → Type 0) (offset : ℕ) (raw : List ℕ) (old now new : Inflow) (turn most : ℕ) (more : List ℕ)
+    → HasFed limit Has offset raw old.left now.left turn → Consumes now.left new.left more → turn < most
+    → now.reads ≤ old.reads + turn → new.reads ≤ now.reads + 1 → new.asked ≤ max old.asked 65536 → Reads most old new
+fed_reads limit Has offset raw old now new turn most more has took below before once asked =
+    let turns = has.turns in
+    record {
+      count = omega arith;
+      asked = asked;
+      turns = (
+        has.given ++ more,
+        Consumes-trans old.left now.left new.left has.given more has.consumed took,
+        omega (arith, length-append has.given more),
+      );
+    }
+
+pub kept_is_none : (a b : Option (List ℕ)) → Keeps a b → Consumes a b []
+kept_is_none a b kept = Consumes-kept a a b [] (Consumes-nil a) kept
+
+-- an error that no read told
+pub early_faults : (e : DecodeError) (o : Option AFault) (a b : Faults) → TellsEarly e o → NoneFailed a b → EndedBy (kind_told e) a b
+early_faults Memory o a b tells none = none
+early_faults (Fault f) o a b tells none = none
+early_faults (Read k) o a b tells none = absurd tells
+
+pub end_faults : {A : Type 0} (r : Result A DecodeError) (o : Option AFault) (a b : Faults) → IfErr r (λ e. TellsAtEnd e o) → NoneFailed a b
+    → EndedBy (kind_of r) a b
+end_faults (Ok x) o a b tells none = none
+end_faults (Err Memory) o a b tells none = none
+end_faults (Err (Fault f)) o a b tells none = none
+end_faults (Err (Read k)) o a b tells none = absurd tells
 
 -- the reader is at its end
 
@@ -132,8 +170,16 @@ fed_early limit size Has offset raw a b reads has =
     early_from limit size a b has.given [] (subst (Consumes a b) (sym (append-nil has.given)) has.consumed) (omega arith) has.live.calm
 
 -- a reader that gave nothing
-pub unread_early : (limit size : ℕ) (a : Option (List ℕ)) → StopsEarly limit size a a
+unread_early : (limit size : ℕ) (a : Option (List ℕ)) → StopsEarly limit size a a
 unread_early limit size a = early_from limit size a a [] [] (Consumes-nil a) (omega arith) (live_start limit).calm
+
+pub unread : (limit : ℕ) (s : Inflow) → ReadsTile limit s s None
+unread limit s = record {
+  early = unread_early limit 65536 s.left;
+  stops = unread_early limit s.given s.left;
+  reads = record { count = omega arith; asked = grind (arith, common_steps); turns = ([], Consumes-nil s.left, omega arith) };
+  faults = refl;
+}
 
 tells_input : (limit : ℕ) (e : DecodeError) (taken left input : List ℕ) → input ≡ taken ++ left → TellsFed e (fault_within limit taken)
     → Tells (fault_of e) (fault_within limit input)

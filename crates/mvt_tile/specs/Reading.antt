@@ -1,6 +1,8 @@
 -- What reading a tile from a reader answers.
-use Rattle.std.specs.Prelude.{◌≡◌, ℕ, ◌-◌, List, ◌++◌, length, take, Option, Some, None, Result, Ok, Err, ⊤}
+use Rattle.std.specs.Prelude.{◌≡◌, ℕ, ◌+◌, ◌-◌, List, ◌++◌, length, take, Option, Some, None, Result, Ok, Err, ⊤}
 use Rattle.std.specs.declared.io.ErrorKind.{ErrorKind}
+use Rattle.mvt_io.specs.States.{EndedBy, Inflow}
+use Rattle.mvt_io.specs.Transfers.{Reads}
 use Rattle.mvt_tile.specs.declared.fault.Fault.{Fault as AFault}
 use Rattle.mvt_tile.specs.declared.fault.DecodeError.{DecodeError}
 use Rattle.mvt_tile.specs.declared.fault.DecodeError.TheVariants.{Memory, Fault, Read}
@@ -14,16 +16,15 @@ fault_of Memory = None
 fault_of (Fault f) = Some f
 fault_of (Read kind) = None
 
-abbrev pub IsReadError : DecodeError → Type 0
-IsReadError Memory = ⊥
-IsReadError (Fault f) = ⊥
-IsReadError (Read kind) = ⊤
+-- the kind of the read that failed, where one did
+abbrev pub kind_told : DecodeError → Option ErrorKind
+kind_told Memory = None
+kind_told (Fault f) = None
+kind_told (Read kind) = Some kind
 
--- the error has the kind that the failed read told
-abbrev pub IsKindOf : DecodeError → Option ErrorKind → Type 0
-IsKindOf Memory told = ⊤
-IsKindOf (Fault f) told = ⊤
-IsKindOf (Read kind) told = told ≡ Some kind
+abbrev pub kind_of : {A : Type 0} → Result A DecodeError → Option ErrorKind
+kind_of (Ok x) = None
+kind_of (Err error) = kind_told error
 
 -- the bytes taken from a reader, without the last so many, have no fault but that of a field that isn't finished
 abbrev pub StopsEarly : ℕ → ℕ → Option (List ℕ) → Option (List ℕ) → Type 0
@@ -31,6 +32,14 @@ StopsEarly limit piece None after = ⊤
 StopsEarly limit piece (Some input) None = ⊥
 StopsEarly limit piece (Some input) (Some left) =
     (taken : List ℕ) × (input ≡ taken ++ left) × IsCalm (fault_within limit (take (length taken - piece) taken))
+
+-- how a tile is read: no further behind a fault; in so many reads, each of which gives some bytes but the last; and where one
+-- fails it is the last, with the kind that is told
+pub record ReadsTile (limit : ℕ) (old new : Inflow) (kind : Option ErrorKind) : Type 0 where
+  pub early : StopsEarly limit 65536 old.left new.left
+  pub stops : StopsEarly limit new.given old.left new.left
+  pub reads : Reads (limit + 2) old new
+  pub faults : EndedBy kind old.faults new.faults
 
 -- the tile was read, or no fault was told of it: want of memory, or a read that failed
 abbrev pub ReadsBack : Result Tile DecodeError → Tile → Type 0

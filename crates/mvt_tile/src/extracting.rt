@@ -1,22 +1,21 @@
 //! The named layers of a tile's bytes: its items are read one after the other, and only the
 //! canonical bytes of those layers are kept.
-ghost use Rattle.std.specs.Prelude.{◌≡◌, ◌+◌, ◌≤◌, max, true, List, [], map, not, bytes_eq, string_bytes, IfOk, IfErr, IfSome, OnOk};
+ghost use Rattle.std.specs.Prelude.{◌≡◌, List, [], map, not, bytes_eq, string_bytes, IfOk, IfErr, IfSome, OnOk};
 ghost use Rattle.std.specs.Io.KnownBytes.{IsAtEnd};
 ghost use Rattle.std.specs.List.{list_any, position_from};
 ghost use Rattle.mvt_base.specs.Tells.{Tells};
-ghost use Rattle.mvt_io.specs.Counts.{HasFailed};
 ghost use Rattle.mvt_message.specs.declared.item.Item.{Item as AnItem};
 ghost use Rattle.mvt_model.specs.declared.tile.Tile.{Tile};
 ghost use Rattle.mvt_model.specs.Tiles.{IsTile};
 ghost use Rattle.mvt_tile.specs.Extraction.{AreExtracted, is_among};
 ghost use Rattle.mvt_tile.specs.Inner.Wanting.{HasRewritten};
-ghost use Rattle.mvt_tile.specs.Reading.{IsReadError, IsKindOf, StopsEarly, fault_of};
+ghost use Rattle.mvt_tile.specs.Reading.{ReadsTile, fault_of, kind_of};
 ghost use Rattle.mvt_tile.specs.Streams.{TellsAtEnd};
 ghost use Rattle.mvt_tile.specs.TileRules.{fault_within};
 
 use crate::fault::DecodeError;
 use crate::layers::{holds_name, set_of};
-use crate::reading::{MOST_READS, read_whole};
+use crate::reading::read_whole;
 use crate::rewriting::Rewriter;
 use crate::taking::take_whole;
 use mvt_base::{LIMIT, Text};
@@ -66,23 +65,13 @@ pub fn extract_tile<R: Source>(
     names: &[String],
     reader: &mut R,
 ) -> Result<NamedLayers, DecodeError>
-    ensures end { OnOk result (IsAtEnd (R.left reader.new)) }
-    ensures fault { IfErr result (λ error. IfSome (R.left reader.old)
+    ensures end { OnOk result (IsAtEnd (R.state reader.new).left) }
+    ensures fault { IfErr result (λ error. IfSome (R.state reader.old).left
         (λ input. Tells (fault_of error) (fault_within LIMIT input))) }
-    ensures early { StopsEarly LIMIT 65536 (R.left reader.old) (R.left reader.new) }
-    ensures stops { StopsEarly LIMIT (R.given reader.new) (R.left reader.old) (R.left reader.new) }
     ensures layers { IfOk result (λ layers. (tile : Tile)
         × AreExtracted LIMIT tile (map string_bytes names.now) layers
-        × IfSome (R.left reader.old) (λ input. IsTile LIMIT input tile)) }
-    ensures reads { R.reads reader.new ≤ R.reads reader.old + MOST_READS }
-    ensures asked { R.asked reader.new ≤ max (R.asked reader.old) 65536 }
-    ensures failed { IfErr result (λ error. IsReadError error
-        → HasFailed (R.failed reader.old) (R.failed reader.new)) }
-    ensures ended { IfErr result (λ error. IsReadError error → R.ended reader.new ≡ true) }
-    ensures kind { IfErr result (λ error. IsKindOf error (R.fault reader.new)) }
-    ensures honest { OnOk result (R.failed reader.new ≡ R.failed reader.old) }
-    ensures sound { IfErr result (λ error. (IsReadError error → ⊥)
-        → R.failed reader.new ≡ R.failed reader.old) }
+        × IfSome (R.state reader.old).left (λ input. IsTile LIMIT input tile)) }
+    ensures read { ReadsTile LIMIT (R.state reader.old) (R.state reader.new) (kind_of result) }
 {
     let rewriter = Rewriter::new(alloc, Some(set_of(alloc, names)?));
     let rewriter = read_whole(alloc, reader, rewriter)?;

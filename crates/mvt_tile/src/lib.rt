@@ -33,7 +33,7 @@ pub use mvt_message::{Item, Layer, PutError};
 pub use mvt_model::{
     Note, Survey, Tile, WriteError, encode, feature_count, notes, numbers, write_tile,
 };
-pub use reading::{MOST_READS, read_tile};
+pub use reading::read_tile;
 pub use rewriting::{rewrite, rewrite_tile};
 pub use round_trip::write_and_read;
 pub use surveying::survey_tile;

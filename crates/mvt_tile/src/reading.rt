@@ -1,10 +1,11 @@
 //! Reading a tile from a reader.
-ghost use Rattle.std.specs.Prelude.{◌≡◌, ℕ, ◌+◌, ◌<◌, ◌≤◌, max, true, List, [], length, IfOk, IfErr, IfSome, OnOk, OnErr};
+ghost use Rattle.std.specs.Prelude.{◌≡◌, ◌+◌, ◌<◌, ◌≤◌, [], length, IfOk, IfErr, IfSome, OnOk};
 ghost use Rattle.std.specs.Io.KnownBytes.{IsAtEnd};
 ghost use Rattle.mvt_base.specs.Tells.{Tells};
-ghost use Rattle.mvt_io.specs.Counts.{HasFailed};
+ghost use Rattle.mvt_io.specs.States.{EndedBy};
+ghost use Rattle.mvt_io.specs.Transfers.{Reads};
 ghost use Rattle.mvt_tile.specs.Inner.Feeding.{HasFed, HasStopped};
-ghost use Rattle.mvt_tile.specs.Reading.{IsReadError, IsKindOf, StopsEarly, fault_of};
+ghost use Rattle.mvt_tile.specs.Reading.{ReadsTile, fault_of, kind_of};
 ghost use Rattle.mvt_tile.specs.TileRules.{fault_within};
 ghost use Rattle.mvt_model.specs.declared.tile.Tile.{Tile};
 ghost use Rattle.mvt_model.specs.Tiles.{IsTile};
@@ -24,7 +25,7 @@ const PIECE: usize = 65_536;
 
 /// The most reads of one tile: each but the last gives a byte, and a byte beyond the limit ends the
 /// call.
-pub const MOST_READS: u64 = LIMIT + 2;
+const MOST_READS: u64 = LIMIT + 2;
 
 /// Reads a tile: all that the reader has left. It reads no further after a fault.
 ///
@@ -32,23 +33,13 @@ pub const MOST_READS: u64 = LIMIT + 2;
 ///
 /// The input's first fault; a read that failed; want of memory.
 pub fn read_tile<R: Source>(alloc: Global, reader: &mut R) -> Result<Tile, DecodeError>
-    ensures tile { IfOk result (λ tile. IfSome (R.left reader.old)
+    ensures tile { IfOk result (λ tile. IfSome (R.state reader.old).left
         (λ input. IsTile LIMIT input tile)) }
     ensures valid { IfOk result Valid }
-    ensures end { OnOk result (IsAtEnd (R.left reader.new)) }
-    ensures fault { IfErr result (λ error. IfSome (R.left reader.old)
+    ensures end { OnOk result (IsAtEnd (R.state reader.new).left) }
+    ensures fault { IfErr result (λ error. IfSome (R.state reader.old).left
         (λ input. Tells (fault_of error) (fault_within LIMIT input))) }
-    ensures early { StopsEarly LIMIT 65536 (R.left reader.old) (R.left reader.new) }
-    ensures stops { StopsEarly LIMIT (R.given reader.new) (R.left reader.old) (R.left reader.new) }
-    ensures reads { R.reads reader.new ≤ R.reads reader.old + 67108866 }
-    ensures asked { R.asked reader.new ≤ max (R.asked reader.old) 65536 }
-    ensures failed { IfErr result (λ error. IsReadError error
-        → HasFailed (R.failed reader.old) (R.failed reader.new)) }
-    ensures ended { IfErr result (λ error. IsReadError error → R.ended reader.new ≡ true) }
-    ensures kind { IfErr result (λ error. IsKindOf error (R.fault reader.new)) }
-    ensures honest { OnOk result (R.failed reader.new ≡ R.failed reader.old) }
-    ensures sound { IfErr result (λ error. (IsReadError error → ⊥)
-        → R.failed reader.new ≡ R.failed reader.old) }
+    ensures read { ReadsTile LIMIT (R.state reader.old) (R.state reader.new) (kind_of result) }
 {
     let layers = read_whole(alloc, reader, Layers::new(alloc))?;
     Ok(Tile {
@@ -63,24 +54,14 @@ pub(crate) fn read_whole<R: Source, T: Taker>(
     taker: T,
 ) -> Result<T, DecodeError>
     requires start { (given : T.Given) × T.has_taken given taker [] }
-    ensures end { OnOk result (IsAtEnd (R.left reader.new)) }
-    ensures fault { IfErr result (λ error. IfSome (R.left reader.old)
+    ensures end { OnOk result (IsAtEnd (R.state reader.new).left) }
+    ensures fault { IfErr result (λ error. IfSome (R.state reader.old).left
         (λ input. Tells (fault_of error) (fault_within LIMIT input))) }
-    ensures early { StopsEarly LIMIT 65536 (R.left reader.old) (R.left reader.new) }
-    ensures stops { StopsEarly LIMIT (R.given reader.new) (R.left reader.old) (R.left reader.new) }
     ensures tile { (given : T.Given) → T.has_taken given taker []
         → IfOk result (λ after. (tile : Tile)
         × T.has_taken given after tile.items
-        × IfSome (R.left reader.old) (λ bytes. IsTile LIMIT bytes tile)) }
-    ensures reads { R.reads reader.new ≤ R.reads reader.old + MOST_READS }
-    ensures asked { R.asked reader.new ≤ max (R.asked reader.old) 65536 }
-    ensures failed { IfErr result (λ error. IsReadError error
-        → HasFailed (R.failed reader.old) (R.failed reader.new)) }
-    ensures ended { IfErr result (λ error. IsReadError error → R.ended reader.new ≡ true) }
-    ensures kind { IfErr result (λ error. IsKindOf error (R.fault reader.new)) }
-    ensures honest { OnOk result (R.failed reader.new ≡ R.failed reader.old) }
-    ensures sound { IfErr result (λ error. (IsReadError error → ⊥)
-        → R.failed reader.new ≡ R.failed reader.old) }
+        × IfSome (R.state reader.old).left (λ bytes. IsTile LIMIT bytes tile)) }
+    ensures read { ReadsTile LIMIT (R.state reader.old) (R.state reader.new) (kind_of result) }
 {
     let mut pieces = Pieces::new(alloc, taker);
     let mut buffer = [0; PIECE];
@@ -102,20 +83,13 @@ fn feed_all<R: Source, T: Taker>(
     requires offset { pieces.old.offset ≡ 0 }
     ensures fed { (given : T.Given) → T.has_taken given pieces.old.taker [] → OnOk result
         (HasFed LIMIT (T.has_taken given pieces.new.taker) pieces.new.offset pieces.new.raw.items
-        (R.left reader.old) (R.left reader.new) 0) }
-    ensures end { OnOk result (IsAtEnd (R.left reader.new)) }
-    ensures stopped { IfErr result
-        (HasStopped LIMIT (R.given reader.new) (R.left reader.old) (R.left reader.new)) }
-    ensures given { R.given reader.new ≤ 65536 }
-    ensures reads { R.reads reader.new ≤ R.reads reader.old + MOST_READS }
-    ensures asked { R.asked reader.new ≤ max (R.asked reader.old) 65536 }
-    ensures failed { IfErr result (λ error. IsReadError error
-        → HasFailed (R.failed reader.old) (R.failed reader.new)) }
-    ensures ended { IfErr result (λ error. IsReadError error → R.ended reader.new ≡ true) }
-    ensures kind { IfErr result (λ error. IsKindOf error (R.fault reader.new)) }
-    ensures honest { OnOk result (R.failed reader.new ≡ R.failed reader.old) }
-    ensures sound { IfErr result (λ error. (IsReadError error → ⊥)
-        → R.failed reader.new ≡ R.failed reader.old) }
+        (R.state reader.old).left (R.state reader.new).left 0) }
+    ensures end { OnOk result (IsAtEnd (R.state reader.new).left) }
+    ensures stopped { IfErr result (HasStopped LIMIT (R.state reader.new).given
+        (R.state reader.old).left (R.state reader.new).left) }
+    ensures reads { Reads (LIMIT + 2) (R.state reader.old) (R.state reader.new) }
+    ensures faults { EndedBy (kind_of result) (R.state reader.old).faults
+        (R.state reader.new).faults }
 {
     for _turn in 0..MOST_READS {
         let count = match reader.read(buffer) {

@@ -1,9 +1,8 @@
 //! A tile made canonical: its items are read one after the other, and only the canonical bytes of
 //! those that are wanted are kept.
-ghost use Rattle.std.specs.Prelude.{◌≡◌, ◌+◌, ◌≤◌, max, true, List, [], ◌∷◌, ◌++◌, if◌then◌else◌, IfOk, IfErr, IfSome, OnOk};
+ghost use Rattle.std.specs.Prelude.{◌≡◌, List, [], ◌∷◌, ◌++◌, if◌then◌else◌, IfOk, IfErr, IfSome, OnOk};
 ghost use Rattle.std.specs.Io.KnownBytes.{IsAtEnd};
 ghost use Rattle.mvt_base.specs.Tells.{Tells};
-ghost use Rattle.mvt_io.specs.Counts.{HasFailed};
 ghost use Rattle.mvt_message.specs.declared.item.Item.{Item as AnItem};
 ghost use Rattle.mvt_message.specs.ValidItems.{ValidItem};
 ghost use Rattle.mvt_model.specs.declared.tile.Tile.{Tile};
@@ -11,13 +10,13 @@ ghost use Rattle.mvt_model.specs.Encoding.{AreEncoded, IsEncoded};
 ghost use Rattle.mvt_model.specs.Tiles.{IsTile};
 ghost use Rattle.mvt_model.specs.ValidTiles.{Valid};
 ghost use Rattle.mvt_tile.specs.Inner.Wanting.{HasRewritten, all_items, is_in, names_of};
-ghost use Rattle.mvt_tile.specs.Reading.{IsReadError, IsKindOf, StopsEarly, fault_of};
+ghost use Rattle.mvt_tile.specs.Reading.{ReadsTile, fault_of, kind_of};
 ghost use Rattle.mvt_tile.specs.Streams.{TellsAtEnd};
 ghost use Rattle.mvt_tile.specs.TileRules.{fault_within};
 
 use crate::fault::DecodeError;
 use crate::layers::{Names, holds_name};
-use crate::reading::{MOST_READS, read_whole};
+use crate::reading::read_whole;
 use crate::taking::{Taker, take_whole};
 use mvt_base::{LIMIT, Text};
 use mvt_io::Source;
@@ -53,22 +52,12 @@ pub fn rewrite_tile<R: Source>(
     alloc: Global,
     reader: &mut R,
 ) -> Result<Option<Vec<u8>>, DecodeError>
-    ensures end { OnOk result (IsAtEnd (R.left reader.new)) }
-    ensures fault { IfErr result (λ error. IfSome (R.left reader.old)
+    ensures end { OnOk result (IsAtEnd (R.state reader.new).left) }
+    ensures fault { IfErr result (λ error. IfSome (R.state reader.old).left
         (λ input. Tells (fault_of error) (fault_within LIMIT input))) }
-    ensures early { StopsEarly LIMIT 65536 (R.left reader.old) (R.left reader.new) }
-    ensures stops { StopsEarly LIMIT (R.given reader.new) (R.left reader.old) (R.left reader.new) }
     ensures tile { IfOk result (λ out. (tile : Tile) × IsEncoded LIMIT tile out
-        × IfSome (R.left reader.old) (λ input. IsTile LIMIT input tile × Valid tile)) }
-    ensures reads { R.reads reader.new ≤ R.reads reader.old + MOST_READS }
-    ensures asked { R.asked reader.new ≤ max (R.asked reader.old) 65536 }
-    ensures failed { IfErr result (λ error. IsReadError error
-        → HasFailed (R.failed reader.old) (R.failed reader.new)) }
-    ensures ended { IfErr result (λ error. IsReadError error → R.ended reader.new ≡ true) }
-    ensures kind { IfErr result (λ error. IsKindOf error (R.fault reader.new)) }
-    ensures honest { OnOk result (R.failed reader.new ≡ R.failed reader.old) }
-    ensures sound { IfErr result (λ error. (IsReadError error → ⊥)
-        → R.failed reader.new ≡ R.failed reader.old) }
+        × IfSome (R.state reader.old).left (λ input. IsTile LIMIT input tile × Valid tile)) }
+    ensures read { ReadsTile LIMIT (R.state reader.old) (R.state reader.new) (kind_of result) }
 {
     let rewriter = read_whole(alloc, reader, Rewriter::of_all(alloc))?;
     Ok(rewriter.out)

@@ -1,18 +1,17 @@
 //! A tile written and read again.
-ghost use Rattle.std.specs.Prelude.{◌≡◌, ◌+◌, ◌<◌, ◌≤◌, max, true, length, Some, IfOk, IfErr, IfSome, IsErrOf, OnOk, OnErr, MatchResult};
-ghost use Rattle.std.specs.Io.KnownBytes.{Appends, IsAtEnd};
+ghost use Rattle.std.specs.Prelude.{◌≡◌, ◌<◌, ◌≤◌, length, Some, IfOk, IfErr, IfSome, IsErrOf, OnOk, OnErr, MatchResult};
+ghost use Rattle.std.specs.Io.KnownBytes.{IsAtEnd};
 ghost use Rattle.mvt_base.specs.Tells.{Tells};
-ghost use Rattle.mvt_io.specs.Counts.{HasFailed};
-ghost use Rattle.mvt_io.specs.Transfers.{TakesPrefix};
+ghost use Rattle.mvt_io.specs.Transfers.{Wrote, WroteFront};
 ghost use Rattle.mvt_model.specs.CanonicalTiles.{canonical};
-ghost use Rattle.mvt_tile.specs.Reading.{IsReadError, IsKindOf, ReadsBack, StopsEarly, fault_of};
+ghost use Rattle.mvt_tile.specs.Reading.{ReadsBack, ReadsTile, fault_of, kind_of};
 ghost use Rattle.mvt_tile.specs.TileRules.{fault_within};
 ghost use Rattle.mvt_model.specs.Tiles.{IsTile};
 ghost use Rattle.mvt_model.specs.ValidTiles.{Valid};
-ghost use Rattle.mvt_model.specs.Writing.{IsWriteFault, IsWriteKind};
+ghost use Rattle.mvt_model.specs.Writing.{kind_written};
 
 use crate::fault::DecodeError;
-use crate::reading::{MOST_READS, read_tile};
+use crate::reading::read_tile;
 use mvt_base::LIMIT;
 use mvt_io::{Sink, Source};
 use mvt_model::{Tile, WriteError, write_tile};
@@ -35,48 +34,26 @@ pub fn write_and_read<W: Sink, R: Source>(
     reader: &mut R,
 ) -> Result<Result<Tile, DecodeError>, WriteError>
     requires { Valid tile.now }
-    ensures written { OnOk result (Appends (W.taken writer.old) (W.taken writer.new)
-        (canonical tile.now)) }
-    ensures small { OnOk result (length (canonical tile.now) ≤ LIMIT) }
-    ensures prefix { OnErr result (TakesPrefix (W.taken writer.old) (W.taken writer.new)
-        (canonical tile.now)) }
-    ensures flushes { W.flushes writer.new ≡ W.flushes writer.old }
-    ensures honest { OnOk result (W.failed writer.new ≡ W.failed writer.old) }
-    ensures same { IfOk result (λ read. R.left reader.old ≡ Some (canonical tile.now)
+    ensures written { OnOk result (Wrote (W.state writer.old) (W.state writer.new)
+        (canonical tile.now) × (length (canonical tile.now) ≤ LIMIT)) }
+    ensures same { IfOk result (λ read. (R.state reader.old).left ≡ Some (canonical tile.now)
         → ReadsBack read tile.now) }
-    ensures exact { IfOk result (λ read. IfSome (R.left reader.old)
-        (λ input. MatchResult read (IsTile LIMIT input)
-        (λ error. Tells (fault_of error) (fault_within LIMIT input)))) }
-    ensures too_large { IsErrOf result WriteError.TooLarge
-        → (LIMIT < length (canonical tile.now)) × (writer.new ≡ writer.old) }
-
-    // A write that failed is the last call of all.
-    ensures unread { OnErr result (reader.new ≡ reader.old) }
-    ensures write_failed { IfErr result (λ error. IsWriteFault error
-        → HasFailed (W.failed writer.old) (W.failed writer.new)) }
-    ensures write_ended { IfErr result (λ error. IsWriteFault error → W.ended writer.new ≡ true) }
-    ensures write_kind { IfErr result (λ error. IsWriteKind error (W.fault writer.new)) }
-    ensures write_sound { IfErr result (λ error. (IsWriteFault error → ⊥)
-        → W.failed writer.new ≡ W.failed writer.old) }
 
     // What is read is read as `read_tile` reads it.
+    ensures exact { IfOk result (λ read. IfSome (R.state reader.old).left
+        (λ input. MatchResult read (IsTile LIMIT input)
+        (λ error. Tells (fault_of error) (fault_within LIMIT input)))) }
     ensures valid { IfOk result (λ read. IfOk read Valid) }
-    ensures end { IfOk result (λ read. OnOk read (IsAtEnd (R.left reader.new))) }
-    ensures early { OnOk result (StopsEarly LIMIT 65536 (R.left reader.old) (R.left reader.new)) }
-    ensures stops { OnOk result (StopsEarly LIMIT (R.given reader.new) (R.left reader.old)
-        (R.left reader.new)) }
-    ensures reads { R.reads reader.new ≤ R.reads reader.old + MOST_READS }
-    ensures asked { R.asked reader.new ≤ max (R.asked reader.old) 65536 }
-    ensures read_failed { IfOk result (λ read. IfErr read (λ error. IsReadError error
-        → HasFailed (R.failed reader.old) (R.failed reader.new))) }
-    ensures read_ended { IfOk result
-        (λ read. IfErr read (λ error. IsReadError error → R.ended reader.new ≡ true)) }
-    ensures read_kind { IfOk result
-        (λ read. IfErr read (λ error. IsKindOf error (R.fault reader.new))) }
-    ensures read_honest { IfOk result
-        (λ read. OnOk read (R.failed reader.new ≡ R.failed reader.old)) }
-    ensures read_sound { IfOk result (λ read. IfErr read (λ error. (IsReadError error → ⊥)
-        → R.failed reader.new ≡ R.failed reader.old)) }
+    ensures end { IfOk result (λ read. OnOk read (IsAtEnd (R.state reader.new).left)) }
+    ensures read { IfOk result
+        (λ read. ReadsTile LIMIT (R.state reader.old) (R.state reader.new) (kind_of read)) }
+
+    // A write that failed is the last call of all.
+    ensures stopped { IfErr result (λ error. WroteFront (W.state writer.old) (W.state writer.new)
+        (canonical tile.now) (kind_written error)) }
+    ensures too_large { IsErrOf result WriteError.TooLarge
+        → (LIMIT < length (canonical tile.now)) × (writer.new ≡ writer.old) }
+    ensures unread { OnErr result (reader.new ≡ reader.old) }
 {
     write_tile(alloc, tile, writer)?;
     Ok(read_tile(alloc, reader))

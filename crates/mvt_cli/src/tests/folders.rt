@@ -1,6 +1,7 @@
 //! The command `check` over files in memory.
-ghost use Rattle.std.specs.Prelude.{◌≡◌, ◌≢◌, [], Some, map, string_bytes};
-ghost use Rattle.mvt_tasks.specs.Checks.{IsToldOfAll, calls, moment};
+ghost use Rattle.std.specs.Prelude.{◌≡◌, ◌≢◌, [], map, string_bytes};
+ghost use Rattle.mvt_io.specs.Devices.{outflow_of};
+ghost use Rattle.mvt_tasks.specs.Checks.{IsToldOfAll, moment};
 ghost use Rattle.mvt_tasks.specs.Folders.{held_in};
 ghost use Rattle.mvt_cli.specs.Words.{faults_in, files_in};
 
@@ -51,10 +52,8 @@ fn run_files(
     ensures { files_in (map string_bytes words.now) ≢ []
         → faults_in (map string_bytes words.now) ≡ []
         → IsToldOfAll LIMIT (held_in folder.old.files) (files_in (map string_bytes words.now))
-        (moment folder.old.visits (Some writer.old.taken) errors.old.failed (Some errors.old.taken))
-        (moment folder.new.visits (Some writer.new.taken) errors.new.failed (Some errors.new.taken))
-        (calls writer.old.flushes writer.old.failed writer.old.ended)
-        (calls writer.new.flushes writer.new.failed writer.new.ended) result }
+        (moment folder.old.visits (outflow_of writer.old) (outflow_of errors.old))
+        (moment folder.new.visits (outflow_of writer.new) (outflow_of errors.new)) result }
 {
     run(alloc, words, folder, reader, writer, errors)
 }

@@ -24,11 +24,12 @@ TellsFed Memory fault = ⊤
 TellsFed (Fault f) fault = TellsEarly (Fault f) fault
 TellsFed (Read kind) fault = ⊤
 
--- the call ended with an error, in the last piece that was read
+-- the call ended with an error, in the last piece that was read, of so many bytes
 pub record HasStopped (limit piece : ℕ) (before now : Option (List ℕ)) (error : DecodeError) : Type 0 where
   pub front : List ℕ
   pub back : List ℕ
   pub consumed : Consumes before now (front ++ back)
   pub few : length back ≤ piece
+  pub small : piece ≤ 65536
   pub calm : IsCalm (fault_within limit front)
   pub told : TellsFed error (fault_within limit (front ++ back))

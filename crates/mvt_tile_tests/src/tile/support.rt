@@ -6,8 +6,8 @@ use mvt_geometry::{Geometry, Point};
 use mvt_io::MemorySource;
 use mvt_message::{Cause, Feature, Item, Layer};
 use mvt_tile::{
-    DecodeError, Fault, Tile, TileDecoder, decode, encode, is_valid, judge, rewrite,
-    rewrite_tile, survey_tile, validate,
+    DecodeError, Fault, Tile, TileDecoder, decode, encode, is_valid, judge, rewrite, rewrite_tile,
+    survey_tile, validate,
 };
 use std::alloc::{AllocError, Global};
 use std::process::Abort;

@@ -1,11 +1,7 @@
 use Rattle.std.proofs.Common.{◌<◌, inl, inr, refl, arith}
 use Rattle.mvt_tasks.specs.declared.failure.Failure.TheVariants.{Memory}
 use Rattle.mvt_tasks.proofs.TasksLaws.{cut_at_first}
-use Rattle.mvt_cli.proofs.Lines.{plain_taken}
 use Rattle.mvt_cli.proofs.run.run.Goals as goal
-
-pub returns-in-Err-clause-plain : goal.returns-in-Err-clause-plain
-returns-in-Err-clause-plain g c = λ plain two. c.in-Err.ensures.usage (c.refuse.ensures.usage.0 two) (plain_taken _ plain)
 
 pub returns-in-Err-clause-files : goal.returns-in-Err-clause-files
 returns-in-Err-clause-files g c = λ some accepted.
@@ -13,7 +9,7 @@ returns-in-Err-clause-files g c = λ some accepted.
       | inl two ↦ absurd (c.in-Err.ensures.usage (c.refuse.ensures.usage.0 two) accepted)
       | inr four ↦
           let above : 2 < c.refuse.result = omega arith in
-          inr (Memory, refl, four, cut_at_first _ _ _ _ _ _ _ (c.refuse.ensures.line above), inl refl)
+          inr (Memory, refl, four, cut_at_first _ _ _ _ _ _ (c.refuse.ensures.line above), inl refl)
     ]
 
 pub returns-in-Err-clause-failed : goal.returns-in-Err-clause-failed

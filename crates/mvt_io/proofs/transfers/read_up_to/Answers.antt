@@ -1,8 +1,18 @@
 use Rattle.std.proofs.Common.{arith}
 use Rattle.std.proofs.lemmas.Grind.{common_steps}
-use Rattle.mvt_io.proofs.Fronts.{TakesAtMost-more}
+use Rattle.mvt_io.proofs.Fronts.{Consumes-none, Reads-once, TakesAtMost-more}
 use Rattle.mvt_io.proofs.transfers.read_up_to.Goals as goal
 
 pub returns-in_err-extend_from_slice-clause-leaves : goal.returns-in_err-extend_from_slice-clause-leaves
 returns-in_err-extend_from_slice-clause-leaves g c =
     TakesAtMost-more _ _ _ _ _ _ _ c.loop-missing.invariant.consumed c.in-Ok.ensures.bytes.0 (grind (arith, common_steps))
+
+pub returns-in-Err-clause-reads : goal.returns-in-Err-clause-reads
+returns-in-Err-clause-reads g c =
+    Reads-once _ _ (g.R.Source.state c.loop-missing.reader) _ _ _ c.loop-missing.invariant.consumed (Consumes-none _ _ c.in-Err.ensures.bytes) (omega arith)
+    c.loop-missing.invariant.reads (grind (arith, common_steps)) (grind (arith, common_steps))
+
+pub returns-in_err-extend_from_slice-clause-reads : goal.returns-in_err-extend_from_slice-clause-reads
+returns-in_err-extend_from_slice-clause-reads g c =
+    Reads-once _ _ (g.R.Source.state c.loop-missing.reader) _ _ _ c.loop-missing.invariant.consumed c.in-Ok.ensures.bytes.0 (omega arith)
+    c.loop-missing.invariant.reads (grind (arith, common_steps)) (grind (arith, common_steps))

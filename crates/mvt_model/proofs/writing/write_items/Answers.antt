@@ -1,7 +1,6 @@
 use Rattle.std.proofs.Common.{◌+◌, take, drop, arith}
 use Rattle.std.proofs.lemmas.Result.{err_from_is_err_and}
-use Rattle.mvt_base.proofs.ResultLemmas.{on_err}
-use Rattle.mvt_io.proofs.IoLaws.{prefix_in_the_middle}
+use Rattle.mvt_io.proofs.IoLaws.{writes_add_up_part}
 use Rattle.mvt_model.proofs.WritingLemmas.{written, field_of, written_parts, field_within}
 use Rattle.mvt_model.proofs.writing.write_items.Goals as goal
 
@@ -15,10 +14,11 @@ returns-in_err-write_item-clause-never g c =
       c.requires.small,
     ))
 
-pub returns-in_err-write_item-clause-prefix : goal.returns-in_err-write_item-clause-prefix
-returns-in_err-write_item-clause-prefix g c =
-    on_err c.from_residual.result
-    (prefix_in_the_middle _ _ _ (written (take c.loop-item.item-index c.args.items.now)) (field_of c.item-item.result)
-    (written (drop (c.loop-item.item-index + 1) c.args.items.now)) _
+pub returns-in_err-write_item-clause-stopped : goal.returns-in_err-write_item-clause-stopped
+returns-in_err-write_item-clause-stopped g c =
+    let p = err_from_is_err_and c.from_residual.result c.from_residual.ensures.1 in
+    rw (p.1, p.2)
+    (writes_add_up_part _ _ _ (written (take c.loop-item.item-index c.args.items.now)) (field_of c.item-item.result)
+    (written (drop (c.loop-item.item-index + 1) c.args.items.now)) _ _
     (written_parts c.args.items.now c.loop-item.item-index c.item-item.result c.loop-item-test.true c.item-item.is)
-    c.loop-item.invariant.taken c.in_err-write_item.ensures.prefix)
+    c.loop-item.invariant c.in_err-write_item.ensures.stopped)

@@ -15,9 +15,9 @@ returns-in_err-items_len-clause-too_large g c =
       refl,
     )
 
-pub returns-clause-taken : goal.returns-clause-taken
-returns-clause-taken g c =
-    rw (canonical_is c.args.tile.now c.as_slice-items.result.now c.as_slice-items.ensures) c.write_items.ensures.taken
+pub returns-clause-wrote : goal.returns-clause-wrote
+returns-clause-wrote g c =
+    rw (canonical_is c.args.tile.now c.as_slice-items.result.now c.as_slice-items.ensures) c.write_items.ensures.wrote
 
 pub returns-clause-small : goal.returns-clause-small
 returns-clause-small g c =
@@ -30,14 +30,14 @@ returns-clause-small g c =
           | else-not-are_surely_small w ↦ c.are_surely_small.ensures.small w.if-not-are_surely_small.false
         ]
 
-pub returns-clause-prefix : goal.returns-clause-prefix
-returns-clause-prefix g c =
-    rw (canonical_is c.args.tile.now c.as_slice-items.result.now c.as_slice-items.ensures) c.write_items.ensures.prefix
+pub returns-clause-stopped : goal.returns-clause-stopped
+returns-clause-stopped g c =
+    rw (canonical_is c.args.tile.now c.as_slice-items.result.now c.as_slice-items.ensures) c.write_items.ensures.stopped
 
-pub returns-in-len1-clause-taken : goal.returns-in-len1-clause-taken
-returns-in-len1-clause-taken g c =
+pub returns-in-len1-clause-wrote : goal.returns-in-len1-clause-wrote
+returns-in-len1-clause-wrote g c =
     rw (only_is c.args.tile.now c.as_slice-items.result.now c.item-item.result c.as_slice-items.ensures
-    (omega (arith, c.in-len1.len_at_least)) (omega (arith, c.in-len1.len_below)) c.item-item.is) c.write_item.ensures.taken
+    (omega (arith, c.in-len1.len_at_least)) (omega (arith, c.in-len1.len_below)) c.item-item.is) c.write_item.ensures.wrote
 
 pub returns-in-len1-clause-small : goal.returns-in-len1-clause-small
 returns-in-len1-clause-small g c =
@@ -49,7 +49,7 @@ returns-in-len1-clause-too_large g c =
     rw (only_is c.args.tile.now c.as_slice-items.result.now c.item-item.result c.as_slice-items.ensures
     (omega (arith, c.in-len1.len_at_least)) (omega (arith, c.in-len1.len_below)) c.item-item.is) c.write_item.ensures.too_large
 
-pub returns-in-len1-clause-prefix : goal.returns-in-len1-clause-prefix
-returns-in-len1-clause-prefix g c =
+pub returns-in-len1-clause-stopped : goal.returns-in-len1-clause-stopped
+returns-in-len1-clause-stopped g c =
     rw (only_is c.args.tile.now c.as_slice-items.result.now c.item-item.result c.as_slice-items.ensures
-    (omega (arith, c.in-len1.len_at_least)) (omega (arith, c.in-len1.len_below)) c.item-item.is) c.write_item.ensures.prefix
+    (omega (arith, c.in-len1.len_at_least)) (omega (arith, c.in-len1.len_below)) c.item-item.is) c.write_item.ensures.stopped

@@ -4,5 +4,5 @@ use Rattle.mvt_tasks.proofs.checking.check.Goals as goal
 
 pub returns-clause-reply : goal.returns-clause-reply
 returns-clause-reply g c =
-    IfOk-weaker c.checked.result _ _ (λ reply is. checked _ (g.R.Source.left c.args.reader.now) _ _ reply
-    c.in_ok-input.ensures.bytes c.deref.ensures.value is) c.checked.ensures.reply
+    IfOk-weaker c.checked.result _ _ (λ reply is. checked _ (g.R.Source.state c.args.reader.now).left _ _ reply
+    c.in_ok-input.ensures.read.known c.deref.ensures.value is) c.checked.ensures.reply

@@ -1,5 +1,7 @@
 use Rattle.std.proofs.Common.{rules, ◌≡◌, IfErr}
 use Rattle.mvt_tasks.specs.declared.failure.Failure.TheVariants.{Write, Memory}
+use Rattle.std.specs.Prelude.{is_err}
+use Rattle.mvt_tasks.proofs.Replies.{fails_flushing}
 use Rattle.mvt_tasks.proofs.CheckLemmas.{cut_unwritten, cut_unflushed}
 use Rattle.mvt_tasks.proofs.files.check_all.Goals as goal
 
@@ -13,3 +15,11 @@ returns-in_err-map_err-clause-cut g c =
     cut_unflushed c.from_residual-in_err-map_err.result _ _ _ _ _ _ _ c.in_ok-tally.ensures.said
     c.flush.ensures.bytes (let h : IfErr c.from_residual-in_err-map_err.result
     (λ failure. failure ≡ Write) = search rules in h)
+
+pub returns-in_err-map_err-clause-failed : goal.returns-in_err-map_err-clause-failed
+returns-in_err-map_err-clause-failed g c =
+    let result = c.from_residual-in_err-map_err.result in
+    let told : IfErr result (λ failure. failure ≡ Write) = search rules in
+    let same : is_err result ≡ is_err c.flush.result = search rules in
+    fails_flushing result c.flush.result (g.W.Sink.state c.args.writer.now).faults (g.W.Sink.state c.check_each.new.writer).faults
+    (g.W.Sink.state c.flush.new.self).faults told same c.in_ok-tally.ensures.sound c.flush.ensures.faults

@@ -8,6 +8,6 @@ returns-in-Err-clause-told g c =
       c.in-Err.failure,
       c.in-Err.ensures.failed,
       c.fail.ensures.status,
-      cut_told _ _ _ _ _ _ _ _ _ c.in-Err.ensures.cut c.fail.ensures.line,
+      cut_told _ _ _ _ _ _ _ _ c.in-Err.ensures.cut c.fail.ensures.line,
       c.in-Err.ensures.unflushed,
     )

@@ -12,10 +12,9 @@ returns-clause-said g c = record {
   reply = c.in_ok-reply.reply;
   checked = c.in_ok-reply.ensures.said;
   visited = c.in_ok-reply.ensures.visited;
-  written = subst (λ text. Appends (g.W.Sink.taken c.args.writer.now) (g.W.Sink.taken c.put.new.writer) text)
+  written = subst (λ text. Appends (g.W.Sink.state c.args.writer.now).taken (g.W.Sink.state c.put.new.writer).taken text)
       (c.deref-2.ensures.value ∙ c.in_ok-written.ensures.bytes) c.in_ok-put.ensures.taken;
-  told = subst (λ text. Tells (g.E.Sink.failed c.args.errors.now) (g.E.Sink.failed c.note.new.errors)
-      (g.E.Sink.taken c.args.errors.now) (g.E.Sink.taken c.note.new.errors) text)
+  told = subst (λ text. Tells (g.E.Sink.state c.args.errors.now) (g.E.Sink.state c.note.new.errors) text)
       (c.deref.ensures.value ∙ c.in_ok-told.ensures.bytes) c.note.ensures;
   judged = c.of-verdict.ensures;
 }
@@ -40,9 +39,8 @@ pub returns-in_err-put-clause-cut : goal.returns-in_err-put-clause-cut
 unfolding written_of told_of
 returns-in_err-put-clause-cut g c =
     cut_within_of c.from_residual-in_err-put.result _ _ _ c.in_ok-reply.reply _ _ c.in_ok-reply.ensures.said c.in_ok-reply.ensures.visited
-    (subst (λ text. IfErr c.from_residual-in_err-put.result (TakesUntil (g.W.Sink.taken c.args.writer.now)
-    (g.W.Sink.taken c.put.new.writer) text)) (c.deref-2.ensures.value ∙ c.in_ok-written.ensures.bytes)
+    (subst (λ text. IfErr c.from_residual-in_err-put.result (TakesUntil (g.W.Sink.state c.args.writer.now).taken
+    (g.W.Sink.state c.put.new.writer).taken text)) (c.deref-2.ensures.value ∙ c.in_ok-written.ensures.bytes)
     (search rules))
-    (subst (λ text. Tells (g.E.Sink.failed c.args.errors.now) (g.E.Sink.failed c.note.new.errors)
-    (g.E.Sink.taken c.args.errors.now) (g.E.Sink.taken c.note.new.errors) text)
+    (subst (λ text. Tells (g.E.Sink.state c.args.errors.now) (g.E.Sink.state c.note.new.errors) text)
     (c.deref.ensures.value ∙ c.in_ok-told.ensures.bytes) c.note.ensures)

@@ -1,4 +1,5 @@
-use Rattle.std.proofs.Common.{◌≡◌, ◌+◌, ◌≤◌, [], length, max}
+use Rattle.std.proofs.Common.{◌+◌, ◌≤◌, [], length, max}
+use Rattle.mvt_io.specs.States.{NoneFailed}
 use Rattle.mvt_tile.specs.Inner.Feeding.{HasFed}
 use Rattle.mvt_tile.proofs.reading.feed_all.Given as goal
 
@@ -6,9 +7,9 @@ abbrev pub invariant-loop-turn : goal.invariant-loop-turn
 invariant-loop-turn g l = record {
   fed : (input : g.T.Taker.Given) → g.T.Taker.has_taken input l.initial.pieces.taker []
       → HasFed 67108864 (g.T.Taker.has_taken input l.pieces.taker) l.pieces.offset l.pieces.raw.items
-      (g.R.Source.left l.initial.reader) (g.R.Source.left l.reader) l._turn;
+      (g.R.Source.state l.initial.reader).left (g.R.Source.state l.reader).left l._turn;
   small : l.pieces.offset + length l.pieces.raw.items ≤ 67108864;
-  reads : g.R.Source.reads l.reader ≤ g.R.Source.reads l.initial.reader + l._turn;
-  asked : g.R.Source.asked l.reader ≤ max (g.R.Source.asked l.initial.reader) 65536;
-  honest : g.R.Source.failed l.reader ≡ g.R.Source.failed l.initial.reader;
+  reads : (g.R.Source.state l.reader).reads ≤ (g.R.Source.state l.initial.reader).reads + l._turn;
+  asked : (g.R.Source.state l.reader).asked ≤ max (g.R.Source.state l.initial.reader).asked 65536;
+  faults : NoneFailed (g.R.Source.state l.initial.reader).faults (g.R.Source.state l.reader).faults;
 }

@@ -1,4 +1,10 @@
+use Rattle.std.proofs.lemmas.Result.{err_from_is_err_and}
 use Rattle.mvt_tile.proofs.reading.read_tile.Goals as goal
+
+pub returns-in_err-layers-clause-read : goal.returns-in_err-layers-clause-read
+returns-in_err-layers-clause-read g c =
+    let p = err_from_is_err_and c.from_residual.result c.from_residual.ensures.1 in
+    rw (p.1, p.2) c.in_err-layers.ensures.read
 
 pub returns-clause-tile : goal.returns-clause-tile
 returns-clause-tile g c =

@@ -2,7 +2,8 @@ use Rattle.std.proofs.Common.{IfSome, arith}
 use Rattle.std.proofs.lemmas.Result.{err_from_is_err_and, IfOk-weaker, IfErr-weaker}
 use Rattle.mvt_model.specs.declared.tile.Tile.{Tile}
 use Rattle.mvt_model.specs.Tiles.{IsTile}
-use Rattle.mvt_tile.proofs.FeedingLemmas.{stopped_told, stopped_early, fed_early, fed_tile, fed_told}
+use Rattle.mvt_tile.specs.TileRules.{fault_within}
+use Rattle.mvt_tile.proofs.FeedingLemmas.{end_faults, stopped_told, stopped_early, fed_early, fed_tile, fed_told}
 use Rattle.mvt_tile.proofs.reading.read_whole.Goals as goal
 
 pub returns-in_err-feed_all-clause-fault : goal.returns-in_err-feed_all-clause-fault
@@ -10,30 +11,37 @@ returns-in_err-feed_all-clause-fault g c =
     let p = err_from_is_err_and c.from_residual.result c.from_residual.ensures.1 in
     rw (p.1, p.2) (stopped_told 67108864 _ _ _ _ c.in_err-feed_all.ensures.stopped)
 
-pub returns-in_err-feed_all-clause-early : goal.returns-in_err-feed_all-clause-early
-returns-in_err-feed_all-clause-early g c =
-    stopped_early 67108864 _ 65536 _ _ _ c.in_err-feed_all.ensures.given c.in_err-feed_all.ensures.stopped
+pub returns-in_err-feed_all-clause-read : goal.returns-in_err-feed_all-clause-read
+returns-in_err-feed_all-clause-read g c =
+    let p = err_from_is_err_and c.from_residual.result c.from_residual.ensures.1 in
+    let stopped = c.in_err-feed_all.ensures.stopped in
+    rw (p.1, p.2)
+    (record {
+      early = stopped_early 67108864 _ 65536 _ _ _ stopped.small stopped;
+      stops = stopped_early 67108864 _ _ _ _ _ (omega arith) stopped;
+      reads = c.in_err-feed_all.ensures.reads;
+      faults = c.in_err-feed_all.ensures.faults;
+    })
 
-pub returns-in_err-feed_all-clause-stops : goal.returns-in_err-feed_all-clause-stops
-returns-in_err-feed_all-clause-stops g c =
-    stopped_early 67108864 _ _ _ _ _ (omega arith) c.in_err-feed_all.ensures.stopped
-
-pub returns-clause-early : goal.returns-clause-early
-returns-clause-early g c =
+pub returns-clause-read : goal.returns-clause-read
+returns-clause-read g c =
     let (input, start) = c.requires.start in
-    fed_early 67108864 65536 _ _ _ _ _ _ (c.in_ok-feed_all.ensures.fed input (rw c.new-pieces.ensures.taker start))
-
-pub returns-clause-stops : goal.returns-clause-stops
-returns-clause-stops g c =
-    let (input, start) = c.requires.start in
-    fed_early 67108864 _ _ _ _ _ _ _ (c.in_ok-feed_all.ensures.fed input (rw c.new-pieces.ensures.taker start))
+    let fed = c.in_ok-feed_all.ensures.fed input (rw c.new-pieces.ensures.taker start) in
+    record {
+      early = fed_early 67108864 65536 _ _ _ _ _ _ fed;
+      stops = fed_early 67108864 _ _ _ _ _ _ _ fed;
+      reads = c.in_ok-feed_all.ensures.reads;
+      faults =
+          end_faults c.finish.result (fault_within 67108864 fed.given) (g.R.Source.state c.args.reader.now).faults
+          (g.R.Source.state c.feed_all.new.reader).faults (c.finish.ensures.fault fed.items fed.given fed.live) c.in_ok-feed_all.ensures.faults;
+    }
 
 pub returns-clause-tile : goal.returns-clause-tile
 returns-clause-tile g c = λ input start.
     let fed = c.in_ok-feed_all.ensures.fed input (rw c.new-pieces.ensures.taker start) in
     IfOk-weaker c.finish.result _
     (λ after. (tile : Tile) × g.T.Taker.has_taken input after tile.items
-    × IfSome (g.R.Source.left c.args.reader.now) (λ bytes. IsTile 67108864 bytes tile))
+    × IfSome (g.R.Source.state c.args.reader.now).left (λ bytes. IsTile 67108864 bytes tile))
     (λ taker done. rw done.0 (fed_tile 67108864 _ _ _ _ _ _ fed c.in_ok-feed_all.ensures.end done.1))
     (c.finish.ensures.tile fed.items fed.given fed.live)
 

@@ -1,4 +1,5 @@
 use Rattle.std.proofs.lemmas.Option.{IfSome_then}
+use Rattle.std.proofs.lemmas.Result.{err_from_is_err_and}
 use Rattle.mvt_tile.specs.Inner.Wanting.{all_items}
 use Rattle.mvt_tile.proofs.WantedLemmas.{tile_encoded}
 use Rattle.mvt_tile.proofs.rewriting.rewrite_tile.Goals as goal
@@ -11,6 +12,11 @@ returns-clause-tile g c =
     let taken = c.in_ok-rewriter.ensures.tile all_items c.of_all.ensures in (
       taken.0,
       tile_encoded 67108864 taken.0 _ taken.1.encoded,
-      IfSome_then (g.R.Source.left c.args.reader.now) taken.2
+      IfSome_then (g.R.Source.state c.args.reader.now).left taken.2
           (λ input is. (is, record { items = taken.1.valid; names = is.distinct })),
     )
+
+pub returns-in_err-rewriter-clause-read : goal.returns-in_err-rewriter-clause-read
+returns-in_err-rewriter-clause-read g c =
+    let p = err_from_is_err_and c.from_residual.result c.from_residual.ensures.1 in
+    rw (p.1, p.2) c.in_err-rewriter.ensures.read
