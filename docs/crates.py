@@ -28,6 +28,7 @@ WORDS = {
     "mvt_layer_tests": "tests of layers",
     "mvt_tile_tests": "tests of tiles",
     "mvt_view_tests": "tests of texts and rows",
+    "mvt_task_tests": "tests of tasks",
 }
 # Each crate's place from the left, in boxes; how high it stands follows from crates.txt.
 COLUMN = {
@@ -51,6 +52,7 @@ COLUMN = {
     "mvt_layer_tests": 3,
     "mvt_tile_tests": 0,
     "mvt_view_tests": 3,
+    "mvt_task_tests": 1,
 }
 WIDE, HIGH, GAP, RISE = 176, 50, 24, 92
 

@@ -1,5 +1,6 @@
 """Cases for `rt try --cases`: cases.py FOLDER. Each is an input, the words and the output that is wanted: of the example
-tiles what other programs made of them, of the broken ones nothing, of README.md's commands what it shows below them."""
+tiles what other programs made of them, of the broken ones nothing, of the rows of tests/examples what stands there, of
+README.md's commands what it shows below them."""
 
 import gzip
 import re
@@ -8,6 +9,10 @@ import sys
 from pathlib import Path
 
 TOP = Path(__file__).resolve().parents[1]
+sys.path.insert(0, str(TOP / "tests" / "examples"))
+
+import rows  # noqa: E402
+
 TILES = TOP / "examples" / "tiles"
 FAULT = re.compile(r"layer \S+ feature \S+ at \d+: \d+ \w+\n", re.M)
 
@@ -40,6 +45,12 @@ def broken_tiles(folder: Path) -> None:
             case(folder, path.name.removesuffix(".mvt.gz"), ["check"], tile, b"")
 
 
+def few_bytes(folder: Path) -> None:
+    for number, (words, tile, (_, output, _)) in enumerate(rows.runs()):
+        if "" not in words:  # which a file of words can't say
+            case(folder, f"row-{number}", words, rows.octets(tile), rows.encoded(output))
+
+
 def documented(folder: Path) -> None:
     """The commands `mvt WORDS < FILE`, with the lines below them."""
     text = (TOP / "README.md").read_text(encoding="utf-8")
@@ -54,6 +65,7 @@ def main() -> None:
     folder.mkdir(parents=True, exist_ok=True)
     example_tiles(folder)
     broken_tiles(folder)
+    few_bytes(folder)
     documented(folder)
 
 

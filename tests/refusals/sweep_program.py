@@ -1,5 +1,6 @@
 #!/usr/bin/env python3
-"""Runs the program on a tile of some 10 kB, each command once for each of its allocations, that one refused.
+"""Runs the program on a tile of some 10 kB, each command once for each of its allocations, that one refused; and
+lines that are refused, or name no command, on a tile of one point.
 
     sweep_program.py SHIM MVT
 
@@ -108,17 +109,23 @@ def run(mvt, words, canonical, shim, refused):
     return done.returncode, done.stdout, done.stderr, int(told) if told.isdigit() else None
 
 
+def is_refusal(status, output, errors):
+    """Whether a line was refused, with some text of clap's."""
+    return (status, output) == (2, b"") and errors != b""
+
+
 def sweep(mvt, words, canonical, shim, written):
-    """Why a command fails, or None, and how many runs there were."""
+    """Why a command fails, or None, and how many runs there were. Nothing is written where a line is refused."""
+    is_answer = is_refusal if written is None else lambda *found: found == (0, written, b"")
     status, output, errors, count = run(mvt, words, canonical, shim, 0)
     if count is None:
         return "the shim told no count", 1
-    if (status, output, errors) != (0, written, b""):
+    if not is_answer(status, output, errors):
         return "with no allocation refused: status %d, %r" % (status, errors), 1
     wanted = 0
     for refused in range(1, min(count, MOST_ALLOCATIONS) + 1):
         status, output, errors, _ = run(mvt, words, canonical, shim, refused)
-        if (status, output, errors) == (0, written, b""):
+        if is_answer(status, output, errors):
             continue
         wanted += 1
         if (status, output, errors) != (4, b"", b"mvt: out of memory\n"):
@@ -144,13 +151,16 @@ def main():
         (["rewrite"], canonical),
         (["extract", "places"], canonical),
     ]
+    point = bytes.fromhex("1A1178020A0161120718012203093222288020")
+    swept = [(words, canonical, written) for words, written in commands]
+    swept += [([], point, b"ok layers 1 features 1 canonical yes\n"), (["frob"], point, None), (["extract"], point, None)]
     passed = failed = 0
-    for words, written in commands:
+    for words, tile_bytes, written in swept:
         line = " ".join(["mvt", *("FILE" if word == file else word for word in words)])
-        why, runs = sweep(mvt, words, canonical, shim, written)
+        why, runs = sweep(mvt, words, tile_bytes, shim, written)
         if why is None:
             passed += 1
-            print("%s: want of memory or the answer, %d runs on %d bytes" % (line, runs, len(canonical)))
+            print("%s: want of memory or the answer, %d runs on %d bytes" % (line, runs, len(tile_bytes)))
         else:
             failed += 1
             print("%s: %s" % (line, why))

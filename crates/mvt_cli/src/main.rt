@@ -3,8 +3,6 @@
 
 mod laws;
 mod run;
-#[cfg(test)]
-mod tests;
 mod words;
 
 use mvt_io::Host;

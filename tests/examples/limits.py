@@ -1,0 +1,62 @@
+#!/usr/bin/env python3
+"""Inputs of 64 MiB, and what the program answers for each: limits.py PROGRAM
+
+The last line is 'limits: N passed, M failed'."""
+
+import sys
+
+from rows import DRAWN, PICTURE, answer, encoded, octets
+
+LIMIT = 1 << 26
+TOO_LARGE = "layer - feature - at 67108864: 25 TooLarge\n"
+CUT = "layer - feature - at 0: 25 TooLarge\n"
+# An unknown field that ends at the limit, one that ends a byte behind it, and one of 2^63 bytes.
+WHOLE, LONGER, ENDLESS = "0AFBFFFF1F", "0AFCFFFF1F", "0A 808080808080808080 01"
+# A layer that ends at the limit, and begins its name. Its extent isn't there: the canonical form is longer.
+NAMED = "1AFBFFFF1F 7802 0AF4FFFF1F"
+NAME = "a" * 67_108_852
+TITLE = DRAWN[len(PICTURE) :].partition("a</title>")[0]
+
+
+def runs():
+    """Words, the front of an input, the byte that fills it, how far beyond the limit, and what is answered."""
+    yield ["fields"], WHOLE, 0, 0, (0, "0 1 len 67108859\n", "")
+    yield ["fields"], WHOLE, 0, 1, (1, "0 1 len 67108859\n", TOO_LARGE)
+    yield ["fields"], LONGER, 0, 1, (1, "", CUT)
+    yield ["fields"], ENDLESS, 0, 9, (1, "", CUT)
+    for command, written in [
+        ("check", "ok layers 0 features 0 canonical no\nnote NoLayers\n"),
+        ("show", '{"layers":[]}\n'),
+        ("draw", PICTURE + "</svg>\n"),
+        ("rewrite", ""),
+    ]:
+        yield [command], WHOLE, 0, 0, (0, written, "")
+        yield [command], WHOLE, 0, 1, (1, "", TOO_LARGE)
+        yield [command], LONGER, 0, 1, (1, "", CUT)
+        yield [command], ENDLESS, 0, 1, (1, "", CUT)
+    report = "ok layers 1 features 0 canonical no\nnote NoFeatures layer 0\n"
+    yield ["check"], NAMED, ord("a"), 0, (0, report, "")
+    yield ["rewrite"], NAMED, ord("a"), 0, (1, "", "mvt: result larger than 67108864 bytes\n")
+    shown = '{"layers":[{"extent":4096,"features":[],"name":"%s"}]}\n' % NAME
+    yield ["show"], NAMED, ord("a"), 0, (0, shown, "")
+    drawn = PICTURE + TITLE + NAME + "</title>\n</svg>\n</svg>\n"
+    yield ["draw"], NAMED, ord("a"), 0, (0, drawn, "")
+
+
+def main():
+    passed = failed = 0
+    for words, front, filler, beyond, (status, output, told) in runs():
+        tile = octets(front).ljust(LIMIT + beyond, bytes([filler]))
+        found, _ = answer(sys.argv[1], words, tile)
+        if found == (status, encoded(output), encoded(told)):
+            passed += 1
+        else:
+            failed += 1
+            short = found[0], found[1][:100], found[2][:100]
+            print(f"failed: {words} on {front} and {beyond} bytes beyond the limit: {short}")
+    print(f"limits: {passed} passed, {failed} failed")
+    return failed > 0
+
+
+if __name__ == "__main__":
+    sys.exit(main())
