@@ -3,7 +3,7 @@ ghost use Rattle.mvt_geometry.specs.Valid.{IsValid};
 
 use crate::expect::{expect, expect_eq};
 use crate::support::{KEYS, feature_with, made_with, point, repeated_keys};
-use mvt_attrs::{KeyPool, LayerKeys, PoolError, Value, ValuePool};
+use mvt_attrs::{Attribute, KeyPool, LayerKeys, PoolError, Value, ValuePool};
 use mvt_base::{Items, Text};
 use mvt_feature::*;
 use mvt_geometry::Geometry;
@@ -238,6 +238,62 @@ fn writes_features(rt: HostRuntime) {
     expect_eq!(rt; room_behind_feature(&feature, 60), Some(0));
     expect_eq!(rt; room_behind_feature(&feature, 59), None);
     drop(feature);
+}
+
+// Around the number of attributes up to which keys are compared one by one, and many.
+const COUNTS: [u32; 12] = [0, 1, 2, 8, 9, 15, 16, 17, 33, 49, 100, 1000];
+
+// A feature with so many attributes, whose values are alike.
+fn numbered(rt: &(impl Abort + AllocGlobal), count: u32) -> Feature {
+    let mut attributes = Vec::new(rt.alloc());
+    for number in 0..count {
+        let text = format!(in rt.alloc(); "{number}").expect(rt, "a text");
+        let key = Text::from_string(text).expect(rt, "a key");
+        let value = Value::Uint(5);
+        attributes
+            .push(Attribute { key, value })
+            .expect(rt, "an attribute");
+    }
+    let mut feature = made_with(rt, &[]);
+    feature.attributes = Items::new(attributes);
+    feature
+}
+
+fn keys_of(rt: &(impl Abort + AllocGlobal), feature: &Feature) -> Vec<Text> {
+    let mut keys = Vec::new(rt.alloc());
+    for attribute in feature.attributes.as_slice() {
+        let key = attribute.key.copy(rt.alloc()).expect(rt, "a key");
+        keys.push(key).expect(rt, "keys");
+    }
+    keys
+}
+
+// A payload over these keys and the value 5 is this feature.
+fn expect_read(rt: &(impl Abort + AllocGlobal), payload: &[u8], keys: &[Text], feature: &Feature) {
+    let found = read_feature(rt.alloc(), payload, 9, keys, &[Value::Uint(5)]);
+    expect!(rt; found.as_ref() == Ok(feature));
+    drop(found);
+    expect_eq!(rt; judged_over(rt.alloc(), keys, payload), Ok(()));
+}
+
+// What is written of a feature is read as it.
+fn expect_read_back(rt: &(impl Abort + AllocGlobal), feature: &Feature) {
+    expect!(rt; is_valid_feature(feature));
+    let mut bytes = Vec::new(rt.alloc());
+    expect_eq!(rt; appended(rt.alloc(), &mut bytes, feature), Ok(()));
+    let keys = keys_of(rt, feature);
+    expect_read(rt, &bytes, &keys, feature);
+    drop(keys);
+    drop(bytes);
+}
+
+#[test]
+fn reads_any_number_of_attributes(rt: HostRuntime) {
+    for count in COUNTS {
+        let feature = numbered(&rt, count);
+        expect_read_back(&rt, &feature);
+        drop(feature);
+    }
 }
 
 #[test]

@@ -74,28 +74,41 @@ fn resolves_repeated_keys(rt: HostRuntime) {
     drop(none);
 }
 
-// Twenty keys, the last of which is the first again, and tags with each of them.
-fn twenty_keys(alloc: Global) -> Result<Vec<Text>, AllocError> {
+// So many keys, each another, and tags with each of them.
+fn numbered_keys(alloc: Global, count: u32) -> Result<Vec<Text>, AllocError> {
     let mut keys = Vec::new(alloc);
-    for index in 0..20u32 {
-        let number = index % 19;
+    for number in 0..count {
         keys.push(Text::from_string(format!(in alloc; "{number}")?)?)?;
     }
     Ok(keys)
 }
 
-fn tags_of_twenty(alloc: Global) -> Result<Vec<u32>, AllocError> {
+fn numbered_tags(alloc: Global, count: u32) -> Result<Vec<u32>, AllocError> {
     let mut tags = Vec::new(alloc);
-    for index in 0..20u32 {
+    for index in 0..count {
         tags.extend_from_slice(&[index, 0])?;
     }
     Ok(tags)
 }
 
-fn expect_nineteen(rt: &(impl Abort + AllocGlobal), keys: &[Text], tags: &[u32]) {
+// So many attributes come of tags, which have no fault.
+fn expect_count(rt: &(impl Abort + AllocGlobal), keys: &[Text], tags: &[u32], count: usize) {
     let found = resolve(rt.alloc(), keys, &[Value::Bool(true)], tags).expect(rt, "attributes");
-    expect_eq!(rt; found.len(), 19);
+    expect_eq!(rt; found.len(), count);
     drop(found);
+    expect_eq!(rt; judged_over(rt, keys, tags), None);
+}
+
+// None, one and two, around the number up to which keys are compared one by one, and many.
+#[test]
+fn resolves_any_number_of_tags(rt: HostRuntime) {
+    for count in [0, 1, 2, 8, 9, 15, 16, 17, 33, 49, 100, 1000] {
+        let keys = numbered_keys(rt.alloc(), count).expect(&rt, "keys");
+        let tags = numbered_tags(rt.alloc(), count).expect(&rt, "tags");
+        expect_count(&rt, &keys, &tags, count as usize);
+        drop(tags);
+        drop(keys);
+    }
 }
 
 // Features of one layer, one after the other.
@@ -110,14 +123,16 @@ fn expect_features(rt: &(impl Abort + AllocGlobal), keys: &[Text], tags: &[u32])
     drop(layer);
 }
 
+// Twenty keys, the last of which is the first again.
 #[test]
 fn resolves_many_tags(rt: HostRuntime) {
-    let keys = twenty_keys(rt.alloc()).expect(&rt, "keys");
-    let mut tags = tags_of_twenty(rt.alloc()).expect(&rt, "tags");
+    let mut keys = numbered_keys(rt.alloc(), 19).expect(&rt, "keys");
+    keys.push(text(&rt, "0")).expect(&rt, "keys");
+    let mut tags = numbered_tags(rt.alloc(), 20).expect(&rt, "tags");
     let error = resolve(rt.alloc(), &keys, &[Value::Bool(true)], &tags).err();
     expect_eq!(rt; error, fault(38, TagCause::RepeatedKey));
     tags.truncate(38);
-    expect_nineteen(&rt, &keys, &tags);
+    expect_count(&rt, &keys, &tags, 19);
     expect_features(&rt, &keys, &tags);
     drop(tags);
     drop(keys);

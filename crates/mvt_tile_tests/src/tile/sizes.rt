@@ -7,7 +7,10 @@ use mvt_base::{Items, Text};
 use mvt_geometry::{Geometry, Point, Polygon};
 use mvt_io::MemorySink;
 use mvt_message::{Feature, Item, Layer};
-use mvt_tile::{Tile, encode, extract, is_valid, notes, read_tile, write_tile};
+use mvt_tile::{
+    NamedLayers, Tile, encode, extract, extract_bytes, extract_tile, is_valid, notes, read_tile,
+    write_tile,
+};
 use std::process::Abort;
 
 const COUNTS: [u32; 15] = [0, 1, 2, 7, 8, 9, 16, 17, 32, 33, 34, 48, 49, 100, 1000];
@@ -18,6 +21,7 @@ fn expect_answers(rt: &(impl Abort + AllocGlobal), tile: Tile) {
     let bytes = encode(rt.alloc(), &tile).expect(rt, "bytes");
     expect_tile(rt, &bytes, &tile, &bytes);
     expect_streams(rt, &bytes, &tile);
+    expect_all_layers(rt, &bytes, &tile);
     drop(bytes);
     expect!(rt; notes(rt.alloc(), &tile).is_ok());
     expect_no_layers(rt, &tile);
@@ -46,6 +50,43 @@ fn expect_no_layers(rt: &(impl Abort + AllocGlobal), tile: &Tile) {
     drop(names);
     expect!(rt; picked.items.as_slice().is_empty());
     drop(picked);
+}
+
+// All its layers are wanted, by their names: of the tile, of its bytes and of a reader of these.
+fn expect_all_layers(rt: &(impl Abort + AllocGlobal), bytes: &[u8], tile: &Tile) {
+    let names = names_in(rt, tile);
+    let picked = extract(rt.alloc(), tile, &names).expect(rt, "layers");
+    expect!(rt; picked == *tile);
+    drop(picked);
+    let made = extract_bytes(rt.alloc(), bytes, &names).expect(rt, "layers");
+    expect_layers(rt, made, bytes);
+    let mut reader = reader_of(rt, bytes, 7, u64::MAX);
+    let made = extract_tile(rt.alloc(), &names, &mut reader).expect(rt, "layers");
+    drop(reader);
+    drop(names);
+    expect_layers(rt, made, bytes);
+}
+
+// The names of a tile whose items are layers.
+fn names_in(rt: &(impl Abort + AllocGlobal), tile: &Tile) -> Vec<String> {
+    let mut names = Vec::new(rt.alloc());
+    for item in tile.items.as_slice() {
+        if let Item::Layer(layer) = item {
+            let name = String::from_str(rt.alloc(), layer.name.as_str()).expect(rt, "a name");
+            names.push(name).expect(rt, "names");
+        }
+    }
+    names
+}
+
+fn expect_layers(rt: &impl Abort, made: NamedLayers, bytes: &[u8]) {
+    match made {
+        NamedLayers::Bytes(layers) => {
+            expect_eq!(rt; layers.as_slice(), bytes);
+            drop(layers);
+        }
+        NamedLayers::Missing(_) | NamedLayers::TooLarge => expect!(rt; false),
+    }
 }
 
 fn point(rt: &(impl Abort + AllocGlobal)) -> Geometry {

@@ -1,0 +1,51 @@
+"""The library's calls on tiles of the sizes at which code could turn, by the Python module: with ample memory each answers.
+
+tests/examples/sizes.py makes the tiles, their canonical bytes and their JSON by itself.
+"""
+
+import json
+import sys
+import unittest
+from pathlib import Path
+
+import mvt
+from test_module import shown
+
+sys.path.insert(0, str(Path(__file__).resolve().parents[1] / "examples"))
+
+import sizes  # noqa: E402
+
+
+def decoded(tile):
+    """A tile in pieces of seven bytes."""
+    decoder = mvt.Decoder()
+    for at in range(0, len(tile), 7):
+        decoder.feed(tile[at : at + 7])
+    return decoder.finish()
+
+
+class Sizes(unittest.TestCase):
+    def test_each_call_answers(self):
+        for name, layers in sizes.tiles():
+            with self.subTest(name):
+                self.answers(layers)
+
+    def answers(self, layers):
+        fields = [sizes.field(3, sizes.payload_of(it)) for it in layers]
+        tile = b"".join(fields)
+        read = mvt.read(tile)
+        self.assertEqual(shown(read), {"layers": layers})
+        self.assertEqual(shown(decoded(tile)), {"layers": layers})
+        self.assertEqual(mvt.write(read), tile)
+        self.assertEqual(mvt.rewrite(tile), tile)
+        self.assertEqual(json.loads(mvt.to_json(tile)), {"layers": layers})
+        self.assertEqual(mvt.to_svg(tile).count("<path "), sum(len(it.get("features", [])) for it in layers))
+        self.assertTrue(mvt.report(tile).startswith("ok layers %d " % len(layers)))
+        mvt.judge(tile)
+        named = [(it["name"], bytes) for it, bytes in zip(layers, fields) if "name" in it]
+        wanted = b"".join(bytes for _, bytes in named)
+        self.assertEqual(mvt.extract(tile, [name for name, _ in named]), wanted)
+
+
+if __name__ == "__main__":
+    unittest.main()
