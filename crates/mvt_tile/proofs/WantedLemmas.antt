@@ -1,7 +1,7 @@
 -- The layers that are wanted of a tile, by the set of their names.
-use Rattle.std.proofs.Common.{◌≡◌, ℕ, ◌+◌, Bool, true, false, cond, not, ◌||◌, List, [], ◌∷◌, ◌++◌, filter, bytes_eq, Option, Some, None, Vec, Global, refl, sym, ap, ap₂, subst, ◌∙◌}
+use Rattle.std.proofs.Common.{◌≡◌, ℕ, ◌+◌, Bool, true, false, cond, not, ◌||◌, List, [], ◌∷◌, ◌++◌, filter, bytes_eq, Option, Some, Vec, Global, refl, sym, ap, ap₂, subst, ◌∙◌}
 use Rattle.std.specs.Bool.{OnFalse}
-use Rattle.std.specs.List.{list_any, flat_map, position_from}
+use Rattle.std.specs.List.{list_any, position_from}
 use Rattle.std.proofs.lemmas.Bool.{not-false}
 use Rattle.std.proofs.lemmas.List.Elements.{filter-append}
 use Rattle.std.proofs.lemmas.List.Folds.{list_any-append}
