@@ -1,5 +1,5 @@
-/* What C does for itself: it gives back what the library handed out, where a list without entries has no block, and
- * answers a decoder that isn't there. */
+/* What C does for itself: it gives back what the library handed out, where a list without entries has no block,
+ * takes the name of a layer apart, and answers a decoder that isn't there. */
 #include "mvt.h"
 
 #include <stdlib.h>
@@ -27,20 +27,31 @@ void mvt_tile_free(mvt_tile *tile) {
     memset(tile, 0, sizeof *tile);
 }
 
+uint32_t mvt_read_named(const uint8_t *bytes, size_t len, const uint8_t *name, size_t name_len, mvt_tile *out,
+                        mvt_fault *fault);
+
+mvt_status mvt_read_layer(const uint8_t *bytes, size_t len, mvt_bytes name, mvt_tile *out, mvt_fault *fault) {
+    return mvt_read_named(bytes, len, name.data, name.len, out, fault);
+}
+
 /* The proved calls take a decoder that is there, and hand it back. */
 typedef struct {
     void *decoder;
 } held;
-uint32_t mvt_held_new(held *out);
+uint32_t mvt_held_new(uint64_t most, held *out);
 uint32_t mvt_held_feed(held decoder, const uint8_t *piece, size_t len, held *again, mvt_fault *fault);
 uint32_t mvt_held_finish(held decoder, mvt_tile *out, mvt_fault *fault);
 void mvt_held_free(held decoder);
 
-mvt_status mvt_decoder_new(mvt_decoder *decoder) {
+mvt_status mvt_decoder_new_within(mvt_decoder *decoder, uint64_t most) {
     held made = {NULL};
-    const uint32_t status = mvt_held_new(&made);
+    const uint32_t status = mvt_held_new(most, &made);
     if (status == MVT_OK) decoder->held = made.decoder;
     return status;
+}
+
+mvt_status mvt_decoder_new(mvt_decoder *decoder) {
+    return mvt_decoder_new_within(decoder, UINT64_MAX);
 }
 
 mvt_status mvt_decoder_feed(mvt_decoder *decoder, const uint8_t *piece, size_t len, mvt_fault *fault) {

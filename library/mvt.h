@@ -55,8 +55,8 @@ typedef struct {
     uint64_t start, len;
 } mvt_span;
 
-/* A layer of version 2 has a name, an extent, features and its keys and values; one of another version has its bytes,
- * which are carried as they are. What a layer hasn't is 0. */
+/* A layer of version 2 has a name, an extent, features and its keys and values as the tile has them, also those that no
+ * feature names. One of another version has its bytes, which are carried as they are. What a layer hasn't is 0. */
 typedef struct {
     uint32_t version, extent;
     mvt_span name;      /* of texts */
@@ -145,9 +145,19 @@ mvt_status mvt_judge(const uint8_t *bytes, size_t len, mvt_fault *fault);
  * canonical, and a line for each note. Each ends in a line feed. MVT_OK, MVT_REFUSED, MVT_NO_MEMORY. */
 mvt_status mvt_report(const uint8_t *bytes, size_t len, mvt_bytes *out, mvt_fault *fault);
 
-/* A tile as rows. MVT_OK, MVT_REFUSED, MVT_NO_MEMORY; MVT_TOO_LARGE for a layer of more than 67,108,864 keys or
- * values. */
+/* A tile as rows. MVT_OK, MVT_REFUSED, MVT_NO_MEMORY. */
 mvt_status mvt_read(const uint8_t *bytes, size_t len, mvt_tile *out, mvt_fault *fault);
+
+/* The same, unless the nine lists would have more than so many bytes: then MVT_NO_MEMORY. This is looked at behind each key,
+ * value, feature and layer, so that a small tile of many rows is given up early: one of 4 MB may have 260 MB of them. A list
+ * grows to twice its length at a time, and holds up to three times its bytes while it does. */
+mvt_status mvt_read_within(const uint8_t *bytes, size_t len, uint64_t most, mvt_tile *out, mvt_fault *fault);
+
+/* The first layer of version 2 of this name, as the rows of a tile that has it alone. Of the layers before it the versions
+ * and the names are looked at, and of what is behind it nothing. So nothing is known of the rest, and the bytes may be no
+ * tile; where they are one, it is its layer of the name. A fault is that of this layer, or tells bytes that are no field
+ * where no layer of the name stands before them. MVT_OK, MVT_REFUSED, MVT_NO_MEMORY, MVT_NO_LAYER. */
+mvt_status mvt_read_layer(const uint8_t *bytes, size_t len, mvt_bytes name, mvt_tile *out, mvt_fault *fault);
 
 /* The canonical bytes of the tile that rows are. The rows may come from anywhere: from mvt_read, or made by hand, in any
  * order, with spans that overlap and entries that nothing names. What a row hasn't, as the bytes of a layer of version 2,
@@ -172,12 +182,16 @@ typedef struct {
 /* A decoder of no bytes yet. What stood in `decoder` is not given back. MVT_OK, MVT_NO_MEMORY. */
 mvt_status mvt_decoder_new(mvt_decoder *decoder);
 
+/* The same, of a tile whose lists shall have at most so many bytes, as of mvt_read_within: else mvt_decoder_feed answers
+ * MVT_NO_MEMORY. The bytes of a field that isn't finished come on top. */
+mvt_status mvt_decoder_new_within(mvt_decoder *decoder, uint64_t most);
+
 /* Takes a piece. A fault is told as soon as no further byte can change it. After a fault, and after want of memory, each
  * further call answers the same. MVT_OK, MVT_REFUSED, MVT_NO_MEMORY, MVT_NO_DECODER. */
 mvt_status mvt_decoder_feed(mvt_decoder *decoder, const uint8_t *piece, size_t len, mvt_fault *fault);
 
 /* The tile as rows, after the last piece. The decoder is given back, whatever the answer, and is none afterwards.
- * MVT_OK, MVT_REFUSED, MVT_NO_MEMORY, MVT_NO_DECODER; MVT_TOO_LARGE as of mvt_read. */
+ * MVT_OK, MVT_REFUSED, MVT_NO_MEMORY, MVT_NO_DECODER. */
 mvt_status mvt_decoder_finish(mvt_decoder *decoder, mvt_tile *out, mvt_fault *fault);
 
 /* Gives a decoder back; nothing happens where there is none. */

@@ -302,18 +302,30 @@ private:
     mvt_tile rows_{};
 };
 
-/// A tile as rows. Throws refused.
-[[nodiscard]] inline tile read(input of) {
+/// A tile as rows, whose lists have at most so many bytes. Throws refused, and bad_alloc where they would have more.
+[[nodiscard]] inline tile read(input of, std::uint64_t most = UINT64_MAX) {
     mvt_tile rows{};
     mvt_fault fault{};
-    require_ok(mvt_read(of.data(), of.size(), &rows, &fault), fault, of);
+    require_ok(mvt_read_within(of.data(), of.size(), most, &rows, &fault), fault, of);
+    return tile::adopt(rows);
+}
+
+/// The first layer of version 2 of this name, as a tile that has it alone. Nothing is then known of the rest. Throws refused
+/// and no_layer.
+[[nodiscard]] inline tile read_layer(input of, std::string_view name) {
+    mvt_tile rows{};
+    mvt_fault fault{};
+    const std::uint32_t status = mvt_read_layer(of.data(), of.size(), {bytes_of(name).data(), name.size()}, &rows, &fault);
+    if (status == MVT_NO_LAYER) throw no_layer(std::string(name));
+    require_ok(status, fault, of);
     return tile::adopt(rows);
 }
 
 /// A tile that comes in pieces, cut anywhere. One thread at a time.
 class decoder {
 public:
-    decoder() { require_ok(mvt_decoder_new(&held_), {}); }
+    /// Of a tile whose lists of rows have at most so many bytes.
+    explicit decoder(std::uint64_t most = UINT64_MAX) { require_ok(mvt_decoder_new_within(&held_, most), {}); }
     decoder(decoder &&other) noexcept
         : held_(std::exchange(other.held_, {})), head_(other.head_), head_size_(other.head_size_) {}
     decoder &operator=(decoder other) noexcept {

@@ -15,14 +15,25 @@ export class FeatureTable {
   constructor(rows, index) {
     this.#rows = rows;
     this.#layer = rows.layer(index);
-    const columns = new Map();
-    this.#columnOf = Int32Array.from({ length: this.#layer.keys.len }, (_, key) => {
+    const names = new Map();
+    this.#columnOf = Int32Array.from(this.#namedKeys(), (isNamed, key) => {
+      if (isNamed === 0) return -1;
       const name = rows.key(this.#layer, key);
-      if (!columns.has(name) && columns.size < COLUMNS) columns.set(name, columns.size);
-      return columns.get(name) ?? -1;
+      if (!names.has(name)) names.set(name, names.size);
+      return names.get(name) < COLUMNS ? names.get(name) : -1;
     });
-    this.columns = [...columns.keys()].map((name) => name.slice(0, CELL));
-    this.keyCount = this.#layer.keys.len;
+    this.columns = [...names.keys()].slice(0, COLUMNS).map((name) => name.slice(0, CELL));
+    this.keyCount = names.size;
+  }
+
+  /** For each key of the layer whether a feature names it: 1 or 0. */
+  #namedKeys() {
+    const { keys, features } = this.#layer;
+    const isNamed = new Uint8Array(keys.len);
+    for (let place = features.start; place < features.start + features.len; place += 1) {
+      this.#rows.eachTag(place, (key) => (isNamed[key] = 1));
+    }
+    return isNamed;
   }
 
   get count() {

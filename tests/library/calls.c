@@ -240,6 +240,32 @@ static void decode(const uint8_t *bytes, size_t len, uint32_t wanted, const mvt_
     mvt_decoder_free(&decoder);
 }
 
+static uint64_t size_of(const mvt_tile *t) {
+    return t->layer_count * sizeof *t->layers + t->feature_count * sizeof *t->features + t->key_count * sizeof *t->keys +
+           t->value_count * sizeof *t->values + t->tag_count * sizeof *t->tags + t->part_count * sizeof *t->parts +
+           t->point_count * sizeof *t->points + t->integer_count * sizeof *t->integers + t->text_len;
+}
+
+/* Rows of at most so many bytes are read exactly where they have no more. */
+static void read_within(const uint8_t *bytes, size_t len, const mvt_tile *rows) {
+    const uint64_t size = size_of(rows);
+    mvt_tile read = {0};
+    mvt_fault fault = {0};
+    mvt_decoder decoder = {0};
+    require(mvt_read_within(bytes, len, size, &read, &fault) == MVT_OK && same_tiles(rows, &read), "rows of just the most");
+    mvt_tile_free(&read);
+    require(mvt_decoder_new_within(&decoder, size) == MVT_OK, "a decoder of rows of just the most");
+    require(mvt_decoder_feed(&decoder, bytes, len, &fault) == MVT_OK, "just the most from a decoder");
+    require(mvt_decoder_finish(&decoder, &read, &fault) == MVT_OK && same_tiles(rows, &read), "just the most in the end");
+    mvt_tile_free(&read);
+    require(mvt_read_layer(bytes, len, mvt_text("no layer's name"), &read, &fault) == MVT_NO_LAYER, "a layer of no name");
+    if (size == 0) return;
+    require(mvt_read_within(bytes, len, size - 1, &read, &fault) == MVT_NO_MEMORY && read.layers == NULL, "beyond the most");
+    require(mvt_decoder_new_within(&decoder, size - 1) == MVT_OK, "a decoder of fewer rows");
+    require(mvt_decoder_feed(&decoder, bytes, len, &fault) == MVT_NO_MEMORY, "beyond the most from a decoder");
+    mvt_decoder_free(&decoder);
+}
+
 static void call(const char *path) {
     size_t len;
     uint8_t *tile = read_file(path, &len);
@@ -268,6 +294,7 @@ static void call(const char *path) {
     require(out.data == NULL && out.len == 0, "an output that isn't due is touched");
     if (read == MVT_OK) {
         sum += walk(&rows);
+        read_within(bytes, len, &rows);
         require(write_rows(&rows) == MVT_OK, "rows that were read are a tile");
         write_changed(&rows, 4);
         mvt_tile_free(&rows);

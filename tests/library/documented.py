@@ -12,6 +12,12 @@ BUILD = "\n### A tile made step by step\n"
 BOUND = "Texts that are much larger than their tile"
 PROGRAMS = {
     "list.c": ("From C", "", "int main(void) { static uint8_t b[1 << 16]; list(b, fread(b, 1, sizeof b, stdin)); }"),
+    "water.c": (
+        "From C",
+        "\n### One layer\n",
+        "#include <stdio.h>\nint main(void) { static uint8_t b[1 << 16];"
+        ' printf("%zu\\n", water(b, fread(b, 1, sizeof b, stdin))); }',
+    ),
     "make.c": (
         "From C",
         BUILD,

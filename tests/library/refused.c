@@ -68,6 +68,9 @@ static uint32_t judge(const uint8_t *b, size_t n, output *o, mvt_fault *f) {
     return status;
 }
 static uint32_t rows(const uint8_t *b, size_t n, output *o, mvt_fault *f) { return mvt_read(b, n, &o->tile, f); }
+static uint32_t layer(const uint8_t *b, size_t n, output *o, mvt_fault *f) {
+    return mvt_read_layer(b, n, mvt_text("water"), &o->tile, f);
+}
 static uint32_t extract(const uint8_t *b, size_t n, output *o, mvt_fault *f) {
     const mvt_bytes names[] = {{(const uint8_t *)"water", 5}, {(const uint8_t *)"places", 6}};
     return mvt_extract(b, n, names, 2, &o->bytes, f);
@@ -107,6 +110,7 @@ static void free_tile(output *o) { mvt_tile_free(&o->tile); }
 static const task TASKS[] = {
     {"mvt_rewrite", rewrite, free_bytes}, {"mvt_json", json, free_bytes}, {"mvt_svg", svg, free_bytes},
     {"mvt_extract", extract, free_bytes}, {"mvt_read", rows, free_tile},
+    {"mvt_read_layer", layer, free_tile},
     {"mvt_report", report, free_bytes},   {"mvt_judge", judge, free_bytes},
     {"mvt_write", written, free_bytes},      {"mvt_builder_finish", built, free_bytes},
 };

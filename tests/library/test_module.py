@@ -26,6 +26,7 @@ import mvt
 TILES = Path(__file__).resolve().parents[2] / "examples" / "tiles"
 WHOLE = ("gdal", "postgis")
 SVG = "{http://www.w3.org/2000/svg}"
+LISTS = ("layers", "features", "keys", "values", "tags", "parts", "points", "integers", "texts")
 CALLS = (mvt.judge, mvt.read, mvt.rows, mvt.report, mvt.rewrite, mvt.to_json, mvt.to_svg)
 
 
@@ -289,6 +290,42 @@ class Ends(unittest.TestCase):
             for number in (mvt.Int(-3), mvt.Uint(3), mvt.Sint(-3)):
                 twin = pickle.loads(pickle.dumps(number, protocol))
                 self.assertEqual((type(twin), twin), (type(number), number))
+
+    def test_reads_one_layer(self):
+        whole = tile("gdal.mvt")
+        read = mvt.read(whole)
+        for layer in read:
+            if layer.version == 2:
+                self.assertEqual(mvt.read_layer(whole, layer.name), layer)
+        with self.assertRaises(mvt.NoLayer) as caught:
+            mvt.read_layer(whole, "nowhere")
+        self.assertEqual(caught.exception.name, "nowhere")
+
+    def test_one_layer_tells_nothing_of_the_rest(self):
+        """A layer without a version, one whose feature has no geometry's type, and one twice; the rest is no field."""
+        point = field(2, field(3, 1) + field(4, varint(9) + varint(50) + varint(34)))
+        names = [field(3, field(15, 2) + field(1, name) + point) for name in (b"b", b"b", b"a")]
+        bad = field(3, field(15, 2) + field(1, b"c") + field(2, field(4, varint(1) + varint(99)) + field(3, 1)))
+        input = field(3, field(1, b"a")) + bad + names[0] + names[1] + names[2] + b"\x0b"
+        self.assertEqual(mvt.read_layer(input, "b"), mvt.read(names[0]).layers[0])
+        self.assertEqual(mvt.read_layer(input, "a").name, "a")
+        with self.assertRaises(mvt.Refused) as caught:
+            mvt.read_layer(input, "c")
+        self.assertEqual((caught.exception.layer, caught.exception.feature), (1, 0))
+        with self.assertRaises(mvt.Refused) as caught:
+            mvt.read_layer(input, "nowhere")
+        self.assertEqual((caught.exception.layer, caught.exception.at), (None, len(input) - 1))
+
+    def test_bound_of_rows(self):
+        whole = tile("gdal.mvt")
+        flat = mvt.rows(whole)
+        size = sum(memoryview(getattr(flat, name)).nbytes for name in LISTS)
+        self.assertEqual(mvt.read(whole, most=size), mvt.read(whole))
+        with self.assertRaises(MemoryError):
+            mvt.rows(whole, most=size - 1)
+        decoder = mvt.Decoder(most=size - 1)
+        with self.assertRaises(MemoryError):
+            decoder.feed(whole)
 
     def test_rows_print_compare_and_pickle(self):
         flat = mvt.rows(tile("gdal.mvt"))

@@ -66,6 +66,38 @@ void take(mvt::byte_span input) {
     require(tile.layer("rail") == nullptr && tile.text(tile.layer("water")->name) == "water", "another layer is found");
 }
 
+/// One layer is that of the tile, and a name that none has is told.
+void pick(mvt::byte_span input) {
+    const mvt::tile whole = mvt::read(input);
+    for (const mvt_layer &layer : whole.layers()) {
+        if (layer.version != 2) continue;
+        const mvt::tile one = mvt::read_layer(input, whole.text(layer.name));
+        require(one.layers().size() == 1 && one.text(one.layers()[0].name) == whole.text(layer.name), "another layer");
+        require(mvt::write(one.rows()).str() == mvt::extract(input, {whole.text(layer.name)}).str(), "a layer of other features");
+    }
+    try {
+        const mvt::tile none = mvt::read_layer(input, "nowhere");
+        require(none.layers().empty() && false, "a layer of no name");
+    } catch (const mvt::no_layer &why) {
+        require(why.name() == "nowhere", "another name is missed");
+    }
+}
+
+/// No tile is read whose rows would have more bytes than they may.
+void bound(mvt::byte_span input) {
+    try {
+        const mvt::tile few = mvt::read(input, 99);
+        require(few.layers().empty() && false, "rows of more than 99 bytes");
+    } catch (const std::bad_alloc &) {
+    }
+    try {
+        mvt::decoder decoder(99);
+        decoder.feed(input);
+        require(false, "a decoder of few rows");
+    } catch (const std::bad_alloc &) {
+    }
+}
+
 /// Rows that were made by hand are written, and stay their maker's.
 void lend() {
     const mvt_layer layer{.version = 2, .extent = 4096, .name = {0, 1}, .features = {}, .keys = {}, .values = {}, .bytes = {}};
@@ -217,7 +249,7 @@ void call(const std::string &command, const std::vector<std::string_view> &names
     if (command == "hold") return hold(input);
     if (command == "look") return look(input);
     if (command == "share") return share(input);
-    if (command == "take") return take(input);
+    if (command == "take") return take(input), bound(input), pick(input);
     if (command == "lend") return lend();
     if (command == "explain") return explain();
     if (command == "build") return build();

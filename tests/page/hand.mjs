@@ -4,8 +4,9 @@ const KINDS = { unknown: 0, points: 1, lines: 2, polygons: 3 };
 const VALUES = { string: 1, float: 2, double: 3, int: 4, uint: 5, sint: 6, bool: 7 };
 
 /**
- * The rows of layers, `{name, extent, version, features, bytes}`; a feature is `{id, shape, parts, attributes}`, a part a list
- * of `[x, y]`, an attribute `[key, kind, value]`, where the value of a number is its 64 bits as a BigInt.
+ * The rows of layers, `{name, extent, version, features, spare, bytes}`; a feature is `{id, shape, parts, attributes}`, a part a
+ * list of `[x, y]`, an attribute `[key, kind, value]`, where the value of a number is its 64 bits as a BigInt. No feature names
+ * the keys to spare.
  */
 export function handMade(layers) {
   const lists = { layers: [], features: [], keys: [], values: [], tags: [], parts: [], points: [], integers: [], texts: [] };
@@ -15,8 +16,9 @@ export function handMade(layers) {
     texts.push(...bytes);
     return [texts.length - bytes.length, bytes.length];
   };
-  for (const { name = '', extent = 4096, version = 2, features = [], bytes = 0 } of layers) {
+  for (const { name = '', extent = 4096, version = 2, features = [], spare = [], bytes = 0 } of layers) {
     const start = { features: lists.features.length, keys: lists.keys.length, values: lists.values.length };
+    for (const key of spare) lists.keys.push(spelled(key));
     for (const feature of features) lists.features.push(featureRow(feature, lists, start, spelled));
     const span = (of) => [start[of], lists[of].length - start[of]];
     lists.layers.push([version, extent, spelled(name), span('features'), span('keys'), span('values'), [0, bytes]]);

@@ -125,7 +125,7 @@ await is('a note leads to its feature', report.some('RepeatedId', 0, 9), [{ line
 // ---- rows
 
 const rows = new Rows(handMade([
-  { name: 'land', extent: 100, features: [
+  { name: 'land', extent: 100, spare: ['unused'], features: [
     { id: 7n, shape: 'polygons', parts: [[[10, 10], [90, 10], [90, 90], [10, 90]], [[40, 40], [40, 60], [60, 60], [60, 40]]], attributes: [['kind', 'string', 'wood'], ['area', 'float', 0x3dcccccdn]] },
     { shape: 'lines', parts: [[[0, 20], [100, 20]]], attributes: [['kind', 'string', 'path']] },
   ] },
@@ -147,7 +147,7 @@ await is('nothing beyond the reach', near(0.95, 0.5), []);
 await is('boxes', finder.boxOf(0), [10, 10, 90, 90]);
 
 const table = new FeatureTable(rows, 0);
-await is('columns', table.columns, ['kind', 'area']);
+await is('columns of the keys that a feature names', [table.columns, table.keyCount], [['kind', 'area'], 2]);
 await is('cells', table.some(0, 9).map((row) => row.cells), [['wood', '0.1'], ['path', null]]);
 await is('a filter by value', [table.filter('PATH'), table.some(0, 9).map((row) => row.index), table.rowOf(1), table.rowOf(0)], [1, [1], 0, -1]);
 await is('a filter by id', [table.filter('7'), table.filter('polyg'), table.filter('')], [1, 1, 2]);

@@ -1,14 +1,13 @@
 -- What the calls answer.
-use Rattle.std.specs.Prelude.{◌≡◌, ℕ, ◌<◌, List, length, Any, Option, None, Some, Result, Ok, Err, ⊤}
+use Rattle.std.specs.Prelude.{◌≡◌, ℕ, ◌<◌, List, length, Option, None, Some, Result, Ok, Err, ⊤}
 use Rattle.mvt_base.specs.declared.TheConstants.{LIMIT}
-use Rattle.mvt_attrs.specs.declared.pool_error.PoolError.{PoolError}
-use Rattle.mvt_attrs.specs.declared.pool_error.PoolError.TheVariants as pools
 use Rattle.mvt_tile.specs.declared.fault.DecodeError.{DecodeError}
 use Rattle.mvt_tile.specs.declared.fault.DecodeError.TheVariants as decoding
 use Rattle.mvt_tile.specs.declared.fault.Fault.{Fault as TileFault}
 use Rattle.mvt_model.specs.declared.tile.Tile.{Tile}
 use Rattle.mvt_model.specs.CanonicalTiles.{canonical}
 use Rattle.mvt_tile.specs.Extraction.{pick, first_missing}
+use Rattle.mvt_tile.specs.Finding.{first_in, named_fault}
 use Rattle.mvt_tile.specs.TileRules.{fault_within}
 use Rattle.mvt_model.specs.Tiles.{IsTile}
 use Rattle.serde_json.specs.Written.{compact_text}
@@ -17,7 +16,7 @@ use Rattle.mvt_c.specs.declared.fault.Fault.{Fault}
 use Rattle.mvt_c.specs.declared.refusal.Refusal.{Refusal}
 use Rattle.mvt_c.specs.declared.refusal.Refusal.TheVariants.{Refused, Memory, TooLarge, NoLayer, BadName}
 use Rattle.mvt_c.specs.Faults.{IsFault}
-use Rattle.mvt_rows.specs.Reading.{HasTooMany, IsTooLarge}
+use Rattle.mvt_rows.specs.Reading.{IsTooLarge}
 
 abbrev pub status_of_refusal : Refusal → ℕ
 status_of_refusal (Refused fault) = 1
@@ -48,17 +47,17 @@ abbrev pub status_of_failure : Option DecodeError → ℕ
 status_of_failure None = 0
 status_of_failure (Some error) = status_of_refusal (of_decode error)
 
-abbrev pub of_pool : PoolError → Refusal
-of_pool pools.Memory = Memory
-of_pool pools.Full = TooLarge
-
 -- the bytes are a tile
 abbrev pub IsAccepted : List ℕ → Type 0
 IsAccepted input = (tile : Tile) × IsTile LIMIT input tile
 
--- the first broken rule of the bytes, as C sees it
+-- a fault that there is, as C sees it
+abbrev pub IsToldOf : Option TileFault → Fault → Type 0
+IsToldOf found told = (fault : TileFault) × (found ≡ Some fault) × IsFault fault told
+
+-- the first broken rule of the bytes
 abbrev pub IsTold : List ℕ → Fault → Type 0
-IsTold input told = (fault : TileFault) × (fault_within LIMIT input ≡ Some fault) × IsFault fault told
+IsTold input told = IsToldOf (fault_within LIMIT input) told
 
 -- why nothing is made of the bytes
 abbrev pub RefusedAs : List ℕ → Refusal → Type 0
@@ -84,6 +83,10 @@ IsTooLargeOf input names = (tile : Tile) × IsTileWith input tile names × (LIMI
 abbrev pub LacksLayer : List ℕ → List (List ℕ) → Type 0
 LacksLayer input names = (tile : Tile) × (n : ℕ) × IsTile LIMIT input tile × (first_missing tile names ≡ Some n)
 
+-- no layer of version 2 among the fields of the bytes has the name
+abbrev pub LacksLayerOf : List ℕ → List ℕ → Type 0
+LacksLayerOf name input = (named_fault LIMIT name input ≡ None) × (first_in name input ≡ None)
+
 -- why no layers are extracted from the bytes
 abbrev pub NotExtracted : List ℕ → List (List ℕ) → Refusal → Type 0
 NotExtracted input names (Refused fault) = fault_within LIMIT input ≡ Some fault
@@ -91,6 +94,14 @@ NotExtracted input names Memory = ⊤
 NotExtracted input names TooLarge = IsTooLargeOf input names
 NotExtracted input names NoLayer = LacksLayer input names
 NotExtracted input names BadName = ⊥
+
+-- why no layer of this name is read from the bytes
+abbrev pub NotReadOf : List ℕ → List ℕ → Refusal → Type 0
+NotReadOf name input (Refused fault) = named_fault LIMIT name input ≡ Some fault
+NotReadOf name input Memory = ⊤
+NotReadOf name input TooLarge = ⊥
+NotReadOf name input NoLayer = LacksLayerOf name input
+NotReadOf name input BadName = ⊥
 
 -- the bytes are a tile, and this is a text of it
 abbrev pub IsTextOf : (Tile → List ℕ) → List ℕ → List ℕ → Type 0
@@ -107,15 +118,3 @@ NotShown input Memory = ⊤
 NotShown input TooLarge = ⊥
 NotShown input NoLayer = ⊥
 NotShown input BadName = ⊥
-
--- the bytes are a tile with such a layer
-abbrev pub IsTooLargeToRead : List ℕ → Type 0
-IsTooLargeToRead input = (tile : Tile) × IsTile LIMIT input tile × Any HasTooMany tile.items
-
--- why the bytes can't be read as rows
-abbrev pub NotRead : List ℕ → Refusal → Type 0
-NotRead input (Refused fault) = fault_within LIMIT input ≡ Some fault
-NotRead input Memory = ⊤
-NotRead input TooLarge = IsTooLargeToRead input
-NotRead input NoLayer = ⊥
-NotRead input BadName = ⊥

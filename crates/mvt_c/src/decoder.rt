@@ -1,12 +1,14 @@
 //! A decoder that lives across calls: C keeps a handle, hands it to each call and takes it back.
 //! `library/free.c` answers an empty handle before it comes here.
 ghost use Rattle.std.specs.Prelude.{◌≡◌, ◌≢◌, ◌≤◌, [], ◌++◌, ℕ, List, None, IsSome, IfOk, IfErr, IfSome};
-ghost use Rattle.mvt_tile.specs.Streams.{IsCalm, StandsFor};
+ghost use Rattle.mvt_tile.specs.Streams.{IsCalm};
 ghost use Rattle.mvt_tile.specs.TileRules.{fault_within};
-ghost use Rattle.mvt_c.specs.Calls.{IsAccepted, IsTold, IsTooLargeToRead, NotRead, NotShown};
+ghost use Rattle.mvt_c.specs.Calls.{IsTold, NotShown};
 ghost use Rattle.mvt_c.specs.Calls.{of_decode, status_of, status_of_failure, status_of_refusal};
+ghost use Rattle.mvt_rows.specs.Decoding.{StandsFor};
 ghost use Rattle.mvt_rows.specs.Lent.{table_of};
-ghost use Rattle.mvt_rows.specs.Reading.{IsRead};
+ghost use Rattle.mvt_rows.specs.Reading.{IsRead, IsReadBeyond};
+ghost use Rattle.mvt_rows.specs.Tables.{table_size};
 
 mod held;
 mod parts;
@@ -15,8 +17,7 @@ use crate::fault::Fault;
 use crate::refusal::{Refusal, tell};
 use held::{Decoder, Held};
 use mvt_base::LIMIT;
-use mvt_rows::{Rows, Table};
-use mvt_tile::TileDecoder;
+use mvt_rows::{Rows, RowsDecoder, RowsVisitor, Table};
 use std::alloc::Global;
 use std::mem;
 
@@ -29,16 +30,18 @@ fn keep(held: Held, out: &mut Held)
     mem::forget(mem::replace(out, held));
 }
 
-/// A decoder of no bytes yet (`mvt_decoder_new`).
+/// A decoder of no bytes yet, whose rows shall have at most so many bytes (`mvt_decoder_new_within`).
 #[unsafe(no_mangle)]
-pub extern "C" fn mvt_held_new(alloc: Global, out: &mut Held) -> u32
-    ensures made { result ≡ 0 → StandsFor LIMIT out.new.decoder.inner [] }
-    ensures fresh { result ≡ 0 → out.new.decoder.inner.failure ≡ None }
+pub extern "C" fn mvt_held_new(alloc: Global, most: u64, out: &mut Held) -> u32
+    ensures made { result ≡ 0 → StandsFor out.new.decoder.inner [] }
+    ensures fresh { result ≡ 0 → out.new.decoder.inner.0.failure ≡ None }
+    ensures most { result ≡ 0 → out.new.decoder.most ≡ most }
     ensures known { result ≢ 0 → result ≡ 2 }
     ensures out_kept { result ≢ 0 → out.new ≡ out.old }
 {
     let decoder = Decoder {
-        inner: TileDecoder::new(alloc),
+        inner: RowsDecoder::new(alloc, RowsVisitor::new(alloc, most)),
+        most,
     };
     match Held::new(alloc, decoder) {
         Ok(held) => {
@@ -57,15 +60,16 @@ pub extern "C" fn mvt_held_feed(
     again: &mut Held,
     fault: &mut Fault,
 ) -> u32
-    ensures stands { (s : List ℕ) → StandsFor LIMIT held.decoder.inner s
-        → StandsFor LIMIT again.new.decoder.inner (s ++ piece.now) }
-    ensures refused { result ≡ 1 → (s : List ℕ) → StandsFor LIMIT held.decoder.inner s
+    ensures stands { (s : List ℕ) → StandsFor held.decoder.inner s
+        → StandsFor again.new.decoder.inner (s ++ piece.now) }
+    ensures refused { result ≡ 1 → (s : List ℕ) → StandsFor held.decoder.inner s
         → IsTold (s ++ piece.now) fault.new }
     // No fault so far, but that of a field that isn't finished.
-    ensures live { result ≡ 0 → (s : List ℕ) → StandsFor LIMIT held.decoder.inner s
+    ensures live { result ≡ 0 → (s : List ℕ) → StandsFor held.decoder.inner s
         → IsCalm (fault_within LIMIT (s ++ piece.now)) }
-    ensures status { result ≡ status_of_failure again.new.decoder.inner.failure }
-    ensures sticky { IsSome held.decoder.inner.failure → again.new.decoder ≡ held.decoder }
+    ensures most { again.new.decoder.most ≡ held.decoder.most }
+    ensures status { result ≡ status_of_failure again.new.decoder.inner.0.failure }
+    ensures sticky { IsSome held.decoder.inner.0.failure → again.new.decoder ≡ held.decoder }
     ensures few { result ≤ 2 }
     ensures fault_kept { result ≢ 1 → fault.new ≡ fault.old }
 {
@@ -78,13 +82,13 @@ pub extern "C" fn mvt_held_feed(
     }
 }
 
-fn fed(decoder: &mut TileDecoder, piece: &[u8]) -> Result<(), Refusal>
-    ensures stands { (s : List ℕ) → StandsFor LIMIT decoder.old s
-        → StandsFor LIMIT decoder.new (s ++ piece.now) }
-    ensures refused { IfErr result (λ refusal. (s : List ℕ) → StandsFor LIMIT decoder.old s
+fn fed(decoder: &mut RowsDecoder, piece: &[u8]) -> Result<(), Refusal>
+    ensures stands { (s : List ℕ) → StandsFor decoder.old s
+        → StandsFor decoder.new (s ++ piece.now) }
+    ensures refused { IfErr result (λ refusal. (s : List ℕ) → StandsFor decoder.old s
         → NotShown (s ++ piece.now) refusal) }
-    ensures status { status_of result ≡ status_of_failure decoder.new.failure }
-    ensures sticky { IsSome decoder.old.failure → decoder.new ≡ decoder.old }
+    ensures status { status_of result ≡ status_of_failure decoder.new.0.failure }
+    ensures sticky { IsSome decoder.old.0.failure → decoder.new ≡ decoder.old }
     ensures few { IfErr result (λ refusal. status_of_refusal refusal ≤ 2) }
 {
     decoder.feed(piece)?;
@@ -93,29 +97,23 @@ fn fed(decoder: &mut TileDecoder, piece: &[u8]) -> Result<(), Refusal>
 
 /// The tile as rows, after the last piece (`mvt_decoder_finish`).
 #[unsafe(no_mangle)]
-pub extern "C" fn mvt_held_finish(
-    alloc: Global,
-    held: Held,
-    out: &mut Rows,
-    fault: &mut Fault,
-) -> u32
-    ensures done { result ≡ 0 → (s : List ℕ) → StandsFor LIMIT held.decoder.inner s
+pub extern "C" fn mvt_held_finish(held: Held, out: &mut Rows, fault: &mut Fault) -> u32
+    ensures done { result ≡ 0 → (s : List ℕ) → StandsFor held.decoder.inner s
         → IsRead s (table_of out.new) }
-    ensures refused { result ≡ 1 → (s : List ℕ) → StandsFor LIMIT held.decoder.inner s
+    ensures within { result ≡ 0 → table_size (table_of out.new) ≤ held.decoder.most }
+    ensures refused { result ≡ 1 → (s : List ℕ) → StandsFor held.decoder.inner s
         → IsTold s fault.new }
-    ensures too_large { result ≡ 3 → (s : List ℕ) → StandsFor LIMIT held.decoder.inner s
-        → IsTooLargeToRead s }
-    // A decoder that hasn't failed wants memory for the rows of a tile alone.
-    ensures memory { result ≡ 2 → held.decoder.inner.failure ≡ None → (s : List ℕ)
-        → StandsFor LIMIT held.decoder.inner s
-        → IsAccepted s }
-    ensures kept { IfSome held.decoder.inner.failure
+    // A decoder that hasn't failed wants memory for too many rows alone.
+    ensures memory { result ≡ 2 → held.decoder.inner.0.failure ≡ None → (s : List ℕ)
+        → StandsFor held.decoder.inner s
+        → IsReadBeyond s held.decoder.most }
+    ensures kept { IfSome held.decoder.inner.0.failure
         (λ error. result ≡ status_of_refusal (of_decode error)) }
-    ensures few { result ≤ 3 }
+    ensures few { result ≤ 2 }
     ensures out_kept { result ≢ 0 → out.new ≡ out.old }
     ensures fault_kept { result ≢ 1 → fault.new ≡ fault.old }
 {
-    match finished(alloc, Box::into_inner(held.into_box())) {
+    match finished(Box::into_inner(held.into_box())) {
         Ok(table) => {
             *out = table.leak();
             0
@@ -124,21 +122,25 @@ pub extern "C" fn mvt_held_finish(
     }
 }
 
-fn finished(alloc: Global, decoder: Decoder) -> Result<Table, Refusal>
-    ensures done { IfOk result (λ table. (s : List ℕ) → StandsFor LIMIT decoder.inner s
+fn finished(decoder: Decoder) -> Result<Table, Refusal>
+    ensures done { IfOk result (λ table. (s : List ℕ) → StandsFor decoder.inner s
         → IsRead s table) }
+    ensures within { IfOk result (λ table. table_size table ≤ decoder.most) }
     ensures refused { IfErr result
-        (λ refusal. (s : List ℕ) → StandsFor LIMIT decoder.inner s → NotRead s refusal) }
-    ensures memory { status_of result ≡ 2 → decoder.inner.failure ≡ None → (s : List ℕ)
-        → StandsFor LIMIT decoder.inner s
-        → IsAccepted s }
-    ensures kept { IfSome decoder.inner.failure
+        (λ refusal. (s : List ℕ) → StandsFor decoder.inner s → NotShown s refusal) }
+    ensures memory { status_of result ≡ 2 → decoder.inner.0.failure ≡ None → (s : List ℕ)
+        → StandsFor decoder.inner s
+        → IsReadBeyond s decoder.most }
+    ensures kept { IfSome decoder.inner.0.failure
         (λ error. status_of result ≡ status_of_refusal (of_decode error)) }
-    ensures few { IfErr result (λ refusal. status_of_refusal refusal ≤ 3) }
+    ensures few { IfErr result (λ refusal. status_of_refusal refusal ≤ 2) }
 {
-    let Decoder { inner } = decoder;
-    let tile = inner.finish()?;
-    Ok(Table::of_tile(alloc, &tile)?)
+    let Decoder { inner, most } = decoder;
+    let table = inner.finish()?.into_table();
+    if !table.is_within(most) {
+        return Err(Refusal::Memory);
+    }
+    Ok(table)
 }
 
 /// Gives a decoder back (`mvt_decoder_free`).

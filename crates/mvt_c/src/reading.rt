@@ -1,13 +1,16 @@
 //! A tile's bytes judged, and read as rows.
 ghost use Rattle.std.specs.Prelude.{◌≡◌, ◌≢◌, ◌≤◌, IfOk, IfErr, OnOk};
-ghost use Rattle.mvt_c.specs.Calls.{IsAccepted, IsTold, IsTooLargeToRead, NotRead, NotShown};
+ghost use Rattle.mvt_c.specs.Calls.{IsAccepted, IsTold, IsToldOf, LacksLayerOf, NotReadOf, NotShown};
+ghost use Rattle.mvt_tile.specs.Finding.{named_fault};
 ghost use Rattle.mvt_rows.specs.Lent.{table_of};
-ghost use Rattle.mvt_rows.specs.Reading.{IsRead};
+ghost use Rattle.mvt_rows.specs.Reading.{IsLayerRead, IsRead};
+ghost use Rattle.mvt_rows.specs.Tables.{table_size};
 
 use crate::fault::Fault;
 use crate::refusal::{Refusal, tell};
-use mvt_rows::{Rows, Table};
-use mvt_tile::{decode, judge};
+use mvt_base::LIMIT;
+use mvt_rows::{Rows, Table, read_layer, read_rows_within};
+use mvt_tile::judge;
 use std::alloc::Global;
 
 /// Whether the bytes are a tile (`mvt_judge`).
@@ -37,12 +40,30 @@ fn judged(alloc: Global, bytes: &[u8]) -> Result<(), Refusal>
 pub extern "C" fn mvt_read(alloc: Global, bytes: &[u8], out: &mut Rows, fault: &mut Fault) -> u32
     ensures done { result ≡ 0 → IsRead bytes.now (table_of out.new) }
     ensures refused { result ≡ 1 → IsTold bytes.now fault.new }
-    ensures too_large { result ≡ 3 → IsTooLargeToRead bytes.now }
-    ensures few { result ≤ 3 }
+    ensures few { result ≤ 2 }
     ensures out_kept { result ≢ 0 → out.new ≡ out.old }
     ensures fault_kept { result ≢ 1 → fault.new ≡ fault.old }
 {
-    match read(alloc, bytes) {
+    mvt_read_within(alloc, bytes, u64::MAX, out, fault)
+}
+
+/// A tile as rows of at most so many bytes (`mvt_read_within`).
+#[unsafe(no_mangle)]
+pub extern "C" fn mvt_read_within(
+    alloc: Global,
+    bytes: &[u8],
+    most: u64,
+    out: &mut Rows,
+    fault: &mut Fault,
+) -> u32
+    ensures done { result ≡ 0 → IsRead bytes.now (table_of out.new) }
+    ensures within { result ≡ 0 → table_size (table_of out.new) ≤ most }
+    ensures refused { result ≡ 1 → IsTold bytes.now fault.new }
+    ensures few { result ≤ 2 }
+    ensures out_kept { result ≢ 0 → out.new ≡ out.old }
+    ensures fault_kept { result ≢ 1 → fault.new ≡ fault.old }
+{
+    match read(alloc, bytes, most) {
         Ok(table) => {
             *out = table.leak();
             0
@@ -51,10 +72,45 @@ pub extern "C" fn mvt_read(alloc: Global, bytes: &[u8], out: &mut Rows, fault: &
     }
 }
 
-fn read(alloc: Global, bytes: &[u8]) -> Result<Table, Refusal>
+fn read(alloc: Global, bytes: &[u8], most: u64) -> Result<Table, Refusal>
     ensures done { IfOk result (IsRead bytes.now) }
-    ensures refused { IfErr result (NotRead bytes.now) }
+    ensures within { IfOk result (λ table. table_size table ≤ most) }
+    ensures refused { IfErr result (NotShown bytes.now) }
 {
-    let tile = decode(alloc, bytes)?;
-    Ok(Table::of_tile(alloc, &tile)?)
+    Ok(read_rows_within(alloc, bytes, most)?)
+}
+
+/// The first layer of a name as rows (`mvt_read_layer`).
+#[unsafe(no_mangle)]
+pub extern "C" fn mvt_read_named(
+    alloc: Global,
+    bytes: &[u8],
+    name: &[u8],
+    out: &mut Rows,
+    fault: &mut Fault,
+) -> u32
+    ensures done { result ≡ 0 → IsLayerRead name.now bytes.now (table_of out.new) }
+    ensures refused { result ≡ 1 → IsToldOf (named_fault LIMIT name.now bytes.now) fault.new }
+    ensures missing { result ≡ 4 → LacksLayerOf name.now bytes.now }
+    ensures few { (result ≡ 3 → ⊥) × (result ≤ 4) }
+    ensures out_kept { result ≢ 0 → out.new ≡ out.old }
+    ensures fault_kept { result ≢ 1 → fault.new ≡ fault.old }
+{
+    match read_named(alloc, bytes, name) {
+        Ok(layer) => {
+            *out = layer.leak();
+            0
+        }
+        Err(refusal) => tell(refusal, fault),
+    }
+}
+
+fn read_named(alloc: Global, bytes: &[u8], name: &[u8]) -> Result<Table, Refusal>
+    ensures done { IfOk result (IsLayerRead name.now bytes.now) }
+    ensures refused { IfErr result (NotReadOf name.now bytes.now) }
+{
+    match read_layer(alloc, bytes, name, u64::MAX)? {
+        Some(table) => Ok(table),
+        None => Err(Refusal::NoLayer),
+    }
 }

@@ -4,7 +4,6 @@ ghost use Rattle.mvt_c.specs.Calls.{status_of, status_of_refusal, TellsFault};
 
 use crate::fault::Fault;
 use crate::lent::Bytes;
-use mvt_attrs::PoolError;
 use mvt_tile::{DecodeError, Fault as TileFault};
 use mvt_view::ViewError;
 use std::alloc::{AllocError, AllocFailed};
@@ -41,7 +40,7 @@ impl From<DecodeError> for Refusal {
 
     ghost from_gives = { λ error refusal. refusal ≡ of_decode error };
 
-    // `decode` reads nothing, so a failed read never comes here.
+    // Nothing is read from a reader here, so a failed read never comes.
     fn from(error: DecodeError) -> Self {
         match error {
             DecodeError::Memory => Refusal::Memory,
@@ -72,20 +71,6 @@ impl<T: Drop> From<AllocFailed<T>> for Refusal {
 
     fn from(_: AllocFailed<T>) -> Self {
         Refusal::Memory
-    }
-}
-
-impl From<PoolError> for Refusal {
-    ghost use Rattle.std.specs.Prelude.{◌≡◌};
-    ghost use Rattle.mvt_c.specs.Calls.{of_pool};
-
-    ghost from_gives = { λ error refusal. refusal ≡ of_pool error };
-
-    fn from(error: PoolError) -> Self {
-        match error {
-            PoolError::Memory => Refusal::Memory,
-            PoolError::Full => Refusal::TooLarge,
-        }
     }
 }
 

@@ -14,3 +14,4 @@ pub mod Valid
 pub mod Ranges
 pub mod Walks
 pub mod Inner
+pub mod Drawn

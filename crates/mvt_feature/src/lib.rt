@@ -18,9 +18,9 @@ mod writing;
 
 pub use bound::room_behind_feature;
 pub use cause::Cause;
-pub use feature::Feature;
+pub use feature::{Drawn, Feature};
 pub use message_error::MessageError;
-pub use reading::{judge_feature, read_feature, read_feature_in};
+pub use reading::{judge_feature, read_drawn, read_feature, read_feature_in};
 pub use scratch::Scratch;
 pub use validity::{is_valid_feature, validate_feature};
 pub use value::{judge_value, read_value, text_of, varint_of};

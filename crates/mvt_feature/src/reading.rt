@@ -3,10 +3,11 @@ ghost use Rattle.std.specs.Prelude.{◌≡◌, ◌+◌, ◌^◌, ◌<◌, List, 
 ghost use Rattle.mvt_base.specs.Tells.{Tells};
 ghost use Rattle.mvt_attrs.specs.declared.value.Value.{Value};
 ghost use Rattle.mvt_feature.specs.Faults.{fault_of};
+ghost use Rattle.mvt_feature.specs.Drawn.{tags_of, IsDrawnOf};
 ghost use Rattle.mvt_feature.specs.Features.{IsFeatureOf};
 ghost use Rattle.mvt_feature.specs.FeatureRules.{feature_fault};
 
-use crate::feature::Feature;
+use crate::feature::{Drawn, Feature};
 use crate::known::read_known;
 use crate::message_error::MessageError;
 use crate::scratch::Scratch;
@@ -69,6 +70,40 @@ pub fn read_feature_in(
     Ok(Feature {
         id: known.id,
         attributes: Items::new(attributes),
+        geometry,
+    })
+}
+
+/// The id and the geometry of a feature, in a layer with these keys and this number of values.
+///
+/// The tags are left in the scratch, as they stand.
+///
+/// # Errors
+///
+/// As `read_feature`.
+pub fn read_drawn(
+    alloc: Global,
+    payload: &[u8],
+    payload_at: u64,
+    keys: &mut LayerKeys<'_>,
+    values: usize,
+    scratch: &mut Scratch,
+) -> Result<Drawn, MessageError>
+    requires { payload_at + length payload.now < 2 ^ 64 }
+    ensures feature { IfOk result (λ drawn. (held : List Value) → length held ≡ values
+        → IsDrawnOf payload.now keys.old held (tags_of scratch.new) drawn) }
+    ensures ok { OnOk result ((held : List Value) → length held ≡ values
+        → feature_fault payload.now payload_at keys.old held ≡ None) }
+    ensures err { IfErr result (λ error. (held : List Value) → length held ≡ values
+        → Tells (fault_of error) (feature_fault payload.now payload_at keys.old held)) }
+    ensures same { keys.new ≡ keys.old }
+{
+    let known = read_known(payload, payload_at, scratch)?;
+    let tags = &scratch.tags;
+    judge_tags(alloc, keys, values, tags)?;
+    let geometry = read_geometry(alloc, known.kind, &scratch.integers)?;
+    Ok(Drawn {
+        id: known.id,
         geometry,
     })
 }

@@ -1,4 +1,7 @@
 //! Lists that are used again from feature to feature.
+ghost use Rattle.std.specs.Prelude.{◌≡◌};
+ghost use Rattle.mvt_feature.specs.Drawn.{tags_of};
+
 use mvt_wire::PackedNumbers;
 use std::alloc::{AllocError, Global};
 
@@ -36,6 +39,13 @@ impl Scratch {
             integers: Vec::new(alloc),
             drawing: PackedNumbers::new(alloc),
         }
+    }
+
+    /// The tags of the feature that was read last.
+    pub fn tags(&self) -> &[u32]
+        ensures { result.now ≡ tags_of self.now }
+    {
+        &self.tags
     }
 
     /// A scratch for writing, whose lists needn't grow for a small feature.

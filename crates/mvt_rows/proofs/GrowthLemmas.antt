@@ -76,6 +76,46 @@ pub grown_fold : {X : Type 0} → (f : Table → X → Table) → ((t : Table) (
 grown_fold f grows t [] = grown_not t
 grown_fold f grows t (x ∷ xs) = grown_more t (f t x) (fold f (f t x) xs) (grows t x) (grown_fold f grows (f t x) xs)
 
+-- more rows of features, more tags, and another text behind other rows of layers
+pub more_features : (t : Table) (rows : List FeatureRow) → Grown t (record t { features = t.features ++ rows })
+more_features t rows =
+    record {
+      features = pushed _ rows;
+      keys = same _;
+      values = same _;
+      tags = same _;
+      parts = same _;
+      points = same _;
+      integers = same _;
+      texts = same _;
+    }
+
+pub more_tags : (t : Table) (tags : List ℕ) → Grown t (record t { tags = t.tags ++ tags })
+more_tags t tags =
+    record {
+      features = same _;
+      keys = same _;
+      values = same _;
+      tags = pushed _ tags;
+      parts = same _;
+      points = same _;
+      integers = same _;
+      texts = same _;
+    }
+
+pub more_texts : (t : Table) (layers : List LayerRow) (text : List ℕ) → Grown t (record t { layers = layers; texts = t.texts ++ text })
+more_texts t layers text =
+    record {
+      features = same _;
+      keys = same _;
+      values = same _;
+      tags = same _;
+      parts = same _;
+      points = same _;
+      integers = same _;
+      texts = pushed _ text;
+    }
+
 pub key_grows : (t : Table) (key : List ℕ) → Grown t (with_key t key)
 key_grows t key =
     record {

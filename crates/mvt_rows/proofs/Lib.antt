@@ -1,9 +1,8 @@
 pub mod RowsLaws
-mod FeatureLemmas
-mod FoldLemmas
 mod EachLemmas
 mod TileLemmas
 mod RowLemmas
 mod GrowthLemmas
 mod TableLemmas
-mod RowsOfLemmas
+mod ReadLemmas
+mod VisitLemmas

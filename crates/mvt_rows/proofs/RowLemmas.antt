@@ -62,7 +62,7 @@ steps_joined f y (x ∷ xs) zs now r so next =
     and_then_to (f y x) (λ s. steps f s xs) (λ s. steps f s (xs ++ zs)) now r (λ s h. steps_joined f s xs zs now r h next) so
 
 -- where a part stands
-part_is : {X : Type 0} → (held front p back : List X) → held ≡ front ++ (p ++ back) → (start len : ℕ) → start ≡ length front
+pub part_is : {X : Type 0} → (held front p back : List X) → held ≡ front ++ (p ++ back) → (start len : ℕ) → start ≡ length front
     → len ≡ length p → part_of held (record { start = start; len = len }) ≡ Some p
 part_is held front p back is start len from long =
     let size : length held ≡ length front + (length p + length back) = ap length is ∙ length-append front (p ++ back)

@@ -1,6 +1,6 @@
 -- The rows that texts, values and geometries are given are those texts, values and geometries.
-use Rattle.std.proofs.Common.{◌≡◌, ℕ, ◌^◌, Bool, true, false, List, [], ◌∷◌, ◌++◌, length, map, Some, None, if◌then◌else◌, refl, sym, ap, ◌∙◌, append-nil, append_assoc}
-use Rattle.std.specs.Prelude.{IsUtf8, ⊤}
+use Rattle.std.proofs.Common.{◌≡◌, ℕ, ◌^◌, Bool, true, false, List, [], ◌∷◌, ◌++◌, length, map, Option, Some, None, if◌then◌else◌, refl, sym, ap, ◌∙◌, append-nil, append_assoc}
+use Rattle.std.specs.Prelude.{IsUtf8, unwrap_or, is_some, ⊤}
 use Rattle.std.specs.Int.{w64, cast_unsigned}
 use Rattle.std.specs.List.{fold, AllByRecursion}
 use Rattle.std.specs.Option.{option_map, option_and_then}
@@ -220,3 +220,8 @@ geometry_keeps L parts numbers t (Lines lines) = fold_keeps L (with_part 0) (λ 
 geometry_keeps L parts numbers t (Polygons polygons) =
     fold_keeps L with_polygon
     (λ t p. fold_keeps L (with_part 0) (λ t ring. parts t 0 ring) (with_part 1 t p.outer) p.rest ∙ parts t 1 p.outer) t polygons
+
+-- an id as its row has it
+pub id_is : (id : Option ℕ) → option_map (λ has. if has then Some (unwrap_or id 0) else None) (truth_of (if is_some id then 1 else 0)) ≡ Some id
+id_is None = refl
+id_is (Some n) = refl

@@ -3,3 +3,5 @@ pub mod Lent
 pub mod TileRows
 pub mod Written
 pub mod Reading
+pub mod Visiting
+pub mod Decoding

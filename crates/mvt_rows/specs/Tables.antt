@@ -1,23 +1,17 @@
 -- A tile as flat rows. Each row names the parts that belong to it by where they stand in the list of their kind; parts are
 -- appended in the order of the tile.
-use Rattle.std.specs.Prelude.{ℕ, ◌-◌, List, [], ◌∷◌, ◌++◌, length, map, unwrap_or, is_some, if◌then◌else◌}
+use Rattle.std.specs.Prelude.{ℕ, ◌+◌, ◌*◌, ◌-◌, List, [], ◌∷◌, ◌++◌, length, map, Option, unwrap_or, is_some, if◌then◌else◌}
 use Rattle.std.specs.Int.{w64, cast_unsigned}
 use Rattle.std.specs.List.{fold}
 use Rattle.mvt_attrs.specs.declared.value.Value.{Value}
 use Rattle.mvt_attrs.specs.declared.value.Value.TheVariants.{Text, Float, Double, Int, Uint, Sint, Bool as Truth}
-use Rattle.mvt_attrs.specs.TagPlaces.{tags_in}
 use Rattle.mvt_geometry.specs.declared.shape.Point.{Point}
 use Rattle.mvt_geometry.specs.declared.shape.Polygon.{Polygon}
 use Rattle.mvt_geometry.specs.declared.shape.Geometry.{Geometry}
 use Rattle.mvt_geometry.specs.declared.shape.Geometry.TheVariants.{Unknown, Points, Lines, Polygons}
 use Rattle.mvt_geometry.specs.Shape.{kind_of}
-use Rattle.mvt_feature.specs.declared.feature.Feature.{Feature}
 use Rattle.mvt_feature.specs.Canonical.{type_number}
-use Rattle.mvt_message.specs.declared.item.Item.{Item}
-use Rattle.mvt_message.specs.declared.item.Item.TheVariants.{Layer, Foreign}
-use Rattle.mvt_message.specs.declared.item.Layer.{Layer as ALayer}
-use Rattle.mvt_message.specs.CanonicalItems.{keys_of, values_of}
-use Rattle.mvt_model.specs.declared.tile.Tile.{Tile}
+use Rattle.mvt_rows.specs.declared.places.Places.{Places}
 use Rattle.mvt_rows.specs.declared.rows.Span.{Span}
 use Rattle.mvt_rows.specs.declared.rows.LayerRow.{LayerRow}
 use Rattle.mvt_rows.specs.declared.rows.FeatureRow.{FeatureRow}
@@ -39,6 +33,12 @@ pub record Table : Type 0 where
 
 abbrev pub no_rows : Table
 no_rows = record { layers = []; features = []; keys = []; values = []; tags = []; parts = []; points = []; integers = []; texts = [] }
+
+-- how many bytes the lists have
+abbrev pub table_size : Table → ℕ
+table_size t =
+    88 * length t.layers + (64 * length t.features + (16 * length t.keys + (32 * length t.values + (4 * length t.tags
+    + (24 * length t.parts + (8 * length t.points + (4 * length t.integers + length t.texts)))))))
 
 -- where so many entries stand behind a list
 abbrev pub behind : {A : Type 0} → List A → ℕ → Span
@@ -91,42 +91,37 @@ abbrev pub added : {A : Type 0} → List A → List A → Span
 added old new = record { start = length old; len = length new - length old }
 
 -- the row of a feature that took a table from one state to another
-abbrev pub feature_row : Table → Table → Feature → FeatureRow
-feature_row old new f = record {
-  id = unwrap_or f.id 0;
-  has_id = if is_some f.id then 1 else 0;
-  kind = type_number (kind_of f.geometry);
+abbrev pub feature_row : Table → Table → Option ℕ → Geometry → FeatureRow
+feature_row old new id geometry = record {
+  id = unwrap_or id 0;
+  has_id = if is_some id then 1 else 0;
+  kind = type_number (kind_of geometry);
   tags = added old.tags new.tags;
   parts = added old.parts new.parts;
   integers = added old.integers new.integers;
 }
 
--- a feature of a layer with these keys and values: its tags, its geometry and its row
-abbrev pub with_feature : List (List ℕ) → List Value → Table → Feature → Table
-with_feature keys values t f =
-    let drawn = with_geometry (record t { tags = t.tags ++ tags_in keys values f.attributes }) f.geometry in
-    record drawn { features = drawn.features ++ feature_row t drawn f ∷ [] }
+-- a feature: its tags, its geometry and its row
+abbrev pub with_drawn : List ℕ → Table → Option ℕ → Geometry → Table
+with_drawn tags t id geometry =
+    let drawn = with_geometry (record t { tags = t.tags ++ tags }) geometry in
+    record drawn { features = drawn.features ++ feature_row t drawn id geometry ∷ [] }
 
--- the row of a layer that took a table from one state to another
-abbrev pub layer_row : Table → Table → ALayer → LayerRow
-layer_row old new layer = record {
+-- the row of a layer whose features, keys and values stand behind these places
+abbrev pub open_row : Table → List ℕ → ℕ → Places → LayerRow
+open_row t name extent open_at = record {
   version = 2;
-  extent = layer.extent;
-  name = behind old.texts (length layer.name);
-  features = added old.features new.features;
-  keys = added old.keys new.keys;
-  values = added old.values new.values;
+  extent = extent;
+  name = behind t.texts (length name);
+  features = record { start = open_at.features; len = length t.features - open_at.features };
+  keys = record { start = open_at.keys; len = length t.keys - open_at.keys };
+  values = record { start = open_at.values; len = length t.values - open_at.values };
   bytes = nowhere;
 }
 
--- a layer: its name, its features, its keys and its values, each once in order of first use, and its row
-abbrev pub with_layer : Table → ALayer → Table
-with_layer t layer =
-    let keys = keys_of layer.features in
-    let values = values_of layer.features in
-    let shown = fold (with_feature keys values) (record t { texts = t.texts ++ layer.name }) layer.features in
-    let whole = fold with_value (fold with_key shown keys) values in
-    record whole { layers = whole.layers ++ layer_row t whole layer ∷ [] }
+abbrev pub with_layer_row : Table → List ℕ → ℕ → Places → Table
+with_layer_row t name extent open_at =
+    record t { layers = t.layers ++ open_row t name extent open_at ∷ []; texts = t.texts ++ name }
 
 -- the row of a layer of another version, with so many bytes
 abbrev pub foreign_row : Table → ℕ → ℕ → LayerRow
@@ -143,11 +138,3 @@ foreign_row t version count = record {
 abbrev pub with_foreign : Table → ℕ → List ℕ → Table
 with_foreign t version content =
     record t { layers = t.layers ++ foreign_row t version (length content) ∷ []; texts = t.texts ++ content }
-
-abbrev pub with_item : Table → Item → Table
-with_item t (Layer layer) = with_layer t layer
-with_item t (Foreign version content) = with_foreign t version content
-
--- the rows of a tile
-unfoldable pub rows_of : Tile → Table
-rows_of tile = fold with_item no_rows tile.items

@@ -1,16 +1,10 @@
 //! Laws about the definitions alone: functions without effect, whose contract is the law.
 ghost use Rattle.std.specs.Prelude.{◌≡◌, ℕ, List};
 ghost use Rattle.mvt_model.specs.declared.tile.Tile.{Tile};
-ghost use Rattle.mvt_model.specs.ValidTiles.{Valid};
 ghost use Rattle.mvt_rows.specs.Reading.{IsRead, IsRewritten, IsTooLarge};
-ghost use Rattle.mvt_rows.specs.Tables.{Table, rows_of};
+ghost use Rattle.mvt_rows.specs.Tables.{Table};
 ghost use Rattle.mvt_rows.specs.TileRows.{IsTileOf};
 ghost use Rattle.mvt_rows.specs.Written.{IsNoTile, IsTooLargeOfRows, IsWritten};
-
-/// The rows of a valid tile are that tile.
-pub fn rows_are_the_tile()
-    ensures { (tile : Tile) → Valid tile → IsTileOf (rows_of tile) tile }
-{}
 
 /// Rows are one tile at most.
 pub fn rows_are_one_tile()

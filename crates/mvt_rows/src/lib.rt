@@ -4,6 +4,7 @@
 #![tactic(auto)]
 
 pub mod laws;
+mod places;
 mod rows;
 mod rows_error;
 mod table;
@@ -12,6 +13,6 @@ mod writing;
 
 pub use rows::{FeatureRow, LayerRow, PartRow, PointRow, Rows, Span, ValueRow};
 pub use rows_error::RowsError;
-pub use table::Table;
+pub use table::{RowsDecoder, RowsVisitor, Table, read_layer, read_rows, read_rows_within};
 pub use tiles::tile_of;
 pub use writing::write_rows;

@@ -1,17 +1,20 @@
 //! The lists of a tile's rows, as they grow.
-ghost use Rattle.std.specs.Prelude.{◌≡◌, ◌++◌, ◌∷◌, ◌*◌, [], OnOk, map};
-ghost use Rattle.std.specs.List.{fold};
+ghost use Rattle.std.specs.Prelude.{◌≡◌, ◌++◌, ◌∷◌, ◌*◌, [], IsUtf8, OnOk, OnErr, length, map, nat_le};
+ghost use Rattle.std.specs.List.{AllByRecursion, fold};
 ghost use Rattle.mvt_rows.specs.Lent.{table_of};
-ghost use Rattle.mvt_rows.specs.Tables.{no_rows, behind, with_part, with_polygon, with_geometry, with_key, with_value, with_number, point_row};
+ghost use Rattle.mvt_rows.specs.Tables.{no_rows, behind, with_part, with_polygon, with_geometry, with_key, with_value, with_number, point_row, table_size};
 
 mod layers;
+mod visiting;
 
+use crate::places::Places;
 use crate::rows::{FeatureRow, LayerRow, PartRow, PointRow, Rows, Span, ValueRow};
-use mvt_attrs::{KeyPool, Value, ValuePool};
-use mvt_base::Items;
+use mvt_attrs::Value;
+use mvt_base::{Items, Text};
 use mvt_geometry::{Geometry, Point, Polygon};
 use std::alloc::{AllocError, Global};
 use std::marker::Model;
+pub use visiting::{RowsDecoder, RowsVisitor, read_layer, read_rows, read_rows_within};
 
 /// The rows of a tile.
 #[derive(Drop)]
@@ -55,6 +58,16 @@ fn behind_list(start: usize, len: usize) -> Span
     }
 }
 
+/// A list, handed out. One without entries gives its memory back.
+fn handed_out<'a, T: Drop + 'a>(list: Vec<T>) -> &'a [T]
+    ensures { result.now ≡ list.items }
+{
+    if list.is_empty() {
+        return &[];
+    }
+    list.leak()
+}
+
 impl Table {
     pub(crate) fn new(alloc: Global) -> Self
         ensures { result ≡ no_rows }
@@ -70,6 +83,47 @@ impl Table {
             integers: Vec::new(alloc),
             texts: Vec::new(alloc),
         }
+    }
+
+    /// Makes room for the rows of a tile of so many bytes, and of a large one for the first of them.
+    pub(crate) fn make_room(&mut self, len: usize) -> Result<(), AllocError>
+        ensures { self.new ≡ self.old }
+    {
+        self.features.reserve((len / 32).min(64))?;
+        self.keys.reserve((len / 16).min(16))?;
+        self.values.reserve((len / 16).min(64))?;
+        self.tags.reserve((len / 4).min(256))?;
+        self.parts.reserve((len / 32).min(64))?;
+        self.points.reserve((len / 3).min(512))?;
+        self.texts.reserve((len / 2).min(1024))
+    }
+
+    pub(crate) fn places(&self) -> Places
+        ensures features { result.features ≡ length self.now.features }
+        ensures keys { result.keys ≡ length self.now.keys }
+        ensures values { result.values ≡ length self.now.values }
+    {
+        Places {
+            features: self.features.len(),
+            keys: self.keys.len(),
+            values: self.values.len(),
+        }
+    }
+
+    /// Whether the lists have at most so many bytes.
+    pub fn is_within(&self, most: u64) -> bool
+        ensures { result ≡ nat_le (table_size self.now) most }
+    {
+        let size = 88 * self.layers.len() as u128
+            + 64 * self.features.len() as u128
+            + 16 * self.keys.len() as u128
+            + 32 * self.values.len() as u128
+            + 4 * self.tags.len() as u128
+            + 24 * self.parts.len() as u128
+            + 8 * self.points.len() as u128
+            + 4 * self.integers.len() as u128
+            + self.texts.len() as u128;
+        size <= most as u128
     }
 
     /// The lists, handed out: they last until whoever has them frees them.
@@ -88,15 +142,15 @@ impl Table {
             texts,
         } = self;
         Rows {
-            layers: layers.leak(),
-            features: features.leak(),
-            keys: keys.leak(),
-            values: values.leak(),
-            tags: tags.leak(),
-            parts: parts.leak(),
-            points: points.leak(),
-            integers: integers.leak(),
-            texts: texts.leak(),
+            layers: handed_out(layers),
+            features: handed_out(features),
+            keys: handed_out(keys),
+            values: handed_out(values),
+            tags: handed_out(tags),
+            parts: handed_out(parts),
+            points: handed_out(points),
+            integers: handed_out(integers),
+            texts: handed_out(texts),
         }
     }
 
@@ -131,7 +185,7 @@ impl Table {
         Ok(())
     }
 
-    pub(crate) fn add_geometry(&mut self, geometry: &Geometry) -> Result<(), AllocError>
+    fn add_geometry(&mut self, geometry: &Geometry) -> Result<(), AllocError>
         ensures { OnOk result (self.new ≡ with_geometry self.old geometry.now) }
     {
         match geometry {
@@ -143,7 +197,8 @@ impl Table {
     }
 
     fn add_key(&mut self, key: &str) -> Result<(), AllocError>
-        ensures { OnOk result (self.new ≡ with_key self.old key.now) }
+        ensures key { OnOk result (self.new ≡ with_key self.old key.now) }
+        ensures utf8 { IsUtf8 key.now }
     {
         let text = behind_list(self.texts.len(), key.len());
         self.keys.push(text)?;
@@ -151,7 +206,8 @@ impl Table {
     }
 
     fn add_number(&mut self, kind: u32, bits: u64) -> Result<(), AllocError>
-        ensures { OnOk result (self.new ≡ with_number self.old kind bits) }
+        ensures ok { OnOk result (self.new ≡ with_number self.old kind bits) }
+        ensures err { OnErr result (self.new ≡ self.old) }
     {
         self.values.push(ValueRow {
             kind,
@@ -162,19 +218,26 @@ impl Table {
     }
 
     fn add_text(&mut self, text: &str) -> Result<(), AllocError>
-        ensures { OnOk result (self.new ≡ with_value self.old (Value.Text text.now)) }
+        ensures ok { OnOk result (self.new ≡ with_value self.old (Value.Text text.now)) }
+        ensures err { OnErr result (self.new ≡ self.old) }
     {
         let place = behind_list(self.texts.len(), text.len());
-        self.values.push(ValueRow {
-            kind: 1,
-            bits: 0,
-            text: place,
-        })?;
-        self.texts.extend_from_slice(text.as_bytes())
+        self.values.reserve(1)?;
+        self.texts.extend_from_slice(text.as_bytes())?;
+        self.values
+            .push(ValueRow {
+                kind: 1,
+                bits: 0,
+                text: place,
+            })
+            .unwrap();
+        Ok(())
     }
 
+    /// Adds a value, or nothing where memory runs out.
     fn add_value(&mut self, value: &Value) -> Result<(), AllocError>
-        ensures { OnOk result (self.new ≡ with_value self.old value.now) }
+        ensures ok { OnOk result (self.new ≡ with_value self.old value.now) }
+        ensures err { OnErr result (self.new ≡ self.old) }
     {
         match value {
             Value::Text(text) => self.add_text(text.as_str()),
@@ -187,28 +250,13 @@ impl Table {
         }
     }
 
-    /// Adds the keys of a layer.
-    pub(crate) fn add_keys(&mut self, keys: &KeyPool) -> Result<(), AllocError>
-        ensures { OnOk result (self.new ≡ fold with_key self.old keys.now) }
+    /// Adds the keys of a layer as they stand.
+    fn add_keys(&mut self, keys: &[Text]) -> Result<(), AllocError>
+        ensures keys { OnOk result (self.new ≡ fold with_key self.old keys.now) }
+        ensures utf8 { OnOk result (AllByRecursion IsUtf8 keys.now) }
     {
-        for index in 0..keys.len() as u32 {
-            match keys.get(index) {
-                Some(key) => self.add_key(key)?,
-                None => unreachable!(),
-            }
-        }
-        Ok(())
-    }
-
-    /// Adds the values of a layer.
-    pub(crate) fn add_values(&mut self, values: &ValuePool) -> Result<(), AllocError>
-        ensures { OnOk result (self.new ≡ fold with_value self.old values.now) }
-    {
-        for index in 0..values.len() as u32 {
-            match values.get(index) {
-                Some(value) => self.add_value(value)?,
-                None => unreachable!(),
-            }
+        for key in keys {
+            self.add_key(key.as_str())?;
         }
         Ok(())
     }

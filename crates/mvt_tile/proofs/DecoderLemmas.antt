@@ -68,7 +68,7 @@ rest_open at (b ∷ bs) some calm =
     ap (λ c. Some (outer_fault at c)) (open_cause at (rest_cause (b ∷ bs)) (calm f refl))
 
 -- what can't be changed is told of each longer stream
-tells_stays : (limit : ℕ) (e : DecodeError) (s t : List ℕ) → TellsEarly e (fault_within limit s)
+pub tells_stays : (limit : ℕ) (e : DecodeError) (s t : List ℕ) → TellsEarly e (fault_within limit s)
     → TellsEarly e (fault_within limit (s ++ t))
 tells_stays limit Memory s t h = tt
 tells_stays limit (Fault f) s t h = (fault_stays limit s t f h.0 h.1, h.1)
@@ -76,7 +76,7 @@ tells_stays limit (Read k) s t h = absurd h
 
 -- a decoder that stands for a stream
 module _ (limit offset : ℕ) (items : List Item) (raw s : List ℕ) (live : IsLive limit offset items raw s) where
-  live_length : length s ≡ offset + length raw
+  pub live_length : length s ≡ offset + length raw
   live_length =
       let whole = split_steps_place 0 s in
       let place = live.place in

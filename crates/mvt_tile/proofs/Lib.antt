@@ -4,6 +4,7 @@ mod LayerLemmas
 mod ItemLemmas
 mod TileLemmas
 mod StreamLemmas
+mod VisitedLemmas
 mod ShiftLemmas
 mod JudgeLemmas
 mod NamedLemmas
@@ -14,3 +15,4 @@ mod FeedingLemmas
 mod RoundTripLemmas
 mod ExtractionLemmas
 mod PickLemmas
+mod FindingLemmas

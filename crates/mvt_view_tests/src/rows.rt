@@ -1,8 +1,11 @@
 //! Rows that are tiles, and rows that are none.
-use crate::expect::expect_eq;
+use crate::expect::{expect, expect_eq};
+use mvt_message::Cause;
 use mvt_rows::{
-    FeatureRow, LayerRow, PartRow, PointRow, Rows, RowsError, Span, ValueRow, write_rows,
+    FeatureRow, LayerRow, PartRow, PointRow, Rows, RowsDecoder, RowsError, RowsVisitor, Span,
+    ValueRow, read_layer, read_rows, read_rows_within, write_rows,
 };
+use mvt_tile::{DecodeError, Fault};
 use std::process::Abort;
 
 const NOWHERE: Span = Span { start: 0, len: 0 };
@@ -241,4 +244,248 @@ fn tells_why_nothing_is_made(rt: HostRuntime) {
         "out of memory, the tile is too large, the rows are no tile"
     );
     drop(text);
+}
+
+// Layer `a` of a point and a ring, with two keys and two values that no feature names, and a layer
+// of version 1.
+const READ_BYTES: [u8; 67] = [
+    0x1A, 0x3D, 0x78, 0x02, 0x0A, 0x01, 0x61, 0x12, 0x0D, 0x08, 0x07, 0x12, 0x02, 0x02, 0x01, 0x18,
+    0x01, 0x22, 0x03, 0x09, 0x32, 0x22, 0x12, 0x0F, 0x18, 0x03, 0x22, 0x0B, 0x09, 0x00, 0x00, 0x1A,
+    0x14, 0x00, 0x00, 0x14, 0x13, 0x00, 0x0F, 0x1A, 0x01, 0x6B, 0x1A, 0x01, 0x75, 0x1A, 0x01, 0x6C,
+    0x22, 0x03, 0x0A, 0x01, 0x78, 0x22, 0x02, 0x28, 0x05, 0x22, 0x02, 0x30, 0x01, 0x28, 0x64, 0x1A,
+    0x02, 0x78, 0x01,
+];
+
+const READ: Rows = Rows {
+    layers: &[
+        LayerRow {
+            version: 2,
+            extent: 100,
+            name: Span { start: 4, len: 1 },
+            features: Span { start: 0, len: 2 },
+            keys: Span { start: 0, len: 3 },
+            values: Span { start: 0, len: 3 },
+            bytes: NOWHERE,
+        },
+        LayerRow {
+            version: 1,
+            extent: 0,
+            name: NOWHERE,
+            features: NOWHERE,
+            keys: NOWHERE,
+            values: NOWHERE,
+            bytes: Span { start: 5, len: 2 },
+        },
+    ],
+    features: &[
+        FeatureRow {
+            id: 7,
+            has_id: 1,
+            kind: 1,
+            tags: Span { start: 0, len: 2 },
+            parts: Span { start: 0, len: 1 },
+            integers: NOWHERE,
+        },
+        FeatureRow {
+            id: 0,
+            has_id: 0,
+            kind: 3,
+            tags: Span { start: 2, len: 0 },
+            parts: Span { start: 1, len: 1 },
+            integers: NOWHERE,
+        },
+    ],
+    keys: &[
+        Span { start: 1, len: 1 },
+        Span { start: 2, len: 1 },
+        Span { start: 3, len: 1 },
+    ],
+    values: &[
+        ValueRow {
+            kind: 1,
+            bits: 0,
+            text: Span { start: 0, len: 1 },
+        },
+        ValueRow {
+            kind: 5,
+            bits: 5,
+            text: NOWHERE,
+        },
+        ValueRow {
+            kind: 6,
+            bits: u64::MAX,
+            text: NOWHERE,
+        },
+    ],
+    tags: &[2, 1],
+    parts: &[
+        PartRow {
+            exterior: 0,
+            points: Span { start: 0, len: 1 },
+        },
+        PartRow {
+            exterior: 1,
+            points: Span { start: 1, len: 4 },
+        },
+    ],
+    points: &[
+        PointRow { x: 25, y: 17 },
+        PointRow { x: 0, y: 0 },
+        PointRow { x: 10, y: 0 },
+        PointRow { x: 10, y: 10 },
+        PointRow { x: 0, y: 10 },
+    ],
+    integers: &[],
+    texts: b"xkula\x78\x01",
+};
+
+const NONE: Rows = Rows {
+    layers: &[],
+    features: &[],
+    keys: &[],
+    values: &[],
+    tags: &[],
+    parts: &[],
+    points: &[],
+    integers: &[],
+    texts: &[],
+};
+
+fn expect_rows(rt: &(impl Abort + AllocGlobal), found: &Rows, expected: &Rows) {
+    expect_eq!(rt; found.layers, expected.layers);
+    expect_eq!(rt; found.features, expected.features);
+    expect_eq!(rt; found.keys, expected.keys);
+    expect_eq!(rt; found.values, expected.values);
+    expect_eq!(rt; found.tags, expected.tags);
+    expect_eq!(rt; found.parts, expected.parts);
+    expect_eq!(rt; found.points, expected.points);
+    expect_eq!(rt; found.integers, expected.integers);
+    expect_eq!(rt; found.texts, expected.texts);
+}
+
+fn expect_read(rt: &(impl Abort + AllocGlobal), bytes: &[u8], rows: &Rows) {
+    let table = read_rows(rt.alloc(), bytes).expect(rt, "rows");
+    expect_rows(rt, &table.leak(), rows);
+}
+
+#[test]
+fn reads_rows(rt: HostRuntime) {
+    expect_read(&rt, &READ_BYTES, &READ);
+    expect_read(&rt, &[], &NONE);
+    let unknown = Rows {
+        layers: &[LAYER],
+        features: &[FeatureRow {
+            kind: 0,
+            parts: NOWHERE,
+            integers: Span { start: 0, len: 2 },
+            ..FEATURE
+        }],
+        integers: &[7, 9],
+        texts: b"a",
+        ..NONE
+    };
+    let bytes = b"\x1A\x0B\x78\x02\x0A\x01\x61\x12\x04\x22\x02\x07\x09";
+    expect_read(&rt, bytes, &unknown);
+}
+
+fn expect_fed(rt: &(impl Abort + AllocGlobal), size: usize) {
+    let mut decoder = RowsDecoder::new(rt.alloc(), RowsVisitor::new(rt.alloc(), u64::MAX));
+    for piece in READ_BYTES.chunks(size.max(1)) {
+        decoder.feed(piece).expect(rt, "a piece");
+    }
+    let rows = decoder.finish().expect(rt, "rows");
+    expect_rows(rt, &rows.into_table().leak(), &READ);
+}
+
+#[test]
+fn reads_rows_in_pieces(rt: HostRuntime) {
+    for size in [1, 7, 66, 67] {
+        expect_fed(&rt, size);
+    }
+}
+
+// The lists have 2 * 88 + 2 * 64 + 3 * 16 + 3 * 32 + 2 * 4 + 2 * 24 + 5 * 8 + 7 bytes.
+#[test]
+fn reads_rows_within_a_bound(rt: HostRuntime) {
+    let table = read_rows_within(rt.alloc(), &READ_BYTES, 551).expect(&rt, "rows");
+    expect_rows(&rt, &table.leak(), &READ);
+    let error = read_rows_within(rt.alloc(), &READ_BYTES, 550).err();
+    expect_eq!(rt; error, Some(DecodeError::Memory));
+}
+
+fn has_layer(rt: &(impl Abort + AllocGlobal), bytes: &[u8], name: &[u8], layer: &Rows) -> bool {
+    match read_layer(rt.alloc(), bytes, name, u64::MAX).expect(rt, "a layer") {
+        Some(table) => {
+            expect_rows(rt, &table.leak(), layer);
+            true
+        }
+        None => false,
+    }
+}
+
+// The layer behind that of the name is broken.
+#[test]
+fn reads_one_layer(rt: HostRuntime) {
+    let layer = Rows {
+        layers: &[LayerRow {
+            version: 2,
+            extent: 100,
+            name: Span { start: 4, len: 1 },
+            features: Span { start: 0, len: 2 },
+            keys: Span { start: 0, len: 3 },
+            values: Span { start: 0, len: 3 },
+            bytes: NOWHERE,
+        }],
+        texts: b"xkula",
+        ..READ
+    };
+    let mut bytes = READ_BYTES;
+    bytes[66] = 0x80;
+    expect!(rt; has_layer(&rt, &bytes, b"a", &layer));
+    expect!(rt; !has_layer(&rt, &READ_BYTES, b"b", &layer));
+    expect!(rt; !has_layer(&rt, &[], b"a", &layer));
+    let error = read_layer(rt.alloc(), &bytes[..66], b"b", u64::MAX).err();
+    let fault = Fault {
+        layer: None,
+        feature: None,
+        at: 63,
+        cause: Cause::Truncated,
+    };
+    expect_eq!(rt; error, Some(DecodeError::Fault(fault)));
+}
+
+#[test]
+fn reads_no_rows_of_a_broken_tile(rt: HostRuntime) {
+    let mut bytes = READ_BYTES;
+    bytes[13] = 3;
+    let error = read_rows(rt.alloc(), &bytes).err();
+    let fault = Fault {
+        layer: Some(0),
+        feature: Some(0),
+        at: 0,
+        cause: Cause::KeyIndex,
+    };
+    expect_eq!(rt; error, Some(DecodeError::Fault(fault)));
+}
+
+fn is_reading_refused(rt: &(impl Abort + AllocGlobal)) -> bool {
+    match read_rows(rt.alloc(), &READ_BYTES) {
+        Ok(table) => {
+            expect_rows(rt, &table.leak(), &READ);
+            false
+        }
+        Err(error) => {
+            expect_eq!(rt; error, DecodeError::Memory);
+            true
+        }
+    }
+}
+
+#[test]
+fn rows_refused_memory(rt: HostRuntime) {
+    let mut refused: u32 = 0;
+    for _ in 0..2 {
+        refused = refused.saturating_add(u32::from(is_reading_refused(&rt)));
+    }
+    expect!(rt; refused <= 1);
 }

@@ -19,7 +19,7 @@ from ._calls import Buffer, extract, judge, report, rewrite, to_json, to_svg
 from ._decoder import Decoder
 from ._errors import MvtError, NoLayer, NoTile, OutOfRange, Refused, TooLarge
 from ._library import FeatureRow, LayerRow, PartRow, PointRow, Span, ValueRow, version
-from ._rows import Rows, read, rows
+from ._rows import Rows, read, read_layer, rows
 from ._tiles import Feature, Foreign, Kind, Layer, Point, Tile
 from ._values import Float, Int, Sint, Uint, Value
 from ._writing import write
@@ -69,6 +69,7 @@ __all__ = [
     "extract",
     "judge",
     "read",
+    "read_layer",
     "report",
     "rewrite",
     "rows",

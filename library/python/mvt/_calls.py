@@ -8,6 +8,9 @@ from ._library import LISTS, Bytes, FaultRow, PlaceRow, TileRows, library
 
 REFUSED, NO_MEMORY, TOO_LARGE, NO_LAYER, NO_TILE = 1, 2, 3, 4, 6
 
+# No bound of the bytes of rows.
+UNBOUNDED = 2**64 - 1
+
 # What holds the bytes of a tile.
 Buffer = Union[bytes, bytearray, memoryview]
 

@@ -4,7 +4,7 @@ import ctypes
 import threading
 from typing import Any
 
-from ._calls import Buffer, held, raise_for
+from ._calls import UNBOUNDED, Buffer, held, raise_for
 from ._library import DecoderRow, FaultRow, TileRows, library
 from ._release import release_after
 from ._rows import Rows, rows_from, tile_of
@@ -15,12 +15,13 @@ _HEAD = 4
 
 
 class Decoder:
-    """A tile that comes in pieces, cut anywhere. Where threads share one, a call waits until another's is done."""
+    """A tile that comes in pieces, cut anywhere. Where threads share one, a call waits until another's is done. A call raises
+    MemoryError where the lists of rows would have more bytes than `most`."""
 
-    def __init__(self) -> None:
+    def __init__(self, most: int = UNBOUNDED) -> None:
         self._held, self._head, self._turn = DecoderRow(), b"", threading.Lock()
         release_after(self, library.mvt_decoder_free, self._held)
-        raise_for(library.mvt_decoder_new(ctypes.byref(self._held)), FaultRow())
+        raise_for(library.mvt_decoder_new_within(ctypes.byref(self._held), most), FaultRow())
 
     def feed(self, piece: Buffer) -> None:
         """Takes a piece. Raises Refused as soon as no further byte can change the fault, and then at each call."""

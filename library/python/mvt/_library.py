@@ -159,13 +159,15 @@ library.mvt_svg.argtypes = [*_TILE, POINTER(Bytes), POINTER(FaultRow)]
 library.mvt_report.argtypes = [*_TILE, POINTER(Bytes), POINTER(FaultRow)]
 library.mvt_judge.argtypes = [*_TILE, POINTER(FaultRow)]
 library.mvt_read.argtypes = [*_TILE, POINTER(TileRows), POINTER(FaultRow)]
+library.mvt_read_within.argtypes = [*_TILE, c_uint64, POINTER(TileRows), POINTER(FaultRow)]
+library.mvt_read_layer.argtypes = [*_TILE, Bytes, POINTER(TileRows), POINTER(FaultRow)]
 library.mvt_write.argtypes = [POINTER(TileRows), POINTER(Bytes)]
-for _name in ("judge", "read", "write", "rewrite", "extract", "json", "svg", "report"):
+for _name in ("judge", "read", "read_within", "read_layer", "write", "rewrite", "extract", "json", "svg", "report"):
     getattr(library, "mvt_" + _name).restype = c_uint32
-library.mvt_decoder_new.argtypes = [POINTER(DecoderRow)]
+library.mvt_decoder_new_within.argtypes = [POINTER(DecoderRow), c_uint64]
 library.mvt_decoder_feed.argtypes = [POINTER(DecoderRow), *_TILE, POINTER(FaultRow)]
 library.mvt_decoder_finish.argtypes = [POINTER(DecoderRow), POINTER(TileRows), POINTER(FaultRow)]
-for _name in ("decoder_new", "decoder_feed", "decoder_finish"):
+for _name in ("decoder_new_within", "decoder_feed", "decoder_finish"):
     getattr(library, "mvt_" + _name).restype = c_uint32
 library.mvt_decoder_free.argtypes = [POINTER(DecoderRow)]
 library.mvt_decoder_free.restype = None

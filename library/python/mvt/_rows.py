@@ -3,9 +3,11 @@
 import ctypes
 from typing import TYPE_CHECKING, Any, Callable, Dict, List, Sequence, Tuple, Union
 
-from ._calls import Buffer, held, raise_for
+from ._calls import NO_LAYER, UNBOUNDED, Buffer, held, raise_for
+from ._errors import NoLayer
 from ._library import (
     LISTS,
+    Bytes,
     FaultRow,
     FeatureRow,
     LayerRow,
@@ -150,12 +152,13 @@ def _layer(rows: Rows, row: LayerRow) -> Union[Layer, Foreign]:
     return Layer(rows.text(row.name), row.extent, features)
 
 
-def rows(tile: Buffer) -> Rows:
-    """A tile as flat rows, for numpy and for tiles with many features. Raises Refused."""
+def rows(tile: Buffer, most: int = UNBOUNDED) -> Rows:
+    """A tile as flat rows, for numpy and for tiles with many features. Raises Refused, and MemoryError where the lists of
+    rows would have more bytes than `most`."""
     tile = held(tile)
 
     def call(rows: Any, fault: Any) -> int:
-        status: int = library.mvt_read(tile, len(tile), rows, fault)
+        status: int = library.mvt_read_within(tile, len(tile), most, rows, fault)
         return status
 
     return rows_from(call, tile)
@@ -166,6 +169,26 @@ def tile_of(flat: Rows) -> Tile:
     return Tile([_layer(flat, row) for row in flat.layers])
 
 
-def read(tile: Buffer) -> Tile:
-    """A tile as plain objects. Raises Refused."""
-    return tile_of(rows(tile))
+def read_layer(tile: Buffer, name: str) -> Layer:
+    """The first layer of version 2 of this name, as plain objects. Nothing is then known of the rest of the tile.
+
+    Raises NoLayer where no layer has the name, and Refused.
+    """
+    tile, encoded = held(tile), name.encode()
+    named = Bytes(ctypes.cast(ctypes.c_char_p(encoded), ctypes.c_void_p), len(encoded))
+
+    def call(rows: Any, fault: Any) -> int:
+        status: int = library.mvt_read_layer(tile, len(tile), named, rows, fault)
+        if status == NO_LAYER:
+            raise NoLayer(name)
+        return status
+
+    flat = rows_from(call, tile)
+    layer = _layer(flat, flat.layers[0])
+    assert isinstance(layer, Layer)
+    return layer
+
+
+def read(tile: Buffer, most: int = UNBOUNDED) -> Tile:
+    """A tile as plain objects. Raises Refused, and MemoryError where its flat rows would have more bytes than `most`."""
+    return tile_of(rows(tile, most))

@@ -4,14 +4,16 @@ ghost use Rattle.mvt_c.specs.declared.decoder.held.Decoder.{Decoder};
 ghost use Rattle.mvt_c.specs.Held.{decoder_coded, held_owns};
 
 use super::parts::Parts;
-use mvt_tile::TileDecoder;
+use mvt_rows::RowsDecoder;
 use std::alloc::{AllocError, Global};
 use std::marker::Model;
 
 /// A decoder, as a value of this crate.
 #[derive(Drop)]
 pub struct Decoder {
-    pub inner: TileDecoder,
+    pub inner: RowsDecoder,
+    /// How many bytes the lists of its rows shall have at most.
+    pub most: u64,
 }
 
 /// The decoder that C holds. The allocator has no bytes, so C sees a pointer.

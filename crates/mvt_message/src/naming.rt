@@ -1,0 +1,52 @@
+//! The name of a layer, of which nothing else is looked at.
+ghost use Rattle.std.specs.Prelude.{◌≡◌, ◌==◌, bytes_eq, if◌then◌else◌};
+ghost use Rattle.std.specs.List.{list_any};
+ghost use Rattle.mvt_wire.specs.Field.{content_of};
+ghost use Rattle.mvt_feature.specs.Features.{number_of};
+ghost use Rattle.mvt_message.specs.declared.numbers.layer.TheConstants.{NAME, VERSION};
+ghost use Rattle.mvt_message.specs.ItemRules.{payload_names};
+ghost use Rattle.mvt_message.specs.LayerFields.{is_two, bytes_of as the_bytes_of};
+
+use crate::numbers::{VERSION_2, layer};
+use crate::payload::bytes_of;
+use mvt_wire::{Field, Fields, Payload};
+
+/// Whether a payload has version 2 and this name, also where it breaks a rule.
+pub fn has_name(payload: &[u8], name: &[u8]) -> bool
+    ensures { result ≡ list_any (bytes_eq name.now) (payload_names payload.now) }
+{
+    let mut has_version = false;
+    let mut has_name = false;
+    for field in Fields::new(payload) {
+        if let Ok(field) = field {
+            has_version = version_after(has_version, &field);
+            has_name = name_after(has_name, &field, name);
+        }
+    }
+    has_version && has_name
+}
+
+/// Whether the last version is 2, with one more field.
+fn version_after(before: bool, field: &Field<'_>) -> bool
+    ensures { result ≡ (if field.now.number == VERSION
+        then is_two (number_of (content_of field.now.payload)) else before) }
+{
+    if field.number != layer::VERSION {
+        return before;
+    }
+    match field.payload {
+        Payload::Varint(number) => number == u64::from(VERSION_2),
+        Payload::Len(_) | Payload::I64(_) | Payload::I32(_) => false,
+    }
+}
+
+/// Whether the last name is this one, with one more field.
+fn name_after(before: bool, field: &Field<'_>, name: &[u8]) -> bool
+    ensures { result ≡ (if field.now.number == NAME
+        then bytes_eq name.now (the_bytes_of (content_of field.now.payload)) else before) }
+{
+    if field.number != layer::NAME {
+        return before;
+    }
+    name == bytes_of(&field.payload)
+}

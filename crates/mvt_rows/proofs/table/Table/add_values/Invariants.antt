@@ -1,7 +1,0 @@
-use Rattle.std.proofs.Common.{◌≡◌, take}
-use Rattle.std.specs.List.{fold}
-use Rattle.mvt_rows.specs.Tables.{with_value}
-use Rattle.mvt_rows.proofs.table.Table.add_values.Given as goal
-
-abbrev pub invariant-loop-index : goal.invariant-loop-index
-invariant-loop-index l = l.self ≡ fold with_value l.initial.self (take l.index l.values)

@@ -1,0 +1,10 @@
+-- Rows that are made of a stream, which comes in pieces.
+use Rattle.std.specs.Prelude.{ℕ, List}
+use Rattle.mvt_base.specs.declared.TheConstants.{LIMIT}
+use Rattle.mvt_tile.specs.Visiting.{Visiting, StandsFor as Stands}
+use Rattle.mvt_rows.specs.declared.table.visiting.RowsVisitor.{RowsVisitor}
+use Rattle.mvt_rows.specs.Visiting.{AreItemRows}
+
+-- a decoder stands for this stream, and the rows are the items in it so far
+abbrev pub StandsFor : Visiting × RowsVisitor → List ℕ → Type 0
+StandsFor decoder stream = Stands LIMIT (λ rows items. AreItemRows rows.table items) decoder stream

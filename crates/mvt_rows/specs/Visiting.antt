@@ -1,0 +1,37 @@
+-- The rows of a tile as they are made, item by item.
+use Rattle.std.specs.Prelude.{◌≡◌, ℕ, List, ◌++◌, length, Some}
+use Rattle.mvt_base.specs.Related.{AreRelated}
+use Rattle.mvt_attrs.specs.declared.value.Value.{Value}
+use Rattle.mvt_feature.specs.declared.feature.Feature.{Feature}
+use Rattle.mvt_message.specs.declared.item.Item.{Item}
+use Rattle.mvt_rows.specs.declared.rows.Span.{Span}
+use Rattle.mvt_rows.specs.declared.rows.ValueRow.{ValueRow}
+use Rattle.mvt_rows.specs.declared.places.Places.{Places}
+use Rattle.mvt_rows.specs.Tables.{Table}
+use Rattle.mvt_rows.specs.TileRows.{text_of, value_of, IsFeature, IsItem}
+
+-- the rows of layers are these items
+abbrev pub AreItemRows : Table → List Item → Type 0
+AreItemRows t items = AreRelated (IsItem t) t.layers items
+
+-- the rows of a list from a place on are these things, one by one
+pub record AreRows {R X : Type 0} (Is : R → X → Type 0) (held : List R) (start : ℕ) (things : List X) : Type 0 where
+  pub before : List R
+  pub rows : List R
+  pub held_are : held ≡ before ++ rows
+  pub start_is : start ≡ length before
+  pub things_are : AreRelated Is rows things
+
+abbrev pub IsKey : Table → Span → List ℕ → Type 0
+IsKey t span key = text_of t.texts span ≡ Some key
+
+abbrev pub IsValue : Table → ValueRow → Value → Type 0
+IsValue t row value = value_of t.texts row ≡ Some value
+
+-- the items, and behind these places a layer's keys, values and features
+pub record AreLayerRows (t : Table) (open_at : Places) (items : List Item) (keys : List (List ℕ)) (values : List Value)
+    (features : List Feature) : Type 0 where
+  pub items_are : AreItemRows t items
+  pub keys_are : AreRows (IsKey t) t.keys open_at.keys keys
+  pub values_are : AreRows (IsValue t) t.values open_at.values values
+  pub features_are : AreRows (IsFeature t keys values) t.features open_at.features features

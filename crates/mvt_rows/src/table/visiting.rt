@@ -1,0 +1,197 @@
+//! The rows of a tile straight from its bytes.
+ghost use Rattle.std.specs.Prelude.{◌≡◌, ◌≤◌, [], None, IfOk, IfErr, IfSome, MatchOption, OnOk};
+ghost use Rattle.mvt_base.specs.declared.TheConstants.{LIMIT};
+ghost use Rattle.mvt_tile.specs.Finding.{first_in, named_fault};
+ghost use Rattle.mvt_tile.specs.Streams.{TellsAtEnd};
+ghost use Rattle.mvt_tile.specs.TileRules.{fault_within};
+ghost use Rattle.mvt_rows.specs.Reading.{IsLayerRead, IsRead};
+ghost use Rattle.mvt_rows.specs.Tables.{no_rows, table_size};
+ghost use Rattle.mvt_rows.specs.Visiting.{AreItemRows};
+
+use super::Table;
+use crate::places::Places;
+use mvt_attrs::LayerKeys;
+use mvt_base::Text;
+use mvt_feature::{Scratch, read_drawn};
+use mvt_message::{LayerVisitor, MessageError, Visited, read_value, visit_layer};
+use mvt_tile::{DecodeError, TileVisitor, VisitingDecoder, visit_named, visit_tile};
+use std::alloc::{AllocError, Global};
+
+/// Reads a tile as rows. A layer has its keys and its values as the tile has them, also those that no
+/// feature names.
+///
+/// # Errors
+///
+/// The tile's first fault; want of memory. Never a failed read.
+pub fn read_rows(alloc: Global, bytes: &[u8]) -> Result<Table, DecodeError>
+    ensures read { IfOk result (IsRead bytes.now) }
+    ensures fault { IfErr result (λ error. TellsAtEnd error (fault_within LIMIT bytes.now)) }
+{
+    read_rows_within(alloc, bytes, u64::MAX)
+}
+
+/// Reads a tile as rows whose lists have at most so many bytes.
+///
+/// # Errors
+///
+/// As [`read_rows`]; want of memory where the lists would have more.
+pub fn read_rows_within(alloc: Global, bytes: &[u8], most: u64) -> Result<Table, DecodeError>
+    ensures read { IfOk result (IsRead bytes.now) }
+    ensures within { IfOk result (λ table. table_size table ≤ most) }
+    ensures fault { IfErr result (λ error. TellsAtEnd error (fault_within LIMIT bytes.now)) }
+{
+    let mut rows = RowsVisitor::new(alloc, most);
+    rows.table.make_room(bytes.len())?;
+    let rows = visit_tile(alloc, rows, bytes)?;
+    let table = rows.into_table();
+    if !table.is_within(most) {
+        return Err(DecodeError::Memory);
+    }
+    Ok(table)
+}
+
+/// Reads the first layer of version 2 of a name as rows whose lists have at most so many bytes; none
+/// where no layer has that name. Nothing else is judged.
+///
+/// # Errors
+///
+/// The first fault of that layer; bytes before it that are no field; too many bytes; want of memory.
+pub fn read_layer(
+    alloc: Global,
+    bytes: &[u8],
+    name: &[u8],
+    most: u64,
+) -> Result<Option<Table>, DecodeError>
+    ensures read { IfOk result (λ found. MatchOption found (first_in name.now bytes.now ≡ None)
+        (IsLayerRead name.now bytes.now)) }
+    ensures within { IfOk result (λ found. IfSome found (λ table. table_size table ≤ most)) }
+    ensures ok { OnOk result (named_fault LIMIT name.now bytes.now ≡ None) }
+    ensures fault { IfErr result
+        (λ error. TellsAtEnd error (named_fault LIMIT name.now bytes.now)) }
+{
+    let rows = match visit_named(alloc, RowsVisitor::new(alloc, most), bytes, name)? {
+        Some(rows) => rows,
+        None => return Ok(None),
+    };
+    let layer = rows.into_table();
+    if !layer.is_within(most) {
+        return Err(DecodeError::Memory);
+    }
+    Ok(Some(layer))
+}
+
+/// Reads a tile that comes in pieces as rows, as `read_rows` does.
+pub type RowsDecoder = VisitingDecoder<RowsVisitor>;
+
+/// The rows of the items so far, and where those of the layer begin that is visited.
+#[derive(Drop)]
+pub struct RowsVisitor {
+    table: Table,
+    opened: Places,
+    most: u64,
+}
+
+impl RowsVisitor {
+    /// No rows yet, without memory. Their lists shall have at most so many bytes.
+    pub fn new(alloc: Global, most: u64) -> Self
+        ensures table { result.table ≡ no_rows }
+        ensures items { AreItemRows result.table [] }
+    {
+        let table = Table::new(alloc);
+        let opened = table.places();
+        RowsVisitor {
+            table,
+            opened,
+            most,
+        }
+    }
+
+    /// The rows of the items.
+    pub fn into_table(self) -> Table
+        ensures { result ≡ self.table }
+    {
+        let RowsVisitor { table, .. } = self;
+        table
+    }
+
+    /// Want of memory where the lists have more bytes than they shall.
+    fn keep_within(&self) -> Result<(), AllocError>
+        ensures { OnOk result (table_size self.now.table ≤ self.now.most) }
+    {
+        if self.table.is_within(self.most) {
+            return Ok(());
+        }
+        Err(AllocError)
+    }
+}
+
+impl TileVisitor for RowsVisitor {
+    ghost use Rattle.mvt_rows.specs.Visiting.{AreItemRows};
+
+    ghost has_items = { λ rows items. AreItemRows rows.table items };
+
+    fn visit_item(
+        &mut self,
+        alloc: Global,
+        payload: &[u8],
+        payload_at: u64,
+        tag_at: u64,
+    ) -> Result<Option<Text>, MessageError> {
+        self.opened = self.table.places();
+        match visit_layer(alloc, self, payload, payload_at, tag_at) {
+            Ok(Visited::Layer { name, extent }) => {
+                self.table.add_layer_row(name, extent, self.opened)?;
+                self.keep_within()?;
+                Ok(Some(Text::from_str(alloc, name)?))
+            }
+            Ok(Visited::Foreign { version }) => {
+                self.table.add_foreign(version, payload)?;
+                self.keep_within()?;
+                Ok(None)
+            }
+            Err(error) => Err(error),
+        }
+    }
+}
+
+impl LayerVisitor for RowsVisitor {
+    ghost use Rattle.std.specs.Prelude.{[]};
+    ghost use Rattle.mvt_rows.specs.Visiting.{AreItemRows, AreLayerRows};
+
+    ghost has_items = { λ items rows. AreItemRows rows.table items };
+
+    ghost has_values = { λ items rows values. AreLayerRows rows.table rows.opened items [] values [] };
+
+    ghost has_features = { λ items keys values rows features. AreLayerRows rows.table rows.opened items keys values features };
+
+    fn visit_value(
+        &mut self,
+        alloc: Global,
+        payload: &[u8],
+        payload_at: u64,
+        tag_at: u64,
+    ) -> Result<(), MessageError> {
+        let value = read_value(alloc, payload, payload_at, tag_at)?;
+        self.table.add_value(&value)?;
+        Ok(self.keep_within()?)
+    }
+
+    fn visit_keys(&mut self, _: Global, keys: &[Text], _: usize) -> Result<(), AllocError> {
+        self.table.add_keys(keys)?;
+        self.keep_within()
+    }
+
+    fn visit_feature(
+        &mut self,
+        alloc: Global,
+        payload: &[u8],
+        payload_at: u64,
+        keys: &mut LayerKeys<'_>,
+        values: usize,
+        scratch: &mut Scratch,
+    ) -> Result<(), MessageError> {
+        let drawn = read_drawn(alloc, payload, payload_at, keys, values, scratch)?;
+        self.table.add_drawn(scratch.tags(), &drawn)?;
+        Ok(self.keep_within()?)
+    }
+}

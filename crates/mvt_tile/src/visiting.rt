@@ -1,0 +1,97 @@
+//! Going over a tile: a visitor is told the payload of each item.
+ghost use Rattle.std.specs.Prelude.{◌≡◌, ◌+◌, ◌≤◌, List, [], ◌∷◌, ◌++◌, length, IfOk, IfErr};
+ghost use Rattle.std.specs.Option.{option_to_list};
+ghost use Rattle.mvt_base.specs.Tells.{Tells};
+ghost use Rattle.mvt_feature.specs.Faults.{fault_of};
+ghost use Rattle.mvt_message.specs.declared.item.Item.{Item};
+ghost use Rattle.mvt_message.specs.ItemRules.{item_fault};
+ghost use Rattle.mvt_message.specs.Items.{IsItem, names_in};
+ghost use Rattle.mvt_message.specs.ValidItems.{ValidItem};
+ghost use Rattle.mvt_model.specs.declared.tile.Tile.{Tile};
+ghost use Rattle.mvt_model.specs.Tiles.{IsTile};
+ghost use Rattle.mvt_model.specs.ValidTiles.{Valid};
+ghost use Rattle.mvt_tile.specs.Streams.{TellsAtEnd};
+ghost use Rattle.mvt_tile.specs.TileRules.{fault_within};
+
+use crate::fault::DecodeError;
+use crate::layers::Names;
+use crate::taking::{Taker, in_layer, take_whole};
+use mvt_base::{LIMIT, Text};
+use mvt_message::MessageError;
+use std::alloc::Global;
+
+/// What is told the items of a tile, one after the other. It judges an item while it takes it, but for
+/// its name.
+pub trait TileVisitor: Drop {
+    // What it has when it took these items.
+    ghost has_items: { Self → List Item → Type 0 };
+
+    /// Takes the item of a payload, and answers the name of the layer that it is. The payload's first byte
+    /// and the tag of its field stand at these places.
+    ///
+    /// # Errors
+    ///
+    /// The first broken rule of the payload; want of memory.
+    fn visit_item(
+        &mut self,
+        alloc: Global,
+        payload: &[u8],
+        payload_at: u64,
+        tag_at: u64,
+    ) -> Result<Option<Text>, MessageError>
+        requires known { (items : List Item) × has_items self.old items }
+        requires fits { payload_at + length payload.now ≤ LIMIT }
+        ensures item { (items : List Item) → has_items self.old items → IfOk result (λ name. (item : Item)
+            × IsItem payload.now item × ValidItem item × (names_in item ≡ option_to_list name)
+            × has_items self.new (items ++ item ∷ [])) }
+        ensures fault { IfErr result (λ error. Tells (fault_of error) (item_fault payload.now payload_at tag_at)) };
+}
+
+/// Has a visitor take the items of a tile, and answers it.
+///
+/// # Errors
+///
+/// The first fault, which is the one that [`decode`](crate::decode) tells; want of memory. Never a failed
+/// read.
+pub fn visit_tile<V: TileVisitor>(alloc: Global, visitor: V, bytes: &[u8]) -> Result<V, DecodeError>
+    requires { V.has_items visitor [] }
+    ensures tile { IfOk result (λ visitor. (tile : Tile) × IsTile LIMIT bytes.now tile × Valid tile
+        × V.has_items visitor tile.items) }
+    ensures fault { IfErr result (λ error. TellsAtEnd error (fault_within LIMIT bytes.now)) }
+{
+    let mut named = Named {
+        names: Names::new(alloc),
+        visitor,
+    };
+    take_whole(alloc, &mut named, bytes)?;
+    Ok(named.visitor)
+}
+
+/// The names of the layers so far, and what takes the items.
+#[derive(Drop)]
+pub(crate) struct Named<V> {
+    pub(crate) names: Names,
+    pub(crate) visitor: V,
+}
+
+impl<V: TileVisitor> Taker for Named<V> {
+    ghost use Rattle.mvt_tile.specs.Visiting.{HasNamed};
+
+    ghost Given = { Unit {0} };
+
+    ghost has_taken = { λ _ named items. HasNamed (V.has_items named.visitor) named.names.count named.names.names.keys items };
+
+    /// Has the visitor take an item, and adds its name.
+    fn take_item(
+        &mut self,
+        alloc: Global,
+        payload: &[u8],
+        payload_at: u64,
+        tag_at: u64,
+    ) -> Result<(), DecodeError> {
+        match self.visitor.visit_item(alloc, payload, payload_at, tag_at) {
+            Ok(name) => self.names.add(name, tag_at),
+            Err(error) => Err(in_layer(self.names.count, error)),
+        }
+    }
+}

@@ -1,0 +1,123 @@
+//! Going over a tile that comes in pieces.
+ghost use Rattle.std.specs.Prelude.{◌≡◌, ℕ, List, [], ◌++◌, None, IsSome, IfOk, IfErr, IfSome};
+ghost use Rattle.mvt_model.specs.declared.tile.Tile.{Tile};
+ghost use Rattle.mvt_model.specs.Tiles.{IsTile};
+ghost use Rattle.mvt_model.specs.ValidTiles.{Valid};
+ghost use Rattle.mvt_tile.specs.Streams.{Answers, TellsAtEnd};
+ghost use Rattle.mvt_tile.specs.TileRules.{fault_within};
+ghost use Rattle.mvt_tile.specs.Visiting.{StandsFor};
+
+use crate::fault::DecodeError;
+use crate::layers::Names;
+use crate::pieces::Pieces;
+use crate::visiting::{Named, TileVisitor};
+use mvt_base::LIMIT;
+use std::alloc::Global;
+use std::marker::Model;
+
+/// Has a visitor take the items of one tile that comes in pieces, cut anywhere.
+///
+/// A field is judged once, when it is whole, so a fault is told as soon as no further byte can
+/// change it. After an error it answers that error for good, and holds no bytes.
+#[derive(Drop)]
+pub struct VisitingDecoder<V: TileVisitor> {
+    alloc: Global,
+    pieces: Pieces<Named<V>>,
+    failure: Option<DecodeError>,
+}
+
+impl<V: TileVisitor> Model for VisitingDecoder<V> {
+    ghost use Rattle.std.specs.Prelude.{ℕ, List, IfNone};
+    ghost use Rattle.mvt_base.specs.declared.TheConstants.{LIMIT};
+    ghost use Rattle.mvt_tile.specs.Visiting.{HasVisited, Visiting};
+
+    ghost Value = { Visiting × V };
+
+    ghost view = { λ d. (
+      record {
+        failure = d.failure;
+        count = d.pieces.taker.names.count;
+        names = d.pieces.taker.names.names.keys;
+        raw = d.pieces.raw.items;
+        offset = d.pieces.offset;
+      },
+      d.pieces.taker.visitor,
+    ) };
+
+    ghost invariant = { λ d. IfNone d.failure ((s : List ℕ) × HasVisited LIMIT (V.has_items d.pieces.taker.visitor) (record {
+      failure = d.failure;
+      count = d.pieces.taker.names.count;
+      names = d.pieces.taker.names.names.keys;
+      raw = d.pieces.raw.items;
+      offset = d.pieces.offset;
+    }) s) };
+}
+
+impl<V: TileVisitor> VisitingDecoder<V> {
+    /// A decoder of no bytes yet, which takes no memory.
+    pub fn new(alloc: Global, visitor: V) -> Self
+        requires { V.has_items visitor [] }
+        ensures stands { StandsFor LIMIT V.has_items result [] }
+        ensures fresh { result.0.failure ≡ None }
+    {
+        let named = Named {
+            names: Names::new(alloc),
+            visitor,
+        };
+        VisitingDecoder {
+            alloc,
+            pieces: Pieces::new(alloc, named),
+            failure: None,
+        }
+    }
+
+    /// Takes a piece of the input.
+    ///
+    /// # Errors
+    ///
+    /// The first fault of the input so far, unless further bytes may change it; want of memory.
+    pub fn feed(&mut self, piece: &[u8]) -> Result<(), DecodeError>
+        ensures stands { (s : List ℕ) → StandsFor LIMIT V.has_items self.old s
+            → StandsFor LIMIT V.has_items self.new (s ++ piece.now) }
+        ensures answer { Answers self.new.0.failure result }
+        ensures sticky { IsSome self.old.0.failure → self.new ≡ self.old }
+    {
+        if let Some(error) = self.failure {
+            return Err(error);
+        }
+        match self.pieces.take(self.alloc, piece) {
+            Ok(()) => Ok(()),
+            Err(error) => {
+                self.pieces.raw.clear();
+                self.failure = Some(error);
+                Err(error)
+            }
+        }
+    }
+
+    /// The visitor, after the last piece. It takes no memory.
+    ///
+    /// # Errors
+    ///
+    /// The error that the decoder keeps, or the fault of the field that isn't finished.
+    pub fn finish(self) -> Result<V, DecodeError>
+        ensures tile { IfOk result (λ visitor. (s : List ℕ) → StandsFor LIMIT V.has_items self s
+            → (tile : Tile) × IsTile LIMIT s tile × Valid tile × V.has_items visitor tile.items) }
+        ensures fault { IfErr result (λ error. (s : List ℕ) → StandsFor LIMIT V.has_items self s
+            → TellsAtEnd error (fault_within LIMIT s)) }
+        ensures kept { IfSome self.0.failure (λ error. result ≡ Err error) }
+        ensures no_memory { self.0.failure ≡ None
+            → IfErr result (λ error. (error ≡ DecodeError.Memory → ⊥)) }
+    {
+        let VisitingDecoder {
+            pieces,
+            failure,
+            ..
+        } = self;
+        if let Some(error) = failure {
+            return Err(error);
+        }
+        let named = pieces.finish()?;
+        Ok(named.visitor)
+    }
+}
