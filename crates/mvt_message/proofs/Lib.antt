@@ -12,3 +12,4 @@ mod LenLemmas
 mod HeldLemmas
 mod BoundLemmas
 mod VisitLemmas
+mod RewriteLemmas

@@ -19,13 +19,6 @@ use Rattle.mvt_model.specs.Survey.{feature_count, survey_of}
 use Rattle.mvt_model.proofs.NoteLemmas.{numbered-append}
 use Rattle.mvt_model.proofs.WritingLemmas.{written, field_of, written-append, written_one}
 
--- what stands behind some bytes is no longer than all
-
-pub behind_small : (limit : ℕ) (input front : List ℕ) (behind : Option (Bor (List ℕ))) → length input ≤ limit → IsBehind input front behind
-    → IfSome behind (λ rest. length rest.now ≤ limit)
-behind_small limit input front None small is = tt
-behind_small limit input front (Some rest) small is = omega (arith, ap length is, length-append front rest.now)
-
 -- nothing is left, or something, or the input begins otherwise
 
 pub end_there : (input front rest : List ℕ) (end : Bool) → input ≡ front ++ rest → end ≡ (length rest == 0) → end ≡ bytes_eq input front

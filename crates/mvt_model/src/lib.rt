@@ -15,7 +15,7 @@ mod write_error;
 mod writing;
 
 pub use comparing::is_canonical;
-pub use encoding::{encode, encode_more};
+pub use encoding::{encode, encode_payload};
 pub use findings::{Findings, feature_count};
 pub use note::Note;
 pub use noting::notes;
