@@ -1,8 +1,7 @@
 -- Entries that are known by their places, and those of them that are used.
-use Rattle.std.proofs.Common.{◌≡◌, ◌≢◌, ◌⊎◌, ℕ, zero, suc, ◌+◌, ◌-◌, ◌*◌, ◌<◌, ◌≤◌, Bool, true, false, List, [], ◌∷◌, ◌++◌, length, map, set, get_or, drop, Some, Contains, Decides, bytes_eq, slice_get, slice_index, inl, inr, refl, sym, ap, ap₂, subst, ◌∙◌, ⊎_elim, arith, append_assoc, append-nil, length-append}
+use Rattle.std.proofs.Common.{◌≡◌, ◌≢◌, ◌⊎◌, ℕ, zero, suc, ◌+◌, ◌-◌, ◌<◌, ◌≤◌, Bool, List, [], ◌∷◌, ◌++◌, length, map, set, get_or, drop, Some, Contains, Decides, bytes_eq, slice_get, slice_index, inl, inr, refl, sym, ap, ap₂, subst, ◌∙◌, ⊎_elim, arith, append_assoc, append-nil}
 use Rattle.std.proofs.lemmas.Bool.{cases_eq}
 use Rattle.std.proofs.lemmas.List.{get_or_default, get_or-set_same, get_or-set_other, get_or_append_left, length_push, length-set, map-append}
-use Rattle.std.proofs.lemmas.List.Quantifiers.{all_pairs_push}
 use Rattle.std.proofs.lemmas.Option.{slice_get_within, get_or_from_slice_get, slice_get-get_or}
 use Rattle.std.proofs.Math.Seq.{get_or-append_seam}
 use Rattle.std.proofs.lemmas.Slice.Eq.{bytes_eq-Decides}
@@ -93,12 +92,12 @@ module _ {A : Type 0} (distinct : List A) (places marks : List ℕ) (used entrie
   placed_more after stay at i y at_i =
       elim (push_cases entries x y i at_i) [
         | inl front ↦ (
-          let within : i < length places = omega (arith, uses.count, slice_get_within entries i y front) in
-          ap (slice_get after) (get_or_append_left places (place ∷ []) 0 i within) ∙ stay _ y (uses.placed i y front))
+            let within : i < length places = omega (arith, uses.count, slice_get_within entries i y front) in
+            ap (slice_get after) (get_or_append_left places (place ∷ []) 0 i within) ∙ stay _ y (uses.placed i y front))
         | inr last ↦ (
-          let seam : get_or (places ++ place ∷ []) i 0 ≡ place =
-          ap (λ k. get_or (places ++ place ∷ []) k 0) (last.0 ∙ sym uses.count) ∙ get_or-append_seam places place [] 0 in
-          ap (slice_get after) seam ∙ at ∙ ap Some last.1)
+            let seam : get_or (places ++ place ∷ []) i 0 ≡ place =
+            ap (λ k. get_or (places ++ place ∷ []) k 0) (last.0 ∙ sym uses.count) ∙ get_or-append_seam places place [] 0 in
+            ap (slice_get after) seam ∙ at ∙ ap Some last.1)
       ]
 
   -- one that was there

@@ -1,6 +1,6 @@
 -- The entries of a layer that its features use, each once, in order of first use (4.4). Entries are known by
 -- places: equal ones have one place.
-use Rattle.std.specs.Prelude.{◌≡◌, ◌≢◌, ℕ, ◌+◌, ◌<◌, ◌++◌, List, Some, length, slice_get, slice_index}
+use Rattle.std.specs.Prelude.{◌≡◌, ◌≢◌, ℕ, ◌+◌, ◌<◌, List, Some, length, slice_get, slice_index}
 use Rattle.mvt_attrs.specs.declared.uses.Uses.{Uses}
 use Rattle.mvt_attrs.specs.declared.uses.LayerUses.{LayerUses}
 use Rattle.mvt_attrs.specs.declared.value.Attribute.{Attribute}

@@ -4,8 +4,8 @@ use mvt_base::LIMIT;
 use mvt_io::{Host, MemorySink};
 use mvt_message::{Item, read_item};
 use mvt_tile::{
-    DecodeError, NamedLayers, Tile, TileDecoder, decode, extract_bytes, feature_count, judge, rewrite,
-    survey_tile, write_tile,
+    DecodeError, NamedLayers, Tile, TileDecoder, decode, extract_bytes, feature_count, judge,
+    rewrite, survey_tile, write_tile,
 };
 use std::alloc::Global;
 use std::{io, mem};

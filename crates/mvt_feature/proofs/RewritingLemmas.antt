@@ -6,7 +6,6 @@ use Rattle.mvt_attrs.specs.declared.uses.LayerUses.{LayerUses}
 use Rattle.mvt_attrs.specs.TagRules.{tag_fault}
 use Rattle.mvt_attrs.specs.TagPlaces.{tags_in}
 use Rattle.mvt_attrs.specs.Using.{IsUsedBy}
-use Rattle.mvt_geometry.specs.Drawing.{drawn}
 use Rattle.mvt_geometry.specs.Shape.{kind_of}
 use Rattle.mvt_geometry.specs.Table.{geometry_fault}
 use Rattle.mvt_wire.specs.Spelling.{spelled}
@@ -16,7 +15,6 @@ use Rattle.mvt_feature.specs.declared.known.Known.{Known}
 use Rattle.mvt_feature.specs.declared.numbers.feature.TheConstants.{GEOMETRY}
 use Rattle.mvt_feature.specs.declared.scratch.Scratch.{Scratch}
 use Rattle.mvt_feature.specs.Canonical.{id_fields, tags_fields, drawing_fields}
-use Rattle.mvt_feature.specs.Features.{IsFeatureOf}
 use Rattle.mvt_feature.specs.FeatureRules.{joined}
 use Rattle.mvt_feature.specs.Inner.{AreOf, IsJudged}
 use Rattle.mvt_feature.specs.Rewriting.{IsRewritten}
@@ -55,7 +53,7 @@ parts_written keys values known scratch f old new before after tags are used tag
       ∙ ap (λ i. before ++ spelled (id_fields i ++ (tags_fields tags ++ drawing_fields known.kind scratch.integers.items))) (sym are.id)
       ∙ ap (λ t. before ++ spelled (id_fields f.id ++ (tags_fields t ++ drawing_fields known.kind scratch.integers.items))) tags_are
       ∙ ap (λ k. before ++ spelled (id_fields f.id ++ (tags_fields (tags_in new.keys.used.items new.values.used.items f.attributes)
-          ++ drawing_fields k scratch.integers.items))) are.integers.same_kind
+      ++ drawing_fields k scratch.integers.items))) are.integers.same_kind
       ∙ ap (λ i. before ++ spelled (id_fields f.id ++ (tags_fields (tags_in new.keys.used.items new.values.used.items f.attributes)
-          ++ drawing_fields (kind_of f.geometry) i))) are.integers.spelled,
+      ++ drawing_fields (kind_of f.geometry) i))) are.integers.spelled,
 )

@@ -73,13 +73,7 @@ fn append_judged(
     scratch.drawing.clear();
     uses.append_used(&scratch.tags, &mut scratch.last)?;
     push_all(&mut scratch.drawing, &scratch.integers)?;
-    append_fields(
-        out,
-        known.id,
-        &scratch.last,
-        known.kind,
-        &scratch.drawing,
-    )
+    append_fields(out, known.id, &scratch.last, known.kind, &scratch.drawing)
 }
 
 fn push_all(packed: &mut PackedNumbers, numbers: &[u32]) -> Result<(), AllocError>

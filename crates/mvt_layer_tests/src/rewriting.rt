@@ -92,11 +92,13 @@ fn rewrites_items(rt: HostRuntime) {
 fn expect_fault(rt: &(impl Abort + AllocGlobal), payload: &[u8], feature: Option<u32>, at: u64) {
     let mut out = Vec::new(rt.alloc());
     match rewrite_short(rt.alloc(), payload, &mut out) {
-        Err(MessageError::Fault {
-            feature: of,
-            at: place,
-            ..
-        }) => {
+        Err(
+            MessageError::Fault {
+                feature: of,
+                at: place,
+                ..
+            },
+        ) => {
             expect_eq!(rt; of, feature);
             expect_eq!(rt; place, at);
         }
@@ -110,7 +112,12 @@ fn refuses_what_it_rewrites(rt: HostRuntime) {
     // No version; a value of no kind; and a feature whose tag names no key.
     expect_fault(&rt, &PLAIN[2..], None, 0);
     expect_fault(&rt, b"\x78\x02\x0A\x01a\x22\x00", None, 7);
-    expect_fault(&rt, b"\x78\x02\x0A\x01a\x12\x04\x12\x02\x00\x00", Some(0), 0);
+    expect_fault(
+        &rt,
+        b"\x78\x02\x0A\x01a\x12\x04\x12\x02\x00\x00",
+        Some(0),
+        0,
+    );
 }
 
 fn is_rewrite_refused(

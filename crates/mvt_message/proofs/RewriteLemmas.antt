@@ -1,10 +1,9 @@
 -- What is written of a layer while its features are visited.
-use Rattle.std.proofs.Common.{◌≡◌, ℕ, List, [], ◌∷◌, ◌++◌, map, refl, sym, ap, ap₂, subst, ◌∙◌, append_assoc, append-nil}
+use Rattle.std.proofs.Common.{◌≡◌, ℕ, List, [], ◌∷◌, ◌++◌, map, refl, sym, ap, ap₂, ◌∙◌, append_assoc, append-nil}
 use Rattle.mvt_attrs.specs.declared.value.Value.{Value}
 use Rattle.mvt_attrs.specs.declared.uses.LayerUses.{LayerUses}
 use Rattle.mvt_attrs.specs.Pools.{key_pool, value_pool}
 use Rattle.mvt_attrs.specs.TagPlaces.{tags_in}
-use Rattle.mvt_attrs.specs.Using.{HasUses}
 use Rattle.mvt_wire.specs.Field.{bytes}
 use Rattle.mvt_wire.specs.Spelling.{short_field, spelled}
 use Rattle.mvt_feature.specs.declared.feature.Feature.{Feature}
@@ -12,7 +11,7 @@ use Rattle.mvt_feature.specs.Canonical.{feature_fields}
 use Rattle.mvt_feature.specs.Rewriting.{IsRewritten}
 use Rattle.mvt_message.specs.declared.item.Layer.{Layer as ALayer}
 use Rattle.mvt_message.specs.declared.item.Item.TheVariants.{Layer, Foreign}
-use Rattle.mvt_message.specs.CanonicalItems.{canonical_item, keys_of, values_of, head_fields, feature_field, key_field, value_field, extent_fields, layer_fields}
+use Rattle.mvt_message.specs.CanonicalItems.{canonical_item, keys_of, values_of, head_fields, feature_field, extent_fields, layer_fields}
 use Rattle.mvt_message.specs.Rewriting.{AreWritten}
 use Rattle.mvt_message.proofs.PoolLemmas.{keys_more, values_more}
 use Rattle.mvt_message.proofs.PutLemmas.{spelled_more, tags_last, layer_parts, head_part, features_part, keys_part, values_part, extent_part}

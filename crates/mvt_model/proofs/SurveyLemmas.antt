@@ -1,5 +1,5 @@
 -- What is found of items, one after the other.
-use Rattle.std.proofs.Common.{◌≡◌, ◌≢◌, ℕ, ◌+◌, ◌≤◌, Bool, false, ◌==◌, eqb, List, [], ◌∷◌, ◌++◌, length, Option, Some, None, Bor, bytes_eq, IfSome, refl, sym, ap, ap₂, subst, ◌∙◌, arith, append-nil, length-append, zero-add}
+use Rattle.std.proofs.Common.{◌≡◌, ◌≢◌, ℕ, ◌+◌, ◌≤◌, Bool, false, ◌==◌, eqb, List, [], ◌∷◌, ◌++◌, length, bytes_eq, refl, sym, ap, ap₂, subst, ◌∙◌, arith, append-nil, length-append, zero-add}
 use Rattle.std.specs.List.{sum_by}
 use Rattle.std.proofs.lemmas.Bool.{eqb-true, eq-eqb, ne_eqb, false≢true}
 use Rattle.std.proofs.lemmas.Bool.Decides.{same_from_decides}

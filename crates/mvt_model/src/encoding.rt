@@ -57,10 +57,7 @@ fn encode_more(
 }
 
 /// The same of an item whose canonical payload this is.
-pub fn encode_payload(
-    out: Option<Vec<u8>>,
-    payload: &[u8],
-) -> Result<Option<Vec<u8>>, AllocError>
+pub fn encode_payload(out: Option<Vec<u8>>, payload: &[u8]) -> Result<Option<Vec<u8>>, AllocError>
     ensures { (items : List Item) (item : Item) → AreEncoded LIMIT items out
         → payload.now ≡ canonical_item item
         → IfOk result (AreEncoded LIMIT (items ++ item ∷ [])) }

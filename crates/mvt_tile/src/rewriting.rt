@@ -118,12 +118,7 @@ impl Rewriter {
     }
 
     /// Adds an item with this name and this canonical payload.
-    fn add(
-        &mut self,
-        name: Option<Text>,
-        tag_at: u64,
-        canonical: &[u8],
-    ) -> Result<(), DecodeError>
+    fn add(&mut self, name: Option<Text>, tag_at: u64, canonical: &[u8]) -> Result<(), DecodeError>
         requires { self.old.names.count ≤ LIMIT }
         ensures added { (wanted : AnItem → Bool) (items : List AnItem) (item : AnItem)
             → HasRewritten LIMIT wanted self.old items → names_in item ≡ option_to_list name

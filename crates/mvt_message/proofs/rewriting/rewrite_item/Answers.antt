@@ -1,6 +1,4 @@
-use Rattle.std.proofs.Common.{◌≡◌, ◌++◌, ◌∷◌, [], ℕ, List, refl, ap, sym, ◌∙◌}
-use Rattle.mvt_attrs.specs.declared.value.Value.{Value}
-use Rattle.mvt_feature.specs.declared.feature.Feature.{Feature}
+use Rattle.std.proofs.Common.{◌++◌, ◌∷◌, [], refl, ap, sym, ◌∙◌}
 use Rattle.mvt_message.specs.declared.rewriting.LayerRewriter.{LayerRewriter}
 use Rattle.mvt_message.specs.declared.item.Item.TheVariants as items
 use Rattle.mvt_message.specs.declared.visiting.Visited.TheVariants.{Layer, Foreign}
@@ -22,8 +20,7 @@ returns-in-Ok-Layer-clause-item c =
     let told = rw c.in-Ok-Layer.field-0-is at visited in
     let (layer, has, p) =
     layer_visited HasItems HasWritten c.visit_layer.new.visitor (Layer c.in-Ok-Layer.name c.in-Ok-Layer.extent)
-    (λ i. IsItem payload i × ValidItem i) (λ number content none. none) item told (is, valid) in
-    (
+    (λ i. IsItem payload i × ValidItem i) (λ number content none. none) item told (is, valid) in (
       items.Layer layer,
       p.0,
       p.1,
@@ -39,8 +36,7 @@ returns-in-Ok-Foreign-clause-item c =
     let told = rw c.in-Ok-Foreign.field-0-is at visited in
     let (number, content, has, p) =
     foreign_visited HasItems HasWritten c.visit_layer.new.visitor (Foreign c.in-Ok-Foreign.field-0-0)
-    (λ i. IsItem payload i × ValidItem i) (λ layer none. none) item told (is, valid) in
-    (
+    (λ i. IsItem payload i × ValidItem i) (λ layer none. none) item told (is, valid) in (
       items.Foreign number content,
       p.0,
       p.1,

@@ -1,4 +1,4 @@
-use Rattle.std.proofs.Common.{◌<◌, ◌++◌, length, Err, None, ap, sym, subst, ◌∙◌, arith, length-append}
+use Rattle.std.proofs.Common.{length, Err, ap, ◌∙◌, arith, length-append}
 use Rattle.mvt_wire.proofs.WireLaws.{short_lengths_bytes}
 use Rattle.mvt_message.specs.CanonicalItems.{canonical_item}
 use Rattle.mvt_model.specs.declared.numbers.tile.TheConstants.{LAYERS}

@@ -1,7 +1,4 @@
-use Rattle.std.proofs.Common.{◌≡◌, ◌<◌, ◌≤◌, ◌++◌, length, ap, sym, subst, ◌∙◌, arith, length-append}
-use Rattle.mvt_wire.specs.Field.{bytes}
-use Rattle.mvt_wire.specs.Spelling.{short_field}
-use Rattle.mvt_model.specs.declared.numbers.tile.TheConstants.{LAYERS}
+use Rattle.std.proofs.Common.{length, ap, arith, length-append}
 use Rattle.mvt_model.proofs.WritingLemmas.{written, field_of, written_behind, encoded_behind}
 use Rattle.mvt_model.proofs.encoding.encode_payload.Goals as goal
 

@@ -1,9 +1,4 @@
-use Rattle.std.proofs.Common.{◌≡◌, ◌<◌, ◌++◌, ◌∷◌, [], ℕ, List, Some, get_or, length, slice_get, refl, sym, arith}
 use Rattle.std.proofs.lemmas.List.{take_rest}
-use Rattle.std.proofs.lemmas.Option.{slice_get_within}
-use Rattle.mvt_attrs.specs.declared.value.Value.{Value}
-use Rattle.mvt_attrs.proofs.JudgingLemmas.{named_front}
-use Rattle.mvt_attrs.proofs.PlacingLemmas.{IsPut}
 use Rattle.mvt_attrs.proofs.UsesLemmas.{used_start, used_step, used_end, tags_end}
 use Rattle.mvt_attrs.proofs.uses.LayerUses.append_used.Goals as goal
 

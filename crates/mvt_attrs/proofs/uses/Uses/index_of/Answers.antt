@@ -1,4 +1,4 @@
-use Rattle.std.proofs.Common.{◌≡◌, ◌<◌, length, Some, ap, ◌∙◌, ◌++◌, ◌∷◌, [], arith}
+use Rattle.std.proofs.Common.{length, Some, ap, ◌∙◌, arith}
 use Rattle.std.proofs.lemmas.Option.{slice_get_within}
 use Rattle.mvt_attrs.proofs.PlacingLemmas.{contains_at}
 use Rattle.mvt_attrs.proofs.UsesLemmas.{read_at, place_stands, found_there, found_none, used_last, used_more}

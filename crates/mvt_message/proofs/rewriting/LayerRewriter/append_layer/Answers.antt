@@ -1,6 +1,5 @@
-use Rattle.std.proofs.Common.{◌++◌, ap, ◌∙◌}
+use Rattle.std.proofs.Common.{◌∙◌}
 use Rattle.std.proofs.lemmas.Result.{on_ok_weaker}
-use Rattle.mvt_message.proofs.PutLemmas.{keys_part, values_part}
 use Rattle.mvt_message.proofs.RewriteLemmas.{layer_appended}
 use Rattle.mvt_message.proofs.rewriting.LayerRewriter.append_layer.Goals as goal
 

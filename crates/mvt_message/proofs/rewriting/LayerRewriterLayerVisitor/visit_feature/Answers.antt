@@ -1,4 +1,3 @@
-use Rattle.std.proofs.Common.{◌∙◌}
 use Rattle.mvt_message.proofs.RewriteLemmas.{written_more, used_keys, used_values}
 use Rattle.mvt_message.proofs.rewriting.LayerRewriterLayerVisitor.visit_feature.Goals as goal
 

@@ -1,4 +1,4 @@
-use Rattle.std.proofs.Common.{[], ◌∷◌, ◌++◌, true, false, filter, refl, sym, subst, ◌∙◌, append-nil}
+use Rattle.std.proofs.Common.{[], ◌∷◌, true, false, filter, sym, subst, ◌∙◌, append-nil}
 use Rattle.mvt_base.proofs.ListLemmas.{all_joined}
 use Rattle.mvt_message.specs.ValidItems.{ValidItem}
 use Rattle.mvt_model.specs.Encoding.{AreEncoded}
