@@ -1,9 +1,11 @@
 // Judges, reads and writes tiles that are made to be dear: many small parts, a long text that many features
-// name, and keys and names that all have one hash. The first is too large to be written.
+// name, and keys and names that all have one hash. The first is too large to be written. Then surveys, rewrites
+// and extracts tiles of long texts at two sizes.
 //
 //   bench/beside.sh hostile
 //
-// Each run has a process of its own. Prints the time of one run and its largest growth of memory.
+// Each run has a process of its own. Prints the time of one run and its largest growth of memory; of two sizes
+// the ratio of the times beside that of the sizes.
 #include "layers.hpp"
 #include "one_hash.hpp"
 #include "run.hpp"
@@ -16,6 +18,9 @@
 extern "C" bool mvt_judge(const unsigned char* bytes, std::size_t len);
 extern "C" std::uint64_t mvt_decode(const unsigned char* bytes, std::size_t len, bool keeps);
 extern "C" std::uint64_t mvt_write(const unsigned char* bytes, std::size_t len, std::uint32_t times);
+extern "C" std::uint64_t mvt_survey(const unsigned char* bytes, std::size_t len);
+extern "C" std::uint64_t mvt_rewritten(const unsigned char* bytes, std::size_t len);
+extern "C" std::uint64_t mvt_extracted(const unsigned char* bytes, std::size_t len, const char* name, std::size_t name_len);
 
 static void row(const char* name, const std::string& tile) {
     const auto* bytes = reinterpret_cast<const unsigned char*>(tile.data());
@@ -101,6 +106,99 @@ static std::string long_text(std::size_t length, std::size_t features) {
     return tile_of(layer.finish());
 }
 
+// How many times each run takes of a tile what it takes of a smaller one.
+static void growth(const char* name, const std::string& small, const std::string& large, const std::string& layer) {
+    const auto seconds = [&](const std::string& tile) {
+        const auto* bytes = reinterpret_cast<const unsigned char*>(tile.data());
+        const std::vector<Run> runs{
+            run_apart([&] { return std::uint64_t{mvt_judge(bytes, tile.size())}; }),
+            run_apart([&] { return mvt_survey(bytes, tile.size()); }),
+            run_apart([&] { return mvt_rewritten(bytes, tile.size()); }),
+            run_apart([&] { return mvt_extracted(bytes, tile.size(), layer.data(), layer.size()); }),
+            run_apart([&] { return mvt_decode(bytes, tile.size(), true); }),
+        };
+        std::vector<double> times;
+        for (const auto& run : runs) {
+            if (run.answer == 0) {
+                std::printf("%s: refused\n", name);
+                std::exit(1);
+            }
+            times.push_back(run.seconds);
+        }
+        return times;
+    };
+    const auto before = seconds(small), after = seconds(large);
+    std::printf("| %s | %.2f, %.2f | %.1f |", name, small.size() / 1e6, large.size() / 1e6, 1.0 * large.size() / small.size());
+    for (std::size_t i = 0; i < before.size(); ++i) std::printf(" %.3f, %.1f |", after[i], after[i] / before[i]);
+    std::printf("\n");
+    std::fflush(stdout);
+}
+
+static std::string with_digits(std::string text, std::size_t at, std::size_t number) {
+    const auto digits = std::to_string(100 + number);
+    return text.replace(at, digits.size(), digits);
+}
+
+// A layer of so many texts of one length, which differ at their fronts or at their ends, and of features that
+// name them in turn. A text stands at so many places of the layer.
+static std::string texts_in_turn(std::size_t bytes, std::size_t count, bool at_front, std::size_t places) {
+    const std::string plain(bytes / 2 / count / places, 'x');
+    std::string payload{"\x78\x02\x0A\x01\x61", 5}, values;
+    for (std::size_t place = 0; place < places; ++place) {
+        for (std::size_t i = 0; i < count; ++i) {
+            put_bytes(values, 4, text_value(with_digits(plain, at_front ? 0 : plain.size() - 3, i)));
+        }
+    }
+    for (std::size_t i = 0; payload.size() < bytes / 2; ++i) {
+        std::string feature;
+        put_bytes(feature, 2, packed({0, static_cast<std::uint32_t>(i % (count * places))}));
+        put_number(feature, 3, 1);
+        put_bytes(feature, 4, packed({9, 50, 34}));
+        put_bytes(payload, 2, feature);
+    }
+    put_bytes(payload, 3, "k");
+    return tile_of(payload + values);
+}
+
+// The same of keys.
+static std::string keys_in_turn(std::size_t bytes, std::size_t count) {
+    const std::string plain(bytes / 2 / count, 'x');
+    std::string payload{"\x78\x02\x0A\x01\x61", 5};
+    for (std::size_t i = 0; i < count; ++i) put_bytes(payload, 3, with_digits(plain, plain.size() - 3, i));
+    put_bytes(payload, 4, uint_value(5));
+    for (std::size_t i = 0; payload.size() < bytes; ++i) {
+        std::string feature;
+        put_bytes(feature, 2, packed({static_cast<std::uint32_t>(i % count), 0}));
+        put_number(feature, 3, 1);
+        put_bytes(feature, 4, packed({9, 50, 34}));
+        put_bytes(payload, 2, feature);
+    }
+    return tile_of(payload);
+}
+
+// Layers whose names are so long, and differ at their ends.
+static std::string long_names(std::size_t count, std::size_t length) {
+    std::string tile;
+    for (std::size_t i = 0; i < count; ++i) put_bytes(tile, 3, Layer{with_digits(std::string(length, 'x'), length - 6, i)}.finish());
+    return tile;
+}
+
+static void growths() {
+    const std::size_t less = 225'000, more = 900'000;
+    std::printf("\n| Tile | Sizes, MB | Ratio | `judge`, s, times | `survey_tile`, s, times | `rewrite`, s, times "
+                "| `extract_bytes`, s, times | `decode`, s, times |\n|---|---|---|---|---|---|---|---|\n");
+    for (const std::size_t count : {2, 30}) {
+        for (const bool at_front : {false, true}) {
+            const auto name = std::to_string(count) + " long texts named in turn, different at the " + (at_front ? "front" : "end");
+            growth(name.c_str(), texts_in_turn(less, count, at_front, 1), texts_in_turn(more, count, at_front, 1), "a");
+        }
+    }
+    growth("2 texts at 8 places each", texts_in_turn(less, 2, false, 8), texts_in_turn(more, 2, false, 8), "a");
+    growth("2 long keys", keys_in_turn(less, 2), keys_in_turn(more, 2), "a");
+    growth("30 long keys", keys_in_turn(less, 30), keys_in_turn(more, 30), "a");
+    growth("layers with names of 10,000 bytes", long_names(22, 10'000), long_names(90, 10'000), "a");
+}
+
 int main() {
     const auto front = forgetful_front();
     const std::string plain(24, 'a');
@@ -119,4 +217,5 @@ int main() {
     row("20,000 layers", many_names(20'000, plain));
     row("20,000 layers whose names have one hash", many_names(20'000, front));
     row("40,000 layers whose names have one hash", many_names(40'000, front));
+    growths();
 }

@@ -10,3 +10,4 @@ mod PlacingLemmas
 mod SpreadLemmas
 mod OrderedLemmas
 mod JudgingLemmas
+mod UsesLemmas

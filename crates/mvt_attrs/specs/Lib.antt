@@ -5,5 +5,6 @@ pub mod Placed
 pub mod Tags
 pub mod TagRules
 pub mod TagPlaces
+pub mod Using
 pub mod Texts
 pub mod Inner

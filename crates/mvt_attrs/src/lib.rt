@@ -14,6 +14,7 @@ mod pool_error;
 mod resolving;
 mod spot;
 mod spread;
+mod uses;
 mod value;
 mod value_pool;
 
@@ -25,5 +26,6 @@ pub use placing::{append_tags, tags_of};
 pub use pool::Pool;
 pub use pool_error::PoolError;
 pub use resolving::{TagCause, TagError, resolve, resolve_in};
+pub use uses::{LayerUses, Uses};
 pub use value::{Attribute, Value};
 pub use value_pool::ValuePool;

@@ -102,7 +102,7 @@ pub fn append_tags(
 
 /// Adds the two indices of a tag, or neither.
 #[inline(always)]
-fn push_pair(tags: &mut Vec<u32>, key: u32, value: u32) -> Result<(), AllocError>
+pub(crate) fn push_pair(tags: &mut Vec<u32>, key: u32, value: u32) -> Result<(), AllocError>
     ensures items { OnOk result (tags.new.items ≡ tags.old.items ++ key ∷ value ∷ []) }
     ensures err { OnErr result (tags.new.items ≡ tags.old.items) }
 {

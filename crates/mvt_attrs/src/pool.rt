@@ -68,6 +68,13 @@ impl<T: Entry> Pool<T> {
         self.entries.is_empty()
     }
 
+    /// The entries, in their order.
+    pub fn entries(&self) -> &[T]
+        ensures { result.now ≡ self.now }
+    {
+        &self.entries
+    }
+
     pub(crate) fn entry(&self, index: u32) -> Option<&T>
         ensures { option_copied result ≡ slice_get self.now index }
     {

@@ -8,6 +8,7 @@ mod KnownLemmas
 mod FeatureLemmas
 mod OrFaultLemmas
 mod WritingLemmas
+mod RewritingLemmas
 mod CanonicalLemmas
 mod ValidLemmas
 mod RangeLemmas

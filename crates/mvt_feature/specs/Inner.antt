@@ -3,16 +3,20 @@ use Rattle.std.specs.Prelude.{◌≡◌, ◌≢◌, ℕ, ◌==◌, true, false, 
 use Rattle.std.specs.List.{last_or}
 use Rattle.mvt_attrs.specs.declared.value.Value.{Value}
 use Rattle.mvt_attrs.specs.declared.value.Value.TheVariants as values
+use Rattle.mvt_attrs.specs.Tags.{Resolved}
 use Rattle.mvt_geometry.specs.declared.shape.Kind.{Kind}
+use Rattle.mvt_geometry.specs.Drawing.{Draws}
 use Rattle.mvt_wire.specs.Field.{Content, Entry}
 use Rattle.mvt_feature.specs.declared.numbers.feature.TheConstants.{ID, TAGS, TYPE, GEOMETRY}
 use Rattle.mvt_feature.specs.declared.message_error.MessageError.{MessageError}
+use Rattle.mvt_feature.specs.declared.feature.Feature.{Feature}
 use Rattle.mvt_feature.specs.declared.known.Known.{Known}
+use Rattle.mvt_feature.specs.declared.scratch.Scratch.{Scratch}
 use Rattle.mvt_feature.specs.declared.value.Meaning.{Meaning}
 use Rattle.mvt_feature.specs.declared.value.Meaning.TheVariants as meanings
 use Rattle.mvt_feature.specs.declared.value.Kinds.{Kinds}
 use Rattle.mvt_feature.specs.declared.value.Kinds.TheVariants.{Nothing, One, Several}
-use Rattle.mvt_feature.specs.Features.{number_of, number_in, kind_of_type}
+use Rattle.mvt_feature.specs.Features.{number_of, number_in, kind_of_type, IsFeatureOf}
 use Rattle.mvt_feature.specs.FeatureRules.{numbers_of, joined, kind_in, feature_field_rules}
 use Rattle.mvt_feature.specs.Selection.{last_only}
 use Rattle.mvt_feature.specs.Values.{Means}
@@ -68,3 +72,12 @@ pub record IsKnown (fields : List Entry) (known : Known) (tags integers : List �
 abbrev pub IsKnownSoFar : ℕ → List Entry → Result Known MessageError → List ℕ → List ℕ → Type 0
 IsKnownSoFar payload_at done known tags integers =
     IsSoFar (feature_field_rules payload_at) (λ fields k. IsKnown fields k tags integers) done known
+
+-- the tags and the integers in a scratch, with what is known besides, are those of this feature
+pub record AreOf (keys : List (List ℕ)) (values : List Value) (known : Known) (scratch : Scratch) (f : Feature) : Type 0 where
+  pub id : f.id ≡ known.id
+  pub tags : Resolved keys values scratch.tags.items f.attributes
+  pub integers : Draws known.kind scratch.integers.items f.geometry
+
+abbrev pub IsJudged : List ℕ → List (List ℕ) → List Value → Known → Scratch → Type 0
+IsJudged payload keys values known scratch = (f : Feature) × IsFeatureOf payload keys values f × AreOf keys values known scratch f

@@ -9,6 +9,7 @@ pub mod ValueIn
 pub mod Features
 pub mod FeatureRules
 pub mod Canonical
+pub mod Rewriting
 pub mod Bounds
 pub mod Valid
 pub mod Ranges

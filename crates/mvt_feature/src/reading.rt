@@ -6,9 +6,10 @@ ghost use Rattle.mvt_feature.specs.Faults.{fault_of};
 ghost use Rattle.mvt_feature.specs.Drawn.{tags_of, IsDrawnOf};
 ghost use Rattle.mvt_feature.specs.Features.{IsFeatureOf};
 ghost use Rattle.mvt_feature.specs.FeatureRules.{feature_fault};
+ghost use Rattle.mvt_feature.specs.Inner.{IsJudged};
 
 use crate::feature::{Drawn, Feature};
-use crate::known::read_known;
+use crate::known::{Known, read_known};
 use crate::message_error::MessageError;
 use crate::scratch::Scratch;
 use mvt_attrs::{LayerKeys, Value, judge_tags, resolve_in};
@@ -130,8 +131,30 @@ pub fn judge_feature(
         → Tells (fault_of error) (feature_fault payload.now payload_at keys.old held)) }
     ensures same { keys.new ≡ keys.old }
 {
+    judge_known(alloc, payload, payload_at, keys, values, scratch)?;
+    Ok(())
+}
+
+/// The same, and what its fields say besides the tags and the integers.
+pub(crate) fn judge_known(
+    alloc: Global,
+    payload: &[u8],
+    payload_at: u64,
+    keys: &mut LayerKeys<'_>,
+    values: usize,
+    scratch: &mut Scratch,
+) -> Result<Known, MessageError>
+    requires { payload_at + length payload.now < 2 ^ 64 }
+    ensures judged { IfOk result (λ known. (held : List Value) → length held ≡ values
+        → IsJudged payload.now keys.old held known scratch.new) }
+    ensures ok { OnOk result ((held : List Value) → length held ≡ values
+        → feature_fault payload.now payload_at keys.old held ≡ None) }
+    ensures err { IfErr result (λ error. (held : List Value) → length held ≡ values
+        → Tells (fault_of error) (feature_fault payload.now payload_at keys.old held)) }
+    ensures same { keys.new ≡ keys.old }
+{
     let known = read_known(payload, payload_at, scratch)?;
     judge_tags(alloc, keys, values, &scratch.tags)?;
     judge_geometry(known.kind, &scratch.integers)?;
-    Ok(())
+    Ok(known)
 }

@@ -114,7 +114,7 @@ pub fn append_feature(
 }
 
 /// Appends the fields of a feature with this id, these tags and this geometry.
-fn append_fields(
+pub(crate) fn append_fields(
     out: &mut Vec<u8>,
     id: Option<u64>,
     tags: &[u32],

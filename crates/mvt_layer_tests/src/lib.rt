@@ -9,4 +9,6 @@ mod feature;
 #[cfg(test)]
 mod message;
 #[cfg(test)]
+mod rewriting;
+#[cfg(test)]
 mod support;

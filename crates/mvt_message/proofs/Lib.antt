@@ -12,4 +12,5 @@ mod LenLemmas
 mod HeldLemmas
 mod BoundLemmas
 mod VisitLemmas
+mod RewriteLemmas
 mod NamingLemmas

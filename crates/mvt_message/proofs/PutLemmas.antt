@@ -76,7 +76,7 @@ entry_step g ys i {y} start at was more =
     list_step g ys i start (slice_get_within ys i y (sym at)) (get_or_from_slice_get ys i y y (sym at)) was more
 
 -- the tags of a feature name the same entries in the pools of all features
-tags_last : (features done rest : List Feature) (f : Feature) (keys : List (List ℕ)) (values : List Value)
+pub tags_last : (features done rest : List Feature) (f : Feature) (keys : List (List ℕ)) (values : List Value)
     → features ≡ done ++ rest → keys ≡ keys_of done → values ≡ values_of done
     → Names keys values (tags_in keys values f.attributes) f.attributes
     → tags_in keys values f.attributes ≡ tags_in (keys_of features) (values_of features) f.attributes

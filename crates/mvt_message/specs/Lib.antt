@@ -6,4 +6,5 @@ pub mod Bounds
 pub mod ValidItems
 pub mod PutErrors
 pub mod Visiting
+pub mod Rewriting
 pub mod Inner

@@ -8,8 +8,8 @@ ghost use Rattle.mvt_message.specs.CanonicalItems.{keys_of, values_of, head_fiel
 
 use crate::numbers::{VERSION_2, layer};
 use crate::writing::PutError;
-use mvt_attrs::{KeyPool, ValuePool};
-use mvt_base::LIMIT;
+use mvt_attrs::{KeyPool, Value, ValuePool};
+use mvt_base::{LIMIT, Text};
 use mvt_feature::{Feature, Scratch, append_feature, append_value, value_len};
 use mvt_wire::{Payload, put_field, put_field_head};
 use std::alloc::{AllocError, Global};
@@ -60,31 +60,23 @@ pub(crate) fn put_features(
     Ok(())
 }
 
-/// Appends the keys of a pool.
-pub(crate) fn put_keys(out: &mut Vec<u8>, keys: &KeyPool) -> Result<(), AllocError>
+/// Appends the keys.
+pub(crate) fn put_keys(out: &mut Vec<u8>, keys: &[Text]) -> Result<(), AllocError>
     ensures { OnOk result (out.new.items ≡ out.old.items ++ spelled (map key_field keys.now)) }
 {
-    for index in 0..keys.len() as u32 {
-        match keys.get(index) {
-            Some(key) => put_field(out, layer::KEYS, &Payload::Len(key.as_bytes()))?,
-            None => unreachable!(),
-        }
+    for key in keys {
+        put_field(out, layer::KEYS, &Payload::Len(key.as_str().as_bytes()))?;
     }
     Ok(())
 }
 
-/// Appends the values of a pool.
-pub(crate) fn put_values(out: &mut Vec<u8>, values: &ValuePool) -> Result<(), AllocError>
+/// Appends the values.
+pub(crate) fn put_values(out: &mut Vec<u8>, values: &[Value]) -> Result<(), AllocError>
     ensures { OnOk result (out.new.items ≡ out.old.items ++ spelled (map value_field values.now)) }
 {
-    for index in 0..values.len() as u32 {
-        match values.get(index) {
-            Some(value) => {
-                put_field_head(out, layer::VALUES, value_len(value))?;
-                append_value(out, value)?;
-            }
-            None => unreachable!(),
-        }
+    for value in values {
+        put_field_head(out, layer::VALUES, value_len(value))?;
+        append_value(out, value)?;
     }
     Ok(())
 }

@@ -146,8 +146,8 @@ fn put_parts(
 {
     put_head(out, layer.name.as_str())?;
     put_features(alloc, layer.features.as_slice(), out, keys, values)?;
-    put_keys(out, keys)?;
-    put_values(out, values)?;
+    put_keys(out, keys.entries())?;
+    put_values(out, values.entries())?;
     put_extent(out, layer.extent)?;
     if out.len() as u64 > LIMIT {
         return Err(PutError::TooLarge);

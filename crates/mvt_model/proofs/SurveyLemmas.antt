@@ -1,5 +1,5 @@
 -- What is found of items, one after the other.
-use Rattle.std.proofs.Common.{◌≡◌, ◌≢◌, ℕ, ◌+◌, ◌≤◌, Bool, false, ◌==◌, eqb, List, [], ◌∷◌, ◌++◌, length, Option, Some, None, Bor, bytes_eq, IfSome, refl, sym, ap, ap₂, subst, ◌∙◌, arith, append-nil, length-append, zero-add}
+use Rattle.std.proofs.Common.{◌≡◌, ◌≢◌, ℕ, ◌+◌, ◌≤◌, Bool, false, ◌==◌, eqb, List, [], ◌∷◌, ◌++◌, length, bytes_eq, refl, sym, ap, ap₂, subst, ◌∙◌, arith, append-nil, length-append, zero-add}
 use Rattle.std.specs.List.{sum_by}
 use Rattle.std.proofs.lemmas.Bool.{eqb-true, eq-eqb, ne_eqb, false≢true}
 use Rattle.std.proofs.lemmas.Bool.Decides.{same_from_decides}
@@ -18,13 +18,6 @@ use Rattle.mvt_model.specs.Notes.{numbered, note_if, item_notes, notes_of}
 use Rattle.mvt_model.specs.Survey.{feature_count, survey_of}
 use Rattle.mvt_model.proofs.NoteLemmas.{numbered-append}
 use Rattle.mvt_model.proofs.WritingLemmas.{written, field_of, written-append, written_one}
-
--- what stands behind some bytes is no longer than all
-
-pub behind_small : (limit : ℕ) (input front : List ℕ) (behind : Option (Bor (List ℕ))) → length input ≤ limit → IsBehind input front behind
-    → IfSome behind (λ rest. length rest.now ≤ limit)
-behind_small limit input front None small is = tt
-behind_small limit input front (Some rest) small is = omega (arith, ap length is, length-append front rest.now)
 
 -- nothing is left, or something, or the input begins otherwise
 

@@ -1,5 +1,5 @@
 -- Items written one after the other.
-use Rattle.std.proofs.Common.{◌≡◌, ℕ, ◌+◌, ◌<◌, ◌≤◌, List, [], ◌∷◌, ◌++◌, length, map, take, drop, get_or, Vec, Global, Option, None, Some, Result, Ok, Err, OnOk, IfOk, refl, sym, ap, subst, ◌∙◌, arith, append_assoc, append-nil, length-append, take-append-drop}
+use Rattle.std.proofs.Common.{◌≡◌, ℕ, ◌+◌, ◌<◌, ◌≤◌, List, [], ◌∷◌, ◌++◌, length, map, take, drop, get_or, Vec, Global, Option, None, Some, Result, Ok, Err, OnOk, OnErr, IfOk, refl, sym, ap, ap₂, subst, ◌∙◌, arith, append_assoc, append-nil, length-append, take-append-drop}
 use Rattle.std.proofs.lemmas.List.{take_all, map-append}
 use Rattle.std.proofs.lemmas.Grind.{flat_map-append}
 use Rattle.std.specs.Option.{ok_or}
@@ -38,6 +38,11 @@ written_one item = append-nil (field_of item)
 
 pub written_behind : (items : List Item) (item : Item) → written (items ++ item ∷ []) ≡ written items ++ field_of item
 written_behind items item = written-append items (item ∷ []) ∙ ap (λ b. written items ++ b) (written_one item)
+
+pub encoded_behind : (items : List Item) (item : Item) {old new payload : List ℕ} → old ≡ written items → payload ≡ canonical_item item
+    → new ≡ old ++ short_field LAYERS (bytes payload) → new ≡ written (items ++ item ∷ [])
+encoded_behind items item was is put =
+    put ∙ ap₂ (λ o d. o ++ short_field LAYERS (bytes d)) was is ∙ sym (written_behind items item)
 
 pub written_more : (items : List Item) (i : ℕ) (item : Item) → i < length items → item ≡ get_or items i item
     → written (take (i + 1) items) ≡ written (take i items) ++ field_of item

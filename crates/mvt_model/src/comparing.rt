@@ -14,7 +14,7 @@ use mvt_wire::put_field_head;
 use std::alloc::{AllocError, Global};
 
 /// What stands behind the field of an item, where that is at the front of some bytes.
-pub(crate) fn behind_item<'b>(
+fn behind_item<'b>(
     alloc: Global,
     item: &Item,
     bytes: &'b [u8],
@@ -24,14 +24,24 @@ pub(crate) fn behind_item<'b>(
     ensures { IfOk result (IsBehind bytes.now
         (short_field LAYERS (in_bytes (canonical_item item.now)))) }
 {
-    let payload = match put_item(alloc, item) {
-        Ok(payload) => payload,
-        Err(PutError::TooLarge) => return Ok(None),
-        Err(PutError::Memory) => return Err(AllocError),
-    };
+    match put_item(alloc, item) {
+        Ok(payload) => behind_payload(alloc, &payload, bytes),
+        Err(PutError::TooLarge) => Ok(None),
+        Err(PutError::Memory) => Err(AllocError),
+    }
+}
+
+/// The same of an item whose canonical payload this is.
+pub(crate) fn behind_payload<'b>(
+    alloc: Global,
+    payload: &[u8],
+    bytes: &'b [u8],
+) -> Result<Option<&'b [u8]>, AllocError>
+    ensures { IfOk result (IsBehind bytes.now (short_field LAYERS (in_bytes payload.now))) }
+{
     let head = field_head(alloc, payload.len())?;
     match bytes.strip_prefix(head.as_slice()) {
-        Some(body) => Ok(body.strip_prefix(payload.as_slice())),
+        Some(body) => Ok(body.strip_prefix(payload)),
         None => Ok(None),
     }
 }

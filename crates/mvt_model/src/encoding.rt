@@ -1,11 +1,8 @@
 //! The canonical bytes of a tile, in memory.
-ghost use Rattle.std.specs.Prelude.{◌≡◌, ◌<◌, ◌≤◌, ◌++◌, ◌∷◌, [], List, length, IfOk, IsErrOf, OnOk};
-ghost use Rattle.mvt_wire.specs.Field.{bytes};
-ghost use Rattle.mvt_wire.specs.Spelling.{short_field};
+ghost use Rattle.std.specs.Prelude.{◌≡◌, ◌<◌, ◌≤◌, ◌++◌, ◌∷◌, [], List, length, IfOk, IsErrOf};
 ghost use Rattle.mvt_message.specs.declared.item.Item.{Item};
 ghost use Rattle.mvt_message.specs.CanonicalItems.{canonical_item};
 ghost use Rattle.mvt_message.specs.ValidItems.{ValidItem};
-ghost use Rattle.mvt_model.specs.declared.numbers.tile.TheConstants.{LAYERS};
 ghost use Rattle.mvt_model.specs.CanonicalTiles.{canonical};
 ghost use Rattle.mvt_model.specs.Encoding.{AreEncoded};
 ghost use Rattle.mvt_model.specs.Tiles.{IsTile};
@@ -40,7 +37,7 @@ pub fn encode(alloc: Global, tile: &Tile) -> Result<Vec<u8>, PutError>
 
 /// The canonical bytes of one item more, behind those of the items before it; `None` from where
 /// they are more than the limit.
-pub fn encode_more(
+fn encode_more(
     alloc: Global,
     out: Option<Vec<u8>>,
     item: &Item,
@@ -49,29 +46,28 @@ pub fn encode_more(
     ensures { (items : List Item) → AreEncoded LIMIT items out
         → IfOk result (AreEncoded LIMIT (items ++ item.now ∷ [])) }
 {
-    let Some(mut bytes) = out else {
+    if out.is_none() {
         return Ok(None);
-    };
-    match append_item(alloc, &mut bytes, item) {
-        Ok(()) => Ok(Some(bytes)),
+    }
+    match put_item(alloc, item) {
+        Ok(payload) => encode_payload(out, &payload),
         Err(PutError::TooLarge) => Ok(None),
         Err(PutError::Memory) => Err(AllocError),
     }
 }
 
-/// Appends the field of an item, where all bytes are then within the limit.
-fn append_item(alloc: Global, out: &mut Vec<u8>, item: &Item) -> Result<(), PutError>
-    requires { ValidItem item.now }
-    ensures put { OnOk result
-        (out.new.items ≡ out.old.items ++ short_field LAYERS (bytes (canonical_item item.now))) }
-    ensures small { OnOk result (length out.new.items ≤ LIMIT) }
-    ensures too_large { IsErrOf result PutError.TooLarge
-        → LIMIT < length (out.old.items ++ short_field LAYERS (bytes (canonical_item item.now))) }
+/// The same of an item whose canonical payload this is.
+pub fn encode_payload(out: Option<Vec<u8>>, payload: &[u8]) -> Result<Option<Vec<u8>>, AllocError>
+    ensures { (items : List Item) (item : Item) → AreEncoded LIMIT items out
+        → payload.now ≡ canonical_item item
+        → IfOk result (AreEncoded LIMIT (items ++ item ∷ [])) }
 {
-    let payload = put_item(alloc, item)?;
-    put_field(out, tile::LAYERS, &Payload::Len(payload.as_slice()))?;
-    if out.len() as u64 > LIMIT {
-        return Err(PutError::TooLarge);
+    let Some(mut bytes) = out else {
+        return Ok(None);
+    };
+    put_field(&mut bytes, tile::LAYERS, &Payload::Len(payload))?;
+    if bytes.len() as u64 > LIMIT {
+        return Ok(None);
     }
-    Ok(())
+    Ok(Some(bytes))
 }

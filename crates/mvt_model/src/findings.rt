@@ -1,9 +1,8 @@
 //! What is found of items, one after the other.
-ghost use Rattle.std.specs.Prelude.{◌≡◌, ℕ, ◌≤◌, List, [], ◌∷◌, ◌++◌, length, bytes_eq, IfOk, IfSome, OnOk};
+ghost use Rattle.std.specs.Prelude.{◌≡◌, ℕ, ◌≤◌, List, [], ◌∷◌, ◌++◌, length, bytes_eq, IfOk, OnOk};
 ghost use Rattle.mvt_wire.specs.Field.{bytes as in_bytes};
 ghost use Rattle.mvt_wire.specs.Spelling.{short_field};
 ghost use Rattle.mvt_message.specs.CanonicalItems.{canonical_item};
-ghost use Rattle.mvt_message.specs.ValidItems.{ValidItem};
 ghost use Rattle.mvt_model.specs.declared.numbers.tile.TheConstants.{LAYERS};
 ghost use Rattle.mvt_model.specs.declared.tile.Tile.{Tile};
 ghost use Rattle.mvt_model.specs.CanonicalTiles.{canonical};
@@ -11,7 +10,7 @@ ghost use Rattle.mvt_model.specs.Comparing.{IsBehind};
 ghost use Rattle.mvt_model.specs.Findings.{AreFound};
 ghost use Rattle.mvt_model.specs.Survey.{feature_count as the_feature_count, survey_of};
 
-use crate::comparing::behind_item;
+use crate::comparing::behind_payload;
 use crate::note::Note;
 use crate::noting::{note_if, note_item};
 use crate::survey::Survey;
@@ -42,9 +41,15 @@ impl<'a> Findings<'a> {
         }
     }
 
-    /// Adds what is found of the item behind so many others.
-    pub fn add(&mut self, alloc: Global, index: usize, item: &Item) -> Result<(), AllocError>
-        requires valid { ValidItem item.now }
+    /// Adds what is found of the item behind so many others, whose canonical payload this is.
+    pub fn add(
+        &mut self,
+        alloc: Global,
+        index: usize,
+        item: &Item,
+        payload: &[u8],
+    ) -> Result<(), AllocError>
+        requires canonical { payload.now ≡ canonical_item item.now }
         requires few { index ≤ LIMIT }
         requires found { (input : List ℕ) × (items : List Item)
             × AreFound LIMIT input self.old items × (length items ≡ index) }
@@ -53,7 +58,7 @@ impl<'a> Findings<'a> {
             → OnOk result (AreFound LIMIT input self.new (items ++ item.now ∷ [])) }
     {
         self.features += feature_count(item) as u128;
-        self.behind = behind_next(alloc, item, self.behind)?;
+        self.behind = behind_next(alloc, payload, self.behind)?;
         note_item(alloc, &mut self.notes, index, item)
     }
 
@@ -89,20 +94,17 @@ pub fn feature_count(item: &Item) -> usize
     }
 }
 
-/// What stands behind one item more.
+/// What stands behind one item more, whose payload this is.
 fn behind_next<'b>(
     alloc: Global,
-    item: &Item,
+    payload: &[u8],
     behind: Option<&'b [u8]>,
 ) -> Result<Option<&'b [u8]>, AllocError>
-    requires valid { ValidItem item.now }
-    requires small { IfSome behind (λ rest. length rest.now ≤ LIMIT) }
     ensures { (input front : List ℕ) → IsBehind input front behind.entry
-        → IfOk result (IsBehind input (front ++ short_field LAYERS
-        (in_bytes (canonical_item item.now)))) }
+        → IfOk result (IsBehind input (front ++ short_field LAYERS (in_bytes payload.now))) }
 {
     match behind {
-        Some(rest) => behind_item(alloc, item, rest),
+        Some(rest) => behind_payload(alloc, payload, rest),
         None => Ok(None),
     }
 }

@@ -14,7 +14,7 @@ mod tile;
 mod write_error;
 mod writing;
 
-pub use encoding::{encode, encode_more};
+pub use encoding::{encode, encode_payload};
 pub use findings::{Findings, feature_count};
 pub use note::Note;
 pub use noting::notes;

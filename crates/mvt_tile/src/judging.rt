@@ -51,7 +51,7 @@ impl Taker for Names {
 }
 
 /// A name as a text of its own.
-fn text_of(alloc: Global, name: Option<&str>) -> Result<Option<Text>, AllocError>
+pub(crate) fn text_of(alloc: Global, name: Option<&str>) -> Result<Option<Text>, AllocError>
     ensures { IfOk result (λ text. text ≡ option_copied name.entry) }
 {
     match name {

@@ -1,28 +1,34 @@
-//! A tile made canonical: its items are read one after the other, and only the canonical bytes of
-//! those that are wanted are kept.
-ghost use Rattle.std.specs.Prelude.{◌≡◌, List, [], ◌∷◌, ◌++◌, if◌then◌else◌, IfOk, IfErr, IfSome, OnOk};
+//! A tile made canonical: its items are rewritten one after the other, and only the bytes of those
+//! that are wanted are kept.
+ghost use Rattle.std.specs.Prelude.{◌≡◌, ◌+◌, ◌≤◌, max, Bool, true, false, List, [], ◌∷◌, ◌++◌, length, IfOk, IfErr, IfSome, OnOk};
 ghost use Rattle.std.specs.Io.KnownBytes.{IsAtEnd};
+ghost use Rattle.std.specs.List.{flat_map};
+ghost use Rattle.std.specs.Option.{option_to_list};
 ghost use Rattle.mvt_base.specs.Tells.{Tells};
 ghost use Rattle.mvt_message.specs.declared.item.Item.{Item as AnItem};
+ghost use Rattle.mvt_message.specs.CanonicalItems.{canonical_item};
+ghost use Rattle.mvt_message.specs.Items.{names_in};
 ghost use Rattle.mvt_message.specs.ValidItems.{ValidItem};
 ghost use Rattle.mvt_model.specs.declared.tile.Tile.{Tile};
-ghost use Rattle.mvt_model.specs.Encoding.{AreEncoded, IsEncoded};
+ghost use Rattle.mvt_model.specs.Encoding.{IsEncoded};
 ghost use Rattle.mvt_model.specs.Tiles.{IsTile};
 ghost use Rattle.mvt_model.specs.ValidTiles.{Valid};
+ghost use Rattle.mvt_tile.specs.Inner.Judging.{name_fault};
 ghost use Rattle.mvt_tile.specs.Inner.Wanting.{HasRewritten, all_items, is_in, names_of};
 ghost use Rattle.mvt_tile.specs.Reading.{ReadsTile, fault_of, kind_of};
-ghost use Rattle.mvt_tile.specs.Streams.{TellsAtEnd};
-ghost use Rattle.mvt_tile.specs.TileRules.{fault_within};
+ghost use Rattle.mvt_tile.specs.Streams.{TellsAtEnd, TellsEarly};
+ghost use Rattle.mvt_tile.specs.TileRules.{fault_within, repeats};
 
 use crate::fault::DecodeError;
+use crate::judging::text_of;
 use crate::layers::{Names, holds_name};
 use crate::reading::read_whole;
-use crate::taking::{Taker, take_whole};
+use crate::taking::{Taker, in_layer, take_whole};
 use mvt_base::{LIMIT, Text};
 use mvt_io::Source;
-use mvt_message::Item;
-use mvt_model::encode_more;
-use std::alloc::{AllocError, Global};
+use mvt_message::rewrite_item;
+use mvt_model::encode_payload;
+use std::alloc::Global;
 use std::collections::BTreeSet;
 
 /// The canonical bytes of a tile; `None` where these are more than the limit. One item is held at a
@@ -89,14 +95,36 @@ impl Rewriter {
         }
     }
 
-    fn wants(&self, item: &Item) -> bool
-        ensures { result ≡ is_in (names_of self.now.wanted) item.now }
+    fn wants(&self, name: &Option<Text>) -> bool
+        ensures { (item : AnItem) → names_in item ≡ option_to_list name.now
+            → result ≡ is_in (names_of self.now.wanted) item }
     {
-        match (&self.wanted, item) {
+        match (&self.wanted, name) {
             (None, _) => true,
-            (Some(_), Item::Foreign { .. }) => false,
-            (Some(names), Item::Layer(layer)) => holds_name(names, &layer.name),
+            (Some(_), None) => false,
+            (Some(names), Some(name)) => holds_name(names, name),
         }
+    }
+
+    /// Adds an item with this name and this canonical payload.
+    fn add(&mut self, name: Option<Text>, tag_at: u64, canonical: &[u8]) -> Result<(), DecodeError>
+        requires { self.old.names.count ≤ LIMIT }
+        ensures added { (wanted : AnItem → Bool) (items : List AnItem) (item : AnItem)
+            → HasRewritten LIMIT wanted self.old items → names_in item ≡ option_to_list name
+            → ValidItem item → canonical.now ≡ canonical_item item
+            → OnOk result (HasRewritten LIMIT wanted self.new (items ++ item ∷ [])
+            × (repeats (flat_map names_in items) (names_in item) ≡ false)) }
+        ensures fault { (wanted : AnItem → Bool) (items : List AnItem)
+            → HasRewritten LIMIT wanted self.old items
+            → IfErr result (λ error. TellsEarly error (name_fault (length items)
+            (flat_map names_in items) (option_to_list name) tag_at)) }
+    {
+        let is_wanted = self.wants(&name);
+        self.names.add(name, tag_at)?;
+        if is_wanted {
+            self.out = encode_payload(self.out.take(), canonical)?;
+        }
+        Ok(())
     }
 }
 
@@ -111,7 +139,7 @@ impl Taker for Rewriter {
 
     ghost has_taken = { HasRewritten LIMIT };
 
-    /// Reads an item, and keeps its name, and its canonical bytes where it is wanted.
+    /// Makes an item canonical, and keeps its name, and its bytes where it is wanted.
     fn take_item(
         &mut self,
         alloc: Global,
@@ -119,27 +147,10 @@ impl Taker for Rewriter {
         payload_at: u64,
         tag_at: u64,
     ) -> Result<(), DecodeError> {
-        let item = self.names.read_named(alloc, payload, payload_at, tag_at)?;
-        let is_wanted = self.wants(&item);
-        self.out = encode_if(alloc, self.out.take(), &item, is_wanted)?;
-        Ok(())
-    }
-}
-
-/// The canonical bytes of one item more, where it is wanted.
-fn encode_if(
-    alloc: Global,
-    out: Option<Vec<u8>>,
-    item: &Item,
-    is_wanted: bool,
-) -> Result<Option<Vec<u8>>, AllocError>
-    requires { ValidItem item.now }
-    ensures { (items : List AnItem) → AreEncoded LIMIT items out
-        → IfOk result (AreEncoded LIMIT (items ++ (if is_wanted then item.now ∷ [] else []))) }
-{
-    if is_wanted {
-        encode_more(alloc, out, item)
-    } else {
-        Ok(out)
+        let mut canonical = Vec::new(alloc);
+        match rewrite_item(alloc, payload, payload_at, tag_at, &mut canonical) {
+            Ok(name) => self.add(text_of(alloc, name)?, tag_at, &canonical),
+            Err(error) => Err(in_layer(self.names.count, error)),
+        }
     }
 }

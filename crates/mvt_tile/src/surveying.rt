@@ -12,8 +12,9 @@ ghost use Rattle.mvt_model.specs.ValidTiles.{Valid};
 
 use crate::fault::DecodeError;
 use crate::layers::Names;
-use crate::taking::{Taker, take_whole};
+use crate::taking::{Taker, in_layer, take_whole};
 use mvt_base::LIMIT;
+use mvt_message::rewrite_item;
 use mvt_model::{Findings, Survey};
 use std::alloc::Global;
 
@@ -59,7 +60,7 @@ impl<'a> Taker for Surveyor<'a> {
     ghost has_taken = { λ input s items. AreNamed s.names.count s.names.names.keys items
         × AreFound LIMIT input s.found items × AllByRecursion ValidItem items };
 
-    /// Reads an item, and keeps its name and what is found of it.
+    /// Makes an item canonical, reads it, and keeps its name and what is found of it.
     fn take_item(
         &mut self,
         alloc: Global,
@@ -67,9 +68,14 @@ impl<'a> Taker for Surveyor<'a> {
         payload_at: u64,
         tag_at: u64,
     ) -> Result<(), DecodeError> {
-        let index = self.names.count as usize;
+        let index = self.names.count;
+        let mut canonical = Vec::new(alloc);
+        match rewrite_item(alloc, payload, payload_at, tag_at, &mut canonical) {
+            Ok(_) => {}
+            Err(error) => return Err(in_layer(index, error)),
+        }
         let item = self.names.read_named(alloc, payload, payload_at, tag_at)?;
-        self.found.add(alloc, index, &item)?;
+        self.found.add(alloc, index as usize, &item, &canonical)?;
         Ok(())
     }
 }

@@ -18,7 +18,8 @@ pub returns-then-len-gt-LIMIT-clause-too_large : goal.returns-then-len-gt-LIMIT-
 returns-then-len-gt-LIMIT-clause-too_large c = λ _.
     let head = c.in_ok-put_head.ensures ∙ ap₂ (λ x y. x ++ spelled (head_fields y)) c.requires.no_bytes c.as_str.ensures.text in
     let features = c.in_ok-put_features.ensures in
-    let whole = layer_put c.args.layer.now c.as_slice.ensures features.keys features.values
+    let whole = layer_put c.args.layer.now c.as_slice.ensures (c.entries.ensures ∙ features.keys)
+    (c.entries-2.ensures ∙ features.values)
     head features.ok c.in_ok-put_keys.ensures c.in_ok-put_values.ensures c.in_ok-put_extent.ensures in
     long_as c.put_extent.new.out.items _ c.len.result LIMIT whole (c.len.ensures ∙ c.put_extent.new.out.ok.0) c.if-len-gt-LIMIT.true
 
@@ -26,7 +27,8 @@ pub returns-clause-put : goal.returns-clause-put
 returns-clause-put c =
     let head = c.in_ok-put_head.ensures ∙ ap₂ (λ x y. x ++ spelled (head_fields y)) c.requires.no_bytes c.as_str.ensures.text in
     let features = c.in_ok-put_features.ensures in
-    layer_put c.args.layer.now c.as_slice.ensures features.keys features.values
+    layer_put c.args.layer.now c.as_slice.ensures (c.entries.ensures ∙ features.keys)
+    (c.entries-2.ensures ∙ features.values)
     head features.ok c.in_ok-put_keys.ensures c.in_ok-put_values.ensures c.in_ok-put_extent.ensures
 
 pub returns-clause-limit : goal.returns-clause-limit

@@ -1,22 +1,23 @@
-use Rattle.std.proofs.Common.{[], ◌∷◌, ◌++◌, filter, refl, subst, ◌∙◌}
-use Rattle.mvt_base.proofs.ListLemmas.{all_joined}
-use Rattle.mvt_message.specs.ValidItems.{ValidItem}
-use Rattle.mvt_model.specs.Encoding.{AreEncoded}
-use Rattle.mvt_tile.proofs.WantedLemmas.{wanted_more}
+use Rattle.std.proofs.Common.{[], ◌∷◌, ◌++◌, refl, sym, ap, ◌∙◌}
+use Rattle.std.specs.Option.{option_to_list}
+use Rattle.std.proofs.lemmas.Result.{IfErr-weaker, on_ok_weaker}
+use Rattle.mvt_message.specs.CanonicalItems.{canonical_item}
+use Rattle.mvt_message.proofs.MessageLaws.{item_names}
+use Rattle.mvt_tile.proofs.JudgeLemmas.{tells_name}
 use Rattle.mvt_tile.proofs.rewriting.RewriterTaker.take_item.Goals as goal
 
-pub returns-clause-item : goal.returns-clause-item
-returns-clause-item c = λ wanted items has.
-    let item = c.in_ok-item.item in
-    let new = c.in_ok-item.ensures.named items has.named in (
-      items ++ item ∷ [],
-      record {
-        named = new.0;
-        encoded =
-            subst (λ xs. AreEncoded 67108864 xs c.in_ok-self.field-0) (wanted_more wanted items item _ (c.wants-is_wanted.ensures ∙ has.wants item))
-            (c.in_ok-self.ensures (filter wanted items) (rw c.take.ensures.value has.encoded));
-        valid = all_joined ValidItem items (item ∷ []) has.valid (c.in_ok-item.ensures.valid, tt);
-        wants = has.wants;
-      },
-      (item, refl, c.in_ok-item.ensures.item, new.1),
-    )
+pub returns-in-Ok-clause-item : goal.returns-in-Ok-clause-item
+returns-in-Ok-clause-item c = λ wanted items has.
+    let (item, is, valid, name, canonical) = c.in-Ok.ensures.item in
+    let made = c.deref.ensures.value ∙ canonical ∙ ap (λ b. b ++ canonical_item item) c.new-canonical.ensures.items in
+    let named = sym (ap option_to_list c.in_ok-text_of-in-Ok.ensures ∙ name) in
+    on_ok_weaker c.add.result
+    (λ added. (items ++ item ∷ [], added.0, (item, refl, is, added.1)))
+    (c.add.ensures.added wanted items item has named valid made)
+
+pub returns-in-Ok-clause-fault : goal.returns-in-Ok-clause-fault
+returns-in-Ok-clause-fault c = λ wanted items has.
+    let (item, is, valid, name, canonical) = c.in-Ok.ensures.item in
+    let named = ap option_to_list c.in_ok-text_of-in-Ok.ensures ∙ name ∙ item_names c.args.payload.now item is in
+    IfErr-weaker c.add.result _ _
+    (λ e told. tells_name e _ _ _ c.args.payload.now _ _ c.in-Ok.ensures.ok named told) (c.add.ensures.fault wanted items has)

@@ -1,7 +1,15 @@
-use Rattle.std.proofs.Common.{[], ◌∷◌, ◌++◌, refl, sym}
+use Rattle.std.proofs.Common.{[], ◌∷◌, ◌++◌, refl, sym, ap, ◌∙◌}
 use Rattle.mvt_base.proofs.ListLemmas.{all_joined}
+use Rattle.mvt_message.proofs.MessageLaws.{one_item}
+use Rattle.mvt_message.specs.CanonicalItems.{canonical_item}
 use Rattle.mvt_message.specs.ValidItems.{ValidItem}
 use Rattle.mvt_tile.proofs.surveying.SurveyorTaker.take_item.Goals as goal
+
+pub add-requires-clause-canonical : goal.add-requires-clause-canonical
+add-requires-clause-canonical c =
+    let (item, is, valid, name, canonical) = c.in-Ok.ensures.item in
+    c.deref.ensures.value ∙ canonical ∙ ap (λ b. b ++ canonical_item item) c.new-canonical.ensures.items
+    ∙ ap canonical_item (one_item c.args.payload.now item c.in_ok-item.item is c.in_ok-item.ensures.item)
 
 pub returns-clause-item : goal.returns-clause-item
 returns-clause-item c = λ input items has.

@@ -1,6 +1,7 @@
 use Rattle.std.proofs.lemmas.Result.{err_from_is_err_and}
 use Rattle.mvt_feature.proofs.FeatureLemmas.{Says, known_told, tags_told, drawing_told, feature_clean}
-use Rattle.mvt_feature.proofs.reading.judge_feature.Goals as goal
+use Rattle.mvt_feature.proofs.RewritingLemmas.{judged_from}
+use Rattle.mvt_feature.proofs.reading.judge_known.Goals as goal
 
 pub returns-in_err-known-clause-err : goal.returns-in_err-known-clause-err
 returns-in_err-known-clause-err c =
@@ -30,5 +31,13 @@ returns-clause-ok c =
     let known = c.in_ok-known.ensures in
     let says : Says c.args.payload.now c.args.payload_at _ _ _ = record { whole = known.whole; clean = known.ok; known_is = known.known } in
     λ held e. feature_clean says c.args.keys.now held
+    (rw c.deref.ensures.value at (c.in_ok-judge_tags.ensures.ok held e))
+    (rw c.deref-2.ensures.value at c.in_ok-judge_geometry.ensures.ok)
+
+pub returns-clause-judged : goal.returns-clause-judged
+returns-clause-judged c =
+    let known = c.in_ok-known.ensures in
+    let says : Says c.args.payload.now c.args.payload_at _ _ _ = record { whole = known.whole; clean = known.ok; known_is = known.known } in
+    λ held e. judged_from says c.args.keys.now held
     (rw c.deref.ensures.value at (c.in_ok-judge_tags.ensures.ok held e))
     (rw c.deref-2.ensures.value at c.in_ok-judge_geometry.ensures.ok)

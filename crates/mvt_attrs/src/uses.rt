@@ -1,0 +1,199 @@
+//! The entries of a layer that its features use, each once, in order of first use.
+ghost use Rattle.std.specs.Prelude.{◌≡◌, ◌<◌, ◌≤◌, ◌++◌, ◌∷◌, [], List, ℕ, Some, Contains, length, slice_get, IfOk, OnOk};
+ghost use Rattle.mvt_attrs.specs.declared.value.Attribute.{Attribute};
+ghost use Rattle.mvt_attrs.specs.declared.value.Value.{Value as AValue};
+ghost use Rattle.mvt_attrs.specs.Tags.{Names};
+ghost use Rattle.mvt_attrs.specs.TagPlaces.{tags_in};
+ghost use Rattle.mvt_attrs.specs.Using.{AreUsesOf, HasUses, IsUsedBy};
+
+use crate::entry::Entry;
+use crate::placing::push_pair;
+use crate::pool::Pool;
+use crate::value::Value;
+use mvt_base::{LIMIT, Text};
+use std::alloc::{AllocError, Global};
+
+/// The entries of a layer, and which of them its features use.
+///
+/// Entries are compared when they are added, each once. From then on an entry is known by its
+/// place: a use costs two look-ups, however long the texts are.
+#[derive(Drop)]
+pub struct Uses<T: Entry> {
+    /// The entries, each once.
+    distinct: Pool<T>,
+    /// For each entry its place among these.
+    places: Vec<u32>,
+    /// For each place one more than its index among the entries that are used, or 0.
+    marks: Vec<u32>,
+    used: Vec<T>,
+}
+
+impl<T: Entry> Uses<T> {
+    /// No entries, without memory.
+    pub fn new(alloc: Global) -> Self
+        ensures uses { AreUsesOf result [] }
+        ensures used { result.used.items ≡ [] }
+    {
+        Uses {
+            distinct: Pool::new(alloc),
+            places: Vec::new(alloc),
+            marks: Vec::new(alloc),
+            used: Vec::new(alloc),
+        }
+    }
+
+    /// How many entries there are.
+    pub fn len(&self) -> usize
+        ensures { (entries : List T) → AreUsesOf self.now entries → result ≡ length entries }
+    {
+        self.places.len()
+    }
+
+    /// The entries that are used.
+    pub fn used(&self) -> &[T]
+        ensures { result.now ≡ self.now.used.items }
+    {
+        &self.used
+    }
+
+    /// Adds an entry behind the others.
+    ///
+    /// # Errors
+    ///
+    /// When memory runs out. More entries than the limit don't fit any tile.
+    pub fn add(&mut self, entry: &T) -> Result<(), AllocError>
+        ensures uses { (entries : List T) → AreUsesOf self.old entries
+            → OnOk result (AreUsesOf self.new (entries ++ entry.now ∷ [])) }
+        ensures used { self.new.used.items ≡ self.old.used.items }
+    {
+        let place = match self.distinct.place(entry) {
+            Ok(place) => place,
+            Err(_) => return Err(AllocError),
+        };
+        add_mark(&mut self.marks, self.distinct.len())?;
+        self.places.push(place)?;
+        Ok(())
+    }
+
+    /// Adds entries behind the others.
+    ///
+    /// # Errors
+    ///
+    /// As `add`.
+    pub fn add_all(&mut self, more: &[T]) -> Result<(), AllocError>
+        ensures uses { (entries : List T) → AreUsesOf self.old entries
+            → OnOk result (AreUsesOf self.new (entries ++ more.now)) }
+        ensures used { self.new.used.items ≡ self.old.used.items }
+    {
+        for entry in more {
+            self.add(entry)?;
+        }
+        Ok(())
+    }
+
+    /// The index of an entry among those that are used, where it goes last if it is new.
+    ///
+    /// # Errors
+    ///
+    /// As `add`, and where there is no such entry.
+    pub(crate) fn index_of(&mut self, entry: u32) -> Result<u32, AllocError>
+        ensures uses { (entries : List T) → AreUsesOf self.old entries
+            → OnOk result (AreUsesOf self.new entries) }
+        ensures index { (entries : List T) (x : T) → AreUsesOf self.old entries
+            → slice_get entries entry ≡ Some x
+            → IfOk result (λ index. slice_get self.new.used.items index ≡ Some x) }
+        ensures kept { (entries : List T) (x : T) → AreUsesOf self.old entries
+            → slice_get entries entry ≡ Some x → Contains self.old.used.items x
+            → OnOk result (self.new.used.items ≡ self.old.used.items) }
+        ensures added { (entries : List T) (x : T) → AreUsesOf self.old entries
+            → slice_get entries entry ≡ Some x → ¬ (Contains self.old.used.items x)
+            → OnOk result (self.new.used.items ≡ self.old.used.items ++ x ∷ []) }
+    {
+        let place = match self.places.get(entry as usize) {
+            Some(place) => *place,
+            None => return Err(AllocError),
+        };
+        let mark = match self.marks.get(place as usize) {
+            Some(mark) => *mark,
+            None => return Err(AllocError),
+        };
+        if mark != 0 {
+            return Ok(mark - 1);
+        }
+        let index = self.used.len();
+        if index as u64 >= LIMIT {
+            return Err(AllocError);
+        }
+        let alloc = *self.used.allocator();
+        match self.distinct.entry(place) {
+            Some(entry) => self.used.push(entry.copied(alloc)?)?,
+            None => return Err(AllocError),
+        }
+        self.marks[place as usize] = index as u32 + 1;
+        Ok(index as u32)
+    }
+}
+
+/// Adds a mark of no use, where fewer than `count` places have one.
+fn add_mark(marks: &mut Vec<u32>, count: usize) -> Result<(), AllocError>
+    ensures new { length marks.old.items < count
+        → OnOk result (marks.new.items ≡ marks.old.items ++ 0 ∷ []) }
+    ensures same { count ≤ length marks.old.items → marks.new.items ≡ marks.old.items }
+{
+    if marks.len() < count {
+        marks.push(0)?;
+    }
+    Ok(())
+}
+
+/// The keys and the values of a layer, and which of them its features use.
+#[derive(Drop)]
+pub struct LayerUses {
+    pub keys: Uses<Text>,
+    pub values: Uses<Value>,
+}
+
+impl LayerUses {
+    /// No keys and no values, without memory.
+    pub fn new(alloc: Global) -> Self
+        ensures uses { HasUses result [] [] }
+        ensures keys { result.keys.used.items ≡ [] }
+        ensures values { result.values.used.items ≡ [] }
+    {
+        LayerUses {
+            keys: Uses::new(alloc),
+            values: Uses::new(alloc),
+        }
+    }
+
+    /// Appends the tags that a feature's attributes have among the keys and the values that are
+    /// used; those of the layer are `tags` (4.4).
+    ///
+    /// # Errors
+    ///
+    /// When memory runs out, or a tag names nothing.
+    pub fn append_used(&mut self, tags: &[u32], out: &mut Vec<u32>) -> Result<(), AllocError>
+        ensures uses { (keys : List (List ℕ)) (values : List AValue)
+            (attributes : List Attribute) → HasUses self.old keys values
+            → Names keys values tags.now attributes
+            → OnOk result (HasUses self.new keys values) }
+        ensures used { (keys : List (List ℕ)) (values : List AValue)
+            (attributes : List Attribute) → HasUses self.old keys values
+            → Names keys values tags.now attributes
+            → OnOk result (IsUsedBy attributes self.old self.new) }
+        ensures tags { (keys : List (List ℕ)) (values : List AValue)
+            (attributes : List Attribute) → HasUses self.old keys values
+            → Names keys values tags.now attributes
+            → OnOk result (out.new.items ≡ out.old.items
+            ++ tags_in self.new.keys.used.items self.new.values.used.items attributes) }
+    {
+        let mut rest = tags;
+        while let [key, value, others @ ..] = rest {
+            let key = self.keys.index_of(*key)?;
+            let value = self.values.index_of(*value)?;
+            push_pair(out, key, value)?;
+            rest = others;
+        }
+        Ok(())
+    }
+}

@@ -1,0 +1,7 @@
+use Rattle.std.proofs.Common.{sym}
+use Rattle.mvt_feature.proofs.rewriting.rewrite_feature.Goals as goal
+
+pub returns-clause-feature : goal.returns-clause-feature
+returns-clause-feature c = λ held uses.
+    let (f, is, are) = c.in_ok-known.ensures.judged held (sym (c.len-values.ensures held uses.1)) in
+    (f, is, c.in_ok-append_judged.ensures.rewritten c.args.keys.now held f uses are)

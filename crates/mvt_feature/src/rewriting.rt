@@ -1,0 +1,86 @@
+//! Features made canonical from their payloads: nothing is built (Mapbox Vector Tile Specification
+//! 2.1, 4.2).
+ghost use Rattle.std.specs.Prelude.{◌≡◌, ℕ, ◌+◌, ◌^◌, ◌<◌, ◌++◌, List, length, None, IfErr, OnOk};
+ghost use Rattle.mvt_base.specs.Tells.{Tells};
+ghost use Rattle.mvt_attrs.specs.declared.value.Value.{Value};
+ghost use Rattle.mvt_attrs.specs.Using.{HasUses};
+ghost use Rattle.mvt_feature.specs.declared.feature.Feature.{Feature};
+ghost use Rattle.mvt_feature.specs.Faults.{fault_of};
+ghost use Rattle.mvt_feature.specs.Features.{IsFeatureOf};
+ghost use Rattle.mvt_feature.specs.FeatureRules.{feature_fault};
+ghost use Rattle.mvt_feature.specs.Inner.{AreOf};
+ghost use Rattle.mvt_feature.specs.Rewriting.{IsRewritten};
+
+use crate::known::Known;
+use crate::message_error::MessageError;
+use crate::reading::judge_known;
+use crate::scratch::Scratch;
+use crate::writing::append_fields;
+use mvt_attrs::{LayerKeys, LayerUses};
+use mvt_wire::PackedNumbers;
+use std::alloc::{AllocError, Global};
+
+/// Judges the payload of a feature, and appends the canonical one, in a layer with these keys and
+/// the values of these uses. A tag becomes the index of its key or value among those that are used,
+/// and the integers stay.
+///
+/// # Errors
+///
+/// As `read_feature`.
+pub fn rewrite_feature(
+    alloc: Global,
+    payload: &[u8],
+    payload_at: u64,
+    keys: &mut LayerKeys<'_>,
+    uses: &mut LayerUses,
+    scratch: &mut Scratch,
+    out: &mut Vec<u8>,
+) -> Result<(), MessageError>
+    requires { payload_at + length payload.now < 2 ^ 64 }
+    ensures ok { (held : List Value) → HasUses uses.old keys.old held
+        → OnOk result (feature_fault payload.now payload_at keys.old held ≡ None) }
+    ensures feature { (held : List Value) → HasUses uses.old keys.old held
+        → OnOk result ((f : Feature) × IsFeatureOf payload.now keys.old held f
+        × IsRewritten f uses.old uses.new out.old.items out.new.items) }
+    ensures uses { (held : List Value) → HasUses uses.old keys.old held
+        → OnOk result (HasUses uses.new keys.old held) }
+    ensures err { (held : List Value) → HasUses uses.old keys.old held
+        → IfErr result (λ error. Tells (fault_of error)
+        (feature_fault payload.now payload_at keys.old held)) }
+    ensures same { keys.new ≡ keys.old }
+{
+    let values = uses.values.len();
+    let known = judge_known(alloc, payload, payload_at, keys, values, scratch)?;
+    append_judged(&known, uses, scratch, out)?;
+    Ok(())
+}
+
+/// Appends the canonical payload of a feature that was judged.
+fn append_judged(
+    known: &Known,
+    uses: &mut LayerUses,
+    scratch: &mut Scratch,
+    out: &mut Vec<u8>,
+) -> Result<(), AllocError>
+    ensures rewritten { (keys : List (List ℕ)) (held : List Value) (f : Feature)
+        → HasUses uses.old keys held → AreOf keys held known.now scratch.old f
+        → OnOk result (IsRewritten f uses.old uses.new out.old.items out.new.items) }
+    ensures uses { (keys : List (List ℕ)) (held : List Value) (f : Feature)
+        → HasUses uses.old keys held → AreOf keys held known.now scratch.old f
+        → OnOk result (HasUses uses.new keys held) }
+{
+    scratch.last.clear();
+    scratch.drawing.clear();
+    uses.append_used(&scratch.tags, &mut scratch.last)?;
+    push_all(&mut scratch.drawing, &scratch.integers)?;
+    append_fields(out, known.id, &scratch.last, known.kind, &scratch.drawing)
+}
+
+fn push_all(packed: &mut PackedNumbers, numbers: &[u32]) -> Result<(), AllocError>
+    ensures { OnOk result (packed.new ≡ packed.old ++ numbers.now) }
+{
+    for number in numbers {
+        packed.push(*number)?;
+    }
+    Ok(())
+}

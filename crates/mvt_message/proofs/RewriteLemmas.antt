@@ -1,0 +1,88 @@
+-- What is written of a layer while its features are visited.
+use Rattle.std.proofs.Common.{◌≡◌, ℕ, List, [], ◌∷◌, ◌++◌, map, refl, sym, ap, ap₂, ◌∙◌, append_assoc, append-nil}
+use Rattle.mvt_attrs.specs.declared.value.Value.{Value}
+use Rattle.mvt_attrs.specs.declared.uses.LayerUses.{LayerUses}
+use Rattle.mvt_attrs.specs.Pools.{key_pool, value_pool}
+use Rattle.mvt_attrs.specs.TagPlaces.{tags_in}
+use Rattle.mvt_wire.specs.Field.{bytes}
+use Rattle.mvt_wire.specs.Spelling.{short_field, spelled}
+use Rattle.mvt_feature.specs.declared.feature.Feature.{Feature}
+use Rattle.mvt_feature.specs.Canonical.{feature_fields}
+use Rattle.mvt_feature.specs.Rewriting.{IsRewritten}
+use Rattle.mvt_message.specs.declared.item.Layer.{Layer as ALayer}
+use Rattle.mvt_message.specs.declared.item.Item.TheVariants.{Layer, Foreign}
+use Rattle.mvt_message.specs.CanonicalItems.{canonical_item, keys_of, values_of, head_fields, feature_field, extent_fields, layer_fields}
+use Rattle.mvt_message.specs.Rewriting.{AreWritten}
+use Rattle.mvt_message.proofs.PoolLemmas.{keys_more, values_more}
+use Rattle.mvt_message.proofs.PutLemmas.{spelled_more, tags_last, layer_parts, head_part, features_part, keys_part, values_part, extent_part}
+
+pub keys_none : keys_of [] ≡ []
+unfolding keys_of
+keys_none = refl
+
+pub values_none : values_of [] ≡ []
+unfolding values_of
+values_none = refl
+
+pub written_none : (out : List ℕ) → out ≡ [] → AreWritten [] out
+written_none out none more = none
+
+pub used_keys : (features : List Feature) (f : Feature) (old new : LayerUses) → old.keys.used.items ≡ keys_of features
+    → new.keys.used.items ≡ key_pool old.keys.used.items f.attributes → new.keys.used.items ≡ keys_of (features ++ f ∷ [])
+used_keys features f old new was grown = grown ∙ ap (λ k. key_pool k f.attributes) was ∙ keys_more features f
+
+pub used_values : (features : List Feature) (f : Feature) (old new : LayerUses) → old.values.used.items ≡ values_of features
+    → new.values.used.items ≡ value_pool old.values.used.items f.attributes → new.values.used.items ≡ values_of (features ++ f ∷ [])
+used_values features f old new was grown = grown ∙ ap (λ v. value_pool v f.attributes) was ∙ values_more features f
+
+-- one feature more, with the tags that it has whatever features follow
+pub written_more : (features : List Feature) (f : Feature) (old new : LayerUses) (before after payload out longer : List ℕ)
+    → AreWritten features out → old.keys.used.items ≡ keys_of features → old.values.used.items ≡ values_of features
+    → before ≡ [] → IsRewritten f old new before after → payload ≡ after
+    → longer ≡ out ++ short_field 2 (bytes payload) → AreWritten (features ++ f ∷ []) longer
+written_more features f old new before after payload out longer written keys values nothing rewritten is grown more =
+    let all = features ++ f ∷ [] in
+    let now_keys = used_keys features f old new keys rewritten.0.keys in
+    let now_values = used_values features f old new values rewritten.0.values in
+    let field = feature_field (keys_of (all ++ more)) (values_of (all ++ more)) in
+    let tags = tags_last (all ++ more) all more f new.keys.used.items new.values.used.items refl now_keys now_values rewritten.0.names in
+    let whole : payload ≡ spelled (feature_fields (tags_in (keys_of (all ++ more)) (values_of (all ++ more)) f.attributes) f) =
+    is ∙ rewritten.1 ∙ ap (λ b. b ++ spelled (feature_fields (tags_in new.keys.used.items new.values.used.items f.attributes) f)) nothing
+    ∙ ap (λ t. spelled (feature_fields t f)) tags in
+    let joined = append_assoc features (f ∷ []) more in
+    let front : out ≡ spelled (map field features) =
+    written (f ∷ more) ∙ ap (λ fs. spelled (map (feature_field (keys_of fs) (values_of fs)) features)) (sym joined) in
+    grown ∙ ap₂ (λ o b. o ++ short_field 2 (bytes b)) front whole ∙ spelled_more field features f []
+
+-- the parts of a layer, behind one another
+pub layer_appended : (layer : ALayer) (name : List ℕ) (extent : ℕ) (features : List ℕ) (keys : List (List ℕ)) (values : List Value)
+    (start a b c d e : List ℕ)
+    → name ≡ layer.name → extent ≡ layer.extent → AreWritten layer.features features
+    → keys ≡ keys_of layer.features → values ≡ values_of layer.features
+    → a ≡ start ++ spelled (head_fields name) → b ≡ a ++ features → c ≡ b ++ keys_part keys → d ≡ c ++ values_part values
+    → e ≡ d ++ spelled (extent_fields extent) → e ≡ start ++ spelled (layer_fields layer)
+layer_appended layer name extent features keys values start a b c d e names extents written keys_are values_are ha hb hc hd he =
+    let F = features_part layer.features in
+    let K = keys_part (keys_of layer.features) in
+    let V = values_part (values_of layer.features) in
+    let E = extent_part layer in
+    let H = head_part layer in
+    let all : features ≡ F =
+    written [] ∙ ap (λ fs. spelled (map (feature_field (keys_of fs) (values_of fs)) layer.features)) (append-nil layer.features) in
+    let a_is : a ≡ start ++ H = ha ∙ ap (λ n. start ++ spelled (head_fields n)) names in
+    let b_is : b ≡ (start ++ H) ++ F = hb ∙ ap₂ (λ x y. x ++ y) a_is all in
+    let c_is : c ≡ ((start ++ H) ++ F) ++ K = hc ∙ ap₂ (λ x y. x ++ keys_part y) b_is keys_are in
+    let d_is : d ≡ (((start ++ H) ++ F) ++ K) ++ V = hd ∙ ap₂ (λ x y. x ++ values_part y) c_is values_are in
+    he ∙ ap₂ (λ x n. x ++ spelled (extent_fields n)) d_is extents ∙ regroup start H F K V E
+    ∙ ap (λ l. start ++ l) (sym (layer_parts layer))
+  where
+    regroup : (s h f k v x : List ℕ) → ((((s ++ h) ++ f) ++ k) ++ v) ++ x ≡ s ++ (h ++ (f ++ (k ++ (v ++ x))))
+    regroup s h f k v x = simp append_assoc
+
+pub canonical_layer : (layer : ALayer) → canonical_item (Layer layer) ≡ spelled (layer_fields layer)
+unfolding canonical_item
+canonical_layer layer = refl
+
+pub canonical_foreign : (version : ℕ) (content : List ℕ) → canonical_item (Foreign version content) ≡ content
+unfolding canonical_item
+canonical_foreign version content = refl
