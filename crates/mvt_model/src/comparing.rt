@@ -1,37 +1,18 @@
 //! Whether bytes begin with the canonical bytes of an item.
-ghost use Rattle.std.specs.Prelude.{◌≡◌, ◌≤◌, ◌++◌, ℕ, List, length, IfOk};
+ghost use Rattle.std.specs.Prelude.{◌≡◌, ◌++◌, ℕ, List, length, IfOk};
 ghost use Rattle.mvt_wire.specs.Field.{bytes as in_bytes};
 ghost use Rattle.mvt_wire.specs.Spelling.{short_field};
-ghost use Rattle.mvt_message.specs.CanonicalItems.{canonical_item};
-ghost use Rattle.mvt_message.specs.ValidItems.{ValidItem};
 ghost use Rattle.mvt_model.specs.declared.numbers.tile.TheConstants.{LAYERS};
 ghost use Rattle.mvt_model.specs.Comparing.{IsBehind};
 
 use crate::numbers::tile;
 use mvt_base::LIMIT;
-use mvt_message::{Item, PutError, put_item};
+
 use mvt_wire::put_field_head;
 use std::alloc::{AllocError, Global};
 
-/// What stands behind the field of an item, where that is at the front of some bytes.
-fn behind_item<'b>(
-    alloc: Global,
-    item: &Item,
-    bytes: &'b [u8],
-) -> Result<Option<&'b [u8]>, AllocError>
-    requires valid { ValidItem item.now }
-    requires small { length bytes.now ≤ LIMIT }
-    ensures { IfOk result (IsBehind bytes.now
-        (short_field LAYERS (in_bytes (canonical_item item.now)))) }
-{
-    match put_item(alloc, item) {
-        Ok(payload) => behind_payload(alloc, &payload, bytes),
-        Err(PutError::TooLarge) => Ok(None),
-        Err(PutError::Memory) => Err(AllocError),
-    }
-}
-
-/// The same of an item whose canonical payload this is.
+/// What stands behind the field of an item with this canonical payload, where that is at the front of
+/// some bytes.
 pub(crate) fn behind_payload<'b>(
     alloc: Global,
     payload: &[u8],
