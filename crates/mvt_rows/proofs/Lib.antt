@@ -3,6 +3,7 @@ mod FeatureLemmas
 mod FoldLemmas
 mod EachLemmas
 mod TileLemmas
+mod FaultLemmas
 mod RowLemmas
 mod GrowthLemmas
 mod TableLemmas

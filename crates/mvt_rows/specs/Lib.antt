@@ -2,4 +2,5 @@ pub mod Tables
 pub mod Lent
 pub mod TileRows
 pub mod Written
+pub mod RowsFaults
 pub mod Reading

@@ -3,15 +3,19 @@
 //! calls.
 #![tactic(auto)]
 
+mod faults;
 pub mod laws;
 mod rows;
 mod rows_error;
+mod rows_cause;
 mod table;
 mod tiles;
 mod writing;
 
+pub use faults::rows_fault;
 pub use rows::{FeatureRow, LayerRow, PartRow, PointRow, Rows, Span, ValueRow};
 pub use rows_error::RowsError;
+pub use rows_cause::{RowsCause, RowsFault};
 pub use table::Table;
 pub use tiles::tile_of;
 pub use writing::write_rows;

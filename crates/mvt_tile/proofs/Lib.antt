@@ -13,4 +13,5 @@ mod WholeLemmas
 mod FeedingLemmas
 mod RoundTripLemmas
 mod ExtractionLemmas
+mod ValidityLemmas
 mod PickLemmas

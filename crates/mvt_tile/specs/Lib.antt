@@ -4,3 +4,4 @@ pub mod Inner
 pub mod Streams
 pub mod Reading
 pub mod Extraction
+pub mod Validity

@@ -37,4 +37,4 @@ pub use reading::{MOST_READS, read_tile};
 pub use rewriting::{rewrite, rewrite_tile};
 pub use round_trip::write_and_read;
 pub use surveying::survey_tile;
-pub use validity::{is_valid, validate};
+pub use validity::{first_invalid, is_valid, validate};
