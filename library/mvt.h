@@ -173,6 +173,46 @@ mvt_status mvt_read_layer(const uint8_t *bytes, size_t len, mvt_bytes name, mvt_
  * its version. Also MVT_OK, MVT_NO_MEMORY, MVT_TOO_LARGE. */
 mvt_status mvt_write(const mvt_tile *tile, mvt_bytes *out);
 
+/* What is wrong with rows, in the order in which it is looked for: layer by layer, and in a layer of version 2 first its
+ * name, its keys and its values, then feature by feature. The last three are looked for when all rows have been read. */
+typedef enum {
+    MVT_ROWS_NAME_SPAN = 1,       /* a layer's name reaches beyond the texts */
+    MVT_ROWS_NAME = 2,            /* a layer's name isn't UTF-8 */
+    MVT_ROWS_KEYS_SPAN = 3,       /* a layer's keys reach beyond the keys */
+    MVT_ROWS_KEY = 4,             /* a key reaches beyond the texts, or isn't UTF-8 */
+    MVT_ROWS_VALUES_SPAN = 5,     /* a layer's values reach beyond the values */
+    MVT_ROWS_VALUE = 6,           /* a value's kind isn't there, its number is out of range, or its text as a key's */
+    MVT_ROWS_FEATURES_SPAN = 7,   /* a layer's features reach beyond the features */
+    MVT_ROWS_BYTES_SPAN = 8,      /* the bytes of a layer of another version reach beyond the texts */
+    MVT_ROWS_HAS_ID = 9,          /* a `has_id` is neither 0 nor 1 */
+    MVT_ROWS_TAGS_SPAN = 10,      /* a feature's tags reach beyond the tags */
+    MVT_ROWS_ODD_TAGS = 11,       /* a feature's tags are odd in number */
+    MVT_ROWS_KEY_INDEX = 12,      /* a tag's index is beyond the layer's keys */
+    MVT_ROWS_VALUE_INDEX = 13,    /* a tag's index is beyond the layer's values */
+    MVT_ROWS_REPEATED_KEY = 14,   /* a feature's tags name a key twice */
+    MVT_ROWS_KIND = 15,           /* a feature's kind isn't 0 to 3 */
+    MVT_ROWS_GEOMETRY = 16,       /* parts, points or integers reach beyond their list, an `exterior` is neither 0 nor 1,
+                                   * an interior ring stands before all exterior ones, or points aren't in one part */
+    MVT_ROWS_DRAWING = 17,        /* no commands draw a feature's geometry: too few points, a point twice in a row, a ring
+                                   * that winds the wrong way round, a position or a step out of range */
+    MVT_ROWS_BYTES = 18,          /* the bytes of a layer aren't one of its version */
+    MVT_ROWS_REPEATED_NAME = 19   /* an earlier layer has a layer's name */
+} mvt_rows_cause;
+
+/* Where rows are no valid tile. `feature` counts from the first of the layer, and is 0 where `has_feature` is 0. */
+typedef struct {
+    uint64_t layer, feature;
+    uint32_t has_feature;   /* 1 where a feature is to blame, else 0 */
+    uint32_t cause;         /* an mvt_rows_cause */
+} mvt_rows_fault;
+
+/* Whether rows are a valid tile, and else the first thing that is wrong with them: why mvt_write answers MVT_NO_TILE.
+ * It writes `fault` where it answers MVT_NO_TILE. MVT_OK, MVT_NO_TILE, MVT_NO_MEMORY. */
+mvt_status mvt_judge_rows(const mvt_tile *tile, mvt_rows_fault *fault);
+
+/* A cause of mvt_rows_fault in plain words, which last for good; those of an unknown cause say so. */
+const char *mvt_rows_cause_text(uint32_t cause);
+
 /* A decoder of a tile that comes in pieces, cut anywhere. Begin with `mvt_decoder decoder = {0};`, which is no decoder
  * yet. One thread at a time may use it, and of two copies of the variable only one may be used further. */
 typedef struct {

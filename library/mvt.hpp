@@ -96,9 +96,22 @@ class bad_name : public error {
     using error::error;
 };
 
-/// The rows are no valid tile.
+/// The rows are no valid tile. Tells the first thing that is wrong with them, where it is known.
 class no_tile : public error {
+public:
     using error::error;
+    explicit no_tile(const mvt_rows_fault &fault) : error(line_of(fault)), fault_(fault) {}
+
+    /// The layer, the feature where one is to blame, and the cause.
+    [[nodiscard]] std::optional<mvt_rows_fault> fault() const noexcept { return fault_; }
+
+private:
+    static std::string line_of(const mvt_rows_fault &fault) {
+        const std::string feature = fault.has_feature ? " feature " + std::to_string(fault.feature) : "";
+        return "layer " + std::to_string(fault.layer) + feature + ": " + mvt_rows_cause_text(fault.cause);
+    }
+
+    std::optional<mvt_rows_fault> fault_;
 };
 
 /// The bytes are no tile. Tells the first broken rule.
@@ -428,7 +441,10 @@ template <std::ranges::input_range Names>
 /// The canonical bytes of the tile that rows are, wherever these come from. Throws no_tile and too_large.
 [[nodiscard]] inline bytes write(const mvt_tile &rows) {
     mvt_bytes out{};
-    require_ok(mvt_write(&rows, &out), {});
+    const std::uint32_t status = mvt_write(&rows, &out);
+    mvt_rows_fault fault{};
+    if (status == MVT_NO_TILE && mvt_judge_rows(&rows, &fault) == MVT_NO_TILE) throw no_tile(fault);
+    require_ok(status, {});
     return bytes::adopt(out);
 }
 
@@ -539,9 +555,10 @@ public:
 
     /// The canonical bytes of the tile. The builder may begin anew. Throws no_tile and too_large.
     [[nodiscard]] bytes finish() {
-        mvt_bytes out{};
-        require_ok(mvt_builder_finish(&held_, &out), {});
-        return bytes::adopt(out);
+        builder ended = std::move(*this); // given back, whatever the answer
+        mvt_tile rows{};
+        require_ok(mvt_builder_rows(&ended.held_, &rows), {});
+        return write(rows);
     }
 
 private:

@@ -180,6 +180,60 @@ static void write_what_nothing_names(void) {
     }
 }
 
+/* Layer `a` with a feature `k: true` at (25, 17), a line and a ring that are broken in one way each: what is said of it. */
+static void judge_rows(void) {
+    for (uint32_t cause = 0; cause <= 19; ++cause) {
+        const mvt_point points[] = {{25, 17}, {3, 6}, {8, 12}, {20, 34}};
+        mvt_value value = {.kind = MVT_BOOL, .bits = 1};
+        mvt_span key = {1, 1};
+        uint32_t tags[] = {0, 0, 0, 0};
+        mvt_part parts[] = {{.points = {0, 1}}, {.exterior = 1, .points = {1, 3}}};
+        mvt_feature features[] = {{.kind = MVT_POINTS, .parts = {0, 1}, .tags = {0, 2}},
+                                  {.kind = MVT_POLYGONS, .parts = {1, 1}}};
+        mvt_layer layers[] = {{.version = 2, .extent = 4096, .name = {0, 1}, .features = {0, 2}, .keys = {0, 1}, .values = {0, 1}},
+                              {.version = 2, .name = {1, 1}},
+                              {.version = 1, .bytes = {2, 2}}};
+        uint8_t texts[] = {'a', 'k', 0x78, 0x01};
+        const mvt_tile tile = {.layers = layers, .layer_count = 3, .features = features, .feature_count = 2, .keys = &key,
+                               .key_count = 1, .values = &value, .value_count = 1, .tags = tags, .tag_count = 4,
+                               .parts = parts, .part_count = 2, .points = points, .point_count = 4, .texts = texts,
+                               .text_len = 4};
+        uint64_t layer = 0;
+        int64_t feature = -1;
+        switch (cause) {
+        case MVT_ROWS_NAME_SPAN: layers[1].name.len = 4, layer = 1; break;
+        case MVT_ROWS_NAME: texts[0] = 0xff; break;
+        case MVT_ROWS_KEYS_SPAN: layers[1].keys.start = 2, layer = 1; break;
+        case MVT_ROWS_KEY: key.start = UINT64_MAX; break;
+        case MVT_ROWS_VALUES_SPAN: layers[0].values.len = 2; break;
+        case MVT_ROWS_VALUE: value.bits = 2; break;
+        case MVT_ROWS_FEATURES_SPAN: layers[1].features = (mvt_span){2, 1}, layer = 1; break;
+        case MVT_ROWS_BYTES_SPAN: layers[2].bytes.len = 3, layer = 2; break;
+        case MVT_ROWS_HAS_ID: features[1].has_id = 2, feature = 1; break;
+        case MVT_ROWS_TAGS_SPAN: features[1].tags = (mvt_span){3, 2}, feature = 1; break;
+        case MVT_ROWS_ODD_TAGS: features[0].tags.len = 3, feature = 0; break;
+        case MVT_ROWS_KEY_INDEX: tags[0] = 1, feature = 0; break;
+        case MVT_ROWS_VALUE_INDEX: tags[1] = 1, feature = 0; break;
+        case MVT_ROWS_REPEATED_KEY: features[0].tags.len = 4, feature = 0; break;
+        case MVT_ROWS_KIND: features[1].kind = 4, feature = 1; break;
+        case MVT_ROWS_GEOMETRY: parts[1].exterior = 0, feature = 1; break;
+        case MVT_ROWS_DRAWING: parts[1].points.len = 2, feature = 1; break;
+        case MVT_ROWS_BYTES: layers[2].version = 3, layer = 2; break;
+        case MVT_ROWS_REPEATED_NAME: layers[1].name.start = 0, layer = 1; break;
+        default: break;
+        }
+        mvt_rows_fault fault = {.cause = 99};
+        mvt_bytes out = {0};
+        const uint32_t wanted = cause == 0 ? MVT_OK : MVT_NO_TILE;
+        require(mvt_judge_rows(&tile, &fault) == wanted && mvt_write(&tile, &out) == wanted, "rows are judged as they are written");
+        require(fault.cause == (cause == 0 ? 99 : cause), "the cause of rows that are no tile");
+        require(cause == 0 || (fault.layer == layer && fault.has_feature == (feature >= 0)), "the layer of such rows");
+        require(cause == 0 || fault.feature == (feature < 0 ? 0 : (uint64_t)feature), "the feature of such rows");
+        require(strlen(mvt_rows_cause_text(cause)) > 15, "the text of such a cause");
+        mvt_bytes_free(&out);
+    }
+}
+
 /* What is said of broken bytes: a second layer `a`, whose second feature has the id 300 and a line that ends early. */
 static void explain(void) {
     const uint8_t bytes[] = {0x1A, 0x05, 0x78, 0x01, 0x0A, 0x01, 0x62,                         /* of version 1 */
@@ -216,6 +270,7 @@ int main(void) {
     build_many();
     build_out_of_turn();
     build_no_tile();
+    judge_rows();
     write_what_nothing_names();
     explain();
     return 0;

@@ -105,8 +105,10 @@ class Building(unittest.TestCase):
     def test_what_is_no_tile(self):
         with self.assertRaises(mvt.NoTile):
             mvt.Builder().layer("a").feature("points").finish()
-        with self.assertRaises(mvt.NoTile):
+        with self.assertRaises(mvt.NoTile) as caught:
             mvt.Builder().layer("a").layer("a").finish()
+        self.assertEqual((caught.exception.layer, caught.exception.feature, caught.exception.cause), (1, None, 19))
+        self.assertEqual(str(caught.exception), "layer 1: an earlier layer has the layer's name")
 
 
 if __name__ == "__main__":

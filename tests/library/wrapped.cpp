@@ -199,7 +199,9 @@ void write(mvt::byte_span input) {
     rows.text_len = 0;
     try {
         static_cast<void>(mvt::write(rows));
-    } catch (const mvt::no_tile &) {
+    } catch (const mvt::no_tile &why) {
+        require(why.fault() && why.fault()->layer < rows.layer_count && !why.fault()->has_feature, "a fault of rows");
+        require(std::string_view(why.what()).starts_with("layer "), "a fault of rows in words");
         return;
     }
     require(false, "rows without their texts are written");

@@ -1,8 +1,12 @@
 -- A fault as C sees it: an index is -1 where there is none.
 use Rattle.std.specs.Prelude.{◌≡◌, ℕ, ℤ, pos, negsuc, Option, Some, None}
+use Rattle.std.specs.Option.{unwrap_or}
 use Rattle.mvt_feature.specs.Causes.{cause_number, cause_name}
 use Rattle.mvt_tile.specs.declared.fault.Fault.{Fault as TileFault}
+use Rattle.mvt_rows.specs.declared.rows_cause.RowsFault.{RowsFault}
+use Rattle.mvt_rows.specs.RowsFaults.{rows_cause_number}
 use Rattle.mvt_c.specs.declared.fault.Fault.{Fault}
+use Rattle.mvt_c.specs.declared.writing.RowsFaultRow.{RowsFaultRow}
 
 abbrev pub index_of : Option ℕ → ℤ
 index_of None = negsuc 0
@@ -15,3 +19,16 @@ pub record IsFault (fault : TileFault) (told : Fault) : Type 0 where
   pub at : told.at ≡ fault.at
   pub cause : told.cause ≡ cause_number fault.cause
   pub name : told.name.bytes.now ≡ cause_name fault.cause
+
+abbrev pub has_feature : Option ℕ → ℕ
+has_feature None = 0
+has_feature (Some n) = 1
+
+-- what is wrong with rows, as C has it
+abbrev pub row_of_fault : RowsFault → RowsFaultRow
+row_of_fault fault = record {
+  layer = fault.layer;
+  feature = unwrap_or fault.feature 0;
+  has_feature = has_feature fault.feature;
+  cause = rows_cause_number fault.cause;
+}

@@ -3,10 +3,13 @@ ghost use Rattle.std.specs.Prelude.{◌≡◌, ◌≢◌, ◌⊎◌};
 ghost use Rattle.mvt_model.specs.declared.tile.Tile.{Tile};
 ghost use Rattle.mvt_rows.specs.Lent.{table_of};
 ghost use Rattle.mvt_rows.specs.TileRows.{IsTileOf};
+ghost use Rattle.mvt_rows.specs.declared.rows_cause.RowsFault.{RowsFault as AFault};
+ghost use Rattle.mvt_rows.specs.RowsFaults.{AreValid, IsFaultOf};
 ghost use Rattle.mvt_rows.specs.Written.{IsNoTile, IsTooLargeOfRows, IsWritten};
+ghost use Rattle.mvt_c.specs.Faults.{row_of_fault};
 
 use crate::lent::Bytes;
-use mvt_rows::{Rows, RowsError, write_rows};
+use mvt_rows::{Rows, RowsError, RowsFault, rows_fault, write_rows};
 use std::alloc::Global;
 
 /// The canonical bytes of the tile that rows are (`mvt_write`).
@@ -33,5 +36,50 @@ pub extern "C" fn mvt_write(alloc: Global, rows: &Rows, out: &mut Bytes) -> u32
         Err(RowsError::Memory) => 2,
         Err(RowsError::TooLarge) => 3,
         Err(RowsError::NoTile) => 6,
+    }
+}
+
+/// What is wrong with rows, and where. Of no feature both numbers are 0.
+#[repr(C)]
+#[derive(Clone, Copy, Debug)]
+pub struct RowsFaultRow {
+    pub layer: u64,
+    pub feature: u64,
+    pub has_feature: u32,
+    pub cause: u32,
+}
+
+/// Whether rows are a valid tile, and else the first thing that is wrong with them
+/// (`mvt_judge_rows`).
+#[unsafe(no_mangle)]
+pub extern "C" fn mvt_judge_rows(alloc: Global, rows: &Rows, fault: &mut RowsFaultRow) -> u32
+    ensures valid { result ≡ 0 → AreValid (table_of rows.now) }
+    ensures no_tile { result ≡ 6 → (found : AFault) × IsFaultOf (table_of rows.now) found
+        × (fault.new ≡ row_of_fault found) }
+    ensures known { (result ≡ 0) ⊎ ((result ≡ 2) ⊎ (result ≡ 6)) }
+    ensures fault_kept { result ≢ 6 → fault.new ≡ fault.old }
+{
+    match rows_fault(alloc, rows) {
+        Ok(None) => 0,
+        Ok(Some(found)) => {
+            *fault = row_of(found);
+            6
+        }
+        Err(_) => 2,
+    }
+}
+
+fn row_of(fault: RowsFault) -> RowsFaultRow
+    ensures { result ≡ row_of_fault fault }
+{
+    let (feature, has_feature) = match fault.feature {
+        Some(feature) => (feature as u64, 1),
+        None => (0, 0),
+    };
+    RowsFaultRow {
+        layer: fault.layer as u64,
+        feature,
+        has_feature,
+        cause: fault.cause.number(),
     }
 }

@@ -5,10 +5,10 @@ ghost use Rattle.mvt_rows.specs.Lent.{table_of};
 ghost use Rattle.mvt_rows.specs.Written.{FailsAs, IsNone};
 ghost use Rattle.mvt_rows.specs.TileRows.{IsItem, IsLayer, IsTileOf, keys_of, values_of};
 
-mod features;
+pub(crate) mod features;
 mod geometries;
-mod parts;
-mod values;
+pub(crate) mod parts;
+pub(crate) mod values;
 
 use crate::rows::{LayerRow, Rows};
 use crate::rows_error::RowsError;

@@ -14,5 +14,6 @@ mod WholeLemmas
 mod FeedingLemmas
 mod RoundTripLemmas
 mod ExtractionLemmas
+mod ValidityLemmas
 mod PickLemmas
 mod FindingLemmas

@@ -6,3 +6,4 @@ pub mod Visiting
 pub mod Reading
 pub mod Extraction
 pub mod Finding
+pub mod Validity

@@ -41,6 +41,6 @@ pub use reading::read_tile;
 pub use rewriting::{rewrite, rewrite_tile};
 pub use round_trip::write_and_read;
 pub use surveying::survey_tile;
-pub use validity::{is_valid, validate};
+pub use validity::{first_invalid, is_valid, validate};
 pub use visiting::{TileVisitor, visit_tile};
 pub use visiting_decoder::VisitingDecoder;

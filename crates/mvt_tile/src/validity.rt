@@ -1,9 +1,10 @@
 //! Whether a tile can be written.
-ghost use Rattle.std.specs.Prelude.{◌≡◌, ◌↔◌, IfOk, IsTrue};
+ghost use Rattle.std.specs.Prelude.{◌≡◌, ◌↔◌, IfOk, IsTrue, MatchOption};
 ghost use Rattle.std.specs.List.{AllByRecursion, flat_map};
 ghost use Rattle.mvt_message.specs.Items.{names_in};
 ghost use Rattle.mvt_message.specs.ValidItems.{ValidItem};
 ghost use Rattle.mvt_tile.specs.TileRules.{repeats};
+ghost use Rattle.mvt_tile.specs.Validity.{IsFirstInvalid};
 ghost use Rattle.mvt_model.specs.Tiles.{HasDistinctNames};
 ghost use Rattle.mvt_model.specs.ValidTiles.{Valid};
 
@@ -28,17 +29,26 @@ pub fn is_valid(tile: &Tile) -> bool
 pub fn validate(alloc: Global, tile: &Tile) -> Result<bool, AllocError>
     ensures { IfOk result (λ valid. IsTrue valid ↔ Valid tile.now) }
 {
+    Ok(first_invalid(alloc, tile)?.is_none())
+}
+
+/// The index of the first item that keeps a tile from being written, since it can't be written itself
+/// or has the name of an earlier layer. It takes the time that [`validate`] takes.
+pub fn first_invalid(alloc: Global, tile: &Tile) -> Result<Option<usize>, AllocError>
+    ensures { IfOk result (λ found. MatchOption found (Valid tile.now)
+        (IsFirstInvalid tile.now.items)) }
+{
     let mut names = BTreeSet::new(alloc);
     let items = tile.items.as_slice();
-    for item in items {
+    for (index, item) in items.iter().enumerate() {
         if !validate_item(alloc, item)? {
-            return Ok(false);
+            return Ok(Some(index));
         }
         if !add_name(&mut names, name_of(alloc, item)?)? {
-            return Ok(false);
+            return Ok(Some(index));
         }
     }
-    Ok(true)
+    Ok(None)
 }
 
 fn are_valid(items: &[Item]) -> bool

@@ -4,7 +4,7 @@ import ctypes
 from typing import Any, Callable, Dict, Iterable, List, Union
 
 from ._errors import MvtError, NoLayer, NoTile, Refused, TooLarge
-from ._library import LISTS, Bytes, FaultRow, PlaceRow, TileRows, library
+from ._library import LISTS, Bytes, FaultRow, PlaceRow, RowsFaultRow, TileRows, library
 
 REFUSED, NO_MEMORY, TOO_LARGE, NO_LAYER, NO_TILE = 1, 2, 3, 4, 6
 
@@ -116,6 +116,18 @@ def to_svg(tile: Buffer) -> str:
     return made(library.mvt_svg, held(tile)).decode()
 
 
+def _no_tile(rows: TileRows) -> NoTile:
+    """What is wrong with rows that are no valid tile."""
+    fault = RowsFaultRow()
+    if library.mvt_judge_rows(ctypes.byref(rows), ctypes.byref(fault)) != NO_TILE:
+        raise MemoryError("out of memory")
+    feature = fault.feature if fault.has_feature else None
+    place = f"layer {fault.layer}" + ("" if feature is None else f" feature {feature}")
+    why = NoTile(f"{place}: {library.mvt_rows_cause_text(fault.cause).decode()}")
+    why.layer, why.feature, why.cause = fault.layer, feature, fault.cause
+    return why
+
+
 def written(lists: Dict[str, Any]) -> bytes:
     """The canonical bytes of the tile that rows are, of an array for each list, by its name."""
     rows, out, lent = TileRows(), Bytes(), []
@@ -126,7 +138,10 @@ def written(lists: Dict[str, Any]) -> bytes:
             setattr(rows, name, ctypes.addressof(lent[-1]))
             setattr(rows, name + "_count", size // ctypes.sizeof(row))
     try:
-        raise_for(library.mvt_write(ctypes.byref(rows), ctypes.byref(out)), FaultRow())
+        status = library.mvt_write(ctypes.byref(rows), ctypes.byref(out))
+        if status == NO_TILE:
+            raise _no_tile(rows)
+        raise_for(status, FaultRow())
         return out.copy()
     finally:
         library.mvt_bytes_free(ctypes.byref(out))

@@ -65,7 +65,15 @@ class NoLayer(MvtError, KeyError):
 
 
 class NoTile(MvtError):
-    """What was to be written is no valid tile."""
+    """What was to be written is no valid tile.
+
+    Where rows were to be written, `layer` and `feature` are the indices of the first that is wrong (`feature` is None
+    where no feature is to blame), and `cause` is the number of the cause (`mvt_rows_cause` of mvt.h).
+    """
+
+    layer: Optional[int] = None
+    feature: Optional[int] = None
+    cause: Optional[int] = None
 
 
 class OutOfRange(NoTile, OverflowError):

@@ -25,6 +25,14 @@ class FaultRow(Structure):
     _fields_ = [("layer", c_int64), ("feature", c_int64), ("at", c_uint64), ("cause", c_uint32), ("name", Bytes)]
 
 
+class RowsFaultRow(Structure):
+    layer: int
+    feature: int
+    has_feature: int
+    cause: int
+    _fields_ = [("layer", c_uint64), ("feature", c_uint64), ("has_feature", c_uint32), ("cause", c_uint32)]
+
+
 class PlaceRow(Structure):
     layer_name: Bytes
     has_layer_name: int
@@ -162,7 +170,8 @@ library.mvt_read.argtypes = [*_TILE, POINTER(TileRows), POINTER(FaultRow)]
 library.mvt_read_within.argtypes = [*_TILE, c_uint64, POINTER(TileRows), POINTER(FaultRow)]
 library.mvt_read_layer.argtypes = [*_TILE, Bytes, POINTER(TileRows), POINTER(FaultRow)]
 library.mvt_write.argtypes = [POINTER(TileRows), POINTER(Bytes)]
-for _name in ("judge", "read", "read_within", "read_layer", "write", "rewrite", "extract", "json", "svg", "report"):
+library.mvt_judge_rows.argtypes = [POINTER(TileRows), POINTER(RowsFaultRow)]
+for _name in ("judge", "judge_rows", "read", "read_within", "read_layer", "write", "rewrite", "extract", "json", "svg", "report"):
     getattr(library, "mvt_" + _name).restype = c_uint32
 library.mvt_decoder_new_within.argtypes = [POINTER(DecoderRow), c_uint64]
 library.mvt_decoder_feed.argtypes = [POINTER(DecoderRow), *_TILE, POINTER(FaultRow)]
@@ -179,6 +188,8 @@ library.mvt_version.argtypes = []
 library.mvt_version.restype = c_char_p
 library.mvt_status_text.argtypes = [c_uint32]
 library.mvt_status_text.restype = c_char_p
+library.mvt_rows_cause_text.argtypes = [c_uint32]
+library.mvt_rows_cause_text.restype = c_char_p
 library.mvt_explain.argtypes = [*_TILE, POINTER(FaultRow)]
 library.mvt_explain.restype = c_char_p
 library.mvt_locate.argtypes = [*_TILE, POINTER(FaultRow), POINTER(PlaceRow)]

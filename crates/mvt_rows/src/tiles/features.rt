@@ -17,7 +17,7 @@ use mvt_geometry::Geometry;
 use mvt_message::Feature;
 use std::alloc::Global;
 
-fn id(row: &FeatureRow) -> Option<Option<u64>>
+pub(crate) fn id(row: &FeatureRow) -> Option<Option<u64>>
     ensures { result ≡ id_of row.now }
 {
     match truth(u64::from(row.has_id)) {
@@ -27,7 +27,7 @@ fn id(row: &FeatureRow) -> Option<Option<u64>>
     }
 }
 
-fn geometry(alloc: Global, rows: &Rows, row: &FeatureRow) -> Result<Geometry, RowsError>
+pub(crate) fn geometry(alloc: Global, rows: &Rows, row: &FeatureRow) -> Result<Geometry, RowsError>
     ensures drawn { IfOk result (λ geometry. geometry_of (table_of rows.now) row.now
         ≡ Some geometry) }
     ensures none { IfErr result (FailsAs (geometry_of (table_of rows.now) row.now ≡ None)) }

@@ -1,5 +1,5 @@
 //! What spans name: parts of lists, and texts.
-ghost use Rattle.std.specs.Prelude.{◌≡◌, Some, None, IfOk, IfErr};
+ghost use Rattle.std.specs.Prelude.{◌≡◌, Some, None, IfOk, IfErr, MatchOption};
 ghost use Rattle.mvt_rows.specs.Written.{FailsAs};
 ghost use Rattle.mvt_rows.specs.TileRows.{each, part_of, text_of};
 
@@ -9,18 +9,21 @@ use mvt_base::Text;
 use std::alloc::Global;
 use std::str;
 
-/// The part of a list that a span names.
+/// The part of a list that a span names, where all of it is there.
+pub(crate) fn find_part<T>(list: &[T], span: Span) -> Option<&[T]>
+    ensures { MatchOption result (part_of list.now span ≡ None)
+        (λ part. part_of list.now span ≡ Some part.now) }
+{
+    let end = span.start.checked_add(span.len)?;
+    list.get(span.start as usize..end as usize)
+}
+
+/// The same, as a step of reading.
 pub(crate) fn part<T>(list: &[T], span: Span) -> Result<&[T], RowsError>
     ensures part { IfOk result (λ part. part_of list.now span ≡ Some part.now) }
     ensures none { IfErr result (FailsAs (part_of list.now span ≡ None)) }
 {
-    let Some(end) = span.start.checked_add(span.len) else {
-        return Err(RowsError::NoTile);
-    };
-    match list.get(span.start as usize..end as usize) {
-        Some(part) => Ok(part),
-        None => Err(RowsError::NoTile),
-    }
+    find_part(list, span).ok_or(RowsError::NoTile)
 }
 
 pub(crate) fn text(alloc: Global, texts: &[u8], span: Span) -> Result<Text, RowsError>

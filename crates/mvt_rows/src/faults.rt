@@ -1,0 +1,216 @@
+//! The first thing that is wrong with rows that are no valid tile.
+
+ghost use Rattle.std.specs.Prelude.{◌≡◌, true, List, IfOk, IfErr, MatchOption};
+ghost use Rattle.std.specs.List.{AllByRecursion, flat_map};
+ghost use Rattle.mvt_feature.specs.Valid.{ValidFeature};
+ghost use Rattle.mvt_message.specs.declared.item.Item.{Item as AnItem};
+ghost use Rattle.mvt_message.specs.Items.{names_in};
+ghost use Rattle.mvt_message.specs.ValidItems.{ValidItem};
+ghost use Rattle.mvt_tile.specs.TileRules.{repeats};
+ghost use Rattle.mvt_rows.specs.declared.rows_error.RowsError.TheVariants.{Memory};
+ghost use Rattle.mvt_rows.specs.Lent.{table_of};
+ghost use Rattle.mvt_rows.specs.RowsFaults.{AreValid, IsFaultOf, IsFirstInvalidFeature, IsInvalid, feature_cause, features_wrong, geometry_cause, if_any, layer_wrong, row_wrong, text_wrong};
+
+use crate::rows::{FeatureRow, LayerRow, Rows, Span};
+use crate::rows_error::RowsError;
+use crate::rows_cause::{RowsCause, RowsFault};
+use crate::tiles::features::{geometry, id};
+use crate::tiles::parts::{find_part, keys};
+use crate::tiles::tile_of;
+use crate::tiles::values::values;
+use mvt_attrs::{LayerKeys, TagError, Value, judge_tags};
+use mvt_base::Text;
+use mvt_feature::validate_feature;
+use mvt_message::{Feature, Item};
+use mvt_tile::first_invalid;
+use std::alloc::{AllocError, Global};
+use std::str;
+
+/// Where in a layer something is wrong, and what.
+type Wrong = (Option<usize>, RowsCause);
+
+/// The first thing that is wrong with rows, or nothing where they are a valid tile.
+///
+/// # Errors
+///
+/// When memory runs out.
+pub fn rows_fault(alloc: Global, rows: &Rows) -> Result<Option<RowsFault>, RowsError>
+    ensures fault { IfOk result (λ found. MatchOption found (AreValid (table_of rows.now))
+        (IsFaultOf (table_of rows.now))) }
+    ensures memory { IfErr result (λ error. error ≡ Memory) }
+{
+    for (index, row) in rows.layers.iter().enumerate() {
+        if let Some((feature, cause)) = row_wrong(alloc, rows, row)? {
+            return Ok(Some(RowsFault {
+                layer: index,
+                feature,
+                cause,
+            }));
+        }
+    }
+    let tile = tile_of(alloc, rows)?;
+    let items = tile.items.as_slice();
+    match first_invalid(alloc, &tile)? {
+        Some(index) => {
+            let (feature, cause) = item_wrong(alloc, &items[index])?;
+            Ok(Some(RowsFault {
+                layer: index,
+                feature,
+                cause,
+            }))
+        }
+        None => Ok(None),
+    }
+}
+
+/// What is wrong with a layer's row, its keys, values and features.
+fn row_wrong(alloc: Global, rows: &Rows, row: &LayerRow) -> Result<Option<Wrong>, RowsError>
+    ensures wrong { IfOk result (λ found. found ≡ row_wrong (table_of rows.now) row.now) }
+    ensures memory { IfErr result (λ error. error ≡ Memory) }
+{
+    if row.version == 2 {
+        return layer_wrong(alloc, rows, row);
+    }
+    match find_part(rows.texts, row.bytes) {
+        Some(_) => Ok(None),
+        None => Ok(Some((None, RowsCause::BytesSpan))),
+    }
+}
+
+fn layer_wrong(alloc: Global, rows: &Rows, row: &LayerRow) -> Result<Option<Wrong>, RowsError>
+    ensures wrong { IfOk result (λ found. found ≡ layer_wrong (table_of rows.now) row.now) }
+    ensures memory { IfErr result (λ error. error ≡ Memory) }
+{
+    if let Some(wrong) = text_wrong(rows.texts, row.name) {
+        return Ok(Some(wrong));
+    }
+    let Some(spans) = find_part(rows.keys, row.keys) else {
+        return Ok(Some((None, RowsCause::KeysSpan)));
+    };
+    let Some(keys) = if_any(keys(alloc, rows.texts, spans))? else {
+        return Ok(Some((None, RowsCause::Key)));
+    };
+    let Some(value_rows) = find_part(rows.values, row.values) else {
+        return Ok(Some((None, RowsCause::ValuesSpan)));
+    };
+    let Some(values) = if_any(values(alloc, rows.texts, value_rows))? else {
+        return Ok(Some((None, RowsCause::Value)));
+    };
+    let Some(feature_rows) = find_part(rows.features, row.features) else {
+        return Ok(Some((None, RowsCause::FeaturesSpan)));
+    };
+    features_wrong(alloc, rows, &keys, &values, feature_rows)
+}
+
+/// What was made, or nothing where rows are wrong.
+fn if_any<T: Drop>(made: Result<T, RowsError>) -> Result<Option<T>, RowsError>
+    ensures { result ≡ if_any made }
+{
+    match made {
+        Ok(made) => Ok(Some(made)),
+        Err(RowsError::NoTile) => Ok(None),
+        Err(error) => Err(error),
+    }
+}
+
+fn text_wrong(texts: &[u8], span: Span) -> Option<Wrong>
+    ensures { result ≡ text_wrong texts.now span }
+{
+    let Some(bytes) = find_part(texts, span) else {
+        return Some((None, RowsCause::NameSpan));
+    };
+    match str::from_utf8(bytes) {
+        Ok(_) => None,
+        Err(_) => Some((None, RowsCause::NameText)),
+    }
+}
+
+fn features_wrong(
+    alloc: Global,
+    rows: &Rows,
+    keys: &[Text],
+    values: &[Value],
+    feature_rows: &[FeatureRow],
+) -> Result<Option<Wrong>, RowsError>
+    ensures wrong { IfOk result (λ found. found
+        ≡ features_wrong (table_of rows.now) keys.now values.now 0 feature_rows.now) }
+    ensures memory { IfErr result (λ error. error ≡ Memory) }
+{
+    let mut keys = LayerKeys::new(alloc, keys);
+    for (index, row) in feature_rows.iter().enumerate() {
+        if let Some(cause) = feature_cause(alloc, rows, &mut keys, values, row)? {
+            return Ok(Some((Some(index), cause)));
+        }
+    }
+    Ok(None)
+}
+
+/// What is wrong with a feature's row, its tags and its geometry.
+fn feature_cause(
+    alloc: Global,
+    rows: &Rows,
+    keys: &mut LayerKeys<'_>,
+    values: &[Value],
+    row: &FeatureRow,
+) -> Result<Option<RowsCause>, RowsError>
+    ensures cause { IfOk result (λ found. found
+        ≡ feature_cause (table_of rows.now) keys.old values.now row.now) }
+    ensures memory { IfErr result (λ error. error ≡ Memory) }
+    ensures same { keys.new ≡ keys.old }
+{
+    if id(row).is_none() {
+        return Ok(Some(RowsCause::HasId));
+    }
+    let Some(tags) = find_part(rows.tags, row.tags) else {
+        return Ok(Some(RowsCause::TagsSpan));
+    };
+    match judge_tags(alloc, keys, values.len(), tags) {
+        Ok(()) => geometry_cause(alloc, rows, row),
+        Err(TagError::Fault { cause, .. }) => Ok(Some(RowsCause::of_tag(cause))),
+        Err(TagError::Memory) => Err(RowsError::Memory),
+    }
+}
+
+fn geometry_cause(alloc: Global, rows: &Rows, row: &FeatureRow) -> Result<Option<RowsCause>, RowsError>
+    ensures cause { IfOk result (λ found. found ≡ geometry_cause (table_of rows.now) row.now) }
+    ensures memory { IfErr result (λ error. error ≡ Memory) }
+{
+    if row.kind > 3 {
+        return Ok(Some(RowsCause::Kind));
+    }
+    match geometry(alloc, rows, row) {
+        Ok(_) => Ok(None),
+        Err(RowsError::NoTile) => Ok(Some(RowsCause::Geometry)),
+        Err(error) => Err(error),
+    }
+}
+
+/// Why an item can't be written that isn't valid, or has the name of one before it.
+fn item_wrong(alloc: Global, item: &Item) -> Result<Wrong, AllocError>
+    ensures { (before : List AnItem)
+        → (ValidItem item.now → repeats (flat_map names_in before) (names_in item.now) ≡ true)
+        → IfOk result (λ wrong. IsInvalid before item.now wrong.0 wrong.1) }
+{
+    let Item::Layer(layer) = item else {
+        return Ok((None, RowsCause::Bytes));
+    };
+    // Read for the proof, which so knows that the name is UTF-8 and the extent has 32 bits.
+    let _name = layer.name.as_str();
+    let _extent = layer.extent;
+    match first_invalid_feature(alloc, layer.features.as_slice())? {
+        Some(index) => Ok((Some(index), RowsCause::Drawing)),
+        None => Ok((None, RowsCause::RepeatedName)),
+    }
+}
+
+fn first_invalid_feature(alloc: Global, features: &[Feature]) -> Result<Option<usize>, AllocError>
+    ensures { IfOk result (λ found. MatchOption found (AllByRecursion ValidFeature features.now)
+        (IsFirstInvalidFeature features.now)) }
+{
+    for (index, feature) in features.iter().enumerate() {
+        if !validate_feature(alloc, feature)? {
+            return Ok(Some(index));
+        }
+    }
+    Ok(None)
+}
