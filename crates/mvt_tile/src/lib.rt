@@ -33,6 +33,7 @@ pub use mvt_attrs::{Attribute, Value};
 pub use mvt_base::{Items, LIMIT, Text};
 pub use mvt_feature::{Cause, Feature};
 pub use mvt_geometry::{Geometry, Kind, Point, Polygon};
+pub use mvt_io::{Host, Sink, Source};
 pub use mvt_message::{Item, Layer, PutError};
 pub use mvt_model::{
     Note, Survey, Tile, WriteError, encode, feature_count, notes, numbers, write_tile,

@@ -1,8 +1,9 @@
 //! The uses of tiles, over the tile that `place_tile` makes.
 use crate::expect::{expect, expect_eq};
+use mvt_io::MemorySource;
 use mvt_message::Cause;
 use mvt_tile::{DecodeError, Point, decode};
-use mvt_uses::{count_features, place_tile, tile_of_pieces};
+use mvt_uses::{count_features, first_fault, place_tile, tile_of_pieces};
 use std::process::Abort;
 
 // The layer "places", in which Rome stands at (1,2).
@@ -44,4 +45,33 @@ fn a_piece_is_missing(rt: HostRuntime) {
         _ => None,
     };
     expect!(rt; cause == Some(Cause::Truncated));
+}
+
+#[test]
+fn a_stream_is_refused(rt: HostRuntime) {
+    let bytes = Vec::from_slice(rt.alloc(), ROME).expect(&rt, "bytes");
+    let mut whole = MemorySource::new(bytes, 7, u64::MAX);
+    expect_eq!(rt; first_fault(rt.alloc(), &mut whole), Ok(None));
+    drop(whole);
+}
+
+#[test]
+fn a_stream_breaks_a_rule(rt: HostRuntime) {
+    let bytes = Vec::from_slice(rt.alloc(), &ROME[..17]).expect(&rt, "bytes");
+    let mut cut = MemorySource::new(bytes, 7, u64::MAX);
+    let cause = match first_fault(rt.alloc(), &mut cut) {
+        Ok(Some(fault)) => Some(fault.cause),
+        _ => None,
+    };
+    expect!(rt; cause == Some(Cause::Truncated));
+    drop(cut);
+}
+
+#[test]
+fn a_stream_fails(rt: HostRuntime) {
+    let bytes = Vec::from_slice(rt.alloc(), ROME).expect(&rt, "bytes");
+    let mut failing = MemorySource::new(bytes, 7, 1);
+    let is_failed_read = matches!(first_fault(rt.alloc(), &mut failing), Err(DecodeError::Read(_)));
+    expect!(rt; is_failed_read);
+    drop(failing);
 }

@@ -1,1 +1,2 @@
 mod StreamingLemmas
+mod RefusingLemmas

@@ -1,0 +1,25 @@
+//! Read a tile from a stream, and say where it breaks a rule.
+ghost use Rattle.std.specs.Prelude.{◌≡◌, None, IfOk, IfErr, IfSome};
+ghost use Rattle.mvt_tile.specs.Reading.{fault_of};
+ghost use Rattle.mvt_tile.specs.TileRules.{fault_within};
+
+use mvt_tile::{DecodeError, Fault, LIMIT, Source, read_tile};
+use std::alloc::Global;
+
+/// The first broken rule of the bytes that a reader has left, with its layer, its feature, its place
+/// and its cause; nothing where they are a tile. It reads no further after a fault.
+///
+/// # Errors
+///
+/// A read that failed; want of memory.
+pub fn first_fault<R: Source>(alloc: Global, reader: &mut R) -> Result<Option<Fault>, DecodeError>
+    ensures fault { IfOk result (λ found. IfSome (R.state reader.old).left
+        (λ input. found ≡ fault_within LIMIT input)) }
+    ensures error { IfErr result (λ error. fault_of error ≡ None) }
+{
+    match read_tile(alloc, reader) {
+        Ok(_) => Ok(None),
+        Err(DecodeError::Fault(fault)) => Ok(Some(fault)),
+        Err(error) => Err(error),
+    }
+}
