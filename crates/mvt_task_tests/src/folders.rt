@@ -75,7 +75,8 @@ fn status_of(
     let names = names_of(rt.alloc(), names).expect(rt, "names");
     let mut folder = folder_of(rt.alloc()).expect(rt, "a folder");
     let status = check_known(rt.alloc(), &names, &mut folder, writer, errors);
-    expect_eq!(rt; folder.open_files(), 0);
+    let open = folder.open_files();
+    expect!(rt; open.now == 0 && open.most < 2);
     drop(folder);
     drop(names);
     status
@@ -179,7 +180,8 @@ fn wants_of(rt: &(impl Abort + AllocGlobal), names: &[String]) -> u32 {
         return 1;
     };
     let wanted = wants_in(rt, names, &mut folder);
-    expect_eq!(rt; folder.open_files(), 0);
+    let open = folder.open_files();
+    expect!(rt; open.now == 0 && open.most < 2);
     drop(folder);
     wanted
 }
