@@ -36,6 +36,7 @@ rows_of_pair keys values front pair =
     ∷ ((2, when (list_any (λ earlier. name_one_key keys earlier.0 pair.0) front) (2 * length front, RepeatedKey))
     ∷ []))
 
+-- the rules of one pair of tags, by the pairs before it
 abbrev pub rules_of_pair : List (List ℕ) → List Value → List (ℕ × ℕ) → ℕ × ℕ → Rules (ℕ × TagCause)
 rules_of_pair keys values front pair = rows (rows_of_pair keys values front pair)
 

@@ -57,6 +57,7 @@ abbrev pub PrecedesAll : {F : Type 0} → List ℕ → Rules F → Type 0
 PrecedesAll rank [] = ⊤
 PrecedesAll rank (rule ∷ rules) = Precedes rank rule.0 × PrecedesAll rank rules
 
+-- a table whose ranks rise
 abbrev pub AreOrdered : {F : Type 0} → Rules F → Type 0
 AreOrdered [] = ⊤
 AreOrdered (rule ∷ rules) = PrecedesAll rule.0 rules × AreOrdered rules

@@ -18,6 +18,7 @@ use Rattle.mvt_c.specs.declared.refusal.Refusal.TheVariants.{Refused, Memory, To
 use Rattle.mvt_c.specs.Faults.{IsFault}
 use Rattle.mvt_rows.specs.Reading.{IsTooLarge}
 
+-- the statuses of mvt.h
 abbrev pub status_of_refusal : Refusal → ℕ
 status_of_refusal (Refused fault) = 1
 status_of_refusal Memory = 2
@@ -25,6 +26,7 @@ status_of_refusal TooLarge = 3
 status_of_refusal NoLayer = 4
 status_of_refusal BadName = 5
 
+-- 0 for an answer
 abbrev pub status_of : {A : Type 0} → Result A Refusal → ℕ
 status_of (Ok made) = 0
 status_of (Err refusal) = status_of_refusal refusal
@@ -37,6 +39,7 @@ TellsFault TooLarge old new = new ≡ old
 TellsFault NoLayer old new = new ≡ old
 TellsFault BadName old new = new ≡ old
 
+-- a call without a reader never tells a failed read
 abbrev pub of_decode : DecodeError → Refusal
 of_decode decoding.Memory = Memory
 of_decode (decoding.Fault fault) = Refused fault

@@ -8,6 +8,7 @@ use Rattle.mvt_rows.specs.RowsFaults.{rows_cause_number}
 use Rattle.mvt_c.specs.declared.fault.Fault.{Fault}
 use Rattle.mvt_c.specs.declared.writing.RowsFaultRow.{RowsFaultRow}
 
+-- an index as C has it: -1 for none
 abbrev pub index_of : Option ℕ → ℤ
 index_of None = negsuc 0
 index_of (Some n) = pos n

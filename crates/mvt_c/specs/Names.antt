@@ -4,6 +4,7 @@ use Rattle.mvt_c.specs.declared.lent.Bytes.{Bytes}
 use Rattle.mvt_c.specs.declared.refusal.Refusal.{Refusal}
 use Rattle.mvt_c.specs.declared.refusal.Refusal.TheVariants.{Refused, Memory, TooLarge, NoLayer, BadName}
 
+-- the texts of names that C hands over
 abbrev pub texts_of : List Bytes → List (List ℕ)
 texts_of names = map (λ (name : Bytes). name.bytes.now) names
 

@@ -55,12 +55,15 @@ abbrev pub subcommand_in : List (List ℕ) → Option (List ℕ × List Row)
 subcommand_in [] = None
 subcommand_in (word ∷ words) = subcommand_of mvt (word ∷ words)
 
+-- the words that clap found for an argument
 abbrev pub texts_given : List ℕ → List Row → List (List ℕ)
 texts_given key rows = unwrap_or (all_of key rows) []
 
+-- the names of layers in a line
 abbrev pub names_given : List Row → List (List ℕ)
 names_given rows = texts_given (codes "name") rows
 
+-- the task of a subcommand
 abbrev pub task_named : List ℕ → List Row → Task
 task_named name rows =
     if bytes_eq name (codes "fields") then Fields
@@ -83,6 +86,7 @@ task_in words = task_of_subcommand (subcommand_in words)
 abbrev pub files_named : List ℕ → List Row → List (List ℕ)
 files_named name rows = if bytes_eq name (codes "check") then texts_given (codes "file") rows else []
 
+-- the names of files in a line
 abbrev pub files_of_subcommand : Option (List ℕ × List Row) → List (List ℕ)
 files_of_subcommand None = []
 files_of_subcommand (Some (name, rows)) = files_named name rows

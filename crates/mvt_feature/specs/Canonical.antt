@@ -29,6 +29,7 @@ field_of_value (Uint n) = plain UINT (varint n)
 field_of_value (Sint z) = plain SINT (varint (zig z))
 field_of_value (Truth b) = plain BOOL (varint (if b then 1 else 0))
 
+-- the one field of a value's payload
 abbrev pub value_fields : Value → List Plain
 value_fields value = field_of_value value ∷ []
 
@@ -42,6 +43,7 @@ abbrev pub tags_fields : List ℕ → List Plain
 tags_fields [] = []
 tags_fields (tag ∷ tags) = plain TAGS (bytes (short_numbers (tag ∷ tags))) ∷ []
 
+-- the standard's numbers of geometry types (4.3.4)
 abbrev pub type_number : Kind → ℕ
 type_number kinds.Unknown = 0
 type_number kinds.Point = 1

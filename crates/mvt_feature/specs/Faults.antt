@@ -12,6 +12,7 @@ use Rattle.mvt_feature.specs.declared.message_error.MessageError.{MessageError}
 use Rattle.mvt_feature.specs.declared.message_error.MessageError.TheVariants.{Memory, Fault}
 use Rattle.mvt_feature.specs.Causes.{of_wire, of_tag, of_geometry}
 
+-- a broken rule of a message: its feature, its place and its cause
 pub record MessageFault : Type 0 where
   pub feature : Option ℕ
   pub at : ℕ
@@ -43,6 +44,7 @@ abbrev pub of_tag_error : TagError → MessageError
 of_tag_error tag_errors.Memory = Memory
 of_tag_error (tag_errors.Fault index cause) = Fault None index (of_tag cause)
 
+-- an integer's fault, at its index
 abbrev pub of_geometry_error : GeometryError → MessageError
 of_geometry_error geometry_errors.Memory = Memory
 of_geometry_error (geometry_errors.Fault index cause) = Fault None index (of_geometry cause)

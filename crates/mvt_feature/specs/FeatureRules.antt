@@ -25,6 +25,7 @@ numbers_of (varint n) = n ∷ []
 numbers_of (bytes d) = (packed d).numbers
 numbers_of _ = []
 
+-- the numbers of a repeated field, in whatever pieces they came
 abbrev pub joined : ℕ → List Entry → List ℕ
 joined k fields = flat_map (λ (x : Entry). numbers_of x.content) (only k fields)
 

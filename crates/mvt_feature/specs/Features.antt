@@ -27,6 +27,7 @@ abbrev pub number_of : Content → Option ℕ
 number_of (varint n) = Some n
 number_of _ = None
 
+-- the number of a field, where there is one
 abbrev pub number_in : Option Entry → Option ℕ
 number_in None = None
 number_in (Some x) = number_of x.content

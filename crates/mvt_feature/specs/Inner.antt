@@ -23,6 +23,7 @@ use Rattle.mvt_feature.specs.Values.{Means}
 use Rattle.mvt_feature.specs.Walks.{IsSoFar}
 use Rattle.mvt_feature.specs.ValueRules.{kinds, are_one_kind, value_field_rules}
 
+-- the value that a field means
 abbrev pub value_of : Meaning → Value
 value_of (meanings.Text text) = values.Text text.now
 value_of (meanings.Float bits) = values.Float bits
@@ -40,6 +41,7 @@ AreKindsOf fields (One number meaning) =
     × ((x : Entry) × ((last_or None fields ≡ Some x) × ((x.number ≡ number) × Means number x.content (value_of meaning))))
 AreKindsOf fields Several = (fields ≢ []) × (are_one_kind fields ≡ false)
 
+-- the fields of a value's payload that have one of its kinds
 abbrev pub AreKinds : List Entry → Kinds → Type 0
 AreKinds fields k = AreKindsOf (kinds fields) k
 
@@ -49,6 +51,7 @@ kinds_with Nothing number meaning = One number meaning
 kinds_with (One first_number old) number meaning = if first_number == number then One number meaning else Several
 kinds_with Several number meaning = Several
 
+-- the same of the fields so far, or their first fault
 abbrev pub AreSoFar : ℕ → List Entry → Result Kinds MessageError → Type 0
 AreSoFar payload_at done k = IsSoFar (value_field_rules payload_at) AreKinds done k
 
@@ -56,9 +59,11 @@ AreSoFar payload_at done k = IsSoFar (value_field_rules payload_at) AreKinds don
 abbrev pub id_after : Option ℕ → ℕ → Content → Option ℕ
 id_after old number content = if number == ID then number_of content else old
 
+-- the last field of a type counts
 abbrev pub kind_after : Kind → ℕ → Content → Kind
 kind_after old number content = if number == TYPE then kind_of_type (number_of content) else old
 
+-- the numbers of a field, if it has this number
 abbrev pub numbers_at : ℕ → ℕ → Content → List ℕ
 numbers_at k number content = if number == k then numbers_of content else []
 
@@ -69,6 +74,7 @@ pub record IsKnown (fields : List Entry) (known : Known) (tags integers : List �
   pub tags_are : tags ≡ joined TAGS fields
   pub integers_are : integers ≡ joined GEOMETRY fields
 
+-- what is known by the fields so far, or their first fault
 abbrev pub IsKnownSoFar : ℕ → List Entry → Result Known MessageError → List ℕ → List ℕ → Type 0
 IsKnownSoFar payload_at done known tags integers =
     IsSoFar (feature_field_rules payload_at) (λ fields k. IsKnown fields k tags integers) done known

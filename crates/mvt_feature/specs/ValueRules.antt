@@ -19,6 +19,7 @@ value_field_rules payload_at x = forms_rules value_forms payload_at x
 abbrev pub is_kind : Entry → Bool
 is_kind x = nat_le STRING x.number && nat_le x.number BOOL
 
+-- the fields that have one of a value's kinds (4.1)
 abbrev pub kinds : List Entry → List Entry
 kinds xs = filter is_kind xs
 

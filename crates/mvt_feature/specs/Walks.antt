@@ -7,6 +7,7 @@ use Rattle.mvt_wire.specs.Split.{Parts, split}
 use Rattle.mvt_feature.specs.declared.message_error.MessageError.{MessageError}
 use Rattle.mvt_feature.specs.Faults.{MessageFault, fault_of}
 
+-- a walk over a payload's fields: those that are done, and those to come
 pub record Walk (payload : List ℕ) (to_come : Parts) (done : List Entry) : Type 0 where
   pub fields : (split payload).fields ≡ done ++ to_come.fields
   pub rest : to_come.rest ≡ (split payload).rest

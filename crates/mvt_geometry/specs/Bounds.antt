@@ -11,12 +11,15 @@ use Rattle.mvt_geometry.specs.declared.shape.Geometry.TheVariants.{Unknown, Poin
 abbrev pub line_bound : List Point → ℕ
 line_bound points = 15 + 10 * length points
 
+-- a bound of the bytes of lines
 abbrev pub lines_bound : List (List Point) → ℕ
 lines_bound lines = sum_by line_bound lines
 
+-- a bound of the bytes of a polygon
 abbrev pub polygon_bound : Polygon → ℕ
 polygon_bound p = line_bound p.outer + lines_bound p.rest
 
+-- a bound of the bytes of a geometry
 abbrev pub geometry_bound : Geometry → ℕ
 geometry_bound (Unknown integers) = 5 * length integers
 geometry_bound (Points points) = 5 + 10 * length points

@@ -28,9 +28,11 @@ read_fails s = nat_le s.fails_from s.calls
 abbrev pub can_give : SourceState → ℕ → ℕ
 can_give s room = min s.step (min room (length s.left))
 
+-- what a read gives: an error where it fails, else how many bytes
 abbrev pub read_answer : SourceState → ℕ → Result ℕ ErrorKind
 read_answer s room = if read_fails s then Err Other else Ok (can_give s room)
 
+-- the source after a read with so much room
 abbrev pub after_read : SourceState → ℕ → SourceState
 after_read s room = if read_fails s
     then record s {
@@ -75,9 +77,11 @@ accepted s piece = min s.step (min (length piece) (s.room - length s.taken))
 abbrev pub stalls : SinkState → List ℕ → Bool
 stalls s piece = nat_lt 0 (length piece) && nat_le (accepted s piece) 0
 
+-- what a write gives: an error where it is refused, else how many bytes were taken
 abbrev pub write_answer : SinkState → List ℕ → Result ℕ ErrorKind
 write_answer s piece = if refuses s piece then Err Other else Ok (accepted s piece)
 
+-- the sink after a write of a piece
 abbrev pub after_write : SinkState → List ℕ → SinkState
 after_write s piece = if refuses s piece
     then record s { calls = counted s.calls; faults = failed Other s.faults }
@@ -87,9 +91,11 @@ after_write s piece = if refuses s piece
       faults = if stalls s piece then failed WriteZero s.faults else passed s.faults;
     }
 
+-- what a flush gives
 abbrev pub flush_answer : SinkState → Result (Unit {0}) ErrorKind
 flush_answer s = if s.flush_fails then Err Other else Ok tt
 
+-- the sink after a flush
 abbrev pub after_flush : SinkState → SinkState
 after_flush s = if s.flush_fails
     then record s { flushes = counted s.flushes; faults = failed Other s.faults }

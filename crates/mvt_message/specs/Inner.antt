@@ -61,9 +61,11 @@ IsVersionSoFar payload_at done version = IsSoFar (version_rules payload_at) (λ 
 abbrev pub name_after : Option (List ℕ) → ℕ → Content → Option (List ℕ)
 name_after old number content = if number == NAME then Some (bytes_of content) else old
 
+-- the last extent counts; 4096 where none is written (4.1)
 abbrev pub extent_after : ℕ → ℕ → Content → ℕ
 extent_after old number content = if number == EXTENT then unwrap_or (number_of content) 4096 else old
 
+-- the key of a field, if it is one
 abbrev pub keys_at : ℕ → Content → List (List ℕ)
 keys_at number content = if number == KEYS then bytes_of content ∷ [] else []
 
@@ -89,6 +91,7 @@ IsHeadSoFar payload_at done head = OrFault (forms_fault payload_at) (IsHeadOf pa
 abbrev pub AreValuesSoFar : ℕ → List Entry → List Value → Type 0
 AreValuesSoFar payload_at done values = (values_fault payload_at done ≡ None) × AreRelated HoldsValue (only VALUES done) values
 
+-- the features of the fields so far, which have no fault
 abbrev pub AreFeaturesSoFar : ℕ → List (List ℕ) → List Value → List Entry → List Feature → Type 0
 AreFeaturesSoFar payload_at keys values done features =
     (features_fault payload_at keys values done ≡ None) × AreRelated (HoldsFeature keys values) (only FEATURES done) features
@@ -100,6 +103,7 @@ pub record AreValuesHeld (Has : List Value → Type 0) (payload_at : ℕ) (done 
   pub counted : count ≡ length values
   pub has : Has values
 
+-- so many values, which a visitor has, or their first fault
 abbrev pub AreValuesSaid : (List Value → Type 0) → ℕ → List Entry → Result ℕ MessageError → Type 0
 AreValuesSaid Has payload_at done count = OrFault (values_fault payload_at) (AreValuesHeld Has payload_at) done count
 

@@ -20,6 +20,7 @@ use Rattle.mvt_message.specs.LayerFields.{layer_forms, bytes_of, version_in, nam
 abbrev pub HoldsValue : Entry → Value → Type 0
 HoldsValue x value = IsValueOf (bytes_of x.content) value
 
+-- a field whose payload is this feature
 abbrev pub HoldsFeature : List (List ℕ) → List Value → Entry → Feature → Type 0
 HoldsFeature keys values x feature = IsFeatureOf (bytes_of x.content) keys values feature
 

@@ -14,6 +14,7 @@ use Rattle.mvt_message.specs.declared.numbers.layer.TheConstants.{NAME, FEATURES
 abbrev pub version_forms : List (ℕ × Form)
 version_forms = (VERSION, uint32) ∷ []
 
+-- the fields of a layer and their forms (4.1)
 abbrev pub layer_forms : List (ℕ × Form)
 layer_forms =
     (NAME, string) ∷ ((FEATURES, message) ∷ ((KEYS, string) ∷ ((VALUES, message) ∷ ((EXTENT, uint32) ∷ []))))
@@ -40,8 +41,10 @@ name_in fields = option_map (λ (x : Entry). bytes_of x.content) (last_only NAME
 abbrev pub extent_in : List Entry → ℕ
 extent_in fields = unwrap_or (number_in (last_only EXTENT fields)) 4096
 
+-- the keys of a layer, in their order
 abbrev pub keys_in : List Entry → List (List ℕ)
 keys_in fields = map (λ (x : Entry). bytes_of x.content) (only KEYS fields)
 
+-- the values of a layer, in their order
 abbrev pub values_in : List Entry → List Value
 values_in fields = flat_map (λ (x : Entry). option_to_list (value_in (bytes_of x.content))) (only VALUES fields)

@@ -19,9 +19,11 @@ abbrev pub numbered : {A : Type 0} → (ℕ → A → List Note) → ℕ → Lis
 numbered noted n [] = []
 numbered noted n (x ∷ xs) = noted n x ++ numbered noted (n + 1) xs
 
+-- a note where a test holds
 abbrev pub note_if : Bool → Note → List Note
 note_if test note = if test then note ∷ [] else []
 
+-- two points that are there and are the same
 abbrev pub are_same : Option Point → Option Point → Bool
 are_same (Some p) (Some q) = int_eq p.x q.x && int_eq p.y q.y
 are_same _ _ = false
@@ -30,9 +32,11 @@ are_same _ _ = false
 abbrev pub is_flat : List Point → Bool
 is_flat ring = int_eq (area2 ring) (pos 0)
 
+-- a ring whose last point is its first
 abbrev pub is_closed : List Point → Bool
 is_closed ring = are_same (slice_get ring 0) (slice_get ring (length ring - 1))
 
+-- the notes of a ring: no area, or closed by a point of its own
 abbrev pub ring_notes : ℕ → ℕ → ℕ → List Point → List Note
 ring_notes layer feature n ring =
     note_if (is_flat ring) (FlatRing layer feature n) ++ note_if (is_closed ring) (ClosedTwice layer feature n)
@@ -43,6 +47,7 @@ geometry_notes layer feature (Points points) = []
 geometry_notes layer feature (Lines lines) = []
 geometry_notes layer feature (Polygons polygons) = numbered (ring_notes layer feature) 0 (rings_of polygons)
 
+-- whether an id is there and is this one
 abbrev pub is_id : ℕ → Option ℕ → Bool
 is_id id None = false
 is_id id (Some other) = id == other
@@ -56,6 +61,7 @@ abbrev pub HaveDistinctIds : List Feature → Type 0
 HaveDistinctIds features = (n : ℕ) (f : Feature) (id : ℕ) → n < length features → f ≡ get_or features n f → f.id ≡ Some id
     → first_of id (take n features) ≡ None
 
+-- the note of an id that an earlier feature has
 abbrev pub earlier_note : ℕ → ℕ → Option ℕ → List Note
 earlier_note layer n None = []
 earlier_note layer n (Some earlier) = RepeatedId layer n earlier ∷ []

@@ -2,6 +2,7 @@
 use Rattle.mvt_rows.specs.declared.rows.Rows.{Rows}
 use Rattle.mvt_rows.specs.Tables.{Table}
 
+-- the table whose lists are lent
 abbrev pub table_of : Rows → Table
 table_of rows = record {
   layers = rows.layers.now;

@@ -31,6 +31,7 @@ pub record Table : Type 0 where
   pub integers : List ℕ
   pub texts : List ℕ
 
+-- a table without rows
 abbrev pub no_rows : Table
 no_rows = record { layers = []; features = []; keys = []; values = []; tags = []; parts = []; points = []; integers = []; texts = [] }
 
@@ -44,6 +45,7 @@ table_size t =
 abbrev pub behind : {A : Type 0} → List A → ℕ → Span
 behind held count = record { start = length held; len = count }
 
+-- an empty span
 abbrev pub nowhere : Span
 nowhere = record { start = 0; len = 0 }
 
@@ -51,12 +53,15 @@ nowhere = record { start = 0; len = 0 }
 abbrev pub with_key : Table → List ℕ → Table
 with_key t key = record t { keys = t.keys ++ behind t.texts (length key) ∷ []; texts = t.texts ++ key }
 
+-- the row of a value that is a number
 abbrev pub number_row : ℕ → ℕ → ValueRow
 number_row kind bits = record { kind = kind; bits = bits; text = nowhere }
 
+-- a table and one number more
 abbrev pub with_number : Table → ℕ → ℕ → Table
 with_number t kind bits = record t { values = t.values ++ number_row kind bits ∷ [] }
 
+-- a table and one value more, its text after the texts
 abbrev pub with_value : Table → Value → Table
 with_value t (Text text) = record t
     { values = t.values ++ record { kind = 1; bits = 0; text = behind t.texts (length text) } ∷ []; texts = t.texts ++ text }
@@ -71,12 +76,14 @@ with_value t (Truth b) = with_number t 7 (if b then 1 else 0)
 abbrev pub point_row : Point → PointRow
 point_row p = record { x = p.x; y = p.y }
 
+-- a table and one part more, with its points
 abbrev pub with_part : ℕ → Table → List Point → Table
 with_part exterior t points = record t {
   parts = t.parts ++ record { exterior = exterior; points = behind t.points (length points) } ∷ [];
   points = t.points ++ map point_row points;
 }
 
+-- a table and a polygon's rings, the exterior one first
 abbrev pub with_polygon : Table → Polygon → Table
 with_polygon t p = fold (with_part 0) (with_part 1 t p.outer) p.rest
 

@@ -39,6 +39,7 @@ part_of held span =
 abbrev pub utf8_of : List ℕ → Option (List ℕ)
 utf8_of bytes = if is_utf8 bytes then Some bytes else None
 
+-- the text of a span, where it lies within the texts and is UTF-8
 abbrev pub text_of : List ℕ → Span → Option (List ℕ)
 text_of texts span = option_and_then utf8_of (part_of texts span)
 
@@ -61,6 +62,7 @@ number_of kind bits =
     else (if kind == 7 then option_map Truth (truth_of bits)
     else None)))))
 
+-- the value of a row, where it is one
 abbrev pub value_of : List ℕ → ValueRow → Option Value
 value_of texts row = if row.kind == 1 then option_map Text (text_of texts row.text) else number_of row.kind row.bits
 
@@ -68,6 +70,7 @@ value_of texts row = if row.kind == 1 then option_map Text (text_of texts row.te
 abbrev pub point_of : PointRow → Point
 point_of row = record { x = row.x; y = row.y }
 
+-- the points of a part, where its span lies within them
 abbrev pub line_of : List PointRow → PartRow → Option (List Point)
 line_of points row = option_map (λ rows. map point_of rows) (part_of points row.points)
 
@@ -82,6 +85,7 @@ abbrev pub with_ring : List Polygon → Bool → List Point → Option (List Pol
 with_ring polygons true ring = Some (polygons ++ record { outer = ring; rest = [] } ∷ [])
 with_ring polygons false ring = with_inner polygons ring
 
+-- one ring more: a polygon of its own, or a hole of the last
 abbrev pub with_ring_row : List PointRow → List Polygon → PartRow → Option (List Polygon)
 with_ring_row points polygons row =
     option_and_then (λ ring. option_and_then (λ exterior. with_ring polygons exterior ring) (truth_of row.exterior)) (line_of points row)
@@ -105,11 +109,13 @@ drawn_of points kind parts =
     else (if kind == 3 then option_map Polygons (steps (with_ring_row points) [] parts)
     else None))
 
+-- the geometry of a feature's row, where it is one
 abbrev pub geometry_of : Table → FeatureRow → Option Geometry
 geometry_of t row =
     if row.kind == 0 then option_map Unknown (part_of t.integers row.integers)
     else option_and_then (drawn_of t.points row.kind) (part_of t.parts row.parts)
 
+-- the id of a feature's row; none where it has none
 abbrev pub id_of : FeatureRow → Option (Option ℕ)
 id_of row = option_map (λ has. if has then Some row.id else None) (truth_of row.has_id)
 
@@ -125,9 +131,11 @@ pub record IsFeature (t : Table) (keys : List (List ℕ)) (values : List Value) 
 abbrev pub keys_of : Table → Span → Option (List (List ℕ))
 keys_of t span = option_and_then (each (text_of t.texts)) (part_of t.keys span)
 
+-- the values of a span, where all are some
 abbrev pub values_of : Table → Span → Option (List Value)
 values_of t span = option_and_then (each (value_of t.texts)) (part_of t.values span)
 
+-- a row of a layer of version 2 that is this layer
 pub record IsLayer (t : Table) (row : LayerRow) (layer : ALayer) : Type 0 where
   pub name : text_of t.texts row.name ≡ Some layer.name
   pub extent : layer.extent ≡ row.extent
@@ -139,6 +147,7 @@ pub record IsLayer (t : Table) (row : LayerRow) (layer : ALayer) : Type 0 where
   pub has_rows : part_of t.features row.features ≡ Some rows
   pub features : AreRelated (IsFeature t keys values) rows layer.features
 
+-- a row of a layer that is this item
 abbrev pub IsItem : Table → LayerRow → Item → Type 0
 IsItem t row (Layer layer) = (row.version ≡ 2) × IsLayer t row layer
 IsItem t row (Foreign version content) =

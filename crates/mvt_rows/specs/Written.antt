@@ -13,10 +13,12 @@ use Rattle.mvt_rows.specs.declared.rows_error.RowsError.TheVariants.{Memory, Too
 use Rattle.mvt_rows.specs.Tables.{Table}
 use Rattle.mvt_rows.specs.TileRows.{IsTileOf}
 
+-- tags that can't be resolved make no tile
 abbrev pub of_tags : TagError → RowsError
 of_tags tags.Memory = Memory
 of_tags (tags.Fault index cause) = NoTile
 
+-- an error of writing, as an error of rows
 abbrev pub of_put : PutError → RowsError
 of_put put.Memory = Memory
 of_put put.TooLarge = TooLarge

@@ -13,10 +13,12 @@ outer_fault at cause = record { layer = None; feature = None; at = at; cause = c
 abbrev pub in_layer : ℕ → MessageFault → Fault
 in_layer n fault = record { layer = Some n; feature = fault.feature; at = fault.at; cause = fault.cause }
 
+-- the one cause that more bytes can take back
 abbrev pub is_truncated : Cause → Bool
 is_truncated Truncated = true
 is_truncated _ = false
 
+-- a fault outside layers
 abbrev pub has_no_layer : Option ℕ → Bool
 has_no_layer None = true
 has_no_layer (Some n) = false

@@ -40,6 +40,7 @@ TellsAtEnd Memory fault = ⊤
 TellsAtEnd (Fault f) fault = fault ≡ Some f
 TellsAtEnd (Read kind) fault = ⊥
 
+-- what a decoder holds of a stream: what is live of it, or the error that it keeps
 abbrev pub StandsAs : ℕ → Option DecodeError → Decoding → List ℕ → Type 0
 StandsAs limit None decoder stream = IsLive limit decoder.offset decoder.items decoder.raw stream
 StandsAs limit (Some error) decoder stream = (decoder.raw ≡ []) × TellsEarly error (fault_within limit stream)

@@ -28,6 +28,7 @@ pub record HasVisited (limit : ℕ) (Has : List Item → Type 0) (d : Visiting) 
   pub few : length items ≤ d.offset
   pub live : IsLive limit d.offset items d.raw stream
 
+-- what a decoder holds of a stream: what is live of it, or the error that it keeps
 abbrev pub StandsAs : ℕ → Option DecodeError → (List Item → Type 0) → Visiting → List ℕ → Type 0
 StandsAs limit None Has d stream = HasVisited limit Has d stream
 StandsAs limit (Some error) Has d stream = (d.raw ≡ []) × TellsEarly error (fault_within limit stream)

@@ -31,6 +31,7 @@ told_cause is_longer wire.VarintRange = VarintRange
 told_cause is_longer wire.FieldNumber = FieldNumber
 told_cause is_longer wire.WireType = WireType
 
+-- the fault of a field at the top
 abbrev pub told : Bool → ℕ → WireCause → Fault
 told is_longer at cause = outer_fault at (told_cause is_longer cause)
 
@@ -50,6 +51,7 @@ unfoldable pub fields_fault : ℕ → List ℕ → Option Fault
 fields_fault limit input =
     rest_fault limit (nat_lt limit (length input)) (front_parts limit input).rest_at (front_parts limit input).rest
 
+-- the lines of an input's fields, and its fault
 abbrev pub IsFieldsText : ℕ → List ℕ → FieldsText → Type 0
 IsFieldsText limit input text =
     (string_bytes text.lines ≡ fields_lines limit input) × (text.fault ≡ fields_fault limit input)

@@ -27,6 +27,7 @@ line_to p = codes "L" ++ (signed_decimal p.x ++ (codes " " ++ signed_decimal p.y
 unfoldable pub dot_path : Point → List ℕ
 dot_path p = move_to p ++ codes "h0"
 
+-- a line: moved to its first point, drawn to the others
 abbrev pub line_path : List Point → List ℕ
 line_path [] = []
 line_path (p ∷ ps) = move_to p ++ flat_map line_to ps
@@ -45,6 +46,7 @@ geometry_path (Points ps) = flat_map dot_path ps
 geometry_path (Lines ls) = flat_map line_path ls
 geometry_path (Polygons ps) = flat_map polygon_path ps
 
+-- the class of a geometry in the picture's style
 abbrev pub class_of : Geometry → List ℕ
 class_of (Unknown integers) = codes "unknown"
 class_of (Points ps) = codes "points"

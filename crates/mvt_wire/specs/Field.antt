@@ -14,6 +14,7 @@ pub data Content : Type 0 where
   bytes : List ℕ → Content
   fixed32 : ℕ → Content
 
+-- the numbers of wire types (Protocol Buffers, Encoding)
 abbrev pub wire_type : Content → ℕ
 wire_type (varint n) = 0
 wire_type (fixed64 n) = 1
@@ -68,6 +69,7 @@ content_of (I64 n) = fixed64 n
 content_of (Len d) = bytes d.now
 content_of (I32 n) = fixed32 n
 
+-- a field as contracts see it
 abbrev pub entry_of : Field → Entry
 entry_of f = record { at = f.at; body = f.body; number = f.number; content = content_of f.payload }
 

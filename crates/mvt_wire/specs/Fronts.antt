@@ -22,6 +22,7 @@ going_on (b ∷ bs) = if nat_lt b 128 then 0 else suc (going_on bs)
 abbrev pub number_of : List ℕ → ℕ
 number_of b = groups_from 0 (take (going_on b + 1) b)
 
+-- bytes that begin with a whole varint below 2^64
 abbrev pub has_number : List ℕ → Bool
 has_number b = nat_lt (going_on b) (length b) && (nat_lt (going_on b) 10 && nat_lt (number_of b) (2 ^ 64))
 
@@ -68,6 +69,7 @@ field_with_tag at b tag =
 unfoldable pub entry_at : ℕ → List ℕ → Result (Entry × ℕ) WireCause
 entry_at at b = number_at b >>= field_with_tag at b
 
+-- the cause of an error; Truncated stands for none
 abbrev pub cause_of : {A : Type 0} → Result A WireCause → WireCause
 cause_of (Ok a) = Truncated
 cause_of (Err e) = e

@@ -14,6 +14,7 @@ abbrev pub load_of : Result Loaded WireCause → Result Load WireCause
 load_of (Ok l) = Ok (record { content = content_of l.payload; start = l.start; size = l.size })
 load_of (Err cause) = Err cause
 
+-- a field that was found, as contracts see it
 abbrev pub found_of : Result (Field × ℕ) WireCause → Result (Entry × ℕ) WireCause
 found_of (Ok found) = Ok (entry_of found.0, found.1)
 found_of (Err cause) = Err cause

@@ -45,6 +45,7 @@ pub data PackedCause : Type 0 where
 abbrev pub number_cause : List ℕ → PackedCause
 number_cause rest = if nat_lt (length rest) 10 then truncated else varint_range
 
+-- no bytes are left
 abbrev pub is_nil : List ℕ → Bool
 is_nil [] = true
 is_nil (b ∷ bs) = false

@@ -6,6 +6,7 @@ use Rattle.mvt_wire.specs.Varint.{short}
 use Rattle.mvt_wire.specs.Field.{Content, varint, fixed64, bytes, fixed32, wire_type, Entry}
 use Rattle.mvt_wire.specs.Split.{Whole}
 
+-- a payload in its shortest spelling
 abbrev pub short_payload : Content → List ℕ
 short_payload (varint n) = short n
 short_payload (fixed64 n) = little_bytes 8 n
@@ -24,6 +25,7 @@ pub record Plain : Type 0 where
   pub number : ℕ
   pub content : Content
 
+-- a field without its place
 abbrev pub plain_of : Entry → Plain
 plain_of e = record { number = e.number; content = e.content }
 
@@ -42,6 +44,7 @@ FitsContent (fixed64 n) = n < 2 ^ 64
 FitsContent (bytes d) = length d < 2 ^ 64
 FitsContent (fixed32 n) = n < 2 ^ 32
 
+-- a field that can be written: its number is in range and its payload fits
 pub record IsFit (f : Plain) : Type 0 where
   pub first : 1 ≤ f.number
   pub last : f.number < 2 ^ 29

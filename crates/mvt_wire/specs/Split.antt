@@ -9,6 +9,7 @@ SplitFrom at b [] rest = (b ≡ rest) × StartsNoField rest
 SplitFrom at b (e ∷ es) rest =
     (front back : List ℕ) × (b ≡ front ++ back) × IsFieldAt at front e × SplitFrom (at + length front) back es rest
 
+-- bytes are these fields in order, and a rest that is no field
 abbrev pub Split : List ℕ → List Entry → List ℕ → Type 0
 Split b es rest = SplitFrom 0 b es rest
 
@@ -40,6 +41,7 @@ split_within (suc n) at b =
 unfoldable pub split_from : ℕ → List ℕ → Parts
 split_from at b = split_within (length b) at b
 
+-- the fields of bytes, and their rest
 abbrev pub split : List ℕ → Parts
 split b = split_from 0 b
 
@@ -47,5 +49,6 @@ split b = split_from 0 b
 abbrev pub shifted : ℕ → Entry → Entry
 shifted k e = record { at = k + e.at; body = k + e.body; number = e.number; content = e.content }
 
+-- the same fields, k bytes further on
 abbrev pub shifted_parts : ℕ → Parts → Parts
 shifted_parts k parts = record { fields = map (shifted k) parts.fields; rest_at = k + parts.rest_at; rest = parts.rest }

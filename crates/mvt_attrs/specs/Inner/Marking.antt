@@ -31,6 +31,7 @@ abbrev pub IsMarked : List (List ℕ) → List ℕ → List ℕ → ℕ → List
 IsMarked texts places marks turn attributes =
     (i : ℕ) (text : List ℕ) → slice_get texts i ≡ Some text → (slice_index marks (slice_index places i) == turn) ≡ has_key text attributes
 
+-- no place has a mark as high as n
 abbrev pub AreBelow : List ℕ → ℕ → Type 0
 AreBelow marks n = (i : ℕ) → slice_index marks i < n
 

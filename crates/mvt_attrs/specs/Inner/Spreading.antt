@@ -14,6 +14,7 @@ slot_by write finish state input room x = bit_and (finish (fold write state (inp
 abbrev pub first_slot : {T : Type 0} → (T → List (List ℕ)) → ℕ → T → ℕ
 first_slot = slot_by folding.write folding.finish folding.initial
 
+-- the slot by the hash that costs more
 abbrev pub second_slot : {T : Type 0} → (T → List (List ℕ)) → ℕ → T → ℕ
 second_slot = slot_by sip.write sip.finish sip.initial
 

@@ -6,6 +6,7 @@ use Rattle.mvt_geometry.specs.Shape.{IsPlace, origin}
 use Rattle.mvt_geometry.specs.Valid.{IsStroke}
 use Rattle.mvt_geometry.specs.Drawing.{stroke, strokes}
 
+-- positions that fit in their range
 abbrev pub ArePlaces : List Point → Type 0
 ArePlaces points = AllByRecursion IsPlace points
 

@@ -16,6 +16,7 @@ with_ring ring groups =
     if lt_z (pos 0) (area2 ring) then record { inner = []; polygons = record { outer = ring; rest = groups.inner } ∷ groups.polygons }
     else record { inner = ring ∷ groups.inner; polygons = groups.polygons }
 
+-- rings as polygons, each begun by an exterior ring
 abbrev pub groups_of : List (List Point) → Groups
 groups_of [] = record { inner = []; polygons = [] }
 groups_of (ring ∷ rings) = with_ring ring (groups_of rings)
@@ -24,6 +25,7 @@ groups_of (ring ∷ rings) = with_ring ring (groups_of rings)
 abbrev pub opened : List Point → List (List Point) → List (List Point) → List Polygon
 opened outer rest rings = record { outer = outer; rest = rest ++ (groups_of rings).inner } ∷ (groups_of rings).polygons
 
+-- the polygons of rings whose first is exterior
 abbrev pub polygons_of : List (List Point) → List Polygon
 polygons_of [] = []
 polygons_of (ring ∷ rings) = opened ring [] rings

@@ -16,6 +16,7 @@ use Rattle.mvt_geometry.specs.Inner.Judging.{Reached}
 abbrev pub pair_between : Point → Point → Pair
 pair_between p q = record { dx = zig (q.x -ℤ p.x); dy = zig (q.y -ℤ p.y) }
 
+-- the parameters that lead from a cursor along points
 abbrev pub pairs_between : Point → List Point → List Pair
 pairs_between c [] = []
 pairs_between c (p ∷ points) = pair_between c p ∷ pairs_between p points

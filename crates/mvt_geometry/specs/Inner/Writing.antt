@@ -12,5 +12,6 @@ pub record IsShort (points : List Point) : Type 0 where
   pub some : 0 < length points
   pub few : length points ≤ 2 ^ 29
 
+-- no line has more points than a command can count
 abbrev pub AreShort : List (List Point) → Type 0
 AreShort lines = AllByRecursion IsShort lines

@@ -11,6 +11,7 @@ use Rattle.mvt_tile.specs.declared.rewriting.Rewriter.{Rewriter}
 use Rattle.mvt_tile.specs.Inner.Judging.{AreNamed}
 use Rattle.mvt_tile.specs.TileRules.{repeats}
 
+-- the names that are wanted, if only some are
 abbrev pub names_of : Option (BTreeSet (List ℕ)) → Option (List (List ℕ))
 names_of wanted = option_map keys wanted
 
@@ -19,6 +20,7 @@ abbrev pub is_in : Option (List (List ℕ)) → Item → Bool
 is_in None item = true
 is_in (Some names) item = repeats names (names_in item)
 
+-- every item is wanted
 abbrev pub all_items : Item → Bool
 all_items item = true
 
