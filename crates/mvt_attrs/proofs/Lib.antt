@@ -7,7 +7,7 @@ mod TagLemmas
 mod ResolvedLemmas
 mod PlaceLemmas
 mod PlacingLemmas
-mod SpreadLemmas
+mod TwoChoicesLemmas
 mod OrderedLemmas
 mod JudgingLemmas
 mod UsesLemmas

@@ -2,4 +2,4 @@
 pub mod Finding
 pub mod Found
 pub mod Marking
-pub mod Spreading
+pub mod Choosing

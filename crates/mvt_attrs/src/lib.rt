@@ -3,7 +3,7 @@
 #![tactic(auto)]
 
 mod entry;
-mod finder;
+mod entry_index;
 mod judging;
 mod key_pool;
 pub mod laws;
@@ -12,8 +12,8 @@ mod placing;
 mod pool;
 mod pool_error;
 mod resolving;
-mod spot;
-mod spread;
+mod lookup;
+mod two_choices;
 mod uses;
 mod value;
 mod value_pool;

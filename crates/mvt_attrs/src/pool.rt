@@ -5,10 +5,10 @@ ghost use Rattle.mvt_attrs.specs.Inner.Finding.{Knows, IsRoomFor};
 ghost use Rattle.mvt_attrs.specs.Placed.{IsPlaced};
 
 use crate::entry::Entry;
-use crate::finder::{Finder, find, note};
+use crate::entry_index::{EntryIndex, find, note};
 use crate::pool_error::PoolError;
-use crate::spot::Spot;
-use crate::spread::is_at;
+use crate::lookup::Lookup;
+use crate::two_choices::is_at;
 use mvt_base::LIMIT;
 use std::alloc::{AllocError, Global};
 use std::marker::Model;
@@ -24,7 +24,7 @@ const FIRST_ROOM: usize = 16;
 #[derive(Drop)]
 pub struct Pool<T: Entry> {
     entries: Vec<T>,
-    finder: Finder<T>,
+    entry_index: EntryIndex<T>,
 }
 
 impl<T: Entry> Model for Pool<T> {
@@ -38,7 +38,7 @@ impl<T: Entry> Model for Pool<T> {
     ghost view = { λ p. p.entries.items };
 
     ghost invariant = { λ p. (length p.entries.items ≤ LIMIT) × AreDistinct p.entries.items
-        × Knows T.cmp T.hash_input p.finder p.entries.items };
+        × Knows T.cmp T.hash_input p.entry_index p.entries.items };
 }
 
 impl<T: Entry> Pool<T> {
@@ -48,7 +48,7 @@ impl<T: Entry> Pool<T> {
     {
         Pool {
             entries: Vec::new(alloc),
-            finder: Finder::Plain,
+            entry_index: EntryIndex::Plain,
         }
     }
 
@@ -91,15 +91,15 @@ impl<T: Entry> Pool<T> {
     pub fn place(&mut self, entry: &T) -> Result<u32, PoolError>
         ensures { IsPlaced self.old self.new entry.now result }
     {
-        let slot = match find(&self.finder, &self.entries, entry) {
-            Spot::Found(place) => return Ok(place as u32),
-            Spot::New { slot } => slot,
+        let slot = match find(&self.entry_index, &self.entries, entry) {
+            Lookup::Found(place) => return Ok(place as u32),
+            Lookup::New { slot } => slot,
         };
         let index = self.entries.len();
         if index as u64 == LIMIT {
             return Err(PoolError::Full);
         }
-        append(&mut self.entries, &mut self.finder, entry, slot)?;
+        append(&mut self.entries, &mut self.entry_index, entry, slot)?;
         Ok(index as u32)
     }
 
@@ -119,24 +119,24 @@ impl<T: Entry> Pool<T> {
 
 fn append<T: Entry>(
     entries: &mut Vec<T>,
-    finder: &mut Finder<T>,
+    entry_index: &mut EntryIndex<T>,
     entry: &T,
     slot: Option<usize>,
 ) -> Result<(), AllocError>
-    requires known { Knows T.cmp T.hash_input finder.old entries.old.items }
+    requires known { Knows T.cmp T.hash_input entry_index.old entries.old.items }
     requires distinct { AreDistinct entries.old.items }
     requires new { ¬ (Contains entries.old.items entry.now) }
-    requires room { IsRoomFor T.hash_input finder.old entry.now slot }
+    requires room { IsRoomFor T.hash_input entry_index.old entry.now slot }
     requires few { length entries.old.items < LIMIT }
     ensures added { OnOk result (entries.new.items ≡ entries.old.items ++ entry.now ∷ []) }
     ensures distinct { AreDistinct entries.new.items }
     ensures unchanged { OnErr result (entries.new.items ≡ entries.old.items) }
-    ensures known { Knows T.cmp T.hash_input finder.new entries.new.items }
+    ensures known { Knows T.cmp T.hash_input entry_index.new entries.new.items }
 {
     let alloc = *entries.allocator();
     let copy = entry.copied(alloc)?;
     entries.reserve(if entries.is_empty() { FIRST_ROOM } else { 1 })?;
-    note(alloc, finder, entries, entry, slot)?;
+    note(alloc, entry_index, entries, entry, slot)?;
     entries.push_reserved(copy);
     Ok(())
 }

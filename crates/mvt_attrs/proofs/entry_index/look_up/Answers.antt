@@ -1,5 +1,5 @@
 use Rattle.mvt_attrs.proofs.PoolLemmas as pools
-use Rattle.mvt_attrs.proofs.finder.look_up.Goals as goal
+use Rattle.mvt_attrs.proofs.entry_index.look_up.Goals as goal
 
 pub returns : goal.returns
 returns g c =

@@ -1,12 +1,12 @@
 //! How the place of an entry is found in a pool.
 ghost use Rattle.std.specs.Prelude.{◌≡◌, ◌<◌, ◌+◌, ◌^◌, ◌++◌, ◌∷◌, [], ℕ, length, take, Contains, IfOk, OnOk, OnErr};
 ghost use Rattle.mvt_attrs.specs.FirstUse.{AreDistinct};
-ghost use Rattle.mvt_attrs.specs.Inner.Found.{IsPlaceOf, IsSpotOf};
+ghost use Rattle.mvt_attrs.specs.Inner.Found.{IsPlaceOf, IsLookupOf};
 ghost use Rattle.mvt_attrs.specs.Inner.Finding.{Knows, IsRoomFor};
 
 use crate::entry::Entry;
-use crate::spot::Spot;
-use crate::spread::{Spread, add_spread, find_spread, note_spread, spread_all};
+use crate::lookup::Lookup;
+use crate::two_choices::{TwoChoices, add_two_choices, find_two_choices, note_two_choices, two_choices_all};
 use indexmap::IndexSet;
 use std::alloc::{AllocError, Global};
 
@@ -18,26 +18,26 @@ const LEAST_ROOM: usize = 4;
 
 /// Where the entries of a pool stand.
 #[derive(Drop)]
-pub enum Finder<T: Entry> {
+pub enum EntryIndex<T: Entry> {
     /// Few entries are searched one by one.
     Plain,
     Hashed(IndexSet<T>),
-    Spread(Spread<T>),
+    TwoChoices(TwoChoices<T>),
 }
 
 /// Where an entry stands, or can be noted.
-pub(crate) fn find<T: Entry>(finder: &Finder<T>, entries: &[T], entry: &T) -> Spot
-    requires { Knows T.cmp T.hash_input finder.now entries.now }
-    ensures { IsSpotOf entries.now entry.now (IsRoomFor T.hash_input finder.now entry.now) result }
+pub(crate) fn find<T: Entry>(entry_index: &EntryIndex<T>, entries: &[T], entry: &T) -> Lookup
+    requires { Knows T.cmp T.hash_input entry_index.now entries.now }
+    ensures { IsLookupOf entries.now entry.now (IsRoomFor T.hash_input entry_index.now entry.now) result }
 {
-    let place = match finder {
-        Finder::Plain => search(entries, entry),
-        Finder::Hashed(places) => look_up(places, entry),
-        Finder::Spread(spread) => return find_spread(spread, entries, entry),
+    let place = match entry_index {
+        EntryIndex::Plain => search(entries, entry),
+        EntryIndex::Hashed(places) => look_up(places, entry),
+        EntryIndex::TwoChoices(two_choices) => return find_two_choices(two_choices, entries, entry),
     };
     match place {
-        Some(place) => Spot::Found(place),
-        None => Spot::New { slot: None },
+        Some(place) => Lookup::Found(place),
+        None => Lookup::New { slot: None },
     }
 }
 
@@ -62,36 +62,36 @@ fn look_up<T: Entry>(places: &IndexSet<T>, entry: &T) -> Option<usize>
 /// Notes that an entry will stand behind these.
 pub(crate) fn note<T: Entry>(
     alloc: Global,
-    finder: &mut Finder<T>,
+    entry_index: &mut EntryIndex<T>,
     entries: &[T],
     entry: &T,
     slot: Option<usize>,
 ) -> Result<(), AllocError>
-    requires known { Knows T.cmp T.hash_input finder.old entries.now }
+    requires known { Knows T.cmp T.hash_input entry_index.old entries.now }
     requires distinct { AreDistinct entries.now }
     requires new { ¬ (Contains entries.now entry.now) }
-    requires room { IsRoomFor T.hash_input finder.old entry.now slot }
+    requires room { IsRoomFor T.hash_input entry_index.old entry.now slot }
     requires few { length entries.now + 1 < 2 ^ 32 }
-    ensures added { OnOk result (Knows T.cmp T.hash_input finder.new
+    ensures added { OnOk result (Knows T.cmp T.hash_input entry_index.new
         (entries.now ++ entry.now ∷ [])) }
-    ensures unchanged { OnErr result (Knows T.cmp T.hash_input finder.new entries.now) }
+    ensures unchanged { OnErr result (Knows T.cmp T.hash_input entry_index.new entries.now) }
 {
-    if is_outgrown(finder, entries.len()) {
-        return outgrow(alloc, finder, entries, entry);
+    if is_outgrown(entry_index, entries.len()) {
+        return outgrow(alloc, entry_index, entries, entry);
     }
-    match finder {
-        Finder::Plain => Ok(()),
-        Finder::Hashed(places) => add_hashed(places, entry.copied(alloc)?),
-        Finder::Spread(spread) => note_spread(alloc, spread, entries, entry, slot),
+    match entry_index {
+        EntryIndex::Plain => Ok(()),
+        EntryIndex::Hashed(places) => add_hashed(places, entry.copied(alloc)?),
+        EntryIndex::TwoChoices(two_choices) => note_two_choices(alloc, two_choices, entries, entry, slot),
     }
 }
 
 /// Whether `count` entries are too many for this form.
-fn is_outgrown<T: Entry>(finder: &Finder<T>, count: usize) -> bool {
-    match finder {
-        Finder::Plain => count >= FEW,
-        Finder::Hashed(_) => count >= T::most_hashed(),
-        Finder::Spread(spread) => count >= spread.slots.len() / LEAST_ROOM,
+fn is_outgrown<T: Entry>(entry_index: &EntryIndex<T>, count: usize) -> bool {
+    match entry_index {
+        EntryIndex::Plain => count >= FEW,
+        EntryIndex::Hashed(_) => count >= T::most_hashed(),
+        EntryIndex::TwoChoices(two_choices) => count >= two_choices.slots.len() / LEAST_ROOM,
     }
 }
 
@@ -99,37 +99,37 @@ fn is_outgrown<T: Entry>(finder: &Finder<T>, count: usize) -> bool {
 #[inline(never)]
 fn outgrow<T: Entry>(
     alloc: Global,
-    finder: &mut Finder<T>,
+    entry_index: &mut EntryIndex<T>,
     entries: &[T],
     entry: &T,
 ) -> Result<(), AllocError>
     requires distinct { AreDistinct entries.now }
     requires new { ¬ (Contains entries.now entry.now) }
     requires few { length entries.now + 1 < 2 ^ 32 }
-    ensures added { OnOk result (Knows T.cmp T.hash_input finder.new
+    ensures added { OnOk result (Knows T.cmp T.hash_input entry_index.new
         (entries.now ++ entry.now ∷ [])) }
-    ensures unchanged { OnErr result (finder.new ≡ finder.old) }
+    ensures unchanged { OnErr result (entry_index.new ≡ entry_index.old) }
 {
-    *finder = grown(alloc, entries, entry)?;
+    *entry_index = grown(alloc, entries, entry)?;
     Ok(())
 }
 
 /// The form for these entries and a new one behind them.
-fn grown<T: Entry>(alloc: Global, entries: &[T], entry: &T) -> Result<Finder<T>, AllocError>
+fn grown<T: Entry>(alloc: Global, entries: &[T], entry: &T) -> Result<EntryIndex<T>, AllocError>
     requires distinct { AreDistinct entries.now }
     requires new { ¬ (Contains entries.now entry.now) }
     requires few { length entries.now + 1 < 2 ^ 32 }
-    ensures { IfOk result (λ finder. Knows T.cmp T.hash_input finder
+    ensures { IfOk result (λ entry_index. Knows T.cmp T.hash_input entry_index
         (entries.now ++ entry.now ∷ [])) }
 {
     if entries.len() < T::most_hashed() {
         let mut places = hashed(alloc, entries)?;
         add_hashed(&mut places, entry.copied(alloc)?)?;
-        return Ok(Finder::Hashed(places));
+        return Ok(EntryIndex::Hashed(places));
     }
-    let mut spread = spread_all(alloc, entries)?;
-    add_spread(alloc, &mut spread, entries, entry)?;
-    Ok(Finder::Spread(spread))
+    let mut two_choices = two_choices_all(alloc, entries)?;
+    add_two_choices(alloc, &mut two_choices, entries, entry)?;
+    Ok(EntryIndex::TwoChoices(two_choices))
 }
 
 /// These entries, and room for as many as are hashed.

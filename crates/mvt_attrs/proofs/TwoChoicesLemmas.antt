@@ -2,7 +2,7 @@
 use Rattle.std.proofs.Common.{◌≡◌, ◌≢◌, ℕ, zero, suc, ◌+◌, Bool, ◌⊎◌, List, [], ◌∷◌, ◌++◌, length, Option, Some, Contains, Decides, slice_get, slice_index, slice_set, cond, inl, inr, refl, sym, ap, subst, ◌∙◌, arith}
 use Rattle.std.proofs.lemmas.Bool.{cond_both, both_ways}
 use Rattle.std.proofs.lemmas.List.{get_or-set_same, get_or-set_other}
-use Rattle.mvt_attrs.specs.Inner.Spreading.{IsOfOr, IsFreeSlot}
+use Rattle.mvt_attrs.specs.Inner.Choosing.{IsOfOr, IsFreeSlot}
 use Rattle.mvt_attrs.proofs.PoolLemmas.{last_there, slice_get-front}
 use Rattle.mvt_attrs.proofs.PlacingLemmas.{contains_at}
 

@@ -1,5 +1,5 @@
 use Rattle.mvt_attrs.proofs.PoolLemmas.{inserted}
-use Rattle.mvt_attrs.proofs.finder.add_hashed.Goals as goal
+use Rattle.mvt_attrs.proofs.entry_index.add_hashed.Goals as goal
 
 pub returns-clause-added : goal.returns-clause-added
 returns-clause-added g c =

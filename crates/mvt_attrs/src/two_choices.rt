@@ -2,11 +2,11 @@
 //! entry has a second slot by another hash, and an entry that finds both taken is kept in order.
 ghost use Rattle.std.specs.Prelude.{◌≡◌, ◌≢◌, ◌<◌, ◌↔◌, ◌+◌, ◌-◌, ◌^◌, ◌++◌, ◌∷◌, [], Some, None, length, slice_get, slice_index, Contains, IsTrue, IfOk, OnOk, OnErr};
 ghost use Rattle.mvt_attrs.specs.FirstUse.{AreDistinct};
-ghost use Rattle.mvt_attrs.specs.Inner.Found.{IsSpotOf, IsToldBy};
-ghost use Rattle.mvt_attrs.specs.Inner.Spreading.{first_slot, slot_by, IsSpread, IsFreeFor};
+ghost use Rattle.mvt_attrs.specs.Inner.Found.{IsLookupOf, IsToldBy};
+ghost use Rattle.mvt_attrs.specs.Inner.Choosing.{first_slot, slot_by, IsTwoChoices, IsFreeFor};
 
 use crate::entry::Entry;
-use crate::spot::Spot;
+use crate::lookup::Lookup;
 use std::alloc::{AllocError, Global};
 use std::collections::BTreeMap;
 use std::hash::{DefaultHasher, FoldHasher, Hash, Hasher};
@@ -15,61 +15,61 @@ use std::hash::{DefaultHasher, FoldHasher, Hash, Hasher};
 const ROOM: usize = 16;
 
 /// A slot holds the place of an entry, counted from 1, or 0 where it is free. An entry is in the
-/// first of its two slots that was free when it came, or in `crowded`.
+/// first of its two slots that was free when it came, or in `overflow`.
 #[derive(Drop)]
-pub struct Spread<T: Entry> {
+pub struct TwoChoices<T: Entry> {
     pub(crate) slots: Vec<u32>,
-    pub(crate) crowded: BTreeMap<T, u32>,
+    pub(crate) overflow: BTreeMap<T, u32>,
 }
 
 /// Where an entry stands, or the slot that it can take. Its first slot is by a cheap hash.
 #[inline(always)]
-pub(crate) fn find_spread<T: Entry>(spread: &Spread<T>, entries: &[T], entry: &T) -> Spot
-    requires { IsSpread T.cmp T.hash_input spread.now entries.now }
-    ensures { IsSpotOf entries.now entry.now (IsFreeFor T.hash_input spread.now entry.now) result }
+pub(crate) fn find_two_choices<T: Entry>(two_choices: &TwoChoices<T>, entries: &[T], entry: &T) -> Lookup
+    requires { IsTwoChoices T.cmp T.hash_input two_choices.now entries.now }
+    ensures { IsLookupOf entries.now entry.now (IsFreeFor T.hash_input two_choices.now entry.now) result }
 {
-    let slots = spread.slots.as_slice();
+    let slots = two_choices.slots.as_slice();
     let mut state = FoldHasher::default();
     let first = slot_of(entry, &mut state, slots.len());
     match told_by(slots, first, entries, entry) {
-        Some(spot) => spot,
-        None => find_second(spread, entries, entry),
+        Some(lookup) => lookup,
+        None => find_second(two_choices, entries, entry),
     }
 }
 
 /// The same of an entry whose first slot is another's: its second is by a hash that costs more.
 #[inline(never)]
-fn find_second<T: Entry>(spread: &Spread<T>, entries: &[T], entry: &T) -> Spot
-    requires known { IsSpread T.cmp T.hash_input spread.now entries.now }
-    requires first { IsToldBy spread.now.slots.items
-        (first_slot T.hash_input (length spread.now.slots.items) entry.now) entries.now entry.now
+fn find_second<T: Entry>(two_choices: &TwoChoices<T>, entries: &[T], entry: &T) -> Lookup
+    requires known { IsTwoChoices T.cmp T.hash_input two_choices.now entries.now }
+    requires first { IsToldBy two_choices.now.slots.items
+        (first_slot T.hash_input (length two_choices.now.slots.items) entry.now) entries.now entry.now
         None }
-    ensures { IsSpotOf entries.now entry.now (IsFreeFor T.hash_input spread.now entry.now) result }
+    ensures { IsLookupOf entries.now entry.now (IsFreeFor T.hash_input two_choices.now entry.now) result }
 {
-    let slots = spread.slots.as_slice();
+    let slots = two_choices.slots.as_slice();
     let mut state = DefaultHasher::new();
     let second = slot_of(entry, &mut state, slots.len());
-    if let Some(spot) = told_by(slots, second, entries, entry) {
-        return spot;
+    if let Some(lookup) = told_by(slots, second, entries, entry) {
+        return lookup;
     }
-    match spread.crowded.get(entry) {
-        Some(place) => Spot::Found(*place as usize),
-        None => Spot::New { slot: None },
+    match two_choices.overflow.get(entry) {
+        Some(place) => Lookup::Found(*place as usize),
+        None => Lookup::New { slot: None },
     }
 }
 
 /// What a slot tells of an entry; nothing where it is another's.
 #[inline(always)]
-fn told_by<T: Entry>(slots: &[u32], slot: usize, entries: &[T], entry: &T) -> Option<Spot>
+fn told_by<T: Entry>(slots: &[u32], slot: usize, entries: &[T], entry: &T) -> Option<Lookup>
     requires { slot < length slots.now }
     ensures { IsToldBy slots.now slot entries.now entry.now result }
 {
     let mark = slots[slot] as usize;
     if mark == 0 {
-        return Some(Spot::New { slot: Some(slot) });
+        return Some(Lookup::New { slot: Some(slot) });
     }
     if is_at(entries, mark - 1, entry) {
-        return Some(Spot::Found(mark - 1));
+        return Some(Lookup::Found(mark - 1));
     }
     None
 }
@@ -85,63 +85,63 @@ pub(crate) fn is_at<T: Entry>(entries: &[T], index: usize, entry: &T) -> bool
 }
 
 /// Slots for these entries.
-pub(crate) fn spread_all<T: Entry>(alloc: Global, entries: &[T]) -> Result<Spread<T>, AllocError>
+pub(crate) fn two_choices_all<T: Entry>(alloc: Global, entries: &[T]) -> Result<TwoChoices<T>, AllocError>
     requires distinct { AreDistinct entries.now }
     requires few { length entries.now + 1 < 2 ^ 32 }
-    ensures { IfOk result (λ spread. IsSpread T.cmp T.hash_input spread entries.now) }
+    ensures { IfOk result (λ two_choices. IsTwoChoices T.cmp T.hash_input two_choices entries.now) }
 {
     let room = (entries.len() * ROOM).next_power_of_two();
-    let mut spread = Spread {
+    let mut two_choices = TwoChoices {
         slots: vec![in alloc; 0; room]?,
-        crowded: BTreeMap::new(alloc),
+        overflow: BTreeMap::new(alloc),
     };
     for index in 0..entries.len() {
-        add_spread(alloc, &mut spread, &entries[..index], &entries[index])?;
+        add_two_choices(alloc, &mut two_choices, &entries[..index], &entries[index])?;
     }
-    Ok(spread)
+    Ok(two_choices)
 }
 
 /// Finds a slot for a new entry that will stand behind these, and notes it.
-pub(crate) fn add_spread<T: Entry>(
+pub(crate) fn add_two_choices<T: Entry>(
     alloc: Global,
-    spread: &mut Spread<T>,
+    two_choices: &mut TwoChoices<T>,
     entries: &[T],
     entry: &T,
 ) -> Result<(), AllocError>
-    requires known { IsSpread T.cmp T.hash_input spread.old entries.now }
+    requires known { IsTwoChoices T.cmp T.hash_input two_choices.old entries.now }
     requires new { ¬ (Contains entries.now entry.now) }
     requires few { length entries.now + 1 < 2 ^ 32 }
-    ensures added { OnOk result (IsSpread T.cmp T.hash_input spread.new
+    ensures added { OnOk result (IsTwoChoices T.cmp T.hash_input two_choices.new
         (entries.now ++ entry.now ∷ [])) }
-    ensures unchanged { OnErr result (IsSpread T.cmp T.hash_input spread.new entries.now) }
+    ensures unchanged { OnErr result (IsTwoChoices T.cmp T.hash_input two_choices.new entries.now) }
 {
-    match find_spread(spread, entries, entry) {
-        Spot::Found(_) => Ok(()),
-        Spot::New { slot } => note_spread(alloc, spread, entries, entry, slot),
+    match find_two_choices(two_choices, entries, entry) {
+        Lookup::Found(_) => Ok(()),
+        Lookup::New { slot } => note_two_choices(alloc, two_choices, entries, entry, slot),
     }
 }
 
 /// Notes a new entry that will stand behind these in its free slot, or in order.
 #[inline(always)]
-pub(crate) fn note_spread<T: Entry>(
+pub(crate) fn note_two_choices<T: Entry>(
     alloc: Global,
-    spread: &mut Spread<T>,
+    two_choices: &mut TwoChoices<T>,
     entries: &[T],
     entry: &T,
     slot: Option<usize>,
 ) -> Result<(), AllocError>
-    requires known { IsSpread T.cmp T.hash_input spread.old entries.now }
+    requires known { IsTwoChoices T.cmp T.hash_input two_choices.old entries.now }
     requires new { ¬ (Contains entries.now entry.now) }
-    requires free { IsFreeFor T.hash_input spread.old entry.now slot }
+    requires free { IsFreeFor T.hash_input two_choices.old entry.now slot }
     requires few { length entries.now + 1 < 2 ^ 32 }
-    ensures added { OnOk result (IsSpread T.cmp T.hash_input spread.new
+    ensures added { OnOk result (IsTwoChoices T.cmp T.hash_input two_choices.new
         (entries.now ++ entry.now ∷ [])) }
-    ensures unchanged { OnErr result (IsSpread T.cmp T.hash_input spread.new entries.now) }
+    ensures unchanged { OnErr result (IsTwoChoices T.cmp T.hash_input two_choices.new entries.now) }
 {
     let Some(slot) = slot else {
-        return note_in_order(alloc, spread, entries, entry);
+        return note_in_order(alloc, two_choices, entries, entry);
     };
-    spread.slots[slot] = entries.len() as u32 + 1;
+    two_choices.slots[slot] = entries.len() as u32 + 1;
     Ok(())
 }
 
@@ -149,20 +149,20 @@ pub(crate) fn note_spread<T: Entry>(
 #[inline(never)]
 fn note_in_order<T: Entry>(
     alloc: Global,
-    spread: &mut Spread<T>,
+    two_choices: &mut TwoChoices<T>,
     entries: &[T],
     entry: &T,
 ) -> Result<(), AllocError>
-    requires known { IsSpread T.cmp T.hash_input spread.old entries.now }
+    requires known { IsTwoChoices T.cmp T.hash_input two_choices.old entries.now }
     requires new { ¬ (Contains entries.now entry.now) }
-    requires taken { IsFreeFor T.hash_input spread.old entry.now None }
+    requires taken { IsFreeFor T.hash_input two_choices.old entry.now None }
     requires few { length entries.now + 1 < 2 ^ 32 }
-    ensures added { OnOk result (IsSpread T.cmp T.hash_input spread.new
+    ensures added { OnOk result (IsTwoChoices T.cmp T.hash_input two_choices.new
         (entries.now ++ entry.now ∷ [])) }
-    ensures unchanged { OnErr result (IsSpread T.cmp T.hash_input spread.new entries.now) }
+    ensures unchanged { OnErr result (IsTwoChoices T.cmp T.hash_input two_choices.new entries.now) }
 {
-    spread
-        .crowded
+    two_choices
+        .overflow
         .insert(entry.copied(alloc)?, entries.len() as u32)?;
     Ok(())
 }

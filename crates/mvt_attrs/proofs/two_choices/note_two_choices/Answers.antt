@@ -1,22 +1,22 @@
 use Rattle.std.proofs.Common.{◌≡◌, ◌+◌, ◌++◌, ◌∷◌, [], Some, ℕ, length, slice_get, slice_set, sym, subst, arith}
 use Rattle.std.proofs.lemmas.List.{length-set}
 use Rattle.std.specs.BTreeMap.{get}
-use Rattle.mvt_attrs.specs.Inner.Spreading.{first_slot, second_slot, IsFreeFor}
+use Rattle.mvt_attrs.specs.Inner.Choosing.{first_slot, second_slot, IsFreeFor}
 use Rattle.mvt_attrs.proofs.PoolLemmas.{slice_get-front}
-use Rattle.mvt_attrs.proofs.SpreadLemmas.{Stands, known_in_slot}
-use Rattle.mvt_attrs.proofs.spread.note_spread.Goals as goal
+use Rattle.mvt_attrs.proofs.TwoChoicesLemmas.{Stands, known_in_slot}
+use Rattle.mvt_attrs.proofs.two_choices.note_two_choices.Goals as goal
 
 pub returns-clause-added : goal.returns-clause-added
 returns-clause-added g c =
     let input = g.T.Hash.hash_input in
     let entries = c.args.entries.now in
     let entry = c.args.entry.now in
-    let slots = c.args.spread.now.slots.items in
+    let slots = c.args.two_choices.now.slots.items in
     let room = length slots in
-    let order = get g.T.Ord.cmp c.args.spread.now.crowded in
+    let order = get g.T.Ord.cmp c.args.two_choices.now.overflow in
     let slot = c.in-Some.slot in
-    let free : IsFreeFor input c.args.spread.now entry (Some slot) =
-    subst (IsFreeFor input c.args.spread.now entry) c.in-Some.is c.requires.free in
+    let free : IsFreeFor input c.args.two_choices.now entry (Some slot) =
+    subst (IsFreeFor input c.args.two_choices.now entry) c.in-Some.is c.requires.free in
     let marked = slice_set slots slot (length entries + 1) in
     let kept : length marked ≡ room = length-set slots slot (length entries + 1) in
     record {

@@ -1,7 +1,7 @@
 //! Where an entry stands in a pool, or can be noted.
 
 /// What a look-up finds.
-pub(crate) enum Spot {
+pub(crate) enum Lookup {
     /// The place of the entry.
     Found(usize),
     /// The entry is new. Where it has slots, the first of them that is free.
