@@ -34,7 +34,7 @@ uses_none distinct places marks used no_distinct no_places no_marks no_used = re
   room = ap length no_marks ∙ sym (ap length no_distinct);
   marked = λ p i within at. let none = ap length no_distinct in absurd (omega arith);
   once = subst AreDistinct (sym no_used) (λ i j d before within e. omega arith);
-  noted = λ i x at. let none = ap (λ us. slice_get us i) no_used in cc;
+  recorded = λ i x at. let none = ap (λ us. slice_get us i) no_used in cc;
 }
 
 -- one of two entries at the places of a longer list
@@ -109,7 +109,7 @@ module _ {A : Type 0} (distinct : List A) (places marks : List ℕ) (used entrie
     room = uses.room;
     marked = uses.marked;
     once = uses.once;
-    noted = uses.noted;
+    recorded = uses.recorded;
   }
 
   -- one that is new
@@ -122,7 +122,7 @@ module _ {A : Type 0} (distinct : List A) (places marks : List ℕ) (used entrie
     room = omega (arith, length_push marks 0, length_push distinct x, uses.room);
     marked = marked;
     once = uses.once;
-    noted = noted;
+    recorded = recorded;
   }
     where
       marked : (p i : ℕ) → p < length (distinct ++ x ∷ []) → slice_index (marks ++ 0 ∷ []) p ≡ i + 1
@@ -141,10 +141,10 @@ module _ {A : Type 0} (distinct : List A) (places marks : List ℕ) (used entrie
           before ∙ there ∙ sym (slice_get-front distinct (x ∷ []) p (get_or distinct p x) there))
           (cases_eq p (length marks))
 
-      noted : (i : ℕ) (y : A) → slice_get used i ≡ Some y
+      recorded : (i : ℕ) (y : A) → slice_get used i ≡ Some y
           → (p : ℕ) × (slice_get (distinct ++ x ∷ []) p ≡ Some y) × (slice_index (marks ++ 0 ∷ []) p ≢ 0)
-      noted i y at_i =
-          let before = uses.noted i y at_i in
+      recorded i y at_i =
+          let before = uses.recorded i y at_i in
           let small : before.0 < length marks = omega (arith, uses.room, slice_get_within distinct before.0 y before.1) in (
             before.0,
             slice_get-front distinct (x ∷ []) before.0 y before.1,
@@ -184,9 +184,9 @@ module _ {A : Type 0} (distinct : List A) (places marks : List ℕ) (used entrie
   -- where there is none, it isn't
   pub not_used : slice_index marks (slice_index places entry) ≡ 0 → Contains used x → ⊥
   not_used none (i, within, is) =
-      let noted = uses.noted i x (slice_get-get_or used i x within ∙ ap Some is) in
-      let one = one_place distinct noted.0 (slice_index places entry) x uses.apart noted.1 stands in
-      noted.2 (ap (slice_index marks) one ∙ none)
+      let recorded = uses.recorded i x (slice_get-get_or used i x within ∙ ap Some is) in
+      let one = one_place distinct recorded.0 (slice_index places entry) x uses.apart recorded.1 stands in
+      recorded.2 (ap (slice_index marks) one ∙ none)
 
   within : slice_index places entry < length marks
   within = omega (arith, uses.room, slice_get_within distinct (slice_index places entry) x stands)
@@ -223,11 +223,11 @@ module _ {A : Type 0} (distinct : List A) (places marks : List ℕ) (used entrie
       (λ (ne : q ≡ slice_index places entry → ⊥). marked (sym (mark_there q ne) ∙ e))
       (cases_eq q (slice_index places entry))
 
-  noted_more : (i : ℕ) (y : A) → slice_get (used ++ x ∷ []) i ≡ Some y
+  recorded_more : (i : ℕ) (y : A) → slice_get (used ++ x ∷ []) i ≡ Some y
       → (q : ℕ) × (slice_get distinct q ≡ Some y) × (slice_index (set marks (slice_index places entry) (length used + 1)) q ≢ 0)
-  noted_more i y at_i =
+  recorded_more i y at_i =
       elim (push_cases used x y i at_i) [
-        | inl front ↦ (let before = uses.noted i y front in (before.0, before.1, still_marked before.0 before.2))
+        | inl front ↦ (let before = uses.recorded i y front in (before.0, before.1, still_marked before.0 before.2))
         | inr last ↦ (
           slice_index places entry,
           stands ∙ ap Some last.1,
@@ -245,7 +245,7 @@ module _ {A : Type 0} (distinct : List A) (places marks : List ℕ) (used entrie
     room = length-set marks (slice_index places entry) (length used + 1) ∙ uses.room;
     marked = marked_more;
     once = distinct_more used x uses.once (not_used none);
-    noted = noted_more;
+    recorded = recorded_more;
   }
 
 -- what was read of a list

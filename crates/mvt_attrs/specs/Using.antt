@@ -18,7 +18,7 @@ pub record AreUses {A : Type 0} (distinct : List A) (places marks : List ℕ) (u
   pub room : length marks ≡ length distinct
   pub marked : (p i : ℕ) → p < length distinct → slice_index marks p ≡ i + 1 → slice_get used i ≡ slice_get distinct p
   pub once : AreDistinct used
-  pub noted : (i : ℕ) (x : A) → slice_get used i ≡ Some x
+  pub recorded : (i : ℕ) (x : A) → slice_get used i ≡ Some x
       → (p : ℕ) × (slice_get distinct p ≡ Some x) × (slice_index marks p ≢ 0)
 
 abbrev pub AreUsesOf : {A : Type 0} → Uses A → List A → Type 0

@@ -6,7 +6,7 @@ ghost use Rattle.mvt_attrs.specs.Inner.Finding.{Knows, IsRoomFor};
 
 use crate::entry::Entry;
 use crate::lookup::Lookup;
-use crate::two_choices::{TwoChoices, add_two_choices, find_two_choices, note_two_choices, two_choices_all};
+use crate::two_choices::{TwoChoices, add_two_choices, find_two_choices, record_two_choices, two_choices_all};
 use indexmap::IndexSet;
 use std::alloc::{AllocError, Global};
 
@@ -60,7 +60,7 @@ fn look_up<T: Entry>(places: &IndexSet<T>, entry: &T) -> Option<usize>
 }
 
 /// Notes that an entry will stand behind these.
-pub(crate) fn note<T: Entry>(
+pub(crate) fn record<T: Entry>(
     alloc: Global,
     entry_index: &mut EntryIndex<T>,
     entries: &[T],
@@ -82,7 +82,7 @@ pub(crate) fn note<T: Entry>(
     match entry_index {
         EntryIndex::Plain => Ok(()),
         EntryIndex::Hashed(places) => add_hashed(places, entry.copied(alloc)?),
-        EntryIndex::TwoChoices(two_choices) => note_two_choices(alloc, two_choices, entries, entry, slot),
+        EntryIndex::TwoChoices(two_choices) => record_two_choices(alloc, two_choices, entries, entry, slot),
     }
 }
 

@@ -5,7 +5,7 @@ ghost use Rattle.mvt_attrs.specs.Inner.Finding.{Knows, IsRoomFor};
 ghost use Rattle.mvt_attrs.specs.Placed.{IsPlaced};
 
 use crate::entry::Entry;
-use crate::entry_index::{EntryIndex, find, note};
+use crate::entry_index::{EntryIndex, find, record};
 use crate::pool_error::PoolError;
 use crate::lookup::Lookup;
 use crate::two_choices::is_at;
@@ -136,7 +136,7 @@ fn append<T: Entry>(
     let alloc = *entries.allocator();
     let copy = entry.copied(alloc)?;
     entries.reserve(if entries.is_empty() { FIRST_ROOM } else { 1 })?;
-    note(alloc, entry_index, entries, entry, slot)?;
+    record(alloc, entry_index, entries, entry, slot)?;
     entries.push_reserved(copy);
     Ok(())
 }

@@ -117,13 +117,13 @@ pub(crate) fn add_two_choices<T: Entry>(
 {
     match find_two_choices(two_choices, entries, entry) {
         Lookup::Found(_) => Ok(()),
-        Lookup::New { slot } => note_two_choices(alloc, two_choices, entries, entry, slot),
+        Lookup::New { slot } => record_two_choices(alloc, two_choices, entries, entry, slot),
     }
 }
 
 /// Notes a new entry that will stand behind these in its free slot, or in order.
 #[inline(always)]
-pub(crate) fn note_two_choices<T: Entry>(
+pub(crate) fn record_two_choices<T: Entry>(
     alloc: Global,
     two_choices: &mut TwoChoices<T>,
     entries: &[T],
@@ -139,7 +139,7 @@ pub(crate) fn note_two_choices<T: Entry>(
     ensures unchanged { OnErr result (IsTwoChoices T.cmp T.hash_input two_choices.new entries.now) }
 {
     let Some(slot) = slot else {
-        return note_in_order(alloc, two_choices, entries, entry);
+        return record_in_order(alloc, two_choices, entries, entry);
     };
     two_choices.slots[slot] = entries.len() as u32 + 1;
     Ok(())
@@ -147,7 +147,7 @@ pub(crate) fn note_two_choices<T: Entry>(
 
 /// The same of an entry whose slots are both taken.
 #[inline(never)]
-fn note_in_order<T: Entry>(
+fn record_in_order<T: Entry>(
     alloc: Global,
     two_choices: &mut TwoChoices<T>,
     entries: &[T],

@@ -4,7 +4,7 @@ use Rattle.std.specs.BTreeMap.{get}
 use Rattle.mvt_attrs.specs.Inner.Choosing.{first_slot, second_slot, IsFreeFor}
 use Rattle.mvt_attrs.proofs.PoolLemmas.{slice_get-front}
 use Rattle.mvt_attrs.proofs.TwoChoicesLemmas.{Stands, known_in_slot}
-use Rattle.mvt_attrs.proofs.two_choices.note_two_choices.Goals as goal
+use Rattle.mvt_attrs.proofs.two_choices.record_two_choices.Goals as goal
 
 pub returns-clause-added : goal.returns-clause-added
 returns-clause-added g c =

@@ -3,7 +3,7 @@ use Rattle.std.specs.Ordering.{is_eq}
 use Rattle.std.specs.BTreeMap.{get}
 use Rattle.mvt_attrs.specs.Inner.Choosing.{first_slot, second_slot}
 use Rattle.mvt_attrs.proofs.TwoChoicesLemmas.{known_in_order, sound_in_order}
-use Rattle.mvt_attrs.proofs.two_choices.note_in_order.Goals as goal
+use Rattle.mvt_attrs.proofs.two_choices.record_in_order.Goals as goal
 
 pub returns-clause-added : goal.returns-clause-added
 returns-clause-added g c =
