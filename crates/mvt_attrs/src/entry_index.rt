@@ -11,10 +11,10 @@ use indexmap::IndexSet;
 use std::alloc::{AllocError, Global};
 
 /// The most entries that are searched one by one.
-const FEW: usize = 32;
+const MOST_PLAIN: usize = 32;
 
 /// With fewer slots for an entry than these, slots are made anew.
-const LEAST_ROOM: usize = 4;
+const LEAST_SLOTS_PER_ENTRY: usize = 4;
 
 /// Where the entries of a pool stand.
 #[derive(Drop)]
@@ -89,9 +89,9 @@ pub(crate) fn record<T: Entry>(
 /// Whether `count` entries are too many for this form.
 fn is_outgrown<T: Entry>(entry_index: &EntryIndex<T>, count: usize) -> bool {
     match entry_index {
-        EntryIndex::Plain => count >= FEW,
+        EntryIndex::Plain => count >= MOST_PLAIN,
         EntryIndex::Hashed(_) => count >= T::most_hashed(),
-        EntryIndex::TwoChoices(two_choices) => count >= two_choices.slots.len() / LEAST_ROOM,
+        EntryIndex::TwoChoices(two_choices) => count >= two_choices.slots.len() / LEAST_SLOTS_PER_ENTRY,
     }
 }
 

@@ -82,13 +82,13 @@ pub(crate) fn make_ready(
 }
 
 /// The most keys that are grouped by comparing each with those before it.
-const FEW: usize = 8;
+const MOST_COMPARED: usize = 8;
 
 /// For each text the first index at which it stands.
 fn group(alloc: Global, texts: &[Text]) -> Result<Vec<usize>, AllocError>
     ensures { IfOk result (λ places. IsGrouped texts.now places.items) }
 {
-    if texts.len() <= FEW {
+    if texts.len() <= MOST_COMPARED {
         group_few(alloc, texts)
     } else {
         group_many(alloc, texts)

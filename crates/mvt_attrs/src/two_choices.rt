@@ -12,7 +12,7 @@ use std::collections::BTreeMap;
 use std::hash::{DefaultHasher, FoldHasher, Hash, Hasher};
 
 /// How many slots are made for an entry.
-const ROOM: usize = 16;
+const SLOTS_PER_ENTRY: usize = 16;
 
 /// A slot holds the place of an entry, counted from 1, or 0 where it is free. An entry is in the
 /// first of its two slots that was free when it came, or in `overflow`.
@@ -90,7 +90,7 @@ pub(crate) fn two_choices_all<T: Entry>(alloc: Global, entries: &[T]) -> Result<
     requires few { length entries.now + 1 < 2 ^ 32 }
     ensures { IfOk result (λ two_choices. IsTwoChoices T.cmp T.hash_input two_choices entries.now) }
 {
-    let room = (entries.len() * ROOM).next_power_of_two();
+    let room = (entries.len() * SLOTS_PER_ENTRY).next_power_of_two();
     let mut two_choices = TwoChoices {
         slots: vec![in alloc; 0; room]?,
         overflow: BTreeMap::new(alloc),

@@ -11,7 +11,7 @@ use std::alloc::{AllocError, Global};
 use std::collections::BTreeSet;
 
 /// The most attributes among which a repeated key is looked for without memory.
-const FEW: usize = 16;
+const MOST_COMPARED: usize = 16;
 
 /// Whether a feature can be written, without memory: no two attributes have one key, and integers
 /// draw the geometry.
@@ -35,7 +35,7 @@ pub fn validate_feature(alloc: Global, feature: &Feature) -> Result<bool, AllocE
     ensures few { OnErr result (16 < length feature.now.attributes) }
 {
     let attributes = feature.attributes.as_slice();
-    if attributes.len() <= FEW {
+    if attributes.len() <= MOST_COMPARED {
         return Ok(is_valid_feature(feature));
     }
     // Read for the proof, which so knows its range.
