@@ -4,34 +4,34 @@ ghost use Rattle.std.specs.Prelude.{◌≡◌, ◌≤◌, length, bytes_eq, IsUt
 use std::marker::Model;
 
 /// The most bytes of a text that is kept in place.
-pub(crate) const ROOM: usize = 14;
+pub(crate) const MOST_INLINE: usize = 14;
 
-/// A text of at most `ROOM` bytes: the front of an array, and zeros behind it, so that two texts
+/// A text of at most `MOST_INLINE` bytes: the front of an array, and zeros behind it, so that two texts
 /// are compared as texts of one length that the compiler knows.
 #[derive(Drop)]
 pub(crate) struct Inline {
     len: u8,
-    bytes: [u8; ROOM],
+    bytes: [u8; MOST_INLINE],
 }
 
 impl Model for Inline {
     ghost use Rattle.std.specs.Prelude.{List, ℕ, ◌≡◌, ◌≤◌, take, get_or, IsUtf8};
-    ghost use Rattle.mvt_base.specs.declared.inline.TheConstants.{ROOM};
+    ghost use Rattle.mvt_base.specs.declared.inline.TheConstants.{MOST_INLINE};
 
     ghost Value = { List ℕ };
 
     ghost view = { λ t. take t.len t.bytes };
 
-    ghost invariant = { λ t. (t.len ≤ ROOM) × IsUtf8 (take t.len t.bytes)
+    ghost invariant = { λ t. (t.len ≤ MOST_INLINE) × IsUtf8 (take t.len t.bytes)
         × ((k : ℕ) → t.len ≤ k → get_or t.bytes k 0 ≡ 0) };
 }
 
 impl Inline {
     pub(crate) fn of(text: &str) -> Self
-        requires { length text.now ≤ ROOM }
+        requires { length text.now ≤ MOST_INLINE }
         ensures { result ≡ text.now }
     {
-        let mut bytes = [0; ROOM];
+        let mut bytes = [0; MOST_INLINE];
         bytes[..text.len()].copy_from_slice(text.as_bytes());
         Inline {
             len: text.len() as u8,
@@ -43,7 +43,7 @@ impl Inline {
     pub(crate) fn as_str(&self) -> &str
         ensures text { result.now ≡ self.now }
         ensures utf8 { IsUtf8 self.now }
-        ensures short { length self.now ≤ ROOM }
+        ensures short { length self.now ≤ MOST_INLINE }
     {
         let bytes = &self.bytes[..self.len as usize];
         unsafe { std::str::from_utf8_unchecked(bytes) }

@@ -2,7 +2,7 @@
 ghost use Rattle.std.specs.Prelude.{◌≡◌, ◌≤◌, length, bytes_eq, IfOk, IsOk, string_bytes, IsUtf8};
 ghost use Rattle.std.specs.Arc.{arc_str_bytes};
 
-use crate::inline::{Inline, ROOM};
+use crate::inline::{Inline, MOST_INLINE};
 use std::alloc::{AllocError, Global};
 use std::cmp::Ordering;
 use std::fmt;
@@ -46,7 +46,7 @@ impl Text {
         ensures same { IfOk result (λ copy. copy ≡ text.now) }
         ensures short { length text.now ≤ 14 → IsOk result }
     {
-        let repr = if text.len() <= ROOM {
+        let repr = if text.len() <= MOST_INLINE {
             Repr::Short(Inline::of(text))
         } else {
             Repr::Long(ArcStr::from_str(alloc, text)?)
@@ -63,7 +63,7 @@ impl Text {
         ensures same { IfOk result (λ text. text ≡ string_bytes string) }
         ensures short { length (string_bytes string) ≤ 14 → IsOk result }
     {
-        let repr = if string.len() <= ROOM {
+        let repr = if string.len() <= MOST_INLINE {
             Repr::Short(Inline::of(string.as_str()))
         } else {
             Repr::Long(ArcStr::from_string(string)?)
