@@ -25,19 +25,19 @@ use Rattle.mvt_wire.specs.Split.{split}
 use Rattle.mvt_feature.specs.declared.numbers.feature.TheConstants.{ID, TAGS, TYPE, GEOMETRY}
 use Rattle.mvt_feature.specs.declared.cause.Cause.TheVariants.{NumberRange}
 use Rattle.mvt_feature.specs.declared.feature.Feature.{Feature}
-use Rattle.mvt_feature.specs.declared.known.Known.{Known}
+use Rattle.mvt_feature.specs.declared.feature_fields.FeatureFields.{FeatureFields}
 use Rattle.mvt_feature.specs.declared.message_error.MessageError.{MessageError}
 use Rattle.mvt_feature.specs.Causes.{of_packed}
 use Rattle.mvt_feature.specs.Faults.{MessageFault, fault_at, rest_rules, fault_of}
 use Rattle.mvt_feature.specs.Features.{AreNumbers, Joined, IsFeatureOf}
 use Rattle.mvt_feature.specs.FeatureRules.{numbers_of, joined, list_rules, feature_form_rules, feature_field_rules, tag_told, geometry_told, kind_in, feature_table, feature_rules, feature_fault}
-use Rattle.mvt_feature.specs.Inner.{IsKnown}
+use Rattle.mvt_feature.specs.Inner.{AreFeatureFields}
 use Rattle.mvt_feature.specs.Selection.{only, HaveForm}
 use Rattle.mvt_feature.specs.Forms.{any_varint, geom_type, HasForm, form_rules}
 use Rattle.mvt_feature.specs.Faults.{of_tag_error, of_geometry_error}
 use Rattle.mvt_feature.proofs.ValueLemmas.{tells_front}
 use Rattle.mvt_feature.proofs.FormLemmas.{has_form}
-use Rattle.mvt_feature.proofs.KnownLemmas.{field_first}
+use Rattle.mvt_feature.proofs.FeatureFieldsLemmas.{field_first}
 use Rattle.mvt_feature.proofs.WalkLemmas.{rest_none}
 use Rattle.mvt_attrs.proofs.AttrsLaws.{fault_is_least_parts}
 use Rattle.mvt_wire.proofs.WireLaws.{packed_function_clean, packed_function_only, split_function_whole}
@@ -103,12 +103,12 @@ known_told payload payload_at keys values e h =
     (option_or (tags_fault payload keys values) (drawing_fault payload)) h)
 
 -- a payload that splits wholly into fields without a fault, and what these say
-pub record Says (payload : List ℕ) (payload_at : ℕ) (known : Known) (tags integers : List ℕ) : Type 0 where
+pub record Says (payload : List ℕ) (payload_at : ℕ) (known : FeatureFields) (tags integers : List ℕ) : Type 0 where
   pub whole : (split payload).rest ≡ []
   pub clean : fields_fault payload payload_at ≡ None
-  pub known_is : IsKnown (split payload).fields known tags integers
+  pub known_is : AreFeatureFields (split payload).fields known tags integers
 
-module _ {payload : List ℕ} {payload_at : ℕ} {known : Known} {tags integers : List ℕ}
+module _ {payload : List ℕ} {payload_at : ℕ} {known : FeatureFields} {tags integers : List ℕ}
     (says : Says payload payload_at known tags integers) (keys : List (List ℕ)) (values : List Value) where
   behind_fields : feature_fault payload payload_at keys values ≡ option_or (tags_fault payload keys values) (drawing_fault payload)
   behind_fields =
@@ -254,7 +254,7 @@ joined_is payload_at k xs form clean =
     (only_form k (λ c. first (list_rules c) ≡ None) xs (of_number payload_at k (λ c. first (list_rules c) ≡ None) form xs clean))
 
 -- what was read is the feature
-pub feature_from : {payload : List ℕ} {payload_at : ℕ} {known : Known} {tags integers : List ℕ}
+pub feature_from : {payload : List ℕ} {payload_at : ℕ} {known : FeatureFields} {tags integers : List ℕ}
     → Says payload payload_at known tags integers → (keys : List (List ℕ)) (values : List Value) (f : Feature) → f.id ≡ known.id
     → Resolved keys values tags f.attributes → Draws known.kind integers f.geometry → IsFeatureOf payload keys values f
 feature_from {payload} {payload_at} {known} {tags} {integers} says keys values f id resolved draws =

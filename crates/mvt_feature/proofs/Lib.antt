@@ -4,7 +4,7 @@ mod WalkLemmas
 mod KindLemmas
 mod ValueLemmas
 mod SaidLemmas
-mod KnownLemmas
+mod FeatureFieldsLemmas
 mod FeatureLemmas
 mod OrFaultLemmas
 mod WritingLemmas

@@ -15,7 +15,7 @@ use Rattle.mvt_wire.specs.Split.{split}
 use Rattle.mvt_feature.specs.declared.numbers.feature.TheConstants.{ID, TAGS, GEOMETRY}
 use Rattle.mvt_feature.specs.declared.cause.Cause.TheVariants.{WrongType, NumberRange}
 use Rattle.mvt_feature.specs.declared.feature.Feature.{Feature}
-use Rattle.mvt_feature.specs.declared.known.Known.{Known}
+use Rattle.mvt_feature.specs.declared.feature_fields.FeatureFields.{FeatureFields}
 use Rattle.mvt_feature.specs.Causes.{of_packed}
 use Rattle.mvt_feature.specs.Faults.{MessageFault, fault_at}
 use Rattle.mvt_feature.specs.Features.{feature_forms, Joined, number_in, IsFeature, IsFeatureOf}
@@ -42,7 +42,7 @@ feature_there payload payload_at keys values h =
     let attributes = attributes_or_fault_there keys values (joined TAGS xs) (none_mapped tag_told _ last.0) in
     let small = joined_small (only GEOMETRY xs) (joined GEOMETRY xs) (joined_is payload_at GEOMETRY xs (λ c e. e) later.0) in
     let geometry = faultless_draws (kind_in xs) (joined GEOMETRY xs) small (none_mapped geometry_told _ last.1) in
-    let known : Known = record { id = number_in (last_only ID xs); kind = kind_in xs } in
+    let known : FeatureFields = record { id = number_in (last_only ID xs); kind = kind_in xs } in
     let says : Says payload payload_at known (joined TAGS xs) (joined GEOMETRY xs) = record {
       whole = rest;
       clean = later.0;
@@ -82,7 +82,7 @@ pub feature_keeps : (payload : List ℕ) (payload_at : ℕ) (keys : List (List �
     → IsFeatureOf payload keys values f → feature_fault payload payload_at keys values ≡ None
 feature_keeps payload payload_at keys values f (xs, whole, is) =
     let only_split = split_of payload xs whole in
-    let known : Known = record { id = f.id; kind = kind_in xs } in
+    let known : FeatureFields = record { id = f.id; kind = kind_in xs } in
     let says : Says payload payload_at known is.tags is.integers = record {
       whole = only_split.1;
       clean = rw only_split.0 (fields_clean payload_at xs keys values f is);

@@ -11,7 +11,7 @@ use Rattle.mvt_geometry.specs.Table.{geometry_fault}
 use Rattle.mvt_wire.specs.Spelling.{spelled}
 use Rattle.mvt_wire.specs.Split.{split}
 use Rattle.mvt_feature.specs.declared.feature.Feature.{Feature}
-use Rattle.mvt_feature.specs.declared.known.Known.{Known}
+use Rattle.mvt_feature.specs.declared.feature_fields.FeatureFields.{FeatureFields}
 use Rattle.mvt_feature.specs.declared.numbers.feature.TheConstants.{GEOMETRY}
 use Rattle.mvt_feature.specs.declared.scratch.Scratch.{Scratch}
 use Rattle.mvt_feature.specs.Canonical.{id_fields, tags_fields, drawing_fields}
@@ -24,7 +24,7 @@ use Rattle.mvt_attrs.proofs.AttrsLaws.{attributes_or_fault_there}
 use Rattle.mvt_geometry.proofs.GeometryLaws.{faultless_draws}
 
 -- no fault: there is a feature of these tags and integers
-pub judged_from : {payload : List ℕ} {payload_at : ℕ} {known : Known} {scratch : Scratch}
+pub judged_from : {payload : List ℕ} {payload_at : ℕ} {known : FeatureFields} {scratch : Scratch}
     → Says payload payload_at known scratch.tags.items scratch.integers.items → (keys : List (List ℕ)) (values : List Value)
     → tag_fault keys values scratch.tags.items ≡ None → geometry_fault known.kind scratch.integers.items ≡ None
     → IsJudged payload keys values known scratch
@@ -42,7 +42,7 @@ judged_from {payload} {payload_at} {known} {scratch} says keys values tags_clean
     )
 
 -- the fields of a feature are those of its parts
-pub parts_written : (keys : List (List ℕ)) (values : List Value) (known : Known) (scratch : Scratch) (f : Feature) (old new : LayerUses)
+pub parts_written : (keys : List (List ℕ)) (values : List Value) (known : FeatureFields) (scratch : Scratch) (f : Feature) (old new : LayerUses)
     (before after tags : List ℕ) → AreOf keys values known scratch f → IsUsedBy f.attributes old new
     → tags ≡ tags_in new.keys.used.items new.values.used.items f.attributes
     → after ≡ before ++ spelled (id_fields known.id ++ (tags_fields tags ++ drawing_fields known.kind scratch.integers.items))

@@ -10,7 +10,7 @@ use Rattle.mvt_wire.specs.Field.{Content, Entry}
 use Rattle.mvt_feature.specs.declared.numbers.feature.TheConstants.{ID, TAGS, TYPE, GEOMETRY}
 use Rattle.mvt_feature.specs.declared.message_error.MessageError.{MessageError}
 use Rattle.mvt_feature.specs.declared.feature.Feature.{Feature}
-use Rattle.mvt_feature.specs.declared.known.Known.{Known}
+use Rattle.mvt_feature.specs.declared.feature_fields.FeatureFields.{FeatureFields}
 use Rattle.mvt_feature.specs.declared.scratch.Scratch.{Scratch}
 use Rattle.mvt_feature.specs.declared.value.Meaning.{Meaning}
 use Rattle.mvt_feature.specs.declared.value.Meaning.TheVariants as meanings
@@ -68,22 +68,22 @@ abbrev pub numbers_at : ℕ → ℕ → Content → List ℕ
 numbers_at k number content = if number == k then numbers_of content else []
 
 -- what is known of a feature by these fields
-pub record IsKnown (fields : List Entry) (known : Known) (tags integers : List ℕ) : Type 0 where
+pub record AreFeatureFields (fields : List Entry) (known : FeatureFields) (tags integers : List ℕ) : Type 0 where
   pub id : known.id ≡ number_in (last_only ID fields)
   pub kind : known.kind ≡ kind_in fields
   pub tags_are : tags ≡ joined TAGS fields
   pub integers_are : integers ≡ joined GEOMETRY fields
 
 -- what is known by the fields so far, or their first fault
-abbrev pub IsKnownSoFar : ℕ → List Entry → Result Known MessageError → List ℕ → List ℕ → Type 0
-IsKnownSoFar payload_at done known tags integers =
-    IsSoFar (feature_field_rules payload_at) (λ fields k. IsKnown fields k tags integers) done known
+abbrev pub AreFeatureFieldsSoFar : ℕ → List Entry → Result FeatureFields MessageError → List ℕ → List ℕ → Type 0
+AreFeatureFieldsSoFar payload_at done known tags integers =
+    IsSoFar (feature_field_rules payload_at) (λ fields k. AreFeatureFields fields k tags integers) done known
 
 -- the tags and the integers in a scratch, with what is known besides, are those of this feature
-pub record AreOf (keys : List (List ℕ)) (values : List Value) (known : Known) (scratch : Scratch) (f : Feature) : Type 0 where
+pub record AreOf (keys : List (List ℕ)) (values : List Value) (known : FeatureFields) (scratch : Scratch) (f : Feature) : Type 0 where
   pub id : f.id ≡ known.id
   pub tags : Resolved keys values scratch.tags.items f.attributes
   pub integers : Draws known.kind scratch.integers.items f.geometry
 
-abbrev pub IsJudged : List ℕ → List (List ℕ) → List Value → Known → Scratch → Type 0
+abbrev pub IsJudged : List ℕ → List (List ℕ) → List Value → FeatureFields → Scratch → Type 0
 IsJudged payload keys values known scratch = (f : Feature) × IsFeatureOf payload keys values f × AreOf keys values known scratch f

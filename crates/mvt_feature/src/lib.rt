@@ -5,7 +5,7 @@
 mod bound;
 mod cause;
 mod feature;
-mod known;
+mod feature_fields;
 pub mod laws;
 mod message_error;
 pub mod numbers;

@@ -9,7 +9,7 @@ ghost use Rattle.mvt_feature.specs.FeatureRules.{feature_fault};
 ghost use Rattle.mvt_feature.specs.Inner.{IsJudged};
 
 use crate::feature::{Drawn, Feature};
-use crate::known::{Known, read_known};
+use crate::feature_fields::{FeatureFields, read_fields};
 use crate::message_error::MessageError;
 use crate::scratch::Scratch;
 use mvt_attrs::{LayerKeys, Value, judge_tags, resolve_in};
@@ -65,7 +65,7 @@ pub fn read_feature_in(
         (feature_fault payload.now payload_at keys.old values.now)) }
     ensures same { keys.new ≡ keys.old }
 {
-    let known = read_known(payload, payload_at, scratch)?;
+    let known = read_fields(payload, payload_at, scratch)?;
     let attributes = resolve_in(alloc, keys, values, &scratch.tags)?;
     let geometry = read_geometry(alloc, known.kind, &scratch.integers)?;
     Ok(Feature {
@@ -99,7 +99,7 @@ pub fn read_drawn(
         → Tells (fault_of error) (feature_fault payload.now payload_at keys.old held)) }
     ensures same { keys.new ≡ keys.old }
 {
-    let known = read_known(payload, payload_at, scratch)?;
+    let known = read_fields(payload, payload_at, scratch)?;
     let tags = &scratch.tags;
     judge_tags(alloc, keys, values, tags)?;
     let geometry = read_geometry(alloc, known.kind, &scratch.integers)?;
@@ -143,7 +143,7 @@ pub(crate) fn judge_known(
     keys: &mut LayerKeys<'_>,
     values: usize,
     scratch: &mut Scratch,
-) -> Result<Known, MessageError>
+) -> Result<FeatureFields, MessageError>
     requires { payload_at + length payload.now < 2 ^ 64 }
     ensures judged { IfOk result (λ known. (held : List Value) → length held ≡ values
         → IsJudged payload.now keys.old held known scratch.new) }
@@ -153,7 +153,7 @@ pub(crate) fn judge_known(
         → Tells (fault_of error) (feature_fault payload.now payload_at keys.old held)) }
     ensures same { keys.new ≡ keys.old }
 {
-    let known = read_known(payload, payload_at, scratch)?;
+    let known = read_fields(payload, payload_at, scratch)?;
     judge_tags(alloc, keys, values, &scratch.tags)?;
     judge_geometry(known.kind, &scratch.integers)?;
     Ok(known)

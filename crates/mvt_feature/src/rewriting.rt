@@ -11,7 +11,7 @@ ghost use Rattle.mvt_feature.specs.FeatureRules.{feature_fault};
 ghost use Rattle.mvt_feature.specs.Inner.{AreOf};
 ghost use Rattle.mvt_feature.specs.Rewriting.{IsRewritten};
 
-use crate::known::Known;
+use crate::feature_fields::FeatureFields;
 use crate::message_error::MessageError;
 use crate::reading::judge_known;
 use crate::scratch::Scratch;
@@ -57,7 +57,7 @@ pub fn rewrite_feature(
 
 /// Appends the canonical payload of a feature that was judged.
 fn append_judged(
-    known: &Known,
+    known: &FeatureFields,
     uses: &mut LayerUses,
     scratch: &mut Scratch,
     out: &mut Vec<u8>,

@@ -31,7 +31,7 @@ use Rattle.mvt_message.specs.declared.item.Item.TheVariants.{Layer, Foreign}
 use Rattle.mvt_message.specs.LayerFields.{bytes_of, version_in, is_two, name_in, extent_in, keys_in, values_in}
 use Rattle.mvt_message.specs.ItemRules.{version_rules, layer_field_rules, value_rules_of, feature_rules_of, layer_table, item_table, item_rules, item_fault, payload_names}
 use Rattle.mvt_message.specs.Items.{HoldsValue, HoldsFeature, IsLayer, AreItem, IsItem, names_in}
-use Rattle.mvt_message.specs.Inner.{forms_fault, no_name_fault, values_fault, features_fault, head_fault, layer_fault}
+use Rattle.mvt_message.specs.Inner.{forms_fault, no_name_fault, values_fault, features_fault, header_fault, layer_fault}
 use Rattle.mvt_message.proofs.ChainLemmas.{item_chain, layer_chain}
 use Rattle.mvt_message.proofs.FormLemmas.{versions_form, form_versions, layer_have, have_layer, none_each_told, each_told_none, version_ordered, layer_field_ordered}
 use Rattle.mvt_message.proofs.SaidLemmas.{values_said}
@@ -179,7 +179,7 @@ layer_keeps payload_at tag_at xs layer is =
 abbrev FaultBehind : ℕ → ℕ → List Entry → Bool → Option MessageFault
 FaultBehind payload_at tag_at xs two = if two then layer_fault payload_at tag_at xs else None
 
-pub head_clean : (payload : List ℕ) (payload_at tag_at : ℕ) → head_fault payload payload_at tag_at ≡ None
+pub head_clean : (payload : List ℕ) (payload_at tag_at : ℕ) → header_fault payload payload_at tag_at ≡ None
     → ((split payload).rest ≡ []) × HaveForm VERSION (HasForm uint32) (split payload).fields
     × ((n : ℕ) × (version_in (split payload).fields ≡ Some n))
 head_clean payload payload_at tag_at none =
@@ -225,20 +225,20 @@ last_there xs n is = of_option (last_only VERSION xs) is
 
 pub head_keeps : (payload : List ℕ) (payload_at tag_at n : ℕ) → (split payload).rest ≡ []
     → HaveForm VERSION (HasForm uint32) (split payload).fields → version_in (split payload).fields ≡ Some n
-    → head_fault payload payload_at tag_at ≡ None
+    → header_fault payload payload_at tag_at ≡ None
 head_keeps payload payload_at tag_at n rest forms version =
     option_or-none _ _ (rests_none payload_at (split payload) rest)
     ∙ option_or-none _ _ (form_versions payload_at (split payload).fields forms)
     ∙ first-when_not _ _ (last_there (split payload).fields n version)
 
-pub item_of_layer : (payload : List ℕ) (payload_at tag_at : ℕ) → head_fault payload payload_at tag_at ≡ None
+pub item_of_layer : (payload : List ℕ) (payload_at tag_at : ℕ) → header_fault payload payload_at tag_at ≡ None
     → version_in (split payload).fields ≡ Some 2
     → item_fault payload payload_at tag_at ≡ layer_fault payload_at tag_at (split payload).fields
 item_of_layer payload payload_at tag_at head version =
     item_chain payload payload_at tag_at ∙ option_or-none _ _ head
     ∙ ap (FaultBehind payload_at tag_at (split payload).fields) (ap is_two version)
 
-pub item_of_other : (payload : List ℕ) (payload_at tag_at n : ℕ) → head_fault payload payload_at tag_at ≡ None
+pub item_of_other : (payload : List ℕ) (payload_at tag_at n : ℕ) → header_fault payload payload_at tag_at ≡ None
     → version_in (split payload).fields ≡ Some n → n ≢ 2 → item_fault payload payload_at tag_at ≡ None
 item_of_other payload payload_at tag_at n head version other =
     item_chain payload payload_at tag_at ∙ option_or-none _ _ head

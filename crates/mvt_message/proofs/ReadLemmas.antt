@@ -35,7 +35,7 @@ use Rattle.mvt_message.specs.declared.item.Item.TheVariants.{Layer, Foreign}
 use Rattle.mvt_message.specs.LayerFields.{version_forms, layer_forms, bytes_of, version_in, name_in, extent_in, keys_in, values_in}
 use Rattle.mvt_message.specs.ItemRules.{version_rules, layer_field_rules, feature_rules_of, item_fault}
 use Rattle.mvt_message.specs.Items.{HoldsValue, HoldsFeature, IsLayer, IsItem}
-use Rattle.mvt_message.specs.Inner.{rest_fault, versions_fault, forms_fault, no_name_fault, values_fault, features_fault, head_fault, layer_fault, IsVersionSoFar, IsHead, name_after, extent_after, keys_at, AreValuesSoFar}
+use Rattle.mvt_message.specs.Inner.{rest_fault, versions_fault, forms_fault, no_name_fault, values_fault, features_fault, header_fault, layer_fault, IsVersionSoFar, IsLayerHeader, name_after, extent_after, keys_at, AreValuesSoFar}
 use Rattle.mvt_message.proofs.ChainLemmas.{item_chain, layer_chain}
 use Rattle.mvt_message.proofs.FormLemmas.{versions_form}
 use Rattle.mvt_message.proofs.SaidLemmas.{values_said}
@@ -185,9 +185,9 @@ keys_more done x =
     by_test false = refl
 
 pub head_step : (payload_at : ℕ) (done : List Entry) (x : Entry) (name new_name : Option (List ℕ)) (extent new_extent : ℕ)
-    (keys new_keys : List (List ℕ)) → IsHead payload_at name extent keys done → first (number_rules layer_forms x.number x.content) ≡ None
+    (keys new_keys : List (List ℕ)) → IsLayerHeader payload_at name extent keys done → first (number_rules layer_forms x.number x.content) ≡ None
     → new_name ≡ name_after name x.number x.content → new_extent ≡ extent_after extent x.number x.content
-    → new_keys ≡ keys ++ keys_at x.number x.content → IsHead payload_at new_name new_extent new_keys (done ++ x ∷ [])
+    → new_keys ≡ keys ++ keys_at x.number x.content → IsLayerHeader payload_at new_name new_extent new_keys (done ++ x ∷ [])
 head_step payload_at done x name new_name extent new_extent keys new_keys so_far clean name_is extent_is keys_are = record {
   clean = each_more (λ _. layer_field_rules payload_at) done x so_far.clean ∙ form_first payload_at x
       ∙ ap (option_map (fault_at (payload_at + x.at))) clean;
@@ -230,7 +230,7 @@ selected_few payload to_come done k walk small =
 -- the ends of a walk over the fields of a payload: at a rest, and behind the last
 pub rest_told : {payload : List ℕ} {old : Parts} {done : List Entry} {fault : WireFault} (new : Parts) (payload_at tag_at : ℕ)
     → Walk payload old done → GivesEntry old (Some (Err fault)) new
-    → head_fault payload payload_at tag_at ≡ Some (fault_at (payload_at + fault.at) (of_wire fault.cause))
+    → header_fault payload payload_at tag_at ≡ Some (fault_at (payload_at + fault.at) (of_wire fault.cause))
 rest_told {payload} {old} {done} {fault} new payload_at tag_at walk step =
     option_or-some _ _ _ (walks_fault payload old new done fault payload_at walk step)
 
@@ -243,14 +243,14 @@ version_ends {payload} {old} {new} {done} payload_at v walk step so_far =
 -- the exits of `read_version`
 pub head_some : (payload : List ℕ) (payload_at tag_at n : ℕ) → (split payload).rest ≡ []
     → versions_fault payload_at (split payload).fields ≡ None → Some n ≡ version_in (split payload).fields
-    → head_fault payload payload_at tag_at ≡ None
+    → header_fault payload payload_at tag_at ≡ None
 head_some payload payload_at tag_at n rest clean version =
     option_or-none _ _ (rests_none payload_at (split payload) rest) ∙ option_or-none _ _ clean
     ∙ first-when_not _ _ (last_there (split payload).fields n (sym version))
 
 pub head_none : (payload : List ℕ) (payload_at tag_at : ℕ) → (split payload).rest ≡ []
     → versions_fault payload_at (split payload).fields ≡ None → None ≡ version_in (split payload).fields
-    → head_fault payload payload_at tag_at ≡ Some (fault_at tag_at NoVersion)
+    → header_fault payload payload_at tag_at ≡ Some (fault_at tag_at NoVersion)
 head_none payload payload_at tag_at rest clean version =
     option_or-none _ _ (rests_none payload_at (split payload) rest) ∙ option_or-none _ _ clean
     ∙ first-when _ _ (by_test (is_none (last_only VERSION (split payload).fields)) refl)
@@ -264,7 +264,7 @@ head_none payload payload_at tag_at rest clean version =
 
 pub head_versions : (payload : List ℕ) (payload_at tag_at : ℕ) (e : MessageError) → (split payload).rest ≡ []
     → ((more : List Entry) → Tells (fault_of e) (versions_fault payload_at ((split payload).fields ++ more)))
-    → Tells (fault_of e) (head_fault payload payload_at tag_at)
+    → Tells (fault_of e) (header_fault payload payload_at tag_at)
 head_versions payload payload_at tag_at e rest stays =
     or_tells (fault_of e) (rest_fault payload payload_at) _ (rests_none payload_at (split payload) rest)
     (tells_or (fault_of e) (versions_fault payload_at (split payload).fields) _
@@ -305,7 +305,7 @@ pub record IsClean (payload_at : ℕ) (xs : List Entry) (name : List ℕ) (keys 
   pub values_are : AreRelated HoldsValue (only VALUES xs) values
 
 pub front_clean : {payload_at extent : ℕ} {xs : List Entry} {found : Option (List ℕ)} {name : List ℕ} {held keys : List (List ℕ)}
-    (values : List Value) → IsHead payload_at found extent held xs → found ≡ Some name → keys ≡ held
+    (values : List Value) → IsLayerHeader payload_at found extent held xs → found ≡ Some name → keys ≡ held
     → AreValuesSoFar payload_at xs values → IsClean payload_at xs name keys values
 front_clean values head name keys so_far = record {
   forms = head.clean;
@@ -350,28 +350,28 @@ layer_read {payload_at} {xs} {values} layer front extent features =
 pub as_two : (xs : List Entry) {n : ℕ} → version_in xs ≡ Some n → n ≡ 2 → version_in xs ≡ Some 2
 as_two xs is two = is ∙ ap Some two
 
-pub head_told : (payload : List ℕ) (payload_at tag_at : ℕ) (e : MessageError) → Tells (fault_of e) (head_fault payload payload_at tag_at)
+pub head_told : (payload : List ℕ) (payload_at tag_at : ℕ) (e : MessageError) → Tells (fault_of e) (header_fault payload payload_at tag_at)
     → Tells (fault_of e) (item_fault payload payload_at tag_at)
 head_told payload payload_at tag_at e h =
     subst (Tells (fault_of e)) (sym (item_chain payload payload_at tag_at))
-    (tells_or (fault_of e) (head_fault payload payload_at tag_at) _ h)
+    (tells_or (fault_of e) (header_fault payload payload_at tag_at) _ h)
 
-pub head_whole : (payload : List ℕ) (payload_at tag_at : ℕ) → head_fault payload payload_at tag_at ≡ None → (split payload).rest ≡ []
+pub head_whole : (payload : List ℕ) (payload_at tag_at : ℕ) → header_fault payload payload_at tag_at ≡ None → (split payload).rest ≡ []
 head_whole payload payload_at tag_at none = rests_nothing payload_at (split payload) (option_or-nones _ _ none).0
 
-pub layer_told : (payload : List ℕ) (payload_at tag_at : ℕ) (e : MessageError) → head_fault payload payload_at tag_at ≡ None
+pub layer_told : (payload : List ℕ) (payload_at tag_at : ℕ) (e : MessageError) → header_fault payload payload_at tag_at ≡ None
     → version_in (split payload).fields ≡ Some 2 → Tells (fault_of e) (layer_fault payload_at tag_at (split payload).fields)
     → Tells (fault_of e) (item_fault payload payload_at tag_at)
 layer_told payload payload_at tag_at e head version h =
     subst (Tells (fault_of e)) (sym (item_of_layer payload payload_at tag_at head version)) h
 
-pub layer_item : (payload : List ℕ) (payload_at tag_at : ℕ) (layer : ALayer) → head_fault payload payload_at tag_at ≡ None
+pub layer_item : (payload : List ℕ) (payload_at tag_at : ℕ) (layer : ALayer) → header_fault payload payload_at tag_at ≡ None
     → version_in (split payload).fields ≡ Some 2 → IsLayer (split payload).fields layer → IsItem payload (Layer layer)
 layer_item payload payload_at tag_at layer head version is =
     let parts = head_clean payload payload_at tag_at head in
     item_from payload (Layer layer) parts.0 parts.1 (version, is)
 
-pub other_item : (payload : List ℕ) (payload_at tag_at n : ℕ) (content : List ℕ) → head_fault payload payload_at tag_at ≡ None
+pub other_item : (payload : List ℕ) (payload_at tag_at n : ℕ) (content : List ℕ) → header_fault payload payload_at tag_at ≡ None
     → version_in (split payload).fields ≡ Some n → n ≢ 2 → content ≡ payload → IsItem payload (Foreign n content)
 other_item payload payload_at tag_at n content head version other is =
     let parts = head_clean payload payload_at tag_at head in

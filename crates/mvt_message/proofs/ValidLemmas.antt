@@ -28,7 +28,7 @@ use Rattle.mvt_message.specs.declared.item.Item.TheVariants.{Layer, Foreign}
 use Rattle.mvt_message.specs.LayerFields.{bytes_of, version_in, name_in, extent_in, keys_in}
 use Rattle.mvt_message.specs.Items.{HoldsValue, HoldsFeature, IsLayer, AreItem, IsItem}
 use Rattle.mvt_message.specs.ValidItems.{ValidLayer, AreOfVersion, ValidItem, WasValidFeature, WasValidItem}
-use Rattle.mvt_message.specs.Inner.{head_fault, IsFault}
+use Rattle.mvt_message.specs.Inner.{header_fault, IsFault}
 use Rattle.mvt_message.proofs.OrFaultLemmas.{head_clean, head_keeps}
 
 pub old_feature : (f : Feature) → WasValidFeature f → ValidFeature f
@@ -125,13 +125,13 @@ item_valid payload item are_bytes (xs, whole, forms, are) = by_item item are
     by_item (Foreign version content) is = (xs, subst (λ b. Whole b xs) (sym is.2) whole, forms, is.0, is.1)
 
 -- the bytes of a layer of another version
-pub of_version : (payload : List ℕ) (version found : ℕ) → head_fault payload 0 0 ≡ None → version_in (split payload).fields ≡ Some found
+pub of_version : (payload : List ℕ) (version found : ℕ) → header_fault payload 0 0 ≡ None → version_in (split payload).fields ≡ Some found
     → found ≡ version → version ≢ 2 → AreOfVersion version payload
 of_version payload version found head is same other =
     let parts = head_clean payload 0 0 head in
     ((split payload).fields, split_function_whole payload parts.0, parts.1, is ∙ ap Some same, other)
 
-pub version_of : (payload : List ℕ) (version : ℕ) → AreOfVersion version payload → (head_fault payload 0 0 ≡ None)
+pub version_of : (payload : List ℕ) (version : ℕ) → AreOfVersion version payload → (header_fault payload 0 0 ≡ None)
     × (version_in (split payload).fields ≡ Some version) × (version ≢ 2)
 version_of payload version (xs, whole, forms, is, other) =
     let only = split_function_only payload [] xs whole in
@@ -139,7 +139,7 @@ version_of payload version (xs, whole, forms, is, other) =
     (head_keeps payload 0 0 version (sym only.1) (subst (HaveForm VERSION (HasForm uint32)) only.0 forms) here, here, other)
 
 -- a fault of the head leaves no version
-pub no_version : (payload : List ℕ) (version : ℕ) (e : MessageError) → IsFault e → Tells (fault_of e) (head_fault payload 0 0)
+pub no_version : (payload : List ℕ) (version : ℕ) (e : MessageError) → IsFault e → Tells (fault_of e) (header_fault payload 0 0)
     → AreOfVersion version payload → ⊥
 no_version payload version Memory is told_here of = is
 no_version payload version (Fault feature at cause) is told_here of = let clean = (version_of payload version of).0 in cc

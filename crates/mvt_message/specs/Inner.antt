@@ -16,8 +16,8 @@ use Rattle.mvt_feature.specs.Features.{number_of}
 use Rattle.mvt_feature.specs.Walks.{IsSoFar}
 use Rattle.mvt_feature.specs.Selection.{only, last_only}
 use Rattle.mvt_message.specs.declared.numbers.layer.TheConstants.{NAME, FEATURES, KEYS, VALUES, EXTENT, VERSION}
-use Rattle.mvt_message.specs.declared.front.Front.{Front}
-use Rattle.mvt_message.specs.declared.head.Head.{Head}
+use Rattle.mvt_message.specs.declared.layer_fields.LayerFields.{LayerFields}
+use Rattle.mvt_message.specs.declared.layer_header.LayerHeader.{LayerHeader}
 use Rattle.mvt_message.specs.ItemRules.{version_rules, layer_field_rules, value_rules_of, feature_rules_of, layer_table}
 use Rattle.mvt_message.specs.Items.{HoldsValue, HoldsFeature}
 use Rattle.mvt_message.specs.LayerFields.{bytes_of, version_in, name_in, extent_in, keys_in}
@@ -45,8 +45,8 @@ abbrev pub features_fault : ℕ → List (List ℕ) → List Value → List Entr
 features_fault payload_at keys values fields = first (each (feature_rules_of payload_at keys values) [] (only FEATURES fields))
 
 -- the fault up to the version, and that of a layer of version 2 behind it
-abbrev pub head_fault : List ℕ → ℕ → ℕ → Option MessageFault
-head_fault payload payload_at tag_at =
+abbrev pub header_fault : List ℕ → ℕ → ℕ → Option MessageFault
+header_fault payload payload_at tag_at =
     option_or (rest_fault payload payload_at)
     (option_or (versions_fault payload_at (split payload).fields) (no_version_fault tag_at (split payload).fields))
 
@@ -75,17 +75,17 @@ OrFault fault Say done (Ok k) = Say done k
 OrFault fault Say done (Err error) = (more : List Entry) → Tells (fault_of error) (fault (done ++ more))
 
 -- the name, the extent and the keys by fields that break no rule
-pub record IsHead (payload_at : ℕ) (name : Option (List ℕ)) (extent : ℕ) (keys : List (List ℕ)) (fields : List Entry) : Type 0 where
+pub record IsLayerHeader (payload_at : ℕ) (name : Option (List ℕ)) (extent : ℕ) (keys : List (List ℕ)) (fields : List Entry) : Type 0 where
   pub clean : forms_fault payload_at fields ≡ None
   pub name_is : name ≡ name_in fields
   pub extent_is : extent ≡ extent_in fields
   pub keys_are : keys ≡ keys_in fields
 
-abbrev pub IsHeadOf : ℕ → List Entry → Head → Type 0
-IsHeadOf payload_at fields head = IsHead payload_at (option_copied head.name) head.extent head.keys.items fields
+abbrev pub IsLayerHeaderOf : ℕ → List Entry → LayerHeader → Type 0
+IsLayerHeaderOf payload_at fields head = IsLayerHeader payload_at (option_copied head.name) head.extent head.keys.items fields
 
-abbrev pub IsHeadSoFar : ℕ → List Entry → Result Head MessageError → Type 0
-IsHeadSoFar payload_at done head = OrFault (forms_fault payload_at) (IsHeadOf payload_at) done head
+abbrev pub IsLayerHeaderSoFar : ℕ → List Entry → Result LayerHeader MessageError → Type 0
+IsLayerHeaderSoFar payload_at done head = OrFault (forms_fault payload_at) (IsLayerHeaderOf payload_at) done head
 
 -- the values, and the features, by the fields so far
 abbrev pub AreValuesSoFar : ℕ → List Entry → List Value → Type 0
@@ -108,8 +108,8 @@ abbrev pub AreValuesSaid : (List Value → Type 0) → ℕ → List Entry → Re
 AreValuesSaid Has payload_at done count = OrFault (values_fault payload_at) (AreValuesHeld Has payload_at) done count
 
 -- the head and the values of a layer with these fields
-abbrev pub IsFront : (List Value → Type 0) → ℕ → List Entry → Front → Type 0
-IsFront Has payload_at fields front = IsHeadSoFar payload_at fields front.head × AreValuesSaid Has payload_at fields front.values
+abbrev pub IsLayerFields : (List Value → Type 0) → ℕ → List Entry → LayerFields → Type 0
+IsLayerFields Has payload_at fields front = IsLayerHeaderSoFar payload_at fields front.head × AreValuesSaid Has payload_at fields front.values
 
 -- features that are counted, and that a visitor has
 pub record AreFeaturesHeld (Has : List Feature → Type 0) (payload_at : ℕ) (keys : List (List ℕ)) (values : List Value)

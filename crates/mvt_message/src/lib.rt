@@ -4,8 +4,8 @@
 
 mod bound;
 mod features;
-mod front;
-mod head;
+mod layer_fields;
+mod layer_header;
 mod item;
 pub mod laws;
 mod layer_len;

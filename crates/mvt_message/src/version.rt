@@ -5,7 +5,7 @@ ghost use Rattle.mvt_wire.specs.Field.{Entry, entry_of};
 ghost use Rattle.mvt_wire.specs.Split.{split};
 ghost use Rattle.mvt_feature.specs.Faults.{fault_of};
 ghost use Rattle.mvt_message.specs.LayerFields.{version_in};
-ghost use Rattle.mvt_message.specs.Inner.{head_fault, IsFault, IsVersionSoFar};
+ghost use Rattle.mvt_message.specs.Inner.{header_fault, IsFault, IsVersionSoFar};
 
 use crate::numbers::layer;
 use crate::payload::uint32_of;
@@ -21,9 +21,9 @@ pub(crate) fn read_version(
     requires { payload_at + length payload.now < 2 ^ 64 }
     ensures version { IfOk result (λ version. version_in (split payload.now).fields
         ≡ Some version) }
-    ensures ok { OnOk result (head_fault payload.now payload_at tag_at ≡ None) }
+    ensures ok { OnOk result (header_fault payload.now payload_at tag_at ≡ None) }
     ensures err { IfErr result (λ error. Tells (fault_of error)
-        (head_fault payload.now payload_at tag_at)) }
+        (header_fault payload.now payload_at tag_at)) }
     ensures fault { IfErr result IsFault }
 {
     let mut version = Ok(None);
@@ -70,10 +70,10 @@ pub(crate) fn version_of(
         → IfOk result (λ found. version_in fields ≡ Some found) }
     ensures ok { (payload : List ℕ) (payload_at : ℕ) → (split payload).rest ≡ []
         → IsVersionSoFar payload_at (split payload).fields version
-        → OnOk result (head_fault payload payload_at tag_at ≡ None) }
+        → OnOk result (header_fault payload payload_at tag_at ≡ None) }
     ensures err { (payload : List ℕ) (payload_at : ℕ) → (split payload).rest ≡ []
         → IsVersionSoFar payload_at (split payload).fields version
-        → IfErr result (λ error. Tells (fault_of error) (head_fault payload payload_at tag_at)) }
+        → IfErr result (λ error. Tells (fault_of error) (header_fault payload payload_at tag_at)) }
     ensures fault { IfErr version IsFault → IfErr result IsFault }
 {
     match version? {

@@ -15,11 +15,11 @@ ghost use Rattle.mvt_message.specs.declared.item.Layer.{Layer as ALayer};
 ghost use Rattle.mvt_message.specs.Items.{IsItem, IsLayer};
 ghost use Rattle.mvt_message.specs.ItemRules.{item_fault};
 ghost use Rattle.mvt_message.specs.ValidItems.{ValidItem};
-ghost use Rattle.mvt_message.specs.Inner.{layer_fault, IsFront};
+ghost use Rattle.mvt_message.specs.Inner.{layer_fault, IsLayerFields};
 ghost use Rattle.mvt_message.specs.Visiting.{HasLayer, IsVisited};
 
 use crate::features::visit_features;
-use crate::front::{Front, read_front};
+use crate::layer_fields::{LayerFields, read_layer_fields};
 use crate::numbers::VERSION_2;
 use mvt_attrs::LayerKeys;
 use mvt_base::{LIMIT, Text};
@@ -140,7 +140,7 @@ pub fn visit_layer<'a, V: LayerVisitor>(
     ensures fault { IfErr result (λ error. Tells (fault_of error)
         (item_fault payload.now payload_at tag_at)) }
 {
-    let (version, front) = read_front(alloc, visitor, payload, payload_at, tag_at)?;
+    let (version, front) = read_layer_fields(alloc, visitor, payload, payload_at, tag_at)?;
     if version == VERSION_2 {
         return visit_parts(alloc, visitor, payload, payload_at, tag_at, front);
     }
@@ -155,22 +155,22 @@ fn visit_parts<'a, V: LayerVisitor>(
     payload: &'a [u8],
     payload_at: u64,
     tag_at: u64,
-    front: Front<'a>,
+    front: LayerFields<'a>,
 ) -> Result<Visited<'a>, MessageError>
     requires small { length payload.now ≤ LIMIT }
     requires fits { payload_at + length payload.now < 2 ^ 64 }
     requires whole { (split payload.now).rest ≡ [] }
     requires front { (items : List Item)
-        × IsFront (V.has_values items visitor.old) payload_at (split payload.now).fields front }
+        × IsLayerFields (V.has_values items visitor.old) payload_at (split payload.now).fields front }
     ensures ok { OnOk result (layer_fault payload_at tag_at (split payload.now).fields ≡ None) }
     ensures layer { (items : List Item)
-        → IsFront (V.has_values items visitor.old) payload_at (split payload.now).fields front.entry
+        → IsLayerFields (V.has_values items visitor.old) payload_at (split payload.now).fields front.entry
         → IfOk result (λ visited. (layer : ALayer) × IsLayer (split payload.now).fields layer
         × HasLayer (V.has_features items) visitor.new visited layer) }
     ensures fault { IfErr result (λ error. Tells (fault_of error)
         (layer_fault payload_at tag_at (split payload.now).fields)) }
 {
-    let Front {
+    let LayerFields {
         head,
         values,
         features,

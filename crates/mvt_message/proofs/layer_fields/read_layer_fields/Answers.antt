@@ -5,7 +5,7 @@ use Rattle.mvt_wire.specs.Split.{split}
 use Rattle.mvt_feature.proofs.FeatureLaws.{walks_start, walks_step}
 use Rattle.mvt_message.proofs.HeldLemmas.{values_few}
 use Rattle.mvt_message.proofs.ReadLemmas.{rest_told, version_ends}
-use Rattle.mvt_message.proofs.front.read_front.Goals as goal
+use Rattle.mvt_message.proofs.layer_fields.read_layer_fields.Goals as goal
 
 pub loop-field-init : goal.loop-field-init
 loop-field-init g c = (
@@ -30,7 +30,7 @@ loop-field-preserved g c =
       done ++ entry_of c.in-Ok.field ∷ [],
       walks_step _ _ _ _ _ c.loop-field.invariant.1 (rw c.in-Ok.is at c.in-Some.ensures.steps).0,
       c.take_version.ensures.more done c.loop-field.invariant.2,
-      c.take_head.ensures done c.loop-field.invariant.3,
+      c.take_header_field.ensures done c.loop-field.invariant.3,
       λ items has. c.take_value.ensures.said items done (c.loop-field.invariant.4 items has),
       λ items has before. c.take_value.ensures.kept items done (c.loop-field.invariant.4 items has)
           (c.loop-field.invariant.5 items has before),

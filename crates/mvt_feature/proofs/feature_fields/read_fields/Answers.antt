@@ -2,9 +2,9 @@ use Rattle.std.proofs.Common.{[], ◌∷◌, ◌++◌, ◌∙◌, refl, ap, Ok, 
 use Rattle.mvt_wire.specs.Fields.{Ahead}
 use Rattle.mvt_base.proofs.RuleLemmas.{option_or-some}
 use Rattle.mvt_wire.specs.Field.{entry_of}
-use Rattle.mvt_feature.proofs.KnownLemmas.{known_with}
+use Rattle.mvt_feature.proofs.FeatureFieldsLemmas.{known_with}
 use Rattle.mvt_feature.proofs.WalkLemmas.{walk_start, walk_step, walk_fault}
-use Rattle.mvt_feature.proofs.known.read_known.Goals as goal
+use Rattle.mvt_feature.proofs.feature_fields.read_fields.Goals as goal
 
 pub loop-field-init : goal.loop-field-init
 loop-field-init c = (

@@ -8,7 +8,7 @@ ghost use Rattle.mvt_wire.specs.Field.{Entry, content_of, entry_of};
 ghost use Rattle.mvt_feature.specs.Faults.{fault_of, fault_at as the_fault_at};
 ghost use Rattle.mvt_feature.specs.Forms.{number_rules};
 ghost use Rattle.mvt_message.specs.LayerFields.{layer_forms};
-ghost use Rattle.mvt_message.specs.Inner.{name_after, extent_after, keys_at, IsHeadSoFar};
+ghost use Rattle.mvt_message.specs.Inner.{name_after, extent_after, keys_at, IsLayerHeaderSoFar};
 
 use crate::numbers::{DEFAULT_EXTENT, layer};
 use crate::payload::{check_bytes, text_of, uint32_of};
@@ -19,19 +19,19 @@ use std::alloc::Global;
 
 /// The name, the extent and the keys by the fields so far.
 #[derive(Drop)]
-pub(crate) struct Head<'a> {
+pub(crate) struct LayerHeader<'a> {
     pub(crate) name: Option<&'a str>,
     pub(crate) extent: u32,
     pub(crate) keys: Vec<Text>,
 }
 
-impl<'a> Head<'a> {
+impl<'a> LayerHeader<'a> {
     pub(crate) fn new(alloc: Global) -> Self
         ensures name { option_copied result.name ≡ None }
         ensures extent { result.extent ≡ 4096 }
         ensures keys { result.keys.items ≡ [] }
     {
-        Head {
+        LayerHeader {
             name: None,
             extent: DEFAULT_EXTENT,
             keys: Vec::new(alloc),
@@ -71,15 +71,15 @@ impl<'a> Head<'a> {
 
 /// The head with one more field, unless a fault was met before it.
 #[inline(always)]
-pub(crate) fn take_head<'a>(
+pub(crate) fn take_header_field<'a>(
     alloc: Global,
-    head: &mut Result<Head<'a>, MessageError>,
+    head: &mut Result<LayerHeader<'a>, MessageError>,
     field: &Field<'a>,
     payload_at: u64,
 )
     requires { payload_at + field.now.at < 2 ^ 64 }
-    ensures { (done : List Entry) → IsHeadSoFar payload_at done head.old
-        → IsHeadSoFar payload_at (done ++ entry_of field.now ∷ []) head.new }
+    ensures { (done : List Entry) → IsLayerHeaderSoFar payload_at done head.old
+        → IsLayerHeaderSoFar payload_at (done ++ entry_of field.now ∷ []) head.new }
 {
     let taken = match head {
         Ok(head) => head.take(alloc, field, payload_at + field.at as u64),

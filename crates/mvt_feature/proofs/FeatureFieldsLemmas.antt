@@ -12,13 +12,13 @@ use Rattle.mvt_base.proofs.RuleLemmas.{each_more, each_stops, first-told}
 use Rattle.mvt_base.proofs.SelectionLemmas.{last_only-more}
 use Rattle.mvt_wire.specs.Field.{Entry}
 use Rattle.mvt_feature.specs.declared.numbers.feature.TheConstants.{ID, TAGS, TYPE, GEOMETRY}
-use Rattle.mvt_feature.specs.declared.known.Known.{Known}
+use Rattle.mvt_feature.specs.declared.feature_fields.FeatureFields.{FeatureFields}
 use Rattle.mvt_feature.specs.declared.message_error.MessageError.{MessageError}
 use Rattle.mvt_feature.specs.Faults.{MessageFault, fault_at, fault_of}
 use Rattle.mvt_feature.specs.Features.{number_of, number_in, kind_of_type}
 use Rattle.mvt_feature.specs.FeatureRules.{numbers_of, joined, kind_in, feature_form_rules, feature_field_rules}
 use Rattle.mvt_feature.specs.Selection.{only, last_only}
-use Rattle.mvt_feature.specs.Inner.{id_after, kind_after, numbers_at, IsKnown, IsKnownSoFar}
+use Rattle.mvt_feature.specs.Inner.{id_after, kind_after, numbers_at, AreFeatureFields, AreFeatureFieldsSoFar}
 
 joined_more : (k : ℕ) (xs : List Entry) (x : Entry) → joined k (xs ++ x ∷ []) ≡ joined k xs ++ numbers_at k x.number x.content
 joined_more k xs x =
@@ -49,11 +49,11 @@ kind_more xs x = ap kind_of_type (number_more TYPE xs x) ∙ by_test (x.number =
     by_test true = refl
     by_test false = refl
 
-known_more : (done : List Entry) (x : Entry) (old new : Known) (tags integers new_tags new_integers : List ℕ)
-    → IsKnown done old tags integers
+known_more : (done : List Entry) (x : Entry) (old new : FeatureFields) (tags integers new_tags new_integers : List ℕ)
+    → AreFeatureFields done old tags integers
     → new.id ≡ id_after old.id x.number x.content → new.kind ≡ kind_after old.kind x.number x.content
     → new_tags ≡ tags ++ numbers_at TAGS x.number x.content → new_integers ≡ integers ++ numbers_at GEOMETRY x.number x.content
-    → IsKnown (done ++ x ∷ []) new new_tags new_integers
+    → AreFeatureFields (done ++ x ∷ []) new new_tags new_integers
 known_more done x old new tags integers new_tags new_integers known id kind tags_are integers_are = record {
   id = id ∙ ap (λ o. id_after o x.number x.content) known.id ∙ sym (number_more ID done x);
   kind = kind ∙ ap (λ k. kind_after k x.number x.content) known.kind ∙ sym (kind_more done x);
@@ -77,16 +77,16 @@ one_more payload_at done x more f clean broken =
     rw append_assoc (each_stops (λ _. feature_field_rules payload_at) done x more f clean (field_first payload_at x ∙ broken))
 
 -- the step of the walk
-pub known_with : (payload_at : ℕ) (done : List Entry) (x : Entry) (old : Known)
-    (tags integers new_tags new_integers : List ℕ) (r : Result Known MessageError)
-    → IsKnownSoFar payload_at done (Ok old) tags integers
+pub known_with : (payload_at : ℕ) (done : List Entry) (x : Entry) (old : FeatureFields)
+    (tags integers new_tags new_integers : List ℕ) (r : Result FeatureFields MessageError)
+    → AreFeatureFieldsSoFar payload_at done (Ok old) tags integers
     → OnOk r (first (feature_form_rules x.number x.content) ≡ None)
-    → IfOk r (λ (k : Known). k.id ≡ id_after old.id x.number x.content)
-    → IfOk r (λ (k : Known). k.kind ≡ kind_after old.kind x.number x.content)
+    → IfOk r (λ (k : FeatureFields). k.id ≡ id_after old.id x.number x.content)
+    → IfOk r (λ (k : FeatureFields). k.kind ≡ kind_after old.kind x.number x.content)
     → OnOk r (new_tags ≡ tags ++ numbers_at TAGS x.number x.content)
     → OnOk r (new_integers ≡ integers ++ numbers_at GEOMETRY x.number x.content)
     → IfErr r (λ e. Tells (fault_of e) (option_map (fault_at (payload_at + x.at)) (first (feature_form_rules x.number x.content))))
-    → IsKnownSoFar payload_at (done ++ x ∷ []) r new_tags new_integers
+    → AreFeatureFieldsSoFar payload_at (done ++ x ∷ []) r new_tags new_integers
 known_with payload_at done x old tags integers new_tags new_integers (Ok new) so_far clean id kind tags_are integers_are told_here = (
   each_more (λ _. feature_field_rules payload_at) done x so_far.0 ∙ field_first payload_at x
       ∙ ap (option_map (fault_at (payload_at + x.at))) clean,

@@ -12,7 +12,7 @@ ghost use Rattle.mvt_feature.specs.Faults.{fault_of, fault_at as the_fault_at, r
 ghost use Rattle.mvt_feature.specs.Features.{number_of, kind_of_type};
 ghost use Rattle.mvt_feature.specs.FeatureRules.{numbers_of, list_rules, feature_form_rules, feature_field_rules};
 ghost use Rattle.mvt_feature.specs.Forms.{any_varint, geom_type, form_rules};
-ghost use Rattle.mvt_feature.specs.Inner.{id_after, kind_after, numbers_at, IsKnown};
+ghost use Rattle.mvt_feature.specs.Inner.{id_after, kind_after, numbers_at, AreFeatureFields};
 
 use crate::cause::Cause;
 use crate::message_error::MessageError;
@@ -25,22 +25,22 @@ use mvt_wire::{Field, Fields, PackedError, Payload, append_packed};
 
 /// What the fields of a feature say besides its tags and integers.
 #[derive(Clone, Copy, Debug)]
-pub(crate) struct Known {
+pub(crate) struct FeatureFields {
     pub(crate) id: Option<u64>,
     pub(crate) kind: Kind,
 }
 
 /// What the fields of a payload say; the tags and the integers are left in the scratch.
-pub(crate) fn read_known(
+pub(crate) fn read_fields(
     payload: &[u8],
     payload_at: u64,
     scratch: &mut Scratch,
-) -> Result<Known, MessageError>
+) -> Result<FeatureFields, MessageError>
     requires { payload_at + length payload.now < 2 ^ 64 }
     ensures whole { OnOk result ((split payload.now).rest ≡ []) }
     ensures ok { OnOk result (first
         (each (λ _. feature_field_rules payload_at) [] (split payload.now).fields) ≡ None) }
-    ensures known { IfOk result (λ known. IsKnown
+    ensures known { IfOk result (λ known. AreFeatureFields
         (split payload.now).fields known scratch.new.tags.items scratch.new.integers.items) }
     ensures err { IfErr result (λ error. Tells (fault_of error) (option_or
         (first (rest_rules payload_at (split payload.now)))
@@ -48,7 +48,7 @@ pub(crate) fn read_known(
 {
     scratch.tags.clear();
     scratch.integers.clear();
-    let mut known = Known {
+    let mut known = FeatureFields {
         id: None,
         kind: Kind::Unknown,
     };
@@ -64,10 +64,10 @@ pub(crate) fn read_known(
     Ok(known)
 }
 
-impl Known {
+impl FeatureFields {
     /// What is known with one more field, which is told to stand at this place.
     #[inline(always)]
-    fn with(self, field: &Field<'_>, at: u64, scratch: &mut Scratch) -> Result<Known, MessageError>
+    fn with(self, field: &Field<'_>, at: u64, scratch: &mut Scratch) -> Result<FeatureFields, MessageError>
         ensures ok { OnOk result (first
             (feature_form_rules field.now.number (content_of field.now.payload)) ≡ None) }
         ensures id { IfOk result (λ known. known.id ≡ id_after self.id field.now.number
