@@ -40,10 +40,10 @@ impl Model for TileDecoder {
 
     ghost Value = { Decoding };
 
-    ghost view = { λ d. record { failure = d.failure; items = d.pieces.taker; raw = d.pieces.raw.items; offset = d.pieces.offset } };
+    ghost view = { λ d. record { failure = d.failure; items = d.pieces.visitor; raw = d.pieces.raw.items; offset = d.pieces.offset } };
 
     ghost invariant = { λ d. IfNone d.failure
-        ((length d.pieces.taker ≤ d.pieces.offset)
+        ((length d.pieces.visitor ≤ d.pieces.offset)
         × (d.pieces.offset + length d.pieces.raw.items ≤ LIMIT)) };
 }
 

@@ -17,7 +17,7 @@ use crate::fault::DecodeError;
 use crate::layers::{holds_name, set_of};
 use crate::reading::read_whole;
 use crate::rewriting::Rewriter;
-use crate::taking::take_whole;
+use crate::walking::walk_whole;
 use mvt_base::{LIMIT, Text};
 use mvt_io::Source;
 use std::alloc::{AllocError, Global};
@@ -51,7 +51,7 @@ pub fn extract_bytes(
     ensures fault { IfErr result (λ error. TellsAtEnd error (fault_within LIMIT bytes.now)) }
 {
     let mut rewriter = Rewriter::new(alloc, Some(set_of(alloc, names)?));
-    take_whole(alloc, &mut rewriter, bytes)?;
+    walk_whole(alloc, &mut rewriter, bytes)?;
     Ok(rewritten(alloc, rewriter, names)?)
 }
 

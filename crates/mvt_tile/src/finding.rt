@@ -14,7 +14,7 @@ ghost use Rattle.mvt_tile.specs.Streams.{TellsAtEnd};
 ghost use Rattle.mvt_tile.specs.TileRules.{payload_of, rest_rules};
 
 use crate::fault::{DecodeError, Fault};
-use crate::taking::in_layer;
+use crate::walking::in_layer;
 use crate::visiting::TileVisitor;
 use mvt_base::LIMIT;
 use mvt_message::{Cause, has_name};

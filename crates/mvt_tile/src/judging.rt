@@ -8,7 +8,7 @@ ghost use Rattle.mvt_model.specs.Tiles.{IsTile};
 
 use crate::fault::DecodeError;
 use crate::layers::Names;
-use crate::taking::{Taker, in_layer, take_whole};
+use crate::walking::{ItemVisitor, in_layer, walk_whole};
 use mvt_base::{LIMIT, Text};
 use mvt_message::judge_item;
 use std::alloc::{AllocError, Global};
@@ -25,18 +25,18 @@ pub fn judge(alloc: Global, bytes: &[u8]) -> Result<(), DecodeError>
     ensures tile { OnOk result ((tile : Tile) × IsTile LIMIT bytes.now tile) }
     ensures fault { IfErr result (λ error. TellsAtEnd error (fault_within LIMIT bytes.now)) }
 {
-    take_whole(alloc, &mut Names::new(alloc), bytes)
+    walk_whole(alloc, &mut Names::new(alloc), bytes)
 }
 
-impl Taker for Names {
+impl ItemVisitor for Names {
     ghost use Rattle.mvt_tile.specs.Inner.Judging.{AreNamed};
 
     ghost Given = { Unit {0} };
 
-    ghost has_taken = { λ _ names items. AreNamed names.count names.names.keys items };
+    ghost has_visited = { λ _ names items. AreNamed names.count names.names.keys items };
 
     /// Judges a layer's payload, and adds its name.
-    fn take_item(
+    fn visit_item(
         &mut self,
         alloc: Global,
         payload: &[u8],

@@ -12,7 +12,7 @@ ghost use Rattle.mvt_tile.specs.TileRules.{repeats};
 ghost use Rattle.mvt_model.specs.Tiles.{HasDistinctNames};
 
 use crate::fault::DecodeError;
-use crate::taking::{Taker, in_layer, repeated_name};
+use crate::walking::{ItemVisitor, in_layer, repeated_name};
 use mvt_base::{LIMIT, Text};
 use mvt_message::{Item, read_item};
 use std::alloc::{AllocError, Global};
@@ -82,15 +82,15 @@ impl Layers {
     }
 }
 
-impl Taker for Layers {
+impl ItemVisitor for Layers {
     ghost use Rattle.std.specs.Prelude.{◌≡◌};
 
     ghost Given = { Unit {0} };
 
-    ghost has_taken = { λ _ layers items. layers ≡ items };
+    ghost has_visited = { λ _ layers items. layers ≡ items };
 
     /// Reads an item, and keeps it.
-    fn take_item(
+    fn visit_item(
         &mut self,
         alloc: Global,
         payload: &[u8],

@@ -17,7 +17,7 @@ mod reading;
 mod rewriting;
 mod round_trip;
 mod surveying;
-mod taking;
+mod walking;
 mod validity;
 mod visiting;
 mod visiting_decoder;

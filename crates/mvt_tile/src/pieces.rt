@@ -8,7 +8,7 @@ ghost use Rattle.mvt_tile.specs.Streams.{IsLive, TellsEarly, TellsAtEnd};
 ghost use Rattle.mvt_tile.specs.TileRules.{fault_within};
 
 use crate::fault::{DecodeError, Fault};
-use crate::taking::{Taker, take_fields};
+use crate::walking::{ItemVisitor, walk_fields};
 use mvt_base::LIMIT;
 use mvt_message::Cause;
 use std::alloc::Global;
@@ -17,20 +17,20 @@ use std::alloc::Global;
 /// place.
 #[derive(Drop)]
 pub(crate) struct Pieces<T> {
-    pub(crate) taker: T,
+    pub(crate) visitor: T,
     pub(crate) raw: Vec<u8>,
     pub(crate) offset: u64,
 }
 
-impl<T: Taker> Pieces<T> {
+impl<T: ItemVisitor> Pieces<T> {
     /// No pieces yet, without memory.
-    pub(crate) fn new(alloc: Global, taker: T) -> Self
-        ensures taker { result.taker ≡ taker }
+    pub(crate) fn new(alloc: Global, visitor: T) -> Self
+        ensures visitor { result.visitor ≡ visitor }
         ensures raw { result.raw.items ≡ [] }
         ensures offset { result.offset ≡ 0 }
     {
         Pieces {
-            taker,
+            visitor,
             raw: Vec::new(alloc),
             offset: 0,
         }
@@ -39,23 +39,23 @@ impl<T: Taker> Pieces<T> {
     /// Takes the items in a piece behind the bytes that are held, and holds what is then left.
     pub(crate) fn take(&mut self, alloc: Global, piece: &[u8]) -> Result<(), DecodeError>
         requires few { (given : T.Given) × (items : List Item)
-            × T.has_taken given self.old.taker items × (length items ≤ self.old.offset) }
+            × T.has_visited given self.old.visitor items × (length items ≤ self.old.offset) }
         requires small { self.old.offset + length self.old.raw.items ≤ LIMIT }
         ensures small { OnOk result (self.new.offset + length self.new.raw.items ≤ LIMIT) }
         ensures live { (given : T.Given) (items : List Item)
-            → T.has_taken given self.old.taker items → length items ≤ self.old.offset
-            → OnOk result ((new : List Item) × T.has_taken given self.new.taker new
+            → T.has_visited given self.old.visitor items → length items ≤ self.old.offset
+            → OnOk result ((new : List Item) × T.has_visited given self.new.visitor new
             × (length new ≤ self.new.offset)
             × ((s : List ℕ) → IsLive LIMIT self.old.offset items self.old.raw.items s
             → IsLive LIMIT self.new.offset new self.new.raw.items (s ++ piece.now))) }
         ensures fault { (given : T.Given) (items : List Item)
-            → T.has_taken given self.old.taker items → IfErr result
+            → T.has_visited given self.old.visitor items → IfErr result
             (λ error. (s : List ℕ) → IsLive LIMIT self.old.offset items self.old.raw.items s
             → TellsEarly error (fault_within LIMIT (s ++ piece.now))) }
     {
         let room = LIMIT as usize - (self.offset as usize + self.raw.len());
         let (fitting, beyond) = piece.split_at(room.min(piece.len()));
-        let used = swallow(alloc, &mut self.taker, &mut self.raw, self.offset, fitting)?;
+        let used = swallow(alloc, &mut self.visitor, &mut self.raw, self.offset, fitting)?;
         self.offset += used as u64;
         if !beyond.is_empty() {
             return Err(DecodeError::Fault(Fault::outer(self.offset, Cause::TooLarge)));
@@ -67,7 +67,7 @@ impl<T: Taker> Pieces<T> {
     pub(crate) fn finish(self) -> Result<T, DecodeError>
         ensures tile { (items : List Item) (s : List ℕ)
             → IsLive LIMIT self.offset items self.raw.items s
-            → IfOk result (λ taker. (taker ≡ self.taker)
+            → IfOk result (λ visitor. (visitor ≡ self.visitor)
             × IsTile LIMIT s (record { items = items })) }
         ensures fault { (items : List Item) (s : List ℕ)
             → IsLive LIMIT self.offset items self.raw.items s
@@ -77,39 +77,39 @@ impl<T: Taker> Pieces<T> {
         if !self.raw.is_empty() {
             return Err(DecodeError::Fault(Fault::outer(self.offset, Cause::Truncated)));
         }
-        Ok(self.taker)
+        Ok(self.visitor)
     }
 }
 
 /// Takes the items in a piece behind some bytes, keeps what is unfinished, and answers how many
 /// bytes were whole fields. Where no bytes stand before it, the piece isn't copied first.
-fn swallow<T: Taker>(
+fn swallow<T: ItemVisitor>(
     alloc: Global,
-    taker: &mut T,
+    visitor: &mut T,
     raw: &mut Vec<u8>,
     offset: u64,
     piece: &[u8],
 ) -> Result<usize, DecodeError>
-    requires few { (given : T.Given) × (items : List Item) × T.has_taken given taker.old items
+    requires few { (given : T.Given) × (items : List Item) × T.has_visited given visitor.old items
         × (length items ≤ offset) }
     requires small { offset + (length raw.old.items + length piece.now) ≤ LIMIT }
-    ensures judged { (given : T.Given) (items : List Item) → T.has_taken given taker.old items
+    ensures judged { (given : T.Given) (items : List Item) → T.has_visited given visitor.old items
         → IfOk result
-        (λ used. (new : List Item) × T.has_taken given taker.new new
+        (λ used. (new : List Item) × T.has_visited given visitor.new new
         × IsJudged offset (raw.old.items ++ piece.now) items new used) }
     ensures raw { IfOk result (λ used. raw.new.items ≡ drop used (raw.old.items ++ piece.now)) }
     ensures within { IfOk result (λ used. used ≤ length raw.old.items + length piece.now) }
-    ensures fault { (given : T.Given) (items : List Item) → T.has_taken given taker.old items
+    ensures fault { (given : T.Given) (items : List Item) → T.has_visited given visitor.old items
         → IfErr result
         (λ error. TellsBehind error offset (raw.old.items ++ piece.now) items) }
 {
     if raw.is_empty() {
-        let used = take_fields(alloc, taker, piece, offset)?;
+        let used = walk_fields(alloc, visitor, piece, offset)?;
         raw.extend_from_slice(&piece[used..])?;
         return Ok(used);
     }
     raw.extend_from_slice(piece)?;
-    let used = take_fields(alloc, taker, raw.as_slice(), offset)?;
+    let used = walk_fields(alloc, visitor, raw.as_slice(), offset)?;
     if used > 0 {
         raw.drain(..used);
     }

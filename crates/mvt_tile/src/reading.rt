@@ -14,7 +14,7 @@ ghost use Rattle.mvt_model.specs.ValidTiles.{Valid};
 use crate::fault::DecodeError;
 use crate::layers::Layers;
 use crate::pieces::Pieces;
-use crate::taking::Taker;
+use crate::walking::ItemVisitor;
 use mvt_base::{Items, LIMIT};
 use mvt_io::Source;
 use mvt_model::Tile;
@@ -48,29 +48,29 @@ pub fn read_tile<R: Source>(alloc: Global, reader: &mut R) -> Result<Tile, Decod
 }
 
 /// Takes the items of a tile: all that the reader has left. It reads no further after a fault.
-pub(crate) fn read_whole<R: Source, T: Taker>(
+pub(crate) fn read_whole<R: Source, T: ItemVisitor>(
     alloc: Global,
     reader: &mut R,
-    taker: T,
+    visitor: T,
 ) -> Result<T, DecodeError>
-    requires start { (given : T.Given) × T.has_taken given taker [] }
+    requires start { (given : T.Given) × T.has_visited given visitor [] }
     ensures end { OnOk result (IsAtEnd (R.state reader.new).left) }
     ensures fault { IfErr result (λ error. IfSome (R.state reader.old).left
         (λ input. Tells (fault_of error) (fault_within LIMIT input))) }
-    ensures tile { (given : T.Given) → T.has_taken given taker []
+    ensures tile { (given : T.Given) → T.has_visited given visitor []
         → IfOk result (λ after. (tile : Tile)
-        × T.has_taken given after tile.items
+        × T.has_visited given after tile.items
         × IfSome (R.state reader.old).left (λ bytes. IsTile LIMIT bytes tile)) }
     ensures read { ReadsTile LIMIT (R.state reader.old) (R.state reader.new) (kind_of result) }
 {
-    let mut pieces = Pieces::new(alloc, taker);
+    let mut pieces = Pieces::new(alloc, visitor);
     let mut buffer = [0; PIECE];
     feed_all(alloc, reader, &mut pieces, &mut buffer)?;
     pieces.finish()
 }
 
 /// Takes the items in all that the reader has left, in pieces of the buffer's length at most.
-fn feed_all<R: Source, T: Taker>(
+fn feed_all<R: Source, T: ItemVisitor>(
     alloc: Global,
     reader: &mut R,
     pieces: &mut Pieces<T>,
@@ -78,11 +78,11 @@ fn feed_all<R: Source, T: Taker>(
 ) -> Result<(), DecodeError>
     requires room { 0 < length buffer.old }
     requires few { length buffer.old ≤ 65536 }
-    requires start { (given : T.Given) × T.has_taken given pieces.old.taker [] }
+    requires start { (given : T.Given) × T.has_visited given pieces.old.visitor [] }
     requires raw { pieces.old.raw.items ≡ [] }
     requires offset { pieces.old.offset ≡ 0 }
-    ensures fed { (given : T.Given) → T.has_taken given pieces.old.taker [] → OnOk result
-        (HasFed LIMIT (T.has_taken given pieces.new.taker) pieces.new.offset pieces.new.raw.items
+    ensures fed { (given : T.Given) → T.has_visited given pieces.old.visitor [] → OnOk result
+        (HasFed LIMIT (T.has_visited given pieces.new.visitor) pieces.new.offset pieces.new.raw.items
         (R.state reader.old).left (R.state reader.new).left 0) }
     ensures end { OnOk result (IsAtEnd (R.state reader.new).left) }
     ensures stopped { IfErr result (HasStopped LIMIT (R.state reader.new).given

@@ -23,7 +23,7 @@ use crate::fault::DecodeError;
 use crate::judging::text_of;
 use crate::layers::{Names, holds_name};
 use crate::reading::read_whole;
-use crate::taking::{Taker, in_layer, take_whole};
+use crate::walking::{ItemVisitor, in_layer, walk_whole};
 use mvt_base::{LIMIT, Text};
 use mvt_io::Source;
 use mvt_message::rewrite_item;
@@ -44,7 +44,7 @@ pub fn rewrite(alloc: Global, bytes: &[u8]) -> Result<Option<Vec<u8>>, DecodeErr
     ensures fault { IfErr result (λ error. TellsAtEnd error (fault_within LIMIT bytes.now)) }
 {
     let mut rewriter = Rewriter::of_all(alloc);
-    take_whole(alloc, &mut rewriter, bytes)?;
+    walk_whole(alloc, &mut rewriter, bytes)?;
     Ok(rewriter.out)
 }
 
@@ -128,7 +128,7 @@ impl Rewriter {
     }
 }
 
-impl Taker for Rewriter {
+impl ItemVisitor for Rewriter {
     ghost use Rattle.std.specs.Prelude.{Bool};
     ghost use Rattle.mvt_base.specs.declared.TheConstants.{LIMIT};
     ghost use Rattle.mvt_message.specs.declared.item.Item.{Item};
@@ -137,10 +137,10 @@ impl Taker for Rewriter {
     // Which items are wanted.
     ghost Given = { Item → Bool };
 
-    ghost has_taken = { HasRewritten LIMIT };
+    ghost has_visited = { HasRewritten LIMIT };
 
     /// Makes an item canonical, and keeps its name, and its bytes where it is wanted.
-    fn take_item(
+    fn visit_item(
         &mut self,
         alloc: Global,
         payload: &[u8],

@@ -12,7 +12,7 @@ ghost use Rattle.mvt_model.specs.ValidTiles.{Valid};
 
 use crate::fault::DecodeError;
 use crate::layers::Names;
-use crate::taking::{Taker, in_layer, take_whole};
+use crate::walking::{ItemVisitor, in_layer, walk_whole};
 use mvt_base::LIMIT;
 use mvt_message::rewrite_item;
 use mvt_model::{Findings, Survey};
@@ -35,7 +35,7 @@ pub fn survey_tile(alloc: Global, bytes: &[u8]) -> Result<Survey, DecodeError>
         names: Names::new(alloc),
         found: Findings::new(alloc, fitting),
     };
-    take_whole(alloc, &mut surveyor, bytes)?;
+    walk_whole(alloc, &mut surveyor, bytes)?;
     let Surveyor { names, found } = surveyor;
     Ok(found.into_survey(names.count)?)
 }
@@ -47,7 +47,7 @@ struct Surveyor<'a> {
     found: Findings<'a>,
 }
 
-impl<'a> Taker for Surveyor<'a> {
+impl<'a> ItemVisitor for Surveyor<'a> {
     ghost use Rattle.std.specs.Prelude.{List, ℕ};
     ghost use Rattle.std.specs.List.{AllByRecursion};
     ghost use Rattle.mvt_base.specs.declared.TheConstants.{LIMIT};
@@ -57,11 +57,11 @@ impl<'a> Taker for Surveyor<'a> {
 
     ghost Given = { List ℕ };
 
-    ghost has_taken = { λ input s items. AreNamed s.names.count s.names.names.keys items
+    ghost has_visited = { λ input s items. AreNamed s.names.count s.names.names.keys items
         × AreFound LIMIT input s.found items × AllByRecursion ValidItem items };
 
     /// Makes an item canonical, reads it, and keeps its name and what is found of it.
-    fn take_item(
+    fn visit_item(
         &mut self,
         alloc: Global,
         payload: &[u8],

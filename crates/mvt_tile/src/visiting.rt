@@ -15,7 +15,7 @@ ghost use Rattle.mvt_tile.specs.TileRules.{fault_within};
 
 use crate::fault::DecodeError;
 use crate::layers::Names;
-use crate::taking::{Taker, in_layer, take_whole};
+use crate::walking::{ItemVisitor, in_layer, walk_whole};
 use mvt_base::{LIMIT, Text};
 use mvt_message::MessageError;
 use std::alloc::Global;
@@ -63,7 +63,7 @@ pub fn visit_tile<V: TileVisitor>(alloc: Global, visitor: V, bytes: &[u8]) -> Re
         names: Names::new(alloc),
         visitor,
     };
-    take_whole(alloc, &mut named, bytes)?;
+    walk_whole(alloc, &mut named, bytes)?;
     Ok(named.visitor)
 }
 
@@ -74,15 +74,15 @@ pub(crate) struct Named<V> {
     pub(crate) visitor: V,
 }
 
-impl<V: TileVisitor> Taker for Named<V> {
+impl<V: TileVisitor> ItemVisitor for Named<V> {
     ghost use Rattle.mvt_tile.specs.Visiting.{HasNamed};
 
     ghost Given = { Unit {0} };
 
-    ghost has_taken = { λ _ named items. HasNamed (V.has_items named.visitor) named.names.count named.names.names.keys items };
+    ghost has_visited = { λ _ named items. HasNamed (V.has_items named.visitor) named.names.count named.names.names.keys items };
 
     /// Has the visitor take an item, and adds its name.
-    fn take_item(
+    fn visit_item(
         &mut self,
         alloc: Global,
         payload: &[u8],

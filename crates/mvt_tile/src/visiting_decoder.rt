@@ -36,18 +36,18 @@ impl<V: TileVisitor> Model for VisitingDecoder<V> {
     ghost view = { λ d. (
       record {
         failure = d.failure;
-        count = d.pieces.taker.names.count;
-        names = d.pieces.taker.names.names.keys;
+        count = d.pieces.visitor.names.count;
+        names = d.pieces.visitor.names.names.keys;
         raw = d.pieces.raw.items;
         offset = d.pieces.offset;
       },
-      d.pieces.taker.visitor,
+      d.pieces.visitor.visitor,
     ) };
 
-    ghost invariant = { λ d. IfNone d.failure ((s : List ℕ) × HasVisited LIMIT (V.has_items d.pieces.taker.visitor) (record {
+    ghost invariant = { λ d. IfNone d.failure ((s : List ℕ) × HasVisited LIMIT (V.has_items d.pieces.visitor.visitor) (record {
       failure = d.failure;
-      count = d.pieces.taker.names.count;
-      names = d.pieces.taker.names.names.keys;
+      count = d.pieces.visitor.names.count;
+      names = d.pieces.visitor.names.names.keys;
       raw = d.pieces.raw.items;
       offset = d.pieces.offset;
     }) s) };

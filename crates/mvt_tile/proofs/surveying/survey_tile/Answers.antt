@@ -6,7 +6,7 @@ use Rattle.mvt_tile.proofs.surveying.survey_tile.Goals as goal
 
 pub returns-clause-survey : goal.returns-clause-survey
 returns-clause-survey c =
-    let taken = c.in_ok-take_whole.ensures.tile _ (c.new.ensures, c.new-2.ensures, tt) in
+    let taken = c.in_ok-walk_whole.ensures.tile _ (c.new.ensures, c.new-2.ensures, tt) in
     let tile = taken.0 in (
       tile,
       taken.1,

@@ -11,7 +11,7 @@ returns-in-Some-clause-stands c =
 pub invariant_of-self : goal.invariant_of-self
 invariant_of-self c =
     let few = rw c.in_default.is at c.self.invariant in
-    let (new, is, more, live) = c.in-Ok.ensures.live tt c.self.inside.pieces.taker refl few.0 in
+    let (new, is, more, live) = c.in-Ok.ensures.live tt c.self.inside.pieces.visitor refl few.0 in
     rw c.in_default.is (subst (λ xs. length xs ≤ c.take.new.self.offset) (sym is) more, c.in-Ok.ensures.small)
 
 pub returns-in-Ok-clause-stands : goal.returns-in-Ok-clause-stands
@@ -20,9 +20,9 @@ returns-in-Ok-clause-stands c =
     let inside = c.self.inside in
     let old = inside.pieces in
     let now = c.take.new.self in
-    let (new, is, more, live) = c.in-Ok.ensures.live tt old.taker refl few.0 in
-    λ s stands. stands_of 67108864 inside.failure now.offset now.taker new now.raw.items _ c.in_default.is is
-    (live s (live_of 67108864 inside.failure old.offset old.taker old.raw.items c.args.self.now s c.self.view_is c.in_default.is stands))
+    let (new, is, more, live) = c.in-Ok.ensures.live tt old.visitor refl few.0 in
+    λ s stands. stands_of 67108864 inside.failure now.offset now.visitor new now.raw.items _ c.in_default.is is
+    (live s (live_of 67108864 inside.failure old.offset old.visitor old.raw.items c.args.self.now s c.self.view_is c.in_default.is stands))
 
 pub returns-in-Err-clause-stands : goal.returns-in-Err-clause-stands
 returns-in-Err-clause-stands c =
@@ -30,6 +30,6 @@ returns-in-Err-clause-stands c =
     let old = inside.pieces in
     λ s stands. (
       c.clear.ensures.items,
-      c.in-Err.ensures.fault tt old.taker refl s
-          (live_of 67108864 inside.failure old.offset old.taker old.raw.items c.args.self.now s c.self.view_is c.in_default.is stands),
+      c.in-Err.ensures.fault tt old.visitor refl s
+          (live_of 67108864 inside.failure old.offset old.visitor old.raw.items c.args.self.now s c.self.view_is c.in_default.is stands),
     )

@@ -8,16 +8,16 @@ returns-in_err-layers-clause-fault c =
     let inside = c.self.inside in
     let pieces = inside.pieces in
     rw (p.1, p.2)
-    (λ s stands. c.in_err-layers.ensures.fault pieces.taker s
-    (live_of 67108864 inside.failure pieces.offset pieces.taker pieces.raw.items c.args.self s c.self.view_is c.in_default.is stands))
+    (λ s stands. c.in_err-layers.ensures.fault pieces.visitor s
+    (live_of 67108864 inside.failure pieces.offset pieces.visitor pieces.raw.items c.args.self s c.self.view_is c.in_default.is stands))
 
 pub returns-clause-tile : goal.returns-clause-tile
 returns-clause-tile c =
     let inside = c.self.inside in
     let pieces = inside.pieces in
     λ s stands.
-    let done = c.in_ok-layers.ensures.tile pieces.taker s
-    (live_of 67108864 inside.failure pieces.offset pieces.taker pieces.raw.items c.args.self s c.self.view_is c.in_default.is stands) in
+    let done = c.in_ok-layers.ensures.tile pieces.visitor s
+    (live_of 67108864 inside.failure pieces.offset pieces.visitor pieces.raw.items c.args.self s c.self.view_is c.in_default.is stands) in
     rw (c.new.ensures, c.into_items.ensures.items, done.0) done.1
 
 pub returns-clause-valid : goal.returns-clause-valid

@@ -3,4 +3,4 @@ use Rattle.mvt_tile.proofs.decoder.TileDecoder.new.Goals as goal
 
 pub returns-clause-stands : goal.returns-clause-stands
 returns-clause-stands c =
-    rw (c.new-2.ensures.taker, c.new-2.ensures.raw, c.new-2.ensures.offset, c.new.ensures) (live_start 67108864)
+    rw (c.new-2.ensures.visitor, c.new-2.ensures.raw, c.new-2.ensures.offset, c.new.ensures) (live_start 67108864)

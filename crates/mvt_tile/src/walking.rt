@@ -24,46 +24,46 @@ use mvt_wire::{Field, Fields, Payload, WireCause, WireFault};
 use std::alloc::Global;
 
 /// What takes the items of a tile, one after the other.
-pub(crate) trait Taker: Drop {
+pub(crate) trait ItemVisitor: Drop {
     // What it was given beside the items.
     ghost Given: { Type 0 };
 
     // What it knows of that when it has taken these items.
-    ghost has_taken: { Given → Self → List Item → Type 0 };
+    ghost has_visited: { Given → Self → List Item → Type 0 };
 
     /// Takes the item of a payload. Its first byte and the tag of its field stand at these places.
-    fn take_item(
+    fn visit_item(
         &mut self,
         alloc: Global,
         payload: &[u8],
         payload_at: u64,
         tag_at: u64,
     ) -> Result<(), DecodeError>
-        requires few { (given : Given) × (items : List Item) × has_taken given self.old items
+        requires few { (given : Given) × (items : List Item) × has_visited given self.old items
             × (length items ≤ LIMIT) }
         requires fits { payload_at + length payload.now ≤ LIMIT }
-        ensures item { (given : Given) (items : List Item) → has_taken given self.old items
+        ensures item { (given : Given) (items : List Item) → has_visited given self.old items
             → OnOk result
-            ((new : List Item) × has_taken given self.new new × TakesItem items new payload.now) }
-        ensures fault { (given : Given) (items : List Item) → has_taken given self.old items
+            ((new : List Item) × has_visited given self.new new × TakesItem items new payload.now) }
+        ensures fault { (given : Given) (items : List Item) → has_visited given self.old items
             → IfErr result
             (λ error. TellsEarly error (payload_fault (length items)
             (flat_map names_in items) payload.now payload_at tag_at)) };
 }
 
 /// Takes the items of a tile: all bytes, which stand at the front of an input.
-pub(crate) fn take_whole<T: Taker>(
+pub(crate) fn walk_whole<T: ItemVisitor>(
     alloc: Global,
-    taker: &mut T,
+    visitor: &mut T,
     bytes: &[u8],
 ) -> Result<(), DecodeError>
-    requires start { (given : T.Given) × T.has_taken given taker.old [] }
-    ensures tile { (given : T.Given) → T.has_taken given taker.old [] → OnOk result
-        ((tile : Tile) × IsTile LIMIT bytes.now tile × T.has_taken given taker.new tile.items) }
+    requires start { (given : T.Given) × T.has_visited given visitor.old [] }
+    ensures tile { (given : T.Given) → T.has_visited given visitor.old [] → OnOk result
+        ((tile : Tile) × IsTile LIMIT bytes.now tile × T.has_visited given visitor.new tile.items) }
     ensures fault { IfErr result (λ error. TellsAtEnd error (fault_within LIMIT bytes.now)) }
 {
     let (fitting, beyond) = bytes.split_at(bytes.len().min(LIMIT as usize));
-    let used = take_fields(alloc, taker, fitting, 0)?;
+    let used = walk_fields(alloc, visitor, fitting, 0)?;
     if !beyond.is_empty() {
         return Err(DecodeError::Fault(Fault::outer(used as u64, Cause::TooLarge)));
     }
@@ -75,26 +75,26 @@ pub(crate) fn take_whole<T: Taker>(
 
 /// Takes the items of the whole fields at the front, and answers how many bytes those are. The
 /// bytes stand at an offset of the input.
-pub(crate) fn take_fields<T: Taker>(
+pub(crate) fn walk_fields<T: ItemVisitor>(
     alloc: Global,
-    taker: &mut T,
+    visitor: &mut T,
     bytes: &[u8],
     offset: u64,
 ) -> Result<usize, DecodeError>
-    requires few { (given : T.Given) × (items : List Item) × T.has_taken given taker.old items
+    requires few { (given : T.Given) × (items : List Item) × T.has_visited given visitor.old items
         × (length items ≤ offset) }
     requires fits { offset + length bytes.now ≤ LIMIT }
-    ensures judged { (given : T.Given) (items : List Item) → T.has_taken given taker.old items
+    ensures judged { (given : T.Given) (items : List Item) → T.has_visited given visitor.old items
         → IfOk result
-        (λ used. (new : List Item) × T.has_taken given taker.new new
+        (λ used. (new : List Item) × T.has_visited given visitor.new new
         × IsJudged offset bytes.now items new used) }
-    ensures fault { (given : T.Given) (items : List Item) → T.has_taken given taker.old items
+    ensures fault { (given : T.Given) (items : List Item) → T.has_visited given visitor.old items
         → IfErr result
         (λ error. TellsBehind error offset bytes.now items) }
 {
     for field in Fields::new(bytes) {
         match field {
-            Ok(field) => take_field(alloc, taker, &field, offset)?,
+            Ok(field) => take_field(alloc, visitor, &field, offset)?,
             Err(fault) => return judge_rest(fault, offset),
         }
     }
@@ -152,29 +152,29 @@ fn layer_in<'a>(field: &Field<'a>, offset: u64) -> Result<Option<Place<'a>>, Dec
 }
 
 /// Takes the item of a field that holds one.
-fn take_field<T: Taker>(
+fn take_field<T: ItemVisitor>(
     alloc: Global,
-    taker: &mut T,
+    visitor: &mut T,
     field: &Field<'_>,
     offset: u64,
 ) -> Result<(), DecodeError>
-    requires few { (given : T.Given) × (items : List Item) × T.has_taken given taker.old items
+    requires few { (given : T.Given) × (items : List Item) × T.has_visited given visitor.old items
         × (length items ≤ LIMIT) }
     requires place { offset + field.now.at ≤ LIMIT }
     requires fits { offset + (field.now.body + bytes_size (entry_of field.now).content) ≤ LIMIT }
-    ensures items { (given : T.Given) (items : List Item) → T.has_taken given taker.old items
+    ensures items { (given : T.Given) (items : List Item) → T.has_visited given visitor.old items
         → OnOk result ((new : List Item)
-        × T.has_taken given taker.new new × (length new ≤ length items + 1)
+        × T.has_visited given visitor.new new × (length new ≤ length items + 1)
         × ((front : List Entry) → AreItems front items
         → AreItems (front ++ shifted offset (entry_of field.now) ∷ []) new)) }
-    ensures fault { (given : T.Given) (items : List Item) → T.has_taken given taker.old items
+    ensures fault { (given : T.Given) (items : List Item) → T.has_visited given visitor.old items
         → IfErr result (λ error.
         (front : List Entry) → AreItems front items
         → TellsEarly error (first (field_rules front (shifted offset (entry_of field.now))))) }
 {
     match layer_in(field, offset)? {
         None => Ok(()),
-        Some(place) => taker.take_item(alloc, place.payload, place.payload_at, place.tag_at),
+        Some(place) => visitor.visit_item(alloc, place.payload, place.payload_at, place.tag_at),
     }
 }
 

@@ -3,7 +3,7 @@ use Rattle.std.proofs.lemmas.Result.{IfErr-weaker, on_ok_weaker}
 use Rattle.std.specs.Option.{option_to_list}
 use Rattle.mvt_message.proofs.MessageLaws.{item_names, item_or_fault_there}
 use Rattle.mvt_tile.proofs.JudgeLemmas.{tells_name}
-use Rattle.mvt_tile.proofs.judging.NamesTaker.take_item.Goals as goal
+use Rattle.mvt_tile.proofs.judging.NamesItemVisitor.visit_item.Goals as goal
 
 pub returns-in_ok-text_of-in-Ok-clause-item : goal.returns-in_ok-text_of-in-Ok-clause-item
 returns-in_ok-text_of-in-Ok-clause-item c = λ input items are.

@@ -4,7 +4,7 @@ use Rattle.mvt_base.proofs.ListLemmas.{all_joined}
 use Rattle.mvt_message.specs.ValidItems.{ValidItem}
 use Rattle.mvt_message.proofs.MessageLaws.{item_names, item_or_fault_clean}
 use Rattle.mvt_tile.proofs.JudgeLemmas.{tells_name}
-use Rattle.mvt_tile.proofs.visiting.NamedTaker.take_item.Goals as goal
+use Rattle.mvt_tile.proofs.visiting.NamedItemVisitor.visit_item.Goals as goal
 
 pub returns-in-Ok-clause-item : goal.returns-in-Ok-clause-item
 returns-in-Ok-clause-item g c = λ input items has.

@@ -1,7 +1,7 @@
 use Rattle.std.proofs.Common.{refl, ap}
 use Rattle.mvt_wire.specs.Field.{content_of, entry_of}
 use Rattle.mvt_tile.proofs.JudgeLemmas.{field_wrong, not_bytes}
-use Rattle.mvt_tile.proofs.taking.layer_in.Goals as goal
+use Rattle.mvt_tile.proofs.walking.layer_in.Goals as goal
 
 pub returns-in-Len-clause-place : goal.returns-in-Len-clause-place
 returns-in-Len-clause-place c =

@@ -3,7 +3,7 @@ use Rattle.mvt_base.proofs.ListLemmas.{all_joined}
 use Rattle.mvt_message.proofs.MessageLaws.{one_item}
 use Rattle.mvt_message.specs.CanonicalItems.{canonical_item}
 use Rattle.mvt_message.specs.ValidItems.{ValidItem}
-use Rattle.mvt_tile.proofs.surveying.SurveyorTaker.take_item.Goals as goal
+use Rattle.mvt_tile.proofs.surveying.SurveyorItemVisitor.visit_item.Goals as goal
 
 pub add-requires-clause-canonical : goal.add-requires-clause-canonical
 add-requires-clause-canonical c =

@@ -4,7 +4,7 @@ use Rattle.std.proofs.lemmas.Result.{IfErr-weaker, on_ok_weaker}
 use Rattle.mvt_message.specs.CanonicalItems.{canonical_item}
 use Rattle.mvt_message.proofs.MessageLaws.{item_names}
 use Rattle.mvt_tile.proofs.JudgeLemmas.{tells_name}
-use Rattle.mvt_tile.proofs.rewriting.RewriterTaker.take_item.Goals as goal
+use Rattle.mvt_tile.proofs.rewriting.RewriterItemVisitor.visit_item.Goals as goal
 
 pub returns-in-Ok-clause-item : goal.returns-in-Ok-clause-item
 returns-in-Ok-clause-item c = λ wanted items has.

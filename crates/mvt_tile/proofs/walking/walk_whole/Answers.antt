@@ -2,7 +2,7 @@ use Rattle.std.proofs.Common.{◌≡◌, [], length, rules}
 use Rattle.std.proofs.lemmas.Result.{err_from_is_err_and}
 use Rattle.mvt_tile.proofs.DecoderLemmas.{cut}
 use Rattle.mvt_tile.proofs.WholeLemmas.{whole_fails, whole_too_large, whole_truncated, whole_tile}
-use Rattle.mvt_tile.proofs.taking.take_whole.Goals as goal
+use Rattle.mvt_tile.proofs.walking.walk_whole.Goals as goal
 
 pub returns-in_err-used-clause-fault : goal.returns-in_err-used-clause-fault
 returns-in_err-used-clause-fault g c =

@@ -2,7 +2,7 @@ use Rattle.std.proofs.lemmas.Result.{IfErr-weaker}
 use Rattle.mvt_message.proofs.MessageLaws.{item_names}
 use Rattle.mvt_message.specs.Items.{names_in}
 use Rattle.mvt_tile.proofs.JudgeLemmas.{tells_name}
-use Rattle.mvt_tile.proofs.layers.LayersTaker.take_item.Goals as goal
+use Rattle.mvt_tile.proofs.layers.LayersItemVisitor.visit_item.Goals as goal
 
 pub returns-in-Ok-clause-fault : goal.returns-in-Ok-clause-fault
 returns-in-Ok-clause-fault c = λ input items is.
