@@ -7,7 +7,7 @@ ghost use Rattle.mvt_model.specs.ValidTiles.{Valid};
 
 use crate::fault::DecodeError;
 use crate::layers::Layers;
-use crate::pieces::Pieces;
+use crate::partial_tile::PartialTile;
 use mvt_base::{Items, LIMIT};
 use mvt_model::Tile;
 use std::alloc::Global;
@@ -29,7 +29,7 @@ use std::marker::Model;
 #[derive(Drop)]
 pub struct TileDecoder {
     alloc: Global,
-    pieces: Pieces<Layers>,
+    partial: PartialTile<Layers>,
     failure: Option<DecodeError>,
 }
 
@@ -40,11 +40,11 @@ impl Model for TileDecoder {
 
     ghost Value = { Decoding };
 
-    ghost view = { λ d. record { failure = d.failure; items = d.pieces.visitor; raw = d.pieces.raw.items; offset = d.pieces.offset } };
+    ghost view = { λ d. record { failure = d.failure; items = d.partial.visitor; raw = d.partial.raw.items; offset = d.partial.offset } };
 
     ghost invariant = { λ d. IfNone d.failure
-        ((length d.pieces.visitor ≤ d.pieces.offset)
-        × (d.pieces.offset + length d.pieces.raw.items ≤ LIMIT)) };
+        ((length d.partial.visitor ≤ d.partial.offset)
+        × (d.partial.offset + length d.partial.raw.items ≤ LIMIT)) };
 }
 
 impl TileDecoder {
@@ -55,7 +55,7 @@ impl TileDecoder {
     {
         TileDecoder {
             alloc,
-            pieces: Pieces::new(alloc, Layers::new(alloc)),
+            partial: PartialTile::new(alloc, Layers::new(alloc)),
             failure: None,
         }
     }
@@ -64,7 +64,7 @@ impl TileDecoder {
     pub fn held(&self) -> usize
         ensures { result ≡ length self.now.raw }
     {
-        self.pieces.raw.len()
+        self.partial.raw.len()
     }
 
     /// Takes a piece of the input.
@@ -81,10 +81,10 @@ impl TileDecoder {
         if let Some(error) = self.failure {
             return Err(error);
         }
-        match self.pieces.take(self.alloc, piece) {
+        match self.partial.take(self.alloc, piece) {
             Ok(()) => Ok(()),
             Err(error) => {
-                self.pieces.raw.clear();
+                self.partial.raw.clear();
                 self.failure = Some(error);
                 Err(error)
             }
@@ -107,14 +107,14 @@ impl TileDecoder {
             → IfErr result (λ error. (error ≡ DecodeError.Memory → ⊥)) }
     {
         let TileDecoder {
-            pieces,
+            partial,
             failure,
             ..
         } = self;
         if let Some(error) = failure {
             return Err(error);
         }
-        let layers = pieces.finish()?;
+        let layers = partial.finish()?;
         Ok(Tile {
             items: Items::new(layers.into_items()),
         })

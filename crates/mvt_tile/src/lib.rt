@@ -12,7 +12,7 @@ mod finding;
 mod judging;
 pub mod laws;
 mod layers;
-mod pieces;
+mod partial_tile;
 mod reading;
 mod rewriting;
 mod round_trip;

@@ -13,7 +13,7 @@ ghost use Rattle.mvt_model.specs.ValidTiles.{Valid};
 
 use crate::fault::DecodeError;
 use crate::layers::Layers;
-use crate::pieces::Pieces;
+use crate::partial_tile::PartialTile;
 use crate::walking::ItemVisitor;
 use mvt_base::{Items, LIMIT};
 use mvt_io::Source;
@@ -63,26 +63,26 @@ pub(crate) fn read_whole<R: Source, T: ItemVisitor>(
         × IfSome (R.state reader.old).left (λ bytes. IsTile LIMIT bytes tile)) }
     ensures read { ReadsTile LIMIT (R.state reader.old) (R.state reader.new) (kind_of result) }
 {
-    let mut pieces = Pieces::new(alloc, visitor);
+    let mut partial = PartialTile::new(alloc, visitor);
     let mut buffer = [0; PIECE];
-    feed_all(alloc, reader, &mut pieces, &mut buffer)?;
-    pieces.finish()
+    feed_all(alloc, reader, &mut partial, &mut buffer)?;
+    partial.finish()
 }
 
 /// Takes the items in all that the reader has left, in pieces of the buffer's length at most.
 fn feed_all<R: Source, T: ItemVisitor>(
     alloc: Global,
     reader: &mut R,
-    pieces: &mut Pieces<T>,
+    partial: &mut PartialTile<T>,
     buffer: &mut [u8],
 ) -> Result<(), DecodeError>
     requires room { 0 < length buffer.old }
     requires few { length buffer.old ≤ 65536 }
-    requires start { (given : T.Given) × T.has_visited given pieces.old.visitor [] }
-    requires raw { pieces.old.raw.items ≡ [] }
-    requires offset { pieces.old.offset ≡ 0 }
-    ensures fed { (given : T.Given) → T.has_visited given pieces.old.visitor [] → OnOk result
-        (HasFed LIMIT (T.has_visited given pieces.new.visitor) pieces.new.offset pieces.new.raw.items
+    requires start { (given : T.Given) × T.has_visited given partial.old.visitor [] }
+    requires raw { partial.old.raw.items ≡ [] }
+    requires offset { partial.old.offset ≡ 0 }
+    ensures fed { (given : T.Given) → T.has_visited given partial.old.visitor [] → OnOk result
+        (HasFed LIMIT (T.has_visited given partial.new.visitor) partial.new.offset partial.new.raw.items
         (R.state reader.old).left (R.state reader.new).left 0) }
     ensures end { OnOk result (IsAtEnd (R.state reader.new).left) }
     ensures stopped { IfErr result (HasStopped LIMIT (R.state reader.new).given
@@ -99,7 +99,7 @@ fn feed_all<R: Source, T: ItemVisitor>(
         if count == 0 {
             return Ok(());
         }
-        pieces.take(alloc, &buffer[..count])?;
+        partial.take(alloc, &buffer[..count])?;
     }
     unreachable!()
 }

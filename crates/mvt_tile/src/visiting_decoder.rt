@@ -9,7 +9,7 @@ ghost use Rattle.mvt_tile.specs.Visiting.{StandsFor};
 
 use crate::fault::DecodeError;
 use crate::layers::Names;
-use crate::pieces::Pieces;
+use crate::partial_tile::PartialTile;
 use crate::visiting::{Named, TileVisitor};
 use mvt_base::LIMIT;
 use std::alloc::Global;
@@ -22,7 +22,7 @@ use std::marker::Model;
 #[derive(Drop)]
 pub struct VisitingDecoder<V: TileVisitor> {
     alloc: Global,
-    pieces: Pieces<Named<V>>,
+    partial: PartialTile<Named<V>>,
     failure: Option<DecodeError>,
 }
 
@@ -36,20 +36,20 @@ impl<V: TileVisitor> Model for VisitingDecoder<V> {
     ghost view = { λ d. (
       record {
         failure = d.failure;
-        count = d.pieces.visitor.names.count;
-        names = d.pieces.visitor.names.names.keys;
-        raw = d.pieces.raw.items;
-        offset = d.pieces.offset;
+        count = d.partial.visitor.names.count;
+        names = d.partial.visitor.names.names.keys;
+        raw = d.partial.raw.items;
+        offset = d.partial.offset;
       },
-      d.pieces.visitor.visitor,
+      d.partial.visitor.visitor,
     ) };
 
-    ghost invariant = { λ d. IfNone d.failure ((s : List ℕ) × HasVisited LIMIT (V.has_items d.pieces.visitor.visitor) (record {
+    ghost invariant = { λ d. IfNone d.failure ((s : List ℕ) × HasVisited LIMIT (V.has_items d.partial.visitor.visitor) (record {
       failure = d.failure;
-      count = d.pieces.visitor.names.count;
-      names = d.pieces.visitor.names.names.keys;
-      raw = d.pieces.raw.items;
-      offset = d.pieces.offset;
+      count = d.partial.visitor.names.count;
+      names = d.partial.visitor.names.names.keys;
+      raw = d.partial.raw.items;
+      offset = d.partial.offset;
     }) s) };
 }
 
@@ -66,7 +66,7 @@ impl<V: TileVisitor> VisitingDecoder<V> {
         };
         VisitingDecoder {
             alloc,
-            pieces: Pieces::new(alloc, named),
+            partial: PartialTile::new(alloc, named),
             failure: None,
         }
     }
@@ -85,10 +85,10 @@ impl<V: TileVisitor> VisitingDecoder<V> {
         if let Some(error) = self.failure {
             return Err(error);
         }
-        match self.pieces.take(self.alloc, piece) {
+        match self.partial.take(self.alloc, piece) {
             Ok(()) => Ok(()),
             Err(error) => {
-                self.pieces.raw.clear();
+                self.partial.raw.clear();
                 self.failure = Some(error);
                 Err(error)
             }
@@ -110,14 +110,14 @@ impl<V: TileVisitor> VisitingDecoder<V> {
             → IfErr result (λ error. (error ≡ DecodeError.Memory → ⊥)) }
     {
         let VisitingDecoder {
-            pieces,
+            partial,
             failure,
             ..
         } = self;
         if let Some(error) = failure {
             return Err(error);
         }
-        let named = pieces.finish()?;
+        let named = partial.finish()?;
         Ok(named.visitor)
     }
 }

@@ -5,10 +5,10 @@ use Rattle.mvt_tile.proofs.reading.feed_all.Given as goal
 
 abbrev pub invariant-loop-turn : goal.invariant-loop-turn
 invariant-loop-turn g l = record {
-  fed : (input : g.T.ItemVisitor.Given) → g.T.ItemVisitor.has_visited input l.initial.pieces.visitor []
-      → HasFed 67108864 (g.T.ItemVisitor.has_visited input l.pieces.visitor) l.pieces.offset l.pieces.raw.items
+  fed : (input : g.T.ItemVisitor.Given) → g.T.ItemVisitor.has_visited input l.initial.partial.visitor []
+      → HasFed 67108864 (g.T.ItemVisitor.has_visited input l.partial.visitor) l.partial.offset l.partial.raw.items
       (g.R.Source.state l.initial.reader).left (g.R.Source.state l.reader).left l._turn;
-  small : l.pieces.offset + length l.pieces.raw.items ≤ 67108864;
+  small : l.partial.offset + length l.partial.raw.items ≤ 67108864;
   reads : (g.R.Source.state l.reader).reads ≤ (g.R.Source.state l.initial.reader).reads + l._turn;
   asked : (g.R.Source.state l.reader).asked ≤ max (g.R.Source.state l.initial.reader).asked 65536;
   faults : NoneFailed (g.R.Source.state l.initial.reader).faults (g.R.Source.state l.reader).faults;

@@ -26,7 +26,7 @@ returns-in_err-feed_all-clause-read g c =
 pub returns-clause-read : goal.returns-clause-read
 returns-clause-read g c =
     let (input, start) = c.requires.start in
-    let fed = c.in_ok-feed_all.ensures.fed input (rw c.new-pieces.ensures.visitor start) in
+    let fed = c.in_ok-feed_all.ensures.fed input (rw c.new-partial.ensures.visitor start) in
     record {
       early = fed_early 67108864 65536 _ _ _ _ _ _ fed;
       stops = fed_early 67108864 _ _ _ _ _ _ _ fed;
@@ -38,7 +38,7 @@ returns-clause-read g c =
 
 pub returns-clause-tile : goal.returns-clause-tile
 returns-clause-tile g c = λ input start.
-    let fed = c.in_ok-feed_all.ensures.fed input (rw c.new-pieces.ensures.visitor start) in
+    let fed = c.in_ok-feed_all.ensures.fed input (rw c.new-partial.ensures.visitor start) in
     IfOk-weaker c.finish.result _
     (λ after. (tile : Tile) × g.T.ItemVisitor.has_visited input after tile.items
     × IfSome (g.R.Source.state c.args.reader.now).left (λ bytes. IsTile 67108864 bytes tile))
@@ -48,7 +48,7 @@ returns-clause-tile g c = λ input start.
 pub returns-clause-fault : goal.returns-clause-fault
 returns-clause-fault g c =
     let (input, start) = c.requires.start in
-    let fed = c.in_ok-feed_all.ensures.fed input (rw c.new-pieces.ensures.visitor start) in
+    let fed = c.in_ok-feed_all.ensures.fed input (rw c.new-partial.ensures.visitor start) in
     IfErr-weaker c.finish.result _ _
     (λ e told. fed_told 67108864 _ _ _ _ _ _ fed c.in_ok-feed_all.ensures.end e told)
     (c.finish.ensures.fault fed.items fed.given fed.live)

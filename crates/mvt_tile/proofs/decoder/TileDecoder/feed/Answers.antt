@@ -11,14 +11,14 @@ returns-in-Some-clause-stands c =
 pub invariant_of-self : goal.invariant_of-self
 invariant_of-self c =
     let few = rw c.in_default.is at c.self.invariant in
-    let (new, is, more, live) = c.in-Ok.ensures.live tt c.self.inside.pieces.visitor refl few.0 in
+    let (new, is, more, live) = c.in-Ok.ensures.live tt c.self.inside.partial.visitor refl few.0 in
     rw c.in_default.is (subst (λ xs. length xs ≤ c.take.new.self.offset) (sym is) more, c.in-Ok.ensures.small)
 
 pub returns-in-Ok-clause-stands : goal.returns-in-Ok-clause-stands
 returns-in-Ok-clause-stands c =
     let few = rw c.in_default.is at c.self.invariant in
     let inside = c.self.inside in
-    let old = inside.pieces in
+    let old = inside.partial in
     let now = c.take.new.self in
     let (new, is, more, live) = c.in-Ok.ensures.live tt old.visitor refl few.0 in
     λ s stands. stands_of 67108864 inside.failure now.offset now.visitor new now.raw.items _ c.in_default.is is
@@ -27,7 +27,7 @@ returns-in-Ok-clause-stands c =
 pub returns-in-Err-clause-stands : goal.returns-in-Err-clause-stands
 returns-in-Err-clause-stands c =
     let inside = c.self.inside in
-    let old = inside.pieces in
+    let old = inside.partial in
     λ s stands. (
       c.clear.ensures.items,
       c.in-Err.ensures.fault tt old.visitor refl s

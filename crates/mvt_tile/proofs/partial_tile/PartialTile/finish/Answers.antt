@@ -2,7 +2,7 @@ use Rattle.std.proofs.Common.{◌≡◌, length, refl, rules}
 use Rattle.std.proofs.lemmas.Bool.Decides.{nat_tests}
 use Rattle.std.proofs.lemmas.List.{nil_from_length}
 use Rattle.mvt_tile.proofs.DecoderLemmas.{live_truncated, live_tile}
-use Rattle.mvt_tile.proofs.pieces.Pieces.finish.Goals as goal
+use Rattle.mvt_tile.proofs.partial_tile.PartialTile.finish.Goals as goal
 
 pub returns-then-not-is_empty-clause-fault : goal.returns-then-not-is_empty-clause-fault
 returns-then-not-is_empty-clause-fault g c =

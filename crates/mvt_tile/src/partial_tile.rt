@@ -16,20 +16,20 @@ use std::alloc::Global;
 /// What took the items of the pieces so far, and the bytes behind the last whole field, with their
 /// place.
 #[derive(Drop)]
-pub(crate) struct Pieces<T> {
+pub(crate) struct PartialTile<T> {
     pub(crate) visitor: T,
     pub(crate) raw: Vec<u8>,
     pub(crate) offset: u64,
 }
 
-impl<T: ItemVisitor> Pieces<T> {
+impl<T: ItemVisitor> PartialTile<T> {
     /// No pieces yet, without memory.
     pub(crate) fn new(alloc: Global, visitor: T) -> Self
         ensures visitor { result.visitor ≡ visitor }
         ensures raw { result.raw.items ≡ [] }
         ensures offset { result.offset ≡ 0 }
     {
-        Pieces {
+        PartialTile {
             visitor,
             raw: Vec::new(alloc),
             offset: 0,
@@ -55,7 +55,7 @@ impl<T: ItemVisitor> Pieces<T> {
     {
         let room = LIMIT as usize - (self.offset as usize + self.raw.len());
         let (fitting, beyond) = piece.split_at(room.min(piece.len()));
-        let used = swallow(alloc, &mut self.visitor, &mut self.raw, self.offset, fitting)?;
+        let used = feed_after(alloc, &mut self.visitor, &mut self.raw, self.offset, fitting)?;
         self.offset += used as u64;
         if !beyond.is_empty() {
             return Err(DecodeError::Fault(Fault::outer(self.offset, Cause::TooLarge)));
@@ -83,7 +83,7 @@ impl<T: ItemVisitor> Pieces<T> {
 
 /// Takes the items in a piece behind some bytes, keeps what is unfinished, and answers how many
 /// bytes were whole fields. Where no bytes stand before it, the piece isn't copied first.
-fn swallow<T: ItemVisitor>(
+fn feed_after<T: ItemVisitor>(
     alloc: Global,
     visitor: &mut T,
     raw: &mut Vec<u8>,

@@ -1,7 +1,7 @@
 use Rattle.std.proofs.Common.{◌≡◌, ◌+◌, ◌≤◌, length, rules, arith}
 use Rattle.std.proofs.lemmas.Result.{err_from_is_err_and}
 use Rattle.mvt_tile.proofs.DecoderLemmas.{cut, live_fails, piece_fits, piece_too_large}
-use Rattle.mvt_tile.proofs.pieces.Pieces.take.Goals as goal
+use Rattle.mvt_tile.proofs.partial_tile.PartialTile.take.Goals as goal
 
 pub returns-in_err-used-clause-fault : goal.returns-in_err-used-clause-fault
 returns-in_err-used-clause-fault g c = λ input items has.
@@ -23,7 +23,7 @@ returns-then-not-is_empty-clause-fault g c = λ input items has.
     let all = cut _ _ _ _ c.split_at.ensures.front c.split_at.ensures.back in
     let judged = c.in_ok-used.ensures.judged input items has in
     rw c.outer.ensures
-    (λ s. piece_too_large 67108864 old.offset items judged.0 old.raw.items c.swallow.new.raw.items
+    (λ s. piece_too_large 67108864 old.offset items judged.0 old.raw.items c.feed_after.new.raw.items
     front.now c.in_ok-used.used judged.2 c.in_ok-used.ensures.raw s c.args.piece.now back.now all full some)
 
 pub returns-clause-live : goal.returns-clause-live
@@ -38,6 +38,6 @@ returns-clause-live g c = λ input items has few.
       judged.0,
       judged.1,
       omega arith,
-      λ s. piece_fits 67108864 old.offset items judged.0 old.raw.items c.swallow.new.raw.items front.now
+      λ s. piece_fits 67108864 old.offset items judged.0 old.raw.items c.feed_after.new.raw.items front.now
           c.in_ok-used.used judged.2 c.in_ok-used.ensures.raw s c.args.piece.now back.now all fits none,
     )
