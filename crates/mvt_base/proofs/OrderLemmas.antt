@@ -1,7 +1,7 @@
 -- A table in order: its first fault is that of the broken rule of least rank.
 use Rattle.std.proofs.Common.{◌≡◌, ℕ, suc, ◌<◌, ◌≤◌, inl, inr, Bool, true, false, List, [], ◌∷◌, ◌++◌, length, Some, refl, sym, ap, subst, arith, length-append}
 use Rattle.std.specs.Prelude.{⊤}
-use Rattle.mvt_base.specs.Rules.{Rules, Precedes, PrecedesAll, AreOrdered, IsOneOf, IsLeast, when, under, told, rows, each, first}
+use Rattle.mvt_base.specs.Rules.{Rules, Precedes, PrecedesAll, AreOrdered, IsOneOf, IsLeast, when, under, map_faults, rows, each, first}
 
 -- no rank precedes itself
 pub precedes_not_itself : (r : List ℕ) → Precedes r r → ⊥
@@ -102,13 +102,13 @@ when_ordered true f = (tt, tt)
 when_ordered false f = tt
 
 told_precedes : {F G : Type 0} → (tell : F → G) (rank : List ℕ) (rules : Rules F) → PrecedesAll rank rules
-    → PrecedesAll rank (told tell rules)
+    → PrecedesAll rank (map_faults tell rules)
 told_precedes tell rank [] h = tt
 told_precedes tell rank (r ∷ rs) h = (h.0, told_precedes tell rank rs h.1)
 
-pub told_ordered : {F G : Type 0} → (tell : F → G) (rules : Rules F) → AreOrdered rules → AreOrdered (told tell rules)
-told_ordered tell [] h = tt
-told_ordered tell (r ∷ rs) h = (told_precedes tell r.0 rs h.0, told_ordered tell rs h.1)
+pub map_faults_ordered : {F G : Type 0} → (tell : F → G) (rules : Rules F) → AreOrdered rules → AreOrdered (map_faults tell rules)
+map_faults_ordered tell [] h = tt
+map_faults_ordered tell (r ∷ rs) h = (told_precedes tell r.0 rs h.0, map_faults_ordered tell rs h.1)
 
 -- the rows of a table are in order: their numbers rise from n on, and each row is in order
 abbrev pub AreRowsFrom : {F : Type 0} → ℕ → List (ℕ × Rules F) → Type 0

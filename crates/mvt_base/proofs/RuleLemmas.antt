@@ -1,7 +1,7 @@
 -- How the first fault of a table follows from those of its parts.
 use Rattle.std.proofs.Common.{◌≡◌, ℕ, Bool, true, false, List, [], ◌∷◌, ◌++◌, length, Option, Some, None, refl, sym, ap, ◌∙◌, append_assoc, append-nil}
 use Rattle.std.specs.Option.{option_or, option_map}
-use Rattle.mvt_base.specs.Rules.{Rules, when, under, told, rows, each, first}
+use Rattle.mvt_base.specs.Rules.{Rules, when, under, map_faults, rows, each, first}
 
 pub first-append : {F : Type 0} → (xs ys : Rules F) → first (xs ++ ys) ≡ option_or (first xs) (first ys)
 first-append [] ys = refl
@@ -11,9 +11,9 @@ pub first-under : {F : Type 0} → (n : ℕ) (rules : Rules F) → first (under 
 first-under n [] = refl
 first-under n (r ∷ rs) = refl
 
-pub first-told : {F G : Type 0} → (tell : F → G) (rules : Rules F) → first (told tell rules) ≡ option_map tell (first rules)
-first-told tell [] = refl
-first-told tell (r ∷ rs) = refl
+pub first-map_faults : {F G : Type 0} → (tell : F → G) (rules : Rules F) → first (map_faults tell rules) ≡ option_map tell (first rules)
+first-map_faults tell [] = refl
+first-map_faults tell (r ∷ rs) = refl
 
 pub first-rows : {F : Type 0} → (n : ℕ) (row : Rules F) (table : List (ℕ × Rules F))
     → first (rows ((n, row) ∷ table)) ≡ option_or (first row) (first (rows table))

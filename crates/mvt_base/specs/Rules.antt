@@ -24,8 +24,8 @@ abbrev pub under : {F : Type 0} → ℕ → Rules F → Rules F
 under n rules = map (λ r. (n ∷ r.0, r.1)) rules
 
 -- the same rules, with each fault as the level above tells it
-abbrev pub told : {F G : Type 0} → (F → G) → Rules F → Rules G
-told tell rules = map (λ r. (r.0, tell r.1)) rules
+abbrev pub map_faults : {F G : Type 0} → (F → G) → Rules F → Rules G
+map_faults tell rules = map (λ r. (r.0, tell r.1)) rules
 
 -- a table of rows, each under its number
 abbrev pub rows : {F : Type 0} → List (ℕ × Rules F) → Rules F

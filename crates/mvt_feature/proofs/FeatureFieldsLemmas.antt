@@ -8,7 +8,7 @@ use Rattle.std.proofs.lemmas.List.Elements.{filter-append}
 use Rattle.mvt_base.specs.Tells.{Tells}
 use Rattle.mvt_base.specs.Rules.{each, first}
 use Rattle.mvt_base.proofs.TellsLemmas.{tells_as}
-use Rattle.mvt_base.proofs.RuleLemmas.{each_more, each_stops, first-told}
+use Rattle.mvt_base.proofs.RuleLemmas.{each_more, each_stops, first-map_faults}
 use Rattle.mvt_base.proofs.SelectionLemmas.{last_only-more}
 use Rattle.mvt_wire.specs.Field.{Entry}
 use Rattle.mvt_feature.specs.declared.numbers.feature.TheConstants.{ID, TAGS, TYPE, GEOMETRY}
@@ -67,7 +67,7 @@ pub field_first : (payload_at : ℕ) (x : Entry)
     → first (feature_field_rules payload_at x)
     ≡ option_map (fault_at (payload_at + x.at)) (first (feature_form_rules x.number x.content))
 unfolding feature_field_rules
-field_first payload_at x = first-told (fault_at (payload_at + x.at)) (feature_form_rules x.number x.content)
+field_first payload_at x = first-map_faults (fault_at (payload_at + x.at)) (feature_form_rules x.number x.content)
 
 one_more : (payload_at : ℕ) (done : List Entry) (x : Entry) (more : List Entry) (f : MessageFault)
     → first (each (λ _. feature_field_rules payload_at) [] done) ≡ None

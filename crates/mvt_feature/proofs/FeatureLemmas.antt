@@ -4,9 +4,9 @@ use Rattle.std.specs.List.{AllByRecursion, flat_map}
 use Rattle.std.specs.Option.{option_or, option_map}
 use Rattle.std.proofs.lemmas.Bool.{eqb-true, ltb-true, lt-ltb, not-false}
 use Rattle.mvt_base.specs.Tells.{Tells}
-use Rattle.mvt_base.specs.Rules.{when, under, told, each, first}
+use Rattle.mvt_base.specs.Rules.{when, under, map_faults, each, first}
 use Rattle.mvt_base.proofs.ListLemmas.{all_weaker, all_joined}
-use Rattle.mvt_base.proofs.RuleLemmas.{first-under, first-told, first-when_not, option_or-none, option_or-right, option_or-some}
+use Rattle.mvt_base.proofs.RuleLemmas.{first-under, first-map_faults, first-when_not, option_or-none, option_or-right, option_or-some}
 use Rattle.mvt_base.proofs.TableLemmas.{first-rows_all, none_mapped, when_none, none_each}
 use Rattle.mvt_attrs.specs.declared.value.Value.{Value}
 use Rattle.mvt_attrs.specs.declared.resolving.TagError.{TagError}
@@ -66,19 +66,19 @@ unfolding geometry_fault
 geometry_first kind integers = refl
 
 tags_chain : (keys : List (List ℕ)) (values : List Value) (tags : List ℕ) (o : Option MessageFault)
-    → option_or (first (told tag_told (count_rules tags))) (option_or (first (told tag_told (pair_rules keys values tags))) o)
+    → option_or (first (map_faults tag_told (count_rules tags))) (option_or (first (map_faults tag_told (pair_rules keys values tags))) o)
     ≡ option_or (option_map tag_told (tag_fault keys values tags)) o
 tags_chain keys values tags o =
-    ap₂ (λ a b. option_or a (option_or b o)) (first-told tag_told (count_rules tags))
-    (first-told tag_told (pair_rules keys values tags))
+    ap₂ (λ a b. option_or a (option_or b o)) (first-map_faults tag_told (count_rules tags))
+    (first-map_faults tag_told (pair_rules keys values tags))
     ∙ mapped_or tag_told (first (count_rules tags)) (first (pair_rules keys values tags)) o
     ∙ ap (λ a. option_or (option_map tag_told a) o) (sym (fault_is_least_parts keys values tags))
 
 drawing_chain : (kind : Kind) (integers : List ℕ)
-    → option_or (first (told geometry_told (geometry_rules kind integers))) None
+    → option_or (first (map_faults geometry_told (geometry_rules kind integers))) None
     ≡ option_map geometry_told (geometry_fault kind integers)
 drawing_chain kind integers =
-    option_or-right _ ∙ first-told geometry_told (geometry_rules kind integers)
+    option_or-right _ ∙ first-map_faults geometry_told (geometry_rules kind integers)
     ∙ ap (option_map geometry_told) (geometry_first kind integers)
 
 pub feature_chain : (payload : List ℕ) (payload_at : ℕ) (keys : List (List ℕ)) (values : List Value)
@@ -180,7 +180,7 @@ list_numbers (varint n) h =
 list_numbers (bytes d) h =
     packed_function_clean d
     (none_mapped of_packed (first (packed_rules d))
-    (sym (first-told of_packed (packed_rules d)) ∙ sym (first-under 1 (told of_packed (packed_rules d))) ∙ h))
+    (sym (first-map_faults of_packed (packed_rules d)) ∙ sym (first-under 1 (map_faults of_packed (packed_rules d))) ∙ h))
 list_numbers (fixed64 n) h = cc
 list_numbers (fixed32 n) h = cc
 
@@ -193,7 +193,7 @@ numbers_list (varint n) ns h = (
 )
 numbers_list (bytes d) ns h =
     let are = packed_function_only d ns h in
-    (first-under 1 (told of_packed (packed_rules d)) ∙ first-told of_packed (packed_rules d) ∙ ap (option_map of_packed) are.0, sym are.1)
+    (first-under 1 (map_faults of_packed (packed_rules d)) ∙ first-map_faults of_packed (packed_rules d) ∙ ap (option_map of_packed) are.0, sym are.1)
 numbers_list (fixed64 n) ns h = absurd h
 numbers_list (fixed32 n) ns h = absurd h
 

@@ -8,8 +8,8 @@ use Rattle.std.proofs.lemmas.Bool.{ltb-true, lt-ltb, leb-true, le-leb, not-false
 use Rattle.std.proofs.lemmas.Str.{IsUtf8-from_is_utf8, is_utf8-from_IsUtf8}
 use Rattle.mvt_base.specs.Rules.{AreOrdered, when, each, first}
 use Rattle.mvt_base.proofs.ListLemmas.{all_weaker}
-use Rattle.mvt_base.proofs.OrderLemmas.{told_ordered, when_ordered}
-use Rattle.mvt_base.proofs.RuleLemmas.{first-told, first-when_not, first-when}
+use Rattle.mvt_base.proofs.OrderLemmas.{map_faults_ordered, when_ordered}
+use Rattle.mvt_base.proofs.RuleLemmas.{first-map_faults, first-when_not, first-when}
 use Rattle.mvt_base.proofs.TableLemmas.{none_mapped, when_none, none_each, each_none, by_number, if_ordered}
 use Rattle.mvt_wire.specs.Field.{Content, varint, fixed64, bytes, fixed32, Entry}
 use Rattle.mvt_feature.specs.declared.cause.Cause.TheVariants.{WrongType, NumberRange, NotUtf8, GeomType}
@@ -88,17 +88,17 @@ pub clean_at : (forms : List (ℕ × Form)) (payload_at : ℕ) (x : Entry) → f
     → first (number_rules forms x.number x.content) ≡ None
 clean_at forms payload_at x h =
     none_mapped (fault_at (payload_at + x.at)) _
-    (sym (first-told (fault_at (payload_at + x.at)) (number_rules forms x.number x.content)) ∙ h)
+    (sym (first-map_faults (fault_at (payload_at + x.at)) (number_rules forms x.number x.content)) ∙ h)
 
 pub told_clean : (forms : List (ℕ × Form)) (payload_at : ℕ) (x : Entry)
     → first (number_rules forms x.number x.content) ≡ None → first (forms_rules forms payload_at x) ≡ None
 told_clean forms payload_at x h =
-    first-told (fault_at (payload_at + x.at)) (number_rules forms x.number x.content)
+    first-map_faults (fault_at (payload_at + x.at)) (number_rules forms x.number x.content)
     ∙ ap (option_map (fault_at (payload_at + x.at))) h
 
 pub forms_ordered : (forms : List (ℕ × Form)) (payload_at : ℕ) (x : Entry) → AreOrdered (forms_rules forms payload_at x)
 forms_ordered forms payload_at x =
-    told_ordered (fault_at (payload_at + x.at)) (number_rules forms x.number x.content)
+    map_faults_ordered (fault_at (payload_at + x.at)) (number_rules forms x.number x.content)
     (number_ordered forms x.number x.content)
 
 pub forms_have : (forms : List (ℕ × Form)) (payload_at : ℕ) (xs : List Entry) → AllByRecursion (IsFirst forms) forms

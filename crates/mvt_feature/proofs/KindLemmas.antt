@@ -6,7 +6,7 @@ use Rattle.std.proofs.lemmas.Bool.{eqb-true, eqb-false, eq-eqb, ne_eqb, and_left
 use Rattle.std.proofs.lemmas.List.Elements.{filter-append}
 use Rattle.std.proofs.lemmas.List.Folds.{list_all-append}
 use Rattle.mvt_base.specs.Rules.{each, first}
-use Rattle.mvt_base.proofs.RuleLemmas.{each_more, each_stops, first-told}
+use Rattle.mvt_base.proofs.RuleLemmas.{each_more, each_stops, first-map_faults}
 use Rattle.mvt_base.proofs.SelectionLemmas.{last_or-more}
 use Rattle.mvt_wire.specs.Field.{Entry}
 use Rattle.mvt_feature.specs.declared.cause.Cause.{Cause}
@@ -72,7 +72,7 @@ field_broken : (payload_at : ℕ) (x : Entry) (cause : Cause)
     → first (value_field_rules payload_at x) ≡ Some (fault_at (payload_at + x.at) cause)
 unfolding value_field_rules
 field_broken payload_at x cause broken =
-    rw (first-told (fault_at (payload_at + x.at)) (number_rules value_forms x.number x.content), broken) refl
+    rw (first-map_faults (fault_at (payload_at + x.at)) (number_rules value_forms x.number x.content), broken) refl
 
 -- the steps of the walk
 pub so_far_skip : (payload_at : ℕ) (done : List Entry) (k : Kinds) (x : Entry) → AreSoFar payload_at done (Ok k)

@@ -1,8 +1,8 @@
 -- The laws of features, from those of tags and of geometries.
 use Rattle.std.proofs.Common.{◌≡◌, ℕ, ◌+◌, ◌^◌, ◌==◌, ◌↔◌, true, not, nat_lt, List, [], ◌∷◌, Some, None, refl, sym, ◌∙◌, subst, arith}
 use Rattle.std.specs.List.{AllByRecursion}
-use Rattle.mvt_base.specs.Rules.{AreOrdered, IsLeast, when, told, first}
-use Rattle.mvt_base.proofs.OrderLemmas.{first_is_least, least_is_first, AreRowsFrom, rows_ordered, each_ordered, told_ordered, under_ordered, when_ordered}
+use Rattle.mvt_base.specs.Rules.{AreOrdered, IsLeast, when, map_faults, first}
+use Rattle.mvt_base.proofs.OrderLemmas.{first_is_least, least_is_first, AreRowsFrom, rows_ordered, each_ordered, map_faults_ordered, under_ordered, when_ordered}
 use Rattle.mvt_base.proofs.RuleLemmas.{first-under, option_or-nones}
 use Rattle.mvt_base.proofs.TableLemmas.{none_mapped, each_none, by_number, if_ordered}
 use Rattle.mvt_base.proofs.SelectionLemmas.{all_only}
@@ -125,7 +125,7 @@ feature_once payload keys values f g (xs, whole, is) (ys, also_whole, also_is) =
 list_ordered : (c : Content) → AreOrdered (list_rules c)
 list_ordered (varint n) = under_ordered 1 _ (under_ordered 0 _ (when_ordered (not (nat_lt n (2 ^ 32))) NumberRange))
 list_ordered (bytes d) =
-    under_ordered 1 (told of_packed (packed_rules d)) (told_ordered of_packed (packed_rules d) (packed_is_least_ordered d))
+    under_ordered 1 (map_faults of_packed (packed_rules d)) (map_faults_ordered of_packed (packed_rules d) (packed_is_least_ordered d))
 list_ordered (fixed64 n) = under_ordered 0 (when true WrongType) (when_ordered true WrongType)
 list_ordered (fixed32 n) = under_ordered 0 (when true WrongType) (when_ordered true WrongType)
 
@@ -138,7 +138,7 @@ rules_ordered n c =
 field_ordered : (payload_at : ℕ) (x : Entry) → AreOrdered (feature_field_rules payload_at x)
 unfolding feature_field_rules
 field_ordered payload_at x =
-    told_ordered (fault_at (payload_at + x.at)) (feature_form_rules x.number x.content) (rules_ordered x.number x.content)
+    map_faults_ordered (fault_at (payload_at + x.at)) (feature_form_rules x.number x.content) (rules_ordered x.number x.content)
 
 feature_rows : (payload : List ℕ) (payload_at : ℕ) (keys : List (List ℕ)) (values : List Value)
     → AreRowsFrom 0 (feature_table payload payload_at keys values)
@@ -153,15 +153,15 @@ feature_rows payload payload_at keys values = (
         (
           omega arith,
           (
-            told_ordered tag_told _ (rules_in_order_count (joined TAGS (split payload).fields)),
+            map_faults_ordered tag_told _ (rules_in_order_count (joined TAGS (split payload).fields)),
             (
               omega arith,
               (
-                told_ordered tag_told _ (rules_in_order_pairs keys values (joined TAGS (split payload).fields)),
+                map_faults_ordered tag_told _ (rules_in_order_pairs keys values (joined TAGS (split payload).fields)),
                 (
                   omega arith,
                   (
-                    told_ordered geometry_told _
+                    map_faults_ordered geometry_told _
                         (geometry_ordered (kind_in (split payload).fields) (joined GEOMETRY (split payload).fields)),
                     tt,
                   ),

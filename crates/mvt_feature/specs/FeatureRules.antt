@@ -1,7 +1,7 @@
 -- The rules that bind a feature's payload (Mapbox Vector Tile Specification 2.1, 4.2 to 4.4), as a table.
 use Rattle.std.specs.Prelude.{ℕ, ◌+◌, ◌^◌, true, not, ◌==◌, nat_lt, List, [], ◌∷◌, Option, if◌then◌else◌}
 use Rattle.std.specs.List.{flat_map}
-use Rattle.mvt_base.specs.Rules.{Rules, when, under, told, rows, each, first}
+use Rattle.mvt_base.specs.Rules.{Rules, when, under, map_faults, rows, each, first}
 use Rattle.mvt_attrs.specs.declared.value.Value.{Value}
 use Rattle.mvt_attrs.specs.declared.resolving.TagCause.{TagCause}
 use Rattle.mvt_attrs.specs.TagRules.{count_rules, pair_rules}
@@ -32,7 +32,7 @@ joined k fields = flat_map (λ (x : Entry). numbers_of x.content) (only k fields
 -- a list: its form, and then each of its numbers
 abbrev pub list_rules : Content → Rules Cause
 list_rules (varint n) = under 1 (under 0 (when (not (nat_lt n (2 ^ 32))) NumberRange))
-list_rules (bytes d) = under 1 (told of_packed (packed_rules d))
+list_rules (bytes d) = under 1 (map_faults of_packed (packed_rules d))
 list_rules _ = under 0 (when true WrongType)
 
 -- a field of this number
@@ -43,7 +43,7 @@ feature_form_rules number content =
     else under 0 (number_rules feature_forms number content)
 
 unfoldable pub feature_field_rules : ℕ → Entry → Rules MessageFault
-feature_field_rules payload_at x = told (fault_at (payload_at + x.at)) (feature_form_rules x.number x.content)
+feature_field_rules payload_at x = map_faults (fault_at (payload_at + x.at)) (feature_form_rules x.number x.content)
 
 -- the faults of tags and of integers, which are told by their index
 abbrev pub tag_told : ℕ × TagCause → MessageFault
@@ -61,9 +61,9 @@ abbrev pub feature_table : List ℕ → ℕ → List (List ℕ) → List Value �
 feature_table payload payload_at keys values =
     (0, rest_rules payload_at (split payload))
     ∷ ((1, each (λ _. feature_field_rules payload_at) [] (split payload).fields)
-    ∷ ((2, told tag_told (count_rules (joined TAGS (split payload).fields)))
-    ∷ ((3, told tag_told (pair_rules keys values (joined TAGS (split payload).fields)))
-    ∷ ((4, told geometry_told (geometry_rules (kind_in (split payload).fields) (joined GEOMETRY (split payload).fields))) ∷ []))))
+    ∷ ((2, map_faults tag_told (count_rules (joined TAGS (split payload).fields)))
+    ∷ ((3, map_faults tag_told (pair_rules keys values (joined TAGS (split payload).fields)))
+    ∷ ((4, map_faults geometry_told (geometry_rules (kind_in (split payload).fields) (joined GEOMETRY (split payload).fields))) ∷ []))))
 
 unfoldable pub feature_rules : List ℕ → ℕ → List (List ℕ) → List Value → Rules MessageFault
 feature_rules payload payload_at keys values = rows (feature_table payload payload_at keys values)

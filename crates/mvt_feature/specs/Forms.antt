@@ -3,7 +3,7 @@
 use Rattle.std.specs.Prelude.{◌≡◌, ℕ, ◌+◌, ◌^◌, ◌<◌, ◌≤◌, ◌==◌, true, not, nat_lt, nat_le, List, [], ◌∷◌, IsUtf8, ⊤, if◌then◌else◌}
 use Rattle.std.specs.List.{AllByRecursion}
 use Rattle.std.specs.Str.{is_utf8}
-use Rattle.mvt_base.specs.Rules.{Rules, when, told}
+use Rattle.mvt_base.specs.Rules.{Rules, when, map_faults}
 use Rattle.mvt_wire.specs.Field.{Content, varint, fixed64, bytes, fixed32, Entry}
 use Rattle.mvt_feature.specs.declared.cause.Cause.{Cause}
 use Rattle.mvt_feature.specs.declared.cause.Cause.TheVariants.{WrongType, NumberRange, NotUtf8, GeomType}
@@ -58,4 +58,4 @@ IsFirst forms known = (c : Content) → number_rules forms known.0 c ≡ form_ru
 
 -- the rules of a field, told at its place in a payload that begins at `payload_at`
 abbrev pub forms_rules : List (ℕ × Form) → ℕ → Entry → Rules MessageFault
-forms_rules forms payload_at x = told (fault_at (payload_at + x.at)) (number_rules forms x.number x.content)
+forms_rules forms payload_at x = map_faults (fault_at (payload_at + x.at)) (number_rules forms x.number x.content)

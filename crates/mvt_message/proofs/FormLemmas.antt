@@ -2,8 +2,8 @@
 use Rattle.std.proofs.Common.{◌≡◌, ℕ, List, [], ◌∷◌, ◌++◌, length, None, refl, sym, ap, ◌∙◌}
 use Rattle.std.specs.List.{AllByRecursion}
 use Rattle.std.specs.Option.{option_map}
-use Rattle.mvt_base.specs.Rules.{Rules, AreOrdered, told, each, first}
-use Rattle.mvt_base.proofs.RuleLemmas.{first-append, first-under, first-told, option_or-nones, option_or-none}
+use Rattle.mvt_base.specs.Rules.{Rules, AreOrdered, map_faults, each, first}
+use Rattle.mvt_base.proofs.RuleLemmas.{first-append, first-under, first-map_faults, option_or-nones, option_or-none}
 use Rattle.mvt_base.proofs.TableLemmas.{none_mapped}
 use Rattle.mvt_wire.specs.Field.{Entry}
 use Rattle.mvt_feature.proofs.FeatureLaws.{forms_clean, forms_have, forms_ordered}
@@ -42,19 +42,19 @@ layer_field_ordered payload_at x = forms_ordered layer_forms payload_at x
 
 -- rules of elements that are told by those before them
 pub none_each_told : {X F G : Type 0} → (tell : List X → F → G) (rules : X → Rules F) (front xs : List X)
-    → first (each (λ f x. told (tell f) (rules x)) front xs) ≡ None → AllByRecursion (λ x. first (rules x) ≡ None) xs
+    → first (each (λ f x. map_faults (tell f) (rules x)) front xs) ≡ None → AllByRecursion (λ x. first (rules x) ≡ None) xs
 none_each_told tell rules front [] h = tt
 none_each_told tell rules front (x ∷ xs) h =
-    let parts = option_or-nones _ _ (sym (first-append _ (each (λ f y. told (tell f) (rules y)) (front ++ x ∷ []) xs)) ∙ h) in (
+    let parts = option_or-nones _ _ (sym (first-append _ (each (λ f y. map_faults (tell f) (rules y)) (front ++ x ∷ []) xs)) ∙ h) in (
       none_mapped (tell front) (first (rules x))
-          (sym (first-told (tell front) (rules x)) ∙ sym (first-under (length front) (told (tell front) (rules x))) ∙ parts.0),
+          (sym (first-map_faults (tell front) (rules x)) ∙ sym (first-under (length front) (map_faults (tell front) (rules x))) ∙ parts.0),
       none_each_told tell rules (front ++ x ∷ []) xs parts.1,
     )
 
 pub each_told_none : {X F G : Type 0} → (tell : List X → F → G) (rules : X → Rules F) (front xs : List X)
-    → AllByRecursion (λ x. first (rules x) ≡ None) xs → first (each (λ f x. told (tell f) (rules x)) front xs) ≡ None
+    → AllByRecursion (λ x. first (rules x) ≡ None) xs → first (each (λ f x. map_faults (tell f) (rules x)) front xs) ≡ None
 each_told_none tell rules front [] h = refl
 each_told_none tell rules front (x ∷ xs) h =
-    first-append _ (each (λ f y. told (tell f) (rules y)) (front ++ x ∷ []) xs)
-    ∙ option_or-none _ _ (first-under (length front) (told (tell front) (rules x)) ∙ first-told (tell front) (rules x)
+    first-append _ (each (λ f y. map_faults (tell f) (rules y)) (front ++ x ∷ []) xs)
+    ∙ option_or-none _ _ (first-under (length front) (map_faults (tell front) (rules x)) ∙ first-map_faults (tell front) (rules x)
     ∙ ap (option_map (tell front)) h.0) ∙ each_told_none tell rules (front ++ x ∷ []) xs h.1

@@ -7,7 +7,7 @@ use Rattle.std.proofs.lemmas.Bool.{eqb-true, eqb-false, ne_eqb}
 use Rattle.mvt_base.specs.Related.{AreRelated}
 use Rattle.mvt_base.specs.Rules.{Rules, AreOrdered, first}
 use Rattle.mvt_base.proofs.ListLemmas.{related_once}
-use Rattle.mvt_base.proofs.OrderLemmas.{AreRowsFrom, rows_ordered, each_ordered, told_ordered, when_ordered}
+use Rattle.mvt_base.proofs.OrderLemmas.{AreRowsFrom, rows_ordered, each_ordered, map_faults_ordered, when_ordered}
 use Rattle.mvt_base.proofs.RuleLemmas.{first-when_not, option_or-none, option_or-nones}
 use Rattle.mvt_base.proofs.TableLemmas.{when_none, none_each, each_none}
 use Rattle.mvt_base.proofs.SelectionLemmas.{last_selected}
@@ -325,7 +325,7 @@ layer_rows payload_at tag_at xs true = (
               omega arith,
               (
                 each_ordered (feature_rules_of payload_at (keys_in xs) (values_in xs)) [] (only FEATURES xs)
-                    (λ seen x. told_ordered (in_feature (length seen)) _
+                    (λ seen x. map_faults_ordered (in_feature (length seen)) _
                     (feature_fault_is_least_ordered (bytes_of x.content) (payload_at + x.body) (keys_in xs) (values_in xs))),
                 tt,
               ),

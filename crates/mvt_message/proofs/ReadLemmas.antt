@@ -11,7 +11,7 @@ use Rattle.mvt_base.specs.Related.{AreRelated}
 use Rattle.mvt_base.specs.Rules.{Rules, each, first}
 use Rattle.mvt_base.proofs.TellsLemmas.{tells_as, tells_or, or_tells}
 use Rattle.mvt_base.proofs.ListLemmas.{related-append}
-use Rattle.mvt_base.proofs.RuleLemmas.{each_more, each_stops, first-told, first-when, first-when_not, option_or-none, option_or-nones, option_or-some}
+use Rattle.mvt_base.proofs.RuleLemmas.{each_more, each_stops, first-map_faults, first-when, first-when_not, option_or-none, option_or-nones, option_or-some}
 use Rattle.mvt_base.proofs.SelectionLemmas.{last_only-more}
 use Rattle.mvt_attrs.specs.declared.value.Value.{Value}
 use Rattle.mvt_wire.specs.declared.fault.WireFault.{WireFault}
@@ -91,7 +91,7 @@ version_first : (payload_at : ℕ) (x : Entry) (b : Bool) → (x.number == VERSI
     → first (version_rules payload_at x) ≡ option_map (fault_at (payload_at + x.at)) (first (if b then form_rules uint32 x.content else []))
 unfolding version_rules
 version_first payload_at x b test =
-    first-told (fault_at (payload_at + x.at)) (number_rules version_forms x.number x.content)
+    first-map_faults (fault_at (payload_at + x.at)) (number_rules version_forms x.number x.content)
     ∙ ap (λ (t : Bool). option_map (fault_at (payload_at + x.at)) (first (if t then form_rules uint32 x.content else []))) test
 
 version_more : (done : List Entry) (x : Entry) (b : Bool) → (x.number == VERSION) ≡ b
@@ -155,7 +155,7 @@ form_first : (payload_at : ℕ) (x : Entry)
     → first (layer_field_rules payload_at x)
     ≡ option_map (fault_at (payload_at + x.at)) (first (number_rules layer_forms x.number x.content))
 unfolding layer_field_rules
-form_first payload_at x = first-told (fault_at (payload_at + x.at)) (number_rules layer_forms x.number x.content)
+form_first payload_at x = first-map_faults (fault_at (payload_at + x.at)) (number_rules layer_forms x.number x.content)
 
 name_more : (done : List Entry) (x : Entry) → name_in (done ++ x ∷ []) ≡ name_after (name_in done) x.number x.content
 name_more done x =
@@ -207,7 +207,7 @@ pub feature_told : (payload_at : ℕ) (keys : List (List ℕ)) (values : List Va
     → first (feature_rules_of payload_at keys values earlier x)
     ≡ option_map (in_feature (length earlier)) (feature_fault (bytes_of x.content) (payload_at + x.body) keys values)
 feature_told payload_at keys values earlier x =
-    first-told (in_feature (length earlier)) (feature_rules (bytes_of x.content) (payload_at + x.body) keys values)
+    first-map_faults (in_feature (length earlier)) (feature_rules (bytes_of x.content) (payload_at + x.body) keys values)
     ∙ ap (option_map (in_feature (length earlier))) (sym (feature_first (bytes_of x.content) (payload_at + x.body) keys values))
 
 only_few : (k : ℕ) (xs : List Entry) → length (only k xs) ≤ length xs

@@ -2,7 +2,7 @@
 -- table.
 use Rattle.std.specs.Prelude.{ℕ, ◌+◌, List, [], ◌∷◌, length, Option, is_none, if◌then◌else◌}
 use Rattle.std.specs.Option.{option_to_list}
-use Rattle.mvt_base.specs.Rules.{Rules, when, told, rows, each, first}
+use Rattle.mvt_base.specs.Rules.{Rules, when, map_faults, rows, each, first}
 use Rattle.mvt_attrs.specs.declared.value.Value.{Value}
 use Rattle.mvt_wire.specs.Field.{Entry}
 use Rattle.mvt_wire.specs.Split.{split}
@@ -30,7 +30,7 @@ value_rules_of payload_at x = value_rules (bytes_of x.content) (payload_at + x.b
 -- the feature of a field behind the fields of earlier ones
 abbrev pub feature_rules_of : ℕ → List (List ℕ) → List Value → List Entry → Entry → Rules MessageFault
 feature_rules_of payload_at keys values earlier x =
-    told (in_feature (length earlier)) (feature_rules (bytes_of x.content) (payload_at + x.body) keys values)
+    map_faults (in_feature (length earlier)) (feature_rules (bytes_of x.content) (payload_at + x.body) keys values)
 
 -- the rules of a layer of version 2
 abbrev pub layer_table : ℕ → ℕ → List Entry → List (ℕ × Rules MessageFault)

@@ -2,8 +2,8 @@
 use Rattle.std.proofs.Common.{◌≡◌, ℕ, Bool, true, false, cond, eqb, List, [], ◌∷◌, ◌++◌, length, Some, refl, sym, ap, ◌∙◌}
 use Rattle.std.specs.Option.{option_or, option_map}
 use Rattle.std.proofs.lemmas.Bool.{cond-true, cond-false}
-use Rattle.mvt_base.specs.Rules.{Rules, when, told, rows, under, first}
-use Rattle.mvt_base.proofs.RuleLemmas.{first-told, first-rows, option_or-right}
+use Rattle.mvt_base.specs.Rules.{Rules, when, map_faults, rows, under, first}
+use Rattle.mvt_base.proofs.RuleLemmas.{first-map_faults, first-rows, option_or-right}
 use Rattle.mvt_wire.specs.Field.{Content, bytes, Entry}
 use Rattle.mvt_feature.specs.declared.cause.Cause.TheVariants.{WrongType}
 use Rattle.mvt_message.specs.ItemRules.{item_rules, payload_names}
@@ -72,8 +72,8 @@ first-layer front x d e held =
     (is_bytes_true x.content d held)) in
     let parts : first (rows (layer_rules front x))
     ≡ option_or (option_map (in_layer n) (first (item_rules (payload_of x) x.body x.at))) (name_fault n names given x.at) =
-    first-of_rows (told (in_layer n) (item_rules (payload_of x) x.body x.at)) (when (repeats names given) (repeated_at n x.at))
-    ∙ ap (λ o. option_or o (name_fault n names given x.at)) (first-told (in_layer n) (item_rules (payload_of x) x.body x.at)) in
+    first-of_rows (map_faults (in_layer n) (item_rules (payload_of x) x.body x.at)) (when (repeats names given) (repeated_at n x.at))
+    ∙ ap (λ o. option_or o (name_fault n names given x.at)) (first-map_faults (in_layer n) (item_rules (payload_of x) x.body x.at)) in
     of_rows ∙ parts
     ∙ ap
     (λ c. option_or (option_map (in_layer n) (first (item_rules (bytes_in c) x.body x.at)))

@@ -4,7 +4,7 @@ use Rattle.std.specs.Option.{option_or}
 use Rattle.std.proofs.lemmas.Bool.{ltb-true, ltb-false, lt-ltb, le-ltb}
 use Rattle.mvt_base.specs.Rules.{when, rows, under, each, first, AreOrdered, IsLeast}
 use Rattle.mvt_base.proofs.RuleLemmas.{first-append, first-under, option_or-nones, option_or-none}
-use Rattle.mvt_base.proofs.OrderLemmas.{under_from, all_later, under_ordered, when_ordered, told_ordered, rows_ordered, first_is_least, least_is_first}
+use Rattle.mvt_base.proofs.OrderLemmas.{under_from, all_later, under_ordered, when_ordered, map_faults_ordered, rows_ordered, first_is_least, least_is_first}
 use Rattle.mvt_base.proofs.GrowingLemmas.{each_then}
 use Rattle.mvt_base.proofs.ListLemmas.{related_once}
 use Rattle.mvt_base.specs.Related.{AreRelated}
@@ -112,7 +112,7 @@ field_ordered front x =
     (rows_ordered 1 (layer_rules front x) (
       omega arith,
       (
-        told_ordered (in_layer (length (layers_of front))) (item_rules (payload_of x) x.body x.at)
+        map_faults_ordered (in_layer (length (layers_of front))) (item_rules (payload_of x) x.body x.at)
             (item_in_order_ordered (payload_of x) x.body x.at),
         (
           omega arith,

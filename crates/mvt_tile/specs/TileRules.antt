@@ -1,7 +1,7 @@
 -- The rules that bind a tile's bytes (Mapbox Vector Tile Specification 2.1, 4.1), as a table.
 use Rattle.std.specs.Prelude.{ℕ, Bool, true, false, ◌==◌, List, [], ◌∷◌, ◌++◌, length, take, nat_lt, Option, Some, None, bytes_eq, if◌then◌else◌}
 use Rattle.std.specs.List.{list_any, flat_map}
-use Rattle.mvt_base.specs.Rules.{Rules, when, told, rows, under, each, first}
+use Rattle.mvt_base.specs.Rules.{Rules, when, map_faults, rows, under, each, first}
 use Rattle.mvt_wire.specs.Field.{Content, varint, fixed64, bytes, fixed32, Entry}
 use Rattle.mvt_wire.specs.Fronts.{rest_cause}
 use Rattle.mvt_wire.specs.Split.{Parts, split}
@@ -34,7 +34,7 @@ repeats others names = list_any (λ name. list_any (bytes_eq name) others) names
 -- the rules of a layer behind others
 abbrev pub layer_rules : List Entry → Entry → List (ℕ × Rules Fault)
 layer_rules front x =
-    (1, told (in_layer (length (layers_of front))) (item_rules (payload_of x) x.body x.at))
+    (1, map_faults (in_layer (length (layers_of front))) (item_rules (payload_of x) x.body x.at))
     ∷ ((
       2,
       when (repeats (names_before front) (payload_names (payload_of x)))
