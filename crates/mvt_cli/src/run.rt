@@ -5,9 +5,9 @@ ghost use Rattle.mvt_io.specs.Transfers.{Reads, TakesPrefix};
 ghost use Rattle.mvt_tasks.specs.declared.failure.Failure.{Failure as AFailure};
 ghost use Rattle.mvt_tasks.specs.declared.failure.Failure.TheVariants.{Write as WriteFailure};
 ghost use Rattle.mvt_tasks.specs.declared.reply.Reply.{Reply as AReply};
-ghost use Rattle.mvt_tasks.specs.Checks.{IsToldOfAll, Tells, moment};
+ghost use Rattle.mvt_tasks.specs.Checks.{ChecksFiles, Prints, run_state};
 ghost use Rattle.mvt_tasks.specs.Failures.{EndsFailed, FailsReading, line_of, status_of};
-ghost use Rattle.mvt_tasks.specs.Output.{Gives, HasOutput, IsReplyTo, PutOut, PutsOut, ReadsNoFurther};
+ghost use Rattle.mvt_tasks.specs.Output.{GivesReply, HasOutput, IsReplyTo, PutOut, PutsText, ReadsNoFurther};
 ghost use Rattle.mvt_tasks.specs.Visits.{OneAtATime};
 ghost use Rattle.mvt_cli.specs.Words.{task_in, faults_in, files_in};
 ghost use Rattle.mvt_cli.specs.Refused.{IsUsage, usage_text};
@@ -15,7 +15,7 @@ ghost use Rattle.mvt_cli.specs.Refused.{IsUsage, usage_text};
 use crate::words::{Asked, Refusal, read_words};
 use mvt_base::LIMIT;
 use mvt_io::{Sink, Source};
-use mvt_tasks::{Failure, Folder, check_files, run_task, tell};
+use mvt_tasks::{Failure, Folder, check_files, run_task, print};
 use std::alloc::Global;
 
 /// Runs the program on the words of its command line, the first of which is its name, and answers
@@ -35,12 +35,12 @@ pub fn run<F: Folder, R: Source, W: Sink, E: Sink>(
     ensures done { files_in (map string_bytes words.now) ≡ [] → result < 2 → (reply : AReply)
         × IsReplyTo LIMIT (task_in (map string_bytes words.now)) (R.state reader.old).left reply
         × HasOutput reply
-        × Gives result (writer.new ≡ writer.old)
+        × GivesReply result (writer.new ≡ writer.old)
         (PutOut (W.state writer.old) (W.state writer.new)) (errors.new ≡ errors.old)
-        (Tells (E.state errors.old) (E.state errors.new)) reply }
+        (Prints (E.state errors.old) (E.state errors.new)) reply }
     ensures failed { files_in (map string_bytes words.now) ≡ [] → 2 < result → (failure : AFailure)
         × (result ≡ status_of failure)
-        × Tells (E.state errors.old) (E.state errors.new) (line_of failure)
+        × Prints (E.state errors.old) (E.state errors.new) (line_of failure)
         × ((FailsReading (R.state reader.old).faults (R.state reader.new).faults failure
         × (writer.new ≡ writer.old))
         ⊎ ((failure ≡ WriteFailure)
@@ -48,7 +48,7 @@ pub fn run<F: Folder, R: Source, W: Sink, E: Sink>(
         × EndsFailed (W.state writer.old).faults (W.state writer.new).faults
         × ((reply : AReply) × IsReplyTo LIMIT (task_in (map string_bytes words.now))
         (R.state reader.old).left reply
-        × PutsOut ⊥ (TakesPrefix (W.state writer.old).taken (W.state writer.new).taken) reply))) }
+        × PutsText ⊥ (TakesPrefix (W.state writer.old).taken (W.state writer.new).taken) reply))) }
     ensures leaves { (reader.new ≡ reader.old)
         ⊎ ReadsNoFurther LIMIT (task_in (map string_bytes words.now)) (R.state reader.old)
         (R.state reader.new) }
@@ -58,9 +58,9 @@ pub fn run<F: Folder, R: Source, W: Sink, E: Sink>(
     // left as it was.
     ensures files { files_in (map string_bytes words.now) ≢ []
         → faults_in (map string_bytes words.now) ≡ []
-        → IsToldOfAll LIMIT (F.holds folder.old) (files_in (map string_bytes words.now))
-        (moment (F.visits folder.old) (W.state writer.old) (E.state errors.old))
-        (moment (F.visits folder.new) (W.state writer.new) (E.state errors.new)) result
+        → ChecksFiles LIMIT (F.holds folder.old) (files_in (map string_bytes words.now))
+        (run_state (F.visits folder.old) (W.state writer.old) (E.state errors.old))
+        (run_state (F.visits folder.new) (W.state writer.new) (E.state errors.new)) result
         × OneAtATime (F.open_files folder.old) (F.open_files folder.new) }
     ensures apart { (files_in (map string_bytes words.now) ≡ [] → folder.new ≡ folder.old)
         × (files_in (map string_bytes words.now) ≢ [] → reader.new ≡ reader.old) }
@@ -73,7 +73,7 @@ pub fn run<F: Folder, R: Source, W: Sink, E: Sink>(
         → ((result ≡ 2) ⊎ (result ≡ 4)) × (folder.new ≡ folder.old) × (reader.new ≡ reader.old)
         × (writer.new ≡ writer.old) }
     ensures usage { result ≡ 2 → (faults_in (map string_bytes words.now) ≢ [])
-        × ((text : List ℕ) × Tells (E.state errors.old) (E.state errors.new) text) }
+        × ((text : List ℕ) × Prints (E.state errors.old) (E.state errors.new) text) }
     ensures statuses { result < 5 }
 {
     let Asked { task, files } = match read_words(alloc, words) {
@@ -89,19 +89,19 @@ pub fn run<F: Folder, R: Source, W: Sink, E: Sink>(
 /// Tells why a line isn't run.
 pub fn refuse<E: Sink>(refusal: Refusal, errors: &mut E) -> u8
     ensures usage { (result ≡ 2) ↔ IsUsage refusal }
-    ensures told { result ≡ 2
-        → Tells (E.state errors.old) (E.state errors.new) (usage_text refusal) }
+    ensures printed { result ≡ 2
+        → Prints (E.state errors.old) (E.state errors.new) (usage_text refusal) }
     ensures line { 2 < result
-        → Tells (E.state errors.old) (E.state errors.new) (line_of Failure.Memory) }
+        → Prints (E.state errors.old) (E.state errors.new) (line_of Failure.Memory) }
     ensures statuses { (result ≡ 2) ⊎ (result ≡ 4) }
 {
     match refusal {
         Refusal::Usage(text) => {
-            tell(errors, text.as_str());
+            print(errors, text.as_str());
             2
         }
         Refusal::Memory => {
-            tell(errors, Failure::Memory.line());
+            print(errors, Failure::Memory.line());
             Failure::Memory.status()
         }
     }

@@ -90,7 +90,7 @@ fn expect_writes_fail(rt: &(impl Abort + AllocGlobal), command: Command, written
 }
 
 #[test]
-fn tells_failed_devices(rt: HostRuntime) {
+fn prints_failed_devices(rt: HostRuntime) {
     for (command, written) in point_written() {
         expect_reads_fail(&rt, command);
         expect_writes_fail(&rt, command, written);
@@ -99,7 +99,7 @@ fn tells_failed_devices(rt: HostRuntime) {
 
 // The first that occurs ends the run.
 #[test]
-fn tells_the_first_failure(rt: HostRuntime) {
+fn prints_the_first_failure(rt: HostRuntime) {
     let ten = Streams { room: 10, ..SOUND };
     let shown = (3, b"{\"layers\":".as_slice(), WRITE_FAILED);
     expect_run(&rt, Command::Show, ONE_POINT, ten, shown);

@@ -1,7 +1,7 @@
 //! The command `check` over files in memory.
 ghost use Rattle.std.specs.Prelude.{◌≡◌, map, string_bytes};
 ghost use Rattle.mvt_io.specs.Devices.{outflow_of};
-ghost use Rattle.mvt_tasks.specs.Checks.{IsToldOfAll, moment};
+ghost use Rattle.mvt_tasks.specs.Checks.{ChecksFiles, run_state};
 ghost use Rattle.mvt_tasks.specs.Folders.{held_in};
 
 use super::support::*;
@@ -58,9 +58,9 @@ fn check_known(
     writer: &mut MemorySink,
     errors: &mut MemorySink,
 ) -> u8
-    ensures { IsToldOfAll LIMIT (held_in folder.old.files) (map string_bytes names.now)
-        (moment folder.old.visits (outflow_of writer.old) (outflow_of errors.old))
-        (moment folder.new.visits (outflow_of writer.new) (outflow_of errors.new)) result }
+    ensures { ChecksFiles LIMIT (held_in folder.old.files) (map string_bytes names.now)
+        (run_state folder.old.visits (outflow_of writer.old) (outflow_of errors.old))
+        (run_state folder.new.visits (outflow_of writer.new) (outflow_of errors.new)) result }
 {
     check_files(alloc, names, folder, writer, errors)
 }
@@ -131,13 +131,13 @@ const GOOD_AND_NOTED: &str = concat!(
 #[test]
 fn checks_many_files(rt: HostRuntime) {
     let names = ["good", "torn", "bad", "noted", "locked"];
-    let told = concat!(
+    let printed = concat!(
         "torn: read failed\n",
         "bad: layer - feature - at 0: 4 WireType\n",
         "locked: read failed\n",
         "mvt: 5 tiles: 2 accepted, 1 refused, 2 unread\n"
     );
-    expect_checked(&rt, &names, SOUND, (3, GOOD_AND_NOTED, told));
+    expect_checked(&rt, &names, SOUND, (3, GOOD_AND_NOTED, printed));
     let refused = concat!(
         "bad: layer - feature - at 0: 4 WireType\n",
         "mvt: 2 tiles: 1 accepted, 1 refused, 0 unread\n"
@@ -161,8 +161,8 @@ fn checks_until_a_write_fails(rt: HostRuntime) {
         flush: true,
         ..SOUND
     };
-    let told = "locked: read failed\nmvt: write failed\n";
-    expect_checked(&rt, &names, flush, (3, GOOD_AND_NOTED, told));
+    let printed = "locked: read failed\nmvt: write failed\n";
+    expect_checked(&rt, &names, flush, (3, GOOD_AND_NOTED, printed));
 }
 
 // Want of memory, or the answer; how often it was want of memory. All files are closed then.
@@ -210,16 +210,16 @@ fn wants_into(
     wanted
 }
 
-fn wants(rt: &impl Abort, status: u8, written: &[u8], told: &[u8]) -> u32 {
+fn wants(rt: &impl Abort, status: u8, written: &[u8], printed: &[u8]) -> u32 {
     if status == 4 {
         expect!(rt; GOOD.as_bytes().starts_with(written));
-        expect!(rt; told.ends_with(b"mvt: out of memory\n"));
+        expect!(rt; printed.ends_with(b"mvt: out of memory\n"));
         return 1;
     }
     expect_eq!(rt; status, 3);
     expect_eq!(rt; written, GOOD.as_bytes());
     let lines = "locked: read failed\nmvt: 2 tiles: 1 accepted, 0 refused, 1 unread\n";
-    expect_eq!(rt; told, lines.as_bytes());
+    expect_eq!(rt; printed, lines.as_bytes());
     0
 }
 

@@ -64,18 +64,18 @@ fn is_wanted(
     rt: &impl Abort,
     status: u8,
     writer: &MemorySink,
-    told: &[u8],
+    printed: &[u8],
     answer: Answer<'_>,
 ) -> u32 {
     if status == 4 {
-        expect_eq!(rt; told, b"mvt: out of memory\n".as_slice());
+        expect_eq!(rt; printed, b"mvt: out of memory\n".as_slice());
         expect_eq!(rt; writer.calls(), 0);
         expect_eq!(rt; writer.flushes(), 0);
         return 1;
     }
     expect_eq!(rt; status, answer.0);
     expect_eq!(rt; writer.taken(), answer.1);
-    expect_eq!(rt; told, answer.2.as_bytes());
+    expect_eq!(rt; printed, answer.2.as_bytes());
     0
 }
 

@@ -19,12 +19,12 @@ use Rattle.mvt_tasks.specs.declared.tally.Tally.{Tally}
 use Rattle.mvt_tasks.specs.declared.tally.Verdict.{Verdict}
 use Rattle.mvt_tasks.specs.declared.tally.Verdict.TheVariants.{Accepted, Refused, Unread}
 use Rattle.mvt_tasks.specs.Visits.{AddsAll, IsNext, OneAtATime}
-use Rattle.mvt_tasks.specs.Checks.{AreChecked, Checked, IsCutShort, IsLater, IsSaid, IsSaidOf, IsSaidOfOne, Moment, TakesUntil, Tells, count_of, is_accepted, is_refused, is_unread, tally_of, told_of, verdict_of, visit_of, written_of}
+use Rattle.mvt_tasks.specs.Checks.{AreChecked, Checked, EndsEarly, IsLater, IsFileReply, ReportsFiles, ReportsFile, RunState, TakesUntil, Prints, count_of, is_accepted, is_refused, is_unread, tally_of, printed_of, verdict_of, visit_of, written_of}
 
 -- ---- the error stream
 
-pub tells_nothing : (o : Outflow) → Tells o o []
-tells_nothing o = record { counts = inl (omega arith); tells = λ none. Appends-nil o.taken }
+pub prints_nothing : (o : Outflow) → Prints o o []
+prints_nothing o = record { counts = inl (omega arith); prints = λ none. Appends-nil o.taken }
 
 later-trans : (a b c : ℕ) → IsLater a b → IsLater b c → IsLater a c
 later-trans a b c (inl h) (inl k) = inl (omega arith)
@@ -39,14 +39,14 @@ none_between a b c (inl h) (inr k) (same, small) = absurd (omega arith)
 none_between a b c (inr h) (inl k) (same, small) = absurd (omega arith)
 none_between a b c (inr h) (inr k) (same, small) = absurd (omega arith)
 
-pub tells-trans : (a b c : Outflow) (s t : List ℕ) → Tells a b s → Tells b c t → Tells a c (s ++ t)
-tells-trans a b c s t first then = record {
+pub prints-trans : (a b c : Outflow) (s t : List ℕ) → Prints a b s → Prints b c t → Prints a c (s ++ t)
+prints-trans a b c s t first then = record {
   counts = later-trans a.faults.count b.faults.count c.faults.count first.counts then.counts;
-  tells = λ none.
+  prints = λ none.
       let (one, two) = none_between a.faults.count b.faults.count c.faults.count first.counts then.counts none in
       let small : a.faults.count < last_count = none.1 in
-      Appends-trans a.taken b.taken c.taken s t (first.tells (one, small))
-      (then.tells (two, (let e : b.faults.count < last_count = omega arith in e)));
+      Appends-trans a.taken b.taken c.taken s t (first.prints (one, small))
+      (then.prints (two, (let e : b.faults.count < last_count = omega arith in e)));
 }
 
 -- ---- visits
@@ -102,14 +102,14 @@ tally_size (f ∷ fs) =
 
 -- ---- files
 
-pub said_none : (limit : ℕ) (holds : List ℕ → Option (List ℕ)) (now : Moment) (tally : Tally)
-    → tally ≡ record { accepted = 0; refused = 0; unread = 0 } → IsSaidOf limit holds [] now now [] tally
+pub said_none : (limit : ℕ) (holds : List ℕ → Option (List ℕ)) (now : RunState) (tally : Tally)
+    → tally ≡ record { accepted = 0; refused = 0; unread = 0 } → ReportsFiles limit holds [] now now [] tally
 said_none limit holds now tally is = record {
   files = [];
   checked = tt;
   visited = adds_nothing now.visits;
   written = Appends-nil now.output.taken;
-  told = tells_nothing now.errors;
+  printed = prints_nothing now.errors;
   counted = is;
 }
 
@@ -134,22 +134,22 @@ counted_more files file old new verdict counted judged adds =
     ap₂ (λ (x : ℕ) (p : ℕ × ℕ). record { accepted = x; refused = p.0; unread = p.1 }) a (ap₂ (λ (y z : ℕ). (y, z)) r u)
 
 -- one file more
-pub said_more : (limit : ℕ) (holds : List ℕ → Option (List ℕ)) (names : List (List ℕ)) (name : List ℕ) (a b c : Moment)
+pub said_more : (limit : ℕ) (holds : List ℕ → Option (List ℕ)) (names : List (List ℕ)) (name : List ℕ) (a b c : RunState)
     (old new : Tally) (verdict : Verdict)
-    → IsSaidOf limit holds names a b [] old → IsSaidOfOne limit holds name b c verdict → IsAdded old new verdict
-    → IsSaidOf limit holds (names ++ name ∷ []) a c [] new
+    → ReportsFiles limit holds names a b [] old → ReportsFile limit holds name b c verdict → IsAdded old new verdict
+    → ReportsFiles limit holds (names ++ name ∷ []) a c [] new
 said_more limit holds names name a b c old new verdict said one adds =
     let file : Checked = record { name = name; reply = one.reply } in
     let files = said.files in
     let visits = λ (fs : List Checked). map (λ f. visit_of f.name f.reply) fs in
-    let lines : (flat_map told_of files ++ []) ++ told_of file ≡ flat_map told_of (files ++ file ∷ []) ++ [] =
-    ap (λ t. t ++ told_of file) (append-nil (flat_map told_of files))
-    ∙ sym (append-nil (flat_map told_of (files ++ file ∷ [])) ∙ flat_map-append told_of files (file ∷ [])
-    ∙ ap (λ t. flat_map told_of files ++ t) (append-nil (told_of file))) in
+    let lines : (flat_map printed_of files ++ []) ++ printed_of file ≡ flat_map printed_of (files ++ file ∷ []) ++ [] =
+    ap (λ t. t ++ printed_of file) (append-nil (flat_map printed_of files))
+    ∙ sym (append-nil (flat_map printed_of (files ++ file ∷ [])) ∙ flat_map-append printed_of files (file ∷ [])
+    ∙ ap (λ t. flat_map printed_of files ++ t) (append-nil (printed_of file))) in
     record {
       files = files ++ file ∷ [];
       checked =
-          related-append (λ n (f : Checked). (f.name ≡ n) × IsSaid limit (holds n) f.reply) names files (name ∷ []) (file ∷ []) said.checked
+          related-append (λ n (f : Checked). (f.name ≡ n) × IsFileReply limit (holds n) f.reply) names files (name ∷ []) (file ∷ []) said.checked
           ((refl, one.checked), tt);
       visited =
           subst (AddsAll a.visits c.visits) (sym (map-append (λ (f : Checked). visit_of f.name f.reply) files (file ∷ [])))
@@ -158,29 +158,29 @@ said_more limit holds names name a b c old new verdict said one adds =
           subst (Appends a.output.taken c.output.taken)
           (sym (flat_map-append written_of files (file ∷ []) ∙ ap (λ t. flat_map written_of files ++ t) (append-nil (written_of file))))
           (Appends-trans a.output.taken b.output.taken c.output.taken (flat_map written_of files) (written_of file) said.written one.written);
-      told =
-          subst (Tells a.errors c.errors) lines
-          (tells-trans a.errors b.errors c.errors (flat_map told_of files ++ [])
-          (told_of file) said.told one.told);
+      printed =
+          subst (Prints a.errors c.errors) lines
+          (prints-trans a.errors b.errors c.errors (flat_map printed_of files ++ [])
+          (printed_of file) said.printed one.printed);
       counted = counted_more files file old new verdict said.counted one.judged adds;
     }
 
 -- so many files were counted as there are names
-pub said_size : (limit : ℕ) (holds : List ℕ → Option (List ℕ)) (names : List (List ℕ)) (a b : Moment) (line : List ℕ) (tally : Tally)
-    → IsSaidOf limit holds names a b line tally → tally.accepted + tally.refused + tally.unread ≡ length names
+pub said_size : (limit : ℕ) (holds : List ℕ → Option (List ℕ)) (names : List (List ℕ)) (a b : RunState) (line : List ℕ) (tally : Tally)
+    → ReportsFiles limit holds names a b line tally → tally.accepted + tally.refused + tally.unread ≡ length names
 said_size limit holds names a b line tally said =
     ap (λ (t : Tally). t.accepted + t.refused + t.unread) said.counted ∙ tally_size said.files
-    ∙ sym (length-related (λ n (f : Checked). (f.name ≡ n) × IsSaid limit (holds n) f.reply) names said.files said.checked)
+    ∙ sym (length-related (λ n (f : Checked). (f.name ≡ n) × IsFileReply limit (holds n) f.reply) names said.files said.checked)
 
-pub said_step : (limit : ℕ) (holds held : List ℕ → Option (List ℕ)) (all names : List (List ℕ)) (name shown : List ℕ) (a b c : Moment)
+pub said_step : (limit : ℕ) (holds held : List ℕ → Option (List ℕ)) (all names : List (List ℕ)) (name shown : List ℕ) (a b c : RunState)
     (old new : Tally) (verdict : Verdict)
-    → IsSaidOf limit holds names a b [] old → IsSaidOfOne limit held shown b c verdict → held ≡ holds → shown ≡ name
-    → all ≡ names ++ name ∷ [] → IsAdded old new verdict → IsSaidOf limit holds all a c [] new
+    → ReportsFiles limit holds names a b [] old → ReportsFile limit held shown b c verdict → held ≡ holds → shown ≡ name
+    → all ≡ names ++ name ∷ [] → IsAdded old new verdict → ReportsFiles limit holds all a c [] new
 said_step limit holds held all names name shown a b c old new verdict said one same shows all_is adds =
-    let here : IsSaidOfOne limit holds name b c verdict =
-    subst (λ (h : List ℕ → Option (List ℕ)). IsSaidOfOne limit h name b c verdict) same
-    (subst (λ (n : List ℕ). IsSaidOfOne limit held n b c verdict) shows one) in
-    subst (λ (ns : List (List ℕ)). IsSaidOf limit holds ns a c [] new) (sym all_is)
+    let here : ReportsFile limit holds name b c verdict =
+    subst (λ (h : List ℕ → Option (List ℕ)). ReportsFile limit h name b c verdict) same
+    (subst (λ (n : List ℕ). ReportsFile limit held n b c verdict) shows one) in
+    subst (λ (ns : List (List ℕ)). ReportsFiles limit holds ns a c [] new) (sym all_is)
     (said_more limit holds names name a b c old new verdict said here adds)
 
 -- ---- a run that was over early
@@ -206,9 +206,9 @@ weaker_err (Ok x) f h = tt
 weaker_err (Err e) f h = f e h
 
 -- an end before the first file was checked
-pub cut_first : (limit : ℕ) (holds : List ℕ → Option (List ℕ)) (names : List (List ℕ)) (old : Moment) (visits : Option (List Visit))
+pub cut_first : (limit : ℕ) (holds : List ℕ → Option (List ℕ)) (names : List (List ℕ)) (old : RunState) (visits : Option (List Visit))
     (next : List Visit)
-    → IsNext names next → AddsAll old.visits visits next → IsCutShort limit holds names old (record old { visits = visits }) [] Memory
+    → IsNext names next → AddsAll old.visits visits next → EndsEarly limit holds names old (record old { visits = visits }) [] Memory
 cut_first limit holds names old visits next is_next visited = record {
   front = [];
   rest = names;
@@ -219,16 +219,16 @@ cut_first limit holds names old visits next is_next visited = record {
   is_next = is_next;
   visited = visited;
   taken = Appends-nil old.output.taken;
-  told = tells_nothing old.errors;
+  printed = prints_nothing old.errors;
 }
 
 -- an end within a file, of which there is something to say
-cut_within : (limit : ℕ) (holds : List ℕ → Option (List ℕ)) (name : List ℕ) (reply : Option Reply) (old new : Moment) (failure : Failure)
-    → IsSaid limit (holds name) reply → AddsAll old.visits new.visits (visit_of name reply ∷ [])
+cut_within : (limit : ℕ) (holds : List ℕ → Option (List ℕ)) (name : List ℕ) (reply : Option Reply) (old new : RunState) (failure : Failure)
+    → IsFileReply limit (holds name) reply → AddsAll old.visits new.visits (visit_of name reply ∷ [])
     → TakesUntil old.output.taken new.output.taken (written_of (record { name = name; reply = reply })) failure
-    → Tells old.errors new.errors (told_of (record { name = name; reply = reply }))
-    → IsCutShort limit holds (name ∷ []) old new [] failure
-cut_within limit holds name reply old new failure said visited takes told =
+    → Prints old.errors new.errors (printed_of (record { name = name; reply = reply }))
+    → EndsEarly limit holds (name ∷ []) old new [] failure
+cut_within limit holds name reply old new failure said visited takes printed =
     let file : Checked = record { name = name; reply = reply } in
     record {
       front = name ∷ [];
@@ -240,15 +240,15 @@ cut_within limit holds name reply old new failure said visited takes told =
       is_next = tt;
       visited = visited;
       taken = subst (λ text. TakesUntil old.output.taken new.output.taken text failure) (sym (append-nil (written_of file))) takes;
-      told = subst (Tells old.errors new.errors)
-          (sym (append-nil (told_of file ++ []) ∙ append-nil (told_of file))) told;
+      printed = subst (Prints old.errors new.errors)
+          (sym (append-nil (printed_of file ++ []) ∙ append-nil (printed_of file))) printed;
     }
 
 -- an end after the last file
-cut_last : (limit : ℕ) (holds : List ℕ → Option (List ℕ)) (names : List (List ℕ)) (a b : Moment) (tally : Tally)
+cut_last : (limit : ℕ) (holds : List ℕ → Option (List ℕ)) (names : List (List ℕ)) (a b : RunState) (tally : Tally)
     (w : Outflow) (failure : Failure)
-    → IsSaidOf limit holds names a b [] tally → TakesUntil b.output.taken w.taken [] failure
-    → IsCutShort limit holds names a (record b { output = w }) [] failure
+    → ReportsFiles limit holds names a b [] tally → TakesUntil b.output.taken w.taken [] failure
+    → EndsEarly limit holds names a (record b { output = w }) [] failure
 cut_last limit holds names a b tally w failure said takes = record {
   front = names;
   rest = [];
@@ -262,7 +262,7 @@ cut_last limit holds names a b tally w failure said takes = record {
   taken =
       subst (λ text. TakesUntil a.output.taken w.taken text failure) (append-nil (flat_map written_of said.files))
       (takes_on a.output.taken b.output.taken w.taken (flat_map written_of said.files) [] failure said.written takes);
-  told = said.told;
+  printed = said.printed;
 }
 
 next_more : (rest behind : List (List ℕ)) (next : List Visit) → IsNext rest next → IsNext (rest ++ behind) next
@@ -273,16 +273,16 @@ next_more (name ∷ names) behind (v ∷ w ∷ vs) is = absurd is
 
 -- an end at a file behind others
 cut_later : (limit : ℕ) (holds held : List ℕ → Option (List ℕ)) (all names : List (List ℕ)) (name shown : List ℕ)
-    (behind : List (List ℕ)) (a b c : Moment) (tally : Tally) (failure : Failure)
-    → IsSaidOf limit holds names a b [] tally → IsCutShort limit held (shown ∷ []) b c [] failure → held ≡ holds → shown ≡ name
-    → all ≡ names ++ name ∷ behind → IsCutShort limit holds all a c [] failure
+    (behind : List (List ℕ)) (a b c : RunState) (tally : Tally) (failure : Failure)
+    → ReportsFiles limit holds names a b [] tally → EndsEarly limit held (shown ∷ []) b c [] failure → held ≡ holds → shown ≡ name
+    → all ≡ names ++ name ∷ behind → EndsEarly limit holds all a c [] failure
 cut_later limit holds held all names name shown behind a b c tally failure said cut same shows all_is =
     let one : shown ∷ [] ≡ cut.front ++ cut.rest = cut.of_names in
     let visits = λ (fs : List Checked). map (λ f. visit_of f.name f.reply) fs in
-    let lines : (flat_map told_of said.files ++ []) ++ (flat_map told_of cut.files ++ []) ≡ flat_map told_of (said.files ++ cut.files) ++ [] =
-    ap (λ t. t ++ (flat_map told_of cut.files ++ [])) (append-nil (flat_map told_of said.files))
-    ∙ sym (append_assoc (flat_map told_of said.files) (flat_map told_of cut.files) [])
-    ∙ ap (λ t. t ++ []) (sym (flat_map-append told_of said.files cut.files)) in
+    let lines : (flat_map printed_of said.files ++ []) ++ (flat_map printed_of cut.files ++ []) ≡ flat_map printed_of (said.files ++ cut.files) ++ [] =
+    ap (λ t. t ++ (flat_map printed_of cut.files ++ [])) (append-nil (flat_map printed_of said.files))
+    ∙ sym (append_assoc (flat_map printed_of said.files) (flat_map printed_of cut.files) [])
+    ∙ ap (λ t. t ++ []) (sym (flat_map-append printed_of said.files cut.files)) in
     record {
       front = names ++ cut.front;
       rest = cut.rest ++ behind;
@@ -292,7 +292,7 @@ cut_later limit holds held all names name shown behind a b c tally failure said 
           all_is ∙ ap (λ n. names ++ n ∷ behind) (sym shows) ∙ ap (λ ns. names ++ (ns ++ behind)) one
           ∙ ap (λ ns. names ++ ns) (append_assoc cut.front cut.rest behind) ∙ sym (append_assoc names cut.front (cut.rest ++ behind));
       checked =
-          related-append (λ n (f : Checked). (f.name ≡ n) × IsSaid limit (holds n) f.reply) names said.files cut.front
+          related-append (λ n (f : Checked). (f.name ≡ n) × IsFileReply limit (holds n) f.reply) names said.files cut.front
           cut.files said.checked
           (subst (λ (h : List ℕ → Option (List ℕ)). AreChecked limit h cut.front cut.files) same cut.checked);
       is_next = next_more cut.rest behind cut.next cut.is_next;
@@ -304,18 +304,18 @@ cut_later limit holds held all names name shown behind a b c tally failure said 
       taken =
           subst (λ text. TakesUntil a.output.taken c.output.taken text failure) (sym (flat_map-append written_of said.files cut.files))
           (takes_on a.output.taken b.output.taken c.output.taken (flat_map written_of said.files) (flat_map written_of cut.files) failure said.written cut.taken);
-      told =
-          subst (Tells a.errors c.errors) lines
-          (tells-trans a.errors b.errors c.errors (flat_map told_of said.files ++ [])
-          (flat_map told_of cut.files ++ []) said.told cut.told);
+      printed =
+          subst (Prints a.errors c.errors) lines
+          (prints-trans a.errors b.errors c.errors (flat_map printed_of said.files ++ [])
+          (flat_map printed_of cut.files ++ []) said.printed cut.printed);
     }
 
 -- the line that tells why
-pub cut_told : (limit : ℕ) (holds : List ℕ → Option (List ℕ)) (names : List (List ℕ)) (a b : Moment) (errors : Outflow)
+pub cut_printed : (limit : ℕ) (holds : List ℕ → Option (List ℕ)) (names : List (List ℕ)) (a b : RunState) (errors : Outflow)
     (line : List ℕ) (failure : Failure)
-    → IsCutShort limit holds names a b [] failure → Tells b.errors errors line
-    → IsCutShort limit holds names a (record b { errors = errors }) line failure
-cut_told limit holds names a b errors line failure cut told = record {
+    → EndsEarly limit holds names a b [] failure → Prints b.errors errors line
+    → EndsEarly limit holds names a (record b { errors = errors }) line failure
+cut_printed limit holds names a b errors line failure cut printed = record {
   front = cut.front;
   rest = cut.rest;
   files = cut.files;
@@ -325,51 +325,51 @@ cut_told limit holds names a b errors line failure cut told = record {
   is_next = cut.is_next;
   visited = cut.visited;
   taken = cut.taken;
-  told =
-      subst (λ text. Tells a.errors errors (text ++ line)) (append-nil (flat_map told_of cut.files))
-      (tells-trans a.errors b.errors errors (flat_map told_of cut.files ++ []) line cut.told told);
+  printed =
+      subst (λ text. Prints a.errors errors (text ++ line)) (append-nil (flat_map printed_of cut.files))
+      (prints-trans a.errors b.errors errors (flat_map printed_of cut.files ++ []) line cut.printed printed);
 }
 
-pub cut_at_first : (limit : ℕ) (holds : List ℕ → Option (List ℕ)) (names : List (List ℕ)) (old : Moment) (errors : Outflow) (line : List ℕ)
-    → Tells old.errors errors line → IsCutShort limit holds names old (record old { errors = errors }) line Memory
-cut_at_first limit holds names old errors line told =
-    cut_told limit holds names old old errors line Memory
-    (cut_first limit holds names old old.visits [] tt (adds_nothing old.visits)) told
+pub cut_at_first : (limit : ℕ) (holds : List ℕ → Option (List ℕ)) (names : List (List ℕ)) (old : RunState) (errors : Outflow) (line : List ℕ)
+    → Prints old.errors errors line → EndsEarly limit holds names old (record old { errors = errors }) line Memory
+cut_at_first limit holds names old errors line printed =
+    cut_printed limit holds names old old errors line Memory
+    (cut_first limit holds names old old.visits [] tt (adds_nothing old.visits)) printed
 
 -- of an answer
 
 module _ {T : Type 0} (r : Result T Failure) (limit : ℕ) (holds : List ℕ → Option (List ℕ)) where
-  pub cut_first_of : (name : List ℕ) (old : Moment) (visits : Option (List Visit)) (next : List Visit) → IsNext (name ∷ []) next
+  pub cut_first_of : (name : List ℕ) (old : RunState) (visits : Option (List Visit)) (next : List Visit) → IsNext (name ∷ []) next
       → AddsAll old.visits visits next → IfErr r (λ failure. failure ≡ Memory)
-      → IfErr r (IsCutShort limit holds (name ∷ []) old (record old { visits = visits }) [])
+      → IfErr r (EndsEarly limit holds (name ∷ []) old (record old { visits = visits }) [])
   cut_first_of name old visits next is_next visited is =
-      weaker_err r (λ failure is_memory. subst (IsCutShort limit holds (name ∷ []) old (record old { visits = visits }) []) (sym is_memory)
+      weaker_err r (λ failure is_memory. subst (EndsEarly limit holds (name ∷ []) old (record old { visits = visits }) []) (sym is_memory)
       (cut_first limit holds (name ∷ []) old visits next is_next visited)) is
 
-  pub cut_within_of : (name : List ℕ) (reply : Option Reply) (old new : Moment) → IsSaid limit (holds name) reply
+  pub cut_within_of : (name : List ℕ) (reply : Option Reply) (old new : RunState) → IsFileReply limit (holds name) reply
       → AddsAll old.visits new.visits (visit_of name reply ∷ [])
       → IfErr r (TakesUntil old.output.taken new.output.taken (written_of (record { name = name; reply = reply })))
-      → Tells old.errors new.errors (told_of (record { name = name; reply = reply }))
-      → IfErr r (IsCutShort limit holds (name ∷ []) old new [])
-  cut_within_of name reply old new said visited takes told =
-      weaker_err r (λ failure took. cut_within limit holds name reply old new failure said visited took told) takes
+      → Prints old.errors new.errors (printed_of (record { name = name; reply = reply }))
+      → IfErr r (EndsEarly limit holds (name ∷ []) old new [])
+  cut_within_of name reply old new said visited takes printed =
+      weaker_err r (λ failure took. cut_within limit holds name reply old new failure said visited took printed) takes
 
-  pub cut_unwritten : (names : List (List ℕ)) (a b : Moment) (tally : Tally) → IsSaidOf limit holds names a b [] tally
-      → IfErr r (λ failure. failure ≡ Memory) → IfErr r (IsCutShort limit holds names a b [])
+  pub cut_unwritten : (names : List (List ℕ)) (a b : RunState) (tally : Tally) → ReportsFiles limit holds names a b [] tally
+      → IfErr r (λ failure. failure ≡ Memory) → IfErr r (EndsEarly limit holds names a b [])
   cut_unwritten names a b tally said is =
       weaker_err r (λ failure is_memory. cut_last limit holds names a b tally b.output failure said
       (subst (TakesUntil b.output.taken b.output.taken []) (sym is_memory) (Appends-nil b.output.taken))) is
 
-  pub cut_unflushed : (names : List (List ℕ)) (a b : Moment) (tally : Tally) (w : Outflow)
-      → IsSaidOf limit holds names a b [] tally → Keeps b.output.taken w.taken → IfErr r (λ failure. failure ≡ Write)
-      → IfErr r (IsCutShort limit holds names a (record b { output = w }) [])
+  pub cut_unflushed : (names : List (List ℕ)) (a b : RunState) (tally : Tally) (w : Outflow)
+      → ReportsFiles limit holds names a b [] tally → Keeps b.output.taken w.taken → IfErr r (λ failure. failure ≡ Write)
+      → IfErr r (EndsEarly limit holds names a (record b { output = w }) [])
   cut_unflushed names a b tally w said keeps is =
       weaker_err r (λ failure is_write. cut_last limit holds names a b tally w failure said
       (subst (TakesUntil b.output.taken w.taken []) (sym is_write) (0, (omega arith), keeps_nothing b.output.taken w.taken keeps))) is
 
   pub cut_later_of : (held : List ℕ → Option (List ℕ)) (all names : List (List ℕ)) (name shown : List ℕ)
-      (behind : List (List ℕ)) (a b c : Moment) (tally : Tally)
-      → IsSaidOf limit holds names a b [] tally → IfErr r (IsCutShort limit held (shown ∷ []) b c []) → held ≡ holds → shown ≡ name
-      → all ≡ names ++ name ∷ behind → IfErr r (IsCutShort limit holds all a c [])
+      (behind : List (List ℕ)) (a b c : RunState) (tally : Tally)
+      → ReportsFiles limit holds names a b [] tally → IfErr r (EndsEarly limit held (shown ∷ []) b c []) → held ≡ holds → shown ≡ name
+      → all ≡ names ++ name ∷ behind → IfErr r (EndsEarly limit holds all a c [])
   cut_later_of held all names name shown behind a b c tally said cut same shows all_is =
       weaker_err r (λ failure one. cut_later limit holds held all names name shown behind a b c tally failure said one same shows all_is) cut

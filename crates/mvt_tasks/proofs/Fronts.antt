@@ -10,7 +10,7 @@ use Rattle.mvt_base.proofs.ListLemmas.{take_front, too_long}
 use Rattle.mvt_tile.specs.declared.fault.Fault.{Fault}
 use Rattle.mvt_tile.specs.TileRules.{fault_within, beyond, tile_rules}
 use Rattle.mvt_view.specs.FaultLines.{fault_line}
-use Rattle.mvt_view.proofs.ViewLaws.{front_tells_fault, front_tells_lines}
+use Rattle.mvt_view.proofs.ViewLaws.{front_reports_fault, front_reports_lines}
 use Rattle.mvt_tasks.specs.declared.reply.Reply.{Reply}
 use Rattle.mvt_tasks.specs.declared.task.Task.TheVariants.{Check}
 use Rattle.mvt_tasks.specs.Output.{IsReply, fields_reply}
@@ -46,19 +46,19 @@ pub listed : (limit : ℕ) (left : Option (List ℕ)) (bytes slice : List ℕ) (
 listed limit None bytes slice reply read same is = tt
 listed limit (Some input) bytes slice reply read same is =
     is ∙ ap (fields_reply limit) (same ∙ read)
-    ∙ ap₂ (λ text told. record { written = Some text; told = option_map (λ f. fault_line f ++ codes "\n") told })
-    (front_tells_lines limit input) (front_tells_fault limit input)
+    ∙ ap₂ (λ text printed. record { written = Some text; printed = option_map (λ f. fault_line f ++ codes "\n") printed })
+    (front_reports_lines limit input) (front_reports_fault limit input)
 
-told-front : (limit : ℕ) (input : List ℕ) (reply : Reply) → IsReply limit Check (take (limit + 1) input) reply
+printed-front : (limit : ℕ) (input : List ℕ) (reply : Reply) → IsReply limit Check (take (limit + 1) input) reply
     → IsReply limit Check input reply
-told-front limit input reply (inl (tile, is_tile, is)) =
+printed-front limit input reply (inl (tile, is_tile, is)) =
     let whole = whole-front limit input is_tile.small in
     subst (λ bytes. IsReply limit Check bytes reply) whole (inl (tile, is_tile, is))
-told-front limit input reply (inr (fault, first_is, is)) = inr (fault, sym (fault-front limit input) ∙ first_is, is)
+printed-front limit input reply (inr (fault, first_is, is)) = inr (fault, sym (fault-front limit input) ∙ first_is, is)
 
 pub checked : (limit : ℕ) (left : Option (List ℕ)) (bytes slice : List ℕ) (reply : Reply)
     → IfSome left (λ input. bytes ≡ take (limit + 1) input) → slice ≡ bytes → IsReply limit Check slice reply
     → IfSome left (λ input. IsReply limit Check input reply)
 checked limit None bytes slice reply read same is = tt
 checked limit (Some input) bytes slice reply read same is =
-    told-front limit input reply (subst (λ b. IsReply limit Check b reply) (same ∙ read) is)
+    printed-front limit input reply (subst (λ b. IsReply limit Check b reply) (same ∙ read) is)

@@ -10,40 +10,40 @@ use Rattle.mvt_view.specs.FaultLines.{fault_line}
 use Rattle.mvt_tasks.specs.declared.reply.Reply.{Reply}
 use Rattle.mvt_tasks.specs.declared.task.Task.{Task}
 use Rattle.mvt_tasks.specs.declared.task.Task.TheVariants.{Fields, Show, Draw, Check, Rewrite, Extract}
-use Rattle.mvt_tasks.specs.Output.{IsReply, IsTold, fields_reply, bytes_reply, layers_reply, done, refused, json_lines, svg_lines, check_lines}
+use Rattle.mvt_tasks.specs.Output.{IsReply, IsPrinted, fields_reply, bytes_reply, layers_reply, done, refused, json_lines, svg_lines, check_lines}
 
 there_is : (of_tile : Tile → Reply) (input : List ℕ) (o : Option Fault) → fault_within LIMIT input ≡ o
-    → (o ≡ None → (tile : Tile) × IsTile LIMIT input tile) → (reply : Reply) × IsTold LIMIT of_tile input reply
+    → (o ≡ None → (tile : Tile) × IsTile LIMIT input tile) → (reply : Reply) × IsPrinted LIMIT of_tile input reply
 there_is of_tile input None is there = let (tile, is_tile) = there refl in (of_tile tile, inl (tile, is_tile, refl))
 there_is of_tile input (Some fault) is there = (refused (fault_line fault ++ codes "\n"), inr (fault, is, refl))
 
-told : (of_tile : Tile → Reply) (input : List ℕ) → (reply : Reply) × IsTold LIMIT of_tile input reply
-told of_tile input = there_is of_tile input (fault_within LIMIT input) refl (tile_or_fault_there input)
+printed : (of_tile : Tile → Reply) (input : List ℕ) → (reply : Reply) × IsPrinted LIMIT of_tile input reply
+printed of_tile input = there_is of_tile input (fault_within LIMIT input) refl (tile_or_fault_there input)
 
 pub has_reply : (task : Task) (input : List ℕ) → (reply : Reply) × IsReply LIMIT task input reply
 has_reply Fields input = (fields_reply LIMIT input, refl)
-has_reply Show input = told (λ tile. done (json_lines tile)) input
-has_reply Draw input = told (λ tile. done (svg_lines tile)) input
-has_reply Check input = told (λ tile. done (check_lines input tile)) input
-has_reply Rewrite input = told (bytes_reply LIMIT) input
-has_reply (Extract names) input = told (layers_reply LIMIT names) input
+has_reply Show input = printed (λ tile. done (json_lines tile)) input
+has_reply Draw input = printed (λ tile. done (svg_lines tile)) input
+has_reply Check input = printed (λ tile. done (check_lines input tile)) input
+has_reply Rewrite input = printed (bytes_reply LIMIT) input
+has_reply (Extract names) input = printed (layers_reply LIMIT names) input
 
-told_once : (of_tile : Tile → Reply) (input : List ℕ) (a b : Reply) → IsTold LIMIT of_tile input a → IsTold LIMIT of_tile input b → a ≡ b
-told_once of_tile input a b (inl (s, is_s, a_is)) (inl (t, is_t, b_is)) =
+printed_once : (of_tile : Tile → Reply) (input : List ℕ) (a b : Reply) → IsPrinted LIMIT of_tile input a → IsPrinted LIMIT of_tile input b → a ≡ b
+printed_once of_tile input a b (inl (s, is_s, a_is)) (inl (t, is_t, b_is)) =
     a_is ∙ ap of_tile (tile_or_fault_once input s t is_s is_t) ∙ sym b_is
-told_once of_tile input a b (inl (s, is_s, a_is)) (inr (f, is_f, b_is)) =
+printed_once of_tile input a b (inl (s, is_s, a_is)) (inr (f, is_f, b_is)) =
     let e : None ≡ Some f = sym (tile_or_fault_clean input s is_s) ∙ is_f in cc
-told_once of_tile input a b (inr (f, is_f, a_is)) (inl (t, is_t, b_is)) =
+printed_once of_tile input a b (inr (f, is_f, a_is)) (inl (t, is_t, b_is)) =
     let e : None ≡ Some f = sym (tile_or_fault_clean input t is_t) ∙ is_f in cc
-told_once of_tile input a b (inr (f, is_f, a_is)) (inr (g, is_g, b_is)) =
+printed_once of_tile input a b (inr (f, is_f, a_is)) (inr (g, is_g, b_is)) =
     let e : Some f ≡ Some g = sym is_f ∙ is_g in
     let same : f ≡ g = cc in
     a_is ∙ ap (λ h. refused (fault_line h ++ codes "\n")) same ∙ sym b_is
 
 pub has_one_reply : (task : Task) (input : List ℕ) (a b : Reply) → IsReply LIMIT task input a → IsReply LIMIT task input b → a ≡ b
 has_one_reply Fields input a b a_is b_is = a_is ∙ sym b_is
-has_one_reply Show input a b a_is b_is = told_once (λ tile. done (json_lines tile)) input a b a_is b_is
-has_one_reply Draw input a b a_is b_is = told_once (λ tile. done (svg_lines tile)) input a b a_is b_is
-has_one_reply Check input a b a_is b_is = told_once (λ tile. done (check_lines input tile)) input a b a_is b_is
-has_one_reply Rewrite input a b a_is b_is = told_once (bytes_reply LIMIT) input a b a_is b_is
-has_one_reply (Extract names) input a b a_is b_is = told_once (layers_reply LIMIT names) input a b a_is b_is
+has_one_reply Show input a b a_is b_is = printed_once (λ tile. done (json_lines tile)) input a b a_is b_is
+has_one_reply Draw input a b a_is b_is = printed_once (λ tile. done (svg_lines tile)) input a b a_is b_is
+has_one_reply Check input a b a_is b_is = printed_once (λ tile. done (check_lines input tile)) input a b a_is b_is
+has_one_reply Rewrite input a b a_is b_is = printed_once (bytes_reply LIMIT) input a b a_is b_is
+has_one_reply (Extract names) input a b a_is b_is = printed_once (layers_reply LIMIT names) input a b a_is b_is

@@ -5,7 +5,7 @@ use Rattle.std.specs.declared.io.ErrorKind.{ErrorKind}
 use Rattle.std.specs.Option.{option_map}
 use Rattle.std.proofs.lemmas.Bool.Decides.{nat_tests}
 use Rattle.std.proofs.lemmas.Option.{IfSome_then}
-use Rattle.mvt_base.specs.Tells.{Tells}
+use Rattle.mvt_base.specs.Reports.{Reports}
 use Rattle.mvt_io.specs.Counts.{counted}
 use Rattle.mvt_io.specs.States.{Faults, NoneFailed, after_call, failed}
 use Rattle.mvt_model.specs.declared.tile.Tile.{Tile}
@@ -21,7 +21,7 @@ use Rattle.mvt_tasks.specs.declared.failure.Failure.{Failure}
 use Rattle.mvt_tasks.specs.declared.failure.Failure.TheVariants.{Write}
 use Rattle.mvt_tasks.specs.declared.reply.Reply.{Reply}
 use Rattle.mvt_tasks.specs.Failures.{EndsFailed, FailsWriting, IsRefusal}
-use Rattle.mvt_tasks.specs.Output.{IsTold, done, refused, bytes_reply, layers_reply, layers_reply_or, missing_line}
+use Rattle.mvt_tasks.specs.Output.{IsPrinted, done, refused, bytes_reply, layers_reply, layers_reply_or, missing_line}
 use Rattle.mvt_tasks.proofs.Picks.{missing_at, none_missing}
 
 pub small_reply : (limit : ℕ) (tile : Tile) → length (canonical tile) ≤ limit → bytes_reply limit tile ≡ done (canonical tile)
@@ -53,11 +53,11 @@ missing_reply limit tile names i line first is =
     ap (λ o. layers_reply_or o (bytes_reply limit (pick tile names))) ((missing_at tile names i first).1)
     ∙ missing_or (slice_get names i) line (bytes_reply limit (pick tile names)) is
 
-pub refused_told : (limit : ℕ) (of_tile : Tile → Reply) (input : List ℕ) (error : DecodeError) (line : List ℕ)
-    → Tells (fault_of error) (fault_within limit input) → IsRefusal error line → IsTold limit of_tile input (refused line)
-refused_told limit of_tile input Memory line tells is = absurd is
-refused_told limit of_tile input (Fault fault) line tells is = inr (fault, tells, ap refused is)
-refused_told limit of_tile input (Read kind) line tells is = absurd is
+pub refused_printed : (limit : ℕ) (of_tile : Tile → Reply) (input : List ℕ) (error : DecodeError) (line : List ℕ)
+    → Reports (fault_of error) (fault_within limit input) → IsRefusal error line → IsPrinted limit of_tile input (refused line)
+refused_printed limit of_tile input Memory line prints is = absurd is
+refused_printed limit of_tile input (Fault fault) line prints is = inr (fault, prints, ap refused is)
+refused_printed limit of_tile input (Read kind) line prints is = absurd is
 
 -- the reply for the named layers of a tile
 
@@ -73,22 +73,22 @@ module _ (limit : ℕ) (tile : Tile) (names : List (List ℕ)) where
   extracted_large line is (none, large) =
       ap refused is ∙ sym (picked_reply limit tile (pick tile names) names none refl ∙ large_reply limit (pick tile names) large)
 
-pub layers_told : (limit : ℕ) (left : Option (List ℕ)) (names shown : List (List ℕ)) (tile : Tile) (reply : Reply) → shown ≡ names
+pub layers_printed : (limit : ℕ) (left : Option (List ℕ)) (names shown : List (List ℕ)) (tile : Tile) (reply : Reply) → shown ≡ names
     → reply ≡ layers_reply limit shown tile → IfSome left (λ input. IsTile limit input tile)
-    → IfSome left (λ input. IsTold limit (layers_reply limit names) input reply)
-layers_told limit left names shown tile reply same is there =
+    → IfSome left (λ input. IsPrinted limit (layers_reply limit names) input reply)
+layers_printed limit left names shown tile reply same is there =
     IfSome_then left there (λ input is_tile. inl (tile, is_tile, is ∙ ap (λ ns. layers_reply limit ns tile) same))
 
 -- the canonical bytes of a tile, or that they are more than the limit
 
 module _ (limit : ℕ) (left : Option (List ℕ)) (tile : Tile) (there : IfSome left (λ input. IsTile limit input tile × Valid tile)) where
   pub rewritten : (bytes made : List ℕ) → made ≡ bytes → (bytes ≡ canonical tile) × (length (canonical tile) ≤ limit)
-      → IfSome left (λ input. IsTold limit (bytes_reply limit) input (done made))
+      → IfSome left (λ input. IsPrinted limit (bytes_reply limit) input (done made))
   rewritten bytes made same (is, small) =
       IfSome_then left there (λ input both. inl (tile, both.0, ap done (same ∙ is) ∙ sym (small_reply limit tile small)))
 
   pub not_rewritten : (line : List ℕ) → line ≡ codes "mvt: result larger than 67108864 bytes\n" → limit < length (canonical tile)
-      → IfSome left (λ input. IsTold limit (bytes_reply limit) input (refused line))
+      → IfSome left (λ input. IsPrinted limit (bytes_reply limit) input (refused line))
   not_rewritten line is large =
       IfSome_then left there (λ input both. inl (tile, both.0, ap refused is ∙ sym (large_reply limit tile large)))
 
@@ -97,7 +97,7 @@ module _ (limit : ℕ) (left : Option (List ℕ)) (tile : Tile) (there : IfSome 
 ends_failed : (a b c : Faults) (kind : ErrorKind) → NoneFailed a b → c ≡ failed kind b → EndsFailed a c
 ends_failed a b c kind none is = (
   kind,
-  record { once = ap (λ (f : Faults). f.count) is ∙ ap counted none; told = ap (λ (f : Faults). f.last) is; ended = ap (λ (f : Faults). f.ended) is },
+  record { once = ap (λ (f : Faults). f.count) is ∙ ap counted none; printed = ap (λ (f : Faults). f.last) is; ended = ap (λ (f : Faults). f.ended) is },
 )
 
 module _ {T U : Type 0} (s : Result T Failure) (r : Result U ErrorKind) (a b c : Faults) where

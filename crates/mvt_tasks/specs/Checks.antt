@@ -25,14 +25,14 @@ pub record Checked : Type 0 where
   pub reply : Option Reply
 
 -- the reply is that for what the file holds
-abbrev pub IsSaid : ℕ → Option (List ℕ) → Option Reply → Type 0
-IsSaid limit held None = ⊤
-IsSaid limit held (Some reply) = IfSome held (λ input. IsReply limit Check input reply)
+abbrev pub IsFileReply : ℕ → Option (List ℕ) → Option Reply → Type 0
+IsFileReply limit held None = ⊤
+IsFileReply limit held (Some reply) = IfSome held (λ input. IsReply limit Check input reply)
 
 -- each name's file, in order, with its reply
 abbrev pub AreChecked : ℕ → (List ℕ → Option (List ℕ)) → List (List ℕ) → List Checked → Type 0
 AreChecked limit holds names files =
-    AreRelated (λ name (file : Checked). (file.name ≡ name) × IsSaid limit (holds name) file.reply) names files
+    AreRelated (λ name (file : Checked). (file.name ≡ name) × IsFileReply limit (holds name) file.reply) names files
 
 -- a file without a reply is one that couldn't be read
 abbrev pub visit_of : List ℕ → Option Reply → Visit
@@ -51,25 +51,25 @@ abbrev pub text_of : Option Reply → Option (List ℕ)
 text_of None = None
 text_of (Some reply) = reply.written
 
-abbrev pub line_told : Option Reply → Option (List ℕ)
-line_told None = Some (codes "read failed\n")
-line_told (Some reply) = reply.told
+abbrev pub line_printed : Option Reply → Option (List ℕ)
+line_printed None = Some (codes "read failed\n")
+line_printed (Some reply) = reply.printed
 
 -- what goes to the output, and what goes to the error stream, each line behind the file's name
 unfoldable pub written_of : Checked → List ℕ
 written_of file = marked_text file.name (text_of file.reply)
 
-unfoldable pub told_of : Checked → List ℕ
-told_of file = marked_text file.name (line_told file.reply)
+unfoldable pub printed_of : Checked → List ℕ
+printed_of file = marked_text file.name (line_printed file.reply)
 
-abbrev pub verdict_told : Option (List ℕ) → Verdict
-verdict_told None = Accepted
-verdict_told (Some line) = Refused
+abbrev pub verdict_printed : Option (List ℕ) → Verdict
+verdict_printed None = Accepted
+verdict_printed (Some line) = Refused
 
 -- a tile for which a line is told is refused
 abbrev pub verdict_of : Option Reply → Verdict
 verdict_of None = Unread
-verdict_of (Some reply) = verdict_told reply.told
+verdict_of (Some reply) = verdict_printed reply.printed
 
 abbrev pub is_accepted : Verdict → Bool
 is_accepted Accepted = true
@@ -111,37 +111,37 @@ abbrev pub IsLater : ℕ → ℕ → Type 0
 IsLater old new = (old ≤ new) ⊎ (last_count ≤ new)
 
 -- the error stream grew by a text, unless one of its writes failed
-pub record Tells (old new : Outflow) (text : List ℕ) : Type 0 where
+pub record Prints (old new : Outflow) (text : List ℕ) : Type 0 where
   pub counts : IsLater old.faults.count new.faults.count
-  pub tells : AllPassed old.faults new.faults → Appends old.taken new.taken text
+  pub prints : AllPassed old.faults new.faults → Appends old.taken new.taken text
 
 -- what is known at one moment of a run: the visits of the folder, the output, and the error stream
-pub record Moment : Type 0 where
+pub record RunState : Type 0 where
   pub visits : Option (List Visit)
   pub output : Outflow
   pub errors : Outflow
 
-abbrev pub moment : Option (List Visit) → Outflow → Outflow → Moment
-moment visits output errors = record { visits = visits; output = output; errors = errors }
+abbrev pub run_state : Option (List Visit) → Outflow → Outflow → RunState
+run_state visits output errors = record { visits = visits; output = output; errors = errors }
 
 -- the files of these names were checked, each once and in order, and all was put out that there is to say of them, and on
 -- the error stream one line more
-pub record IsSaidOf (limit : ℕ) (holds : List ℕ → Option (List ℕ)) (names : List (List ℕ)) (old new : Moment)
+pub record ReportsFiles (limit : ℕ) (holds : List ℕ → Option (List ℕ)) (names : List (List ℕ)) (old new : RunState)
     (line : List ℕ) (tally : Tally) : Type 0 where
   pub files : List Checked
   pub checked : AreChecked limit holds names files
   pub visited : AddsAll old.visits new.visits (map (λ file. visit_of file.name file.reply) files)
   pub written : Appends old.output.taken new.output.taken (flat_map written_of files)
-  pub told : Tells old.errors new.errors (flat_map told_of files ++ line)
+  pub printed : Prints old.errors new.errors (flat_map printed_of files ++ line)
   pub counted : tally ≡ tally_of files
 
 -- the same of one file
-pub record IsSaidOfOne (limit : ℕ) (holds : List ℕ → Option (List ℕ)) (name : List ℕ) (old new : Moment) (verdict : Verdict) : Type 0 where
+pub record ReportsFile (limit : ℕ) (holds : List ℕ → Option (List ℕ)) (name : List ℕ) (old new : RunState) (verdict : Verdict) : Type 0 where
   pub reply : Option Reply
-  pub checked : IsSaid limit (holds name) reply
+  pub checked : IsFileReply limit (holds name) reply
   pub visited : Adds old.visits new.visits (visit_of name reply)
   pub written : Appends old.output.taken new.output.taken (written_of (record { name = name; reply = reply }))
-  pub told : Tells old.errors new.errors (told_of (record { name = name; reply = reply }))
+  pub printed : Prints old.errors new.errors (printed_of (record { name = name; reply = reply }))
   pub judged : verdict ≡ verdict_of reply
 
 -- what was taken of a text when a run was over: a front after a failed write, and all of it where memory was wanting
@@ -152,7 +152,7 @@ TakesUntil old new text Memory = Appends old new text
 
 -- a run that was over early: the files of a front of the names were checked, in order, at most one more was visited, what
 -- there is to say of the checked ones was taken, and on the error stream one line more
-pub record IsCutShort (limit : ℕ) (holds : List ℕ → Option (List ℕ)) (names : List (List ℕ)) (old new : Moment)
+pub record EndsEarly (limit : ℕ) (holds : List ℕ → Option (List ℕ)) (names : List (List ℕ)) (old new : RunState)
     (line : List ℕ) (failure : Failure) : Type 0 where
   pub front : List (List ℕ)
   pub rest : List (List ℕ)
@@ -163,7 +163,7 @@ pub record IsCutShort (limit : ℕ) (holds : List ℕ → Option (List ℕ)) (na
   pub is_next : IsNext rest next
   pub visited : AddsAll old.visits new.visits (map (λ file. visit_of file.name file.reply) files ++ next)
   pub taken : TakesUntil old.output.taken new.output.taken (flat_map written_of files) failure
-  pub told : Tells old.errors new.errors (flat_map told_of files ++ line)
+  pub printed : Prints old.errors new.errors (flat_map printed_of files ++ line)
 
 -- the output was flushed where a flush failed, and else not
 abbrev pub FlushesAtMost : ℕ → ℕ → Failure → Type 0
@@ -172,9 +172,9 @@ FlushesAtMost old new failure = (new ≡ old) ⊎ ((failure ≡ Write) × (new �
 -- all is said of the files of these names, the output was flushed once, none of its calls failed, and the status tells how
 -- the files were judged; or the run was over before, with a front of this on the output, not flushed but by a call that
 -- failed, and the last line tells why
-abbrev pub IsToldOfAll : ℕ → (List ℕ → Option (List ℕ)) → List (List ℕ) → Moment → Moment → ℕ → Type 0
-IsToldOfAll limit holds names old new status =
-    ((tally : Tally) × IsSaidOf limit holds names old new (summary (length names) tally) tally
+abbrev pub ChecksFiles : ℕ → (List ℕ → Option (List ℕ)) → List (List ℕ) → RunState → RunState → ℕ → Type 0
+ChecksFiles limit holds names old new status =
+    ((tally : Tally) × ReportsFiles limit holds names old new (summary (length names) tally) tally
     × (new.output.flushes ≡ counted old.output.flushes) × NoneFailed old.output.faults new.output.faults × (status ≡ status_after tally))
     ⊎ ((failure : Failure) × FailsWriting old.output.faults new.output.faults failure × (status ≡ status_of failure)
-    × IsCutShort limit holds names old new (line_of failure) failure × FlushesAtMost old.output.flushes new.output.flushes failure)
+    × EndsEarly limit holds names old new (line_of failure) failure × FlushesAtMost old.output.flushes new.output.flushes failure)

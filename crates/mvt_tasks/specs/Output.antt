@@ -27,17 +27,17 @@ use Rattle.mvt_tasks.specs.declared.task.Task.TheVariants.{Fields, Show, Draw, C
 
 -- a text is written, and no line is told
 abbrev pub done : List ℕ → Reply
-done text = record { written = Some text; told = None }
+done text = record { written = Some text; printed = None }
 
 -- nothing is written, and a line is told, which ends in a line feed
 abbrev pub refused : List ℕ → Reply
-refused line = record { written = None; told = Some line }
+refused line = record { written = None; printed = Some line }
 
 -- the lines of the fields, and the line of the fault behind them
 abbrev pub fields_reply : ℕ → List ℕ → Reply
 fields_reply limit input = record {
   written = Some (fields_lines limit input);
-  told = option_map (λ fault. fault_line fault ++ codes "\n") (fields_fault limit input);
+  printed = option_map (λ fault. fault_line fault ++ codes "\n") (fields_fault limit input);
 }
 
 -- the JSON, and a line feed
@@ -79,19 +79,19 @@ abbrev pub layers_reply : ℕ → List (List ℕ) → Tile → Reply
 layers_reply limit names tile = layers_reply_or (find (is_missing tile) names) (bytes_reply limit (pick tile names))
 
 -- the reply for an input that is a tile, or the line of its fault
-abbrev pub IsTold : ℕ → (Tile → Reply) → List ℕ → Reply → Type 0
-IsTold limit of_tile input reply =
+abbrev pub IsPrinted : ℕ → (Tile → Reply) → List ℕ → Reply → Type 0
+IsPrinted limit of_tile input reply =
     ((tile : Tile) × IsTile limit input tile × (reply ≡ of_tile tile))
     ⊎ ((fault : Fault) × (fault_within limit input ≡ Some fault) × (reply ≡ refused (fault_line fault ++ codes "\n")))
 
 -- what a task answers for an input
 abbrev pub IsReply : ℕ → Task → List ℕ → Reply → Type 0
 IsReply limit Fields input reply = reply ≡ fields_reply limit input
-IsReply limit Show input reply = IsTold limit (λ tile. done (json_lines tile)) input reply
-IsReply limit Draw input reply = IsTold limit (λ tile. done (svg_lines tile)) input reply
-IsReply limit Check input reply = IsTold limit (λ tile. done (check_lines input tile)) input reply
-IsReply limit Rewrite input reply = IsTold limit (bytes_reply limit) input reply
-IsReply limit (Extract names) input reply = IsTold limit (layers_reply limit names) input reply
+IsReply limit Show input reply = IsPrinted limit (λ tile. done (json_lines tile)) input reply
+IsReply limit Draw input reply = IsPrinted limit (λ tile. done (svg_lines tile)) input reply
+IsReply limit Check input reply = IsPrinted limit (λ tile. done (check_lines input tile)) input reply
+IsReply limit Rewrite input reply = IsPrinted limit (bytes_reply limit) input reply
+IsReply limit (Extract names) input reply = IsPrinted limit (layers_reply limit names) input reply
 
 -- how far a task reads: at most one byte beyond the limit; or no further behind a fault
 abbrev pub ReadsNoFurther : ℕ → Task → Inflow → Inflow → Type 0
@@ -109,20 +109,20 @@ status_with (Some line) = 1
 
 -- a reply without a line has a text
 abbrev pub HasOutput : Reply → Type 0
-HasOutput reply = MatchOption reply.told (IsSome reply.written) (λ line. ⊤)
+HasOutput reply = MatchOption reply.printed (IsSome reply.written) (λ line. ⊤)
 
 -- a writer took a text whole, and was flushed once
 abbrev pub PutOut : Outflow → Outflow → List ℕ → Type 0
 PutOut old new text = Appends old.taken new.taken text × (new.flushes ≡ counted old.flushes)
 
 -- the text of a reply was put out; of a reply without a text the output stayed as it was
-abbrev pub PutsOut : Type 0 → (List ℕ → Type 0) → Reply → Type 0
-PutsOut Untouched Writes reply = MatchOption reply.written Untouched Writes
+abbrev pub PutsText : Type 0 → (List ℕ → Type 0) → Reply → Type 0
+PutsText Untouched Writes reply = MatchOption reply.written Untouched Writes
 
 -- a reply was given: its text was put out, its line was told, and the status says whether there is one
-abbrev pub Gives : ℕ → Type 0 → (List ℕ → Type 0) → Type 0 → (List ℕ → Type 0) → Reply → Type 0
-Gives status Untouched Writes Silent Tells reply =
-    (status ≡ status_with reply.told) × PutsOut Untouched Writes reply × MatchOption reply.told Silent Tells
+abbrev pub GivesReply : ℕ → Type 0 → (List ℕ → Type 0) → Type 0 → (List ℕ → Type 0) → Reply → Type 0
+GivesReply status Untouched Writes Silent Prints reply =
+    (status ≡ status_with reply.printed) × PutsText Untouched Writes reply × MatchOption reply.printed Silent Prints
 
 -- what a task answers for what a reader had left, where that is known
 abbrev pub IsReplyTo : ℕ → Task → Option (List ℕ) → Reply → Type 0

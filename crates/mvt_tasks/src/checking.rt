@@ -41,7 +41,7 @@ fn checked(alloc: Global, input: &[u8]) -> Result<Reply, Failure>
         Ok(survey) => reported(alloc, &survey),
         Err(error) => Ok(Reply {
             written: None,
-            told: Some(refusal(alloc, error)?),
+            printed: Some(refusal(alloc, error)?),
         }),
     }
 }
@@ -53,6 +53,6 @@ fn reported(alloc: Global, survey: &Survey) -> Result<Reply, Failure>
     let text = survey_text(alloc, survey)?;
     Ok(Reply {
         written: Some(Items::new(text.into_bytes())),
-        told: None,
+        printed: None,
     })
 }

@@ -6,7 +6,7 @@ ghost use Rattle.mvt_model.specs.declared.tile.Tile.{Tile};
 ghost use Rattle.mvt_tile.specs.Extraction.{AreExtracted};
 ghost use Rattle.mvt_tile.specs.Reading.{StopsEarly};
 ghost use Rattle.mvt_tasks.specs.Failures.{FailsReading};
-ghost use Rattle.mvt_tasks.specs.Output.{IsTold, HasOutput, layers_reply, missing_line};
+ghost use Rattle.mvt_tasks.specs.Output.{IsPrinted, HasOutput, layers_reply, missing_line};
 
 use crate::failure::Failure;
 use crate::names::Names;
@@ -26,7 +26,7 @@ pub fn extract_layers<R: Source>(
 ) -> Result<Reply, Failure>
     ensures reply { IfOk result
         (λ reply. IfSome (R.state reader.old).left
-        (λ input. IsTold LIMIT (layers_reply LIMIT names.now) input reply)) }
+        (λ input. IsPrinted LIMIT (layers_reply LIMIT names.now) input reply)) }
     ensures output { IfOk result HasOutput }
     ensures failed { IfErr result
         (FailsReading (R.state reader.old).faults (R.state reader.new).faults) }
@@ -41,7 +41,7 @@ pub fn extract_layers<R: Source>(
         Ok(layers) => extracted(alloc, wanted, layers),
         Err(error) => Ok(Reply {
             written: None,
-            told: Some(refusal(alloc, error)?),
+            printed: Some(refusal(alloc, error)?),
         }),
     }
 }
@@ -57,15 +57,15 @@ fn extracted(alloc: Global, names: &[String], layers: NamedLayers) -> Result<Rep
     match layers {
         NamedLayers::Bytes(bytes) => Ok(Reply {
             written: Some(Items::new(bytes)),
-            told: None,
+            printed: None,
         }),
         NamedLayers::Missing(index) => Ok(Reply {
             written: None,
-            told: Some(missing(alloc, names, index)?),
+            printed: Some(missing(alloc, names, index)?),
         }),
         NamedLayers::TooLarge => Ok(Reply {
             written: None,
-            told: Some(too_large(alloc)?),
+            printed: Some(too_large(alloc)?),
         }),
     }
 }

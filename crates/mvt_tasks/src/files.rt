@@ -5,7 +5,7 @@ ghost use Rattle.std.specs.Io.KnownBytes.{Appends};
 ghost use Rattle.mvt_io.specs.Counts.{counted};
 ghost use Rattle.mvt_io.specs.States.{NoneFailed};
 ghost use Rattle.mvt_tasks.specs.declared.folder.Visit.{Visit as AVisit};
-ghost use Rattle.mvt_tasks.specs.Checks.{Checked, FlushesAtMost, IsCutShort, IsSaid, IsSaidOf, IsSaidOfOne, IsToldOfAll, TakesUntil, Tells, line_told, marked_text, moment, status_after, summary, text_of, told_of, verdict_of, visit_of, written_of};
+ghost use Rattle.mvt_tasks.specs.Checks.{Checked, FlushesAtMost, EndsEarly, IsFileReply, ReportsFiles, ReportsFile, ChecksFiles, TakesUntil, Prints, line_printed, marked_text, run_state, status_after, summary, text_of, printed_of, verdict_of, visit_of, written_of};
 ghost use Rattle.mvt_tasks.specs.Failures.{FailsWriting};
 ghost use Rattle.mvt_tasks.specs.Visits.{Adds, AddsAll, IsNext, OneAtATime};
 
@@ -30,9 +30,9 @@ pub fn check_files<F: Folder, W: Sink, E: Sink>(
     writer: &mut W,
     errors: &mut E,
 ) -> u8
-    ensures told { IsToldOfAll LIMIT (F.holds folder.old) (map string_bytes names.now)
-        (moment (F.visits folder.old) (W.state writer.old) (E.state errors.old))
-        (moment (F.visits folder.new) (W.state writer.new) (E.state errors.new)) result }
+    ensures printed { ChecksFiles LIMIT (F.holds folder.old) (map string_bytes names.now)
+        (run_state (F.visits folder.old) (W.state writer.old) (E.state errors.old))
+        (run_state (F.visits folder.new) (W.state writer.new) (E.state errors.new)) result }
     ensures one { OneAtATime (F.open_files folder.old) (F.open_files folder.new) }
     ensures sound { result < 2
         → NoneFailed (W.state writer.old).faults (W.state writer.new).faults }
@@ -50,10 +50,10 @@ fn check_all<F: Folder, W: Sink, E: Sink>(
     writer: &mut W,
     errors: &mut E,
 ) -> Result<Tally, Failure>
-    ensures said { IfOk result (λ tally. IsSaidOf LIMIT (F.holds folder.old)
+    ensures said { IfOk result (λ tally. ReportsFiles LIMIT (F.holds folder.old)
         (map string_bytes names.now)
-        (moment (F.visits folder.old) (W.state writer.old) (E.state errors.old))
-        (moment (F.visits folder.new) (W.state writer.new) (E.state errors.new))
+        (run_state (F.visits folder.old) (W.state writer.old) (E.state errors.old))
+        (run_state (F.visits folder.new) (W.state writer.new) (E.state errors.new))
         (summary (length (map string_bytes names.now)) tally) tally) }
     ensures flushed { OnOk result
         ((W.state writer.new).flushes ≡ counted (W.state writer.old).flushes) }
@@ -63,9 +63,9 @@ fn check_all<F: Folder, W: Sink, E: Sink>(
         (NoneFailed (W.state writer.old).faults (W.state writer.new).faults) }
     ensures failed { IfErr result
         (FailsWriting (W.state writer.old).faults (W.state writer.new).faults) }
-    ensures cut { IfErr result (IsCutShort LIMIT (F.holds folder.old) (map string_bytes names.now)
-        (moment (F.visits folder.old) (W.state writer.old) (E.state errors.old))
-        (moment (F.visits folder.new) (W.state writer.new) (E.state errors.new)) []) }
+    ensures cut { IfErr result (EndsEarly LIMIT (F.holds folder.old) (map string_bytes names.now)
+        (run_state (F.visits folder.old) (W.state writer.old) (E.state errors.old))
+        (run_state (F.visits folder.new) (W.state writer.new) (E.state errors.new)) []) }
     ensures one { OneAtATime (F.open_files folder.old) (F.open_files folder.new) }
 {
     let tally = check_each(alloc, names, folder, writer, errors)?;
@@ -82,17 +82,17 @@ fn check_each<F: Folder, W: Sink, E: Sink>(
     writer: &mut W,
     errors: &mut E,
 ) -> Result<Tally, Failure>
-    ensures said { IfOk result (IsSaidOf LIMIT (F.holds folder.old) (map string_bytes names.now)
-        (moment (F.visits folder.old) (W.state writer.old) (E.state errors.old))
-        (moment (F.visits folder.new) (W.state writer.new) (E.state errors.new)) []) }
+    ensures said { IfOk result (ReportsFiles LIMIT (F.holds folder.old) (map string_bytes names.now)
+        (run_state (F.visits folder.old) (W.state writer.old) (E.state errors.old))
+        (run_state (F.visits folder.new) (W.state writer.new) (E.state errors.new)) []) }
     ensures unflushed { (W.state writer.new).flushes ≡ (W.state writer.old).flushes }
     ensures sound { OnOk result
         (NoneFailed (W.state writer.old).faults (W.state writer.new).faults) }
     ensures failed { IfErr result
         (FailsWriting (W.state writer.old).faults (W.state writer.new).faults) }
-    ensures cut { IfErr result (IsCutShort LIMIT (F.holds folder.old) (map string_bytes names.now)
-        (moment (F.visits folder.old) (W.state writer.old) (E.state errors.old))
-        (moment (F.visits folder.new) (W.state writer.new) (E.state errors.new)) []) }
+    ensures cut { IfErr result (EndsEarly LIMIT (F.holds folder.old) (map string_bytes names.now)
+        (run_state (F.visits folder.old) (W.state writer.old) (E.state errors.old))
+        (run_state (F.visits folder.new) (W.state writer.new) (E.state errors.new)) []) }
     ensures one { OneAtATime (F.open_files folder.old) (F.open_files folder.new) }
 {
     let mut tally = Tally::none();
@@ -111,25 +111,25 @@ fn check_one<F: Folder, W: Sink, E: Sink>(
     writer: &mut W,
     errors: &mut E,
 ) -> Result<Verdict, Failure>
-    ensures said { IfOk result (λ verdict. IsSaidOfOne LIMIT (F.holds folder.old) name.now
-        (moment (F.visits folder.old) (W.state writer.old) (E.state errors.old))
-        (moment (F.visits folder.new) (W.state writer.new) (E.state errors.new)) verdict) }
+    ensures said { IfOk result (λ verdict. ReportsFile LIMIT (F.holds folder.old) name.now
+        (run_state (F.visits folder.old) (W.state writer.old) (E.state errors.old))
+        (run_state (F.visits folder.new) (W.state writer.new) (E.state errors.new)) verdict) }
     ensures unflushed { (W.state writer.new).flushes ≡ (W.state writer.old).flushes }
     ensures sound { OnOk result
         (NoneFailed (W.state writer.old).faults (W.state writer.new).faults) }
     ensures failed { IfErr result
         (FailsWriting (W.state writer.old).faults (W.state writer.new).faults) }
-    ensures cut { IfErr result (IsCutShort LIMIT (F.holds folder.old) (name.now ∷ [])
-        (moment (F.visits folder.old) (W.state writer.old) (E.state errors.old))
-        (moment (F.visits folder.new) (W.state writer.new) (E.state errors.new)) []) }
+    ensures cut { IfErr result (EndsEarly LIMIT (F.holds folder.old) (name.now ∷ [])
+        (run_state (F.visits folder.old) (W.state writer.old) (E.state errors.old))
+        (run_state (F.visits folder.new) (W.state writer.new) (E.state errors.new)) []) }
     ensures same { F.holds folder.new ≡ F.holds folder.old }
     ensures one { OneAtATime (F.open_files folder.old) (F.open_files folder.new) }
 {
     let reply = check_file(alloc, name, folder)?;
     let verdict = Verdict::of(&reply);
     let written = written(alloc, name, &reply)?;
-    let told = told(alloc, name, &reply)?;
-    note(errors, &told);
+    let printed = printed(alloc, name, &reply)?;
+    note(errors, &printed);
     put(writer, &written)?;
     Ok(verdict)
 }
@@ -140,7 +140,7 @@ fn check_file<F: Folder>(
     name: &str,
     folder: &mut F,
 ) -> Result<Option<Reply>, Failure>
-    ensures said { IfOk result (IsSaid LIMIT (F.holds folder.old name.now)) }
+    ensures said { IfOk result (IsFileReply LIMIT (F.holds folder.old name.now)) }
     ensures visited { IfOk result (λ reply. Adds (F.visits folder.old) (F.visits folder.new)
         (visit_of name.now reply)) }
     ensures asked { OnErr result ((next : List AVisit) × IsNext (name.now ∷ []) next
@@ -181,26 +181,26 @@ fn written(alloc: Global, name: &str, reply: &Option<Reply>) -> Result<Vec<u8>, 
 }
 
 /// What is told of a file on the error stream.
-fn told(alloc: Global, name: &str, reply: &Option<Reply>) -> Result<Vec<u8>, Failure>
+fn printed(alloc: Global, name: &str, reply: &Option<Reply>) -> Result<Vec<u8>, Failure>
     ensures bytes { IfOk result (λ bytes. bytes.items ≡ marked_text name.now
-        (line_told reply.now)) }
+        (line_printed reply.now)) }
     ensures failed { IfErr result (λ failure. failure ≡ Failure.Memory) }
 {
     match reply {
         None => Ok(named(alloc, name, b"read failed\n")?),
         Some(
             Reply {
-                told: Some(line),
+                printed: Some(line),
                 ..
             },
         ) => Ok(named(alloc, name, line.as_str().as_bytes())?),
-        Some(Reply { told: None, .. }) => Ok(Vec::new(alloc)),
+        Some(Reply { printed: None, .. }) => Ok(Vec::new(alloc)),
     }
 }
 
 /// Puts a text on the error stream, whose faults are ignored.
 fn note<E: Sink>(errors: &mut E, text: &[u8])
-    ensures { Tells (E.state errors.old) (E.state errors.new) text.now }
+    ensures { Prints (E.state errors.old) (E.state errors.new) text.now }
 {
     let _ = write_all(errors, text);
 }

@@ -30,7 +30,7 @@ pub use folder::{Disk, Folder, OpenFiles, Visit};
 pub use listing::list_fields;
 pub use memory::{MemoryFile, MemoryFolder};
 pub use names::Names;
-pub use reply::{Reply, tell};
+pub use reply::{Reply, print};
 pub use rewriting::rewrite;
 pub use running::run_task;
 pub use tally::{Tally, Verdict};

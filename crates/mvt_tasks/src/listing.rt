@@ -6,7 +6,7 @@ ghost use Rattle.mvt_tasks.specs.Failures.{FailsReading};
 ghost use Rattle.mvt_tasks.specs.Output.{IsReply, fields_reply, HasOutput};
 
 use crate::failure::Failure;
-use crate::refusal::fault_told;
+use crate::refusal::fault_printed;
 use crate::reply::Reply;
 use crate::task::Task;
 use mvt_base::{Items, LIMIT};
@@ -36,12 +36,12 @@ fn listed(alloc: Global, input: &[u8]) -> Result<Reply, Failure>
     ensures failed { IfErr result (λ failure. failure ≡ Failure.Memory) }
 {
     let FieldsText { lines, fault } = fields_text(alloc, input)?;
-    let told = match fault {
+    let printed = match fault {
         None => None,
-        Some(fault) => Some(fault_told(alloc, &fault)?),
+        Some(fault) => Some(fault_printed(alloc, &fault)?),
     };
     Ok(Reply {
         written: Some(Items::new(lines.into_bytes())),
-        told,
+        printed,
     })
 }

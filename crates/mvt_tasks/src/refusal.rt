@@ -10,7 +10,7 @@ use mvt_view::fault_text;
 use std::alloc::{AllocError, Global};
 
 /// The line of a fault, with its line feed.
-pub(crate) fn fault_told(alloc: Global, fault: &Fault) -> Result<Text, Failure>
+pub(crate) fn fault_printed(alloc: Global, fault: &Fault) -> Result<Text, Failure>
     ensures line { IfOk result (λ line. line ≡ fault_line fault.now ++ codes "\n") }
     ensures failed { IfErr result (λ failure. failure ≡ Failure.Memory) }
 {
@@ -25,7 +25,7 @@ pub(crate) fn refusal(alloc: Global, error: DecodeError) -> Result<Text, Failure
     ensures failed { IfErr result (λ failure. failure ≡ refusal_failure error) }
 {
     match error {
-        DecodeError::Fault(fault) => fault_told(alloc, &fault),
+        DecodeError::Fault(fault) => fault_printed(alloc, &fault),
         DecodeError::Memory => Err(Failure::Memory),
         DecodeError::Read(_) => Err(Failure::Read),
     }

@@ -2,9 +2,9 @@
 ghost use Rattle.std.specs.Prelude.{◌≡◌, ◌<◌, ◌⊎◌, OnOk, OnErr, IfOk, IfErr};
 ghost use Rattle.mvt_io.specs.States.{NoneFailed};
 ghost use Rattle.mvt_io.specs.Transfers.{TakesPrefix};
-ghost use Rattle.mvt_tasks.specs.Checks.{Tells};
+ghost use Rattle.mvt_tasks.specs.Checks.{Prints};
 ghost use Rattle.mvt_tasks.specs.Failures.{EndsFailed, line_of, status_of};
-ghost use Rattle.mvt_tasks.specs.Output.{Gives, PutOut, PutsOut};
+ghost use Rattle.mvt_tasks.specs.Output.{GivesReply, PutOut, PutsText};
 
 use crate::failure::Failure;
 use mvt_base::{Items, Text};
@@ -15,7 +15,7 @@ use mvt_io::{Sink, write_all};
 #[derive(Debug, Drop)]
 pub struct Reply {
     pub written: Option<Items<u8>>,
-    pub told: Option<Text>,
+    pub printed: Option<Text>,
 }
 
 /// Puts the bytes of a reply out, if there are any due, and answers its line.
@@ -24,21 +24,21 @@ pub struct Reply {
 ///
 /// Write, where a write or the flush fails; the writer has then taken a front of the bytes.
 fn deliver<W: Sink>(reply: Reply, writer: &mut W) -> Result<Option<Text>, Failure>
-    ensures told { IfOk result (λ told. told ≡ reply.told) }
-    ensures put { OnOk result (PutsOut (writer.new ≡ writer.old)
+    ensures printed { IfOk result (λ printed. printed ≡ reply.printed) }
+    ensures put { OnOk result (PutsText (writer.new ≡ writer.old)
         (PutOut (W.state writer.old) (W.state writer.new)) reply) }
-    ensures prefix { OnErr result (PutsOut ⊥
+    ensures prefix { OnErr result (PutsText ⊥
         (TakesPrefix (W.state writer.old).taken (W.state writer.new).taken) reply) }
     ensures failed { IfErr result (λ failure. (failure ≡ Failure.Write)
         × EndsFailed (W.state writer.old).faults (W.state writer.new).faults) }
     ensures honest { OnOk result
         (NoneFailed (W.state writer.old).faults (W.state writer.new).faults) }
 {
-    let Reply { written, told } = reply;
+    let Reply { written, printed } = reply;
     if let Some(bytes) = written {
         put_out(bytes.as_slice(), writer)?;
     }
-    Ok(told)
+    Ok(printed)
 }
 
 /// Puts bytes out whole and flushes once.
@@ -57,23 +57,23 @@ fn put_out<W: Sink>(bytes: &[u8], writer: &mut W) -> Result<(), Failure>
 
 /// Puts a reply out, and answers its status; 3 where that failed.
 pub(crate) fn give<W: Sink, E: Sink>(reply: Reply, writer: &mut W, errors: &mut E) -> u8
-    ensures done { result < 2 → Gives result (writer.new ≡ writer.old)
+    ensures done { result < 2 → GivesReply result (writer.new ≡ writer.old)
         (PutOut (W.state writer.old) (W.state writer.new)) (errors.new ≡ errors.old)
-        (Tells (E.state errors.old) (E.state errors.new)) reply }
+        (Prints (E.state errors.old) (E.state errors.new)) reply }
     ensures honest { result < 2
         → NoneFailed (W.state writer.old).faults (W.state writer.new).faults }
-    ensures prefix { 2 < result → PutsOut ⊥
+    ensures prefix { 2 < result → PutsText ⊥
         (TakesPrefix (W.state writer.old).taken (W.state writer.new).taken) reply }
     ensures failed { 2 < result
         → EndsFailed (W.state writer.old).faults (W.state writer.new).faults }
     ensures line { 2 < result
-        → Tells (E.state errors.old) (E.state errors.new) (line_of Failure.Write) }
+        → Prints (E.state errors.old) (E.state errors.new) (line_of Failure.Write) }
     ensures statuses { (result < 2) ⊎ (result ≡ 3) }
 {
     match deliver(reply, writer) {
         Ok(None) => 0,
         Ok(Some(line)) => {
-            tell(errors, line.as_str());
+            print(errors, line.as_str());
             1
         }
         Err(failure) => fail(failure, errors),
@@ -84,15 +84,15 @@ pub(crate) fn give<W: Sink, E: Sink>(reply: Reply, writer: &mut W, errors: &mut 
 pub(crate) fn fail<E: Sink>(failure: Failure, errors: &mut E) -> u8
     ensures status { result ≡ status_of failure }
     ensures above { 2 < result }
-    ensures line { Tells (E.state errors.old) (E.state errors.new) (line_of failure) }
+    ensures line { Prints (E.state errors.old) (E.state errors.new) (line_of failure) }
 {
-    tell(errors, failure.line());
+    print(errors, failure.line());
     failure.status()
 }
 
 /// Puts a line on the error stream, whose faults are ignored.
-pub fn tell<E: Sink>(errors: &mut E, line: &str)
-    ensures { Tells (E.state errors.old) (E.state errors.new) line.now }
+pub fn print<E: Sink>(errors: &mut E, line: &str)
+    ensures { Prints (E.state errors.old) (E.state errors.new) line.now }
 {
     let _ = write_all(errors, line.as_bytes());
 }

@@ -4,7 +4,7 @@ ghost use Rattle.mvt_io.specs.States.{NoneFailed};
 ghost use Rattle.mvt_io.specs.Transfers.{Reads};
 ghost use Rattle.mvt_tile.specs.Reading.{StopsEarly};
 ghost use Rattle.mvt_tasks.specs.Failures.{FailsReading};
-ghost use Rattle.mvt_tasks.specs.Output.{IsTold, HasOutput, bytes_reply};
+ghost use Rattle.mvt_tasks.specs.Output.{IsPrinted, HasOutput, bytes_reply};
 
 use crate::failure::Failure;
 use crate::refusal::{refusal, too_large};
@@ -18,7 +18,7 @@ use std::alloc::Global;
 pub fn rewrite<R: Source>(alloc: Global, reader: &mut R) -> Result<Reply, Failure>
     ensures reply { IfOk result
         (λ reply. IfSome (R.state reader.old).left
-        (λ input. IsTold LIMIT (bytes_reply LIMIT) input reply)) }
+        (λ input. IsPrinted LIMIT (bytes_reply LIMIT) input reply)) }
     ensures output { IfOk result HasOutput }
     ensures failed { IfErr result
         (FailsReading (R.state reader.old).faults (R.state reader.new).faults) }
@@ -31,15 +31,15 @@ pub fn rewrite<R: Source>(alloc: Global, reader: &mut R) -> Result<Reply, Failur
     match rewrite_tile(alloc, reader) {
         Ok(Some(bytes)) => Ok(Reply {
             written: Some(Items::new(bytes)),
-            told: None,
+            printed: None,
         }),
         Ok(None) => Ok(Reply {
             written: None,
-            told: Some(too_large(alloc)?),
+            printed: Some(too_large(alloc)?),
         }),
         Err(error) => Ok(Reply {
             written: None,
-            told: Some(refusal(alloc, error)?),
+            printed: Some(refusal(alloc, error)?),
         }),
     }
 }

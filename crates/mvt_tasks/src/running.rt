@@ -5,9 +5,9 @@ ghost use Rattle.mvt_io.specs.Transfers.{Reads, TakesPrefix};
 ghost use Rattle.mvt_tasks.specs.declared.failure.Failure.{Failure as AFailure};
 ghost use Rattle.mvt_tasks.specs.declared.failure.Failure.TheVariants.{Write as WriteFailure};
 ghost use Rattle.mvt_tasks.specs.declared.reply.Reply.{Reply as AReply};
-ghost use Rattle.mvt_tasks.specs.Checks.{Tells};
+ghost use Rattle.mvt_tasks.specs.Checks.{Prints};
 ghost use Rattle.mvt_tasks.specs.Failures.{EndsFailed, FailsReading, line_of, status_of};
-ghost use Rattle.mvt_tasks.specs.Output.{Gives, HasOutput, IsReplyTo, PutOut, PutsOut, ReadsNoFurther};
+ghost use Rattle.mvt_tasks.specs.Output.{GivesReply, HasOutput, IsReplyTo, PutOut, PutsText, ReadsNoFurther};
 
 use crate::answering::answer;
 use crate::reply::{fail, give};
@@ -27,23 +27,23 @@ pub fn run_task<R: Source, W: Sink, E: Sink>(
 ) -> u8
     ensures done { result < 2 → (reply : AReply)
         × IsReplyTo LIMIT task (R.state reader.old).left reply × HasOutput reply
-        × Gives result (writer.new ≡ writer.old)
+        × GivesReply result (writer.new ≡ writer.old)
         (PutOut (W.state writer.old) (W.state writer.new)) (errors.new ≡ errors.old)
-        (Tells (E.state errors.old) (E.state errors.new)) reply }
+        (Prints (E.state errors.old) (E.state errors.new)) reply }
     ensures sound { result < 2 → NoneFailed (R.state reader.old).faults (R.state reader.new).faults
         × NoneFailed (W.state writer.old).faults (W.state writer.new).faults }
 
     // Where no reply could be made, the output is as it was. A write that failed leaves a front of
     // the reply's text.
     ensures failed { 2 < result → (failure : AFailure) × (result ≡ status_of failure)
-        × Tells (E.state errors.old) (E.state errors.new) (line_of failure)
+        × Prints (E.state errors.old) (E.state errors.new) (line_of failure)
         × ((FailsReading (R.state reader.old).faults (R.state reader.new).faults failure
         × (writer.new ≡ writer.old))
         ⊎ ((failure ≡ WriteFailure)
         × NoneFailed (R.state reader.old).faults (R.state reader.new).faults
         × EndsFailed (W.state writer.old).faults (W.state writer.new).faults
         × ((reply : AReply) × IsReplyTo LIMIT task (R.state reader.old).left reply
-        × PutsOut ⊥ (TakesPrefix (W.state writer.old).taken (W.state writer.new).taken) reply))) }
+        × PutsText ⊥ (TakesPrefix (W.state writer.old).taken (W.state writer.new).taken) reply))) }
     ensures memory { result ≡ 4 → writer.new ≡ writer.old }
     ensures statuses { (result < 2) ⊎ ((result ≡ 3) ⊎ (result ≡ 4)) }
     ensures reads { Reads (LIMIT + 2) (R.state reader.old) (R.state reader.new) }

@@ -21,7 +21,7 @@ impl Verdict {
     {
         match reply {
             None => Verdict::Unread,
-            Some(reply) => match &reply.told {
+            Some(reply) => match &reply.printed {
                 None => Verdict::Accepted,
                 Some(_) => Verdict::Refused,
             },

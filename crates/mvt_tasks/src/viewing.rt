@@ -4,7 +4,7 @@ ghost use Rattle.mvt_io.specs.States.{NoneFailed};
 ghost use Rattle.mvt_io.specs.Transfers.{Reads};
 ghost use Rattle.mvt_tile.specs.Reading.{StopsEarly};
 ghost use Rattle.mvt_tasks.specs.Failures.{FailsReading};
-ghost use Rattle.mvt_tasks.specs.Output.{IsTold, HasOutput, done, view_lines};
+ghost use Rattle.mvt_tasks.specs.Output.{IsPrinted, HasOutput, done, view_lines};
 
 use crate::failure::Failure;
 use crate::refusal::refusal;
@@ -26,7 +26,7 @@ pub enum View {
 pub fn view_tile<R: Source>(alloc: Global, view: View, reader: &mut R) -> Result<Reply, Failure>
     ensures reply { IfOk result
         (λ reply. IfSome (R.state reader.old).left
-        (λ input. IsTold LIMIT (λ tile. done (view_lines view tile)) input reply)) }
+        (λ input. IsPrinted LIMIT (λ tile. done (view_lines view tile)) input reply)) }
     ensures output { IfOk result HasOutput }
     ensures failed { IfErr result
         (FailsReading (R.state reader.old).faults (R.state reader.new).faults) }
@@ -40,7 +40,7 @@ pub fn view_tile<R: Source>(alloc: Global, view: View, reader: &mut R) -> Result
         Ok(tile) => viewed(alloc, view, &tile),
         Err(error) => Ok(Reply {
             written: None,
-            told: Some(refusal(alloc, error)?),
+            printed: Some(refusal(alloc, error)?),
         }),
     }
 }
@@ -56,6 +56,6 @@ fn viewed(alloc: Global, view: View, tile: &Tile) -> Result<Reply, Failure>
     text.push_str("\n")?;
     Ok(Reply {
         written: Some(Items::new(text.into_bytes())),
-        told: None,
+        printed: None,
     })
 }

@@ -8,4 +8,4 @@ pub returns-in-Ok-clause-reply : goal.returns-in-Ok-clause-reply
 returns-in-Ok-clause-reply c =
     let (tile, is_tile, valid, is) = c.in-Ok.ensures.survey in
     IfOk-weaker c.reported.result _ _
-    (λ reply told. inl (tile, is_tile, told ∙ ap (λ survey. done (survey_lines survey)) is)) c.reported.ensures.reply
+    (λ reply printed. inl (tile, is_tile, printed ∙ ap (λ survey. done (survey_lines survey)) is)) c.reported.ensures.reply

@@ -19,7 +19,7 @@ returns-in_err-map_err-clause-cut g c =
 pub returns-in_err-map_err-clause-failed : goal.returns-in_err-map_err-clause-failed
 returns-in_err-map_err-clause-failed g c =
     let result = c.from_residual-in_err-map_err.result in
-    let told : IfErr result (λ failure. failure ≡ Write) = search rules in
+    let printed : IfErr result (λ failure. failure ≡ Write) = search rules in
     let same : is_err result ≡ is_err c.flush.result = search rules in
     fails_flushing result c.flush.result (g.W.Sink.state c.args.writer.now).faults (g.W.Sink.state c.check_each.new.writer).faults
-    (g.W.Sink.state c.flush.new.self).faults told same c.in_ok-tally.ensures.sound c.flush.ensures.faults
+    (g.W.Sink.state c.flush.new.self).faults printed same c.in_ok-tally.ensures.sound c.flush.ensures.faults
