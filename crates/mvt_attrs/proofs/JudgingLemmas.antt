@@ -2,7 +2,7 @@
 use Rattle.std.proofs.Common.{◌≡◌, ℕ, ◌+◌, ◌-◌, ◌%◌, ◌<◌, ◌≤◌, ◌==◌, Bool, true, false, not, List, [], ◌∷◌, ◌++◌, length, get_or, set, drop, Some, None, slice_get, refl, sym, ap, ◌∙◌, inl, inr, arith}
 use Rattle.std.proofs.lemmas.Option.{slice_get-get_or, slice_get_past, slice_get_within}
 use Rattle.mvt_base.specs.Related.{AreRelated}
-use Rattle.mvt_base.specs.Tells.{Tells}
+use Rattle.mvt_base.specs.Reports.{Reports}
 use Rattle.mvt_attrs.specs.declared.value.Value.{Value}
 use Rattle.mvt_attrs.specs.declared.value.Attribute.{Attribute}
 use Rattle.mvt_attrs.specs.declared.resolving.TagCause.TheVariants.{KeyIndex, ValueIndex, RepeatedKey}
@@ -75,7 +75,7 @@ module _ (keys : List (List ℕ)) (places marks : List ℕ) (turn count : ℕ) (
     -- the error of a pair that names no key, or no value
     pub indices_stop : (index : ℕ) → index ≡ length tags - length rest → (error : TagError)
         → IsIndexError keys count index (get_or rest 0 0) (get_or rest 1 0) error → (values : List Value)
-        → length values ≡ count → Tells (fault_of error) (tag_fault keys values tags)
+        → length values ≡ count → Reports (fault_of error) (tag_fault keys values tags)
     indices_stop index at error (inl (past, is)) = λ values e. rw is (key_stops past values e ∙ ap (λ n. Some (n, KeyIndex)) (sym at))
     indices_stop index at error (inr (within, past, is)) =
         λ values e. rw is (value_stops within past values e ∙ ap (λ n. Some (n + 1, ValueIndex)) (sym at))

@@ -138,12 +138,12 @@ tags_left_at (Ok x) old new so_far e = tt
 tags_left_at (Err d) old new so_far e = (so_far, e)
 
 -- tags told so far are the places in the pools, which may have grown since
-pub told_tags : (held_keys keys keys_after : List (List ℕ)) (held_values values values_after : List Value) (tags old new : List ℕ)
+pub reported_tags : (held_keys keys keys_after : List (List ℕ)) (held_values values values_after : List Value) (tags old new : List ℕ)
     (attributes : List Attribute)
     → keys ≡ key_pool held_keys attributes → values ≡ value_pool held_values attributes → Names keys values tags attributes
     → (more : List (List ℕ)) × (keys_after ≡ keys ++ more) → (further : List Value) × (values_after ≡ values ++ further)
     → new ≡ old ++ tags → new ≡ old ++ tags_in keys_after values_after attributes
-told_tags held_keys keys keys_after held_values values values_after tags old new attributes of_keys of_values names
+reported_tags held_keys keys keys_after held_values values values_after tags old new attributes of_keys of_values names
     more_keys more_values is =
     let distinct_keys : AreDistinct keys = subst AreDistinct (sym of_keys) (first_use-distinct bytes_eq bytes_eq-Decides _) in
     let distinct_values : AreDistinct values = subst AreDistinct (sym of_values) (first_use-distinct equal_values equal_values-Decides _) in

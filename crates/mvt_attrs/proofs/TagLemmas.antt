@@ -146,9 +146,9 @@ module _ (keys : List (List ℕ)) (values : List Value) (tags rest : List ℕ) (
   module _ (even : length tags % 2 ≡ 1 → ⊥) (more : 2 ≤ length rest) where
     stops : (fault : ℕ × TagCause) → first (rules_of_pair keys values so_far.done pair_here) ≡ Some fault
         → tag_fault keys values tags ≡ Some fault
-    stops fault told_here =
+    stops fault reported_here =
         tag_fault-even keys values tags even ∙ ap (λ ps. first (each (rules_of_pair keys values) [] ps)) (here more)
-        ∙ each_stops (rules_of_pair keys values) so_far.done pair_here (pairs_of (drop 2 rest)) fault so_far.clean told_here
+        ∙ each_stops (rules_of_pair keys values) so_far.done pair_here (pairs_of (drop 2 rest)) fault so_far.clean reported_here
 
     place : (n : ℕ) → length tags - length rest ≡ 2 * length so_far.done
     place n = omega (arith, so_far.count)

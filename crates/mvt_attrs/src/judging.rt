@@ -1,6 +1,6 @@
 //! Whether tags name attributes: one pass over them, which builds nothing.
 ghost use Rattle.std.specs.Prelude.{◌≡◌, ◌+◌, ◌^◌, ◌<◌, ◌≤◌, List, length, None, IfErr, IsErrOf, OnOk};
-ghost use Rattle.mvt_base.specs.Tells.{Tells};
+ghost use Rattle.mvt_base.specs.Reports.{Reports};
 ghost use Rattle.mvt_attrs.specs.declared.value.Value.{Value};
 ghost use Rattle.mvt_attrs.specs.TagRules.{tag_fault, fault_of};
 ghost use Rattle.mvt_attrs.specs.Inner.Marking.{IsGrouped, AreBelow, IsIndexError};
@@ -28,7 +28,7 @@ pub fn judge_tags(
     ensures ok { OnOk result ((held : List Value) → length held ≡ values
         → tag_fault keys.old held tags.now ≡ None) }
     ensures err { IfErr result (λ error. (held : List Value) → length held ≡ values
-        → Tells (fault_of error) (tag_fault keys.old held tags.now)) }
+        → Reports (fault_of error) (tag_fault keys.old held tags.now)) }
     ensures memory { IsErrOf result TagError.Memory → 2 < length tags.now }
     ensures same { keys.new ≡ keys.old }
 {
@@ -56,7 +56,7 @@ fn judge_pair(texts: &[Text], values: usize, tags: &[u32]) -> Result<(), TagErro
     ensures ok { OnOk result ((held : List Value) → length held ≡ values
         → tag_fault texts.now held tags.now ≡ None) }
     ensures err { IfErr result (λ error. (held : List Value) → length held ≡ values
-        → Tells (fault_of error) (tag_fault texts.now held tags.now)) }
+        → Reports (fault_of error) (tag_fault texts.now held tags.now)) }
     ensures never { IsErrOf result TagError.Memory → ⊥ }
 {
     match tags {
@@ -81,7 +81,7 @@ fn judge_marked(
     ensures ok { OnOk result ((held : List Value) → length held ≡ values
         → tag_fault texts.now held tags.now ≡ None) }
     ensures err { IfErr result (λ error. (held : List Value) → length held ≡ values
-        → Tells (fault_of error) (tag_fault texts.now held tags.now)) }
+        → Reports (fault_of error) (tag_fault texts.now held tags.now)) }
     ensures below { AreBelow marks.new (turn + 1) }
 {
     if tags.len() % 2 == 1 {

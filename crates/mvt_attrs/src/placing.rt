@@ -1,7 +1,7 @@
 //! The tags of attributes, whose keys and values are placed in pools.
 ghost use Rattle.std.specs.Prelude.{◌≡◌, ◌<◌, ◌⊎◌, [], ◌∷◌, ◌++◌, ℕ, List, length, take, IfOk, OnOk, OnErr, IsErrOf};
 ghost use Rattle.mvt_attrs.specs.Pools.{key_pool, value_pool};
-ghost use Rattle.mvt_attrs.specs.Placed.{ArePlaced, AreTold, IsFullAt};
+ghost use Rattle.mvt_attrs.specs.Placed.{ArePlaced, AreReported, IsFullAt};
 ghost use Rattle.mvt_attrs.specs.Tags.{Names};
 ghost use Rattle.mvt_attrs.specs.TagPlaces.{tags_in};
 
@@ -42,7 +42,7 @@ pub fn tags_of(
         → (LIMIT < length (key_pool keys.old attributes.now))
         ⊎ (LIMIT < length (value_pool values.old attributes.now)) }
     ensures memory { IsErrOf result PoolError.Memory → (n : ℕ)
-        × AreTold n attributes.now keys.old keys.new values.old values.new
+        × AreReported n attributes.now keys.old keys.new values.old values.new
         × ¬ (IsFullAt n attributes.now keys.new values.new) }
 {
     let mut tags = Vec::new(alloc);
@@ -84,7 +84,7 @@ pub fn append_tags(
         → (LIMIT < length (key_pool keys.old attributes.now))
         ⊎ (LIMIT < length (value_pool values.old attributes.now)) }
     ensures memory { IsErrOf result PoolError.Memory → (n : ℕ)
-        × AreTold n attributes.now keys.old keys.new values.old values.new
+        × AreReported n attributes.now keys.old keys.new values.old values.new
         × (tags.new.items ≡ tags.old.items ++ tags_in keys.new values.new (take n attributes.now))
         × ¬ (IsFullAt n attributes.now keys.new values.new) }
 {

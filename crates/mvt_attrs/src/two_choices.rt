@@ -2,7 +2,7 @@
 //! entry has a second slot by another hash, and an entry that finds both taken is kept in order.
 ghost use Rattle.std.specs.Prelude.{◌≡◌, ◌≢◌, ◌<◌, ◌↔◌, ◌+◌, ◌-◌, ◌^◌, ◌++◌, ◌∷◌, [], Some, None, length, slice_get, slice_index, Contains, IsTrue, IfOk, OnOk, OnErr};
 ghost use Rattle.mvt_attrs.specs.FirstUse.{AreDistinct};
-ghost use Rattle.mvt_attrs.specs.Inner.Found.{IsLookupOf, IsToldBy};
+ghost use Rattle.mvt_attrs.specs.Inner.Found.{IsLookupOf, IsReportedBy};
 ghost use Rattle.mvt_attrs.specs.Inner.Choosing.{first_slot, slot_by, IsTwoChoices, IsFreeFor};
 
 use crate::entry::Entry;
@@ -31,7 +31,7 @@ pub(crate) fn find_two_choices<T: Entry>(two_choices: &TwoChoices<T>, entries: &
     let slots = two_choices.slots.as_slice();
     let mut state = FoldHasher::default();
     let first = slot_of(entry, &mut state, slots.len());
-    match told_by(slots, first, entries, entry) {
+    match reported_by(slots, first, entries, entry) {
         Some(lookup) => lookup,
         None => find_second(two_choices, entries, entry),
     }
@@ -41,7 +41,7 @@ pub(crate) fn find_two_choices<T: Entry>(two_choices: &TwoChoices<T>, entries: &
 #[inline(never)]
 fn find_second<T: Entry>(two_choices: &TwoChoices<T>, entries: &[T], entry: &T) -> Lookup
     requires known { IsTwoChoices T.cmp T.hash_input two_choices.now entries.now }
-    requires first { IsToldBy two_choices.now.slots.items
+    requires first { IsReportedBy two_choices.now.slots.items
         (first_slot T.hash_input (length two_choices.now.slots.items) entry.now) entries.now entry.now
         None }
     ensures { IsLookupOf entries.now entry.now (IsFreeFor T.hash_input two_choices.now entry.now) result }
@@ -49,7 +49,7 @@ fn find_second<T: Entry>(two_choices: &TwoChoices<T>, entries: &[T], entry: &T) 
     let slots = two_choices.slots.as_slice();
     let mut state = DefaultHasher::new();
     let second = slot_of(entry, &mut state, slots.len());
-    if let Some(lookup) = told_by(slots, second, entries, entry) {
+    if let Some(lookup) = reported_by(slots, second, entries, entry) {
         return lookup;
     }
     match two_choices.overflow.get(entry) {
@@ -60,9 +60,9 @@ fn find_second<T: Entry>(two_choices: &TwoChoices<T>, entries: &[T], entry: &T) 
 
 /// What a slot tells of an entry; nothing where it is another's.
 #[inline(always)]
-fn told_by<T: Entry>(slots: &[u32], slot: usize, entries: &[T], entry: &T) -> Option<Lookup>
+fn reported_by<T: Entry>(slots: &[u32], slot: usize, entries: &[T], entry: &T) -> Option<Lookup>
     requires { slot < length slots.now }
-    ensures { IsToldBy slots.now slot entries.now entry.now result }
+    ensures { IsReportedBy slots.now slot entries.now entry.now result }
 {
     let mark = slots[slot] as usize;
     if mark == 0 {

@@ -6,4 +6,4 @@ pub mod GrowingLemmas
 pub mod TableLemmas
 pub mod SelectionLemmas
 pub mod ResultLemmas
-pub mod TellsLemmas
+pub mod ReportsLemmas

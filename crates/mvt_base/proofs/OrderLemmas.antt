@@ -101,14 +101,14 @@ pub when_ordered : {F : Type 0} → (b : Bool) (f : F) → AreOrdered (when b f)
 when_ordered true f = (tt, tt)
 when_ordered false f = tt
 
-told_precedes : {F G : Type 0} → (tell : F → G) (rank : List ℕ) (rules : Rules F) → PrecedesAll rank rules
-    → PrecedesAll rank (map_faults tell rules)
-told_precedes tell rank [] h = tt
-told_precedes tell rank (r ∷ rs) h = (h.0, told_precedes tell rank rs h.1)
+reported_precedes : {F G : Type 0} → (report : F → G) (rank : List ℕ) (rules : Rules F) → PrecedesAll rank rules
+    → PrecedesAll rank (map_faults report rules)
+reported_precedes report rank [] h = tt
+reported_precedes report rank (r ∷ rs) h = (h.0, reported_precedes report rank rs h.1)
 
-pub map_faults_ordered : {F G : Type 0} → (tell : F → G) (rules : Rules F) → AreOrdered rules → AreOrdered (map_faults tell rules)
-map_faults_ordered tell [] h = tt
-map_faults_ordered tell (r ∷ rs) h = (told_precedes tell r.0 rs h.0, map_faults_ordered tell rs h.1)
+pub map_faults_ordered : {F G : Type 0} → (report : F → G) (rules : Rules F) → AreOrdered rules → AreOrdered (map_faults report rules)
+map_faults_ordered report [] h = tt
+map_faults_ordered report (r ∷ rs) h = (reported_precedes report r.0 rs h.0, map_faults_ordered report rs h.1)
 
 -- the rows of a table are in order: their numbers rise from n on, and each row is in order
 abbrev pub AreRowsFrom : {F : Type 0} → ℕ → List (ℕ × Rules F) → Type 0

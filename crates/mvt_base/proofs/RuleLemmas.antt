@@ -11,9 +11,9 @@ pub first-under : {F : Type 0} → (n : ℕ) (rules : Rules F) → first (under 
 first-under n [] = refl
 first-under n (r ∷ rs) = refl
 
-pub first-map_faults : {F G : Type 0} → (tell : F → G) (rules : Rules F) → first (map_faults tell rules) ≡ option_map tell (first rules)
-first-map_faults tell [] = refl
-first-map_faults tell (r ∷ rs) = refl
+pub first-map_faults : {F G : Type 0} → (report : F → G) (rules : Rules F) → first (map_faults report rules) ≡ option_map report (first rules)
+first-map_faults report [] = refl
+first-map_faults report (r ∷ rs) = refl
 
 pub first-rows : {F : Type 0} → (n : ℕ) (row : Rules F) (table : List (ℕ × Rules F))
     → first (rows ((n, row) ∷ table)) ≡ option_or (first row) (first (rows table))
@@ -80,6 +80,6 @@ each_more rules xs x e =
 -- the fault of an element behind those that have none is that of the whole list
 pub each_stops : {X F : Type 0} → (rules : List X → X → Rules F) (xs : List X) (x : X) (ys : List X) (f : F)
     → first (each rules [] xs) ≡ None → first (rules xs x) ≡ Some f → first (each rules [] (xs ++ x ∷ ys)) ≡ Some f
-each_stops rules xs x ys f none told_here =
+each_stops rules xs x ys f none reported_here =
     rw each-append (first_back (each rules [] xs) _ none
-    ∙ first_front (under (length xs) (rules xs x)) _ f (first-under (length xs) (rules xs x) ∙ told_here))
+    ∙ first_front (under (length xs) (rules xs x)) _ f (first-under (length xs) (rules xs x) ∙ reported_here))

@@ -1,4 +1,4 @@
 pub mod Rules
 pub mod Related
 pub mod Texts
-pub mod Tells
+pub mod Reports

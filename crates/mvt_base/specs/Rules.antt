@@ -25,7 +25,7 @@ under n rules = map (λ r. (n ∷ r.0, r.1)) rules
 
 -- the same rules, with each fault as the level above tells it
 abbrev pub map_faults : {F G : Type 0} → (F → G) → Rules F → Rules G
-map_faults tell rules = map (λ r. (r.0, tell r.1)) rules
+map_faults report rules = map (λ r. (r.0, report r.1)) rules
 
 -- a table of rows, each under its number
 abbrev pub rows : {F : Type 0} → List (ℕ × Rules F) → Rules F

@@ -32,12 +32,12 @@ status_of (Ok made) = 0
 status_of (Err refusal) = status_of_refusal refusal
 
 -- a tile that is refused has its fault told; else what C has stays as it was
-abbrev pub TellsFault : Refusal → Fault → Fault → Type 0
-TellsFault (Refused fault) old new = IsFault fault new
-TellsFault Memory old new = new ≡ old
-TellsFault TooLarge old new = new ≡ old
-TellsFault NoLayer old new = new ≡ old
-TellsFault BadName old new = new ≡ old
+abbrev pub ReportsFault : Refusal → Fault → Fault → Type 0
+ReportsFault (Refused fault) old new = IsFault fault new
+ReportsFault Memory old new = new ≡ old
+ReportsFault TooLarge old new = new ≡ old
+ReportsFault NoLayer old new = new ≡ old
+ReportsFault BadName old new = new ≡ old
 
 -- a call without a reader never tells a failed read
 abbrev pub of_decode : DecodeError → Refusal
@@ -55,12 +55,12 @@ abbrev pub IsAccepted : List ℕ → Type 0
 IsAccepted input = (tile : Tile) × IsTile LIMIT input tile
 
 -- a fault that there is, as C sees it
-abbrev pub IsToldOf : Option TileFault → Fault → Type 0
-IsToldOf found told = (fault : TileFault) × (found ≡ Some fault) × IsFault fault told
+abbrev pub IsReportedOf : Option TileFault → Fault → Type 0
+IsReportedOf found reported = (fault : TileFault) × (found ≡ Some fault) × IsFault fault reported
 
 -- the first broken rule of the bytes
-abbrev pub IsTold : List ℕ → Fault → Type 0
-IsTold input told = IsToldOf (fault_within LIMIT input) told
+abbrev pub IsReported : List ℕ → Fault → Type 0
+IsReported input reported = IsReportedOf (fault_within LIMIT input) reported
 
 -- why nothing is made of the bytes
 abbrev pub RefusedAs : List ℕ → Refusal → Type 0

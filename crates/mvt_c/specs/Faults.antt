@@ -14,12 +14,12 @@ index_of None = negsuc 0
 index_of (Some n) = pos n
 
 -- the fields are the fault's, and the name is its cause's
-pub record IsFault (fault : TileFault) (told : Fault) : Type 0 where
-  pub layer : told.layer ≡ index_of fault.layer
-  pub feature : told.feature ≡ index_of fault.feature
-  pub at : told.at ≡ fault.at
-  pub cause : told.cause ≡ cause_number fault.cause
-  pub name : told.name.bytes.now ≡ cause_name fault.cause
+pub record IsFault (fault : TileFault) (reported : Fault) : Type 0 where
+  pub layer : reported.layer ≡ index_of fault.layer
+  pub feature : reported.feature ≡ index_of fault.feature
+  pub at : reported.at ≡ fault.at
+  pub cause : reported.cause ≡ cause_number fault.cause
+  pub name : reported.name.bytes.now ≡ cause_name fault.cause
 
 abbrev pub has_feature : Option ℕ → ℕ
 has_feature None = 0

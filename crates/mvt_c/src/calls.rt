@@ -1,13 +1,13 @@
 //! The calls that make bytes of a tile's bytes.
 ghost use Rattle.std.specs.Prelude.{◌≡◌, ◌≢◌, ◌≤◌, map, string_bytes, All, Any, IsUtf8, IfOk, IfErr};
-ghost use Rattle.mvt_c.specs.Calls.{IsExtracted, IsTold, IsTooLargeOf, LacksLayer, NotExtracted, RefusedAs};
+ghost use Rattle.mvt_c.specs.Calls.{IsExtracted, IsReported, IsTooLargeOf, LacksLayer, NotExtracted, RefusedAs};
 ghost use Rattle.mvt_c.specs.Names.{texts_of};
 ghost use Rattle.mvt_rows.specs.Reading.{IsRewritten, IsTooLarge};
 
 use crate::fault::Fault;
 use crate::lent::Bytes;
 use crate::names::read_names;
-use crate::refusal::{Refusal, hand_out, tell};
+use crate::refusal::{Refusal, hand_out, report};
 use mvt_tile::{NamedLayers, extract_bytes, rewrite};
 use std::alloc::Global;
 
@@ -20,7 +20,7 @@ pub extern "C" fn mvt_rewrite(
     fault: &mut Fault,
 ) -> u32
     ensures done { result ≡ 0 → IsRewritten bytes.now out.new.bytes.now }
-    ensures refused { result ≡ 1 → IsTold bytes.now fault.new }
+    ensures refused { result ≡ 1 → IsReported bytes.now fault.new }
     ensures too_large { result ≡ 3 → IsTooLarge bytes.now }
     ensures few { result ≤ 3 }
     ensures out_kept { result ≢ 0 → out.new ≡ out.old }
@@ -46,7 +46,7 @@ pub extern "C" fn mvt_extract(
     fault: &mut Fault,
 ) -> u32
     ensures done { result ≡ 0 → IsExtracted bytes.now (texts_of names.now) out.new.bytes.now }
-    ensures refused { result ≡ 1 → IsTold bytes.now fault.new }
+    ensures refused { result ≡ 1 → IsReported bytes.now fault.new }
     ensures too_large { result ≡ 3 → IsTooLargeOf bytes.now (texts_of names.now) }
     ensures missing { result ≡ 4 → LacksLayer bytes.now (texts_of names.now) }
     ensures bad_name { result ≡ 5 → Any (λ text. IsUtf8 text → ⊥) (texts_of names.now) }
@@ -58,7 +58,7 @@ pub extern "C" fn mvt_extract(
 {
     match read_names(alloc, names) {
         Ok(names) => hand_out(extracted(alloc, bytes, &names), out, fault),
-        Err(refusal) => tell(refusal, fault),
+        Err(refusal) => report(refusal, fault),
     }
 }
 

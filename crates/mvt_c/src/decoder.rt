@@ -3,7 +3,7 @@
 ghost use Rattle.std.specs.Prelude.{◌≡◌, ◌≢◌, ◌≤◌, [], ◌++◌, ℕ, List, None, IsSome, IfOk, IfErr, IfSome};
 ghost use Rattle.mvt_tile.specs.Streams.{IsCalm};
 ghost use Rattle.mvt_tile.specs.TileRules.{fault_within};
-ghost use Rattle.mvt_c.specs.Calls.{IsTold, NotShown};
+ghost use Rattle.mvt_c.specs.Calls.{IsReported, NotShown};
 ghost use Rattle.mvt_c.specs.Calls.{of_decode, status_of, status_of_failure, status_of_refusal};
 ghost use Rattle.mvt_rows.specs.Decoding.{StandsFor};
 ghost use Rattle.mvt_rows.specs.Lent.{table_of};
@@ -14,7 +14,7 @@ mod held;
 mod parts;
 
 use crate::fault::Fault;
-use crate::refusal::{Refusal, tell};
+use crate::refusal::{Refusal, report};
 use held::{Decoder, Held};
 use mvt_base::LIMIT;
 use mvt_rows::{Rows, RowsDecoder, RowsVisitor, Table};
@@ -63,7 +63,7 @@ pub extern "C" fn mvt_held_feed(
     ensures stands { (s : List ℕ) → StandsFor held.decoder.inner s
         → StandsFor again.new.decoder.inner (s ++ piece.now) }
     ensures refused { result ≡ 1 → (s : List ℕ) → StandsFor held.decoder.inner s
-        → IsTold (s ++ piece.now) fault.new }
+        → IsReported (s ++ piece.now) fault.new }
     // No fault so far, but that of a field that isn't finished.
     ensures live { result ≡ 0 → (s : List ℕ) → StandsFor held.decoder.inner s
         → IsCalm (fault_within LIMIT (s ++ piece.now)) }
@@ -78,7 +78,7 @@ pub extern "C" fn mvt_held_feed(
     keep(Held::of_box(decoder), again);
     match answer {
         Ok(()) => 0,
-        Err(refusal) => tell(refusal, fault),
+        Err(refusal) => report(refusal, fault),
     }
 }
 
@@ -102,7 +102,7 @@ pub extern "C" fn mvt_held_finish(held: Held, out: &mut Rows, fault: &mut Fault)
         → IsRead s (table_of out.new) }
     ensures within { result ≡ 0 → table_size (table_of out.new) ≤ held.decoder.most }
     ensures refused { result ≡ 1 → (s : List ℕ) → StandsFor held.decoder.inner s
-        → IsTold s fault.new }
+        → IsReported s fault.new }
     // A decoder that hasn't failed wants memory for too many rows alone.
     ensures memory { result ≡ 2 → held.decoder.inner.0.failure ≡ None → (s : List ℕ)
         → StandsFor held.decoder.inner s
@@ -118,7 +118,7 @@ pub extern "C" fn mvt_held_finish(held: Held, out: &mut Rows, fault: &mut Fault)
             *out = table.leak();
             0
         }
-        Err(refusal) => tell(refusal, fault),
+        Err(refusal) => report(refusal, fault),
     }
 }
 

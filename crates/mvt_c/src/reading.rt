@@ -1,13 +1,13 @@
 //! A tile's bytes judged, and read as rows.
 ghost use Rattle.std.specs.Prelude.{◌≡◌, ◌≢◌, ◌≤◌, IfOk, IfErr, OnOk};
-ghost use Rattle.mvt_c.specs.Calls.{IsAccepted, IsTold, IsToldOf, LacksLayerOf, NotReadOf, NotShown};
+ghost use Rattle.mvt_c.specs.Calls.{IsAccepted, IsReported, IsReportedOf, LacksLayerOf, NotReadOf, NotShown};
 ghost use Rattle.mvt_tile.specs.Finding.{named_fault};
 ghost use Rattle.mvt_rows.specs.Lent.{table_of};
 ghost use Rattle.mvt_rows.specs.Reading.{IsLayerRead, IsRead};
 ghost use Rattle.mvt_rows.specs.Tables.{table_size};
 
 use crate::fault::Fault;
-use crate::refusal::{Refusal, tell};
+use crate::refusal::{Refusal, report};
 use mvt_base::LIMIT;
 use mvt_rows::{Rows, Table, read_layer, read_rows_within};
 use mvt_tile::judge;
@@ -17,13 +17,13 @@ use std::alloc::Global;
 #[unsafe(no_mangle)]
 pub extern "C" fn mvt_judge(alloc: Global, bytes: &[u8], fault: &mut Fault) -> u32
     ensures accepted { result ≡ 0 → IsAccepted bytes.now }
-    ensures refused { result ≡ 1 → IsTold bytes.now fault.new }
+    ensures refused { result ≡ 1 → IsReported bytes.now fault.new }
     ensures few { result ≤ 2 }
     ensures fault_kept { result ≢ 1 → fault.new ≡ fault.old }
 {
     match judged(alloc, bytes) {
         Ok(()) => 0,
-        Err(refusal) => tell(refusal, fault),
+        Err(refusal) => report(refusal, fault),
     }
 }
 
@@ -39,7 +39,7 @@ fn judged(alloc: Global, bytes: &[u8]) -> Result<(), Refusal>
 #[unsafe(no_mangle)]
 pub extern "C" fn mvt_read(alloc: Global, bytes: &[u8], out: &mut Rows, fault: &mut Fault) -> u32
     ensures done { result ≡ 0 → IsRead bytes.now (table_of out.new) }
-    ensures refused { result ≡ 1 → IsTold bytes.now fault.new }
+    ensures refused { result ≡ 1 → IsReported bytes.now fault.new }
     ensures few { result ≤ 2 }
     ensures out_kept { result ≢ 0 → out.new ≡ out.old }
     ensures fault_kept { result ≢ 1 → fault.new ≡ fault.old }
@@ -58,7 +58,7 @@ pub extern "C" fn mvt_read_within(
 ) -> u32
     ensures done { result ≡ 0 → IsRead bytes.now (table_of out.new) }
     ensures within { result ≡ 0 → table_size (table_of out.new) ≤ most }
-    ensures refused { result ≡ 1 → IsTold bytes.now fault.new }
+    ensures refused { result ≡ 1 → IsReported bytes.now fault.new }
     ensures few { result ≤ 2 }
     ensures out_kept { result ≢ 0 → out.new ≡ out.old }
     ensures fault_kept { result ≢ 1 → fault.new ≡ fault.old }
@@ -68,7 +68,7 @@ pub extern "C" fn mvt_read_within(
             *out = table.leak();
             0
         }
-        Err(refusal) => tell(refusal, fault),
+        Err(refusal) => report(refusal, fault),
     }
 }
 
@@ -90,7 +90,7 @@ pub extern "C" fn mvt_read_named(
     fault: &mut Fault,
 ) -> u32
     ensures done { result ≡ 0 → IsLayerRead name.now bytes.now (table_of out.new) }
-    ensures refused { result ≡ 1 → IsToldOf (named_fault LIMIT name.now bytes.now) fault.new }
+    ensures refused { result ≡ 1 → IsReportedOf (named_fault LIMIT name.now bytes.now) fault.new }
     ensures missing { result ≡ 4 → LacksLayerOf name.now bytes.now }
     ensures few { (result ≡ 3 → ⊥) × (result ≤ 4) }
     ensures out_kept { result ≢ 0 → out.new ≡ out.old }
@@ -101,7 +101,7 @@ pub extern "C" fn mvt_read_named(
             *out = layer.leak();
             0
         }
-        Err(refusal) => tell(refusal, fault),
+        Err(refusal) => report(refusal, fault),
     }
 }
 

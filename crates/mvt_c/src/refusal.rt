@@ -1,6 +1,6 @@
 //! Why a call hands nothing out.
 ghost use Rattle.std.specs.Prelude.{◌≡◌, IfOk, IfErr};
-ghost use Rattle.mvt_c.specs.Calls.{status_of, status_of_refusal, TellsFault};
+ghost use Rattle.mvt_c.specs.Calls.{status_of, status_of_refusal, ReportsFault};
 
 use crate::fault::Fault;
 use crate::lent::Bytes;
@@ -94,7 +94,7 @@ pub(crate) fn hand_out(made: Result<Vec<u8>, Refusal>, out: &mut Bytes, fault: &
     ensures bytes { IfOk made (λ bytes. out.new.bytes.now ≡ bytes.items) }
     ensures fault_kept { IfOk made (λ _. fault.new ≡ fault.old) }
     ensures out_kept { IfErr made (λ _. out.new ≡ out.old) }
-    ensures fault { IfErr made (λ refusal. TellsFault refusal fault.old fault.new) }
+    ensures fault { IfErr made (λ refusal. ReportsFault refusal fault.old fault.new) }
 {
     match made {
         Ok(bytes) => {
@@ -103,14 +103,14 @@ pub(crate) fn hand_out(made: Result<Vec<u8>, Refusal>, out: &mut Bytes, fault: &
             };
             0
         }
-        Err(refusal) => tell(refusal, fault),
+        Err(refusal) => report(refusal, fault),
     }
 }
 
 /// Tells the fault, where there is one. Answers the status.
-pub(crate) fn tell(refusal: Refusal, fault: &mut Fault) -> u32
+pub(crate) fn report(refusal: Refusal, fault: &mut Fault) -> u32
     ensures status { result ≡ status_of_refusal refusal }
-    ensures fault { TellsFault refusal fault.old fault.new }
+    ensures fault { ReportsFault refusal fault.old fault.new }
 {
     if let Refusal::Refused(first) = refusal {
         *fault = Fault::new(first);

@@ -5,9 +5,9 @@ use Rattle.std.specs.List.{flat_map}
 use Rattle.std.specs.Option.{option_map}
 use Rattle.std.proofs.lemmas.Grind.{flat_map-append}
 use Rattle.std.proofs.lemmas.List.Elements.{filter-append}
-use Rattle.mvt_base.specs.Tells.{Tells}
+use Rattle.mvt_base.specs.Reports.{Reports}
 use Rattle.mvt_base.specs.Rules.{each, first}
-use Rattle.mvt_base.proofs.TellsLemmas.{tells_as}
+use Rattle.mvt_base.proofs.ReportsLemmas.{reports_as}
 use Rattle.mvt_base.proofs.RuleLemmas.{each_more, each_stops, first-map_faults}
 use Rattle.mvt_base.proofs.SelectionLemmas.{last_only-more}
 use Rattle.mvt_wire.specs.Field.{Entry}
@@ -85,14 +85,14 @@ pub known_with : (payload_at : ℕ) (done : List Entry) (x : Entry) (old : Featu
     → IfOk r (λ (k : FeatureFields). k.kind ≡ kind_after old.kind x.number x.content)
     → OnOk r (new_tags ≡ tags ++ numbers_at TAGS x.number x.content)
     → OnOk r (new_integers ≡ integers ++ numbers_at GEOMETRY x.number x.content)
-    → IfErr r (λ e. Tells (fault_of e) (option_map (fault_at (payload_at + x.at)) (first (feature_form_rules x.number x.content))))
+    → IfErr r (λ e. Reports (fault_of e) (option_map (fault_at (payload_at + x.at)) (first (feature_form_rules x.number x.content))))
     → AreFeatureFieldsSoFar payload_at (done ++ x ∷ []) r new_tags new_integers
-known_with payload_at done x old tags integers new_tags new_integers (Ok new) so_far clean id kind tags_are integers_are told_here = (
+known_with payload_at done x old tags integers new_tags new_integers (Ok new) so_far clean id kind tags_are integers_are reported_here = (
   each_more (λ _. feature_field_rules payload_at) done x so_far.0 ∙ field_first payload_at x
       ∙ ap (option_map (fault_at (payload_at + x.at))) clean,
   known_more done x old new tags integers new_tags new_integers so_far.1 id kind tags_are integers_are,
 )
-known_with payload_at done x old tags integers new_tags new_integers (Err e) so_far clean id kind tags_are integers_are told_here =
-    λ more. tells_as (fault_of e) (option_map (fault_at (payload_at + x.at)) (first (feature_form_rules x.number x.content)))
+known_with payload_at done x old tags integers new_tags new_integers (Err e) so_far clean id kind tags_are integers_are reported_here =
+    λ more. reports_as (fault_of e) (option_map (fault_at (payload_at + x.at)) (first (feature_form_rules x.number x.content)))
     (first (each (λ _. feature_field_rules payload_at) [] ((done ++ x ∷ []) ++ more)))
-    (λ f broken. one_more payload_at done x more f so_far.0 broken) told_here
+    (λ f broken. one_more payload_at done x more f so_far.0 broken) reported_here

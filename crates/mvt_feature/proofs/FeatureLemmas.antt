@@ -3,7 +3,7 @@ use Rattle.std.proofs.Common.{◌≡◌, ℕ, ◌+◌, ◌^◌, ◌<◌, ◌==�
 use Rattle.std.specs.List.{AllByRecursion, flat_map}
 use Rattle.std.specs.Option.{option_or, option_map}
 use Rattle.std.proofs.lemmas.Bool.{eqb-true, ltb-true, lt-ltb, not-false}
-use Rattle.mvt_base.specs.Tells.{Tells}
+use Rattle.mvt_base.specs.Reports.{Reports}
 use Rattle.mvt_base.specs.Rules.{when, under, map_faults, each, first}
 use Rattle.mvt_base.proofs.ListLemmas.{all_weaker, all_joined}
 use Rattle.mvt_base.proofs.RuleLemmas.{first-under, first-map_faults, first-when_not, option_or-none, option_or-right, option_or-some}
@@ -18,7 +18,7 @@ use Rattle.mvt_geometry.specs.declared.fault.GeometryError.{GeometryError}
 use Rattle.mvt_geometry.specs.declared.fault.GeometryError.TheVariants as geometry_errors
 use Rattle.mvt_geometry.specs.Drawing.{Draws}
 use Rattle.mvt_geometry.specs.Table.{geometry_rules, geometry_fault}
-use Rattle.mvt_geometry.specs.Tells.{Tells as TellsGeometry}
+use Rattle.mvt_geometry.specs.Reports.{Reports as ReportsGeometry}
 use Rattle.mvt_wire.specs.Field.{Content, varint, fixed64, bytes, fixed32, Entry}
 use Rattle.mvt_wire.specs.Packed.{ArePacked, packed_rules}
 use Rattle.mvt_wire.specs.Split.{split}
@@ -30,12 +30,12 @@ use Rattle.mvt_feature.specs.declared.message_error.MessageError.{MessageError}
 use Rattle.mvt_feature.specs.Causes.{of_packed}
 use Rattle.mvt_feature.specs.Faults.{MessageFault, fault_at, rest_rules, fault_of}
 use Rattle.mvt_feature.specs.Features.{AreNumbers, Joined, IsFeatureOf}
-use Rattle.mvt_feature.specs.FeatureRules.{numbers_of, joined, list_rules, feature_form_rules, feature_field_rules, tag_told, geometry_told, kind_in, feature_table, feature_rules, feature_fault}
+use Rattle.mvt_feature.specs.FeatureRules.{numbers_of, joined, list_rules, feature_form_rules, feature_field_rules, tag_reported, geometry_reported, kind_in, feature_table, feature_rules, feature_fault}
 use Rattle.mvt_feature.specs.Inner.{AreFeatureFields}
 use Rattle.mvt_feature.specs.Selection.{only, HaveForm}
 use Rattle.mvt_feature.specs.Forms.{any_varint, geom_type, HasForm, form_rules}
 use Rattle.mvt_feature.specs.Faults.{of_tag_error, of_geometry_error}
-use Rattle.mvt_feature.proofs.ValueLemmas.{tells_front}
+use Rattle.mvt_feature.proofs.ValueLemmas.{reports_front}
 use Rattle.mvt_feature.proofs.FormLemmas.{has_form}
 use Rattle.mvt_feature.proofs.FeatureFieldsLemmas.{field_first}
 use Rattle.mvt_feature.proofs.WalkLemmas.{rest_none}
@@ -50,10 +50,10 @@ abbrev pub fields_fault : List ℕ → ℕ → Option MessageFault
 fields_fault payload payload_at = first (each (λ _. feature_field_rules payload_at) [] (split payload).fields)
 
 abbrev pub tags_fault : List ℕ → List (List ℕ) → List Value → Option MessageFault
-tags_fault payload keys values = option_map tag_told (tag_fault keys values (joined TAGS (split payload).fields))
+tags_fault payload keys values = option_map tag_reported (tag_fault keys values (joined TAGS (split payload).fields))
 
 abbrev pub drawing_fault : List ℕ → Option MessageFault
-drawing_fault payload = option_map geometry_told (geometry_fault (kind_in (split payload).fields) (joined GEOMETRY (split payload).fields))
+drawing_fault payload = option_map geometry_reported (geometry_fault (kind_in (split payload).fields) (joined GEOMETRY (split payload).fields))
 
 mapped_or : {F G : Type 0} → (f : F → G) (a b : Option F) (o : Option G)
     → option_or (option_map f a) (option_or (option_map f b) o) ≡ option_or (option_map f (option_or a b)) o
@@ -66,20 +66,20 @@ unfolding geometry_fault
 geometry_first kind integers = refl
 
 tags_chain : (keys : List (List ℕ)) (values : List Value) (tags : List ℕ) (o : Option MessageFault)
-    → option_or (first (map_faults tag_told (count_rules tags))) (option_or (first (map_faults tag_told (pair_rules keys values tags))) o)
-    ≡ option_or (option_map tag_told (tag_fault keys values tags)) o
+    → option_or (first (map_faults tag_reported (count_rules tags))) (option_or (first (map_faults tag_reported (pair_rules keys values tags))) o)
+    ≡ option_or (option_map tag_reported (tag_fault keys values tags)) o
 tags_chain keys values tags o =
-    ap₂ (λ a b. option_or a (option_or b o)) (first-map_faults tag_told (count_rules tags))
-    (first-map_faults tag_told (pair_rules keys values tags))
-    ∙ mapped_or tag_told (first (count_rules tags)) (first (pair_rules keys values tags)) o
-    ∙ ap (λ a. option_or (option_map tag_told a) o) (sym (fault_is_least_parts keys values tags))
+    ap₂ (λ a b. option_or a (option_or b o)) (first-map_faults tag_reported (count_rules tags))
+    (first-map_faults tag_reported (pair_rules keys values tags))
+    ∙ mapped_or tag_reported (first (count_rules tags)) (first (pair_rules keys values tags)) o
+    ∙ ap (λ a. option_or (option_map tag_reported a) o) (sym (fault_is_least_parts keys values tags))
 
 drawing_chain : (kind : Kind) (integers : List ℕ)
-    → option_or (first (map_faults geometry_told (geometry_rules kind integers))) None
-    ≡ option_map geometry_told (geometry_fault kind integers)
+    → option_or (first (map_faults geometry_reported (geometry_rules kind integers))) None
+    ≡ option_map geometry_reported (geometry_fault kind integers)
 drawing_chain kind integers =
-    option_or-right _ ∙ first-map_faults geometry_told (geometry_rules kind integers)
-    ∙ ap (option_map geometry_told) (geometry_first kind integers)
+    option_or-right _ ∙ first-map_faults geometry_reported (geometry_rules kind integers)
+    ∙ ap (option_map geometry_reported) (geometry_first kind integers)
 
 pub feature_chain : (payload : List ℕ) (payload_at : ℕ) (keys : List (List ℕ)) (values : List Value)
     → feature_fault payload payload_at keys values
@@ -94,12 +94,12 @@ feature_chain payload payload_at keys values =
     (drawing_chain (kind_in (split payload).fields) (joined GEOMETRY (split payload).fields)))
 
 -- the exits of `read_feature_in`
-pub known_told : (payload : List ℕ) (payload_at : ℕ) (keys : List (List ℕ)) (values : List Value) (e : MessageError)
-    → Tells (fault_of e) (option_or (rest_fault payload payload_at) (fields_fault payload payload_at))
-    → Tells (fault_of e) (feature_fault payload payload_at keys values)
-known_told payload payload_at keys values e h =
-    subst (λ o. Tells (fault_of e) o) (sym (feature_chain payload payload_at keys values))
-    (tells_front e (rest_fault payload payload_at) (fields_fault payload payload_at)
+pub known_reported : (payload : List ℕ) (payload_at : ℕ) (keys : List (List ℕ)) (values : List Value) (e : MessageError)
+    → Reports (fault_of e) (option_or (rest_fault payload payload_at) (fields_fault payload payload_at))
+    → Reports (fault_of e) (feature_fault payload payload_at keys values)
+known_reported payload payload_at keys values e h =
+    subst (λ o. Reports (fault_of e) o) (sym (feature_chain payload payload_at keys values))
+    (reports_front e (rest_fault payload payload_at) (fields_fault payload payload_at)
     (option_or (tags_fault payload keys values) (drawing_fault payload)) h)
 
 -- a payload that splits wholly into fields without a fault, and what these say
@@ -119,24 +119,24 @@ module _ {payload : List ℕ} {payload_at : ℕ} {known : FeatureFields} {tags i
   tags_are = ap (tag_fault keys values) (sym says.known_is.tags_are)
 
   behind_tags : tag_fault keys values tags ≡ None
-      → feature_fault payload payload_at keys values ≡ option_map geometry_told (geometry_fault known.kind integers)
+      → feature_fault payload payload_at keys values ≡ option_map geometry_reported (geometry_fault known.kind integers)
   behind_tags resolved =
-      behind_fields ∙ option_or-none _ _ (ap (option_map tag_told) (tags_are ∙ resolved))
-      ∙ ap (option_map geometry_told) (ap₂ geometry_fault (sym says.known_is.kind) (sym says.known_is.integers_are))
+      behind_fields ∙ option_or-none _ _ (ap (option_map tag_reported) (tags_are ∙ resolved))
+      ∙ ap (option_map geometry_reported) (ap₂ geometry_fault (sym says.known_is.kind) (sym says.known_is.integers_are))
 
-  pub tags_told : (e : TagError) → Tells (fault_of_tags e) (tag_fault keys values tags)
-      → Tells (fault_of (of_tag_error e)) (feature_fault payload payload_at keys values)
-  tags_told tag_errors.Memory h = tt
-  tags_told (tag_errors.Fault index cause) h = behind_fields ∙ option_or-some _ _ _ (ap (option_map tag_told) (tags_are ∙ h))
+  pub tags_reported : (e : TagError) → Reports (fault_of_tags e) (tag_fault keys values tags)
+      → Reports (fault_of (of_tag_error e)) (feature_fault payload payload_at keys values)
+  tags_reported tag_errors.Memory h = tt
+  tags_reported (tag_errors.Fault index cause) h = behind_fields ∙ option_or-some _ _ _ (ap (option_map tag_reported) (tags_are ∙ h))
 
-  pub drawing_told : (e : GeometryError) → tag_fault keys values tags ≡ None → TellsGeometry e (geometry_fault known.kind integers)
-      → Tells (fault_of (of_geometry_error e)) (feature_fault payload payload_at keys values)
-  drawing_told geometry_errors.Memory resolved h = tt
-  drawing_told (geometry_errors.Fault index cause) resolved h = behind_tags resolved ∙ ap (option_map geometry_told) h
+  pub drawing_reported : (e : GeometryError) → tag_fault keys values tags ≡ None → ReportsGeometry e (geometry_fault known.kind integers)
+      → Reports (fault_of (of_geometry_error e)) (feature_fault payload payload_at keys values)
+  drawing_reported geometry_errors.Memory resolved h = tt
+  drawing_reported (geometry_errors.Fault index cause) resolved h = behind_tags resolved ∙ ap (option_map geometry_reported) h
 
   pub feature_clean : tag_fault keys values tags ≡ None → geometry_fault known.kind integers ≡ None
       → feature_fault payload payload_at keys values ≡ None
-  feature_clean resolved drawn = behind_tags resolved ∙ ap (option_map geometry_told) drawn
+  feature_clean resolved drawn = behind_tags resolved ∙ ap (option_map geometry_reported) drawn
 
 -- the fields of a feature have no fault
 abbrev pub FieldsClean : ℕ → List Entry → Type 0

@@ -90,9 +90,9 @@ clean_at forms payload_at x h =
     none_mapped (fault_at (payload_at + x.at)) _
     (sym (first-map_faults (fault_at (payload_at + x.at)) (number_rules forms x.number x.content)) ∙ h)
 
-pub told_clean : (forms : List (ℕ × Form)) (payload_at : ℕ) (x : Entry)
+pub reported_clean : (forms : List (ℕ × Form)) (payload_at : ℕ) (x : Entry)
     → first (number_rules forms x.number x.content) ≡ None → first (forms_rules forms payload_at x) ≡ None
-told_clean forms payload_at x h =
+reported_clean forms payload_at x h =
     first-map_faults (fault_at (payload_at + x.at)) (number_rules forms x.number x.content)
     ∙ ap (option_map (fault_at (payload_at + x.at))) h
 
@@ -121,4 +121,4 @@ forms_clean forms payload_at xs h = each_none (forms_rules forms payload_at) [] 
     all [] g = tt
     all (y ∷ ys) g =
         let parts = forms_split forms y ys g in
-        (told_clean forms payload_at y (number_clean forms y.number y.content parts.0), all ys parts.1)
+        (reported_clean forms payload_at y (number_clean forms y.number y.content parts.0), all ys parts.1)

@@ -19,7 +19,7 @@ use Rattle.mvt_feature.specs.declared.feature_fields.FeatureFields.{FeatureField
 use Rattle.mvt_feature.specs.Causes.{of_packed}
 use Rattle.mvt_feature.specs.Faults.{MessageFault, fault_at}
 use Rattle.mvt_feature.specs.Features.{feature_forms, Joined, number_in, IsFeature, IsFeatureOf}
-use Rattle.mvt_feature.specs.FeatureRules.{joined, list_rules, feature_form_rules, feature_field_rules, tag_told, geometry_told, kind_in, feature_table, feature_rules, feature_fault}
+use Rattle.mvt_feature.specs.FeatureRules.{joined, list_rules, feature_form_rules, feature_field_rules, tag_reported, geometry_reported, kind_in, feature_table, feature_rules, feature_fault}
 use Rattle.mvt_feature.specs.Forms.{Form, HasForm, HaveForms, number_rules}
 use Rattle.mvt_feature.specs.Selection.{only, last_only, HaveForm}
 use Rattle.mvt_feature.proofs.ValueLemmas.{rest_ordered, split_of}
@@ -39,9 +39,9 @@ feature_there payload payload_at keys values h =
     let later = option_or-nones _ _ parts.1 in
     let last = option_or-nones _ _ later.1 in
     let rest = none_rest payload_at (split payload) parts.0 in
-    let attributes = attributes_or_fault_there keys values (joined TAGS xs) (none_mapped tag_told _ last.0) in
+    let attributes = attributes_or_fault_there keys values (joined TAGS xs) (none_mapped tag_reported _ last.0) in
     let small = joined_small (only GEOMETRY xs) (joined GEOMETRY xs) (joined_is payload_at GEOMETRY xs (λ c e. e) later.0) in
-    let geometry = faultless_draws (kind_in xs) (joined GEOMETRY xs) small (none_mapped geometry_told _ last.1) in
+    let geometry = faultless_draws (kind_in xs) (joined GEOMETRY xs) small (none_mapped geometry_reported _ last.1) in
     let known : FeatureFields = record { id = number_in (last_only ID xs); kind = kind_in xs } in
     let says : Says payload payload_at known (joined TAGS xs) (joined GEOMETRY xs) = record {
       whole = rest;
@@ -153,15 +153,15 @@ feature_rows payload payload_at keys values = (
         (
           omega arith,
           (
-            map_faults_ordered tag_told _ (rules_in_order_count (joined TAGS (split payload).fields)),
+            map_faults_ordered tag_reported _ (rules_in_order_count (joined TAGS (split payload).fields)),
             (
               omega arith,
               (
-                map_faults_ordered tag_told _ (rules_in_order_pairs keys values (joined TAGS (split payload).fields)),
+                map_faults_ordered tag_reported _ (rules_in_order_pairs keys values (joined TAGS (split payload).fields)),
                 (
                   omega arith,
                   (
-                    map_faults_ordered geometry_told _
+                    map_faults_ordered geometry_reported _
                         (geometry_ordered (kind_in (split payload).fields) (joined GEOMETRY (split payload).fields)),
                     tt,
                   ),

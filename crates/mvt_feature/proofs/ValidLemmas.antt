@@ -47,8 +47,8 @@ distinct_breaks xs i a inside at seen h =
 -- the answer of `has_key`, over the attributes before a place
 pub seen_from : (r b : Bool) (given xs : List Attribute) (key text : List ℕ) → r ≡ has_key text given → given ≡ xs
     → text ≡ key → r ≡ b → has_key key xs ≡ b
-seen_from r b given xs key text is list same told =
-    ap (λ l. has_key key l) (sym list) ∙ ap (λ k. has_key k given) (sym same) ∙ sym is ∙ told
+seen_from r b given xs key text is list same reported =
+    ap (λ l. has_key key l) (sym list) ∙ ap (λ k. has_key k given) (sym same) ∙ sym is ∙ reported
 
 -- a set of keys, seen by their bytes
 abbrev pub holds_key : List (Bor (List ℕ)) → List ℕ → Bool
@@ -89,6 +89,6 @@ not_same false false e = cc
 pub key_seen : (added b : Bool) (keys : List (Bor (List ℕ))) (xs : List Attribute) (key text : List ℕ)
     → added ≡ not (finds_key keys text) → text ≡ key
     → ((t : List ℕ) → holds_key keys t ≡ has_key t xs) → added ≡ b → has_key key xs ≡ not b
-key_seen added b keys xs key text is same known told =
+key_seen added b keys xs key text is same known reported =
     ap (λ k. has_key k xs) (sym same) ∙ sym (known text) ∙ sym (finds_holds text keys) ∙ not_same added (finds_key keys text) is
-    ∙ ap not told
+    ∙ ap not reported

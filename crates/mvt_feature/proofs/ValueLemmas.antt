@@ -4,7 +4,7 @@ use Rattle.std.specs.Int.{w64, cast_signed}
 use Rattle.std.specs.List.{AllByRecursion, list_all, last_or}
 use Rattle.std.specs.Option.{option_or}
 use Rattle.std.proofs.lemmas.Bool.{eqb-true, eq-eqb, ne_eqb, cases_eq, and_parts, and_from, leb-true, le-leb, not-false, false_from_ne_true, both_ways}
-use Rattle.mvt_base.specs.Tells.{Tells}
+use Rattle.mvt_base.specs.Reports.{Reports}
 use Rattle.mvt_base.specs.Rules.{AreOrdered, IsLeast, when, each, first}
 use Rattle.mvt_base.proofs.RuleLemmas.{first-when, first-when_not, option_or-none, option_or-nones, option_or-right}
 use Rattle.mvt_base.proofs.ListLemmas.{all_weaker}
@@ -29,7 +29,7 @@ use Rattle.mvt_feature.specs.Selection.{only, last_only}
 use Rattle.mvt_feature.specs.Forms.{any_varint, float, double, string, HasForm, HaveForms, number_rules}
 use Rattle.mvt_feature.specs.Values.{value_forms, IsKind, Means, IsValue, IsValueOf}
 use Rattle.mvt_feature.specs.ValueRules.{is_kind, kinds, are_one_kind, value_field_rules, value_table, value_rules, value_fault}
-use Rattle.mvt_feature.proofs.FormLemmas.{has_form, clean_at, told_clean, forms_have, forms_clean, forms_ordered}
+use Rattle.mvt_feature.proofs.FormLemmas.{has_form, clean_at, reported_clean, forms_have, forms_clean, forms_ordered}
 use Rattle.mvt_wire.proofs.WireLaws.{split_function_only, zigzag_function_number, zigzag_function_code, split_function_whole}
 
 -- the fields of a value have no fault
@@ -48,19 +48,19 @@ front_some None (Some x) d f h = h
 front_some (Some x) b d f h = h
 
 -- a fault of the first rows
-pub tells_front : (e : MessageError) (a b d : Option MessageFault) → Tells (fault_of e) (option_or a b)
-    → Tells (fault_of e) (option_or a (option_or b d))
-tells_front Memory a b d h = tt
-tells_front (Fault feature at cause) a b d h = front_some a b d _ h
+pub reports_front : (e : MessageError) (a b d : Option MessageFault) → Reports (fault_of e) (option_or a b)
+    → Reports (fault_of e) (option_or a (option_or b d))
+reports_front Memory a b d h = tt
+reports_front (Fault feature at cause) a b d h = front_some a b d _ h
 
-pub tells_value : (payload : List ℕ) (payload_at tag_at : ℕ) (e : MessageError)
-    → Tells (fault_of e)
+pub reports_value : (payload : List ℕ) (payload_at tag_at : ℕ) (e : MessageError)
+    → Reports (fault_of e)
     (option_or (first (rest_rules payload_at (split payload)))
     (first (each (λ _. value_field_rules payload_at) [] (split payload).fields)))
-    → Tells (fault_of e) (value_fault payload payload_at tag_at)
-tells_value payload payload_at tag_at e h =
-    subst (λ o. Tells (fault_of e) o) (sym (value_chain payload payload_at tag_at))
-    (tells_front e (first (rest_rules payload_at (split payload)))
+    → Reports (fault_of e) (value_fault payload payload_at tag_at)
+reports_value payload payload_at tag_at e h =
+    subst (λ o. Reports (fault_of e) o) (sym (value_chain payload payload_at tag_at))
+    (reports_front e (first (rest_rules payload_at (split payload)))
     (first (each (λ _. value_field_rules payload_at) [] (split payload).fields))
     (option_or (first (when (not (are_one_kind (kinds (split payload).fields))) (fault_at tag_at ValueKind))) None) h)
 
@@ -73,9 +73,9 @@ module _ (payload : List ℕ) (payload_at tag_at : ℕ) (whole : (split payload)
       value_chain payload payload_at tag_at ∙ option_or-none _ _ (rest_none payload_at (split payload) whole) ∙ option_or-none _ _ clean
       ∙ option_or-right _
 
-  pub value_kind_told : are_one_kind (kinds (split payload).fields) ≡ false
+  pub value_kind_reported : are_one_kind (kinds (split payload).fields) ≡ false
       → value_fault payload payload_at tag_at ≡ Some (fault_at tag_at ValueKind)
-  value_kind_told several = behind_fields ∙ first-when _ _ (ap not several)
+  value_kind_reported several = behind_fields ∙ first-when _ _ (ap not several)
 
   pub value_clean : are_one_kind (kinds (split payload).fields) ≡ true → value_fault payload payload_at tag_at ≡ None
   value_clean one = behind_fields ∙ first-when_not _ _ (ap not one)
@@ -101,7 +101,7 @@ clean_rules payload_at x h = clean_at value_forms payload_at x h
 pub rules_clean : (payload_at : ℕ) (x : Entry) → first (number_rules value_forms x.number x.content) ≡ None
     → first (value_field_rules payload_at x) ≡ None
 unfolding value_field_rules
-rules_clean payload_at x h = told_clean value_forms payload_at x h
+rules_clean payload_at x h = reported_clean value_forms payload_at x h
 
 -- fields without a fault have the forms of their kinds, and such fields have no fault
 values_have : (payload_at : ℕ) (xs : List Entry) → ValuesClean payload_at xs → HaveForms value_forms xs

@@ -53,9 +53,9 @@ pub walk_end : (payload : List ℕ) (old new : Parts) (done : List Entry) → Wa
 walk_end payload old new done walk step =
     (walk.fields ∙ ap (λ l. done ++ l) step.0 ∙ append-nil done, sym walk.rest ∙ step.1)
 
-rest_told : (at : ℕ) (rest : List ℕ) → rest ≢ [] → first (rest_rules_at at rest) ≡ Some (fault_at at (of_wire (rest_cause rest)))
-rest_told at [] some = absurd (some refl)
-rest_told at (b ∷ bs) some = refl
+rest_reported : (at : ℕ) (rest : List ℕ) → rest ≢ [] → first (rest_rules_at at rest) ≡ Some (fault_at at (of_wire (rest_cause rest)))
+rest_reported at [] some = absurd (some refl)
+rest_reported at (b ∷ bs) some = refl
 
 pub walk_fault : (payload : List ℕ) (old new : Parts) (done : List Entry) (fault : WireFault) (payload_at : ℕ)
     → Walk payload old done → GivesEntry old (Some (Err fault)) new
@@ -65,7 +65,7 @@ walk_fault payload old new done fault payload_at walk step =
     let at : (split payload).rest_at ≡ fault.at = sym walk.place ∙ sym step.2 in
     let cause : rest_cause (split payload).rest ≡ fault.cause = ap rest_cause (sym walk.rest) ∙ sym step.3 in
     let some : (split payload).rest ≢ [] = λ e. step.1 (walk.rest ∙ e) in
-    rest_told (payload_at + (split payload).rest_at) (split payload).rest some
+    rest_reported (payload_at + (split payload).rest_at) (split payload).rest some
     ∙ ap₂ (λ n c. Some (fault_at (payload_at + n) (of_wire c))) at cause
 
 pub rest_none : (payload_at : ℕ) (parts : Parts) → parts.rest ≡ [] → first (rest_rules payload_at parts) ≡ None

@@ -6,7 +6,7 @@ use Rattle.mvt_base.specs.Related.{Extends}
 use Rattle.mvt_base.proofs.ResultLemmas.{on_err}
 use Rattle.mvt_attrs.specs.declared.value.Value.{Value}
 use Rattle.mvt_attrs.specs.declared.value.Attribute.{Attribute}
-use Rattle.mvt_attrs.specs.Placed.{ArePlaced, AreTold, IsFullAt}
+use Rattle.mvt_attrs.specs.Placed.{ArePlaced, AreReported, IsFullAt}
 use Rattle.mvt_attrs.specs.Pools.{key_pool, value_pool}
 use Rattle.std.specs.Prelude.{OnErr}
 use Rattle.mvt_wire.specs.Field.{Content, varint, fixed64, fixed32, wire_type}
@@ -51,9 +51,9 @@ module _ (attributes passed : List Attribute) (is : passed ≡ attributes) (keys
         values_are = values_grown ∙ ap (value_pool values) whole;
       }
 
-  pub all_told : new_keys ≡ key_pool keys passed → new_values ≡ value_pool values passed
-      → AreTold (length attributes) attributes keys new_keys values new_values
-  all_told keys_grown values_grown =
+  pub all_reported : new_keys ≡ key_pool keys passed → new_values ≡ value_pool values passed
+      → AreReported (length attributes) attributes keys new_keys values new_values
+  all_reported keys_grown values_grown =
       let whole : passed ≡ take (length attributes) attributes = is ∙ sym (take_all (length attributes) attributes (omega arith)) in
       record {
         within = omega arith;
@@ -64,8 +64,8 @@ module _ (attributes passed : List Attribute) (is : passed ≡ attributes) (keys
   pub none_full : IsFullAt (length attributes) attributes new_keys new_values → ⊥
   none_full full = omega (arith, slice_get_within attributes (length attributes) full.0 full.1)
 
-  pub told_as : (n : ℕ) → AreTold n passed keys new_keys values new_values → AreTold n attributes keys new_keys values new_values
-  told_as n told = subst (λ as'. AreTold n as' keys new_keys values new_values) is told
+  pub reported_as : (n : ℕ) → AreReported n passed keys new_keys values new_values → AreReported n attributes keys new_keys values new_values
+  reported_as n reported = subst (λ as'. AreReported n as' keys new_keys values new_values) is reported
 
   pub full_as : (n : ℕ) → (IsFullAt n passed new_keys new_values → ⊥) → IsFullAt n attributes new_keys new_values → ⊥
   full_as n none = subst (λ as'. IsFullAt n as' new_keys new_values → ⊥) is none

@@ -46,11 +46,11 @@ unfoldable pub feature_field_rules : ℕ → Entry → Rules MessageFault
 feature_field_rules payload_at x = map_faults (fault_at (payload_at + x.at)) (feature_form_rules x.number x.content)
 
 -- the faults of tags and of integers, which are told by their index
-abbrev pub tag_told : ℕ × TagCause → MessageFault
-tag_told fault = fault_at fault.0 (of_tag fault.1)
+abbrev pub tag_reported : ℕ × TagCause → MessageFault
+tag_reported fault = fault_at fault.0 (of_tag fault.1)
 
-abbrev pub geometry_told : IndexedCause → MessageFault
-geometry_told fault = fault_at fault.0 (of_geometry fault.1)
+abbrev pub geometry_reported : IndexedCause → MessageFault
+geometry_reported fault = fault_at fault.0 (of_geometry fault.1)
 
 -- the type of a feature's geometry
 abbrev pub kind_in : List Entry → Kind
@@ -61,9 +61,9 @@ abbrev pub feature_table : List ℕ → ℕ → List (List ℕ) → List Value �
 feature_table payload payload_at keys values =
     (0, rest_rules payload_at (split payload))
     ∷ ((1, each (λ _. feature_field_rules payload_at) [] (split payload).fields)
-    ∷ ((2, map_faults tag_told (count_rules (joined TAGS (split payload).fields)))
-    ∷ ((3, map_faults tag_told (pair_rules keys values (joined TAGS (split payload).fields)))
-    ∷ ((4, map_faults geometry_told (geometry_rules (kind_in (split payload).fields) (joined GEOMETRY (split payload).fields))) ∷ []))))
+    ∷ ((2, map_faults tag_reported (count_rules (joined TAGS (split payload).fields)))
+    ∷ ((3, map_faults tag_reported (pair_rules keys values (joined TAGS (split payload).fields)))
+    ∷ ((4, map_faults geometry_reported (geometry_rules (kind_in (split payload).fields) (joined GEOMETRY (split payload).fields))) ∷ []))))
 
 unfoldable pub feature_rules : List ℕ → ℕ → List (List ℕ) → List Value → Rules MessageFault
 feature_rules payload payload_at keys values = rows (feature_table payload payload_at keys values)

@@ -1,6 +1,6 @@
 -- A walk over the fields of a payload: those so far, and what is still to come.
 use Rattle.std.specs.Prelude.{◌≡◌, ℕ, ◌+◌, List, [], ◌++◌, length, None, Result, Ok, Err}
-use Rattle.mvt_base.specs.Tells.{Tells}
+use Rattle.mvt_base.specs.Reports.{Reports}
 use Rattle.mvt_base.specs.Rules.{Rules, each, first}
 use Rattle.mvt_wire.specs.Field.{Entry}
 use Rattle.mvt_wire.specs.Split.{Parts, split}
@@ -18,4 +18,4 @@ pub record Walk (payload : List ℕ) (to_come : Parts) (done : List Entry) : Typ
 abbrev pub IsSoFar : {K : Type 0} → (Entry → Rules MessageFault) → (List Entry → K → Type 0) → List Entry → Result K MessageError → Type 0
 IsSoFar rules Holds done (Ok k) = (first (each (λ _. rules) [] done) ≡ None) × Holds done k
 IsSoFar rules Holds done (Err error) =
-    (more : List Entry) → Tells (fault_of error) (first (each (λ _. rules) [] (done ++ more)))
+    (more : List Entry) → Reports (fault_of error) (first (each (λ _. rules) [] (done ++ more)))

@@ -1,7 +1,7 @@
 //! The known fields of a feature (Mapbox Vector Tile Specification 2.1, 4.1, message Feature).
 ghost use Rattle.std.specs.Prelude.{◌≡◌, ◌+◌, ◌^◌, ◌<◌, [], ◌++◌, length, Option, Some, None, IfOk, IfErr, OnOk};
 ghost use Rattle.std.specs.Option.{option_or, option_map};
-ghost use Rattle.mvt_base.specs.Tells.{Tells};
+ghost use Rattle.mvt_base.specs.Reports.{Reports};
 ghost use Rattle.mvt_base.specs.Rules.{each, first};
 ghost use Rattle.mvt_wire.specs.Field.{content_of};
 ghost use Rattle.mvt_wire.specs.Packed.{PackedCause, fault_of as packed_fault_of};
@@ -42,7 +42,7 @@ pub(crate) fn read_fields(
         (each (λ _. feature_field_rules payload_at) [] (split payload.now).fields) ≡ None) }
     ensures known { IfOk result (λ known. AreFeatureFields
         (split payload.now).fields known scratch.new.tags.items scratch.new.integers.items) }
-    ensures err { IfErr result (λ error. Tells (fault_of error) (option_or
+    ensures err { IfErr result (λ error. Reports (fault_of error) (option_or
         (first (rest_rules payload_at (split payload.now)))
         (first (each (λ _. feature_field_rules payload_at) [] (split payload.now).fields)))) }
 {
@@ -81,7 +81,7 @@ impl FeatureFields {
             (scratch.new.integers.items ≡ scratch.old.integers.items
             ++ numbers_at GEOMETRY field.now.number
             (content_of field.now.payload)) }
-        ensures err { IfErr result (λ error. Tells (fault_of error)
+        ensures err { IfErr result (λ error. Reports (fault_of error)
             (option_map (the_fault_at at) (first
             (feature_form_rules field.now.number (content_of field.now.payload))))) }
     {
@@ -103,7 +103,7 @@ fn id_of(payload: &Payload<'_>, at: u64) -> Result<u64, MessageError>
     ensures number { IfOk result (λ n. number_of (content_of payload.now) ≡ Some n) }
     ensures ok { OnOk result (first (form_rules any_varint (content_of payload.now)) ≡ None) }
     ensures err { IfErr result
-        (λ error. Tells (fault_of error)
+        (λ error. Reports (fault_of error)
         (option_map (the_fault_at at) (first (form_rules any_varint (content_of payload.now))))) }
 {
     match varint_of(payload) {
@@ -117,7 +117,7 @@ fn kind_of_payload(payload: &Payload<'_>, at: u64) -> Result<Kind, MessageError>
     ensures kind { IfOk result (λ kind. kind ≡ kind_of_type (number_of (content_of payload.now))) }
     ensures ok { OnOk result (first (form_rules geom_type (content_of payload.now)) ≡ None) }
     ensures err { IfErr result
-        (λ error. Tells (fault_of error)
+        (λ error. Reports (fault_of error)
         (option_map (the_fault_at at) (first (form_rules geom_type (content_of payload.now))))) }
 {
     let Payload::Varint(number) = payload else {
@@ -143,7 +143,7 @@ fn append_numbers(
         (content_of payload.now)) }
     ensures ok { OnOk result (first (list_rules (content_of payload.now)) ≡ None) }
     ensures err { IfErr result
-        (λ error. Tells (fault_of error)
+        (λ error. Reports (fault_of error)
         (option_map (the_fault_at at) (first (list_rules (content_of payload.now))))) }
 {
     match payload {
@@ -165,8 +165,8 @@ fn append_numbers(
 
 /// A fault of packed numbers, told at the field's place.
 fn packed_fault(error: PackedError, at: u64) -> MessageError
-    ensures { (cause : Option PackedCause) → Tells (packed_fault_of error) cause
-        → Tells (fault_of result) (option_map (λ c. the_fault_at at (of_packed c)) cause) }
+    ensures { (cause : Option PackedCause) → Reports (packed_fault_of error) cause
+        → Reports (fault_of result) (option_map (λ c. the_fault_at at (of_packed c)) cause) }
 {
     match error {
         PackedError::Memory => MessageError::Memory,

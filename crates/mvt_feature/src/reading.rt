@@ -1,6 +1,6 @@
 //! Reading features (Mapbox Vector Tile Specification 2.1, 4.1, message Feature).
 ghost use Rattle.std.specs.Prelude.{◌≡◌, ◌+◌, ◌^◌, ◌<◌, List, length, None, IfOk, IfErr, OnOk};
-ghost use Rattle.mvt_base.specs.Tells.{Tells};
+ghost use Rattle.mvt_base.specs.Reports.{Reports};
 ghost use Rattle.mvt_attrs.specs.declared.value.Value.{Value};
 ghost use Rattle.mvt_feature.specs.Faults.{fault_of};
 ghost use Rattle.mvt_feature.specs.Drawn.{tags_of, IsDrawnOf};
@@ -35,7 +35,7 @@ pub fn read_feature(
     requires { payload_at + length payload.now < 2 ^ 64 }
     ensures feature { IfOk result (IsFeatureOf payload.now keys.now values.now) }
     ensures ok { OnOk result (feature_fault payload.now payload_at keys.now values.now ≡ None) }
-    ensures err { IfErr result (λ error. Tells (fault_of error)
+    ensures err { IfErr result (λ error. Reports (fault_of error)
         (feature_fault payload.now payload_at keys.now values.now)) }
 {
     let mut keys = LayerKeys::new(alloc, keys);
@@ -61,7 +61,7 @@ pub fn read_feature_in(
     requires { payload_at + length payload.now < 2 ^ 64 }
     ensures feature { IfOk result (IsFeatureOf payload.now keys.old values.now) }
     ensures ok { OnOk result (feature_fault payload.now payload_at keys.old values.now ≡ None) }
-    ensures err { IfErr result (λ error. Tells (fault_of error)
+    ensures err { IfErr result (λ error. Reports (fault_of error)
         (feature_fault payload.now payload_at keys.old values.now)) }
     ensures same { keys.new ≡ keys.old }
 {
@@ -96,7 +96,7 @@ pub fn read_drawn(
     ensures ok { OnOk result ((held : List Value) → length held ≡ values
         → feature_fault payload.now payload_at keys.old held ≡ None) }
     ensures err { IfErr result (λ error. (held : List Value) → length held ≡ values
-        → Tells (fault_of error) (feature_fault payload.now payload_at keys.old held)) }
+        → Reports (fault_of error) (feature_fault payload.now payload_at keys.old held)) }
     ensures same { keys.new ≡ keys.old }
 {
     let known = read_fields(payload, payload_at, scratch)?;
@@ -128,7 +128,7 @@ pub fn judge_feature(
     ensures ok { OnOk result ((held : List Value) → length held ≡ values
         → feature_fault payload.now payload_at keys.old held ≡ None) }
     ensures err { IfErr result (λ error. (held : List Value) → length held ≡ values
-        → Tells (fault_of error) (feature_fault payload.now payload_at keys.old held)) }
+        → Reports (fault_of error) (feature_fault payload.now payload_at keys.old held)) }
     ensures same { keys.new ≡ keys.old }
 {
     judge_known(alloc, payload, payload_at, keys, values, scratch)?;
@@ -150,7 +150,7 @@ pub(crate) fn judge_known(
     ensures ok { OnOk result ((held : List Value) → length held ≡ values
         → feature_fault payload.now payload_at keys.old held ≡ None) }
     ensures err { IfErr result (λ error. (held : List Value) → length held ≡ values
-        → Tells (fault_of error) (feature_fault payload.now payload_at keys.old held)) }
+        → Reports (fault_of error) (feature_fault payload.now payload_at keys.old held)) }
     ensures same { keys.new ≡ keys.old }
 {
     let known = read_fields(payload, payload_at, scratch)?;

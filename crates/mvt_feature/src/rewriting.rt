@@ -1,7 +1,7 @@
 //! Features made canonical from their payloads: nothing is built (Mapbox Vector Tile Specification
 //! 2.1, 4.2).
 ghost use Rattle.std.specs.Prelude.{◌≡◌, ℕ, ◌+◌, ◌^◌, ◌<◌, ◌++◌, List, length, None, IfErr, OnOk};
-ghost use Rattle.mvt_base.specs.Tells.{Tells};
+ghost use Rattle.mvt_base.specs.Reports.{Reports};
 ghost use Rattle.mvt_attrs.specs.declared.value.Value.{Value};
 ghost use Rattle.mvt_attrs.specs.Using.{HasUses};
 ghost use Rattle.mvt_feature.specs.declared.feature.Feature.{Feature};
@@ -45,7 +45,7 @@ pub fn rewrite_feature(
     ensures uses { (held : List Value) → HasUses uses.old keys.old held
         → OnOk result (HasUses uses.new keys.old held) }
     ensures err { (held : List Value) → HasUses uses.old keys.old held
-        → IfErr result (λ error. Tells (fault_of error)
+        → IfErr result (λ error. Reports (fault_of error)
         (feature_fault payload.now payload_at keys.old held)) }
     ensures same { keys.new ≡ keys.old }
 {

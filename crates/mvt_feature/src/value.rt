@@ -1,7 +1,7 @@
 //! Values (Mapbox Vector Tile Specification 2.1, 4.1, message Value).
 ghost use Rattle.std.specs.Prelude.{◌≡◌, ◌+◌, ◌^◌, ◌<◌, ℕ, List, [], length, Some, None, true, false, IfOk, IfErr, IsErrOf, OnOk, OnErr, MatchOption};
 ghost use Rattle.std.specs.Option.{option_or};
-ghost use Rattle.mvt_base.specs.Tells.{Tells};
+ghost use Rattle.mvt_base.specs.Reports.{Reports};
 ghost use Rattle.mvt_base.specs.Rules.{each, first};
 ghost use Rattle.mvt_wire.specs.Field.{entry_of, content_of, varint, fixed64, fixed32, bytes};
 ghost use Rattle.mvt_wire.specs.Split.{split};
@@ -40,7 +40,7 @@ pub fn read_value(
     requires { payload_at + length payload.now < 2 ^ 64 }
     ensures value { IfOk result (IsValueOf payload.now) }
     ensures ok { OnOk result (value_fault payload.now payload_at tag_at ≡ None) }
-    ensures err { IfErr result (λ error. Tells (fault_of error)
+    ensures err { IfErr result (λ error. Reports (fault_of error)
         (value_fault payload.now payload_at tag_at)) }
     ensures memory { IsErrOf result MessageError.Memory
         → (text : List ℕ) × IsValueOf payload.now (values.Text text) × (14 < length text) }
@@ -56,7 +56,7 @@ pub fn read_value(
 pub fn judge_value(payload: &[u8], payload_at: u64, tag_at: u64) -> Result<(), MessageError>
     requires { payload_at + length payload.now < 2 ^ 64 }
     ensures ok { OnOk result (value_fault payload.now payload_at tag_at ≡ None) }
-    ensures err { IfErr result (λ error. Tells (fault_of error)
+    ensures err { IfErr result (λ error. Reports (fault_of error)
         (value_fault payload.now payload_at tag_at)) }
     ensures never { IsErrOf result MessageError.Memory → ⊥ }
 {
@@ -70,7 +70,7 @@ fn read_meaning(payload: &[u8], payload_at: u64, tag_at: u64) -> Result<Meaning<
     requires { payload_at + length payload.now < 2 ^ 64 }
     ensures value { IfOk result (λ meaning. IsValueOf payload.now (value_of meaning)) }
     ensures ok { OnOk result (value_fault payload.now payload_at tag_at ≡ None) }
-    ensures err { IfErr result (λ error. Tells (fault_of error)
+    ensures err { IfErr result (λ error. Reports (fault_of error)
         (value_fault payload.now payload_at tag_at)) }
     ensures never { IsErrOf result MessageError.Memory → ⊥ }
 {
@@ -110,7 +110,7 @@ fn read_kinds(payload: &[u8], payload_at: u64) -> Result<Kinds<'_>, MessageError
     ensures ok { OnOk result (first
         (each (λ _. value_field_rules payload_at) [] (split payload.now).fields) ≡ None) }
     ensures kinds { IfOk result (AreKinds (split payload.now).fields) }
-    ensures err { IfErr result (λ error. Tells (fault_of error) (option_or
+    ensures err { IfErr result (λ error. Reports (fault_of error) (option_or
         (first (rest_rules payload_at (split payload.now)))
         (first (each (λ _. value_field_rules payload_at) [] (split payload.now).fields)))) }
     ensures never { IsErrOf result MessageError.Memory → ⊥ }

@@ -1,7 +1,7 @@
 //! Payloads that don't split wholly into fields.
 ghost use Rattle.std.specs.Prelude.{◌≡◌, ◌+◌, ◌^◌, ◌<◌, length, None, Option};
 ghost use Rattle.std.specs.Option.{option_or};
-ghost use Rattle.mvt_base.specs.Tells.{Tells};
+ghost use Rattle.mvt_base.specs.Reports.{Reports};
 ghost use Rattle.mvt_base.specs.Rules.{first};
 ghost use Rattle.mvt_wire.specs.Split.{split};
 ghost use Rattle.mvt_feature.specs.Causes.{of_wire};
@@ -24,8 +24,8 @@ pub fn rest_fault(payload_at: u64, fault: WireFault) -> MessageError
 #[inline(never)]
 pub(crate) fn rest_fault_or(payload: &[u8], payload_at: u64, error: MessageError) -> MessageError
     requires { payload_at + length payload.now < 2 ^ 64 }
-    ensures told { (fault : Option MessageFault) → Tells (fault_of error) fault
-        → Tells (fault_of result) (option_or
+    ensures reported { (fault : Option MessageFault) → Reports (fault_of error) fault
+        → Reports (fault_of result) (option_or
         (first (rest_rules payload_at (split payload.now))) fault) }
     ensures memory { result ≡ MessageError.Memory → error ≡ MessageError.Memory }
 {

@@ -2,7 +2,7 @@
 ghost use Rattle.std.specs.Prelude.{◌≡◌, ◌⊎◌, ℕ, ◌^◌, ◌<◌, List, ◌++◌, length, OnOk, OnErr, IsErrOf};
 ghost use Rattle.mvt_base.specs.Related.{Extends};
 ghost use Rattle.mvt_attrs.specs.Pools.{key_pool, value_pool};
-ghost use Rattle.mvt_attrs.specs.Placed.{ArePlaced, AreTold, IsFullAt};
+ghost use Rattle.mvt_attrs.specs.Placed.{ArePlaced, AreReported, IsFullAt};
 ghost use Rattle.mvt_attrs.specs.Tags.{Names};
 ghost use Rattle.mvt_attrs.specs.TagPlaces.{tags_in};
 ghost use Rattle.mvt_geometry.specs.Valid.{IsValid};
@@ -89,7 +89,7 @@ pub fn append_feature(
         (LIMIT < length (key_pool keys.old feature.now.attributes))
         ⊎ (LIMIT < length (value_pool values.old feature.now.attributes)) }
     ensures memory { IsErrOf result PoolError.Memory → (n : ℕ)
-        × AreTold n feature.now.attributes keys.old keys.new values.old values.new
+        × AreReported n feature.now.attributes keys.old keys.new values.old values.new
         × ¬ (IsFullAt n feature.now.attributes keys.new values.new) }
 {
     swap(&mut scratch.tags, &mut scratch.last);

@@ -62,10 +62,10 @@ module _ (line : Bool) (begin : ℕ) (from : Point) (parameters rest : List ℕ)
   pub walk_stops : (at : ℕ) (f : IndexedCause) → at ≡ begin + (length parameters - length rest)
       → first (step_rules line at (first_pair rest) (stepped c (first_pair rest))) ≡ Some f
       → first (each (pair_rules line begin from) [] (pairs_of parameters)) ≡ Some f
-  walk_stops at f e told =
+  walk_stops at f e reported =
       rw (w.split, pairs_front rest two)
       (each_stops (pair_rules line begin from) done (first_pair rest) (pairs_of (drop 2 rest)) f w.calm
-      (ap first (rule_here at e) ∙ told))
+      (ap first (rule_here at e) ∙ reported))
 
   pub edges_more_here : (to : Point) → to ≡ stepped c (first_pair rest)
       → edges from (positions from (done ++ first_pair rest ∷ [])) ≡ edges from (positions from done) +ℤ cross c to

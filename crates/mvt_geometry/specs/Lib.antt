@@ -5,6 +5,6 @@ pub mod Drawing
 pub mod Bounds
 pub mod Commands
 pub mod Table
-pub mod Tells
+pub mod Reports
 pub mod Texts
 pub mod Inner

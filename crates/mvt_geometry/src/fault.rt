@@ -42,9 +42,9 @@ pub(crate) struct Fault {
 
 impl From<Fault> for GeometryError {
     ghost use Rattle.std.specs.Prelude.{◌≡◌};
-    ghost use Rattle.mvt_geometry.specs.declared.fault.GeometryError.TheVariants.{Fault as fault_told};
+    ghost use Rattle.mvt_geometry.specs.declared.fault.GeometryError.TheVariants.{Fault as fault_reported};
 
-    ghost from_gives = { λ f e. e ≡ fault_told f.index f.cause };
+    ghost from_gives = { λ f e. e ≡ fault_reported f.index f.cause };
 
     fn from(fault: Fault) -> Self {
         GeometryError::Fault {

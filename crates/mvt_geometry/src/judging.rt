@@ -11,7 +11,7 @@ ghost use Rattle.mvt_geometry.specs.Valid.{IsStroke};
 ghost use Rattle.mvt_wire.specs.Zigzag.{unzig};
 ghost use Rattle.mvt_geometry.specs.Commands.{Pair, pair_count, pairs_of, due, may_not_end, stepped, moved, positions};
 ghost use Rattle.mvt_geometry.specs.Table.{step_rules, pair_rules, header_rows, geometry_fault};
-ghost use Rattle.mvt_geometry.specs.Tells.{Tells};
+ghost use Rattle.mvt_geometry.specs.Reports.{Reports};
 ghost use Rattle.mvt_geometry.specs.Inner.Judging.{IsHeader, Reached, edges, part_count};
 
 use crate::area::cross;
@@ -39,7 +39,7 @@ struct Pen {
 /// The first broken rule.
 pub fn judge_geometry(kind: Kind, integers: &[u32]) -> Result<(), GeometryError>
     ensures ok { OnOk result (geometry_fault kind integers.now ≡ None) }
-    ensures err { IfErr result (λ e. Tells e (geometry_fault kind integers.now)) }
+    ensures err { IfErr result (λ e. Reports e (geometry_fault kind integers.now)) }
     ensures fault { OnErr result (geometry_fault kind integers.now ≢ None) }
 {
     judge(kind, integers)?;

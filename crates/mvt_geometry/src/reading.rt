@@ -4,7 +4,7 @@ ghost use Rattle.mvt_geometry.specs.Shape.{origin, last_of};
 ghost use Rattle.mvt_geometry.specs.Drawing.{Draws};
 ghost use Rattle.mvt_geometry.specs.Commands.{pairs_of, moved, positions};
 ghost use Rattle.mvt_geometry.specs.Table.{geometry_fault};
-ghost use Rattle.mvt_geometry.specs.Tells.{Tells};
+ghost use Rattle.mvt_geometry.specs.Reports.{Reports};
 ghost use Rattle.mvt_geometry.specs.Inner.Judging.{part_count};
 ghost use Rattle.mvt_geometry.specs.Inner.Building.{ArePlaces, IsLayerFields, SpellLines, SpellRings};
 ghost use Rattle.mvt_geometry.specs.Inner.Grouping.{opened, polygons_of};
@@ -29,7 +29,7 @@ use std::mem;
 pub fn read_geometry(alloc: Global, kind: Kind, integers: &[u32]) -> Result<Geometry, GeometryError>
     ensures drawn { IfOk result (λ g. Draws kind integers.now g) }
     ensures ok { OnOk result (geometry_fault kind integers.now ≡ None) }
-    ensures err { IfErr result (λ e. Tells e (geometry_fault kind integers.now)) }
+    ensures err { IfErr result (λ e. Reports e (geometry_fault kind integers.now)) }
     ensures found { (g : Geometry) → Draws kind integers.now g
         → (result ≡ Ok g) ⊎ (result ≡ Err GeometryError.Memory) }
     ensures memory { result ≡ Err GeometryError.Memory → (g : Geometry)

@@ -93,7 +93,7 @@ WroteFront-nil s bytes = record { taken = TakesPrefix-nil s.taken s.taken bytes 
 ended_later : (a b c : Faults) (kind : Option ErrorKind) → NoneFailed a b → EndedBy kind b c → EndedBy kind a c
 ended_later a b c None first then = then ∙ first
 ended_later a b c (Some kind) first then =
-    record { once = then.once ∙ ap counted first; told = then.told; ended = then.ended }
+    record { once = then.once ∙ ap counted first; reported = then.reported; ended = then.ended }
 
 pub WroteFront-after : (a b c : Outflow) (before bytes after whole : List ℕ) (kind : Option ErrorKind)
     → whole ≡ before ++ (bytes ++ after) → Wrote a b before → WroteFront b c bytes kind → WroteFront a c whole kind

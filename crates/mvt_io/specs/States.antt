@@ -54,7 +54,7 @@ AllPassed old new = (new.count ≡ old.count) × (old.count < last_count)
 -- one call failed, of this kind, and it was the last
 pub record FailedLast (old new : Faults) (kind : ErrorKind) : Type 0 where
   pub once : new.count ≡ counted old.count
-  pub told : new.last ≡ Some kind
+  pub reported : new.last ≡ Some kind
   pub ended : new.ended ≡ true
 
 -- the calls ended with one that failed with this kind; or none failed

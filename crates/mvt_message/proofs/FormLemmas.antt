@@ -41,20 +41,20 @@ unfolding layer_field_rules
 layer_field_ordered payload_at x = forms_ordered layer_forms payload_at x
 
 -- rules of elements that are told by those before them
-pub none_each_told : {X F G : Type 0} → (tell : List X → F → G) (rules : X → Rules F) (front xs : List X)
-    → first (each (λ f x. map_faults (tell f) (rules x)) front xs) ≡ None → AllByRecursion (λ x. first (rules x) ≡ None) xs
-none_each_told tell rules front [] h = tt
-none_each_told tell rules front (x ∷ xs) h =
-    let parts = option_or-nones _ _ (sym (first-append _ (each (λ f y. map_faults (tell f) (rules y)) (front ++ x ∷ []) xs)) ∙ h) in (
-      none_mapped (tell front) (first (rules x))
-          (sym (first-map_faults (tell front) (rules x)) ∙ sym (first-under (length front) (map_faults (tell front) (rules x))) ∙ parts.0),
-      none_each_told tell rules (front ++ x ∷ []) xs parts.1,
+pub none_each_reported : {X F G : Type 0} → (report : List X → F → G) (rules : X → Rules F) (front xs : List X)
+    → first (each (λ f x. map_faults (report f) (rules x)) front xs) ≡ None → AllByRecursion (λ x. first (rules x) ≡ None) xs
+none_each_reported report rules front [] h = tt
+none_each_reported report rules front (x ∷ xs) h =
+    let parts = option_or-nones _ _ (sym (first-append _ (each (λ f y. map_faults (report f) (rules y)) (front ++ x ∷ []) xs)) ∙ h) in (
+      none_mapped (report front) (first (rules x))
+          (sym (first-map_faults (report front) (rules x)) ∙ sym (first-under (length front) (map_faults (report front) (rules x))) ∙ parts.0),
+      none_each_reported report rules (front ++ x ∷ []) xs parts.1,
     )
 
-pub each_told_none : {X F G : Type 0} → (tell : List X → F → G) (rules : X → Rules F) (front xs : List X)
-    → AllByRecursion (λ x. first (rules x) ≡ None) xs → first (each (λ f x. map_faults (tell f) (rules x)) front xs) ≡ None
-each_told_none tell rules front [] h = refl
-each_told_none tell rules front (x ∷ xs) h =
-    first-append _ (each (λ f y. map_faults (tell f) (rules y)) (front ++ x ∷ []) xs)
-    ∙ option_or-none _ _ (first-under (length front) (map_faults (tell front) (rules x)) ∙ first-map_faults (tell front) (rules x)
-    ∙ ap (option_map (tell front)) h.0) ∙ each_told_none tell rules (front ++ x ∷ []) xs h.1
+pub each_reported_none : {X F G : Type 0} → (report : List X → F → G) (rules : X → Rules F) (front xs : List X)
+    → AllByRecursion (λ x. first (rules x) ≡ None) xs → first (each (λ f x. map_faults (report f) (rules x)) front xs) ≡ None
+each_reported_none report rules front [] h = refl
+each_reported_none report rules front (x ∷ xs) h =
+    first-append _ (each (λ f y. map_faults (report f) (rules y)) (front ++ x ∷ []) xs)
+    ∙ option_or-none _ _ (first-under (length front) (map_faults (report front) (rules x)) ∙ first-map_faults (report front) (rules x)
+    ∙ ap (option_map (report front)) h.0) ∙ each_reported_none report rules (front ++ x ∷ []) xs h.1

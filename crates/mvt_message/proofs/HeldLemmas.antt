@@ -2,7 +2,7 @@
 use Rattle.std.proofs.Common.{◌≡◌, ◌≢◌, ℕ, ◌+◌, ◌^◌, ◌<◌, List, [], ◌∷◌, ◌++◌, length, Option, None, Result, Ok, Err, IfOk, IfErr, sym, ap, subst, ◌∙◌, arith}
 use Rattle.std.specs.Option.{option_map}
 use Rattle.std.proofs.lemmas.List.{length_push}
-use Rattle.mvt_base.specs.Tells.{Tells}
+use Rattle.mvt_base.specs.Reports.{Reports}
 use Rattle.mvt_base.proofs.ListLemmas.{length-related}
 use Rattle.mvt_attrs.specs.declared.value.Value.{Value}
 use Rattle.mvt_wire.specs.Field.{Entry}
@@ -22,7 +22,7 @@ use Rattle.mvt_message.specs.Inner.{values_fault, features_fault, AreValuesHeld,
 use Rattle.mvt_message.specs.Items.{HoldsValue, HoldsFeature}
 use Rattle.mvt_message.specs.ItemRules.{value_rules_of, feature_rules_of}
 use Rattle.mvt_message.proofs.OrFaultLemmas.{value_first}
-use Rattle.mvt_message.proofs.ReadLemmas.{selected_few, selected_stops, so_far_skip, so_far_take, feature_told}
+use Rattle.mvt_message.proofs.ReadLemmas.{selected_few, selected_stops, so_far_skip, so_far_take, feature_reported}
 
 -- the fault of the value of a field
 abbrev fault_of_value : ℕ → Entry → Option MessageFault
@@ -38,10 +38,10 @@ module _ {Has : List Value → Type 0} {payload_at : ℕ} {done : List Entry} {c
     has = so_far.has;
   }
 
-  pub value_stops : (more : List Entry) (e : MessageError) → x.number ≡ VALUES → Tells (fault_of e) (fault_of_value payload_at x)
-      → Tells (fault_of e) (values_fault payload_at ((done ++ x ∷ []) ++ more))
-  value_stops more e is told_here =
-      let here = subst (Tells (fault_of e)) (value_first _ _ _) told_here in
+  pub value_stops : (more : List Entry) (e : MessageError) → x.number ≡ VALUES → Reports (fault_of e) (fault_of_value payload_at x)
+      → Reports (fault_of e) (values_fault payload_at ((done ++ x ∷ []) ++ more))
+  value_stops more e is reported_here =
+      let here = subst (Reports (fault_of e)) (value_first _ _ _) reported_here in
       selected_stops VALUES (λ _. value_rules_of payload_at) e done x more is so_far.so_far.0 here
 
   pub value_held : (New : List Value → Type 0) (value : Value) → x.number ≡ VALUES → IsValueOf (bytes_of x.content) value
@@ -67,7 +67,7 @@ values_few Has payload_at done payload to_come (Err e) said walk small = tt
 -- one more field is a value, or has the first fault
 pub values_said_of : (Has : List Value → Type 0) (payload_at : ℕ) (done : List Entry) (values : Result ℕ MessageError)
     → IfOk values (AreValuesHeld Has payload_at done)
-    → ((more : List Entry) → IfErr values (λ e. Tells (fault_of e) (values_fault payload_at (done ++ more))))
+    → ((more : List Entry) → IfErr values (λ e. Reports (fault_of e) (values_fault payload_at (done ++ more))))
     → AreValuesSaid Has payload_at done values
 values_said_of Has payload_at done (Ok count) held stops = held
 values_said_of Has payload_at done (Err e) held stops = stops
@@ -89,16 +89,16 @@ module _ {Has : List Feature → Type 0} {payload_at : ℕ} {keys : List (List �
       omega (arith, so_far.counted, length-related (HoldsFeature keys values) (only FEATURES done) so_far.features so_far.so_far.1)
 
   pub feature_stops : (more : List Entry) (index : ℕ) (e : MessageError) → x.number ≡ FEATURES → index ≡ count
-      → Tells (fault_of e) (option_map (in_feature index) (feature_fault (bytes_of x.content) (payload_at + x.body) keys values))
-      → Tells (fault_of e) (features_fault payload_at keys values ((done ++ x ∷ []) ++ more))
-  feature_stops more index e is index_is told_here =
+      → Reports (fault_of e) (option_map (in_feature index) (feature_fault (bytes_of x.content) (payload_at + x.body) keys values))
+      → Reports (fault_of e) (features_fault payload_at keys values ((done ++ x ∷ []) ++ more))
+  feature_stops more index e is index_is reported_here =
       let earlier = only FEATURES done in
       let count_is : index ≡ length earlier =
       index_is ∙ so_far.counted ∙ sym (length-related (HoldsFeature keys values) earlier so_far.features so_far.so_far.1) in
       let fault = feature_fault (bytes_of x.content) (payload_at + x.body) keys values in
-      let told = ap (λ n. option_map (in_feature n) fault) count_is ∙ sym (feature_told payload_at keys values earlier x) in
+      let reported = ap (λ n. option_map (in_feature n) fault) count_is ∙ sym (feature_reported payload_at keys values earlier x) in
       selected_stops FEATURES (feature_rules_of payload_at keys values) e done x more is so_far.so_far.0
-      (subst (Tells (fault_of e)) told told_here)
+      (subst (Reports (fault_of e)) reported reported_here)
 
   pub feature_held : (New : List Feature → Type 0) (feature : Feature) → x.number ≡ FEATURES
       → IsFeatureOf (bytes_of x.content) keys values feature
@@ -106,7 +106,7 @@ module _ {Has : List Feature → Type 0} {payload_at : ℕ} {keys : List (List �
       → AreFeaturesHeld New payload_at keys values (done ++ x ∷ []) (count + 1)
   feature_held New feature is holds clean has =
       let earlier = only FEATURES done in
-      let none = feature_told payload_at keys values earlier x ∙ ap (option_map (in_feature (length earlier))) clean in
+      let none = feature_reported payload_at keys values earlier x ∙ ap (option_map (in_feature (length earlier))) clean in
       record {
         features = so_far.features ++ feature ∷ [];
         so_far = so_far_take FEATURES (feature_rules_of payload_at keys values) (HoldsFeature keys values) done so_far.features x feature

@@ -33,7 +33,7 @@ use Rattle.mvt_message.specs.ItemRules.{version_rules, layer_field_rules, value_
 use Rattle.mvt_message.specs.Items.{HoldsValue, HoldsFeature, IsLayer, AreItem, IsItem, names_in}
 use Rattle.mvt_message.specs.Inner.{forms_fault, no_name_fault, values_fault, features_fault, header_fault, layer_fault}
 use Rattle.mvt_message.proofs.ChainLemmas.{item_chain, layer_chain}
-use Rattle.mvt_message.proofs.FormLemmas.{versions_form, form_versions, layer_have, have_layer, none_each_told, each_told_none, version_ordered, layer_field_ordered}
+use Rattle.mvt_message.proofs.FormLemmas.{versions_form, form_versions, layer_have, have_layer, none_each_reported, each_reported_none, version_ordered, layer_field_ordered}
 use Rattle.mvt_message.proofs.SaidLemmas.{values_said}
 
 -- the faults of one value and of one feature are the first of their tables
@@ -111,13 +111,13 @@ pub features_there : (payload_at : ℕ) (keys : List (List ℕ)) (values : List 
 features_there payload_at keys values xs clean =
     related_there (λ (x : Entry). first (feature_rules_at payload_at keys values x) ≡ None) (HoldsFeature keys values)
     (λ x none. feature_or_fault_there (bytes_of x.content) (payload_at + x.body) keys values (feature_first _ _ _ _ ∙ none))
-    (only FEATURES xs) (none_each_told (λ (earlier : List Entry). in_feature (length earlier))
+    (only FEATURES xs) (none_each_reported (λ (earlier : List Entry). in_feature (length earlier))
     (feature_rules_at payload_at keys values) [] (only FEATURES xs) clean)
 
 pub features_clean : (payload_at : ℕ) (keys : List (List ℕ)) (values : List Value) (xs : List Entry) (features : List Feature)
     → AreRelated (HoldsFeature keys values) (only FEATURES xs) features → features_fault payload_at keys values xs ≡ None
 features_clean payload_at keys values xs features are =
-    each_told_none (λ (earlier : List Entry). in_feature (length earlier)) (feature_rules_at payload_at keys values) [] (only FEATURES xs)
+    each_reported_none (λ (earlier : List Entry). in_feature (length earlier)) (feature_rules_at payload_at keys values) [] (only FEATURES xs)
     (related_left (HoldsFeature keys values) (λ (x : Entry). first (feature_rules_at payload_at keys values x) ≡ None)
     (λ x f is. sym (feature_first _ _ _ _) ∙ feature_or_fault_clean (bytes_of x.content) (payload_at + x.body) keys values f is)
     (only FEATURES xs) features are)

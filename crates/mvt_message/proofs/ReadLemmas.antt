@@ -6,10 +6,10 @@ use Rattle.std.specs.Result.{is_err}
 use Rattle.std.proofs.lemmas.Bool.{eq-eqb, ne_eqb}
 use Rattle.std.proofs.lemmas.List.{map-append}
 use Rattle.std.proofs.lemmas.List.Elements.{filter-append}
-use Rattle.mvt_base.specs.Tells.{Tells}
+use Rattle.mvt_base.specs.Reports.{Reports}
 use Rattle.mvt_base.specs.Related.{AreRelated}
 use Rattle.mvt_base.specs.Rules.{Rules, each, first}
-use Rattle.mvt_base.proofs.TellsLemmas.{tells_as, tells_or, or_tells}
+use Rattle.mvt_base.proofs.ReportsLemmas.{reports_as, reports_or, or_reports}
 use Rattle.mvt_base.proofs.ListLemmas.{related-append}
 use Rattle.mvt_base.proofs.RuleLemmas.{each_more, each_stops, first-map_faults, first-when, first-when_not, option_or-none, option_or-nones, option_or-some}
 use Rattle.mvt_base.proofs.SelectionLemmas.{last_only-more}
@@ -53,20 +53,20 @@ only_skip k done x not_is =
 
 -- an element's fault stays whatever fields follow
 pub selected_stops : (k : ℕ) (rules : List Entry → Entry → Rules MessageFault) (e : MessageError) (done : List Entry) (x : Entry)
-    (more : List Entry) → x.number ≡ k → first (each rules [] (only k done)) ≡ None → Tells (fault_of e) (first (rules (only k done) x))
-    → Tells (fault_of e) (first (each rules [] (only k ((done ++ x ∷ []) ++ more))))
-selected_stops k rules e done x more is clean told_here =
+    (more : List Entry) → x.number ≡ k → first (each rules [] (only k done)) ≡ None → Reports (fault_of e) (first (rules (only k done) x))
+    → Reports (fault_of e) (first (each rules [] (only k ((done ++ x ∷ []) ++ more))))
+selected_stops k rules e done x more is clean reported_here =
     let parts : only k ((done ++ x ∷ []) ++ more) ≡ only k done ++ (x ∷ [] ++ only k more) =
     filter-append (λ (y : Entry). y.number == k) (done ++ x ∷ []) more ∙ ap (λ xs. xs ++ only k more) (only_take k done x is)
     ∙ append_assoc (only k done) (x ∷ []) (only k more) in
-    tells_as (fault_of e) (first (rules (only k done) x)) _
-    (λ f broken. ap (λ xs. first (each rules [] xs)) parts ∙ each_stops rules (only k done) x (only k more) f clean broken) told_here
+    reports_as (fault_of e) (first (rules (only k done) x)) _
+    (λ f broken. ap (λ xs. first (each rules [] xs)) parts ∙ each_stops rules (only k done) x (only k more) f clean broken) reported_here
 
-each_told : (rules : Entry → Rules MessageFault) (e : MessageError) (done : List Entry) (x : Entry) (more : List Entry)
-    → first (each (λ _. rules) [] done) ≡ None → Tells (fault_of e) (first (rules x))
-    → Tells (fault_of e) (first (each (λ _. rules) [] ((done ++ x ∷ []) ++ more)))
-each_told rules e done x more clean told_here =
-    tells_as (fault_of e) (first (rules x)) _ (λ f broken. rw append_assoc (each_stops (λ _. rules) done x more f clean broken)) told_here
+each_reported : (rules : Entry → Rules MessageFault) (e : MessageError) (done : List Entry) (x : Entry) (more : List Entry)
+    → first (each (λ _. rules) [] done) ≡ None → Reports (fault_of e) (first (rules x))
+    → Reports (fault_of e) (first (each (λ _. rules) [] ((done ++ x ∷ []) ++ more)))
+each_reported rules e done x more clean reported_here =
+    reports_as (fault_of e) (first (rules x)) _ (λ f broken. rw append_assoc (each_stops (λ _. rules) done x more f clean broken)) reported_here
 
 -- the elements of a number so far break no rule, and are these
 abbrev pub AreSoFar : {Y : Type 0} → ℕ → (List Entry → Entry → Rules MessageFault) → (Entry → Y → Type 0) → List Entry → List Y → Type 0
@@ -116,23 +116,23 @@ version_take payload_at done v x n so_far is number clean =
 
 pub version_stops : (payload_at : ℕ) (done : List Entry) (v : Option ℕ) (x : Entry) (e : MessageError)
     → IsVersionSoFar payload_at done (Ok v) → x.number ≡ VERSION
-    → Tells (fault_of e) (option_map (fault_at (payload_at + x.at)) (first (form_rules uint32 x.content))) → (more : List Entry)
-    → Tells (fault_of e) (versions_fault payload_at ((done ++ x ∷ []) ++ more))
-version_stops payload_at done v x e so_far is told_here more =
-    let here = subst (Tells (fault_of e)) (sym (version_first payload_at x true (eq-eqb x.number VERSION is))) told_here in
-    each_told (version_rules payload_at) e done x more so_far.0 here
+    → Reports (fault_of e) (option_map (fault_at (payload_at + x.at)) (first (form_rules uint32 x.content))) → (more : List Entry)
+    → Reports (fault_of e) (versions_fault payload_at ((done ++ x ∷ []) ++ more))
+version_stops payload_at done v x e so_far is reported_here more =
+    let here = subst (Reports (fault_of e)) (sym (version_first payload_at x true (eq-eqb x.number VERSION is))) reported_here in
+    each_reported (version_rules payload_at) e done x more so_far.0 here
 
 -- a fault stays
 pub fault_stays : (fault : List Entry → Option MessageFault) (done : List Entry) (x : Entry) (e : MessageError)
-    → ((more : List Entry) → Tells (fault_of e) (fault (done ++ more))) → (more : List Entry)
-    → Tells (fault_of e) (fault ((done ++ x ∷ []) ++ more))
-fault_stays fault done x e stays more = subst (λ xs. Tells (fault_of e) (fault xs))
+    → ((more : List Entry) → Reports (fault_of e) (fault (done ++ more))) → (more : List Entry)
+    → Reports (fault_of e) (fault ((done ++ x ∷ []) ++ more))
+fault_stays fault done x e stays more = subst (λ xs. Reports (fault_of e) (fault xs))
     (sym (append_assoc done (x ∷ []) more)) (stays (x ∷ more))
 
 -- at the end of a walk a fault is that of all fields
-pub or_told : (fault : List Entry → Option MessageFault) (done : List Entry) (e : MessageError)
-    → ((more : List Entry) → Tells (fault_of e) (fault (done ++ more))) → Tells (fault_of e) (fault done)
-or_told fault done e stays = subst (λ xs. Tells (fault_of e) (fault xs)) (append-nil done) (stays [])
+pub or_reported : (fault : List Entry → Option MessageFault) (done : List Entry) (e : MessageError)
+    → ((more : List Entry) → Reports (fault_of e) (fault (done ++ more))) → Reports (fault_of e) (fault done)
+or_reported fault done e stays = subst (λ xs. Reports (fault_of e) (fault xs)) (append-nil done) (stays [])
 
 -- the version so far with a field of another number, or behind a fault
 pub version_passes : (payload_at : ℕ) (done : List Entry) (v : Result (Option ℕ) MessageError) (x : Entry)
@@ -197,16 +197,16 @@ head_step payload_at done x name new_name extent new_extent keys new_keys so_far
 }
 
 pub head_stops : (payload_at : ℕ) (done : List Entry) (x : Entry) (e : MessageError) → forms_fault payload_at done ≡ None
-    → Tells (fault_of e) (option_map (fault_at (payload_at + x.at)) (first (number_rules layer_forms x.number x.content)))
-    → (more : List Entry) → Tells (fault_of e) (forms_fault payload_at ((done ++ x ∷ []) ++ more))
-head_stops payload_at done x e clean told_here more =
-    each_told (layer_field_rules payload_at) e done x more clean (subst (Tells (fault_of e)) (sym (form_first payload_at x)) told_here)
+    → Reports (fault_of e) (option_map (fault_at (payload_at + x.at)) (first (number_rules layer_forms x.number x.content)))
+    → (more : List Entry) → Reports (fault_of e) (forms_fault payload_at ((done ++ x ∷ []) ++ more))
+head_stops payload_at done x e clean reported_here more =
+    each_reported (layer_field_rules payload_at) e done x more clean (subst (Reports (fault_of e)) (sym (form_first payload_at x)) reported_here)
 
 -- features
-pub feature_told : (payload_at : ℕ) (keys : List (List ℕ)) (values : List Value) (earlier : List Entry) (x : Entry)
+pub feature_reported : (payload_at : ℕ) (keys : List (List ℕ)) (values : List Value) (earlier : List Entry) (x : Entry)
     → first (feature_rules_of payload_at keys values earlier x)
     ≡ option_map (in_feature (length earlier)) (feature_fault (bytes_of x.content) (payload_at + x.body) keys values)
-feature_told payload_at keys values earlier x =
+feature_reported payload_at keys values earlier x =
     first-map_faults (in_feature (length earlier)) (feature_rules (bytes_of x.content) (payload_at + x.body) keys values)
     ∙ ap (option_map (in_feature (length earlier))) (sym (feature_first (bytes_of x.content) (payload_at + x.body) keys values))
 
@@ -228,10 +228,10 @@ selected_few payload to_come done k walk small =
     omega arith
 
 -- the ends of a walk over the fields of a payload: at a rest, and behind the last
-pub rest_told : {payload : List ℕ} {old : Parts} {done : List Entry} {fault : WireFault} (new : Parts) (payload_at tag_at : ℕ)
+pub rest_reported : {payload : List ℕ} {old : Parts} {done : List Entry} {fault : WireFault} (new : Parts) (payload_at tag_at : ℕ)
     → Walk payload old done → GivesEntry old (Some (Err fault)) new
     → header_fault payload payload_at tag_at ≡ Some (fault_at (payload_at + fault.at) (of_wire fault.cause))
-rest_told {payload} {old} {done} {fault} new payload_at tag_at walk step =
+rest_reported {payload} {old} {done} {fault} new payload_at tag_at walk step =
     option_or-some _ _ _ (walks_fault payload old new done fault payload_at walk step)
 
 pub version_ends : {payload : List ℕ} {old new : Parts} {done : List Entry} (payload_at : ℕ) (v : Result (Option ℕ) MessageError)
@@ -263,38 +263,38 @@ head_none payload payload_at tag_at rest clean version =
         cc
 
 pub head_versions : (payload : List ℕ) (payload_at tag_at : ℕ) (e : MessageError) → (split payload).rest ≡ []
-    → ((more : List Entry) → Tells (fault_of e) (versions_fault payload_at ((split payload).fields ++ more)))
-    → Tells (fault_of e) (header_fault payload payload_at tag_at)
+    → ((more : List Entry) → Reports (fault_of e) (versions_fault payload_at ((split payload).fields ++ more)))
+    → Reports (fault_of e) (header_fault payload payload_at tag_at)
 head_versions payload payload_at tag_at e rest stays =
-    or_tells (fault_of e) (rest_fault payload payload_at) _ (rests_none payload_at (split payload) rest)
-    (tells_or (fault_of e) (versions_fault payload_at (split payload).fields) _
-    (or_told (versions_fault payload_at) (split payload).fields e stays))
+    or_reports (fault_of e) (rest_fault payload payload_at) _ (rests_none payload_at (split payload) rest)
+    (reports_or (fault_of e) (versions_fault payload_at (split payload).fields) _
+    (or_reported (versions_fault payload_at) (split payload).fields e stays))
 
 -- the exits of `read_layer`
-pub forms_told : (payload_at tag_at : ℕ) (xs : List Entry) (e : MessageError) → Tells (fault_of e) (forms_fault payload_at xs)
-    → Tells (fault_of e) (layer_fault payload_at tag_at xs)
-forms_told payload_at tag_at xs e h =
-    subst (Tells (fault_of e)) (sym (layer_chain payload_at tag_at xs)) (tells_or (fault_of e) (forms_fault payload_at xs) _ h)
+pub forms_reported : (payload_at tag_at : ℕ) (xs : List Entry) (e : MessageError) → Reports (fault_of e) (forms_fault payload_at xs)
+    → Reports (fault_of e) (layer_fault payload_at tag_at xs)
+forms_reported payload_at tag_at xs e h =
+    subst (Reports (fault_of e)) (sym (layer_chain payload_at tag_at xs)) (reports_or (fault_of e) (forms_fault payload_at xs) _ h)
 
 name_some : (tag_at : ℕ) (xs : List Entry) (name : List ℕ) → Some name ≡ name_in xs → no_name_fault tag_at xs ≡ None
 name_some tag_at xs name is = first-when_not _ _ (name_there xs name (sym is))
 
-pub name_told : (payload_at tag_at : ℕ) (xs : List Entry) → forms_fault payload_at xs ≡ None → None ≡ name_in xs
+pub name_reported : (payload_at tag_at : ℕ) (xs : List Entry) → forms_fault payload_at xs ≡ None → None ≡ name_in xs
     → layer_fault payload_at tag_at xs ≡ Some (fault_at tag_at NoName)
-name_told payload_at tag_at xs forms is =
+name_reported payload_at tag_at xs forms is =
     layer_chain payload_at tag_at xs ∙ option_or-none _ _ forms ∙ option_or-some _ _ _ (first-when _ _ (by_option (last_only NAME xs) is))
   where
     by_option : (o : Option Entry) → None ≡ option_map (λ (x : Entry). bytes_of x.content) o → is_none o ≡ true
     by_option None h = refl
     by_option (Some x) h = cc
 
-pub values_told : (payload_at tag_at : ℕ) (xs : List Entry) {name : List ℕ} (e : MessageError)
-    → forms_fault payload_at xs ≡ None → Some name ≡ name_in xs → Tells (fault_of e) (values_fault payload_at xs)
-    → Tells (fault_of e) (layer_fault payload_at tag_at xs)
-values_told payload_at tag_at xs {name} e forms is h =
-    let values = or_tells (fault_of e) (no_name_fault tag_at xs) _ (name_some tag_at xs name is)
-    (tells_or (fault_of e) (values_fault payload_at xs) _ h) in
-    subst (Tells (fault_of e)) (sym (layer_chain payload_at tag_at xs)) (or_tells (fault_of e) (forms_fault payload_at xs) _ forms values)
+pub values_reported : (payload_at tag_at : ℕ) (xs : List Entry) {name : List ℕ} (e : MessageError)
+    → forms_fault payload_at xs ≡ None → Some name ≡ name_in xs → Reports (fault_of e) (values_fault payload_at xs)
+    → Reports (fault_of e) (layer_fault payload_at tag_at xs)
+values_reported payload_at tag_at xs {name} e forms is h =
+    let values = or_reports (fault_of e) (no_name_fault tag_at xs) _ (name_some tag_at xs name is)
+    (reports_or (fault_of e) (values_fault payload_at xs) _ h) in
+    subst (Reports (fault_of e)) (sym (layer_chain payload_at tag_at xs)) (or_reports (fault_of e) (forms_fault payload_at xs) _ forms values)
 
 -- fields that break no rule before those of the features: the name, the keys and the values
 pub record IsClean (payload_at : ℕ) (xs : List Entry) (name : List ℕ) (keys : List (List ℕ)) (values : List Value) : Type 0 where
@@ -322,16 +322,16 @@ features_same {payload_at} {xs} {values} front =
     let same : values_in xs ≡ values = values_said (only VALUES xs) values front.values_are in
     ap₂ (λ ks vs. features_fault payload_at ks vs xs) front.keys_are (sym same)
 
-pub features_told : {payload_at : ℕ} {xs : List Entry} {name : List ℕ} {keys : List (List ℕ)} {values : List Value} (tag_at : ℕ)
-    (e : MessageError) → IsClean payload_at xs name keys values → Tells (fault_of e) (features_fault payload_at keys values xs)
-    → Tells (fault_of e) (layer_fault payload_at tag_at xs)
-features_told {payload_at} {xs} {name} tag_at e front h =
-    let here = subst (Tells (fault_of e)) (features_same front) h in
-    let features = tells_or (fault_of e) (features_fault payload_at (keys_in xs) (values_in xs) xs) None here in
-    let behind = or_tells (fault_of e) (values_fault payload_at xs) _ front.none_broken features in
-    let named = or_tells (fault_of e) (no_name_fault tag_at xs) _ (name_some tag_at xs name front.name_is) behind in
-    subst (Tells (fault_of e)) (sym (layer_chain payload_at tag_at xs))
-    (or_tells (fault_of e) (forms_fault payload_at xs) _ front.forms named)
+pub features_reported : {payload_at : ℕ} {xs : List Entry} {name : List ℕ} {keys : List (List ℕ)} {values : List Value} (tag_at : ℕ)
+    (e : MessageError) → IsClean payload_at xs name keys values → Reports (fault_of e) (features_fault payload_at keys values xs)
+    → Reports (fault_of e) (layer_fault payload_at tag_at xs)
+features_reported {payload_at} {xs} {name} tag_at e front h =
+    let here = subst (Reports (fault_of e)) (features_same front) h in
+    let features = reports_or (fault_of e) (features_fault payload_at (keys_in xs) (values_in xs) xs) None here in
+    let behind = or_reports (fault_of e) (values_fault payload_at xs) _ front.none_broken features in
+    let named = or_reports (fault_of e) (no_name_fault tag_at xs) _ (name_some tag_at xs name front.name_is) behind in
+    subst (Reports (fault_of e)) (sym (layer_chain payload_at tag_at xs))
+    (or_reports (fault_of e) (forms_fault payload_at xs) _ front.forms named)
 
 pub layer_ok : {payload_at : ℕ} {xs : List Entry} {name : List ℕ} {keys : List (List ℕ)} {values : List Value} (tag_at : ℕ)
     → IsClean payload_at xs name keys values → features_fault payload_at keys values xs ≡ None
@@ -350,20 +350,20 @@ layer_read {payload_at} {xs} {values} layer front extent features =
 pub as_two : (xs : List Entry) {n : ℕ} → version_in xs ≡ Some n → n ≡ 2 → version_in xs ≡ Some 2
 as_two xs is two = is ∙ ap Some two
 
-pub head_told : (payload : List ℕ) (payload_at tag_at : ℕ) (e : MessageError) → Tells (fault_of e) (header_fault payload payload_at tag_at)
-    → Tells (fault_of e) (item_fault payload payload_at tag_at)
-head_told payload payload_at tag_at e h =
-    subst (Tells (fault_of e)) (sym (item_chain payload payload_at tag_at))
-    (tells_or (fault_of e) (header_fault payload payload_at tag_at) _ h)
+pub head_reported : (payload : List ℕ) (payload_at tag_at : ℕ) (e : MessageError) → Reports (fault_of e) (header_fault payload payload_at tag_at)
+    → Reports (fault_of e) (item_fault payload payload_at tag_at)
+head_reported payload payload_at tag_at e h =
+    subst (Reports (fault_of e)) (sym (item_chain payload payload_at tag_at))
+    (reports_or (fault_of e) (header_fault payload payload_at tag_at) _ h)
 
 pub head_whole : (payload : List ℕ) (payload_at tag_at : ℕ) → header_fault payload payload_at tag_at ≡ None → (split payload).rest ≡ []
 head_whole payload payload_at tag_at none = rests_nothing payload_at (split payload) (option_or-nones _ _ none).0
 
-pub layer_told : (payload : List ℕ) (payload_at tag_at : ℕ) (e : MessageError) → header_fault payload payload_at tag_at ≡ None
-    → version_in (split payload).fields ≡ Some 2 → Tells (fault_of e) (layer_fault payload_at tag_at (split payload).fields)
-    → Tells (fault_of e) (item_fault payload payload_at tag_at)
-layer_told payload payload_at tag_at e head version h =
-    subst (Tells (fault_of e)) (sym (item_of_layer payload payload_at tag_at head version)) h
+pub layer_reported : (payload : List ℕ) (payload_at tag_at : ℕ) (e : MessageError) → header_fault payload payload_at tag_at ≡ None
+    → version_in (split payload).fields ≡ Some 2 → Reports (fault_of e) (layer_fault payload_at tag_at (split payload).fields)
+    → Reports (fault_of e) (item_fault payload payload_at tag_at)
+layer_reported payload payload_at tag_at e head version h =
+    subst (Reports (fault_of e)) (sym (item_of_layer payload payload_at tag_at head version)) h
 
 pub layer_item : (payload : List ℕ) (payload_at tag_at : ℕ) (layer : ALayer) → header_fault payload payload_at tag_at ≡ None
     → version_in (split payload).fields ≡ Some 2 → IsLayer (split payload).fields layer → IsItem payload (Layer layer)

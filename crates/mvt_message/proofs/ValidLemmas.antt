@@ -3,7 +3,7 @@ use Rattle.std.proofs.Common.{◌≡◌, ◌≢◌, ℕ, ◌^◌, ◌<◌, List,
 use Rattle.std.specs.Prelude.{IsUtf8, unwrap_or}
 use Rattle.std.specs.List.{AllByRecursion}
 use Rattle.std.specs.Option.{option_map}
-use Rattle.mvt_base.specs.Tells.{Tells}
+use Rattle.mvt_base.specs.Reports.{Reports}
 use Rattle.mvt_base.specs.Related.{AreRelated}
 use Rattle.mvt_base.proofs.ListLemmas.{all_weaker}
 use Rattle.mvt_base.proofs.SelectionLemmas.{only_number, only_all, last_selected}
@@ -139,10 +139,10 @@ version_of payload version (xs, whole, forms, is, other) =
     (head_keeps payload 0 0 version (sym only.1) (subst (HaveForm VERSION (HasForm uint32)) only.0 forms) here, here, other)
 
 -- a fault of the head leaves no version
-pub no_version : (payload : List ℕ) (version : ℕ) (e : MessageError) → IsFault e → Tells (fault_of e) (header_fault payload 0 0)
+pub no_version : (payload : List ℕ) (version : ℕ) (e : MessageError) → IsFault e → Reports (fault_of e) (header_fault payload 0 0)
     → AreOfVersion version payload → ⊥
-no_version payload version Memory is told_here of = is
-no_version payload version (Fault feature at cause) is told_here of = let clean = (version_of payload version of).0 in cc
+no_version payload version Memory is reported_here of = is
+no_version payload version (Fault feature at cause) is reported_here of = let clean = (version_of payload version of).0 in cc
 
 pub found_version : (payload : List ℕ) (version found : ℕ) → version_in (split payload).fields ≡ Some found → AreOfVersion version payload
     → (found ≡ version) × (version ≢ 2)

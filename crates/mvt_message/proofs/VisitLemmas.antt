@@ -10,18 +10,18 @@ use Rattle.mvt_message.specs.Items.{IsItem}
 use Rattle.mvt_message.specs.Visiting.{HasLayer, IsVisited}
 
 module _ {V : Type 0} (HasItems : V → Type 0) (HasFeatures : List (List ℕ) → List Value → V → List Feature → Type 0)
-    (visitor : V) (told : Visited) (P : AnItem → Type 0) where
+    (visitor : V) (reported : Visited) (P : AnItem → Type 0) where
   -- of a layer
-  pub layer_visited : ((number : ℕ) (content : List ℕ) → IsVisited HasItems HasFeatures visitor told (Foreign number content) → ⊥)
-      → (item : AnItem) → IsVisited HasItems HasFeatures visitor told item → P item
-      → (layer : ALayer) × HasLayer HasFeatures visitor told layer × P (Layer layer)
+  pub layer_visited : ((number : ℕ) (content : List ℕ) → IsVisited HasItems HasFeatures visitor reported (Foreign number content) → ⊥)
+      → (item : AnItem) → IsVisited HasItems HasFeatures visitor reported item → P item
+      → (layer : ALayer) × HasLayer HasFeatures visitor reported layer × P (Layer layer)
   layer_visited other (Layer layer) is p = (layer, is, p)
   layer_visited other (Foreign number content) is p = absurd (other number content is)
 
   -- of a foreign item
-  pub foreign_visited : ((layer : ALayer) → IsVisited HasItems HasFeatures visitor told (Layer layer) → ⊥)
-      → (item : AnItem) → IsVisited HasItems HasFeatures visitor told item → P item
-      → (number : ℕ) × (content : List ℕ) × IsVisited HasItems HasFeatures visitor told (Foreign number content)
+  pub foreign_visited : ((layer : ALayer) → IsVisited HasItems HasFeatures visitor reported (Layer layer) → ⊥)
+      → (item : AnItem) → IsVisited HasItems HasFeatures visitor reported item → P item
+      → (number : ℕ) × (content : List ℕ) × IsVisited HasItems HasFeatures visitor reported (Foreign number content)
       × P (Foreign number content)
   foreign_visited other (Layer layer) is p = absurd (other layer is)
   foreign_visited other (Foreign number content) is p = (number, content, is, p)
@@ -38,6 +38,6 @@ pub foreign_bytes : (payload : List ℕ) (number : ℕ) (content : List ℕ) →
 unfolding IsItem
 foreign_bytes payload number content (fields, whole, forms, are) = are.2
 
-pub foreign_made : (P : AnItem → Type 0) {number : ℕ} {content payload : List ℕ} (bytes : List ℕ) (told : ℕ) → content ≡ payload
-    → told ≡ number → bytes ≡ payload → P (Foreign number content) → P (Foreign told bytes)
-foreign_made P bytes told content_is told_is bytes_are h = subst P (λ j. Foreign (sym told_is j) ((content_is ∙ sym bytes_are) j)) h
+pub foreign_made : (P : AnItem → Type 0) {number : ℕ} {content payload : List ℕ} (bytes : List ℕ) (reported : ℕ) → content ≡ payload
+    → reported ≡ number → bytes ≡ payload → P (Foreign number content) → P (Foreign reported bytes)
+foreign_made P bytes reported content_is reported_is bytes_are h = subst P (λ j. Foreign (sym reported_is j) ((content_is ∙ sym bytes_are) j)) h

@@ -1,7 +1,7 @@
 -- Definitions between private functions, which no public contract cites.
 use Rattle.std.specs.Prelude.{◌≡◌, ℕ, ◌==◌, List, [], ◌∷◌, ◌++◌, length, Option, Some, None, Result, Ok, Err, is_none, unwrap_or, ⊤, if◌then◌else◌}
 use Rattle.std.specs.Option.{option_or, option_copied}
-use Rattle.mvt_base.specs.Tells.{Tells}
+use Rattle.mvt_base.specs.Reports.{Reports}
 use Rattle.mvt_base.specs.Related.{AreRelated}
 use Rattle.mvt_base.specs.Rules.{when, rows, each, first}
 use Rattle.mvt_attrs.specs.declared.value.Value.{Value}
@@ -72,7 +72,7 @@ keys_at number content = if number == KEYS then bytes_of content ∷ [] else []
 -- what the fields so far say, or the first fault that they have, which stays whatever fields follow
 abbrev pub OrFault : {K : Type 0} → (List Entry → Option MessageFault) → (List Entry → K → Type 0) → List Entry → Result K MessageError → Type 0
 OrFault fault Say done (Ok k) = Say done k
-OrFault fault Say done (Err error) = (more : List Entry) → Tells (fault_of error) (fault (done ++ more))
+OrFault fault Say done (Err error) = (more : List Entry) → Reports (fault_of error) (fault (done ++ more))
 
 -- the name, the extent and the keys by fields that break no rule
 pub record IsLayerHeader (payload_at : ℕ) (name : Option (List ℕ)) (extent : ℕ) (keys : List (List ℕ)) (fields : List Entry) : Type 0 where

@@ -1,7 +1,7 @@
 //! The features of a layer (Mapbox Vector Tile Specification 2.1, 4.1).
 ghost use Rattle.std.specs.Prelude.{◌≡◌, ◌+◌, ◌^◌, ◌<◌, List, [], ◌∷◌, ◌++◌, length, Option, None, IfOk, IfErr, OnOk};
 ghost use Rattle.std.specs.Option.{option_map};
-ghost use Rattle.mvt_base.specs.Tells.{Tells};
+ghost use Rattle.mvt_base.specs.Reports.{Reports};
 ghost use Rattle.mvt_base.specs.Related.{AreRelated};
 ghost use Rattle.mvt_attrs.specs.declared.value.Value.{Value};
 ghost use Rattle.mvt_wire.specs.Field.{Entry, entry_of, content_of};
@@ -49,7 +49,7 @@ pub(crate) fn visit_features<V: LayerVisitor>(
         × V.has_features items keys.now held visitor.new features) }
     ensures err { (items : List Item) (held : List Value) → length held ≡ values
         → V.has_features items keys.now held visitor.old []
-        → IfErr result (λ error. Tells (fault_of error)
+        → IfErr result (λ error. Reports (fault_of error)
         (features_fault payload_at keys.now held (split payload.now).fields)) }
 {
     let mut keys = LayerKeys::new(alloc, keys);
@@ -100,7 +100,7 @@ fn visit_field<V: LayerVisitor>(
         → length held ≡ values
         → AreFeaturesHeld (V.has_features items keys.old held visitor.old) payload_at keys.old held
         done count
-        → IfErr result (λ error. Tells (fault_of error)
+        → IfErr result (λ error. Reports (fault_of error)
         (features_fault payload_at keys.old held ((done ++ entry_of field.now ∷ []) ++ more))) }
     ensures same { keys.new ≡ keys.old }
 {
@@ -117,8 +117,8 @@ fn visit_field<V: LayerVisitor>(
 
 /// An error in the feature of this index.
 fn in_feature(error: MessageError, index: u32) -> MessageError
-    ensures { (fault : Option MessageFault) → Tells (fault_of error) fault
-        → Tells (fault_of result) (option_map (the_in_feature index) fault) }
+    ensures { (fault : Option MessageFault) → Reports (fault_of error) fault
+        → Reports (fault_of result) (option_map (the_in_feature index) fault) }
 {
     match error {
         MessageError::Memory => MessageError::Memory,

@@ -1,7 +1,7 @@
 //! What the fields of a layer say besides its features (Mapbox Vector Tile Specification 2.1, 4.1),
 //! found in one walk.
 ghost use Rattle.std.specs.Prelude.{◌≡◌, ◌+◌, ◌^◌, ◌<◌, List, [], length, Some, None, IfOk, IfErr, OnOk};
-ghost use Rattle.mvt_base.specs.Tells.{Tells};
+ghost use Rattle.mvt_base.specs.Reports.{Reports};
 ghost use Rattle.mvt_wire.specs.Split.{split};
 ghost use Rattle.mvt_feature.specs.Faults.{fault_of};
 ghost use Rattle.mvt_message.specs.declared.item.Item.{Item};
@@ -47,7 +47,7 @@ pub(crate) fn read_layer_fields<'a, V: LayerVisitor>(
         → V.has_items items visitor.old
         → OnOk result (V.has_items items visitor.new) }
     ensures ok { OnOk result (header_fault payload.now payload_at tag_at ≡ None) }
-    ensures err { IfErr result (λ error. Tells (fault_of error)
+    ensures err { IfErr result (λ error. Reports (fault_of error)
         (header_fault payload.now payload_at tag_at)) }
 {
     let mut version = Ok(None);

@@ -2,7 +2,7 @@
 //! Vector Tile Specification 2.1, 4.1).
 ghost use Rattle.std.specs.Prelude.{◌≡◌, ◌+◌, ◌^◌, ◌<◌, List, ◌∷◌, ◌++◌, [], None, IfErr, OnOk};
 ghost use Rattle.std.specs.Option.{option_map, option_copied};
-ghost use Rattle.mvt_base.specs.Tells.{Tells};
+ghost use Rattle.mvt_base.specs.Reports.{Reports};
 ghost use Rattle.mvt_base.specs.Rules.{first};
 ghost use Rattle.mvt_wire.specs.Field.{Entry, content_of, entry_of};
 ghost use Rattle.mvt_feature.specs.Faults.{fault_of, fault_at as the_fault_at};
@@ -50,7 +50,7 @@ impl<'a> LayerHeader<'a> {
             ≡ extent_after self.old.extent field.now.number (content_of field.now.payload)) }
         ensures keys { OnOk result (self.new.keys.items
             ≡ self.old.keys.items ++ keys_at field.now.number (content_of field.now.payload)) }
-        ensures err { IfErr result (λ error. Tells (fault_of error)
+        ensures err { IfErr result (λ error. Reports (fault_of error)
             (option_map (the_fault_at at) (first
             (number_rules layer_forms field.now.number (content_of field.now.payload))))) }
     {

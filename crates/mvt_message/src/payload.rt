@@ -1,7 +1,7 @@
 //! What a field of a layer holds, and how its faults are told.
 ghost use Rattle.std.specs.Prelude.{◌≡◌, ◌<◌, None, Some, IfOk, IfErr, OnOk};
 ghost use Rattle.std.specs.Option.{option_map};
-ghost use Rattle.mvt_base.specs.Tells.{Tells};
+ghost use Rattle.mvt_base.specs.Reports.{Reports};
 ghost use Rattle.mvt_base.specs.Rules.{first};
 ghost use Rattle.mvt_wire.specs.Field.{content_of};
 ghost use Rattle.mvt_feature.specs.Faults.{fault_of, fault_at as the_fault_at};
@@ -30,7 +30,7 @@ pub(crate) fn bytes_of<'a>(payload: &Payload<'a>) -> &'a [u8]
 #[inline(always)]
 pub(crate) fn check_bytes(payload: &Payload<'_>, at: u64) -> Result<(), MessageError>
     ensures ok { OnOk result (first (form_rules message (content_of payload.now)) ≡ None) }
-    ensures err { IfErr result (λ error. Tells (fault_of error)
+    ensures err { IfErr result (λ error. Reports (fault_of error)
         (option_map (the_fault_at at) (first (form_rules message (content_of payload.now))))) }
 {
     let Payload::Len(_) = payload else {
@@ -44,7 +44,7 @@ pub(crate) fn check_bytes(payload: &Payload<'_>, at: u64) -> Result<(), MessageE
 pub(crate) fn text_of<'a>(payload: &Payload<'a>, at: u64) -> Result<&'a str, MessageError>
     ensures text { IfOk result (λ text. text.now ≡ the_bytes_of (content_of payload.now)) }
     ensures ok { OnOk result (first (form_rules string (content_of payload.now)) ≡ None) }
-    ensures err { IfErr result (λ error. Tells (fault_of error)
+    ensures err { IfErr result (λ error. Reports (fault_of error)
         (option_map (the_fault_at at) (first (form_rules string (content_of payload.now))))) }
 {
     match mvt_feature::text_of(payload) {
@@ -57,7 +57,7 @@ pub(crate) fn text_of<'a>(payload: &Payload<'a>, at: u64) -> Result<&'a str, Mes
 pub(crate) fn uint32_of(payload: &Payload<'_>, at: u64) -> Result<u32, MessageError>
     ensures number { IfOk result (λ n. number_of (content_of payload.now) ≡ Some n) }
     ensures ok { OnOk result (first (form_rules uint32 (content_of payload.now)) ≡ None) }
-    ensures err { IfErr result (λ error. Tells (fault_of error)
+    ensures err { IfErr result (λ error. Reports (fault_of error)
         (option_map (the_fault_at at) (first (form_rules uint32 (content_of payload.now))))) }
     ensures fault { IfErr result IsFault }
 {

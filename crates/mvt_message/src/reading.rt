@@ -1,7 +1,7 @@
 //! Reading an item, and judging one (Mapbox Vector Tile Specification 2.1, 4.1).
 ghost use Rattle.std.specs.Prelude.{◌≡◌, ◌+◌, ◌^◌, ◌<◌, ◌≤◌, [], length, None, IfOk, IfErr, OnOk};
 ghost use Rattle.std.specs.Option.{option_copied, option_to_list};
-ghost use Rattle.mvt_base.specs.Tells.{Tells};
+ghost use Rattle.mvt_base.specs.Reports.{Reports};
 ghost use Rattle.mvt_feature.specs.Faults.{fault_of};
 ghost use Rattle.mvt_message.specs.ItemRules.{item_fault, payload_names};
 ghost use Rattle.mvt_message.specs.Items.{IsItem};
@@ -35,7 +35,7 @@ pub fn read_item(
     ensures ok { OnOk result (item_fault payload.now payload_at tag_at ≡ None) }
     ensures item { IfOk result (λ item. IsItem payload.now item) }
     ensures valid { IfOk result (λ item. ValidItem item) }
-    ensures fault { IfErr result (λ error. Tells (fault_of error)
+    ensures fault { IfErr result (λ error. Reports (fault_of error)
         (item_fault payload.now payload_at tag_at)) }
 {
     let mut kept = Kept::new(alloc);
@@ -70,7 +70,7 @@ pub fn judge_item<'a>(
     ensures ok { OnOk result (item_fault payload.now payload_at tag_at ≡ None) }
     ensures names { IfOk result (λ name. option_to_list (option_copied name)
         ≡ payload_names payload.now) }
-    ensures fault { IfErr result (λ error. Tells (fault_of error)
+    ensures fault { IfErr result (λ error. Reports (fault_of error)
         (item_fault payload.now payload_at tag_at)) }
 {
     match visit_layer(alloc, &mut Judged, payload, payload_at, tag_at) {

@@ -2,7 +2,7 @@
 //! Specification 2.1, 4.1).
 ghost use Rattle.std.specs.Prelude.{◌≡◌, ℕ, ◌+◌, ◌^◌, ◌<◌, ◌≤◌, [], ◌++◌, List, length, None, IfOk, IfErr, OnOk};
 ghost use Rattle.std.specs.Option.{option_copied, option_to_list};
-ghost use Rattle.mvt_base.specs.Tells.{Tells};
+ghost use Rattle.mvt_base.specs.Reports.{Reports};
 ghost use Rattle.mvt_attrs.specs.declared.value.Value.{Value as AValue};
 ghost use Rattle.mvt_wire.specs.Spelling.{spelled};
 ghost use Rattle.mvt_feature.specs.Faults.{fault_of};
@@ -45,7 +45,7 @@ pub fn rewrite_item<'a>(
     ensures item { IfOk result (λ name. (item : Item) × IsItem payload.now item × ValidItem item
         × (option_to_list (option_copied name) ≡ names_in item)
         × (out.new.items ≡ out.old.items ++ canonical_item item)) }
-    ensures fault { IfErr result (λ error. Tells (fault_of error)
+    ensures fault { IfErr result (λ error. Reports (fault_of error)
         (item_fault payload.now payload_at tag_at)) }
 {
     let mut rewriter = LayerRewriter::new(alloc);

@@ -1,6 +1,6 @@
 //! The values of a layer (Mapbox Vector Tile Specification 2.1, 4.1).
 ghost use Rattle.std.specs.Prelude.{◌≡◌, ◌+◌, ◌^◌, ◌<◌, List, [], ◌∷◌, ◌++◌, IfOk, IfErr};
-ghost use Rattle.mvt_base.specs.Tells.{Tells};
+ghost use Rattle.mvt_base.specs.Reports.{Reports};
 ghost use Rattle.mvt_attrs.specs.declared.value.Value.{Value};
 ghost use Rattle.mvt_wire.specs.Field.{Entry, entry_of, content_of};
 ghost use Rattle.mvt_wire.specs.Fields.{bytes_size};
@@ -63,7 +63,7 @@ fn visit_field<V: LayerVisitor>(
         (done ++ entry_of field.now ∷ [])) }
     ensures err { (items : List Item) (done more : List Entry)
         → AreValuesHeld (V.has_values items visitor.old) payload_at done count
-        → IfErr result (λ error. Tells (fault_of error)
+        → IfErr result (λ error. Reports (fault_of error)
         (values_fault payload_at ((done ++ entry_of field.now ∷ []) ++ more))) }
     ensures kept { (items : List Item) (held : List Value) → V.has_values items visitor.old held
         → V.has_items items visitor.old → V.has_items items visitor.new }

@@ -1,6 +1,6 @@
 //! The version of a layer (Mapbox Vector Tile Specification 2.1, 4.1).
 ghost use Rattle.std.specs.Prelude.{◌≡◌, ℕ, ◌+◌, ◌^◌, ◌<◌, List, [], ◌∷◌, ◌++◌, length, Some, None, IfOk, IfErr, OnOk};
-ghost use Rattle.mvt_base.specs.Tells.{Tells};
+ghost use Rattle.mvt_base.specs.Reports.{Reports};
 ghost use Rattle.mvt_wire.specs.Field.{Entry, entry_of};
 ghost use Rattle.mvt_wire.specs.Split.{split};
 ghost use Rattle.mvt_feature.specs.Faults.{fault_of};
@@ -22,7 +22,7 @@ pub(crate) fn read_version(
     ensures version { IfOk result (λ version. version_in (split payload.now).fields
         ≡ Some version) }
     ensures ok { OnOk result (header_fault payload.now payload_at tag_at ≡ None) }
-    ensures err { IfErr result (λ error. Tells (fault_of error)
+    ensures err { IfErr result (λ error. Reports (fault_of error)
         (header_fault payload.now payload_at tag_at)) }
     ensures fault { IfErr result IsFault }
 {
@@ -73,7 +73,7 @@ pub(crate) fn version_of(
         → OnOk result (header_fault payload payload_at tag_at ≡ None) }
     ensures err { (payload : List ℕ) (payload_at : ℕ) → (split payload).rest ≡ []
         → IsVersionSoFar payload_at (split payload).fields version
-        → IfErr result (λ error. Tells (fault_of error) (header_fault payload payload_at tag_at)) }
+        → IfErr result (λ error. Reports (fault_of error) (header_fault payload payload_at tag_at)) }
     ensures fault { IfErr version IsFault → IfErr result IsFault }
 {
     match version? {

@@ -1,7 +1,7 @@
 //! The one walk over an item (Mapbox Vector Tile Specification 2.1, 4.1): a visitor is told the
 //! values, the keys and the features of a layer.
 ghost use Rattle.std.specs.Prelude.{◌≡◌, ◌+◌, ◌^◌, ◌<◌, ◌≤◌, ℕ, List, [], ◌∷◌, ◌++◌, length, Some, None, IfOk, IfErr, OnOk};
-ghost use Rattle.mvt_base.specs.Tells.{Tells};
+ghost use Rattle.mvt_base.specs.Reports.{Reports};
 ghost use Rattle.mvt_attrs.specs.declared.value.Value.{Value};
 ghost use Rattle.mvt_wire.specs.Split.{split};
 ghost use Rattle.mvt_feature.specs.declared.feature.Feature.{Feature as AFeature};
@@ -60,7 +60,7 @@ pub trait LayerVisitor: Drop {
         // Also behind an error: then it may have more of this layer's values.
         ensures kept { (items : List Item) (values : List Value) → has_values items self.old values
             → has_items items self.new }
-        ensures err { IfErr result (λ error. Tells (fault_of error)
+        ensures err { IfErr result (λ error. Reports (fault_of error)
             (value_fault payload.now payload_at tag_at)) };
 
     /// Takes the keys, when it has all values. The number of features is only a hint.
@@ -104,7 +104,7 @@ pub trait LayerVisitor: Drop {
         ensures err { (items : List Item) (held : List Value) (features : List AFeature)
             → length held ≡ values
             → has_features items keys.old held self.old features → IfErr result
-            (λ error. Tells (fault_of error) (feature_fault payload.now payload_at keys.old held)) }
+            (λ error. Reports (fault_of error) (feature_fault payload.now payload_at keys.old held)) }
         ensures same { keys.new ≡ keys.old };
 }
 
@@ -137,7 +137,7 @@ pub fn visit_layer<'a, V: LayerVisitor>(
         → V.has_items items visitor.old
         → IfOk result (λ visited. (item : Item) × IsItem payload.now item × ValidItem item
         × IsVisited (V.has_items items) (V.has_features items) visitor.new visited item) }
-    ensures fault { IfErr result (λ error. Tells (fault_of error)
+    ensures fault { IfErr result (λ error. Reports (fault_of error)
         (item_fault payload.now payload_at tag_at)) }
 {
     let (version, front) = read_layer_fields(alloc, visitor, payload, payload_at, tag_at)?;
@@ -167,7 +167,7 @@ fn visit_parts<'a, V: LayerVisitor>(
         → IsLayerFields (V.has_values items visitor.old) payload_at (split payload.now).fields front.entry
         → IfOk result (λ visited. (layer : ALayer) × IsLayer (split payload.now).fields layer
         × HasLayer (V.has_features items) visitor.new visited layer) }
-    ensures fault { IfErr result (λ error. Tells (fault_of error)
+    ensures fault { IfErr result (λ error. Reports (fault_of error)
         (layer_fault payload_at tag_at (split payload.now).fields)) }
 {
     let LayerFields {

@@ -262,7 +262,7 @@ fn expect_faults(rt: &(impl Abort + AllocGlobal)) {
 }
 
 #[test]
-fn tells_faults(rt: HostRuntime) {
+fn reports_faults(rt: HostRuntime) {
     expect_faults(&rt);
 }
 

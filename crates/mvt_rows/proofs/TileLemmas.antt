@@ -26,7 +26,7 @@ use Rattle.mvt_rows.specs.Written.{FailsAs, IsNone, of_tags}
 use Rattle.std.specs.Option.{option_map}
 use Rattle.std.specs.Result.{IfErr, IsErrAnd}
 use Rattle.std.proofs.lemmas.Option.{none-some, same_Some}
-use Rattle.mvt_base.specs.Tells.{Tells}
+use Rattle.mvt_base.specs.Reports.{Reports}
 
 pub fails_too : (P Q : Type 0) → (P → Q) → (r : RowsError) → FailsAs P r → FailsAs Q r
 fails_too P Q f Memory h = tt
@@ -87,14 +87,14 @@ some_same o x y h k = same_Some x y (sym h ∙ k)
 
 -- tags with a fault are no feature's
 pub tags_fail : (t : Table) (keys : List (List ℕ)) (values : List Value) (row : FeatureRow) (tags : List ℕ) (e : TagError)
-    → part_of t.tags row.tags ≡ Some tags → Tells (fault_of e) (tag_fault keys values tags)
+    → part_of t.tags row.tags ≡ Some tags → Reports (fault_of e) (tag_fault keys values tags)
     → FailsAs (IsNone (IsFeature t keys values row)) (of_tags e)
-tags_fail t keys values row tags tag_errors.Memory tagged told = tt
-tags_fail t keys values row tags (tag_errors.Fault index cause) tagged told = λ f h.
+tags_fail t keys values row tags tag_errors.Memory tagged reported = tt
+tags_fail t keys values row tags (tag_errors.Fault index cause) tagged reported = λ f h.
     let same : h.tags ≡ tags = some_same _ _ _ h.tagged tagged in
     let none : tag_fault keys values tags ≡ None = attributes_or_fault_clean keys values tags f.attributes
     (subst (λ x. Resolved keys values x f.attributes) same h.attributes) in
-    none-some _ (sym none ∙ told)
+    none-some _ (sym none ∙ reported)
 
 feature_once : (t : Table) (keys : List (List ℕ)) (values : List Value) (row : FeatureRow) (f g : Feature) → IsFeature t keys values row f
     → IsFeature t keys values row g → f ≡ g

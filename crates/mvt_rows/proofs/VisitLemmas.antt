@@ -235,16 +235,16 @@ foreign_ends payload t items version number content is valid version_is are = (
 
 -- whether a layer was visited, or a foreign item
 module _ {V : Type 0} (HasItems : V → Type 0) (HasFeatures : List (List ℕ) → List Value → V → List Feature → Type 0)
-    (visitor : V) (told : Visited) (P : Item → Type 0) where
-  pub was_layer : ((number : ℕ) (content : List ℕ) → IsVisited HasItems HasFeatures visitor told (Foreign number content) → ⊥)
-      → (item : Item) → IsVisited HasItems HasFeatures visitor told item → P item
-      → (layer : ALayer) × HasLayer HasFeatures visitor told layer × P (Layer layer)
+    (visitor : V) (reported : Visited) (P : Item → Type 0) where
+  pub was_layer : ((number : ℕ) (content : List ℕ) → IsVisited HasItems HasFeatures visitor reported (Foreign number content) → ⊥)
+      → (item : Item) → IsVisited HasItems HasFeatures visitor reported item → P item
+      → (layer : ALayer) × HasLayer HasFeatures visitor reported layer × P (Layer layer)
   was_layer other (Layer layer) is p = (layer, is, p)
   was_layer other (Foreign number content) is p = absurd (other number content is)
 
-  pub was_foreign : ((layer : ALayer) → IsVisited HasItems HasFeatures visitor told (Layer layer) → ⊥)
-      → (item : Item) → IsVisited HasItems HasFeatures visitor told item → P item
-      → (number : ℕ) × (content : List ℕ) × IsVisited HasItems HasFeatures visitor told (Foreign number content)
+  pub was_foreign : ((layer : ALayer) → IsVisited HasItems HasFeatures visitor reported (Layer layer) → ⊥)
+      → (item : Item) → IsVisited HasItems HasFeatures visitor reported item → P item
+      → (number : ℕ) × (content : List ℕ) × IsVisited HasItems HasFeatures visitor reported (Foreign number content)
       × P (Foreign number content)
   was_foreign other (Layer layer) is p = absurd (other layer is)
   was_foreign other (Foreign number content) is p = (number, content, is, p)

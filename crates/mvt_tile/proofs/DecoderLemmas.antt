@@ -14,8 +14,8 @@ use Rattle.mvt_wire.proofs.WireLaws.{field_function_end, split_function_is, spli
 use Rattle.mvt_tile.specs.declared.fault.DecodeError.{DecodeError}
 use Rattle.mvt_tile.specs.declared.fault.DecodeError.TheVariants.{Memory, Fault, Read}
 use Rattle.mvt_tile.specs.Faults.{outer_fault, is_open}
-use Rattle.mvt_tile.specs.Inner.Judging.{fault_behind, IsJudged, TellsBehind}
-use Rattle.mvt_tile.specs.Streams.{IsCalm, IsLive, TellsEarly, Decoding, StandsAs, StandsFor}
+use Rattle.mvt_tile.specs.Inner.Judging.{fault_behind, IsJudged, ReportsBehind}
+use Rattle.mvt_tile.specs.Streams.{IsCalm, IsLive, ReportsEarly, Decoding, StandsAs, StandsFor}
 use Rattle.mvt_tile.specs.TileRules.{field_rules, rest_rules_at, rest_rules, tile_rules, beyond, fault_within}
 use Rattle.mvt_model.specs.Tiles.{AreItems, IsTile}
 use Rattle.mvt_tile.proofs.ItemLemmas.{are_none, are_clean}
@@ -40,8 +40,8 @@ live_start limit =
     }
 
 rest_calm : (at : ℕ) (rest : List ℕ) → rest_cause rest ≡ wire.Truncated → IsCalm (first (rest_rules_at at rest))
-rest_calm at [] e f told = cc
-rest_calm at (b ∷ bs) e f told =
+rest_calm at [] e f reported = cc
+rest_calm at (b ∷ bs) e f reported =
     let is : outer_fault at (of_wire (rest_cause (b ∷ bs))) ≡ f = cc in
     ap is_open (sym is) ∙ ap (λ c. is_open (outer_fault at (of_wire c))) e
 
@@ -68,11 +68,11 @@ rest_open at (b ∷ bs) some calm =
     ap (λ c. Some (outer_fault at c)) (open_cause at (rest_cause (b ∷ bs)) (calm f refl))
 
 -- what can't be changed is told of each longer stream
-pub tells_stays : (limit : ℕ) (e : DecodeError) (s t : List ℕ) → TellsEarly e (fault_within limit s)
-    → TellsEarly e (fault_within limit (s ++ t))
-tells_stays limit Memory s t h = tt
-tells_stays limit (Fault f) s t h = (fault_stays limit s t f h.0 h.1, h.1)
-tells_stays limit (Read k) s t h = absurd h
+pub reports_stays : (limit : ℕ) (e : DecodeError) (s t : List ℕ) → ReportsEarly e (fault_within limit s)
+    → ReportsEarly e (fault_within limit (s ++ t))
+reports_stays limit Memory s t h = tt
+reports_stays limit (Fault f) s t h = (fault_stays limit s t f h.0 h.1, h.1)
+reports_stays limit (Read k) s t h = absurd h
 
 -- a decoder that stands for a stream
 module _ (limit offset : ℕ) (items : List Item) (raw s : List ℕ) (live : IsLive limit offset items raw s) where
@@ -117,11 +117,11 @@ module _ (limit offset : ℕ) (items : List Item) (raw s : List ℕ) (live : IsL
             (rest_calm q.rest_at q.rest (ap rest_cause judged.rest ∙ judged.unfinished));
       }
 
-  pub live_fails : (piece t beyond : List ℕ) (e : DecodeError) → TellsBehind e offset (raw ++ t) items → piece ≡ t ++ beyond
-      → offset + (length raw + length t) ≤ limit → TellsEarly e (fault_within limit (s ++ piece))
-  live_fails piece t beyond e tells is fits =
-      subst (λ p. TellsEarly e (fault_within limit p)) (append_assoc s t beyond ∙ ap (λ p. s ++ p) (sym is))
-      (tells_stays limit e (s ++ t) beyond (subst (TellsEarly e) (sym (fault_more t fits)) (tells (split s).fields live.items_are)))
+  pub live_fails : (piece t beyond : List ℕ) (e : DecodeError) → ReportsBehind e offset (raw ++ t) items → piece ≡ t ++ beyond
+      → offset + (length raw + length t) ≤ limit → ReportsEarly e (fault_within limit (s ++ piece))
+  live_fails piece t beyond e reports is fits =
+      subst (λ p. ReportsEarly e (fault_within limit p)) (append_assoc s t beyond ∙ ap (λ p. s ++ p) (sym is))
+      (reports_stays limit e (s ++ t) beyond (subst (ReportsEarly e) (sym (fault_more t fits)) (reports (split s).fields live.items_are)))
 
   -- the first fault of the stream is that of its rest
   live_fault : first (tile_rules s) ≡ first (rest_rules_at offset raw)
@@ -133,7 +133,7 @@ module _ (limit offset : ℕ) (items : List Item) (raw s : List ℕ) (live : IsL
 
   -- a stream that goes on behind the limit
   live_too_large : (more : List ℕ) → offset + length raw ≡ limit → (length more ≡ 0 → ⊥)
-      → TellsEarly (Fault (outer_fault offset TooLarge)) (fault_within limit (s ++ more))
+      → ReportsEarly (Fault (outer_fault offset TooLarge)) (fault_within limit (s ++ more))
   live_too_large more full some =
       let size : length s ≡ limit = live_length ∙ full in
       let longer : limit < length (s ++ more) = simp length-append (omega arith) in
@@ -181,11 +181,11 @@ module _ (limit offset : ℕ) (items new : List Item) (raw after t : List ℕ) (
   piece_fits s piece (b ∷ bs) joined fits none live = absurd (omega arith)
 
   pub piece_too_large : (s piece more : List ℕ) → piece ≡ t ++ more → offset + (length raw + length t) ≡ limit → (length more ≡ 0 → ⊥)
-      → IsLive limit offset items raw s → TellsEarly (Fault (outer_fault (offset + used) TooLarge)) (fault_within limit (s ++ piece))
+      → IsLive limit offset items raw s → ReportsEarly (Fault (outer_fault (offset + used) TooLarge)) (fault_within limit (s ++ piece))
   piece_too_large s piece more joined full some live =
       let size = left_length raw after t used is judged.within in
       let longer = live_more limit offset items raw s live new after t used judged is (omega arith) in
-      subst (λ p. TellsEarly (Fault (outer_fault (offset + used) TooLarge)) (fault_within limit p))
+      subst (λ p. ReportsEarly (Fault (outer_fault (offset + used) TooLarge)) (fault_within limit p))
       (append_assoc s t more ∙ ap (λ p. s ++ p) (sym joined))
       (live_too_large limit (offset + used) new after (s ++ t) longer more (omega arith) some)
 
@@ -194,7 +194,7 @@ module _ (limit offset : ℕ) (items new : List Item) (raw after t : List ℕ) (
 pub failed_stays : (limit : ℕ) (o : Option DecodeError) (d : Decoding) (e : DecodeError) (s t : List ℕ)
     → o ≡ Some e → StandsAs limit o d s → StandsAs limit o d (s ++ t)
 failed_stays limit None d e s t is stands = cc
-failed_stays limit (Some x) d e s t is stands = (stands.0, tells_stays limit x s t stands.1)
+failed_stays limit (Some x) d e s t is stands = (stands.0, reports_stays limit x s t stands.1)
 
 pub live_of : (limit : ℕ) (failure : Option DecodeError) (offset : ℕ) (items : List Item) (raw : List ℕ) (d : Decoding) (s : List ℕ)
     → (let d' : Decoding = record { failure = failure; items = items; raw = raw; offset = offset } in d') ≡ d → failure ≡ None

@@ -10,13 +10,13 @@ use Rattle.mvt_message.specs.declared.item.Item.{Item}
 use Rattle.mvt_tile.specs.declared.fault.DecodeError.{DecodeError}
 use Rattle.mvt_tile.specs.declared.fault.DecodeError.TheVariants.{Memory, Fault, Read}
 use Rattle.mvt_tile.specs.declared.fault.Fault.{Fault as AFault}
-use Rattle.mvt_tile.specs.Inner.Feeding.{HasFed, HasStopped, TellsFed}
-use Rattle.mvt_tile.specs.Reading.{ReadsTile, StopsEarly, fault_of, kind_of, kind_told}
+use Rattle.mvt_tile.specs.Inner.Feeding.{HasFed, HasStopped, ReportsFed}
+use Rattle.mvt_tile.specs.Reading.{ReadsTile, StopsEarly, fault_of, kind_of, kind_reported}
 use Rattle.std.specs.declared.io.ErrorKind.{ErrorKind}
-use Rattle.mvt_base.specs.Tells.{Tells}
+use Rattle.mvt_base.specs.Reports.{Reports}
 use Rattle.mvt_model.specs.declared.tile.Tile.{Tile}
 use Rattle.mvt_model.specs.Tiles.{IsTile}
-use Rattle.mvt_tile.specs.Streams.{IsCalm, IsLive, TellsEarly, TellsAtEnd}
+use Rattle.mvt_tile.specs.Streams.{IsCalm, IsLive, ReportsEarly, ReportsAtEnd}
 use Rattle.mvt_tile.specs.TileRules.{fault_within}
 use Rattle.mvt_tile.proofs.DecoderLemmas.{live_start}
 use Rattle.mvt_tile.proofs.StreamLemmas.{fault_stays, calm_front}
@@ -34,7 +34,7 @@ fed_start limit Has offset raw a has none zero = record {
   turns = omega arith;
 }
 
-weaker_fed : (e : DecodeError) (o : Option AFault) → TellsEarly e o → TellsFed e o
+weaker_fed : (e : DecodeError) (o : Option AFault) → ReportsEarly e o → ReportsFed e o
 weaker_fed Memory o h = tt
 weaker_fed (Fault f) o h = h
 weaker_fed (Read k) o h = tt
@@ -62,8 +62,8 @@ module _ (limit : ℕ) (Has : List Item → Type 0) (offset : ℕ) (raw : List �
 
   pub fed_fails : (buffer piece : List ℕ) (n size : ℕ) (e : DecodeError) → Consumes b c (take n buffer)
       → piece ≡ take n buffer → size ≡ n → size ≤ 65536
-      → ((s : List ℕ) → IsLive limit offset has.items raw s → TellsEarly e (fault_within limit (s ++ piece))) → HasStopped limit size a c e
-  fed_fails buffer piece n size e consumed is of_size small tells =
+      → ((s : List ℕ) → IsLive limit offset has.items raw s → ReportsEarly e (fault_within limit (s ++ piece))) → HasStopped limit size a c e
+  fed_fails buffer piece n size e consumed is of_size small reports =
       let short : length piece ≤ size =
       let count : length piece ≡ length (take n buffer) = ap length is in omega (arith, length-take n buffer) in
       record {
@@ -73,7 +73,7 @@ module _ (limit : ℕ) (Has : List Item → Type 0) (offset : ℕ) (raw : List �
         few = short;
         small = small;
         calm = has.live.calm;
-        told = weaker_fed e (fault_within limit (has.given ++ piece)) (tells has.given has.live);
+        reported = weaker_fed e (fault_within limit (has.given ++ piece)) (reports has.given has.live);
       }
 
   pub fed_read : (size : ℕ) (k : ErrorKind) → Keeps b c → size ≤ 65536 → HasStopped limit size a c (Read k)
@@ -84,7 +84,7 @@ module _ (limit : ℕ) (Has : List Item → Type 0) (offset : ℕ) (raw : List �
     few = omega arith;
     small = small;
     calm = has.live.calm;
-    told = tt;
+    reported = tt;
   }
 
 -- one read more, which may be the last
@@ -108,24 +108,24 @@ pub kept_is_none : (a b : Option (List ℕ)) → Keeps a b → Consumes a b []
 kept_is_none a b kept = Consumes-kept a a b [] (Consumes-nil a) kept
 
 -- an error that no read told
-pub early_faults : (e : DecodeError) (o : Option AFault) (a b : Faults) → TellsEarly e o → NoneFailed a b → EndedBy (kind_told e) a b
-early_faults Memory o a b tells none = none
-early_faults (Fault f) o a b tells none = none
-early_faults (Read k) o a b tells none = absurd tells
+pub early_faults : (e : DecodeError) (o : Option AFault) (a b : Faults) → ReportsEarly e o → NoneFailed a b → EndedBy (kind_reported e) a b
+early_faults Memory o a b reports none = none
+early_faults (Fault f) o a b reports none = none
+early_faults (Read k) o a b reports none = absurd reports
 
-pub end_faults : {A : Type 0} (r : Result A DecodeError) (o : Option AFault) (a b : Faults) → IfErr r (λ e. TellsAtEnd e o) → NoneFailed a b
+pub end_faults : {A : Type 0} (r : Result A DecodeError) (o : Option AFault) (a b : Faults) → IfErr r (λ e. ReportsAtEnd e o) → NoneFailed a b
     → EndedBy (kind_of r) a b
-end_faults (Ok x) o a b tells none = none
-end_faults (Err Memory) o a b tells none = none
-end_faults (Err (Fault f)) o a b tells none = none
-end_faults (Err (Read k)) o a b tells none = absurd tells
+end_faults (Ok x) o a b reports none = none
+end_faults (Err Memory) o a b reports none = none
+end_faults (Err (Fault f)) o a b reports none = none
+end_faults (Err (Read k)) o a b reports none = absurd reports
 
 -- the reader is at its end
 
-tells_at_end : (e : DecodeError) (o : Option AFault) → TellsAtEnd e o → Tells (fault_of e) o
-tells_at_end Memory o h = tt
-tells_at_end (Fault f) o h = h
-tells_at_end (Read k) o h = absurd h
+reports_at_end : (e : DecodeError) (o : Option AFault) → ReportsAtEnd e o → Reports (fault_of e) o
+reports_at_end Memory o h = tt
+reports_at_end (Fault f) o h = h
+reports_at_end (Read k) o h = absurd h
 
 module _ (limit : ℕ) (Has : List Item → Type 0) (offset : ℕ) (raw : List ℕ) (a b : Option (List ℕ)) (reads : ℕ)
     (has : HasFed limit Has offset raw a b reads) (end : IsAtEnd b) where
@@ -135,11 +135,11 @@ module _ (limit : ℕ) (Has : List Item → Type 0) (offset : ℕ) (raw : List �
       let tile : Tile = record { items = has.items } in
       (tile, has.has, Consumes-whole a b has.given (λ bytes. IsTile limit bytes tile) has.consumed end is)
 
-  pub fed_told : (e : DecodeError) → TellsAtEnd e (fault_within limit has.given)
-      → IfSome a (λ input. Tells (fault_of e) (fault_within limit input))
-  fed_told e tells =
-      Consumes-whole a b has.given (λ input. Tells (fault_of e) (fault_within limit input)) has.consumed end
-      (tells_at_end e (fault_within limit has.given) tells)
+  pub fed_reported : (e : DecodeError) → ReportsAtEnd e (fault_within limit has.given)
+      → IfSome a (λ input. Reports (fault_of e) (fault_within limit input))
+  fed_reported e reports =
+      Consumes-whole a b has.given (λ input. Reports (fault_of e) (fault_within limit input)) has.consumed end
+      (reports_at_end e (fault_within limit has.given) reports)
 
 -- of the whole call
 
@@ -181,14 +181,14 @@ unread limit s = record {
   faults = refl;
 }
 
-tells_input : (limit : ℕ) (e : DecodeError) (taken left input : List ℕ) → input ≡ taken ++ left → TellsFed e (fault_within limit taken)
-    → Tells (fault_of e) (fault_within limit input)
-tells_input limit Memory taken left input is h = tt
-tells_input limit (Fault f) taken left input is h = ap (fault_within limit) is ∙ fault_stays limit taken left f h.0 h.1
-tells_input limit (Read k) taken left input is h = tt
+reports_input : (limit : ℕ) (e : DecodeError) (taken left input : List ℕ) → input ≡ taken ++ left → ReportsFed e (fault_within limit taken)
+    → Reports (fault_of e) (fault_within limit input)
+reports_input limit Memory taken left input is h = tt
+reports_input limit (Fault f) taken left input is h = ap (fault_within limit) is ∙ fault_stays limit taken left f h.0 h.1
+reports_input limit (Read k) taken left input is h = tt
 
-pub stopped_told : (limit size : ℕ) (a b : Option (List ℕ)) (e : DecodeError) → HasStopped limit size a b e
-    → IfSome a (λ input. Tells (fault_of e) (fault_within limit input))
-stopped_told limit size None b e h = tt
-stopped_told limit size (Some xs) None e h = absurd h.consumed
-stopped_told limit size (Some xs) (Some ys) e h = tells_input limit e (h.front ++ h.back) ys xs h.consumed h.told
+pub stopped_reported : (limit size : ℕ) (a b : Option (List ℕ)) (e : DecodeError) → HasStopped limit size a b e
+    → IfSome a (λ input. Reports (fault_of e) (fault_within limit input))
+stopped_reported limit size None b e h = tt
+stopped_reported limit size (Some xs) None e h = absurd h.consumed
+stopped_reported limit size (Some xs) (Some ys) e h = reports_input limit e (h.front ++ h.back) ys xs h.consumed h.reported

@@ -5,7 +5,7 @@ use Rattle.std.specs.List.{list_any}
 use Rattle.std.specs.Option.{option_map}
 use Rattle.std.proofs.lemmas.Bool.{eq-eqb, ne_eqb}
 use Rattle.mvt_base.specs.Rules.{first}
-use Rattle.mvt_base.specs.Tells.{Tells}
+use Rattle.mvt_base.specs.Reports.{Reports}
 use Rattle.mvt_wire.specs.declared.field.Field.{Field}
 use Rattle.mvt_wire.specs.declared.fault.WireFault.{WireFault}
 use Rattle.mvt_wire.specs.Field.{Entry, entry_of}
@@ -21,8 +21,8 @@ use Rattle.mvt_message.specs.ItemRules.{payload_names}
 use Rattle.mvt_model.specs.declared.numbers.tile.TheConstants.{LAYERS}
 use Rattle.mvt_tile.specs.Faults.{in_layer, outer_fault}
 use Rattle.mvt_tile.specs.Finding.{first_in, first_of, is_layer_of}
-use Rattle.mvt_tile.specs.Inner.Judging.{told_in}
-use Rattle.mvt_tile.specs.Streams.{TellsAtEnd}
+use Rattle.mvt_tile.specs.Inner.Judging.{reported_in}
+use Rattle.mvt_tile.specs.Streams.{ReportsAtEnd}
 use Rattle.mvt_tile.specs.TileRules.{payload_of, rest_rules, rest_rules_at}
 
 -- no layer of the name stands among the fields so far, and so many layers do
@@ -88,22 +88,22 @@ pub seek_ends : (name bytes : List ℕ) (index : ℕ) (old new : Parts) → Seek
 seek_ends name bytes index old new seeking step =
     (seeking.same ∙ ap (first_of name index) step.0, sym seeking.rest ∙ step.1)
 
-rest_told : (at : ℕ) (rest : List ℕ) → (rest ≡ [] → ⊥) → first (rest_rules_at at rest) ≡ Some (outer_fault at (of_wire (rest_cause rest)))
-rest_told at [] some = absurd (some refl)
-rest_told at (b ∷ bs) some = refl
+rest_reported : (at : ℕ) (rest : List ℕ) → (rest ≡ [] → ⊥) → first (rest_rules_at at rest) ≡ Some (outer_fault at (of_wire (rest_cause rest)))
+rest_reported at [] some = absurd (some refl)
+rest_reported at (b ∷ bs) some = refl
 
 pub seek_broken : (name bytes : List ℕ) (index : ℕ) (old new : Parts) (fault : WireFault) → Seeking name bytes index old
     → GivesEntry old (Some (Err fault)) new
     → (first_in name bytes ≡ None) × (first (rest_rules (split bytes)) ≡ Some (outer_fault fault.at (of_wire fault.cause)))
 seek_broken name bytes index old new fault seeking step = (
   seeking.same ∙ ap (first_of name index) step.0,
-  rw (← seeking.rest, ← seeking.place) (rest_told old.rest_at old.rest step.1)
+  rw (← seeking.rest, ← seeking.place) (rest_reported old.rest_at old.rest step.1)
       ∙ ap (λ a. Some (outer_fault a (of_wire (rest_cause old.rest)))) (sym step.2)
       ∙ ap (λ c. Some (outer_fault fault.at (of_wire c))) (sym step.3),
 )
 
 -- an error of a payload, as its layer tells it
-pub tells_in : (n : ℕ) (e : MessageError) (fault : Option MessageFault) → Tells (fault_of e) fault
-    → TellsAtEnd (told_in n e) (option_map (in_layer n) fault)
-tells_in n message.Memory fault told = tt
-tells_in n (message.Fault feature at cause) fault told = ap (option_map (in_layer n)) told
+pub reports_in : (n : ℕ) (e : MessageError) (fault : Option MessageFault) → Reports (fault_of e) fault
+    → ReportsAtEnd (reported_in n e) (option_map (in_layer n) fault)
+reports_in n message.Memory fault reported = tt
+reports_in n (message.Fault feature at cause) fault reported = ap (option_map (in_layer n)) reported

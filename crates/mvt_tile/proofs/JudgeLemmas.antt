@@ -27,8 +27,8 @@ use Rattle.mvt_tile.specs.declared.fault.DecodeError.TheVariants.{Memory, Fault,
 use Rattle.mvt_tile.specs.declared.fault.Fault.{Fault as AFault}
 use Rattle.mvt_model.specs.declared.numbers.tile.TheConstants.{LAYERS}
 use Rattle.mvt_tile.specs.Faults.{outer_fault, in_layer, is_open}
-use Rattle.mvt_tile.specs.Inner.Judging.{name_fault, payload_fault, fault_behind, IsJudged, IsPlaceOf, TakesItem, TellsBehind}
-use Rattle.mvt_tile.specs.Streams.{TellsEarly}
+use Rattle.mvt_tile.specs.Inner.Judging.{name_fault, payload_fault, fault_behind, IsJudged, IsPlaceOf, TakesItem, ReportsBehind}
+use Rattle.mvt_tile.specs.Streams.{ReportsEarly}
 use Rattle.mvt_tile.specs.TileRules.{is_bytes, field_rules, rest_rules, rest_rules_at}
 use Rattle.mvt_model.specs.Tiles.{layers_of, HoldsItem, AreItems}
 use Rattle.mvt_tile.proofs.LayerLemmas.{first-wrong}
@@ -37,24 +37,24 @@ use Rattle.mvt_tile.proofs.ShiftLemmas.{split_at_place, rest_dropped, place_with
 
 -- what an error tells of a part, it tells of the whole
 
-pub tells_front : (e : DecodeError) (a b : Option AFault) → TellsEarly e a → TellsEarly e (option_or a b)
-tells_front Memory a b h = tt
-tells_front (Fault f) None b h = absurd (let k = h.0 in cc)
-tells_front (Fault f) (Some g) b h = h
-tells_front (Read k) a b h = absurd h
+pub reports_front : (e : DecodeError) (a b : Option AFault) → ReportsEarly e a → ReportsEarly e (option_or a b)
+reports_front Memory a b h = tt
+reports_front (Fault f) None b h = absurd (let k = h.0 in cc)
+reports_front (Fault f) (Some g) b h = h
+reports_front (Read k) a b h = absurd h
 
-pub tells_back : (e : DecodeError) (a b : Option AFault) → a ≡ None → TellsEarly e b → TellsEarly e (option_or a b)
-tells_back e a b none h = subst (TellsEarly e) (sym (option_or-none a b none)) h
+pub reports_back : (e : DecodeError) (a b : Option AFault) → a ≡ None → ReportsEarly e b → ReportsEarly e (option_or a b)
+reports_back e a b none h = subst (ReportsEarly e) (sym (option_or-none a b none)) h
 
 -- of a payload
 
 -- what is told of a name is told of a payload that has it, and no fault of its own
-pub tells_name : (e : DecodeError) (n : ℕ) (names given : List (List ℕ)) (d : List ℕ) (payload_at tag_at : ℕ)
-    → item_fault d payload_at tag_at ≡ None → given ≡ payload_names d → TellsEarly e (name_fault n names given tag_at)
-    → TellsEarly e (payload_fault n names d payload_at tag_at)
-tells_name e n names given d payload_at tag_at none is told =
-    tells_back e (option_map (in_layer n) (item_fault d payload_at tag_at)) (name_fault n names (payload_names d) tag_at)
-    (ap (option_map (in_layer n)) none) (subst (λ g. TellsEarly e (name_fault n names g tag_at)) is told)
+pub reports_name : (e : DecodeError) (n : ℕ) (names given : List (List ℕ)) (d : List ℕ) (payload_at tag_at : ℕ)
+    → item_fault d payload_at tag_at ≡ None → given ≡ payload_names d → ReportsEarly e (name_fault n names given tag_at)
+    → ReportsEarly e (payload_fault n names d payload_at tag_at)
+reports_name e n names given d payload_at tag_at none is reported =
+    reports_back e (option_map (in_layer n) (item_fault d payload_at tag_at)) (name_fault n names (payload_names d) tag_at)
+    (ap (option_map (in_layer n)) none) (subst (λ g. ReportsEarly e (name_fault n names g tag_at)) is reported)
 
 -- of a field
 
@@ -63,8 +63,8 @@ abbrev pub IsNext : List Item → Entry → List Item → Type 0
 IsNext old x new = (front : List Entry) → AreItems front old → AreItems (front ++ x ∷ []) new
 
 -- an error tells the fault of this field behind whatever fields are the items
-abbrev pub TellsOf : DecodeError → List Item → Entry → Type 0
-TellsOf e items x = (front : List Entry) → AreItems front items → TellsEarly e (first (field_rules front x))
+abbrev pub ReportsOf : DecodeError → List Item → Entry → Type 0
+ReportsOf e items x = (front : List Entry) → AreItems front items → ReportsEarly e (first (field_rules front x))
 
 pub field_over : (items : List Item) (offset : ℕ) (x : Entry) → (x.number ≡ LAYERS → ⊥) → IsNext items (shifted offset x) items
 field_over items offset x other front are = are_over front items (shifted offset x) are (ne_eqb x.number LAYERS other)
@@ -86,21 +86,21 @@ module _ (items : List Item) (offset : ℕ) (x : Entry) (d : List ℕ) (payload_
       (are_more front items (shifted offset x) d taken.0 are is_layer place.holds taken.2 taken.3) in
       (h.0, h.1, omega (arith, ap length taken.1, length-append items (taken.0 ∷ [])), next)
 
-  pub field_tells : (r : Result (Unit {0}) DecodeError)
-      → IfErr r (λ e. TellsEarly e (payload_fault (length items) (flat_map names_in items) d payload_at tag_at))
-      → IfErr r (λ e. TellsOf e items (shifted offset x))
-  field_tells (Ok u) h = tt
-  field_tells (Err e) h = λ front are.
+  pub field_reports : (r : Result (Unit {0}) DecodeError)
+      → IfErr r (λ e. ReportsEarly e (payload_fault (length items) (flat_map names_in items) d payload_at tag_at))
+      → IfErr r (λ e. ReportsOf e items (shifted offset x))
+  field_reports (Ok u) h = tt
+  field_reports (Err e) h = λ front are.
       let names = flat_map names_in items in
-      let here : TellsEarly e (payload_fault (length items) names d (offset + x.body) (offset + x.at)) =
-      subst (λ b. TellsEarly e (payload_fault (length items) names d b (offset + x.at))) place.payload_at_is
-      (subst (λ o. TellsEarly e (payload_fault (length items) names d payload_at o)) place.tag_at_is h) in
-      subst (TellsEarly e) (sym (first-behind front items (shifted offset x) d are is_layer place.holds))
-      (subst (λ n. TellsEarly e (payload_fault n names d (offset + x.body) (offset + x.at)))
+      let here : ReportsEarly e (payload_fault (length items) names d (offset + x.body) (offset + x.at)) =
+      subst (λ b. ReportsEarly e (payload_fault (length items) names d b (offset + x.at))) place.payload_at_is
+      (subst (λ o. ReportsEarly e (payload_fault (length items) names d payload_at o)) place.tag_at_is h) in
+      subst (ReportsEarly e) (sym (first-behind front items (shifted offset x) d are is_layer place.holds))
+      (subst (λ n. ReportsEarly e (payload_fault n names d (offset + x.body) (offset + x.at)))
       (sym (length-related HoldsItem (layers_of front) items are.held)) here)
 
 pub field_wrong : (offset : ℕ) (x : Entry) (c : Content) → x.number ≡ LAYERS → x.content ≡ c → is_bytes c ≡ false → (front : List Entry)
-    → TellsEarly (Fault (outer_fault (offset + x.at) WrongType)) (first (field_rules front (shifted offset x)))
+    → ReportsEarly (Fault (outer_fault (offset + x.at) WrongType)) (first (field_rules front (shifted offset x)))
 field_wrong offset x c is_layer held other front =
     (first-wrong front (shifted offset x) (eq-eqb x.number LAYERS is_layer) (ap is_bytes held ∙ other), refl)
 
@@ -137,9 +137,9 @@ so_far_start offset b items to_come all = record {
   few = omega arith;
 }
 
-rest_told : (at : ℕ) (rest : List ℕ) → rest ≢ [] → first (rest_rules_at at rest) ≡ Some (outer_fault at (of_wire (rest_cause rest)))
-rest_told at [] some = absurd (some refl)
-rest_told at (b ∷ bs) some = refl
+rest_reported : (at : ℕ) (rest : List ℕ) → rest ≢ [] → first (rest_rules_at at rest) ≡ Some (outer_fault at (of_wire (rest_cause rest)))
+rest_reported at [] some = absurd (some refl)
+rest_reported at (b ∷ bs) some = refl
 
 shut_cause : (at : ℕ) (c : _) → c ≢ wire.Truncated → is_open (outer_fault at (of_wire c)) ≡ false
 shut_cause at wire.Truncated ne = absurd (ne refl)
@@ -183,8 +183,8 @@ module _ (offset : ℕ) (b : List ℕ) (old now : List Item) (before : Parts) (s
     }
 
     -- it is at fault
-    pub so_far_fails : (e : DecodeError) → TellsOf e now (shifted offset x) → TellsBehind e offset b old
-    so_far_fails e told front are =
+    pub so_far_fails : (e : DecodeError) → ReportsOf e now (shifted offset x) → ReportsBehind e offset b old
+    so_far_fails e reported front are =
         let done = map (shifted offset) so_far.done in
         let later = map (shifted offset) to_come.fields in
         let now_are = so_far.items_are front are in
@@ -193,14 +193,14 @@ module _ (offset : ℕ) (b : List ℕ) (old now : List Item) (before : Parts) (s
         ap (λ (p : Parts). p.fields) (split_at_place offset b)
         ∙ ap (map (shifted offset)) (so_far.fields ∙ ap (λ (p : Parts). so_far.done ++ p.fields) step.0)
         ∙ map-append (shifted offset) so_far.done (x ∷ to_come.fields) in
-        tells_front e (first (each field_rules front parts.fields)) (first (rest_rules parts))
-        (subst (λ xs. TellsEarly e (first (each field_rules front xs))) (sym is)
-        (subst (TellsEarly e) (sym (each_behind front done (shifted offset x ∷ later)))
-        (tells_back e (first (each field_rules front done)) (first (each field_rules (front ++ done) (shifted offset x ∷ later)))
+        reports_front e (first (each field_rules front parts.fields)) (first (rest_rules parts))
+        (subst (λ xs. ReportsEarly e (first (each field_rules front xs))) (sym is)
+        (subst (ReportsEarly e) (sym (each_behind front done (shifted offset x ∷ later)))
+        (reports_back e (first (each field_rules front done)) (first (each field_rules (front ++ done) (shifted offset x ∷ later)))
         (fields_clean front done now now_are)
-        (subst (TellsEarly e) (sym (each_first field_rules (front ++ done) (shifted offset x) later))
-        (tells_front e (first (field_rules (front ++ done) (shifted offset x)))
-        (first (each field_rules ((front ++ done) ++ shifted offset x ∷ []) later)) (told (front ++ done) now_are))))))
+        (subst (ReportsEarly e) (sym (each_first field_rules (front ++ done) (shifted offset x) later))
+        (reports_front e (first (field_rules (front ++ done) (shifted offset x)))
+        (first (each field_rules ((front ++ done) ++ shifted offset x ∷ []) later)) (reported (front ++ done) now_are))))))
 
   -- all fields are judged
   all_done : before.fields ≡ [] → (split_from offset b).fields ≡ map (shifted offset) so_far.done
@@ -244,7 +244,7 @@ module _ (offset : ℕ) (b : List ℕ) (old now : List Item) (before : Parts) (s
 
     pub so_far_broken : (r : Result ℕ DecodeError)
         → IfErr r (λ e. (fault.cause ≢ wire.Truncated) × (e ≡ Fault (outer_fault (offset + fault.at) (of_wire fault.cause))))
-        → IfErr r (λ e. TellsBehind e offset b old)
+        → IfErr r (λ e. ReportsBehind e offset b old)
     so_far_broken (Ok n) h = tt
     so_far_broken (Err e) h = λ front are.
         let done = map (shifted offset) so_far.done in
@@ -253,13 +253,13 @@ module _ (offset : ℕ) (b : List ℕ) (old now : List Item) (before : Parts) (s
         let at : parts.rest_at ≡ offset + fault.at =
         ap (λ (p : Parts). p.rest_at) (split_at_place offset b) ∙ ap (λ n. offset + n) (sym so_far.place ∙ sym step.2) in
         let rest : parts.rest ≡ before.rest = ap (λ (p : Parts). p.rest) (split_at_place offset b) ∙ sym so_far.rest in
-        let told : first (rest_rules parts) ≡ Some (outer_fault (offset + fault.at) cause) =
-        ap₂ (λ a r. first (rest_rules_at a r)) at rest ∙ rest_told (offset + fault.at) before.rest step.1
+        let reported : first (rest_rules parts) ≡ Some (outer_fault (offset + fault.at) cause) =
+        ap₂ (λ a r. first (rest_rules_at a r)) at rest ∙ rest_reported (offset + fault.at) before.rest step.1
         ∙ ap (λ c. Some (outer_fault (offset + fault.at) (of_wire c))) (sym step.3) in
-        subst (λ x. TellsEarly x (fault_behind front parts)) (sym h.1)
-        (tells_back (Fault (outer_fault (offset + fault.at) cause)) (first (each field_rules front parts.fields)) (first (rest_rules parts))
+        subst (λ x. ReportsEarly x (fault_behind front parts)) (sym h.1)
+        (reports_back (Fault (outer_fault (offset + fault.at) cause)) (first (each field_rules front parts.fields)) (first (rest_rules parts))
         (ap (λ xs. first (each field_rules front xs)) (all_done step.0) ∙ fields_clean front done now (so_far.items_are front are))
-        (told, shut_cause (offset + fault.at) fault.cause h.0))
+        (reported, shut_cause (offset + fault.at) fault.cause h.0))
 
 -- a field that holds no bytes
 pub not_bytes : (p : Payload) → ((n : ℕ) × (p ≡ Varint n)) ⊎ (((n : ℕ) × (p ≡ I64 n)) ⊎ ((n : ℕ) × (p ≡ I32 n)))

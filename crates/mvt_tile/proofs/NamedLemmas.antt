@@ -11,7 +11,7 @@ use Rattle.mvt_message.specs.Items.{names_in}
 use Rattle.mvt_message.specs.ValidItems.{ValidItem}
 use Rattle.mvt_tile.specs.declared.fault.DecodeError.TheVariants.{Fault}
 use Rattle.mvt_tile.specs.Inner.Judging.{AreKept, AreNamed, name_fault, repeated_at}
-use Rattle.mvt_tile.specs.Streams.{TellsEarly}
+use Rattle.mvt_tile.specs.Streams.{ReportsEarly}
 use Rattle.mvt_tile.specs.TileRules.{repeats}
 use Rattle.mvt_tile.proofs.NameLemmas.{distinct_more, names_more}
 
@@ -44,9 +44,9 @@ module _ (count : ℕ) (names given : List (List ℕ)) (items : List Item) (adde
   name_there no_more = sym same ∙ not-false (repeats names given) (sym is ∙ no_more)
 
   pub name_again : (at : ℕ) → added ≡ false
-      → TellsEarly (Fault (repeated_at count at)) (name_fault (length items) (flat_map names_in items) given at)
+      → ReportsEarly (Fault (repeated_at count at)) (name_fault (length items) (flat_map names_in items) given at)
   name_again at no_more =
-      subst (λ n. TellsEarly (Fault (repeated_at n at)) (name_fault (length items) (flat_map names_in items) given at)) (sym are.counted)
+      subst (λ n. ReportsEarly (Fault (repeated_at n at)) (name_fault (length items) (flat_map names_in items) given at)) (sym are.counted)
       (first-when (repeats (flat_map names_in items) given) (repeated_at (length items) at) (name_there no_more), refl)
 
 -- items that are valid too

@@ -64,7 +64,7 @@ tile_stays s t f e shut =
     first-more s t
     ∙ either_stays (first (each field_rules [] (split s).fields)) (first (rest_rules (split s)))
     (fault_behind (split s).fields (rest_with s t)) f (sym (first-tile s) ∙ e)
-    (λ told. rest_stays (split s).fields (split s).rest_at (split s).rest t f (split_steps_rest 0 s) told shut)
+    (λ reported. rest_stays (split s).fields (split s).rest_at (split s).rest t f (split_steps_rest 0 s) reported shut)
 
 beyond_stays : (limit : ℕ) (o : Option Fault) (f : Fault) → o ≡ Some f → is_open f ≡ false → beyond limit o ≡ Some f
 beyond_stays limit None f e shut = cc

@@ -4,7 +4,7 @@ use Rattle.mvt_message.specs.declared.item.Item.{Item}
 use Rattle.mvt_tile.specs.declared.fault.DecodeError.{DecodeError}
 use Rattle.mvt_tile.specs.Inner.Judging.{AreNamed}
 use Rattle.mvt_tile.specs.Visiting.{Visiting, HasVisited, StandsAs, StandsFor}
-use Rattle.mvt_tile.proofs.DecoderLemmas.{live_start, live_length, tells_stays}
+use Rattle.mvt_tile.proofs.DecoderLemmas.{live_start, live_length, reports_stays}
 
 -- nothing yet
 pub visited_start : (limit : ℕ) (Has : List Item → Type 0) (d : Visiting) → Has [] → AreNamed d.count d.names [] → d.raw ≡ []
@@ -35,7 +35,7 @@ module _ {V : Type 0} (limit : ℕ) (Has : V → List Item → Type 0) (d : Visi
   failed_of e t failed stands =
       let old : StandsAs limit (Some e) (Has visitor) d s =
       subst (λ o. StandsAs limit o (Has visitor) d s) failed (subst (λ x. StandsFor limit Has x s) (sym is) stands) in
-      let more : StandsAs limit (Some e) (Has visitor) d (s ++ t) = (old.0, tells_stays limit e s t old.1) in
+      let more : StandsAs limit (Some e) (Has visitor) d (s ++ t) = (old.0, reports_stays limit e s t old.1) in
       subst (λ x. StandsFor limit Has x (s ++ t)) is (subst (λ o. StandsAs limit o (Has visitor) d (s ++ t)) (sym failed) more)
 
 pub stands_of : (limit : ℕ) (Has : List Item → Type 0) (d : Visiting) (s : List ℕ) → d.failure ≡ None → HasVisited limit Has d s

@@ -7,13 +7,13 @@ use Rattle.mvt_tile.specs.declared.fault.DecodeError.{DecodeError}
 use Rattle.mvt_tile.specs.declared.fault.DecodeError.TheVariants.{Memory, Fault, Read}
 use Rattle.mvt_tile.specs.declared.fault.Fault.{Fault as AFault}
 use Rattle.mvt_tile.specs.Faults.{outer_fault}
-use Rattle.mvt_tile.specs.Inner.Judging.{IsJudged, TellsBehind}
-use Rattle.mvt_tile.specs.Streams.{IsLive, TellsEarly, TellsAtEnd}
+use Rattle.mvt_tile.specs.Inner.Judging.{IsJudged, ReportsBehind}
+use Rattle.mvt_tile.specs.Streams.{IsLive, ReportsEarly, ReportsAtEnd}
 use Rattle.mvt_tile.specs.TileRules.{fault_within}
 use Rattle.mvt_model.specs.Tiles.{IsTile}
 use Rattle.mvt_tile.proofs.DecoderLemmas.{live_start, live_fails, live_truncated, live_tile, piece_fits, piece_too_large}
 
-at_end : (e : DecodeError) (o : Option AFault) → TellsEarly e o → TellsAtEnd e o
+at_end : (e : DecodeError) (o : Option AFault) → ReportsEarly e o → ReportsAtEnd e o
 at_end Memory o h = tt
 at_end (Fault f) o h = h.0
 at_end (Read kind) o h = absurd h
@@ -22,10 +22,10 @@ from_zero : (n : ℕ) → 0 + n ≡ n
 from_zero n = omega arith
 
 module _ (limit : ℕ) (b fitting beyond : List ℕ) (cut : b ≡ fitting ++ beyond) where
-  pub whole_fails : (e : DecodeError) → TellsBehind e 0 fitting [] → length fitting ≤ limit → TellsAtEnd e (fault_within limit b)
-  whole_fails e tells fits =
+  pub whole_fails : (e : DecodeError) → ReportsBehind e 0 fitting [] → length fitting ≤ limit → ReportsAtEnd e (fault_within limit b)
+  whole_fails e reports fits =
       let all : 0 + (length {A = ℕ} [] + length fitting) ≤ limit = omega arith in
-      at_end e (fault_within limit b) (live_fails limit 0 [] [] [] (live_start limit) b fitting beyond e tells cut all)
+      at_end e (fault_within limit b) (live_fails limit 0 [] [] [] (live_start limit) b fitting beyond e reports cut all)
 
   module _ (items : List Item) (used : ℕ) (judged : IsJudged 0 fitting [] items used) where
     pub whole_too_large : length fitting ≡ limit → (length beyond ≡ 0 → ⊥) → fault_within limit b ≡ Some (outer_fault used TooLarge)

@@ -28,9 +28,9 @@ abbrev pub first_missing : Tile → List (List ℕ) → Option ℕ
 first_missing tile names = position_from (λ name. not (list_any (is_named name) tile.items)) 0 names
 
 -- want of memory only where each name is there
-abbrev pub TellsMissing : ExtractError → Option ℕ → Type 0
-TellsMissing Memory missing = missing ≡ None
-TellsMissing (MissingLayer index) missing = missing ≡ Some index
+abbrev pub ReportsMissing : ExtractError → Option ℕ → Type 0
+ReportsMissing Memory missing = missing ≡ None
+ReportsMissing (MissingLayer index) missing = missing ≡ Some index
 
 -- the canonical bytes of the layers of these names; or the first name that no layer has; or that the bytes are too many
 abbrev pub AreExtracted : ℕ → Tile → List (List ℕ) → NamedLayers → Type 0

@@ -17,14 +17,14 @@ fault_of (Fault f) = Some f
 fault_of (Read kind) = None
 
 -- the kind of the read that failed, where one did
-abbrev pub kind_told : DecodeError → Option ErrorKind
-kind_told Memory = None
-kind_told (Fault f) = None
-kind_told (Read kind) = Some kind
+abbrev pub kind_reported : DecodeError → Option ErrorKind
+kind_reported Memory = None
+kind_reported (Fault f) = None
+kind_reported (Read kind) = Some kind
 
 abbrev pub kind_of : {A : Type 0} → Result A DecodeError → Option ErrorKind
 kind_of (Ok x) = None
-kind_of (Err error) = kind_told error
+kind_of (Err error) = kind_reported error
 
 -- the bytes taken from a reader, without the last so many, have no fault but that of a field that isn't finished
 abbrev pub StopsEarly : ℕ → ℕ → Option (List ℕ) → Option (List ℕ) → Type 0

@@ -29,21 +29,21 @@ pub record IsLive (limit offset : ℕ) (items : List Item) (raw stream : List �
   pub calm : IsCalm (fault_within limit stream)
 
 -- an error that no byte behind the stream can change; want of memory says nothing of the stream
-abbrev pub TellsEarly : DecodeError → Option AFault → Type 0
-TellsEarly Memory fault = ⊤
-TellsEarly (Fault f) fault = (fault ≡ Some f) × (is_open f ≡ false)
-TellsEarly (Read kind) fault = ⊥
+abbrev pub ReportsEarly : DecodeError → Option AFault → Type 0
+ReportsEarly Memory fault = ⊤
+ReportsEarly (Fault f) fault = (fault ≡ Some f) × (is_open f ≡ false)
+ReportsEarly (Read kind) fault = ⊥
 
 -- an error at the end of the stream
-abbrev pub TellsAtEnd : DecodeError → Option AFault → Type 0
-TellsAtEnd Memory fault = ⊤
-TellsAtEnd (Fault f) fault = fault ≡ Some f
-TellsAtEnd (Read kind) fault = ⊥
+abbrev pub ReportsAtEnd : DecodeError → Option AFault → Type 0
+ReportsAtEnd Memory fault = ⊤
+ReportsAtEnd (Fault f) fault = fault ≡ Some f
+ReportsAtEnd (Read kind) fault = ⊥
 
 -- what a decoder holds of a stream: what is live of it, or the error that it keeps
 abbrev pub StandsAs : ℕ → Option DecodeError → Decoding → List ℕ → Type 0
 StandsAs limit None decoder stream = IsLive limit decoder.offset decoder.items decoder.raw stream
-StandsAs limit (Some error) decoder stream = (decoder.raw ≡ []) × TellsEarly error (fault_within limit stream)
+StandsAs limit (Some error) decoder stream = (decoder.raw ≡ []) × ReportsEarly error (fault_within limit stream)
 
 -- the decoder stands for this stream
 abbrev pub StandsFor : ℕ → Decoding → List ℕ → Type 0

@@ -5,7 +5,7 @@ use Rattle.mvt_message.specs.declared.item.Item.{Item}
 use Rattle.mvt_message.specs.ValidItems.{ValidItem}
 use Rattle.mvt_tile.specs.declared.fault.DecodeError.{DecodeError}
 use Rattle.mvt_tile.specs.Inner.Judging.{AreNamed}
-use Rattle.mvt_tile.specs.Streams.{IsLive, TellsEarly}
+use Rattle.mvt_tile.specs.Streams.{IsLive, ReportsEarly}
 use Rattle.mvt_tile.specs.TileRules.{fault_within}
 
 -- what a decoder has beside its visitor: the error that it answers for good, how many items there were and the names of the
@@ -31,7 +31,7 @@ pub record HasVisited (limit : ℕ) (Has : List Item → Type 0) (d : Visiting) 
 -- what a decoder holds of a stream: what is live of it, or the error that it keeps
 abbrev pub StandsAs : ℕ → Option DecodeError → (List Item → Type 0) → Visiting → List ℕ → Type 0
 StandsAs limit None Has d stream = HasVisited limit Has d stream
-StandsAs limit (Some error) Has d stream = (d.raw ≡ []) × TellsEarly error (fault_within limit stream)
+StandsAs limit (Some error) Has d stream = (d.raw ≡ []) × ReportsEarly error (fault_within limit stream)
 
 -- a decoder and its visitor stand for this stream
 abbrev pub StandsFor : {V : Type 0} → ℕ → (V → List Item → Type 0) → Visiting × V → List ℕ → Type 0

@@ -1,6 +1,6 @@
 //! Reading a tile that comes in pieces.
 ghost use Rattle.std.specs.Prelude.{◌≡◌, ℕ, List, [], ◌++◌, length, None, IsSome, IfOk, IfErr, IfSome};
-ghost use Rattle.mvt_tile.specs.Streams.{StandsFor, Answers, TellsAtEnd};
+ghost use Rattle.mvt_tile.specs.Streams.{StandsFor, Answers, ReportsAtEnd};
 ghost use Rattle.mvt_tile.specs.TileRules.{fault_within};
 ghost use Rattle.mvt_model.specs.Tiles.{IsTile};
 ghost use Rattle.mvt_model.specs.ValidTiles.{Valid};
@@ -101,7 +101,7 @@ impl TileDecoder {
             → IsTile LIMIT s tile) }
         ensures valid { IfOk result Valid }
         ensures fault { IfErr result (λ error. (s : List ℕ) → StandsFor LIMIT self s
-            → TellsAtEnd error (fault_within LIMIT s)) }
+            → ReportsAtEnd error (fault_within LIMIT s)) }
         ensures kept { IfSome self.failure (λ error. result ≡ Err error) }
         ensures no_memory { self.failure ≡ None
             → IfErr result (λ error. (error ≡ DecodeError.Memory → ⊥)) }
@@ -129,7 +129,7 @@ impl TileDecoder {
 pub fn decode(alloc: Global, bytes: &[u8]) -> Result<Tile, DecodeError>
     ensures tile { IfOk result (IsTile LIMIT bytes.now) }
     ensures valid { IfOk result Valid }
-    ensures fault { IfErr result (λ error. TellsAtEnd error (fault_within LIMIT bytes.now)) }
+    ensures fault { IfErr result (λ error. ReportsAtEnd error (fault_within LIMIT bytes.now)) }
 {
     let mut decoder = TileDecoder::new(alloc);
     decoder.feed(bytes)?;

@@ -3,14 +3,14 @@
 ghost use Rattle.std.specs.Prelude.{◌≡◌, List, [], map, not, bytes_eq, string_bytes, IfOk, IfErr, IfSome, OnOk};
 ghost use Rattle.std.specs.Io.KnownBytes.{IsAtEnd};
 ghost use Rattle.std.specs.List.{list_any, position_from};
-ghost use Rattle.mvt_base.specs.Tells.{Tells};
+ghost use Rattle.mvt_base.specs.Reports.{Reports};
 ghost use Rattle.mvt_message.specs.declared.item.Item.{Item as AnItem};
 ghost use Rattle.mvt_model.specs.declared.tile.Tile.{Tile};
 ghost use Rattle.mvt_model.specs.Tiles.{IsTile};
 ghost use Rattle.mvt_tile.specs.Extraction.{AreExtracted, is_among};
 ghost use Rattle.mvt_tile.specs.Inner.Wanting.{HasRewritten};
 ghost use Rattle.mvt_tile.specs.Reading.{ReadsTile, fault_of, kind_of};
-ghost use Rattle.mvt_tile.specs.Streams.{TellsAtEnd};
+ghost use Rattle.mvt_tile.specs.Streams.{ReportsAtEnd};
 ghost use Rattle.mvt_tile.specs.TileRules.{fault_within};
 
 use crate::fault::DecodeError;
@@ -48,7 +48,7 @@ pub fn extract_bytes(
 ) -> Result<NamedLayers, DecodeError>
     ensures layers { IfOk result (λ layers. (tile : Tile) × IsTile LIMIT bytes.now tile
         × AreExtracted LIMIT tile (map string_bytes names.now) layers) }
-    ensures fault { IfErr result (λ error. TellsAtEnd error (fault_within LIMIT bytes.now)) }
+    ensures fault { IfErr result (λ error. ReportsAtEnd error (fault_within LIMIT bytes.now)) }
 {
     let mut rewriter = Rewriter::new(alloc, Some(set_of(alloc, names)?));
     walk_whole(alloc, &mut rewriter, bytes)?;
@@ -67,7 +67,7 @@ pub fn extract_tile<R: Source>(
 ) -> Result<NamedLayers, DecodeError>
     ensures end { OnOk result (IsAtEnd (R.state reader.new).left) }
     ensures fault { IfErr result (λ error. IfSome (R.state reader.old).left
-        (λ input. Tells (fault_of error) (fault_within LIMIT input))) }
+        (λ input. Reports (fault_of error) (fault_within LIMIT input))) }
     ensures layers { IfOk result (λ layers. (tile : Tile)
         × AreExtracted LIMIT tile (map string_bytes names.now) layers
         × IfSome (R.state reader.old).left (λ input. IsTile LIMIT input tile)) }

@@ -1,7 +1,7 @@
 //! The layers of a tile that are named.
 ghost use Rattle.std.specs.Prelude.{◌≡◌, ℕ, List, [], ◌∷◌, ◌++◌, map, not, if◌then◌else◌, None, IfOk, IfErr, OnOk, string_bytes};
 ghost use Rattle.std.specs.List.{list_any, position_from};
-ghost use Rattle.mvt_tile.specs.Extraction.{is_named, pick, first_missing, TellsMissing};
+ghost use Rattle.mvt_tile.specs.Extraction.{is_named, pick, first_missing, ReportsMissing};
 ghost use Rattle.mvt_model.specs.ValidTiles.{Valid};
 
 use crate::extract_error::ExtractError;
@@ -22,7 +22,7 @@ pub fn extract(alloc: Global, tile: &Tile, names: &[String]) -> Result<Tile, Ext
     ensures valid { Valid tile.now → IfOk result Valid }
     ensures there { OnOk result (first_missing tile.now (map string_bytes names.now) ≡ None) }
     ensures missing { IfErr result
-        (λ error. TellsMissing error (first_missing tile.now (map string_bytes names.now))) }
+        (λ error. ReportsMissing error (first_missing tile.now (map string_bytes names.now))) }
 {
     let items = tile.items.as_slice();
     if let Some(index) = missing_name(items, names) {

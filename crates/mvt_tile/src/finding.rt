@@ -10,7 +10,7 @@ ghost use Rattle.mvt_message.specs.ItemRules.{item_fault};
 ghost use Rattle.mvt_tile.specs.declared.fault.Fault.{Fault as TileFault};
 ghost use Rattle.mvt_tile.specs.Faults.{in_layer as in_layer_fault};
 ghost use Rattle.mvt_tile.specs.Finding.{IsFirst, IsFoundAt, first_in, named_fault};
-ghost use Rattle.mvt_tile.specs.Streams.{TellsAtEnd};
+ghost use Rattle.mvt_tile.specs.Streams.{ReportsAtEnd};
 ghost use Rattle.mvt_tile.specs.TileRules.{payload_of, rest_rules};
 
 use crate::fault::{DecodeError, Fault};
@@ -41,7 +41,7 @@ pub fn visit_named<V: TileVisitor>(
         × V.has_items visitor (item ∷ []))) }
     ensures ok { OnOk result (named_fault LIMIT name.now bytes.now ≡ None) }
     ensures fault { IfErr result
-        (λ error. TellsAtEnd error (named_fault LIMIT name.now bytes.now)) }
+        (λ error. ReportsAtEnd error (named_fault LIMIT name.now bytes.now)) }
 {
     if bytes.len() > LIMIT as usize {
         return Err(DecodeError::Fault(Fault::outer(LIMIT, Cause::TooLarge)));
@@ -121,7 +121,7 @@ fn visit_found<V: TileVisitor>(
         × V.has_items visitor (item ∷ [])) }
     ensures ok { OnOk result (item_fault found.entry.payload.now found.entry.payload_at
         found.entry.tag_at ≡ None) }
-    ensures fault { IfErr result (λ error. TellsAtEnd error
+    ensures fault { IfErr result (λ error. ReportsAtEnd error
         (option_map (in_layer_fault found.entry.index) (item_fault found.entry.payload.now
         found.entry.payload_at found.entry.tag_at))) }
 {

@@ -2,7 +2,7 @@
 ghost use Rattle.std.specs.Prelude.{◌≡◌, None, IfOk, IfErr, OnOk};
 ghost use Rattle.std.specs.Option.{option_copied};
 ghost use Rattle.mvt_model.specs.declared.tile.Tile.{Tile};
-ghost use Rattle.mvt_tile.specs.Streams.{TellsAtEnd};
+ghost use Rattle.mvt_tile.specs.Streams.{ReportsAtEnd};
 ghost use Rattle.mvt_tile.specs.TileRules.{fault_within};
 ghost use Rattle.mvt_model.specs.Tiles.{IsTile};
 
@@ -23,7 +23,7 @@ use std::alloc::{AllocError, Global};
 pub fn judge(alloc: Global, bytes: &[u8]) -> Result<(), DecodeError>
     ensures ok { OnOk result (fault_within LIMIT bytes.now ≡ None) }
     ensures tile { OnOk result ((tile : Tile) × IsTile LIMIT bytes.now tile) }
-    ensures fault { IfErr result (λ error. TellsAtEnd error (fault_within LIMIT bytes.now)) }
+    ensures fault { IfErr result (λ error. ReportsAtEnd error (fault_within LIMIT bytes.now)) }
 {
     walk_whole(alloc, &mut Names::new(alloc), bytes)
 }

@@ -7,7 +7,7 @@ ghost use Rattle.mvt_message.specs.Items.{IsItem, names_in};
 ghost use Rattle.mvt_message.specs.ValidItems.{ValidItem};
 ghost use Rattle.mvt_tile.specs.Inner.Judging.{AreNamed, name_fault, payload_fault};
 ghost use Rattle.mvt_tile.specs.Inner.Wanting.{IsSetOf};
-ghost use Rattle.mvt_tile.specs.Streams.{TellsEarly};
+ghost use Rattle.mvt_tile.specs.Streams.{ReportsEarly};
 ghost use Rattle.mvt_tile.specs.TileRules.{repeats};
 ghost use Rattle.mvt_model.specs.Tiles.{HasDistinctNames};
 
@@ -71,7 +71,7 @@ impl Layers {
         requires few { length self.old ≤ LIMIT }
         ensures items { OnOk result (self.new ≡ self.old ++ item ∷ []) }
         ensures new { OnOk result (repeats (flat_map names_in self.old) (names_in item) ≡ false) }
-        ensures fault { IfErr result (λ error. TellsEarly error
+        ensures fault { IfErr result (λ error. ReportsEarly error
             (name_fault (length self.old) (flat_map names_in self.old) (names_in item) tag_at)) }
     {
         let alloc = *self.items.allocator();
@@ -132,7 +132,7 @@ impl Names {
             × (repeats (flat_map names_in items) (names_in item) ≡ false)) }
         ensures fault { IfErr result (λ error. (items : List Item)
             → AreNamed self.old.count self.old.names.keys items
-            → TellsEarly error (name_fault (length items) (flat_map names_in items)
+            → ReportsEarly error (name_fault (length items) (flat_map names_in items)
             (option_to_list name) tag_at)) }
         ensures same { OnErr result ((self.new.count ≡ self.old.count)
             × (self.new.names.keys ≡ self.old.names.keys)) }
@@ -162,7 +162,7 @@ impl Names {
             × (repeats (flat_map names_in items) (names_in item) ≡ false)) }
         ensures fault { IfErr result (λ error. (items : List Item)
             → AreNamed self.old.count self.old.names.keys items
-            → TellsEarly error (payload_fault (length items)
+            → ReportsEarly error (payload_fault (length items)
             (flat_map names_in items) payload.now payload_at tag_at)) }
     {
         match read_item(alloc, payload, payload_at, tag_at) {

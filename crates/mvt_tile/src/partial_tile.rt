@@ -3,8 +3,8 @@ ghost use Rattle.std.specs.Prelude.{◌≡◌, ℕ, ◌+◌, ◌≤◌, List, []
 ghost use Rattle.mvt_message.specs.declared.item.Item.{Item};
 ghost use Rattle.mvt_model.specs.declared.tile.Tile.{Tile};
 ghost use Rattle.mvt_model.specs.Tiles.{IsTile};
-ghost use Rattle.mvt_tile.specs.Inner.Judging.{IsJudged, TellsBehind};
-ghost use Rattle.mvt_tile.specs.Streams.{IsLive, TellsEarly, TellsAtEnd};
+ghost use Rattle.mvt_tile.specs.Inner.Judging.{IsJudged, ReportsBehind};
+ghost use Rattle.mvt_tile.specs.Streams.{IsLive, ReportsEarly, ReportsAtEnd};
 ghost use Rattle.mvt_tile.specs.TileRules.{fault_within};
 
 use crate::fault::{DecodeError, Fault};
@@ -51,7 +51,7 @@ impl<T: ItemVisitor> PartialTile<T> {
         ensures fault { (given : T.Given) (items : List Item)
             → T.has_visited given self.old.visitor items → IfErr result
             (λ error. (s : List ℕ) → IsLive LIMIT self.old.offset items self.old.raw.items s
-            → TellsEarly error (fault_within LIMIT (s ++ piece.now))) }
+            → ReportsEarly error (fault_within LIMIT (s ++ piece.now))) }
     {
         let room = LIMIT as usize - (self.offset as usize + self.raw.len());
         let (fitting, beyond) = piece.split_at(room.min(piece.len()));
@@ -71,7 +71,7 @@ impl<T: ItemVisitor> PartialTile<T> {
             × IsTile LIMIT s (record { items = items })) }
         ensures fault { (items : List Item) (s : List ℕ)
             → IsLive LIMIT self.offset items self.raw.items s
-            → IfErr result (λ error. TellsAtEnd error (fault_within LIMIT s)) }
+            → IfErr result (λ error. ReportsAtEnd error (fault_within LIMIT s)) }
         ensures no_memory { IfErr result (λ error. (error ≡ DecodeError.Memory → ⊥)) }
     {
         if !self.raw.is_empty() {
@@ -101,7 +101,7 @@ fn feed_after<T: ItemVisitor>(
     ensures within { IfOk result (λ used. used ≤ length raw.old.items + length piece.now) }
     ensures fault { (given : T.Given) (items : List Item) → T.has_visited given visitor.old items
         → IfErr result
-        (λ error. TellsBehind error offset (raw.old.items ++ piece.now) items) }
+        (λ error. ReportsBehind error offset (raw.old.items ++ piece.now) items) }
 {
     if raw.is_empty() {
         let used = walk_fields(alloc, visitor, piece, offset)?;

@@ -1,7 +1,7 @@
 //! Reading a tile from a reader.
 ghost use Rattle.std.specs.Prelude.{◌≡◌, ◌+◌, ◌<◌, ◌≤◌, [], length, IfOk, IfErr, IfSome, OnOk};
 ghost use Rattle.std.specs.Io.KnownBytes.{IsAtEnd};
-ghost use Rattle.mvt_base.specs.Tells.{Tells};
+ghost use Rattle.mvt_base.specs.Reports.{Reports};
 ghost use Rattle.mvt_io.specs.States.{EndedBy};
 ghost use Rattle.mvt_io.specs.Transfers.{Reads};
 ghost use Rattle.mvt_tile.specs.Inner.Feeding.{HasFed, HasStopped};
@@ -38,7 +38,7 @@ pub fn read_tile<R: Source>(alloc: Global, reader: &mut R) -> Result<Tile, Decod
     ensures valid { IfOk result Valid }
     ensures end { OnOk result (IsAtEnd (R.state reader.new).left) }
     ensures fault { IfErr result (λ error. IfSome (R.state reader.old).left
-        (λ input. Tells (fault_of error) (fault_within LIMIT input))) }
+        (λ input. Reports (fault_of error) (fault_within LIMIT input))) }
     ensures read { ReadsTile LIMIT (R.state reader.old) (R.state reader.new) (kind_of result) }
 {
     let layers = read_whole(alloc, reader, Layers::new(alloc))?;
@@ -56,7 +56,7 @@ pub(crate) fn read_whole<R: Source, T: ItemVisitor>(
     requires start { (given : T.Given) × T.has_visited given visitor [] }
     ensures end { OnOk result (IsAtEnd (R.state reader.new).left) }
     ensures fault { IfErr result (λ error. IfSome (R.state reader.old).left
-        (λ input. Tells (fault_of error) (fault_within LIMIT input))) }
+        (λ input. Reports (fault_of error) (fault_within LIMIT input))) }
     ensures tile { (given : T.Given) → T.has_visited given visitor []
         → IfOk result (λ after. (tile : Tile)
         × T.has_visited given after tile.items

@@ -4,7 +4,7 @@ ghost use Rattle.std.specs.Prelude.{◌≡◌, ◌+◌, ◌≤◌, max, Bool, tr
 ghost use Rattle.std.specs.Io.KnownBytes.{IsAtEnd};
 ghost use Rattle.std.specs.List.{flat_map};
 ghost use Rattle.std.specs.Option.{option_to_list};
-ghost use Rattle.mvt_base.specs.Tells.{Tells};
+ghost use Rattle.mvt_base.specs.Reports.{Reports};
 ghost use Rattle.mvt_message.specs.declared.item.Item.{Item as AnItem};
 ghost use Rattle.mvt_message.specs.CanonicalItems.{canonical_item};
 ghost use Rattle.mvt_message.specs.Items.{names_in};
@@ -16,7 +16,7 @@ ghost use Rattle.mvt_model.specs.ValidTiles.{Valid};
 ghost use Rattle.mvt_tile.specs.Inner.Judging.{name_fault};
 ghost use Rattle.mvt_tile.specs.Inner.Wanting.{HasRewritten, all_items, is_in, names_of};
 ghost use Rattle.mvt_tile.specs.Reading.{ReadsTile, fault_of, kind_of};
-ghost use Rattle.mvt_tile.specs.Streams.{TellsAtEnd, TellsEarly};
+ghost use Rattle.mvt_tile.specs.Streams.{ReportsAtEnd, ReportsEarly};
 ghost use Rattle.mvt_tile.specs.TileRules.{fault_within, repeats};
 
 use crate::fault::DecodeError;
@@ -41,7 +41,7 @@ use std::collections::BTreeSet;
 pub fn rewrite(alloc: Global, bytes: &[u8]) -> Result<Option<Vec<u8>>, DecodeError>
     ensures tile { IfOk result (λ out. (tile : Tile) × IsTile LIMIT bytes.now tile × Valid tile
         × IsEncoded LIMIT tile out) }
-    ensures fault { IfErr result (λ error. TellsAtEnd error (fault_within LIMIT bytes.now)) }
+    ensures fault { IfErr result (λ error. ReportsAtEnd error (fault_within LIMIT bytes.now)) }
 {
     let mut rewriter = Rewriter::of_all(alloc);
     walk_whole(alloc, &mut rewriter, bytes)?;
@@ -60,7 +60,7 @@ pub fn rewrite_tile<R: Source>(
 ) -> Result<Option<Vec<u8>>, DecodeError>
     ensures end { OnOk result (IsAtEnd (R.state reader.new).left) }
     ensures fault { IfErr result (λ error. IfSome (R.state reader.old).left
-        (λ input. Tells (fault_of error) (fault_within LIMIT input))) }
+        (λ input. Reports (fault_of error) (fault_within LIMIT input))) }
     ensures tile { IfOk result (λ out. (tile : Tile) × IsEncoded LIMIT tile out
         × IfSome (R.state reader.old).left (λ input. IsTile LIMIT input tile × Valid tile)) }
     ensures read { ReadsTile LIMIT (R.state reader.old) (R.state reader.new) (kind_of result) }
@@ -116,7 +116,7 @@ impl Rewriter {
             × (repeats (flat_map names_in items) (names_in item) ≡ false)) }
         ensures fault { (wanted : AnItem → Bool) (items : List AnItem)
             → HasRewritten LIMIT wanted self.old items
-            → IfErr result (λ error. TellsEarly error (name_fault (length items)
+            → IfErr result (λ error. ReportsEarly error (name_fault (length items)
             (flat_map names_in items) (option_to_list name) tag_at)) }
     {
         let is_wanted = self.wants(&name);

@@ -1,7 +1,7 @@
 //! A tile written and read again.
 ghost use Rattle.std.specs.Prelude.{◌≡◌, ◌<◌, ◌≤◌, length, Some, IfOk, IfErr, IfSome, IsErrOf, OnOk, OnErr, MatchResult};
 ghost use Rattle.std.specs.Io.KnownBytes.{IsAtEnd};
-ghost use Rattle.mvt_base.specs.Tells.{Tells};
+ghost use Rattle.mvt_base.specs.Reports.{Reports};
 ghost use Rattle.mvt_io.specs.Transfers.{Wrote, WroteFront};
 ghost use Rattle.mvt_model.specs.CanonicalTiles.{canonical};
 ghost use Rattle.mvt_tile.specs.Reading.{ReadsBack, ReadsTile, fault_of, kind_of};
@@ -42,7 +42,7 @@ pub fn write_and_read<W: Sink, R: Source>(
     // What is read is read as `read_tile` reads it.
     ensures exact { IfOk result (λ read. IfSome (R.state reader.old).left
         (λ input. MatchResult read (IsTile LIMIT input)
-        (λ error. Tells (fault_of error) (fault_within LIMIT input)))) }
+        (λ error. Reports (fault_of error) (fault_within LIMIT input)))) }
     ensures valid { IfOk result (λ read. IfOk read Valid) }
     ensures end { IfOk result (λ read. OnOk read (IsAtEnd (R.state reader.new).left)) }
     ensures read { IfOk result

@@ -4,7 +4,7 @@ ghost use Rattle.mvt_message.specs.ValidItems.{ValidItem};
 ghost use Rattle.mvt_model.specs.declared.tile.Tile.{Tile};
 ghost use Rattle.mvt_model.specs.CanonicalTiles.{canonical};
 ghost use Rattle.mvt_model.specs.Findings.{AreFound};
-ghost use Rattle.mvt_tile.specs.Streams.{TellsAtEnd};
+ghost use Rattle.mvt_tile.specs.Streams.{ReportsAtEnd};
 ghost use Rattle.mvt_model.specs.Survey.{survey_of};
 ghost use Rattle.mvt_tile.specs.TileRules.{fault_within};
 ghost use Rattle.mvt_model.specs.Tiles.{IsTile};
@@ -28,7 +28,7 @@ use std::alloc::Global;
 pub fn survey_tile(alloc: Global, bytes: &[u8]) -> Result<Survey, DecodeError>
     ensures survey { IfOk result (λ survey. (tile : Tile) × IsTile LIMIT bytes.now tile × Valid tile
         × (survey ≡ survey_of tile (bytes_eq bytes.now (canonical tile)))) }
-    ensures fault { IfErr result (λ error. TellsAtEnd error (fault_within LIMIT bytes.now)) }
+    ensures fault { IfErr result (λ error. ReportsAtEnd error (fault_within LIMIT bytes.now)) }
 {
     let fitting = &bytes[..bytes.len().min(LIMIT as usize)];
     let mut surveyor = Surveyor {

@@ -1,7 +1,7 @@
 //! Going over a tile: a visitor is told the payload of each item.
 ghost use Rattle.std.specs.Prelude.{◌≡◌, ◌+◌, ◌≤◌, List, [], ◌∷◌, ◌++◌, length, IfOk, IfErr};
 ghost use Rattle.std.specs.Option.{option_to_list};
-ghost use Rattle.mvt_base.specs.Tells.{Tells};
+ghost use Rattle.mvt_base.specs.Reports.{Reports};
 ghost use Rattle.mvt_feature.specs.Faults.{fault_of};
 ghost use Rattle.mvt_message.specs.declared.item.Item.{Item};
 ghost use Rattle.mvt_message.specs.ItemRules.{item_fault};
@@ -10,7 +10,7 @@ ghost use Rattle.mvt_message.specs.ValidItems.{ValidItem};
 ghost use Rattle.mvt_model.specs.declared.tile.Tile.{Tile};
 ghost use Rattle.mvt_model.specs.Tiles.{IsTile};
 ghost use Rattle.mvt_model.specs.ValidTiles.{Valid};
-ghost use Rattle.mvt_tile.specs.Streams.{TellsAtEnd};
+ghost use Rattle.mvt_tile.specs.Streams.{ReportsAtEnd};
 ghost use Rattle.mvt_tile.specs.TileRules.{fault_within};
 
 use crate::fault::DecodeError;
@@ -44,7 +44,7 @@ pub trait TileVisitor: Drop {
         ensures item { (items : List Item) → has_items self.old items → IfOk result (λ name. (item : Item)
             × IsItem payload.now item × ValidItem item × (names_in item ≡ option_to_list name)
             × has_items self.new (items ++ item ∷ [])) }
-        ensures fault { IfErr result (λ error. Tells (fault_of error) (item_fault payload.now payload_at tag_at)) };
+        ensures fault { IfErr result (λ error. Reports (fault_of error) (item_fault payload.now payload_at tag_at)) };
 }
 
 /// Has a visitor take the items of a tile, and answers it.
@@ -57,7 +57,7 @@ pub fn visit_tile<V: TileVisitor>(alloc: Global, visitor: V, bytes: &[u8]) -> Re
     requires { V.has_items visitor [] }
     ensures tile { IfOk result (λ visitor. (tile : Tile) × IsTile LIMIT bytes.now tile × Valid tile
         × V.has_items visitor tile.items) }
-    ensures fault { IfErr result (λ error. TellsAtEnd error (fault_within LIMIT bytes.now)) }
+    ensures fault { IfErr result (λ error. ReportsAtEnd error (fault_within LIMIT bytes.now)) }
 {
     let mut named = Named {
         names: Names::new(alloc),

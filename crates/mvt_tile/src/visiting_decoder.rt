@@ -3,7 +3,7 @@ ghost use Rattle.std.specs.Prelude.{◌≡◌, ℕ, List, [], ◌++◌, None, Is
 ghost use Rattle.mvt_model.specs.declared.tile.Tile.{Tile};
 ghost use Rattle.mvt_model.specs.Tiles.{IsTile};
 ghost use Rattle.mvt_model.specs.ValidTiles.{Valid};
-ghost use Rattle.mvt_tile.specs.Streams.{Answers, TellsAtEnd};
+ghost use Rattle.mvt_tile.specs.Streams.{Answers, ReportsAtEnd};
 ghost use Rattle.mvt_tile.specs.TileRules.{fault_within};
 ghost use Rattle.mvt_tile.specs.Visiting.{StandsFor};
 
@@ -104,7 +104,7 @@ impl<V: TileVisitor> VisitingDecoder<V> {
         ensures tile { IfOk result (λ visitor. (s : List ℕ) → StandsFor LIMIT V.has_items self s
             → (tile : Tile) × IsTile LIMIT s tile × Valid tile × V.has_items visitor tile.items) }
         ensures fault { IfErr result (λ error. (s : List ℕ) → StandsFor LIMIT V.has_items self s
-            → TellsAtEnd error (fault_within LIMIT s)) }
+            → ReportsAtEnd error (fault_within LIMIT s)) }
         ensures kept { IfSome self.0.failure (λ error. result ≡ Err error) }
         ensures no_memory { self.0.failure ≡ None
             → IfErr result (λ error. (error ≡ DecodeError.Memory → ⊥)) }

@@ -11,8 +11,8 @@ ghost use Rattle.mvt_message.specs.Items.{names_in};
 ghost use Rattle.mvt_model.specs.declared.numbers.tile.TheConstants.{LAYERS};
 ghost use Rattle.mvt_model.specs.declared.tile.Tile.{Tile};
 ghost use Rattle.mvt_tile.specs.Faults.{outer_fault};
-ghost use Rattle.mvt_tile.specs.Inner.Judging.{IsJudged, IsPlaceOf, TakesItem, TellsBehind, payload_fault, repeated_at, told_in};
-ghost use Rattle.mvt_tile.specs.Streams.{TellsEarly, TellsAtEnd};
+ghost use Rattle.mvt_tile.specs.Inner.Judging.{IsJudged, IsPlaceOf, TakesItem, ReportsBehind, payload_fault, repeated_at, reported_in};
+ghost use Rattle.mvt_tile.specs.Streams.{ReportsEarly, ReportsAtEnd};
 ghost use Rattle.mvt_tile.specs.TileRules.{field_rules, fault_within};
 ghost use Rattle.mvt_model.specs.Tiles.{AreItems, IsTile};
 
@@ -47,7 +47,7 @@ pub(crate) trait ItemVisitor: Drop {
             ((new : List Item) × has_visited given self.new new × TakesItem items new payload.now) }
         ensures fault { (given : Given) (items : List Item) → has_visited given self.old items
             → IfErr result
-            (λ error. TellsEarly error (payload_fault (length items)
+            (λ error. ReportsEarly error (payload_fault (length items)
             (flat_map names_in items) payload.now payload_at tag_at)) };
 }
 
@@ -60,7 +60,7 @@ pub(crate) fn walk_whole<T: ItemVisitor>(
     requires start { (given : T.Given) × T.has_visited given visitor.old [] }
     ensures tile { (given : T.Given) → T.has_visited given visitor.old [] → OnOk result
         ((tile : Tile) × IsTile LIMIT bytes.now tile × T.has_visited given visitor.new tile.items) }
-    ensures fault { IfErr result (λ error. TellsAtEnd error (fault_within LIMIT bytes.now)) }
+    ensures fault { IfErr result (λ error. ReportsAtEnd error (fault_within LIMIT bytes.now)) }
 {
     let (fitting, beyond) = bytes.split_at(bytes.len().min(LIMIT as usize));
     let used = walk_fields(alloc, visitor, fitting, 0)?;
@@ -90,7 +90,7 @@ pub(crate) fn walk_fields<T: ItemVisitor>(
         × IsJudged offset bytes.now items new used) }
     ensures fault { (given : T.Given) (items : List Item) → T.has_visited given visitor.old items
         → IfErr result
-        (λ error. TellsBehind error offset bytes.now items) }
+        (λ error. ReportsBehind error offset bytes.now items) }
 {
     for field in Fields::new(bytes) {
         match field {
@@ -133,7 +133,7 @@ fn layer_in<'a>(field: &Field<'a>, offset: u64) -> Result<Option<Place<'a>>, Dec
         (λ place. IsPlaceOf offset (entry_of field.now) place.payload.now place.payload_at
         place.tag_at)) }
     ensures fault { IfErr result (λ error. (front : List Entry) →
-        TellsEarly error (first (field_rules front (shifted offset (entry_of field.now))))) }
+        ReportsEarly error (first (field_rules front (shifted offset (entry_of field.now))))) }
 {
     if field.number != tile::LAYERS {
         return Ok(None);
@@ -170,7 +170,7 @@ fn take_field<T: ItemVisitor>(
     ensures fault { (given : T.Given) (items : List Item) → T.has_visited given visitor.old items
         → IfErr result (λ error.
         (front : List Entry) → AreItems front items
-        → TellsEarly error (first (field_rules front (shifted offset (entry_of field.now))))) }
+        → ReportsEarly error (first (field_rules front (shifted offset (entry_of field.now))))) }
 {
     match layer_in(field, offset)? {
         None => Ok(()),
@@ -180,7 +180,7 @@ fn take_field<T: ItemVisitor>(
 
 /// An error of a payload, as the tile tells it.
 pub(crate) fn in_layer(index: u32, error: MessageError) -> DecodeError
-    ensures { result ≡ told_in index error }
+    ensures { result ≡ reported_in index error }
 {
     match error {
         MessageError::Memory => DecodeError::Memory,

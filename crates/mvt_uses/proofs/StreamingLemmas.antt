@@ -7,23 +7,23 @@ use Rattle.std.proofs.lemmas.List.{drop_more}
 use Rattle.mvt_base.specs.declared.TheConstants.{LIMIT}
 use Rattle.mvt_tile.specs.declared.fault.DecodeError.{DecodeError}
 use Rattle.mvt_tile.specs.declared.fault.DecodeError.TheVariants.{Memory, Fault, Read}
-use Rattle.mvt_tile.specs.Streams.{Answers, Decoding, StandsAs, StandsFor, TellsAtEnd, TellsEarly}
+use Rattle.mvt_tile.specs.Streams.{Answers, Decoding, StandsAs, StandsFor, ReportsAtEnd, ReportsEarly}
 use Rattle.mvt_tile.specs.TileRules.{fault_within}
 use Rattle.mvt_tile.proofs.TileLaws.{fault_stays}
 
-told_early : (error : DecodeError) (s more : List ℕ) → TellsEarly error (fault_within LIMIT s)
-    → TellsAtEnd error (fault_within LIMIT (s ++ more))
-told_early Memory s more told = told
-told_early (Fault f) s more told = fault_stays s more f told.0 told.1
-told_early (Read kind) s more told = told
+reported_early : (error : DecodeError) (s more : List ℕ) → ReportsEarly error (fault_within LIMIT s)
+    → ReportsAtEnd error (fault_within LIMIT (s ++ more))
+reported_early Memory s more reported = reported
+reported_early (Fault f) s more reported = fault_stays s more f reported.0 reported.1
+reported_early (Read kind) s more reported = reported
 
 -- the error of a decoder that stands for a stream is that of each longer stream
 stopped : (failure : Option DecodeError) (decoder : Decoding) (error : DecodeError) (s more : List ℕ)
-    → StandsAs LIMIT failure decoder s → Answers failure (Err error) → TellsAtEnd error (fault_within LIMIT (s ++ more))
+    → StandsAs LIMIT failure decoder s → Answers failure (Err error) → ReportsAtEnd error (fault_within LIMIT (s ++ more))
 stopped None decoder error s more stands answer = cc
 stopped (Some kept) decoder error s more stands answer =
     let same : kept ≡ error = cc in
-    subst (λ e. TellsAtEnd e (fault_within LIMIT (s ++ more))) same (told_early kept s more stands.1)
+    subst (λ e. ReportsAtEnd e (fault_within LIMIT (s ++ more))) same (reported_early kept s more stands.1)
 
 -- what all make is what those before one make, what it makes, and what those behind it make
 flat_seam : {X : Type 0} (f : X → List ℕ) (xs : List X) (i : ℕ) (d : X) → i < length xs
@@ -37,9 +37,9 @@ flat_seam f xs i d below =
 -- an error at one of the pieces is that of all of them
 pub fault_of_pieces : (pieces : List (Bor (List ℕ))) (i : ℕ) (d : Bor (List ℕ)) (decoder : Decoding) (error : DecodeError)
     → i < length pieces → StandsFor LIMIT decoder (flat_map (λ p. p.now) (take i pieces) ++ (get_or pieces i d).now)
-    → Answers decoder.failure (Err error) → TellsAtEnd error (fault_within LIMIT (flat_map (λ p. p.now) pieces))
+    → Answers decoder.failure (Err error) → ReportsAtEnd error (fault_within LIMIT (flat_map (λ p. p.now) pieces))
 fault_of_pieces pieces i d decoder error below stands answer =
     let seen = flat_map (λ (p : Bor (List ℕ)). p.now) (take i pieces) ++ (get_or pieces i d).now in
     let more = flat_map (λ (p : Bor (List ℕ)). p.now) (drop (i + 1) pieces) in
-    subst (λ s. TellsAtEnd error (fault_within LIMIT s)) (sym (flat_seam (λ (p : Bor (List ℕ)). p.now) pieces i d below))
+    subst (λ s. ReportsAtEnd error (fault_within LIMIT s)) (sym (flat_seam (λ (p : Bor (List ℕ)). p.now) pieces i d below))
     (stopped decoder.failure decoder error seen more stands answer)

@@ -1,7 +1,7 @@
 //! Read a tile, and look into it.
 ghost use Rattle.std.specs.Prelude.{◌≡◌, find, option_copied, IfOk, IfErr};
 ghost use Rattle.mvt_tile.specs.Extraction.{is_named};
-ghost use Rattle.mvt_tile.specs.Streams.{TellsAtEnd};
+ghost use Rattle.mvt_tile.specs.Streams.{ReportsAtEnd};
 ghost use Rattle.mvt_tile.specs.TileRules.{fault_within};
 ghost use Rattle.mvt_uses.specs.Uses.{HasCount, count_of};
 
@@ -11,7 +11,7 @@ use std::alloc::Global;
 /// How many features the layer of a name has, if there is one.
 pub fn count_features(alloc: Global, bytes: &[u8], name: &str) -> Result<Option<usize>, DecodeError>
     ensures count { IfOk result (HasCount LIMIT bytes.now name.now) }
-    ensures fault { IfErr result (λ error. TellsAtEnd error (fault_within LIMIT bytes.now)) }
+    ensures fault { IfErr result (λ error. ReportsAtEnd error (fault_within LIMIT bytes.now)) }
 {
     let tile = decode(alloc, bytes)?;
     Ok(count_in(tile.items.as_slice(), name))

@@ -25,20 +25,20 @@ unfoldable pub field_line : Entry → List ℕ
 field_line e = decimal e.at ++ (codes " " ++ (decimal e.number ++ (codes " " ++ (content_text e.content ++ codes "\n"))))
 
 -- a broken spelling as it is told: what is cut off by the limit alone is too large
-abbrev pub told_cause : Bool → WireCause → Cause
-told_cause is_longer wire.Truncated = if is_longer then TooLarge else Truncated
-told_cause is_longer wire.VarintRange = VarintRange
-told_cause is_longer wire.FieldNumber = FieldNumber
-told_cause is_longer wire.WireType = WireType
+abbrev pub reported_cause : Bool → WireCause → Cause
+reported_cause is_longer wire.Truncated = if is_longer then TooLarge else Truncated
+reported_cause is_longer wire.VarintRange = VarintRange
+reported_cause is_longer wire.FieldNumber = FieldNumber
+reported_cause is_longer wire.WireType = WireType
 
 -- the fault of a field at the top
-abbrev pub told : Bool → ℕ → WireCause → Fault
-told is_longer at cause = outer_fault at (told_cause is_longer cause)
+abbrev pub reported : Bool → ℕ → WireCause → Fault
+reported is_longer at cause = outer_fault at (reported_cause is_longer cause)
 
 -- the fault behind the fields: the rest's, or the input's own where it goes on behind the limit
 abbrev pub rest_fault : ℕ → Bool → ℕ → List ℕ → Option Fault
 rest_fault limit is_longer at [] = if is_longer then Some (outer_fault limit TooLarge) else None
-rest_fault limit is_longer at (b ∷ bs) = Some (told is_longer at (rest_cause (b ∷ bs)))
+rest_fault limit is_longer at (b ∷ bs) = Some (reported is_longer at (rest_cause (b ∷ bs)))
 
 -- the fields and the rest of the first bytes of an input
 abbrev pub front_parts : ℕ → List ℕ → Parts

@@ -2,7 +2,7 @@
 ghost use Rattle.std.specs.Prelude.{◌≡◌, ◌++◌, OnOk, IfOk, string_bytes};
 ghost use Rattle.mvt_wire.specs.Field.{entry_of};
 ghost use Rattle.mvt_tile.specs.Faults.{outer_fault as outer};
-ghost use Rattle.mvt_view.specs.FieldLines.{field_line, told, IsFieldsText};
+ghost use Rattle.mvt_view.specs.FieldLines.{field_line, reported, IsFieldsText};
 
 use crate::view_error::ViewError;
 use mvt_base::LIMIT;
@@ -69,7 +69,7 @@ fn push_line(lines: &mut String, field: &Field<'_>) -> Result<(), AllocError>
 
 /// How a broken spelling is told: what is cut off only by the limit is too large.
 fn fault_of(fault: WireFault, is_longer: bool) -> Fault
-    ensures { result ≡ told is_longer fault.at fault.cause }
+    ensures { result ≡ reported is_longer fault.at fault.cause }
 {
     let cause = match fault.cause {
         WireCause::Truncated if is_longer => Cause::TooLarge,

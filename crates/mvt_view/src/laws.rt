@@ -4,7 +4,7 @@ ghost use Rattle.mvt_view.specs.FieldLines.{fields_fault, fields_lines};
 
 /// The first bytes of an input, one more than the limit, tell the same fields and the same fault as
 /// the whole of it.
-pub fn front_tells()
+pub fn front_reports()
     ensures lines { (limit : ℕ) (input : List ℕ)
         → fields_lines limit (take (limit + 1) input) ≡ fields_lines limit input }
     ensures fault { (limit : ℕ) (input : List ℕ)

@@ -231,7 +231,7 @@ fn refuses_what_is_no_tile(rt: HostRuntime) {
 }
 
 #[test]
-fn tells_why_nothing_is_made(rt: HostRuntime) {
+fn reports_why_nothing_is_made(rt: HostRuntime) {
     let text = format!(in rt.alloc();
         "{}, {}, {}",
         RowsError::Memory,

@@ -234,7 +234,7 @@ const fn fault(layer: Option<u32>, feature: Option<u32>, at: u64, cause: Cause) 
 }
 
 #[test]
-fn tells_faults(rt: HostRuntime) {
+fn reports_faults(rt: HostRuntime) {
     let faults = [
         (
             fault(Some(0), None, 14, Cause::ValueKind),
@@ -257,13 +257,13 @@ fn tells_faults(rt: HostRuntime) {
 // A cause in feature 4 of layer 3, at 5.
 fn expect_cause(rt: &(impl Abort + AllocGlobal), cause: Cause, expected: &str) {
     let text = fault_text(rt.alloc(), &fault(Some(3), Some(4), 5, cause)).expect(rt, "a text");
-    let told = text.as_str().strip_prefix("layer 3 feature 4 at 5: ");
-    expect_eq!(rt; told, Some(expected));
+    let reported = text.as_str().strip_prefix("layer 3 feature 4 at 5: ");
+    expect_eq!(rt; reported, Some(expected));
     drop(text);
 }
 
 #[test]
-fn tells_causes(rt: HostRuntime) {
+fn reports_causes(rt: HostRuntime) {
     let causes = [
         (Cause::Truncated, "1 Truncated"),
         (Cause::VarintRange, "2 VarintRange"),

@@ -6,7 +6,7 @@ use Rattle.std.proofs.lemmas.List.{length-append, length-drop, take-append-drop,
 use Rattle.std.proofs.lemmas.List.Concat.{flat_map-append}
 use Rattle.std.proofs.lemmas.List.Folds.{length-flat_map-take}
 use Rattle.std.proofs.Math.Seq.{drop-append_seam}
-use Rattle.mvt_base.specs.Tells.{Tells}
+use Rattle.mvt_base.specs.Reports.{Reports}
 use Rattle.mvt_base.specs.Rules.{Rules, when, under, each, first, AreOrdered}
 use Rattle.mvt_base.proofs.RuleLemmas.{first-append, first-under, first-when, first-when_not, option_or-nones, first_back, first_front, each_more, each_stops}
 use Rattle.mvt_base.proofs.OrderLemmas.{all_later, under_from, under_ordered, when_ordered}
@@ -213,17 +213,17 @@ read_stops b rest read c is clean e some =
     ∙ first_back (each small_rules [] read) _ clean ∙ first-under (length read) (when (not (is_nil rest)) (number_cause rest))
     ∙ rest_broken rest some
 
-tells_by : (t : Bool) (o : Option PackedCause) → o ≡ Some (cond t truncated varint_range)
-    → Tells (fault_of (error_of (cond t Truncated VarintRange))) o
-tells_by true o e = e
-tells_by false o e = e
+reports_by : (t : Bool) (o : Option PackedCause) → o ≡ Some (cond t truncated varint_range)
+    → Reports (fault_of (error_of (cond t Truncated VarintRange))) o
+reports_by true o e = e
+reports_by false o e = e
 
-pub read_tells : (b rest read : List ℕ) (c : WireCause) → packed b ≡ all_ahead read (packed rest)
+pub read_reports : (b rest read : List ℕ) (c : WireCause) → packed b ≡ all_ahead read (packed rest)
     → first (each small_rules [] read) ≡ None → number_at rest ≡ Err c → rest ≢ []
-    → Tells (fault_of (error_of c)) (first (packed_rules b))
-read_tells b rest read c is clean e some =
-    subst (λ (k : WireCause). Tells (fault_of (error_of k)) (first (packed_rules b))) (sym (number_none rest c e).1)
-    (tells_by (ltb (length rest) 10) _ (read_stops b rest read c is clean e some))
+    → Reports (fault_of (error_of c)) (first (packed_rules b))
+read_reports b rest read c is clean e some =
+    subst (λ (k : WireCause). Reports (fault_of (error_of k)) (first (packed_rules b))) (sym (number_none rest c e).1)
+    (reports_by (ltb (length rest) 10) _ (read_stops b rest read c is clean e some))
 
 pub read_all : (b rest read : List ℕ) → packed b ≡ all_ahead read (packed rest) → first (each small_rules [] read) ≡ None
     → rest ≡ [] → (first (packed_rules b) ≡ None) × ((packed b).numbers ≡ read)

@@ -1,6 +1,6 @@
 //! Packed numbers (Protocol Buffers, Encoding, "Packed Repeated Fields").
 ghost use Rattle.std.specs.Prelude.{◌≡◌, ◌+◌, ◌^◌, ◌<◌, ◌≤◌, ◌++◌, None, length, IfOk, IfErr, IsOk, OnOk, OnErr, vec_len, vec_capacity};
-ghost use Rattle.mvt_base.specs.Tells.{Tells};
+ghost use Rattle.mvt_base.specs.Reports.{Reports};
 ghost use Rattle.mvt_base.specs.Rules.{first};
 ghost use Rattle.mvt_wire.specs.Field.{bytes};
 ghost use Rattle.mvt_wire.specs.Packed.{ArePacked, packed, packed_rules, fault_of};
@@ -60,7 +60,7 @@ impl Error for PackedError {}
 /// Where the bytes aren't the spellings of numbers below 2^32, or memory runs out.
 pub fn read_packed(alloc: Global, bytes: &[u8]) -> Result<Vec<u32>, PackedError>
     ensures ok { IfOk result (λ v. ArePacked bytes.now v.items) }
-    ensures err { IfErr result (λ e. Tells (fault_of e) (first (packed_rules bytes.now))) }
+    ensures err { IfErr result (λ e. Reports (fault_of e) (first (packed_rules bytes.now))) }
 {
     let mut numbers = Vec::new(alloc);
     append_packed(bytes, &mut numbers)?;
@@ -75,7 +75,7 @@ pub fn read_packed(alloc: Global, bytes: &[u8]) -> Result<Vec<u32>, PackedError>
 pub fn append_packed(bytes: &[u8], out: &mut Vec<u32>) -> Result<(), PackedError>
     ensures ok { OnOk result (first (packed_rules bytes.now) ≡ None) }
     ensures numbers { OnOk result (out.new.items ≡ out.old.items ++ (packed bytes.now).numbers) }
-    ensures err { IfErr result (λ e. Tells (fault_of e) (first (packed_rules bytes.now))) }
+    ensures err { IfErr result (λ e. Reports (fault_of e) (first (packed_rules bytes.now))) }
     ensures same { OnErr result (out.new.items ≡ out.old.items) }
 {
     let len = out.len();
@@ -90,7 +90,7 @@ pub fn append_packed(bytes: &[u8], out: &mut Vec<u32>) -> Result<(), PackedError
 fn append_numbers(bytes: &[u8], out: &mut Vec<u32>) -> Result<(), PackedError>
     ensures ok { OnOk result (first (packed_rules bytes.now) ≡ None) }
     ensures numbers { OnOk result (out.new.items ≡ out.old.items ++ (packed bytes.now).numbers) }
-    ensures err { IfErr result (λ e. Tells (fault_of e) (first (packed_rules bytes.now))) }
+    ensures err { IfErr result (λ e. Reports (fault_of e) (first (packed_rules bytes.now))) }
     ensures front { OnErr result (Extends out.old.items out.new.items) }
 {
     out.reserve(bytes.len())?;

@@ -2,7 +2,7 @@
 ghost use Rattle.std.specs.Prelude.{◌≡◌, ◌≤◌, [], None, IfOk, IfErr, IfSome, MatchOption, OnOk};
 ghost use Rattle.mvt_base.specs.declared.TheConstants.{LIMIT};
 ghost use Rattle.mvt_tile.specs.Finding.{first_in, named_fault};
-ghost use Rattle.mvt_tile.specs.Streams.{TellsAtEnd};
+ghost use Rattle.mvt_tile.specs.Streams.{ReportsAtEnd};
 ghost use Rattle.mvt_tile.specs.TileRules.{fault_within};
 ghost use Rattle.mvt_rows.specs.Reading.{IsLayerRead, IsRead};
 ghost use Rattle.mvt_rows.specs.Tables.{no_rows, table_size};
@@ -25,7 +25,7 @@ use std::alloc::{AllocError, Global};
 /// The tile's first fault; want of memory. Never a failed read.
 pub fn read_rows(alloc: Global, bytes: &[u8]) -> Result<Table, DecodeError>
     ensures read { IfOk result (IsRead bytes.now) }
-    ensures fault { IfErr result (λ error. TellsAtEnd error (fault_within LIMIT bytes.now)) }
+    ensures fault { IfErr result (λ error. ReportsAtEnd error (fault_within LIMIT bytes.now)) }
 {
     read_rows_within(alloc, bytes, u64::MAX)
 }
@@ -38,7 +38,7 @@ pub fn read_rows(alloc: Global, bytes: &[u8]) -> Result<Table, DecodeError>
 pub fn read_rows_within(alloc: Global, bytes: &[u8], most: u64) -> Result<Table, DecodeError>
     ensures read { IfOk result (IsRead bytes.now) }
     ensures within { IfOk result (λ table. table_size table ≤ most) }
-    ensures fault { IfErr result (λ error. TellsAtEnd error (fault_within LIMIT bytes.now)) }
+    ensures fault { IfErr result (λ error. ReportsAtEnd error (fault_within LIMIT bytes.now)) }
 {
     let mut rows = RowsVisitor::new(alloc, most);
     rows.table.make_room(bytes.len())?;
@@ -67,7 +67,7 @@ pub fn read_layer(
     ensures within { IfOk result (λ found. IfSome found (λ table. table_size table ≤ most)) }
     ensures ok { OnOk result (named_fault LIMIT name.now bytes.now ≡ None) }
     ensures fault { IfErr result
-        (λ error. TellsAtEnd error (named_fault LIMIT name.now bytes.now)) }
+        (λ error. ReportsAtEnd error (named_fault LIMIT name.now bytes.now)) }
 {
     let rows = match visit_named(alloc, RowsVisitor::new(alloc, most), bytes, name)? {
         Some(rows) => rows,

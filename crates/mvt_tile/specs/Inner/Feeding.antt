@@ -5,7 +5,7 @@ use Rattle.mvt_message.specs.declared.item.Item.{Item}
 use Rattle.mvt_tile.specs.declared.fault.Fault.{Fault as AFault}
 use Rattle.mvt_tile.specs.declared.fault.DecodeError.{DecodeError}
 use Rattle.mvt_tile.specs.declared.fault.DecodeError.TheVariants.{Memory, Fault, Read}
-use Rattle.mvt_tile.specs.Streams.{IsCalm, IsLive, TellsEarly}
+use Rattle.mvt_tile.specs.Streams.{IsCalm, IsLive, ReportsEarly}
 use Rattle.mvt_tile.specs.TileRules.{fault_within}
 
 -- so many reads gave bytes whose items were taken, and of which these are left behind the last whole field
@@ -19,10 +19,10 @@ pub record HasFed (limit : ℕ) (HasTaken : List Item → Type 0) (offset : ℕ)
   pub turns : reads ≤ length given
 
 -- a fault that stays; the other errors say nothing
-abbrev pub TellsFed : DecodeError → Option AFault → Type 0
-TellsFed Memory fault = ⊤
-TellsFed (Fault f) fault = TellsEarly (Fault f) fault
-TellsFed (Read kind) fault = ⊤
+abbrev pub ReportsFed : DecodeError → Option AFault → Type 0
+ReportsFed Memory fault = ⊤
+ReportsFed (Fault f) fault = ReportsEarly (Fault f) fault
+ReportsFed (Read kind) fault = ⊤
 
 -- the call ended with an error, in the last piece that was read, of so many bytes
 pub record HasStopped (limit piece : ℕ) (before now : Option (List ℕ)) (error : DecodeError) : Type 0 where
@@ -32,4 +32,4 @@ pub record HasStopped (limit piece : ℕ) (before now : Option (List ℕ)) (erro
   pub few : length back ≤ piece
   pub small : piece ≤ 65536
   pub calm : IsCalm (fault_within limit front)
-  pub told : TellsFed error (fault_within limit (front ++ back))
+  pub reported : ReportsFed error (fault_within limit (front ++ back))

@@ -21,7 +21,7 @@ use Rattle.mvt_model.specs.declared.numbers.tile.TheConstants.{LAYERS}
 use Rattle.mvt_tile.specs.Faults.{in_layer}
 use Rattle.mvt_tile.specs.TileRules.{repeats, field_rules, rest_rules}
 use Rattle.mvt_model.specs.Tiles.{AreItems, HasDistinctNames}
-use Rattle.mvt_tile.specs.Streams.{TellsEarly}
+use Rattle.mvt_tile.specs.Streams.{ReportsEarly}
 
 -- items, each valid, with the set of their names, which are distinct
 pub record AreKept (names : List (List ℕ)) (items : List Item) : Type 0 where
@@ -41,9 +41,9 @@ abbrev pub payload_fault : ℕ → List (List ℕ) → List ℕ → ℕ → ℕ 
 payload_fault n names d body at = option_or (option_map (in_layer n) (item_fault d body at)) (name_fault n names (payload_names d) at)
 
 -- an error of a payload, as the layer of this index tells it
-abbrev pub told_in : ℕ → MessageError → DecodeError
-told_in n message.Memory = Memory
-told_in n (message.Fault feature at cause) = Fault (record { layer = Some n; feature = feature; at = at; cause = cause })
+abbrev pub reported_in : ℕ → MessageError → DecodeError
+reported_in n message.Memory = Memory
+reported_in n (message.Fault feature at cause) = Fault (record { layer = Some n; feature = feature; at = at; cause = cause })
 
 -- the field of a slice that stands at this place of the input holds this layer's payload
 pub record IsPlaceOf (offset : ℕ) (x : Entry) (payload : List ℕ) (payload_at tag_at : ℕ) : Type 0 where
@@ -75,6 +75,6 @@ pub record IsJudged (offset : ℕ) (bytes : List ℕ) (old new : List Item) (use
   pub few : length new ≤ length old + used
 
 -- an error tells the fault of the bytes, behind whatever fields are the items
-abbrev pub TellsBehind : DecodeError → ℕ → List ℕ → List Item → Type 0
-TellsBehind error offset bytes items =
-    (front : List Entry) → AreItems front items → TellsEarly error (fault_behind front (split_from offset bytes))
+abbrev pub ReportsBehind : DecodeError → ℕ → List ℕ → List Item → Type 0
+ReportsBehind error offset bytes items =
+    (front : List Entry) → AreItems front items → ReportsEarly error (fault_behind front (split_from offset bytes))

@@ -6,7 +6,7 @@ use mvt_tile::{DecodeError, Fault};
 use std::process::Abort;
 
 #[test]
-fn tells_faults(rt: HostRuntime) {
+fn reports_faults(rt: HostRuntime) {
     for (input, at, cause) in OUTER {
         expect_fault(&rt, input, outer(at, cause));
     }
@@ -69,7 +69,7 @@ fn expect_fronts(rt: &(impl Abort + AllocGlobal), input: &[u8]) {
 }
 
 #[test]
-fn tells_cuts(rt: HostRuntime) {
+fn reports_cuts(rt: HostRuntime) {
     for rows in [OUTER.as_slice(), &IN_LAYER, &IN_FEATURE] {
         for (input, _, _) in rows {
             expect_fronts(&rt, input);

@@ -94,7 +94,7 @@ fn takes_any_pieces(rt: HostRuntime) {
 
 // A layer is judged with its last byte, and the fault stays.
 #[test]
-fn tells_faults_early(rt: HostRuntime) {
+fn reports_faults_early(rt: HostRuntime) {
     let mut decoder = TileDecoder::new(rt.alloc());
     for (index, byte) in b"\x1A\x03\x0A\x01".chunks(1).enumerate() {
         expect_eq!(rt; decoder.feed(byte), Ok(()));
@@ -106,7 +106,7 @@ fn tells_faults_early(rt: HostRuntime) {
 }
 
 #[test]
-fn tells_no_fault_of_what_is_unfinished(rt: HostRuntime) {
+fn reports_no_fault_of_what_is_unfinished(rt: HostRuntime) {
     // Inside a layer that isn't whole nothing is judged, neither a wrong version field nor another
     // version.
     for front in [b"\x1A\x05\x7A\x00", b"\x1A\x05\x78\x01"] {

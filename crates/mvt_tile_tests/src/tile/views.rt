@@ -61,7 +61,7 @@ fn expect_notes(rt: &(impl Abort + AllocGlobal), input: &[u8], expected: &[Note]
 }
 
 #[test]
-fn tells_notes(rt: HostRuntime) {
+fn reports_notes(rt: HostRuntime) {
     let rows: [(&[u8], &[Note]); 8] = [
         (b"", &[Note::NoLayers]),
         (ONE_POINT, &[]),

@@ -6,7 +6,7 @@ use Rattle.mvt_attrs.specs.Values.{equal_values}
 use Rattle.std.proofs.lemmas.Slice.Eq.{bytes_eq-Decides}
 use Rattle.mvt_attrs.proofs.EqualityLemmas.{equal_values-Decides}
 use Rattle.mvt_base.proofs.ResultLemmas.{on_err}
-use Rattle.mvt_attrs.proofs.PlacingLemmas.{IsPut, pool_none, pool_more, pool_longer, names_more, names_none, pool_passes, keys_more, values_more, not_full_at, contains_at, told_tags, not_longer, all_places, all_named, tags_left_at}
+use Rattle.mvt_attrs.proofs.PlacingLemmas.{IsPut, pool_none, pool_more, pool_longer, names_more, names_none, pool_passes, keys_more, values_more, not_full_at, contains_at, reported_tags, not_longer, all_places, all_named, tags_left_at}
 use Rattle.mvt_attrs.proofs.placing.append_tags.Goals as goal
 
 pub loop-attribute-init : goal.loop-attribute-init
@@ -106,7 +106,7 @@ returns-in_err-key-clause-memory c =
     λ h. (
       c.loop-attribute.attribute-index,
       record { within = omega arith; keys_are = inl (stays ∙ all.keys); values_are = inl all.values },
-      told_tags c.args.keys.now c.loop-attribute.keys c.place_near.new.self c.args.values.now c.loop-attribute.values
+      reported_tags c.args.keys.now c.loop-attribute.keys c.place_near.new.self c.args.values.now c.loop-attribute.values
           c.loop-attribute.values all.so_far c.args.tags.now.items c.loop-attribute.tags.items _
           all.keys all.values all.names (not_longer _ _ stays) (not_longer _ _ refl) all.tags,
       not_full_at c.args.attributes.now c.loop-attribute.attribute-index c.attribute-item.result _ c.place_near.new.self
@@ -159,7 +159,7 @@ returns-in_err-value-clause-memory c =
             all.keys c.loop-attribute-test.true c.attribute-item.is refl key);
         values_are = inl (stays ∙ all.values);
       },
-      told_tags c.args.keys.now c.loop-attribute.keys c.place_near.new.self c.args.values.now c.loop-attribute.values
+      reported_tags c.args.keys.now c.loop-attribute.keys c.place_near.new.self c.args.values.now c.loop-attribute.values
           c.place_near-in-loop-attribute.new.self all.so_far c.args.tags.now.items c.loop-attribute.tags.items _
           all.keys all.values all.names (pool_longer bytes_eq bytes_eq-Decides (λ (b : Attribute). b.key) _ _ _ key)
           (not_longer _ _ stays) all.tags,
@@ -213,7 +213,7 @@ returns-in_err-push_pair-clause-memory c =
             (values_more c.args.values.now c.loop-attribute.values _ c.args.attributes.now c.loop-attribute.attribute-index a
             all.values c.loop-attribute-test.true c.attribute-item.is value);
       },
-      told_tags c.args.keys.now c.loop-attribute.keys c.place_near.new.self c.args.values.now c.loop-attribute.values
+      reported_tags c.args.keys.now c.loop-attribute.keys c.place_near.new.self c.args.values.now c.loop-attribute.values
           c.place_near-in-loop-attribute.new.self all.so_far c.args.tags.now.items c.push_pair.new.tags.items _
           all.keys all.values all.names (pool_longer bytes_eq bytes_eq-Decides (λ (b : Attribute). b.key) _ _ _ key)
           (pool_longer equal_values equal_values-Decides (λ (b : Attribute). b.value) _ _ _ value)

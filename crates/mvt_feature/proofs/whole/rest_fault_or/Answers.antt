@@ -1,6 +1,6 @@
 use Rattle.std.proofs.Common.{[], ◌∷◌, ◌++◌, ◌∙◌, ap, sym, subst}
 use Rattle.std.specs.Option.{option_or}
-use Rattle.mvt_base.specs.Tells.{Tells}
+use Rattle.mvt_base.specs.Reports.{Reports}
 use Rattle.mvt_base.proofs.RuleLemmas.{option_or-some}
 use Rattle.mvt_wire.specs.Field.{entry_of}
 use Rattle.mvt_wire.specs.Fields.{Ahead}
@@ -27,14 +27,14 @@ pub rest_fault-requires : goal.rest_fault-requires
 rest_fault-requires c =
     walk_fault_fits _ _ c.next.new.self.to_come _ _ _ c.loop-field.invariant.1 (rw c.in-Err.is at c.in-Some.ensures.steps).0 c.requires
 
-pub returns-in-Err-clause-told : goal.returns-in-Err-clause-told
-returns-in-Err-clause-told c = λ fault told_here.
+pub returns-in-Err-clause-reported : goal.returns-in-Err-clause-reported
+returns-in-Err-clause-reported c = λ fault reported_here.
     rw c.rest_fault.ensures
     (option_or-some _ _ _
     (walk_fault _ _ c.next.new.self.to_come _ _ _ c.loop-field.invariant.1 (rw c.in-Err.is at c.in-Some.ensures.steps).0))
 
-pub returns-clause-told : goal.returns-clause-told
-returns-clause-told c = λ fault told_here.
+pub returns-clause-reported : goal.returns-clause-reported
+returns-clause-reported c = λ fault reported_here.
     let end = walk_end _ _ _ _ c.loop-field.invariant.1 c.in-None.ensures.steps.0 in
-    subst (λ o. Tells (fault_of c.args.error) (option_or o fault))
-    (sym (rest_none c.args.payload_at (split c.args.payload.now) end.1)) told_here
+    subst (λ o. Reports (fault_of c.args.error) (option_or o fault))
+    (sym (rest_none c.args.payload_at (split c.args.payload.now) end.1)) reported_here

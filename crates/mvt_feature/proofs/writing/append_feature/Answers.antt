@@ -1,7 +1,7 @@
 use Rattle.std.proofs.Common.{length}
 use Rattle.std.proofs.lemmas.Result.{err_from_is_err_and}
 use Rattle.mvt_base.proofs.ResultLemmas.{on_err}
-use Rattle.mvt_feature.proofs.WritingLemmas.{kept_as_it_was, all_placed, all_told, none_full, told_as, full_as}
+use Rattle.mvt_feature.proofs.WritingLemmas.{kept_as_it_was, all_placed, all_reported, none_full, reported_as, full_as}
 use Rattle.mvt_feature.proofs.writing.append_feature.Goals as goal
 
 pub returns-in_err-append_tags-clause-out_left : goal.returns-in_err-append_tags-clause-out_left
@@ -13,7 +13,7 @@ returns-in_err-append_tags-clause-memory c =
     λ h. (
     let m = c.in_err-append_tags.ensures.memory (let k = rw p.1 at h in let q = p.2 in cc) in (
       m.0,
-      told_as _ _ c.as_slice.ensures _ _ _ _ m.0 m.1,
+      reported_as _ _ c.as_slice.ensures _ _ _ _ m.0 m.1,
       full_as _ _ c.as_slice.ensures c.args.keys.now _ c.args.values.now _ m.0 m.3,
     )
     )
@@ -28,7 +28,7 @@ pub returns-in_err-append_geometry-clause-memory : goal.returns-in_err-append_ge
 returns-in_err-append_geometry-clause-memory c = λ h.
     let e = c.in_ok-append_tags.ensures in (
       length c.args.feature.now.attributes,
-      all_told _ _ c.as_slice.ensures _ _ _ _ e.keys e.values,
+      all_reported _ _ c.as_slice.ensures _ _ _ _ e.keys e.values,
       none_full c.args.feature.now.attributes _ c.as_slice.ensures c.args.keys.now c.append_tags.new.keys c.args.values.now
           c.append_tags.new.values,
     )
@@ -43,7 +43,7 @@ pub returns-in_err-append_fields-clause-memory : goal.returns-in_err-append_fiel
 returns-in_err-append_fields-clause-memory c = λ h.
     let e = c.in_ok-append_tags.ensures in (
       length c.args.feature.now.attributes,
-      all_told _ _ c.as_slice.ensures _ _ _ _ e.keys e.values,
+      all_reported _ _ c.as_slice.ensures _ _ _ _ e.keys e.values,
       none_full c.args.feature.now.attributes _ c.as_slice.ensures c.args.keys.now c.append_tags.new.keys c.args.values.now
           c.append_tags.new.values,
     )

@@ -16,11 +16,11 @@ returns-in_err-cursor-clause-err c =
     let s = c.args.pen.at in
     let n = c.in_ok-count.count in
     let length_is : (s + 1 + 2 * n) - (s + 1) ≡ 2 * n = omega arith in
-    let told = rw c.is_line.ensures at c.in_err-cursor.ensures.err in
+    let reported = rw c.is_line.ensures at c.in_err-cursor.ensures.err in
     let p = err_from_is_err_and c.from_residual-in_err-cursor.result c.from_residual-in_err-cursor.ensures.1 in
     rw (p.1, p.2)
     (λ k is_due r must. pairs_stop r c.args.command is_due c.in_ok-count.ensures.ok n c.in_ok-count.ensures.count
-    (take ((s + 1 + 2 * n) - (s + 1)) (drop (s + 1) g)) (ap (λ m. take m (drop (s + 1) g)) length_is) _ told)
+    (take ((s + 1 + 2 * n) - (s + 1)) (drop (s + 1) g)) (ap (λ m. take m (drop (s + 1) g)) length_is) _ reported)
 
 pub returns-clause-ok : goal.returns-clause-ok
 returns-clause-ok c = λ k is_due r.

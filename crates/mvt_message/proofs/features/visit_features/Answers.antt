@@ -42,6 +42,6 @@ returns-in_err-count-in-Ok-clause-err g c = λ items held are has.
     let keys : c.loop-field.keys ≡ c.args.keys.now = c.loop-field.invariant.3 in
     let steps = (rw c.in-Ok.is at c.in-Some.ensures.steps).0 in
     let all = (walks_step c.args.payload.now _ next done c.in-Ok.field c.loop-field.invariant.1 steps).fields in
-    let told = (rw keys at c.in_err-count-in-Ok.ensures.err) items held done next.fields are
+    let reported = (rw keys at c.in_err-count-in-Ok.ensures.err) items held done next.fields are
     (c.loop-field.invariant.2 items held are has) in
-    rw (p.1, p.2, all) told
+    rw (p.1, p.2, all) reported

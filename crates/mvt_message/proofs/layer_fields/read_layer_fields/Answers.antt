@@ -4,7 +4,7 @@ use Rattle.mvt_wire.specs.Fields.{Ahead}
 use Rattle.mvt_wire.specs.Split.{split}
 use Rattle.mvt_feature.proofs.FeatureLaws.{walks_start, walks_step}
 use Rattle.mvt_message.proofs.HeldLemmas.{values_few}
-use Rattle.mvt_message.proofs.ReadLemmas.{rest_told, version_ends}
+use Rattle.mvt_message.proofs.ReadLemmas.{rest_reported, version_ends}
 use Rattle.mvt_message.proofs.layer_fields.read_layer_fields.Goals as goal
 
 pub loop-field-init : goal.loop-field-init
@@ -38,7 +38,7 @@ loop-field-preserved g c =
 
 pub returns-in-Err-clause-err : goal.returns-in-Err-clause-err
 returns-in-Err-clause-err g c =
-    rw c.rest_fault.ensures (rest_told c.next.new.self.to_come c.args.payload_at c.args.tag_at c.loop-field.invariant.1
+    rw c.rest_fault.ensures (rest_reported c.next.new.self.to_come c.args.payload_at c.args.tag_at c.loop-field.invariant.1
     (rw c.in-Err.is at c.in-Some.ensures.steps).0)
 
 pub returns-clause-version : goal.returns-clause-version

@@ -16,13 +16,13 @@ returns-in_err-append_feature-clause-too_large c = λ h.
 
 pub returns-in_err-len-clause-too_large : goal.returns-in_err-len-clause-too_large
 returns-in_err-len-clause-too_large c = λ h.
-    let told = exit_is c.from_residual-in_err-len.result c.from_residual-in_err-len.ensures.1 h in
+    let reported = exit_is c.from_residual-in_err-len.result c.from_residual-in_err-len.ensures.1 h in
     let e = c.in_ok-append_feature.ensures in
     let one = placed c.clear.ensures.items e.ok e.keys e.values e.names in
     let so_far = c.loop-feature.invariant in
     let step = features_len_step c.args.start c.loop-feature.len so_far.1 c.loop-feature-test.true c.feature-item.is one so_far.2 in
     let size = sym (c.len.ensures ∙ c.append_feature.new.out.ok.0) in
-    let long = c.in_err-len.ensures.too_large c.append_feature.new.out.items size (ap Err told) in
+    let long = c.in_err-len.ensures.too_large c.append_feature.new.out.items size (ap Err reported) in
     inl (features_len_long c.args.start LIMIT step.1 (omega (arith, step.2)))
 
 pub loop-feature-preserved : goal.loop-feature-preserved

@@ -7,8 +7,8 @@ use Rattle.mvt_message.proofs.layer_len.with_keys.Goals as goal
 
 pub returns-in_err-len-in-Some-clause-too_large : goal.returns-in_err-len-in-Some-clause-too_large
 returns-in_err-len-in-Some-clause-too_large c = λ h.
-    let told = exit_is c.from_residual.result c.from_residual.ensures.1 h in
-    let long = c.in_err-len-in-Some.ensures.too_large c.in-Some.key.now refl (ap Err told) in
+    let reported = exit_is c.from_residual.result c.from_residual.ensures.1 h in
+    let long = c.in_err-len-in-Some.ensures.too_large c.in-Some.key.now refl (ap Err reported) in
     len_long key_field c.args.keys.now c.loop-index.index c.args.start c.loop-index.len LIMIT c.in-Some.ensures c.loop-index.invariant.0
     long
 

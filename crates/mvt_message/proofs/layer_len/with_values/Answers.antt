@@ -9,9 +9,9 @@ use Rattle.mvt_message.proofs.layer_len.with_values.Goals as goal
 
 pub returns-in_err-len-in-Some-clause-too_large : goal.returns-in_err-len-in-Some-clause-too_large
 returns-in_err-len-in-Some-clause-too_large c = λ h.
-    let told = exit_is c.from_residual.result c.from_residual.ensures.1 h in
+    let reported = exit_is c.from_residual.result c.from_residual.ensures.1 h in
     let long = c.in_err-len-in-Some.ensures.too_large (spelled (value_fields c.in-Some.value.now)) (sym c.value_len.ensures)
-    (ap Err told) in
+    (ap Err reported) in
     len_long value_field c.args.values.now c.loop-index.index c.args.start c.loop-index.len LIMIT c.in-Some.ensures
     c.loop-index.invariant.0 long
 

@@ -20,18 +20,18 @@ pub returns-in-Ok-Layer-clause-names : goal.returns-in-Ok-Layer-clause-names
 returns-in-Ok-Layer-clause-names c =
     let payload = c.args.payload.now in
     let (item, is, valid, visited) = c.in-Ok-Layer.ensures.item [] tt tt in
-    let told = rw c.in-Ok-Layer.field-0-is at visited in
+    let reported = rw c.in-Ok-Layer.field-0-is at visited in
     let (layer, has, names) =
     layer_visited HasItems HasFeatures c.visit_layer.new.visitor (Layer c.in-Ok-Layer.name c.in-Ok-Layer.field-0-1)
-    (λ i. names_in i ≡ payload_names payload) (λ number content none. none) item told (names_same payload item is) in
+    (λ i. names_in i ≡ payload_names payload) (λ number content none. none) item reported (names_same payload item is) in
     ap (λ name. name ∷ []) has.0 ∙ names
 
 pub returns-in-Ok-Foreign-clause-names : goal.returns-in-Ok-Foreign-clause-names
 returns-in-Ok-Foreign-clause-names c =
     let payload = c.args.payload.now in
     let (item, is, valid, visited) = c.in-Ok-Foreign.ensures.item [] tt tt in
-    let told = rw c.in-Ok-Foreign.field-0-is at visited in
+    let reported = rw c.in-Ok-Foreign.field-0-is at visited in
     let (number, content, has, names) =
     foreign_visited HasItems HasFeatures c.visit_layer.new.visitor (Foreign c.in-Ok-Foreign.field-0-0)
-    (λ i. names_in i ≡ payload_names payload) (λ layer none. none) item told (names_same payload item is) in
+    (λ i. names_in i ≡ payload_names payload) (λ layer none. none) item reported (names_same payload item is) in
     names

@@ -18,38 +18,38 @@ HasFeatures keys values kept features = (kept.values.items ≡ values) × (kept.
 pub returns-in_ok-from_str-in-Ok-Layer-clause-item : goal.returns-in_ok-from_str-in-Ok-Layer-clause-item
 returns-in_ok-from_str-in-Ok-Layer-clause-item c =
     let (item, is, valid, visited) = c.in-Ok-Layer.ensures.item [] (c.new-kept.ensures.values, c.new-kept.ensures.features) tt in
-    let told = rw c.in-Ok-Layer.field-0-is at visited in
+    let reported = rw c.in-Ok-Layer.field-0-is at visited in
     let (layer, has, p) =
     layer_visited HasItems HasFeatures c.visit_layer.new.visitor (Layer c.in-Ok-Layer.name c.in-Ok-Layer.extent) (IsItem c.args.payload.now)
-    (λ number content none. none) item told is in
+    (λ number content none. none) item reported is in
     put_together (IsItem c.args.payload.now) layer _ _ _ (c.in_ok-from_str-in-Ok-Layer.ensures.same ∙ has.0) has.1
     (c.new.ensures ∙ has.2.2.1) p
 
 pub returns-in_ok-from_str-in-Ok-Layer-clause-valid : goal.returns-in_ok-from_str-in-Ok-Layer-clause-valid
 returns-in_ok-from_str-in-Ok-Layer-clause-valid c =
     let (item, is, valid, visited) = c.in-Ok-Layer.ensures.item [] (c.new-kept.ensures.values, c.new-kept.ensures.features) tt in
-    let told = rw c.in-Ok-Layer.field-0-is at visited in
+    let reported = rw c.in-Ok-Layer.field-0-is at visited in
     let (layer, has, p) =
     layer_visited HasItems HasFeatures c.visit_layer.new.visitor (Layer c.in-Ok-Layer.name c.in-Ok-Layer.extent) ValidItem
-    (λ number content none. none) item told valid in
+    (λ number content none. none) item reported valid in
     put_together ValidItem layer _ _ _ (c.in_ok-from_str-in-Ok-Layer.ensures.same ∙ has.0) has.1 (c.new.ensures ∙ has.2.2.1) p
 
 pub returns-in_ok-from_slice-in-Ok-Foreign-clause-item : goal.returns-in_ok-from_slice-in-Ok-Foreign-clause-item
 returns-in_ok-from_slice-in-Ok-Foreign-clause-item c =
     let (item, is, valid, visited) = c.in-Ok-Foreign.ensures.item [] (c.new-kept.ensures.values, c.new-kept.ensures.features) tt in
-    let told = rw c.in-Ok-Foreign.field-0-is at visited in
+    let reported = rw c.in-Ok-Foreign.field-0-is at visited in
     let (number, content, has, p) =
     foreign_visited HasItems HasFeatures c.visit_layer.new.visitor (Foreign c.in-Ok-Foreign.version) (IsItem c.args.payload.now)
-    (λ layer none. none) item told is in
+    (λ layer none. none) item reported is in
     foreign_made (IsItem c.args.payload.now) _ _ (foreign_bytes c.args.payload.now number content p) has.0
     (c.new-in-Ok-Foreign.ensures ∙ c.in_ok-from_slice-in-Ok-Foreign.ensures.items) p
 
 pub returns-in_ok-from_slice-in-Ok-Foreign-clause-valid : goal.returns-in_ok-from_slice-in-Ok-Foreign-clause-valid
 returns-in_ok-from_slice-in-Ok-Foreign-clause-valid c =
     let (item, is, valid, visited) = c.in-Ok-Foreign.ensures.item [] (c.new-kept.ensures.values, c.new-kept.ensures.features) tt in
-    let told = rw c.in-Ok-Foreign.field-0-is at visited in
+    let reported = rw c.in-Ok-Foreign.field-0-is at visited in
     let (other, bytes, same, q) =
     foreign_visited HasItems HasFeatures c.visit_layer.new.visitor (Foreign c.in-Ok-Foreign.version) (λ i. IsItem c.args.payload.now i × ValidItem i)
-    (λ layer none. none) item told (is, valid) in
+    (λ layer none. none) item reported (is, valid) in
     foreign_made ValidItem _ _ (foreign_bytes c.args.payload.now other bytes q.0) same.0
     (c.new-in-Ok-Foreign.ensures ∙ c.in_ok-from_slice-in-Ok-Foreign.ensures.items) q.1

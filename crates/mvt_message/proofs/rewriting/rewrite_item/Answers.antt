@@ -17,10 +17,10 @@ pub returns-in-Ok-Layer-clause-item : goal.returns-in-Ok-Layer-clause-item
 returns-in-Ok-Layer-clause-item c =
     let payload = c.args.payload.now in
     let (item, is, valid, visited) = c.in-Ok-Layer.ensures.item [] c.new-rewriter.ensures tt in
-    let told = rw c.in-Ok-Layer.field-0-is at visited in
+    let reported = rw c.in-Ok-Layer.field-0-is at visited in
     let (layer, has, p) =
     layer_visited HasItems HasWritten c.visit_layer.new.visitor (Layer c.in-Ok-Layer.name c.in-Ok-Layer.extent)
-    (λ i. IsItem payload i × ValidItem i) (λ number content none. none) item told (is, valid) in (
+    (λ i. IsItem payload i × ValidItem i) (λ number content none. none) item reported (is, valid) in (
       items.Layer layer,
       p.0,
       p.1,
@@ -33,10 +33,10 @@ pub returns-in-Ok-Foreign-clause-item : goal.returns-in-Ok-Foreign-clause-item
 returns-in-Ok-Foreign-clause-item c =
     let payload = c.args.payload.now in
     let (item, is, valid, visited) = c.in-Ok-Foreign.ensures.item [] c.new-rewriter.ensures tt in
-    let told = rw c.in-Ok-Foreign.field-0-is at visited in
+    let reported = rw c.in-Ok-Foreign.field-0-is at visited in
     let (number, content, has, p) =
     foreign_visited HasItems HasWritten c.visit_layer.new.visitor (Foreign c.in-Ok-Foreign.field-0-0)
-    (λ i. IsItem payload i × ValidItem i) (λ layer none. none) item told (is, valid) in (
+    (λ i. IsItem payload i × ValidItem i) (λ layer none. none) item reported (is, valid) in (
       items.Foreign number content,
       p.0,
       p.1,

@@ -10,8 +10,8 @@ returns-then-field-ne-VALUES-clause-ok g c = λ items done so_far.
 pub returns-in_err-visit_value-clause-err : goal.returns-in_err-visit_value-clause-err
 returns-in_err-visit_value-clause-err g c = λ items done more so_far.
     let p = err_from_is_err_and c.from_residual.result c.from_residual.ensures.1 in
-    let told = rw c.bytes_of-payload.ensures at c.in_err-visit_value.ensures.err in
-    rw (p.1, p.2) (value_stops (entry_of c.args.field.now) so_far more _ c.if-field-ne-VALUES.false told)
+    let reported = rw c.bytes_of-payload.ensures at c.in_err-visit_value.ensures.err in
+    rw (p.1, p.2) (value_stops (entry_of c.args.field.now) so_far more _ c.if-field-ne-VALUES.false reported)
 
 pub returns-in_err-visit_value-clause-kept : goal.returns-in_err-visit_value-clause-kept
 returns-in_err-visit_value-clause-kept g c = λ items held has before. c.in_err-visit_value.ensures.kept items held has

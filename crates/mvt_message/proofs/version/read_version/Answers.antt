@@ -2,7 +2,7 @@ use Rattle.std.proofs.Common.{[], ◌∷◌, ◌++◌}
 use Rattle.mvt_wire.specs.Field.{entry_of}
 use Rattle.mvt_wire.specs.Split.{split}
 use Rattle.mvt_feature.proofs.FeatureLaws.{walks_step}
-use Rattle.mvt_message.proofs.ReadLemmas.{rest_told, version_ends}
+use Rattle.mvt_message.proofs.ReadLemmas.{rest_reported, version_ends}
 use Rattle.mvt_message.proofs.version.read_version.Goals as goal
 
 pub loop-field-preserved : goal.loop-field-preserved
@@ -16,7 +16,7 @@ loop-field-preserved c =
 
 pub returns-in-Err-clause-err : goal.returns-in-Err-clause-err
 returns-in-Err-clause-err c =
-    rw c.rest_fault.ensures (rest_told c.next.new.self.to_come c.args.payload_at c.args.tag_at c.loop-field.invariant.1
+    rw c.rest_fault.ensures (rest_reported c.next.new.self.to_come c.args.payload_at c.args.tag_at c.loop-field.invariant.1
     (rw c.in-Err.is at c.in-Some.ensures.steps).0)
 
 pub returns-clause-version : goal.returns-clause-version

@@ -1,7 +1,7 @@
 use Rattle.std.proofs.Common.{refl, ◌∙◌}
 use Rattle.std.proofs.lemmas.Result.{IfErr-weaker, IfOk-weaker, err_from_is_err_and, on_ok_weaker}
 use Rattle.mvt_wire.specs.Split.{split}
-use Rattle.mvt_message.proofs.ReadLemmas.{as_two, head_told, head_whole, layer_told, layer_item, other_item}
+use Rattle.mvt_message.proofs.ReadLemmas.{as_two, head_reported, head_whole, layer_reported, layer_item, other_item}
 use Rattle.std.proofs.Math.Facts.{Fits-lt-pow}
 use Rattle.mvt_message.proofs.ValidLemmas.{item_valid}
 use Rattle.mvt_message.proofs.OrFaultLemmas.{item_of_layer, item_of_other}
@@ -11,7 +11,7 @@ use Rattle.mvt_message.proofs.visiting.visit_layer.Goals as goal
 pub returns-in_err-version-clause-fault : goal.returns-in_err-version-clause-fault
 returns-in_err-version-clause-fault g c =
     let p = err_from_is_err_and c.from_residual.result c.from_residual.ensures.1 in
-    rw (p.1, p.2) (head_told c.args.payload.now c.args.payload_at c.args.tag_at _ c.in_err-version.ensures.err)
+    rw (p.1, p.2) (head_reported c.args.payload.now c.args.payload_at c.args.tag_at _ c.in_err-version.ensures.err)
 
 pub visit_parts-requires-clause-whole : goal.visit_parts-requires-clause-whole
 visit_parts-requires-clause-whole g c = head_whole c.args.payload.now c.args.payload_at c.args.tag_at c.in_ok-version.ensures.ok
@@ -41,7 +41,7 @@ pub returns-then-version-eq-VERSION_2-clause-fault : goal.returns-then-version-e
 returns-then-version-eq-VERSION_2-clause-fault g c =
     let two = as_two (split c.args.payload.now).fields c.in_ok-version.ensures.version c.if-version-eq-VERSION_2.true in
     IfErr-weaker c.visit_parts.result _ _
-    (λ e told. layer_told c.args.payload.now c.args.payload_at c.args.tag_at e c.in_ok-version.ensures.ok two told)
+    (λ e reported. layer_reported c.args.payload.now c.args.payload_at c.args.tag_at e c.in_ok-version.ensures.ok two reported)
     c.visit_parts.ensures.fault
 
 pub returns-clause-ok : goal.returns-clause-ok

@@ -5,29 +5,29 @@ use Rattle.mvt_wire.specs.Split.{split}
 use Rattle.mvt_message.specs.declared.item.Layer.{Layer as ALayer}
 use Rattle.mvt_message.specs.Inner.{forms_fault, values_fault}
 use Rattle.mvt_message.specs.LayerFields.{name_in}
-use Rattle.mvt_message.proofs.ReadLemmas.{or_told, forms_told, name_told, values_told, front_clean, features_told, layer_ok, layer_read}
+use Rattle.mvt_message.proofs.ReadLemmas.{or_reported, forms_reported, name_reported, values_reported, front_clean, features_reported, layer_ok, layer_read}
 use Rattle.mvt_message.proofs.visiting.visit_parts.Goals as goal
 
 pub returns-in-Err-clause-fault : goal.returns-in-Err-clause-fault
 returns-in-Err-clause-fault g c =
     let fields = (split c.args.payload.now).fields in
-    let told = or_told (forms_fault c.args.payload_at) fields _ (rw c.in-Err.is at c.requires.front.1.0) in
-    forms_told c.args.payload_at c.args.tag_at fields _ told
+    let reported = or_reported (forms_fault c.args.payload_at) fields _ (rw c.in-Err.is at c.requires.front.1.0) in
+    forms_reported c.args.payload_at c.args.tag_at fields _ reported
 
 pub returns-in-None-clause-fault : goal.returns-in-None-clause-fault
 returns-in-None-clause-fault g c =
     let fields = (split c.args.payload.now).fields in
     let head = rw c.in-Ok.is at c.requires.front.1.0 in
     let none : None ≡ name_in fields = ap option_copied (sym c.in-None.is) ∙ head.name_is in
-    rw c.fault_at.ensures (name_told c.args.payload_at c.args.tag_at fields head.clean none)
+    rw c.fault_at.ensures (name_reported c.args.payload_at c.args.tag_at fields head.clean none)
 
 pub returns-in-Err-values-clause-fault : goal.returns-in-Err-values-clause-fault
 returns-in-Err-values-clause-fault g c =
     let fields = (split c.args.payload.now).fields in
     let head = rw c.in-Ok.is at c.requires.front.1.0 in
     let name = ap option_copied (sym c.in-Some.is) ∙ head.name_is in
-    let told = or_told (values_fault c.args.payload_at) fields _ (rw c.in-Err-values.is at c.requires.front.1.1) in
-    values_told c.args.payload_at c.args.tag_at fields _ head.clean name told
+    let reported = or_reported (values_fault c.args.payload_at) fields _ (rw c.in-Err-values.is at c.requires.front.1.1) in
+    values_reported c.args.payload_at c.args.tag_at fields _ head.clean name reported
 
 pub visit_features-requires-clause-held : goal.visit_features-requires-clause-held
 visit_features-requires-clause-held g c =
@@ -50,7 +50,7 @@ returns-in_err-visit_features-clause-fault g c =
     let has =
     subst (λ ks. g.V.LayerVisitor.has_features items ks values.values c.visit_keys.new.self [])
     (c.deref.ensures.value ∙ sym c.deref-2.ensures.value) (c.in_ok-visit_keys.ensures items values.values values.has) in
-    rw (p.1, p.2) (features_told c.args.tag_at _ clean
+    rw (p.1, p.2) (features_reported c.args.tag_at _ clean
     (c.in_err-visit_features.ensures.err items values.values (sym values.counted) has))
 
 pub returns-clause-ok : goal.returns-clause-ok

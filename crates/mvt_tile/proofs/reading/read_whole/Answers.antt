@@ -3,13 +3,13 @@ use Rattle.std.proofs.lemmas.Result.{err_from_is_err_and, IfOk-weaker, IfErr-wea
 use Rattle.mvt_model.specs.declared.tile.Tile.{Tile}
 use Rattle.mvt_model.specs.Tiles.{IsTile}
 use Rattle.mvt_tile.specs.TileRules.{fault_within}
-use Rattle.mvt_tile.proofs.FeedingLemmas.{end_faults, stopped_told, stopped_early, fed_early, fed_tile, fed_told}
+use Rattle.mvt_tile.proofs.FeedingLemmas.{end_faults, stopped_reported, stopped_early, fed_early, fed_tile, fed_reported}
 use Rattle.mvt_tile.proofs.reading.read_whole.Goals as goal
 
 pub returns-in_err-feed_all-clause-fault : goal.returns-in_err-feed_all-clause-fault
 returns-in_err-feed_all-clause-fault g c =
     let p = err_from_is_err_and c.from_residual.result c.from_residual.ensures.1 in
-    rw (p.1, p.2) (stopped_told 67108864 _ _ _ _ c.in_err-feed_all.ensures.stopped)
+    rw (p.1, p.2) (stopped_reported 67108864 _ _ _ _ c.in_err-feed_all.ensures.stopped)
 
 pub returns-in_err-feed_all-clause-read : goal.returns-in_err-feed_all-clause-read
 returns-in_err-feed_all-clause-read g c =
@@ -50,5 +50,5 @@ returns-clause-fault g c =
     let (input, start) = c.requires.start in
     let fed = c.in_ok-feed_all.ensures.fed input (rw c.new-partial.ensures.visitor start) in
     IfErr-weaker c.finish.result _ _
-    (λ e told. fed_told 67108864 _ _ _ _ _ _ fed c.in_ok-feed_all.ensures.end e told)
+    (λ e reported. fed_reported 67108864 _ _ _ _ _ _ fed c.in_ok-feed_all.ensures.end e reported)
     (c.finish.ensures.fault fed.items fed.given fed.live)

@@ -1,7 +1,7 @@
 use Rattle.std.proofs.Common.{arith}
 use Rattle.std.proofs.lemmas.Result.{err_from_is_err_and}
 use Rattle.mvt_wire.specs.Field.{entry_of}
-use Rattle.mvt_tile.proofs.JudgeLemmas.{field_over, field_gives, field_tells}
+use Rattle.mvt_tile.proofs.JudgeLemmas.{field_over, field_gives, field_reports}
 use Rattle.mvt_tile.proofs.walking.take_field.Goals as goal
 
 pub returns-in_err-layer_in-clause-fault : goal.returns-in_err-layer_in-clause-fault
@@ -28,5 +28,5 @@ pub returns-in-Some-clause-fault : goal.returns-in-Some-clause-fault
 returns-in-Some-clause-fault g c = λ input items has.
     let place = rw c.in-Some.is at c.in_ok-layer_in.ensures.place in
     let given = c.in-Some.place in
-    field_tells items c.args.offset (entry_of c.args.field.now) given.payload.now given.payload_at given.tag_at place _
+    field_reports items c.args.offset (entry_of c.args.field.now) given.payload.now given.payload_at given.tag_at place _
     (c.visit_item.ensures.fault input items has)

@@ -1,5 +1,5 @@
 use Rattle.std.proofs.Common.{append_assoc, [], ◌∷◌, ◌++◌, arith, sym, ap, ◌∙◌}
-use Rattle.mvt_wire.proofs.PackedLemmas.{read_large, read_smaller, read_on, read_clean, read_tells, read_all, nil_from_test, some_from_test}
+use Rattle.mvt_wire.proofs.PackedLemmas.{read_large, read_smaller, read_on, read_clean, read_reports, read_all, nil_from_test, some_from_test}
 use Rattle.mvt_wire.proofs.packed.append_numbers.Goals as goal
 
 pub returns-then-number-clause-err : goal.returns-then-number-clause-err
@@ -25,7 +25,7 @@ pub returns-in-Err-clause-err : goal.returns-in-Err-clause-err
 returns-in-Err-clause-err c =
     let inv = c.loop-rest.invariant in
     rw c.number_error.ensures
-    (read_tells c.args.bytes.now c.loop-rest.rest.now inv.read c.in-Err.cause inv.split inv.clean (sym c.in-Err.ensures.number)
+    (read_reports c.args.bytes.now c.loop-rest.rest.now inv.read c.in-Err.cause inv.split inv.clean (sym c.in-Err.ensures.number)
     (some_from_test _ _ c.is_empty.ensures c.loop-rest-test.true))
 
 pub returns-clause-ok : goal.returns-clause-ok

@@ -2,7 +2,7 @@ use Rattle.std.proofs.Common.{[], ◌∷◌, ◌++◌, ap, sym, refl, ◌∙◌}
 use Rattle.std.proofs.lemmas.Result.{IfErr-weaker, on_ok_weaker}
 use Rattle.std.specs.Option.{option_to_list}
 use Rattle.mvt_message.proofs.MessageLaws.{item_names, item_or_fault_there}
-use Rattle.mvt_tile.proofs.JudgeLemmas.{tells_name}
+use Rattle.mvt_tile.proofs.JudgeLemmas.{reports_name}
 use Rattle.mvt_tile.proofs.judging.NamesItemVisitor.visit_item.Goals as goal
 
 pub returns-in_ok-text_of-in-Ok-clause-item : goal.returns-in_ok-text_of-in-Ok-clause-item
@@ -17,4 +17,4 @@ pub returns-in_ok-text_of-in-Ok-clause-fault : goal.returns-in_ok-text_of-in-Ok-
 returns-in_ok-text_of-in-Ok-clause-fault c = λ input items are.
     let named = ap option_to_list c.in_ok-text_of-in-Ok.ensures ∙ c.in-Ok.ensures.names in
     IfErr-weaker c.add.result _ _
-    (λ e told. tells_name e _ _ _ c.args.payload.now _ _ c.in-Ok.ensures.ok named (told items are)) c.add.ensures.fault
+    (λ e reported. reports_name e _ _ _ c.args.payload.now _ _ c.in-Ok.ensures.ok named (reported items are)) c.add.ensures.fault

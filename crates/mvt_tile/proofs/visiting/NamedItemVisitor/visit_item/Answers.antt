@@ -3,7 +3,7 @@ use Rattle.std.proofs.lemmas.Result.{IfErr-weaker, on_ok_weaker}
 use Rattle.mvt_base.proofs.ListLemmas.{all_joined}
 use Rattle.mvt_message.specs.ValidItems.{ValidItem}
 use Rattle.mvt_message.proofs.MessageLaws.{item_names, item_or_fault_clean}
-use Rattle.mvt_tile.proofs.JudgeLemmas.{tells_name}
+use Rattle.mvt_tile.proofs.JudgeLemmas.{reports_name}
 use Rattle.mvt_tile.proofs.visiting.NamedItemVisitor.visit_item.Goals as goal
 
 pub returns-in-Ok-clause-item : goal.returns-in-Ok-clause-item
@@ -21,5 +21,5 @@ returns-in-Ok-clause-fault g c = λ input items has.
     let d = c.args.payload.now in
     let (item, is, valid, named, new) = c.in-Ok.ensures.item items has.2 in
     IfErr-weaker c.add.result _ _
-    (λ e told. tells_name e _ _ _ d _ _ (item_or_fault_clean d c.args.payload_at c.args.tag_at item is) (sym named ∙ item_names d item is)
-    (told items has.0)) c.add.ensures.fault
+    (λ e reported. reports_name e _ _ _ d _ _ (item_or_fault_clean d c.args.payload_at c.args.tag_at item is) (sym named ∙ item_names d item is)
+    (reported items has.0)) c.add.ensures.fault

@@ -31,11 +31,11 @@ returns-in_ok-from_str-in-Ok-Layer-clause-item c = λ items are.
     layer_opened c.args.self.now.table c.places-self.result items c.places-self.ensures.features c.places-self.ensures.keys
     c.places-self.ensures.values are in
     let (item, is, valid, visited) = c.in-Ok-Layer.ensures.item items start are in
-    let told = rw c.in-Ok-Layer.field-0-is at visited in
+    let reported = rw c.in-Ok-Layer.field-0-is at visited in
     let rows = c.visit_layer.new.visitor in
     let (layer, has, facts) =
     was_layer (HasItems items) (HasFeatures items) rows (Layer c.in-Ok-Layer.name c.in-Ok-Layer.extent)
-    (λ i. IsItem c.args.payload.now i × ValidItem i) (λ number content none. none) item told (is, valid) in
+    (λ i. IsItem c.args.payload.now i × ValidItem i) (λ number content none. none) item reported (is, valid) in
     let ended =
     layer_ends c.args.payload.now rows.table rows.opened items c.in-Ok-Layer.name.now c.in_ok-from_str-in-Ok-Layer.field-0
     c.in-Ok-Layer.extent layer has.2.0 has.2.1 facts.0 facts.1 has.0 has.1 c.in_ok-from_str-in-Ok-Layer.ensures.same has.2.2 in (
@@ -52,11 +52,11 @@ returns-in_ok-keep_within-in-Ok-Foreign-clause-item c = λ items are.
     layer_opened c.args.self.now.table c.places-self.result items c.places-self.ensures.features c.places-self.ensures.keys
     c.places-self.ensures.values are in
     let (item, is, valid, visited) = c.in-Ok-Foreign.ensures.item items start are in
-    let told = rw c.in-Ok-Foreign.field-0-is at visited in
+    let reported = rw c.in-Ok-Foreign.field-0-is at visited in
     let rows = c.visit_layer.new.visitor in
     let (number, content, has, facts) =
     was_foreign (HasItems items) (HasFeatures items) rows (Foreign c.in-Ok-Foreign.version)
-    (λ i. IsItem c.args.payload.now i × ValidItem i) (λ layer none. none) item told (is, valid) in
+    (λ i. IsItem c.args.payload.now i × ValidItem i) (λ layer none. none) item reported (is, valid) in
     let ended =
     foreign_ends c.args.payload.now rows.table items c.in-Ok-Foreign.version number content facts.0 facts.1 has.0 has.1 in (
       ended.0,

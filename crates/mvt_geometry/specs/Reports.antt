@@ -5,6 +5,6 @@ use Rattle.mvt_geometry.specs.declared.fault.GeometryError.TheVariants.{Memory, 
 use Rattle.mvt_geometry.specs.Table.{IndexedCause}
 
 -- want of memory tells that no rule is broken, and a fault is the one of the integers
-abbrev pub Tells : GeometryError → Option IndexedCause → Type 0
-Tells Memory fault = fault ≡ None
-Tells (Fault index cause) fault = fault ≡ Some (index, cause)
+abbrev pub Reports : GeometryError → Option IndexedCause → Type 0
+Reports Memory fault = fault ≡ None
+Reports (Fault index cause) fault = fault ≡ Some (index, cause)

@@ -2,6 +2,6 @@
 use Rattle.std.specs.Prelude.{◌≡◌, Option, Some, None, ⊤}
 
 -- an error that tells a fault tells this one; an error that tells none, such as want of memory, says nothing of it
-abbrev pub Tells : {F : Type 0} → Option F → Option F → Type 0
-Tells None fault = ⊤
-Tells (Some told) fault = fault ≡ Some told
+abbrev pub Reports : {F : Type 0} → Option F → Option F → Type 0
+Reports None fault = ⊤
+Reports (Some reported) fault = fault ≡ Some reported
