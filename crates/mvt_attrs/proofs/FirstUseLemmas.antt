@@ -15,7 +15,7 @@ module _ {A : Type 0} (same : A → A → Bool) (decides : (x y : A) → Decides
   abbrev pub has : A → List A → Bool
   has x ys = list_any (λ y. same y x) ys
 
-  -- the first uses behind one more entry
+  -- the first uses after one more entry
   abbrev pub put : List A → A → List A
   put pool x = cond (has x pool) pool (pool ++ x ∷ [])
 
@@ -120,8 +120,8 @@ module _ {A : Type 0} (same : A → A → Bool) (decides : (x y : A) → Decides
   pub first_use-distinct : (xs : List A) → AreDistinct (first_use same xs)
   first_use-distinct xs = distinct_from [] xs (λ i j d before within e. omega arith)
 
-  new_behind : (front : List A) (y : A) (back : List A) → AreDistinct (front ++ y ∷ back) → has y front ≡ false
-  new_behind front y back distinct =
+  new_after : (front : List A) (y : A) (back : List A) → AreDistinct (front ++ y ∷ back) → has y front ≡ false
+  new_after front y back distinct =
       has_not_from_apart y front (λ k d within e.
       distinct k (length front) d within (omega (arith, length-append front (y ∷ back)))
       (get_or_append_left front (y ∷ back) d k within ∙ e ∙ sym (get_or_at front y back d (length front) refl)))
@@ -131,7 +131,7 @@ module _ {A : Type 0} (same : A → A → Bool) (decides : (x y : A) → Decides
   own_from front [] e distinct = ap (first_use same) (append-nil front) ∙ e ∙ sym (append-nil front)
   own_from front (y ∷ ys) e distinct =
       let joined = append_assoc front (y ∷ []) ys in
-      let new = new_behind front y ys distinct in
+      let new = new_after front y ys distinct in
       sym (ap (first_use same) joined)
       ∙ own_from (front ++ y ∷ []) ys
       (first_use-push front y ∙ ap (λ p. put p y) e ∙ ap (λ b. cond b front (front ++ y ∷ [])) new)
@@ -143,15 +143,15 @@ module _ {A : Type 0} (same : A → A → Bool) (decides : (x y : A) → Decides
 
   -- ---- longer lists
 
-  same_behind : (us vs ys : List A) → first_use same us ≡ first_use same vs → first_use same (us ++ ys) ≡ first_use same (vs ++ ys)
-  same_behind us vs [] e = ap (first_use same) (append-nil us) ∙ e ∙ sym (ap (first_use same) (append-nil vs))
-  same_behind us vs (y ∷ ys) e =
+  same_after : (us vs ys : List A) → first_use same us ≡ first_use same vs → first_use same (us ++ ys) ≡ first_use same (vs ++ ys)
+  same_after us vs [] e = ap (first_use same) (append-nil us) ∙ e ∙ sym (ap (first_use same) (append-nil vs))
+  same_after us vs (y ∷ ys) e =
       sym (ap (first_use same) (append_assoc us (y ∷ []) ys))
-      ∙ same_behind (us ++ y ∷ []) (vs ++ y ∷ []) ys (first_use-push us y ∙ ap (λ p. put p y) e ∙ sym (first_use-push vs y))
+      ∙ same_after (us ++ y ∷ []) (vs ++ y ∷ []) ys (first_use-push us y ∙ ap (λ p. put p y) e ∙ sym (first_use-push vs y))
       ∙ ap (first_use same) (append_assoc vs (y ∷ []) ys)
 
   pub first_use-again : (xs ys : List A) → first_use same (first_use same xs ++ ys) ≡ first_use same (xs ++ ys)
-  first_use-again xs ys = same_behind (first_use same xs) xs ys (first_use-own (first_use same xs) (first_use-distinct xs))
+  first_use-again xs ys = same_after (first_use same xs) xs ys (first_use-own (first_use same xs) (first_use-distinct xs))
 
   pub first_use-front : (xs ys : List A) → (more : List A) × (first_use same (xs ++ ys) ≡ first_use same xs ++ more)
   first_use-front xs [] = ([], ap (first_use same) (append-nil xs) ∙ sym (append-nil (first_use same xs)))

@@ -11,7 +11,7 @@ use Rattle.std.proofs.lemmas.Map.{update_same, update_other}
 use Rattle.std.proofs.lemmas.Option.{slice_get_within, slice_get-get_or}
 use Rattle.std.proofs.lemmas.Slice.Eq.{bytes_eq-Decides}
 use Rattle.mvt_attrs.specs.declared.value.Attribute.{Attribute}
-use Rattle.mvt_attrs.specs.Inner.Marking.{IsGrouped, IsMarked, IsPlaceBehind, AreBelow}
+use Rattle.mvt_attrs.specs.Inner.Marking.{IsGrouped, IsMarked, IsPlaceAfter, AreBelow}
 use Rattle.mvt_attrs.specs.Tags.{has_key}
 
 -- the places of the first texts, and where each text is found among them
@@ -93,7 +93,7 @@ FoundFew texts places =
 module _ (texts : List (List ℕ)) (places : List ℕ) (find : List ℕ → Option ℕ) (so_far : Found texts (length places) places find)
     (low : (q : List ℕ) (v : ℕ) → find q ≡ Some v → v < length places) (text : List ℕ)
     (at : slice_get texts (length places) ≡ Some text) where
-  place_found : (place : ℕ) → IsPlaceBehind texts places place → place ≡ unwrap_or (find text) (length places)
+  place_found : (place : ℕ) → IsPlaceAfter texts places place → place ≡ unwrap_or (find text) (length places)
   place_found place (inl (j, lt, same, is)) = is ∙ sym (ap (λ o. unwrap_or o (length places)) (so_far.found j text lt (same ∙ at)))
   place_found place (inr (none, is)) = by (find text) refl
     where
@@ -124,7 +124,7 @@ module _ (texts : List (List ℕ)) (places : List ℕ) (find : List ℕ → Opti
           let before = low q v (sym (update_other bytes_eq find text (Some place) q other) ∙ e) in
           omega arith
 
-  pub few_more : (place : ℕ) (longer : List ℕ) → IsPlaceBehind texts places place → longer ≡ places ++ place ∷ [] → FoundFew texts longer
+  pub few_more : (place : ℕ) (longer : List ℕ) → IsPlaceAfter texts places place → longer ≡ places ++ place ∷ [] → FoundFew texts longer
   few_more place longer behind e =
       let is = place_found place behind in
       let after = update bytes_eq find text (Some place) in

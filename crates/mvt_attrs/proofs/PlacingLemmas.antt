@@ -77,7 +77,7 @@ names_more keys keys_after values values_after tags attributes i a k v names wit
 pub names_none : (keys : List (List ℕ)) (values : List Value) → Names keys values [] []
 names_none keys values = record { twice = omega arith; key = λ i a at. cc; value = λ i a at. cc }
 
--- pools behind attributes placed, where each entry that is met is placed or its pool is full
+-- pools after attributes placed, where each entry that is met is placed or its pool is full
 pub keys_more : (held pool after : List (List ℕ)) (attributes : List Attribute) (i : ℕ) (a : Attribute) (key : List ℕ)
     → pool ≡ key_pool held (take i attributes) → i < length attributes → a ≡ get_or attributes i a → key ≡ a.key → IsPut pool after key
     → after ≡ key_pool held (take (i + 1) attributes)

@@ -35,7 +35,7 @@ test_from_apart key (a ∷ as') apart =
     (false_from_ne_true (bytes_eq a.key key) (λ e. apart 0 a (omega arith) ((bytes_eq-Decides a.key key).0 e)))
     (test_from_apart key as' (λ k d within. apart (suc k) d (omega arith)))
 
--- in a list of attributes with distinct keys, one is new behind those before it
+-- in a list of attributes with distinct keys, one is new after those before it
 new_among : (front : List Attribute) (a : Attribute) (back : List Attribute) → HasDistinctKeys (front ++ a ∷ back)
     → has_key a.key front ≡ false
 new_among front a back distinct =

@@ -92,30 +92,30 @@ module _ (keys : List (List ℕ)) (values : List Value) (front : List (ℕ × �
   no_key e = chain ∙ option_or-some _ _ _ (first-when (nat_le (length keys) k) _ (le-leb (length keys) k (past_from_none keys k e)))
 
   module _ (key : List ℕ) (there : slice_get keys k ≡ Some key) where
-    behind_key : first (rules_of_pair keys values front (k, v)) ≡ option_or (first value_row) (option_or (first new_row) None)
-    behind_key =
+    after_key : first (rules_of_pair keys values front (k, v)) ≡ option_or (first value_row) (option_or (first new_row) None)
+    after_key =
         chain
         ∙ option_or-none _ _
         (first-when_not (nat_le (length keys) k) _ (lt-leb (length keys) k (slice_get_within keys k key there)))
 
     pub no_value : slice_get values v ≡ None → first (rules_of_pair keys values front (k, v)) ≡ Some (2 * length front + 1, ValueIndex)
     no_value e =
-        behind_key
+        after_key
         ∙ option_or-some _ _ _ (first-when (nat_le (length values) v) _ (le-leb (length values) v (past_from_none values v e)))
 
     module _ (value : Value) (value_there : slice_get values v ≡ Some value) where
-      behind_value : first (rules_of_pair keys values front (k, v)) ≡ option_or (first new_row) None
-      behind_value =
-          behind_key
+      after_value : first (rules_of_pair keys values front (k, v)) ≡ option_or (first new_row) None
+      after_value =
+          after_key
           ∙ option_or-none _ _
           (first-when_not (nat_le (length values) v) _
           (lt-leb (length values) v (slice_get_within values v value value_there)))
 
       pub old_key : repeated ≡ true → first (rules_of_pair keys values front (k, v)) ≡ Some (2 * length front, RepeatedKey)
-      old_key e = behind_value ∙ option_or-some _ _ _ (first-when repeated _ e)
+      old_key e = after_value ∙ option_or-some _ _ _ (first-when repeated _ e)
 
       pub faultless_pair : repeated ≡ false → first (rules_of_pair keys values front (k, v)) ≡ None
-      faultless_pair e = behind_value ∙ option_or-none _ _ (first-when_not repeated _ e)
+      faultless_pair e = after_value ∙ option_or-none _ _ (first-when_not repeated _ e)
 
 -- the fault of an even number of tags is that of their pairs
 pub tag_fault-even : (keys : List (List ℕ)) (values : List Value) (tags : List ℕ) → (length tags % 2 ≡ 1 → ⊥)

@@ -28,7 +28,7 @@ name_one_key keys i j = (i == j) || are_same_texts (slice_get keys i) (slice_get
 unfoldable pub count_rules : List ℕ → Rules (ℕ × TagCause)
 count_rules tags = when (length tags % 2 == 1) (length tags, OddTags)
 
--- the rules of a pair behind others: its key is there, its value is there, no earlier pair has its key
+-- the rules of a pair after others: its key is there, its value is there, no earlier pair has its key
 abbrev pub rows_of_pair : List (List ℕ) → List Value → List (ℕ × ℕ) → ℕ × ℕ → List (ℕ × Rules (ℕ × TagCause))
 rows_of_pair keys values front pair =
     (0, when (nat_le (length keys) pair.0) (2 * length front, KeyIndex))

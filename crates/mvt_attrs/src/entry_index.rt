@@ -59,7 +59,7 @@ fn look_up<T: Entry>(places: &IndexSet<T>, entry: &T) -> Option<usize>
     places.get_index_of(entry)
 }
 
-/// Notes that an entry will stand behind these.
+/// Notes that an entry will stand after these.
 pub(crate) fn record<T: Entry>(
     alloc: Global,
     entry_index: &mut EntryIndex<T>,
@@ -95,7 +95,7 @@ fn is_outgrown<T: Entry>(entry_index: &EntryIndex<T>, count: usize) -> bool {
     }
 }
 
-/// Takes the form for these entries and a new one behind them.
+/// Takes the form for these entries and a new one after them.
 #[inline(never)]
 fn outgrow<T: Entry>(
     alloc: Global,
@@ -114,7 +114,7 @@ fn outgrow<T: Entry>(
     Ok(())
 }
 
-/// The form for these entries and a new one behind them.
+/// The form for these entries and a new one after them.
 fn grown<T: Entry>(alloc: Global, entries: &[T], entry: &T) -> Result<EntryIndex<T>, AllocError>
     requires distinct { AreDistinct entries.now }
     requires new { ¬ (Contains entries.now entry.now) }

@@ -68,7 +68,7 @@ pub fn pools_by_parts()
         value_pool (value_pool held attributes) more ≡ value_pool held (attributes ++ more) }
 {}
 
-/// A pool only grows, and behind what it holds.
+/// A pool only grows, and after what it holds.
 pub fn pools_grow()
     ensures keys { (held : List (List ℕ)) (attributes more : List Attribute) →
         (added : List (List ℕ)) × (key_pool held (attributes ++ more)

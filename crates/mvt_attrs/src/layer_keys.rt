@@ -3,7 +3,7 @@ ghost use Rattle.std.specs.Prelude.{◌≡◌, ◌+◌, ◌<◌, ◌==◌, ℕ, 
 ghost use Rattle.std.specs.Bool.{OnTrue};
 ghost use Rattle.std.specs.Map.{update};
 ghost use Rattle.std.specs.Option.{unwrap_or};
-ghost use Rattle.mvt_attrs.specs.Inner.Marking.{IsGrouped, IsPlaceBehind, IsReady, AreBelow, place_in_map};
+ghost use Rattle.mvt_attrs.specs.Inner.Marking.{IsGrouped, IsPlaceAfter, IsReady, AreBelow, place_in_map};
 
 use mvt_base::Text;
 use std::alloc::{AllocError, Global};
@@ -101,16 +101,16 @@ fn group_few(alloc: Global, texts: &[Text]) -> Result<Vec<usize>, AllocError>
 {
     let mut places = Vec::with_capacity(alloc, texts.len())?;
     for _ in texts {
-        let place = place_behind(texts, &places);
+        let place = place_after(texts, &places);
         places.push(place)?;
     }
     Ok(places)
 }
 
 /// The place of the first text that has none yet: that of an earlier equal one, or its index.
-fn place_behind(texts: &[Text], places: &[usize]) -> usize
+fn place_after(texts: &[Text], places: &[usize]) -> usize
     requires { length places.now < length texts.now }
-    ensures { IsPlaceBehind texts.now places.now result }
+    ensures { IsPlaceAfter texts.now places.now result }
 {
     let index = places.len();
     for (before, place) in places.iter().enumerate() {
@@ -152,7 +152,7 @@ fn place_of<'k>(
     Ok(index)
 }
 
-/// The turn behind this one: no place is marked with it.
+/// The turn after this one: no place is marked with it.
 pub(crate) fn next_turn(marks: &mut [u32], turn: u32) -> u32
     requires { AreBelow marks.old (turn + 1) }
     ensures { AreBelow marks.new result }

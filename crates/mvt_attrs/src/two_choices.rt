@@ -101,7 +101,7 @@ pub(crate) fn two_choices_all<T: Entry>(alloc: Global, entries: &[T]) -> Result<
     Ok(two_choices)
 }
 
-/// Finds a slot for a new entry that will stand behind these, and notes it.
+/// Finds a slot for a new entry that will stand after these, and notes it.
 pub(crate) fn add_two_choices<T: Entry>(
     alloc: Global,
     two_choices: &mut TwoChoices<T>,
@@ -121,7 +121,7 @@ pub(crate) fn add_two_choices<T: Entry>(
     }
 }
 
-/// Notes a new entry that will stand behind these in its free slot, or in order.
+/// Notes a new entry that will stand after these in its free slot, or in order.
 #[inline(always)]
 pub(crate) fn record_two_choices<T: Entry>(
     alloc: Global,

@@ -56,7 +56,7 @@ impl<T: Entry> Uses<T> {
         &self.used
     }
 
-    /// Adds an entry behind the others.
+    /// Adds an entry after the others.
     ///
     /// # Errors
     ///
@@ -75,7 +75,7 @@ impl<T: Entry> Uses<T> {
         Ok(())
     }
 
-    /// Adds entries behind the others.
+    /// Adds entries after the others.
     ///
     /// # Errors
     ///

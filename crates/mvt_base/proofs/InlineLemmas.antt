@@ -1,4 +1,4 @@
--- Short texts, compared with the zeros behind them.
+-- Short texts, compared with the zeros after them.
 use Rattle.std.proofs.Common.{◌≡◌, ◌∙◌, ◌+◌, drop, subst, IsAscii, IsUtf8, ℕ, zero, suc, ◌≤◌, ◌&&◌, List, [], ◌∷◌, length, take, get_or, nat_eq, bytes_eq, true, refl, ap, arith}
 use Rattle.std.proofs.lemmas.Str.{IsUtf8-append, IsUtf8-from_ascii}
 use Rattle.std.proofs.lemmas.List.{take-append-drop, get_or-drop}
@@ -28,7 +28,7 @@ fronts_same (suc n) (x ∷ xs) (y ∷ ys) size a_zero b_zero =
 zeros_ascii : (a : List ℕ) → ((k : ℕ) → get_or a k 0 ≡ 0) → IsAscii a
 zeros_ascii a zeros = λ k. (let is = zeros k in omega arith)
 
--- a text with zeros behind it is one
+-- a text with zeros after it is one
 pub padded_utf8 : (n : ℕ) (a : List ℕ) → IsUtf8 (take n a) → ((k : ℕ) → n ≤ k → get_or a k 0 ≡ 0) → IsUtf8 a
 padded_utf8 n a text zeros =
     let behind : (k : ℕ) → get_or (drop n a) k 0 ≡ 0 = λ k. get_or-drop n a k 0 ∙ zeros (n + k) (omega arith) in

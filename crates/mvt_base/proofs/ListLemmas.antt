@@ -72,7 +72,7 @@ take_front n xs = take-take n (n + 1) xs (omega arith)
 pub too_long : {X : Type 0} → (n : ℕ) (xs : List X) → nat_lt n (length (take (n + 1) xs)) ≡ nat_lt n (length xs)
 too_long n xs = simp length-take (grind (arith, nat_tests))
 
--- a front with the element behind it
+-- a front with the element after it
 pub front_more : {X : Type 0} → (xs : List X) (i : ℕ) (x : X) → i < length xs → x ≡ get_or xs i x
     → take (i + 1) xs ≡ take i xs ++ x ∷ []
 front_more xs i x within is = take_more xs i x within ∙ ap (λ y. take i xs ++ y ∷ []) (sym is)

@@ -14,7 +14,7 @@ pub reports_or : {F : Type 0} → (reported a b : Option F) → Reports reported
 reports_or None a b h = tt
 reports_or (Some f) a b h = option_or-some a b f h
 
--- and so is one behind parts without a fault
+-- and so is one after parts without a fault
 pub or_reports : {F : Type 0} → (reported a b : Option F) → a ≡ None → Reports reported b → Reports reported (option_or a b)
 or_reports None a b none h = tt
 or_reports (Some f) a b none h = option_or-none a b none ∙ h

@@ -63,21 +63,21 @@ pub option_or-right : {F : Type 0} → (o : Option F) → option_or o None ≡ o
 option_or-right None = refl
 option_or-right (Some f) = refl
 
--- the fault of the first element, else that of those behind it
+-- the fault of the first element, else that of those after it
 pub each_first : {X F : Type 0} → (rules : List X → X → Rules F) (front : List X) (x : X) (xs : List X)
     → first (each rules front (x ∷ xs)) ≡ option_or (first (rules front x)) (first (each rules (front ++ x ∷ []) xs))
 each_first rules front x xs =
     first-append (under (length front) (rules front x)) (each rules (front ++ x ∷ []) xs)
     ∙ ap (λ o. option_or o (first (each rules (front ++ x ∷ []) xs))) (first-under (length front) (rules front x))
 
--- one more element, behind those that have no fault
+-- one more element, after those that have no fault
 pub each_more : {X F : Type 0} → (rules : List X → X → Rules F) (xs : List X) (x : X) → first (each rules [] xs) ≡ None
     → first (each rules [] (xs ++ x ∷ [])) ≡ first (rules xs x)
 each_more rules xs x e =
     rw each-append (first_back (each rules [] xs) _ e ∙ first-append (under (length xs) (rules xs x)) []
     ∙ option_or-right (first (under (length xs) (rules xs x))) ∙ first-under (length xs) (rules xs x))
 
--- the fault of an element behind those that have none is that of the whole list
+-- the fault of an element after those that have none is that of the whole list
 pub each_stops : {X F : Type 0} → (rules : List X → X → Rules F) (xs : List X) (x : X) (ys : List X) (f : F)
     → first (each rules [] xs) ≡ None → first (rules xs x) ≡ Some f → first (each rules [] (xs ++ x ∷ ys)) ≡ Some f
 each_stops rules xs x ys f none reported_here =

@@ -1,4 +1,4 @@
--- Two lists related: one by one, or one of them with more behind it.
+-- Two lists related: one by one, or one of them with more after it.
 use Rattle.std.specs.Prelude.{◌≡◌, List, [], ◌∷◌, ◌++◌, ⊤}
 
 -- two lists of one length, related element by element

@@ -110,33 +110,33 @@ pub record Says (payload : List ℕ) (payload_at : ℕ) (known : FeatureFields) 
 
 module _ {payload : List ℕ} {payload_at : ℕ} {known : FeatureFields} {tags integers : List ℕ}
     (says : Says payload payload_at known tags integers) (keys : List (List ℕ)) (values : List Value) where
-  behind_fields : feature_fault payload payload_at keys values ≡ option_or (tags_fault payload keys values) (drawing_fault payload)
-  behind_fields =
+  after_fields : feature_fault payload payload_at keys values ≡ option_or (tags_fault payload keys values) (drawing_fault payload)
+  after_fields =
       feature_chain payload payload_at keys values ∙ option_or-none _ _ (rest_none payload_at (split payload) says.whole)
       ∙ option_or-none _ _ says.clean
 
   tags_are : tag_fault keys values (joined TAGS (split payload).fields) ≡ tag_fault keys values tags
   tags_are = ap (tag_fault keys values) (sym says.known_is.tags_are)
 
-  behind_tags : tag_fault keys values tags ≡ None
+  after_tags : tag_fault keys values tags ≡ None
       → feature_fault payload payload_at keys values ≡ option_map geometry_reported (geometry_fault known.kind integers)
-  behind_tags resolved =
-      behind_fields ∙ option_or-none _ _ (ap (option_map tag_reported) (tags_are ∙ resolved))
+  after_tags resolved =
+      after_fields ∙ option_or-none _ _ (ap (option_map tag_reported) (tags_are ∙ resolved))
       ∙ ap (option_map geometry_reported) (ap₂ geometry_fault (sym says.known_is.kind) (sym says.known_is.integers_are))
 
   pub tags_reported : (e : TagError) → Reports (fault_of_tags e) (tag_fault keys values tags)
       → Reports (fault_of (of_tag_error e)) (feature_fault payload payload_at keys values)
   tags_reported tag_errors.Memory h = tt
-  tags_reported (tag_errors.Fault index cause) h = behind_fields ∙ option_or-some _ _ _ (ap (option_map tag_reported) (tags_are ∙ h))
+  tags_reported (tag_errors.Fault index cause) h = after_fields ∙ option_or-some _ _ _ (ap (option_map tag_reported) (tags_are ∙ h))
 
   pub drawing_reported : (e : GeometryError) → tag_fault keys values tags ≡ None → ReportsGeometry e (geometry_fault known.kind integers)
       → Reports (fault_of (of_geometry_error e)) (feature_fault payload payload_at keys values)
   drawing_reported geometry_errors.Memory resolved h = tt
-  drawing_reported (geometry_errors.Fault index cause) resolved h = behind_tags resolved ∙ ap (option_map geometry_reported) h
+  drawing_reported (geometry_errors.Fault index cause) resolved h = after_tags resolved ∙ ap (option_map geometry_reported) h
 
   pub feature_clean : tag_fault keys values tags ≡ None → geometry_fault known.kind integers ≡ None
       → feature_fault payload payload_at keys values ≡ None
-  feature_clean resolved drawn = behind_tags resolved ∙ ap (option_map geometry_reported) drawn
+  feature_clean resolved drawn = after_tags resolved ∙ ap (option_map geometry_reported) drawn
 
 -- the fields of a feature have no fault
 abbrev pub FieldsClean : ℕ → List Entry → Type 0

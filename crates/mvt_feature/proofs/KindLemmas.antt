@@ -41,7 +41,7 @@ one_number y ys x =
     list_all-append (λ (z : Entry). z.number == y.number) ys (x ∷ [])
     ∙ ap (λ b. list_all (λ (z : Entry). z.number == y.number) ys && b) (and-true (x.number == y.number))
 
--- one more field of a kind, behind an only kind
+-- one more field of a kind, after an only kind
 one_more : (y : Entry) (ys : List Entry) (x last : Entry) (number : ℕ) (old m : Meaning) (b : Bool)
     → (number == x.number) ≡ b → are_one_kind (y ∷ ys) ≡ true → last_or None (y ∷ ys) ≡ Some last → last.number ≡ number
     → Means x.number x.content (value_of m)

@@ -67,18 +67,18 @@ reports_value payload payload_at tag_at e h =
 -- a payload that splits wholly into fields without a fault
 module _ (payload : List ℕ) (payload_at tag_at : ℕ) (whole : (split payload).rest ≡ [])
     (clean : ValuesClean payload_at (split payload).fields) where
-  behind_fields : value_fault payload payload_at tag_at
+  after_fields : value_fault payload payload_at tag_at
       ≡ first (when (not (are_one_kind (kinds (split payload).fields))) (fault_at tag_at ValueKind))
-  behind_fields =
+  after_fields =
       value_chain payload payload_at tag_at ∙ option_or-none _ _ (rest_none payload_at (split payload) whole) ∙ option_or-none _ _ clean
       ∙ option_or-right _
 
   pub value_kind_reported : are_one_kind (kinds (split payload).fields) ≡ false
       → value_fault payload payload_at tag_at ≡ Some (fault_at tag_at ValueKind)
-  value_kind_reported several = behind_fields ∙ first-when _ _ (ap not several)
+  value_kind_reported several = after_fields ∙ first-when _ _ (ap not several)
 
   pub value_clean : are_one_kind (kinds (split payload).fields) ≡ true → value_fault payload payload_at tag_at ≡ None
-  value_clean one = behind_fields ∙ first-when_not _ _ (ap not one)
+  value_clean one = after_fields ∙ first-when_not _ _ (ap not one)
 
 -- a fact for each of the seven numbers
 for_seven : (P : ℕ → Type 0) → P 1 → P 2 → P 3 → P 4 → P 5 → P 6 → P 7 → (n : ℕ) → 1 ≤ n → n ≤ 7 → P n

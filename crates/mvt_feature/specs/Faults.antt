@@ -31,7 +31,7 @@ abbrev pub fault_of : MessageError → Option MessageFault
 fault_of Memory = None
 fault_of (Fault feature at cause) = Some (record { feature = feature; at = at; cause = cause })
 
--- a payload, whose first byte stands at `payload_at`, has no bytes behind its fields
+-- a payload, whose first byte stands at `payload_at`, has no bytes after its fields
 abbrev pub rest_rules_at : ℕ → List ℕ → Rules MessageFault
 rest_rules_at at [] = []
 rest_rules_at at (b ∷ bs) = when true (fault_at at (of_wire (rest_cause (b ∷ bs))))

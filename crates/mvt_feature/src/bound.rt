@@ -4,11 +4,11 @@ ghost use Rattle.mvt_feature.specs.Bounds.{feature_bound};
 
 use crate::feature::Feature;
 use mvt_base::LIMIT;
-use mvt_geometry::room_behind_geometry;
+use mvt_geometry::room_after_geometry;
 
-/// What is left of `room` bytes behind the payload of a feature, by a bound that counts attributes,
+/// What is left of `room` bytes after the payload of a feature, by a bound that counts attributes,
 /// lines and points. None where the bound is more.
-pub fn room_behind_feature(feature: &Feature, room: u64) -> Option<u64>
+pub fn room_after_feature(feature: &Feature, room: u64) -> Option<u64>
     requires { room ≤ LIMIT }
     ensures some { IfSome result (λ left. left + feature_bound feature.now ≡ room) }
     ensures none { IfNone result (room < feature_bound feature.now) }
@@ -18,5 +18,5 @@ pub fn room_behind_feature(feature: &Feature, room: u64) -> Option<u64>
         return None;
     }
     let left = room.checked_sub(35 + 10 * attributes)?;
-    room_behind_geometry(&feature.geometry, left)
+    room_after_geometry(&feature.geometry, left)
 }

@@ -150,7 +150,7 @@ pub fn rests()
     ensures ordered { (payload_at : ℕ) (parts : Parts) → AreOrdered (rest_rules payload_at parts) }
 {}
 
-/// A walk begins before the first field of a payload, takes one field a step and ends behind the
+/// A walk begins before the first field of a payload, takes one field a step and ends after the
 /// last or at a rest. What it meets stands inside the payload.
 pub fn walks()
     ensures start { (payload : List ℕ) (it : Parts) → it ≡ split payload

@@ -17,7 +17,7 @@ mod value;
 mod whole;
 mod writing;
 
-pub use bound::room_behind_feature;
+pub use bound::room_after_feature;
 pub use cause::Cause;
 pub use feature::{Drawn, Feature};
 pub use message_error::MessageError;

@@ -106,8 +106,8 @@ module _ {from : Point} {ints : List ℕ} {line : List Point} {more : List ℕ} 
       ap₂ (λ n xs. take (2 * n) xs) count_is back_is
       ∙ take_at (path_from f.head f.tail) more (2 * length f.tail) (length-path f.head f.tail)
 
-  pub behind_is : drop (2 * (get_or front 3 0 / 8)) back ≡ more
-  behind_is =
+  pub after_is : drop (2 * (get_or front 3 0 / 8)) back ≡ more
+  after_is =
       ap₂ (λ n xs. drop (2 * n) xs) count_is back_is
       ∙ drop_at (path_from f.head f.tail) more (2 * length f.tail) (length-path f.head f.tail)
 

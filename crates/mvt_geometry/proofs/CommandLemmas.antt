@@ -134,12 +134,12 @@ stops {kind} {g} {k} {s} f known r e =
     let n : (length g - k) + suc k ≡ suc (length g) = omega (arith, r.stands.within) in
     fault_is kind g known ∙ ap (λ m. first (rules_of_first kind g m)) (sym n) ∙ more_commands kind g (suc k) f here (length g - k)
 
--- nothing is behind the end
-calm_behind : (kind : Kind) (g : List ℕ) (k : ℕ) → first (rules_of_first kind g k) ≡ None → start kind g k ≡ None → (j : ℕ)
+-- nothing is after the end
+calm_after : (kind : Kind) (g : List ℕ) (k : ℕ) → first (rules_of_first kind g k) ≡ None → start kind g k ≡ None → (j : ℕ)
     → (first (rules_of_first kind g (j + k)) ≡ None) × (start kind g (j + k) ≡ None)
-calm_behind kind g k none e zero = let n : 0 + k ≡ k = omega arith in rw n (none, e)
-calm_behind kind g k none e (suc j) =
-    let before = calm_behind kind g k none e j in
+calm_after kind g k none e zero = let n : 0 + k ≡ k = omega arith in rw n (none, e)
+calm_after kind g k none e (suc j) =
+    let before = calm_after kind g k none e j in
     let n : suc j + k ≡ suc (j + k) = omega arith in
     rw n (at_command kind g (j + k) None before.0 before.1, start-none kind g (j + k) before.1)
 
@@ -151,7 +151,7 @@ ends_well {kind} {g} {k} {s} known r none over =
     let here : first (rules_of_first kind g (suc k)) ≡ None = at_command kind g k (Some s) r.before r.stands.begins ∙ none in
     let n : (length g - k) + suc k ≡ suc (length g) = omega (arith, r.stands.within) in
     fault_is kind g known ∙ ap (λ m. first (rules_of_first kind g m)) (sym n)
-    ∙ (calm_behind kind g (suc k) here (start-over kind g k s r.stands.begins over) (length g - k)).0
+    ∙ (calm_after kind g (suc k) here (start-over kind g k s r.stands.begins over) (length g - k)).0
 
 -- the parameters of n pairs
 pub pairs-take : (n m : ℕ) (xs : List ℕ) → m ≡ 2 * n → pairs_of (take m xs) ≡ take n (pairs_of xs)
@@ -195,29 +195,29 @@ module _ {kind : Kind} {g : List ℕ} {k s : ℕ} {c : Point} (r : Reached kind 
       (chain_at kind g k s (Some command) c is_due r.stands.cursor_is
       ∙ ap (λ o. option_or o (option_or (first (wrong_pairs (Some command) c g s)) (first (wrong_ring kind g k s)))) e)
 
-  pub behind_header : IsHeader kind command g s
+  pub after_header : IsHeader kind command g s
       → first (command_rules kind g k s) ≡ option_or (first (wrong_pairs (Some command) c g s)) (first (wrong_ring kind g k s))
-  behind_header h =
+  after_header h =
       chain_at kind g k s (Some command) c is_due r.stands.cursor_is
       ∙ ap (λ o. option_or o (option_or (first (wrong_pairs (Some command) c g s)) (first (wrong_ring kind g k s))))
       (header_right (may_not_end kind k) kind command g s h)
 
   module _ (h : IsHeader kind command g s) (n : ℕ) (count : n ≡ pair_count (Some command) (get_or g s 0 / 8))
       (parameters : List ℕ) (behind : parameters ≡ take (2 * n) (drop (s + 1) g)) where
-    pub pairs_behind : pairs_of parameters ≡ pairs_at (Some command) g s
-    pairs_behind = ap pairs_of behind ∙ pairs-take n (2 * n) (drop (s + 1) g) refl ∙ ap (λ m. take m (pairs_of (drop (s + 1) g))) count
+    pub pairs_after : pairs_of parameters ≡ pairs_at (Some command) g s
+    pairs_after = ap pairs_of behind ∙ pairs-take n (2 * n) (drop (s + 1) g) refl ∙ ap (λ m. take m (pairs_of (drop (s + 1) g))) count
 
-    rules_behind : first (wrong_pairs (Some command) c g s)
+    rules_after : first (wrong_pairs (Some command) c g s)
         ≡ first (each (pair_rules (is_line_to (Some command)) (s + 1) c) [] (pairs_of parameters))
     unfolding wrong_pairs
-    rules_behind = ap (λ ds. first (each (pair_rules (is_line_to (Some command)) (s + 1) c) [] ds)) (sym pairs_behind)
+    rules_after = ap (λ ds. first (each (pair_rules (is_line_to (Some command)) (s + 1) c) [] ds)) (sym pairs_after)
 
     pub pairs_stop : (f : IndexedCause)
         → first (each (pair_rules (is_line_to (Some command)) (s + 1) c) [] (pairs_of parameters)) ≡ Some f
         → geometry_fault kind g ≡ Some f
     pairs_stop f e =
         stops f (is_known kind k command is_due) r
-        (behind_header h ∙ ap (λ o. option_or o (first (wrong_ring kind g k s))) (rules_behind ∙ e))
+        (after_header h ∙ ap (λ o. option_or o (first (wrong_ring kind g k s))) (rules_after ∙ e))
 
     pub stands_next : (to : Point) → to ≡ moved c (pairs_of parameters) → Stands kind g (suc k) (s + 1 + 2 * n) to
     stands_next to e =
@@ -228,14 +228,14 @@ module _ {kind : Kind} {g : List ℕ} {k s : ℕ} {c : Point} (r : Reached kind 
           cursor_is =
               cursor-next kind g k
               ∙ ap₂ moved r.stands.cursor_is
-              (moves-are kind g k s r.stands.begins ∙ ap (λ (o : Option Command). pairs_at o g s) is_due ∙ sym pairs_behind)
+              (moves-are kind g k s r.stands.begins ∙ ap (λ (o : Option Command). pairs_at o g s) is_due ∙ sym pairs_after)
               ∙ sym e;
           within = omega (arith, h.room, count);
         }
 
     pub rules_left : first (each (pair_rules (is_line_to (Some command)) (s + 1) c) [] (pairs_of parameters)) ≡ None
         → first (command_rules kind g k s) ≡ first (wrong_ring kind g k s)
-    rules_left e = behind_header h ∙ ap (λ o. option_or o (first (wrong_ring kind g k s))) (rules_behind ∙ e)
+    rules_left e = after_header h ∙ ap (λ o. option_or o (first (wrong_ring kind g k s))) (rules_after ∙ e)
 
     pub goes_on : (to : Point) → to ≡ moved c (pairs_of parameters)
         → first (each (pair_rules (is_line_to (Some command)) (s + 1) c) [] (pairs_of parameters)) ≡ None
@@ -243,7 +243,7 @@ module _ {kind : Kind} {g : List ℕ} {k s : ℕ} {c : Point} (r : Reached kind 
     goes_on to e none ring =
         record { stands = stands_next to e; before = at_command kind g k (Some s) r.before r.stands.begins ∙ rules_left none ∙ ring }
 
--- no pairs are behind the end
+-- no pairs are after the end
 pairs_over : (o : Option Command) (g : List ℕ) (s : ℕ) → length g ≤ s → pairs_at o g s ≡ []
 pairs_over o g s over = let zero_there : get_or g s 0 ≡ 0 = get_or_past g s 0 over in rw zero_there (none o (pairs_of (drop (s + 1) g)))
   where

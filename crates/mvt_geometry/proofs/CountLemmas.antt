@@ -16,7 +16,7 @@ use Rattle.mvt_geometry.specs.Inner.Judging.{Reached, edges, part_count}
 use Rattle.mvt_geometry.specs.Inner.Strokes.{pairs_between}
 use Rattle.mvt_geometry.specs.Inner.Grouping.{groups_of, polygons_of}
 use Rattle.mvt_geometry.proofs.AreaLemmas.{area2-ring}
-use Rattle.mvt_geometry.proofs.CommandLemmas.{moves-are, cursor-next, pairs_behind}
+use Rattle.mvt_geometry.proofs.CommandLemmas.{moves-are, cursor-next, pairs_after}
 use Rattle.mvt_geometry.proofs.PathLemmas.{positions-between, moved-between}
 use Rattle.mvt_geometry.proofs.FoundLemmas.{front_of_rest}
 use Rattle.mvt_geometry.proofs.RingLemmas.{ReadsRing, ring_due, reached_close}
@@ -71,13 +71,13 @@ line_passed g k s t c d p ps rs r e left next =
 
 -- ---- rings
 
--- how many polygons the rings behind the first n polygons make
+-- how many polygons the rings after the first n polygons make
 abbrev pub polygons_left : ℕ → List (List Point) → ℕ
 polygons_left zero rings = length (polygons_of rings)
 polygons_left (suc n) rings = length (groups_of rings).polygons
 
 module _ {g : List ℕ} {k s t n : ℕ} {c d last : Point} {parameters : List ℕ} (ring : ReadsRing g k s t n c d last parameters) where
-  -- the ring that was passed, twice its area, and what is behind it
+  -- the ring that was passed, twice its area, and what is after it
   pub ring_passed : (p : Point) (ps : List Point) (more : List ℕ) → IsStroke 3 (p ∷ ps) → AreSteps c (p ∷ ps)
       → drop s g ≡ stroke (15 ∷ []) c (p ∷ ps) ++ more
       → (edges d (positions d (pairs_of parameters)) +ℤ cross last d ≡ area2 (p ∷ ps)) × (drop (t + 1 + 2 * n + 1) g ≡ more)
@@ -89,7 +89,7 @@ module _ {g : List ℕ} {k s t n : ℕ} {c d last : Point} {parameters : List �
       (spelled ∙ sym (stroke_closed c p ps more)) in
       let same = one_place (reached_close ring) f.1 in
       let pairs_are : pairs_of parameters ≡ pairs_between p ps =
-      pairs_behind ring.next LineTo is_due.1 ring.line n ring.count parameters ring.behind
+      pairs_after ring.next LineTo is_due.1 ring.line n ring.count parameters ring.behind
       ∙ sym (moves-are kinds.Polygon g (suc k) t ring.next.stands.begins ∙ ap (λ o. pairs_at o g t) is_due.1) ∙ f.4 in
       let head_is : d ≡ p =
       sym ring.next.stands.cursor_is ∙ cursor-next kinds.Polygon g k ∙ ap₂ moved ring.reached.stands.cursor_is f.3

@@ -13,7 +13,7 @@ use Rattle.mvt_geometry.specs.Commands.{id_of, is_allowed, due, may_not_end, Pai
 use Rattle.mvt_geometry.specs.Table.{is_line_to, pair_rules, wrong_pairs, wrong_ring, geometry_fault}
 use Rattle.mvt_geometry.specs.Inner.Judging.{IsHeader, Reached}
 use Rattle.mvt_geometry.specs.Inner.Strokes.{pairs_between, MayDraw, AreSmall, Found}
-use Rattle.mvt_geometry.proofs.CommandLemmas.{goes_on, pairs_behind, header_kept, pairs_kept, ring_kept, moves-are, reached_calm}
+use Rattle.mvt_geometry.proofs.CommandLemmas.{goes_on, pairs_after, header_kept, pairs_kept, ring_kept, moves-are, reached_calm}
 use Rattle.mvt_geometry.proofs.RingLemmas.{header_pairs}
 use Rattle.mvt_geometry.proofs.PathLemmas.{moved-between, length-positions, length-path, pairs-path, path-pairs, path_calm, calm_path, SmallPair}
 use Rattle.mvt_geometry.specs.Shape.{last_of}
@@ -77,7 +77,7 @@ module _ {kind : Kind} {g : List ℕ} {k s : ℕ} {c : Point} (r : Reached kind 
   pub moves_drawn : moves kind g k ≡ pairs_between c ps
   moves_drawn =
       moves-are kind g k s r.stands.begins ∙ ap (λ (o : Option Command). pairs_at o g s) is_due
-      ∙ sym (pairs_behind r command is_due header (length ps) pair_count_is (path_from c ps) behind) ∙ pairs-path c ps
+      ∙ sym (pairs_after r command is_due header (length ps) pair_count_is (path_from c ps) behind) ∙ pairs-path c ps
 
 -- lists of integers of 32 bits
 pub small-drop : (n : ℕ) (xs : List ℕ) → AreSmall xs → AreSmall (drop n xs)
@@ -114,7 +114,7 @@ command_found {kind} {g} {k} {s} {c} r command is_due known none must small =
     let n = pair_count (Some command) count in
     let parameters = take (2 * n) (drop (s + 1) g) in
     let ds = pairs_of parameters in
-    let same : ds ≡ pairs_at (Some command) g s = pairs_behind r command is_due h n refl parameters refl in
+    let same : ds ≡ pairs_at (Some command) g s = pairs_after r command is_due h n refl parameters refl in
     let pairs_calm : first (each (pair_rules (is_line_to (Some command)) (s + 1) c) [] ds) ≡ None =
     ap (λ es. first (each (pair_rules (is_line_to (Some command)) (s + 1) c) [] es)) same
     ∙ pairs_kept kind g k s c r.stands command is_due calm in

@@ -105,7 +105,7 @@ header_right must_not kind c g s h =
     )
     refl
 
--- nothing is broken behind the last integer where another command need not come
+-- nothing is broken after the last integer where another command need not come
 pub header_over : (must_not : Bool) (kind : Kind) (c : Option Command) (g : List ℕ) (s : ℕ) → must_not ≡ false
     → length g ≤ s → first (rows (header_rows must_not kind c g s)) ≡ None
 unfolding ends_early wrong_command wrong_count no_room

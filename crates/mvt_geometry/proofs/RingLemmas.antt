@@ -19,7 +19,7 @@ use Rattle.mvt_geometry.specs.Commands.{Pair, due, may_not_end, pair_count, pair
 use Rattle.mvt_geometry.specs.Table.{IndexedCause, pair_rules, wrong_ring, command_rules, geometry_fault}
 use Rattle.mvt_geometry.specs.Inner.Judging.{IsHeader, Reached, edges}
 use Rattle.mvt_geometry.proofs.AreaLemmas.{area2-ring, last_of-positions}
-use Rattle.mvt_geometry.proofs.CommandLemmas.{moves-are, cursor-next, stops, rules_left, goes_on, no_ring, pairs_behind, at_first, header_kept, kept_before, first_cursor}
+use Rattle.mvt_geometry.proofs.CommandLemmas.{moves-are, cursor-next, stops, rules_left, goes_on, no_ring, pairs_after, at_first, header_kept, kept_before, first_cursor}
 
 -- which command is due in polygons
 pub ring_due : (k : ℕ) → k % 3 ≡ 0
@@ -152,7 +152,7 @@ module _ {g : List ℕ} {k s t n : ℕ} {c d last : Point} {parameters : List �
   ring_is z =
       let start_is : moves kinds.Polygon g 1 ≡ pairs_of parameters =
       moves-are kinds.Polygon g 1 t (subst (λ m. start kinds.Polygon g (suc m) ≡ Some t) z ring.next.stands.begins)
-      ∙ sym (pairs_behind ring.next LineTo (ring_due k ring.third).1 ring.line n ring.count parameters ring.behind) in
+      ∙ sym (pairs_after ring.next LineTo (ring_due k ring.third).1 ring.line n ring.count parameters ring.behind) in
       first_area (subst (λ m. Reached kinds.Polygon g m s c) z ring.reached) (subst (λ m. Reached kinds.Polygon g (suc m) t d) z ring.next)
       (pairs_of parameters) start_is
       ∙ ap (λ p. edges d (positions d (pairs_of parameters)) +ℤ cross p d) (sym ring.last_is)

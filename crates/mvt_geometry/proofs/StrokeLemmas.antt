@@ -31,7 +31,7 @@ pub steps-back : (c : Point) (ps qs : List Point) → AreSteps c (ps ++ qs) → 
 steps-back c [] qs h = h
 steps-back c (p ∷ ps) qs h = steps-back p ps qs h.1
 
--- the commands of one line, with more behind them
+-- the commands of one line, with more after them
 pub stroke-more : (end : List ℕ) (c p : Point) (ps : List Point) (more : List ℕ)
     → stroke end c (p ∷ ps) ++ more ≡ 9 ∷ (path_from c (p ∷ []) ++ ((2 + 8 * length ps) ∷ (path_from p ps ++ (end ++ more))))
 stroke-more end c p ps more = ap (λ xs. 9 ∷ (path_from c (p ∷ []) ++ ((2 + 8 * length ps) ∷ xs))) (append_assoc (path_from p ps) end more)

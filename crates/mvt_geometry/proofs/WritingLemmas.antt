@@ -44,15 +44,15 @@ pub steps_of : (c : Point) (line l : List Point) (lines rest : List (List Point)
 steps_of c line l lines rest e same steps =
     subst (AreSteps c) (sym same) (steps-front c l (joined rest) (subst (λ ls. AreSteps c (joined ls)) e steps))
 
-pub steps_behind : (c d : Point) (line l : List Point) (lines rest : List (List Point)) → lines ≡ l ∷ rest → line ≡ l
+pub steps_after : (c d : Point) (line l : List Point) (lines rest : List (List Point)) → lines ≡ l ∷ rest → line ≡ l
     → d ≡ last_of c line → AreSteps c (joined lines) → AreSteps d (joined rest)
-steps_behind c d line l lines rest e same last steps =
+steps_after c d line l lines rest e same last steps =
     subst (λ p. AreSteps p (joined rest)) (ap (last_of c) (sym same) ∙ sym last)
     (steps-back c l (joined rest) (subst (λ ls. AreSteps c (joined ls)) e steps))
 
-pub end_behind : (c d end : Point) (line l : List Point) (lines rest : List (List Point)) → lines ≡ l ∷ rest → line ≡ l
+pub end_after : (c d end : Point) (line l : List Point) (lines rest : List (List Point)) → lines ≡ l ∷ rest → line ≡ l
     → d ≡ last_of c line → last_of c (joined lines) ≡ end → last_of d (joined rest) ≡ end
-end_behind c d end line l lines rest e same last so_far =
+end_after c d end line l lines rest e same last so_far =
     ap (λ p. last_of p (joined rest)) (last ∙ ap (last_of c) same) ∙ sym (last_of-append c l (joined rest))
     ∙ ap (λ ls. last_of c (joined ls)) (sym e) ∙ so_far
 

@@ -50,12 +50,12 @@ pairs_of [] = []
 pairs_of (n ∷ []) = []
 pairs_of (n ∷ m ∷ integers) = record { dx = n; dy = m } ∷ pairs_of integers
 
--- 4.3.1: how many pairs stand behind a command of count n
+-- 4.3.1: how many pairs stand after a command of count n
 abbrev pub pair_count : Option Command → ℕ → ℕ
 pair_count (Some ClosePath) n = 0
 pair_count command n = n
 
--- the pairs behind a command that begins at s
+-- the pairs after a command that begins at s
 abbrev pub pairs_at : Option Command → List ℕ → ℕ → List Pair
 pairs_at command g s = take (pair_count command (slice_index g s / 8)) (pairs_of (drop (s + 1) g))
 

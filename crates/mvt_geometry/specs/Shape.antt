@@ -23,7 +23,7 @@ rings_of polygons = flat_map (λ p. p.outer ∷ p.rest) polygons
 abbrev pub joined : List (List Point) → List Point
 joined lines = flat_map (λ l. l) lines
 
--- 4.3.3: the cursor behind a line: its last point
+-- 4.3.3: the cursor after a line: its last point
 abbrev pub last_of : Point → List Point → Point
 last_of cursor [] = cursor
 last_of cursor (p ∷ points) = last_of p points

@@ -46,7 +46,7 @@ step_rows is_line at d to =
 unfoldable pub step_rules : Bool → ℕ → Pair → Point → Rules IndexedCause
 step_rules is_line at d to = rows (step_rows is_line at d to)
 
--- a pair behind others, of a command whose pairs begin with the integer numbered `at` and move the
+-- a pair after others, of a command whose pairs begin with the integer numbered `at` and move the
 -- cursor from the point `from`
 unfoldable pub pair_rules : Bool → ℕ → Point → List Pair → Pair → Rules IndexedCause
 pair_rules is_line at from front d = step_rules is_line (at + 2 * length front) d (moved from (front ++ d ∷ []))

@@ -23,7 +23,7 @@ IsStroke least points = IsStrokeOf wide least points
 abbrev pub AreInner : List (List Point) → Type 0
 AreInner rings = AllByRecursion (λ ring. area2 ring ≤ℤ pos 0) rings
 
--- 4.3.4.4: the polygons that rings make: an exterior ring opens one, and the interior rings behind it
+-- 4.3.4.4: the polygons that rings make: an exterior ring opens one, and the interior rings after it
 -- are its; the first ring always opens one
 abbrev pub Grouped : List (List Point) → List Polygon → Type 0
 Grouped rings [] = ⊥

@@ -6,22 +6,22 @@ ghost use Rattle.mvt_geometry.specs.Bounds.{line_bound, lines_bound, polygon_bou
 use crate::shape::{Geometry, Point, Polygon};
 use mvt_base::{Items, LIMIT};
 
-/// What is left of `room` bytes behind the packed integers of a geometry, by a bound that counts
+/// What is left of `room` bytes after the packed integers of a geometry, by a bound that counts
 /// lines and points. None where the bound is more.
-pub fn room_behind_geometry(geometry: &Geometry, room: u64) -> Option<u64>
+pub fn room_after_geometry(geometry: &Geometry, room: u64) -> Option<u64>
     requires { room ≤ LIMIT }
     ensures some { IfSome result (λ left. left + geometry_bound geometry.now ≡ room) }
     ensures none { IfNone result (room < geometry_bound geometry.now) }
 {
     match geometry {
-        Geometry::Unknown(integers) => behind_integers(integers.as_slice(), room),
-        Geometry::Points(points) => behind_points(points.as_slice(), room),
-        Geometry::Lines(lines) => behind_lines(lines.as_slice(), room),
-        Geometry::Polygons(polygons) => behind_polygons(polygons.as_slice(), room),
+        Geometry::Unknown(integers) => after_integers(integers.as_slice(), room),
+        Geometry::Points(points) => after_points(points.as_slice(), room),
+        Geometry::Lines(lines) => after_lines(lines.as_slice(), room),
+        Geometry::Polygons(polygons) => after_polygons(polygons.as_slice(), room),
     }
 }
 
-fn behind_integers(integers: &[u32], room: u64) -> Option<u64>
+fn after_integers(integers: &[u32], room: u64) -> Option<u64>
     requires { room ≤ LIMIT }
     ensures some { IfSome result (λ left. left + 5 * length integers.now ≡ room) }
     ensures none { IfNone result (room < 5 * length integers.now) }
@@ -33,7 +33,7 @@ fn behind_integers(integers: &[u32], room: u64) -> Option<u64>
     room.checked_sub(5 * count)
 }
 
-fn behind_points(points: &[Point], room: u64) -> Option<u64>
+fn after_points(points: &[Point], room: u64) -> Option<u64>
     requires { room ≤ LIMIT }
     ensures some { IfSome result (λ left. left + (5 + 10 * length points.now) ≡ room) }
     ensures none { IfNone result (room < 5 + 10 * length points.now) }
@@ -45,7 +45,7 @@ fn behind_points(points: &[Point], room: u64) -> Option<u64>
     room.checked_sub(5 + 10 * count)
 }
 
-fn behind_line(line: &[Point], room: u64) -> Option<u64>
+fn after_line(line: &[Point], room: u64) -> Option<u64>
     requires { room ≤ LIMIT }
     ensures some { IfSome result (λ left. left + line_bound line.now ≡ room) }
     ensures none { IfNone result (room < line_bound line.now) }
@@ -57,35 +57,35 @@ fn behind_line(line: &[Point], room: u64) -> Option<u64>
     room.checked_sub(15 + 10 * count)
 }
 
-fn behind_lines(lines: &[Items<Point>], room: u64) -> Option<u64>
+fn after_lines(lines: &[Items<Point>], room: u64) -> Option<u64>
     requires { room ≤ LIMIT }
     ensures some { IfSome result (λ left. left + lines_bound lines.now ≡ room) }
     ensures none { IfNone result (room < lines_bound lines.now) }
 {
     let mut left = room;
     for line in lines {
-        left = behind_line(line.as_slice(), left)?;
+        left = after_line(line.as_slice(), left)?;
     }
     Some(left)
 }
 
-fn behind_polygons(polygons: &[Polygon], room: u64) -> Option<u64>
+fn after_polygons(polygons: &[Polygon], room: u64) -> Option<u64>
     requires { room ≤ LIMIT }
     ensures some { IfSome result (λ left. left + sum_by polygon_bound polygons.now ≡ room) }
     ensures none { IfNone result (room < sum_by polygon_bound polygons.now) }
 {
     let mut left = room;
     for polygon in polygons {
-        left = behind_polygon(polygon, left)?;
+        left = after_polygon(polygon, left)?;
     }
     Some(left)
 }
 
-fn behind_polygon(polygon: &Polygon, room: u64) -> Option<u64>
+fn after_polygon(polygon: &Polygon, room: u64) -> Option<u64>
     requires { room ≤ LIMIT }
     ensures some { IfSome result (λ left. left + polygon_bound polygon.now ≡ room) }
     ensures none { IfNone result (room < polygon_bound polygon.now) }
 {
-    let left = behind_line(polygon.outer.as_slice(), room)?;
-    behind_lines(polygon.rest.as_slice(), left)
+    let left = after_line(polygon.outer.as_slice(), room)?;
+    after_lines(polygon.rest.as_slice(), left)
 }

@@ -136,7 +136,7 @@ fn judge_polygons(integers: &[u32]) -> Result<usize, Fault>
     Ok(polygons)
 }
 
-/// The pen behind a ring, and twice the ring's area.
+/// The pen after a ring, and twice the ring's area.
 fn judge_ring(integers: &[u32], pen: Pen) -> Result<(Pen, i128), Fault>
     requires { pen.at < length integers.now }
     ensures further { IfOk result (λ r. (pen.at < r.0.at) × (r.0.at ≤ length integers.now)) }
@@ -176,7 +176,7 @@ fn judge_ring(integers: &[u32], pen: Pen) -> Result<(Pen, i128), Fault>
     ))
 }
 
-/// The pen behind a command that has parameters.
+/// The pen after a command that has parameters.
 #[inline(always)]
 fn judge_command(kind: Kind, command: Command, integers: &[u32], pen: Pen) -> Result<Pen, Fault>
     requires within { pen.at ≤ length integers.now }
@@ -197,7 +197,7 @@ fn judge_command(kind: Kind, command: Command, integers: &[u32], pen: Pen) -> Re
     Ok(Pen { at: end, cursor })
 }
 
-/// How many pairs stand behind the command that is due here.
+/// How many pairs stand after the command that is due here.
 #[inline(always)]
 fn judge_header(kind: Kind, command: Command, integers: &[u32], at: usize) -> Result<usize, Fault>
     requires { at ≤ length integers.now }
@@ -241,7 +241,7 @@ fn judge_header(kind: Kind, command: Command, integers: &[u32], at: usize) -> Re
     Ok(count)
 }
 
-/// The cursor behind pairs, the first of which is numbered `begin`.
+/// The cursor after pairs, the first of which is numbered `begin`.
 fn judge_pairs(is_line: bool, begin: usize, from: Point, parameters: &[u32]) -> Result<Point, Fault>
     requires { begin + length parameters.now < 2 ^ 64 }
     ensures ok { OnOk result (first
@@ -266,7 +266,7 @@ fn judge_pairs(is_line: bool, begin: usize, from: Point, parameters: &[u32]) -> 
     Ok(Point { x, y })
 }
 
-/// The cursor behind pairs of a ring, and what its edges add to twice the area.
+/// The cursor after pairs of a ring, and what its edges add to twice the area.
 fn judge_edges(begin: usize, from: Point, parameters: &[u32]) -> Result<(Point, i128), Fault>
     requires { begin + length parameters.now < 2 ^ 64 }
     ensures ok { OnOk result (first (each (pair_rules true begin from) [] (pairs_of parameters.now))

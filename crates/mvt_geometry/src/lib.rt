@@ -17,7 +17,7 @@ mod validity;
 mod writing;
 
 pub use area::twice_area;
-pub use bound::room_behind_geometry;
+pub use bound::room_after_geometry;
 pub use fault::{GeometryCause, GeometryError};
 pub use judging::judge_geometry;
 pub use reading::read_geometry;

@@ -154,7 +154,7 @@ fn add_ring(
     Ok(())
 }
 
-/// A line, its last point, and what stands behind its pairs.
+/// A line, its last point, and what stands after its pairs.
 #[derive(Debug, Drop)]
 struct Line<'a> {
     points: Items<Point>,
@@ -162,7 +162,7 @@ struct Line<'a> {
     behind: &'a [u32],
 }
 
-/// The line in front of the integers: one pair behind a MoveTo, and those behind a LineTo.
+/// The line in front of the integers: one pair after a MoveTo, and those after a LineTo.
 fn build_line<'a>(alloc: Global, from: Point, integers: &'a [u32]) -> Result<Line<'a>, AllocError>
     requires { (l : List Point) × (more : List ℕ) × IsLayerFields from integers.now l more }
     ensures further { IfOk result (λ r. length r.behind.now < length integers.now) }

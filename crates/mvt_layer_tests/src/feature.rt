@@ -235,8 +235,8 @@ fn writes_features(rt: HostRuntime) {
     ];
     expect_written(&rt, &feature, &expected);
     // 35, two tags of five bytes, and three integers of five.
-    expect_eq!(rt; room_behind_feature(&feature, 60), Some(0));
-    expect_eq!(rt; room_behind_feature(&feature, 59), None);
+    expect_eq!(rt; room_after_feature(&feature, 60), Some(0));
+    expect_eq!(rt; room_after_feature(&feature, 59), None);
     drop(feature);
 }
 

@@ -69,7 +69,7 @@ fn foreign_item(rt: &(impl Abort + AllocGlobal), version: u32, bytes: &[u8]) -> 
     foreign(rt.alloc(), version, bytes).expect(rt, "an item")
 }
 
-// The item of a short payload that begins at 2, behind the tag at 0.
+// The item of a short payload that begins at 2, after the tag at 0.
 fn read_short(alloc: Global, payload: &[u8]) -> Result<Item, MessageError> {
     if payload.len() > 100 {
         return Err(MessageError::Memory);
@@ -212,8 +212,8 @@ fn validates_items(rt: HostRuntime) {
 // What is left of this room, and nothing where it is one less.
 fn expect_bound(rt: &impl Abort, item: Item, bound: u8) {
     let bound = u64::from(bound);
-    expect_eq!(rt; room_behind_item(&item, bound), Some(0));
-    expect_eq!(rt; room_behind_item(&item, bound.saturating_sub(1)), None);
+    expect_eq!(rt; room_after_item(&item, bound), Some(0));
+    expect_eq!(rt; room_after_item(&item, bound.saturating_sub(1)), None);
     drop(item);
 }
 

@@ -52,7 +52,7 @@ const PLAIN: [u8; 8] = [0x78, 0x02, 0x0A, 0x01, 0x61, 0x28, 0x80, 0x20];
 // A layer of version 1, whose features are no features.
 const FOREIGN: [u8; 8] = [0x12, 0x01, 0xFF, 0x78, 0x01, 0x0A, 0x01, 0x61];
 
-// The name and the canonical bytes of a short payload that begins at 2, behind the tag at 0. They are put behind
+// The name and the canonical bytes of a short payload that begins at 2, after the tag at 0. They are put after
 // a byte.
 fn rewrite_short<'a>(
     alloc: Global,

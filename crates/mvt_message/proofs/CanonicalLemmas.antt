@@ -87,7 +87,7 @@ value_bytes v = spelled (value_fields v)
 abbrev same_bytes : List ℕ → List ℕ
 same_bytes key = key
 
--- the fields behind the name
+-- the fields after the name
 abbrev tail : List (List ℕ) → List Value → List Feature → ℕ → List Plain
 tail keys values features extent =
     all_of FEATURES (feature_bytes keys values) features ++
@@ -103,7 +103,7 @@ tail_contents k keys values features extent a b c ea eb ec =
     ∙ ap₂ (λ x y. x ++ y) eb (contents-append k (all_of VALUES value_bytes values) (extent_fields extent)
     ∙ ap (λ x. x ++ contents_at k (extent_fields extent)) ec))
 
--- no field of another number stands behind the name
+-- no field of another number stands after the name
 tail_none : (k : ℕ) (keys : List (List ℕ)) (values : List Value) (features : List Feature) (extent : ℕ) → (FEATURES == k) ≡ false
     → (KEYS == k) ≡ false → (VALUES == k) ≡ false
     → contents_at k (tail keys values features extent) ≡ contents_at k (extent_fields extent)

@@ -14,7 +14,7 @@ use Rattle.mvt_message.specs.declared.numbers.layer.TheConstants.{NAME, VERSION}
 use Rattle.mvt_message.specs.LayerFields.{bytes_of, is_two, name_in, version_in}
 use Rattle.mvt_message.specs.ItemRules.{payload_names}
 
--- whether the last version is 2, and whether the last name is this one, of fields behind others
+-- whether the last version is 2, and whether the last name is this one, of fields after others
 abbrev pub version_from : Bool → List Entry → Bool
 version_from before [] = before
 version_from before (x ∷ xs) = version_from (if x.number == VERSION then is_two (number_of x.content) else before) xs

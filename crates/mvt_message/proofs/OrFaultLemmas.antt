@@ -176,8 +176,8 @@ layer_keeps payload_at tag_at xs layer is =
     (features_clean payload_at (keys_in xs) is.values xs layer.features is.features))
 
 -- no fault: the payload is an item
-abbrev FaultBehind : ℕ → ℕ → List Entry → Bool → Option MessageFault
-FaultBehind payload_at tag_at xs two = if two then layer_fault payload_at tag_at xs else None
+abbrev FaultAfter : ℕ → ℕ → List Entry → Bool → Option MessageFault
+FaultAfter payload_at tag_at xs two = if two then layer_fault payload_at tag_at xs else None
 
 pub head_clean : (payload : List ℕ) (payload_at tag_at : ℕ) → header_fault payload payload_at tag_at ≡ None
     → ((split payload).rest ≡ []) × HaveForm VERSION (HasForm uint32) (split payload).fields
@@ -207,7 +207,7 @@ item_there payload payload_at tag_at none =
   where
     by_version : (two : Bool) → is_two (version_in (split payload).fields) ≡ two → (split payload).rest ≡ []
         → HaveForm VERSION (HasForm uint32) (split payload).fields → ((n : ℕ) × (version_in (split payload).fields ≡ Some n))
-        → FaultBehind payload_at tag_at (split payload).fields two ≡ None → (item : AnItem) × IsItem payload item
+        → FaultAfter payload_at tag_at (split payload).fields two ≡ None → (item : AnItem) × IsItem payload item
     by_version true is rest forms version behind =
         let layer = layer_there payload_at tag_at (split payload).fields behind in
         (Layer layer.0, item_from payload (Layer layer.0) rest forms (two_there _ is, layer.1))
@@ -236,13 +236,13 @@ pub item_of_layer : (payload : List ℕ) (payload_at tag_at : ℕ) → header_fa
     → item_fault payload payload_at tag_at ≡ layer_fault payload_at tag_at (split payload).fields
 item_of_layer payload payload_at tag_at head version =
     item_chain payload payload_at tag_at ∙ option_or-none _ _ head
-    ∙ ap (FaultBehind payload_at tag_at (split payload).fields) (ap is_two version)
+    ∙ ap (FaultAfter payload_at tag_at (split payload).fields) (ap is_two version)
 
 pub item_of_other : (payload : List ℕ) (payload_at tag_at n : ℕ) → header_fault payload payload_at tag_at ≡ None
     → version_in (split payload).fields ≡ Some n → n ≢ 2 → item_fault payload payload_at tag_at ≡ None
 item_of_other payload payload_at tag_at n head version other =
     item_chain payload payload_at tag_at ∙ option_or-none _ _ head
-    ∙ ap (FaultBehind payload_at tag_at (split payload).fields) (ap is_two version ∙ ne_eqb n 2 other)
+    ∙ ap (FaultAfter payload_at tag_at (split payload).fields) (ap is_two version ∙ ne_eqb n 2 other)
 
 pub item_keeps : (payload : List ℕ) (payload_at tag_at : ℕ) (item : AnItem) → IsItem payload item
     → item_fault payload payload_at tag_at ≡ None

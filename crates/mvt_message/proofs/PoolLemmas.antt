@@ -1,4 +1,4 @@
--- The keys and the values that features use, feature by feature: the pools grow behind what they hold.
+-- The keys and the values that features use, feature by feature: the pools grow after what they hold.
 use Rattle.std.proofs.Common.{◌≡◌, ℕ, ◌+◌, ◌<◌, List, [], ◌∷◌, ◌++◌, length, take, drop, get_or, sym, ap, ◌∙◌, arith, append-nil, length-append}
 use Rattle.std.proofs.lemmas.Grind.{flat_map-append}
 use Rattle.std.proofs.lemmas.List.{take-append-drop}

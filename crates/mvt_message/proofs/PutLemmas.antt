@@ -104,7 +104,7 @@ unfolding keys_of values_of
 features_start features start no_keys no_values =
     record { keys_are = no_keys; values_are = no_values; out_is = sym (append-nil start) }
 
--- a feature whose entries are in pools, and its payload behind nothing
+-- a feature whose entries are in pools, and its payload after nothing
 pub record IsPlaced (f : Feature) (keys new_keys : List (List ℕ)) (values new_values : List Value) (payload : List ℕ) : Type 0 where
   pub keys_grow : new_keys ≡ key_pool keys f.attributes
   pub values_grow : new_values ≡ value_pool values f.attributes

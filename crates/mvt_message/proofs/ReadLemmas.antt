@@ -134,7 +134,7 @@ pub or_reported : (fault : List Entry → Option MessageFault) (done : List Entr
     → ((more : List Entry) → Reports (fault_of e) (fault (done ++ more))) → Reports (fault_of e) (fault done)
 or_reported fault done e stays = subst (λ xs. Reports (fault_of e) (fault xs)) (append-nil done) (stays [])
 
--- the version so far with a field of another number, or behind a fault
+-- the version so far with a field of another number, or after a fault
 pub version_passes : (payload_at : ℕ) (done : List Entry) (v : Result (Option ℕ) MessageError) (x : Entry)
     → IsVersionSoFar payload_at done v → x.number ≢ VERSION → IsVersionSoFar payload_at (done ++ x ∷ []) v
 version_passes payload_at done (Ok v) x so_far other = version_skip payload_at done v x so_far other
@@ -227,7 +227,7 @@ selected_few payload to_come done k walk small =
     let count = split_function_count payload in
     omega arith
 
--- the ends of a walk over the fields of a payload: at a rest, and behind the last
+-- the ends of a walk over the fields of a payload: at a rest, and after the last
 pub rest_reported : {payload : List ℕ} {old : Parts} {done : List Entry} {fault : WireFault} (new : Parts) (payload_at tag_at : ℕ)
     → Walk payload old done → GivesEntry old (Some (Err fault)) new
     → header_fault payload payload_at tag_at ≡ Some (fault_at (payload_at + fault.at) (of_wire fault.cause))

@@ -54,7 +54,7 @@ written_more features f old new before after payload out longer written keys val
     written (f ∷ more) ∙ ap (λ fs. spelled (map (feature_field (keys_of fs) (values_of fs)) features)) (sym joined) in
     grown ∙ ap₂ (λ o b. o ++ short_field 2 (bytes b)) front whole ∙ spelled_more field features f []
 
--- the parts of a layer, behind one another
+-- the parts of a layer, after one another
 pub layer_appended : (layer : ALayer) (name : List ℕ) (extent : ℕ) (features : List ℕ) (keys : List (List ℕ)) (values : List Value)
     (start a b c d e : List ℕ)
     → name ≡ layer.name → extent ≡ layer.extent → AreWritten layer.features features

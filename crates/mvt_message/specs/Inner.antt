@@ -44,7 +44,7 @@ values_fault payload_at fields = first (each (λ _. value_rules_of payload_at) [
 abbrev pub features_fault : ℕ → List (List ℕ) → List Value → List Entry → Option MessageFault
 features_fault payload_at keys values fields = first (each (feature_rules_of payload_at keys values) [] (only FEATURES fields))
 
--- the fault up to the version, and that of a layer of version 2 behind it
+-- the fault up to the version, and that of a layer of version 2 after it
 abbrev pub header_fault : List ℕ → ℕ → ℕ → Option MessageFault
 header_fault payload payload_at tag_at =
     option_or (rest_fault payload payload_at)

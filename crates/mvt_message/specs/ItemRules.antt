@@ -27,7 +27,7 @@ layer_field_rules payload_at x = forms_rules layer_forms payload_at x
 abbrev pub value_rules_of : ℕ → Entry → Rules MessageFault
 value_rules_of payload_at x = value_rules (bytes_of x.content) (payload_at + x.body) (payload_at + x.at)
 
--- the feature of a field behind the fields of earlier ones
+-- the feature of a field after the fields of earlier ones
 abbrev pub feature_rules_of : ℕ → List (List ℕ) → List Value → List Entry → Entry → Rules MessageFault
 feature_rules_of payload_at keys values earlier x =
     map_faults (in_feature (length earlier)) (feature_rules (bytes_of x.content) (payload_at + x.body) keys values)

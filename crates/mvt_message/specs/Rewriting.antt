@@ -1,4 +1,4 @@
--- Features that are written behind one another while others may follow.
+-- Features that are written after one another while others may follow.
 use Rattle.std.specs.Prelude.{◌≡◌, ℕ, List, [], ◌++◌, map}
 use Rattle.mvt_attrs.specs.declared.value.Value.{Value}
 use Rattle.mvt_attrs.specs.Using.{HasUses}

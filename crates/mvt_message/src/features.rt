@@ -75,7 +75,7 @@ pub(crate) fn visit_features<V: LayerVisitor>(
     Ok(())
 }
 
-/// Has a visitor take the feature of a field that holds one, behind so many, and answers how many
+/// Has a visitor take the feature of a field that holds one, after so many, and answers how many
 /// it has.
 fn visit_field<V: LayerVisitor>(
     alloc: Global,

@@ -21,7 +21,7 @@ mod version;
 mod visiting;
 mod writing;
 
-pub use bound::room_behind_item;
+pub use bound::room_after_item;
 pub use item::{Item, Layer};
 pub use mvt_base::LIMIT;
 pub use mvt_feature::{Cause, Feature, MessageError, read_feature, read_value};

@@ -43,7 +43,7 @@ pub(crate) fn take_value<V: LayerVisitor>(
     *values = visit_field(alloc, visitor, field, payload_at, count);
 }
 
-/// Has a visitor take the value of a field that holds one, behind so many, and answers how many it
+/// Has a visitor take the value of a field that holds one, after so many, and answers how many it
 /// has.
 #[inline(always)]
 fn visit_field<V: LayerVisitor>(

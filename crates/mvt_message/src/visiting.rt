@@ -57,7 +57,7 @@ pub trait LayerVisitor: Drop {
             → OnOk result
             ((value : Value) × IsValueOf payload.now value
             × has_values items self.new (values ++ value ∷ [])) }
-        // Also behind an error: then it may have more of this layer's values.
+        // Also after an error: then it may have more of this layer's values.
         ensures kept { (items : List Item) (values : List Value) → has_values items self.old values
             → has_items items self.new }
         ensures err { IfErr result (λ error. Reports (fault_of error)

@@ -25,9 +25,9 @@ numbered-append f n (x ∷ xs) ys =
     ∙ ap (λ k. numbered f (n + 1) xs ++ numbered f k ys) (let e : (n + 1) + length xs ≡ n + length (x ∷ xs) = omega arith in e))
     ∙ sym (append_assoc (f n x) (numbered f (n + 1) xs) (numbered f (n + length (x ∷ xs)) ys))
 
-behind_head : (b : Bool) (n : ℕ) (o t r : Option ℕ) → o ≡ option_or t r → cond b (Some n) o ≡ option_or (cond b (Some n) t) r
-behind_head true n o t r e = refl
-behind_head false n o t r e = e
+after_head : (b : Bool) (n : ℕ) (o t r : Option ℕ) → o ≡ option_or t r → cond b (Some n) o ≡ option_or (cond b (Some n) t) r
+after_head true n o t r e = refl
+after_head false n o t r e = e
 
 -- one element more
 pub noted_more : {A : Type 0} (f : ℕ → A → List Note) (n : ℕ) (xs : List A) (i : ℕ) (x : A) (k : ℕ) (start old new : List Note)
@@ -78,7 +78,7 @@ pub first_more : {A : Type 0} (p : A → Bool) (n : ℕ) (xs : List A) (x : A)
     → position_from p n (xs ++ x ∷ []) ≡ option_or (position_from p n xs) (cond (p x) (Some (n + length xs)) None)
 first_more p n [] x = ap (λ k. cond (p x) (Some k) None) (sym (add-zero n))
 first_more p n (y ∷ xs) x =
-    behind_head (p y) n (position_from p (n + 1) (xs ++ x ∷ [])) (position_from p (n + 1) xs) (cond (p x) (Some (n + length (y ∷ xs))) None)
+    after_head (p y) n (position_from p (n + 1) (xs ++ x ∷ [])) (position_from p (n + 1) xs) (cond (p x) (Some (n + length (y ∷ xs))) None)
     (first_more p (n + 1) xs x
     ∙ ap (λ k. option_or (position_from p (n + 1) xs) (cond (p x) (Some k) None))
     (let e : (n + 1) + length xs ≡ n + length (y ∷ xs) = omega arith in e))

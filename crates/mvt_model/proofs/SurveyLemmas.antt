@@ -12,7 +12,7 @@ use Rattle.mvt_model.specs.declared.note.Note.TheVariants.{NoLayers}
 use Rattle.mvt_model.specs.declared.survey.Survey.{Survey}
 use Rattle.mvt_model.specs.declared.findings.Findings.{Findings}
 use Rattle.mvt_model.specs.declared.tile.Tile.{Tile}
-use Rattle.mvt_model.specs.Comparing.{IsBehind}
+use Rattle.mvt_model.specs.Comparing.{IsAfter}
 use Rattle.mvt_model.specs.Findings.{AreFound}
 use Rattle.mvt_model.specs.Notes.{numbered, note_if, item_notes, notes_of}
 use Rattle.mvt_model.specs.Survey.{feature_count, survey_of}
@@ -45,13 +45,13 @@ features_more items item =
 pub found_more : (limit : ℕ) (input : List ℕ) (old new : Findings) (items : List Item) (item : Item) (count index : ℕ)
     → AreFound limit input old items → length items ≡ index
     → count ≡ feature_count item → count ≤ 18446744073709551615 → new.features ≡ old.features + count
-    → IsBehind input (written items ++ field_of item) new.behind → new.notes.items ≡ old.notes.items ++ item_notes index item
+    → IsAfter input (written items ++ field_of item) new.behind → new.notes.items ≡ old.notes.items ++ item_notes index item
     → AreFound limit input new (items ++ item ∷ [])
 found_more limit input old new items item count index found at is most sum behind noted = record {
   small = found.small;
   features = sum ∙ ap₂ (λ a b. a + b) found.features is ∙ sym (features_more items item);
   few = let before = found.few in omega (arith, length-append items (item ∷ []));
-  behind = subst (λ b. IsBehind input b new.behind)
+  behind = subst (λ b. IsAfter input b new.behind)
       (ap (λ b. written items ++ b) (sym (written_one item)) ∙ sym (written-append items (item ∷ []))) behind;
   notes = noted ∙ ap (λ ns. ns ++ item_notes index item) found.notes
       ∙ ap (λ n. numbered item_notes 0 items ++ item_notes n item) (let place : index ≡ 0 + length items = omega arith in place)

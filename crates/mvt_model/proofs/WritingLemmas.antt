@@ -36,18 +36,18 @@ written-append xs ys =
 pub written_one : (item : Item) → written (item ∷ []) ≡ field_of item
 written_one item = append-nil (field_of item)
 
-pub written_behind : (items : List Item) (item : Item) → written (items ++ item ∷ []) ≡ written items ++ field_of item
-written_behind items item = written-append items (item ∷ []) ∙ ap (λ b. written items ++ b) (written_one item)
+pub written_after : (items : List Item) (item : Item) → written (items ++ item ∷ []) ≡ written items ++ field_of item
+written_after items item = written-append items (item ∷ []) ∙ ap (λ b. written items ++ b) (written_one item)
 
-pub encoded_behind : (items : List Item) (item : Item) {old new payload : List ℕ} → old ≡ written items → payload ≡ canonical_item item
+pub encoded_after : (items : List Item) (item : Item) {old new payload : List ℕ} → old ≡ written items → payload ≡ canonical_item item
     → new ≡ old ++ short_field LAYERS (bytes payload) → new ≡ written (items ++ item ∷ [])
-encoded_behind items item was is put =
-    put ∙ ap₂ (λ o d. o ++ short_field LAYERS (bytes d)) was is ∙ sym (written_behind items item)
+encoded_after items item was is put =
+    put ∙ ap₂ (λ o d. o ++ short_field LAYERS (bytes d)) was is ∙ sym (written_after items item)
 
 pub written_more : (items : List Item) (i : ℕ) (item : Item) → i < length items → item ≡ get_or items i item
     → written (take (i + 1) items) ≡ written (take i items) ++ field_of item
 written_more items i item h is =
-    ap written (front_more items i item h is) ∙ written_behind (take i items) item
+    ap written (front_more items i item h is) ∙ written_after (take i items) item
 
 -- the whole, round the field of one item
 pub written_parts : (items : List Item) (i : ℕ) (item : Item) → i < length items → item ≡ get_or items i item

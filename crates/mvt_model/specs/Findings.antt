@@ -5,7 +5,7 @@ use Rattle.mvt_wire.specs.Spelling.{spelled}
 use Rattle.mvt_message.specs.declared.item.Item.{Item}
 use Rattle.mvt_model.specs.declared.findings.Findings.{Findings}
 use Rattle.mvt_model.specs.CanonicalTiles.{item_field}
-use Rattle.mvt_model.specs.Comparing.{IsBehind}
+use Rattle.mvt_model.specs.Comparing.{IsAfter}
 use Rattle.mvt_model.specs.Notes.{numbered, item_notes}
 use Rattle.mvt_model.specs.Survey.{feature_count}
 
@@ -14,5 +14,5 @@ pub record AreFound (limit : ℕ) (input : List ℕ) (found : Findings) (items :
   pub small : length input ≤ limit
   pub features : found.features ≡ sum_by feature_count items
   pub few : found.features ≤ length items * 18446744073709551615
-  pub behind : IsBehind input (spelled (map item_field items)) found.behind
+  pub behind : IsAfter input (spelled (map item_field items)) found.behind
   pub notes : found.notes.items ≡ numbered item_notes 0 items

@@ -3,7 +3,7 @@ ghost use Rattle.std.specs.Prelude.{◌≡◌, ◌++◌, ℕ, List, length, IfOk
 ghost use Rattle.mvt_wire.specs.Field.{bytes as in_bytes};
 ghost use Rattle.mvt_wire.specs.Spelling.{short_field};
 ghost use Rattle.mvt_model.specs.declared.numbers.tile.TheConstants.{LAYERS};
-ghost use Rattle.mvt_model.specs.Comparing.{IsBehind};
+ghost use Rattle.mvt_model.specs.Comparing.{IsAfter};
 
 use crate::numbers::tile;
 use mvt_base::LIMIT;
@@ -11,14 +11,14 @@ use mvt_base::LIMIT;
 use mvt_wire::put_field_head;
 use std::alloc::{AllocError, Global};
 
-/// What stands behind the field of an item with this canonical payload, where that is at the front of
+/// What stands after the field of an item with this canonical payload, where that is at the front of
 /// some bytes.
-pub(crate) fn behind_payload<'b>(
+pub(crate) fn after_payload<'b>(
     alloc: Global,
     payload: &[u8],
     bytes: &'b [u8],
 ) -> Result<Option<&'b [u8]>, AllocError>
-    ensures { IfOk result (IsBehind bytes.now (short_field LAYERS (in_bytes payload.now))) }
+    ensures { IfOk result (IsAfter bytes.now (short_field LAYERS (in_bytes payload.now))) }
 {
     let head = field_head(alloc, payload.len())?;
     match bytes.strip_prefix(head.as_slice()) {

@@ -35,7 +35,7 @@ pub fn encode(alloc: Global, tile: &Tile) -> Result<Vec<u8>, PutError>
     out.ok_or(PutError::TooLarge)
 }
 
-/// The canonical bytes of one item more, behind those of the items before it; `None` from where
+/// The canonical bytes of one item more, after those of the items before it; `None` from where
 /// they are more than the limit.
 fn encode_more(
     alloc: Global,

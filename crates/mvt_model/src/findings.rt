@@ -6,11 +6,11 @@ ghost use Rattle.mvt_message.specs.CanonicalItems.{canonical_item};
 ghost use Rattle.mvt_model.specs.declared.numbers.tile.TheConstants.{LAYERS};
 ghost use Rattle.mvt_model.specs.declared.tile.Tile.{Tile};
 ghost use Rattle.mvt_model.specs.CanonicalTiles.{canonical};
-ghost use Rattle.mvt_model.specs.Comparing.{IsBehind};
+ghost use Rattle.mvt_model.specs.Comparing.{IsAfter};
 ghost use Rattle.mvt_model.specs.Findings.{AreFound};
 ghost use Rattle.mvt_model.specs.Survey.{feature_count as the_feature_count, survey_of};
 
-use crate::comparing::behind_payload;
+use crate::comparing::after_payload;
 use crate::note::Note;
 use crate::noting::{note_if, note_item};
 use crate::survey::Survey;
@@ -23,7 +23,7 @@ use std::alloc::{AllocError, Global};
 #[derive(Drop)]
 pub struct Findings<'a> {
     features: u128,
-    /// What stands behind their canonical bytes; `None` where the input doesn't begin with these.
+    /// What stands after their canonical bytes; `None` where the input doesn't begin with these.
     behind: Option<&'a [u8]>,
     notes: Vec<Note>,
 }
@@ -41,7 +41,7 @@ impl<'a> Findings<'a> {
         }
     }
 
-    /// Adds what is found of the item behind so many others, whose canonical payload this is.
+    /// Adds what is found of the item after so many others, whose canonical payload this is.
     pub fn add(
         &mut self,
         alloc: Global,
@@ -58,7 +58,7 @@ impl<'a> Findings<'a> {
             → OnOk result (AreFound LIMIT input self.new (items ++ item.now ∷ [])) }
     {
         self.features += feature_count(item) as u128;
-        self.behind = behind_next(alloc, payload, self.behind)?;
+        self.behind = after_next(alloc, payload, self.behind)?;
         note_item(alloc, &mut self.notes, index, item)
     }
 
@@ -94,24 +94,24 @@ pub fn feature_count(item: &Item) -> usize
     }
 }
 
-/// What stands behind one item more, whose payload this is.
-fn behind_next<'b>(
+/// What stands after one item more, whose payload this is.
+fn after_next<'b>(
     alloc: Global,
     payload: &[u8],
     behind: Option<&'b [u8]>,
 ) -> Result<Option<&'b [u8]>, AllocError>
-    ensures { (input front : List ℕ) → IsBehind input front behind.entry
-        → IfOk result (IsBehind input (front ++ short_field LAYERS (in_bytes payload.now))) }
+    ensures { (input front : List ℕ) → IsAfter input front behind.entry
+        → IfOk result (IsAfter input (front ++ short_field LAYERS (in_bytes payload.now))) }
 {
     match behind {
-        Some(rest) => behind_payload(alloc, payload, rest),
+        Some(rest) => after_payload(alloc, payload, rest),
         None => Ok(None),
     }
 }
 
-/// Whether nothing stands behind the bytes that an input begins with.
+/// Whether nothing stands after the bytes that an input begins with.
 fn is_end(behind: Option<&[u8]>) -> bool
-    ensures { (input front : List ℕ) → IsBehind input front behind.entry
+    ensures { (input front : List ℕ) → IsAfter input front behind.entry
         → result ≡ bytes_eq input front }
 {
     match behind {

@@ -196,7 +196,7 @@ fn note_polygons(
     Ok(())
 }
 
-/// Notes rings that are counted from some number on, and answers the number behind them.
+/// Notes rings that are counted from some number on, and answers the number after them.
 fn note_rings(
     notes: &mut Vec<Note>,
     layer: usize,

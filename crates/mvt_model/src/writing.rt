@@ -17,7 +17,7 @@ use crate::tile::Tile;
 use crate::write_error::WriteError;
 use mvt_base::LIMIT;
 use mvt_io::{Sink, write_all};
-use mvt_message::{Item, PutError, item_len, put_item, room_behind_item};
+use mvt_message::{Item, PutError, item_len, put_item, room_after_item};
 use mvt_wire::{field_len, put_field_head};
 use std::alloc::Global;
 use std::io::ErrorKind;
@@ -56,17 +56,17 @@ fn are_surely_small(items: &[Item]) -> bool
     ensures bound { IsTrue result ↔ (items_bound items.now ≤ LIMIT) }
     ensures small { IsTrue result → length (spelled (map item_field items.now)) ≤ LIMIT }
 {
-    room_behind_items(items).is_some()
+    room_after_items(items).is_some()
 }
 
-/// What is left of the limit behind items, by that bound.
-fn room_behind_items(items: &[Item]) -> Option<u64>
+/// What is left of the limit after items, by that bound.
+fn room_after_items(items: &[Item]) -> Option<u64>
     ensures some { IfSome result (λ left. left + items_bound items.now ≡ LIMIT) }
     ensures none { IfNone result (LIMIT < items_bound items.now) }
 {
     let mut left = LIMIT;
     for item in items {
-        left = room_behind_item(item, left.checked_sub(20)?)?;
+        left = room_after_item(item, left.checked_sub(20)?)?;
     }
     Some(left)
 }

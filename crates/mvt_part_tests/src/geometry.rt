@@ -400,8 +400,8 @@ fn refused_puts_and_copies(rt: HostRuntime) {
 
 fn expect_bound(rt: &impl Abort, geometry: Geometry, bound: u8) {
     let bound = u64::from(bound);
-    expect_eq!(rt; room_behind_geometry(&geometry, bound + 1), Some(1));
-    expect_eq!(rt; room_behind_geometry(&geometry, bound.saturating_sub(1)), None);
+    expect_eq!(rt; room_after_geometry(&geometry, bound + 1), Some(1));
+    expect_eq!(rt; room_after_geometry(&geometry, bound.saturating_sub(1)), None);
     drop(geometry);
 }
 

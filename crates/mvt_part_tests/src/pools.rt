@@ -66,7 +66,7 @@ fn second_end(text: &Text) -> u64 {
 }
 
 // Three texts that meet in their first slot, of which the last two meet in their second one too, and the
-// places that they get behind the letters.
+// places that they get after the letters.
 const MEETING: [(u32, u32); 3] = [(0, 40), (988, 41), (2_066, 42)];
 
 fn expect_meeting(rt: &(impl Abort + AllocGlobal), number: u32, last: &Text) {

@@ -288,7 +288,7 @@ fn refused_packed_numbers(rt: HostRuntime) {
     expect!(rt; refusals < 2);
 }
 
-// Forty numbers behind the three.
+// Forty numbers after the three.
 fn is_append_refused(rt: &impl Abort, numbers: &mut Vec<u32>) -> bool {
     let more = [0x07; 40];
     let is_refused = append_packed(&more, numbers).is_err();

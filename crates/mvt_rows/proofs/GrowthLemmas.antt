@@ -21,7 +21,7 @@ use Rattle.mvt_rows.specs.Tables.{Table, with_key, with_value, with_part, with_p
 use Rattle.mvt_rows.specs.TileRows.{each, part_of, steps, text_of, value_of, utf8_of, line_of, point_of, with_ring_row, points_of, drawn_of, geometry_of, IsFeature, IsLayer, IsItem}
 use Rattle.mvt_rows.proofs.RowLemmas.{Stays, stays_then, stays_map, stays_if, each_stays, steps_stay, related_weaker, part_stays}
 
--- a list, and perhaps more behind it
+-- a list, and perhaps more after it
 pub record Longer (X : Type 0) (old new : List X) : Type 0 where
   pub more : List X
   pub is : new ≡ old ++ more
@@ -76,7 +76,7 @@ pub grown_fold : {X : Type 0} → (f : Table → X → Table) → ((t : Table) (
 grown_fold f grows t [] = grown_not t
 grown_fold f grows t (x ∷ xs) = grown_more t (f t x) (fold f (f t x) xs) (grows t x) (grown_fold f grows (f t x) xs)
 
--- more rows of features, more tags, and another text behind other rows of layers
+-- more rows of features, more tags, and another text after other rows of layers
 pub more_features : (t : Table) (rows : List FeatureRow) → Grown t (record t { features = t.features ++ rows })
 more_features t rows =
     record {

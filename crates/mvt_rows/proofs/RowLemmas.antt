@@ -69,12 +69,12 @@ part_is held front p back is start len from long =
     ∙ ap (λ n. length front + n) (length-append p back) in
     let fits : start + len ≤ length held = omega arith in
     let n : start + len - start ≡ length p = omega arith in
-    let behind_front : drop start held ≡ p ++ back = ap (drop start) is ∙ drop_at front (p ++ back) start (sym from) in
+    let after_front : drop start held ≡ p ++ back = ap (drop start) is ∙ drop_at front (p ++ back) start (sym from) in
     ap (λ c. if c then Some (slice_range held start (start + len)) else None) (le-leb (start + len) (length held) fits)
-    ∙ ap Some (ap (take (start + len - start)) behind_front ∙ take_at p back (start + len - start) (sym n))
+    ∙ ap Some (ap (take (start + len - start)) after_front ∙ take_at p back (start + len - start) (sym n))
 
-pub part_behind : {X : Type 0} → (front p : List X) (len : ℕ) → len ≡ length p → part_of (front ++ p) (behind front len) ≡ Some p
-part_behind front p len long = part_is (front ++ p) front p [] (ap (λ l. front ++ l) (sym (append-nil p))) (length front) len refl long
+pub part_after : {X : Type 0} → (front p : List X) (len : ℕ) → len ≡ length p → part_of (front ++ p) (behind front len) ≡ Some p
+part_after front p len long = part_is (front ++ p) front p [] (ap (λ l. front ++ l) (sym (append-nil p))) (length front) len refl long
 
 pub part_added : {X : Type 0} → (old new more : List X) → new ≡ old ++ more → part_of new (added old new) ≡ Some more
 part_added old new more is =

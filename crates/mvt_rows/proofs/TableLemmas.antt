@@ -26,7 +26,7 @@ use Rattle.mvt_rows.specs.declared.rows.ValueRow.{ValueRow}
 use Rattle.mvt_rows.specs.Tables.{Table, behind, added, point_row, number_row, with_value, with_part, with_polygon, with_geometry}
 use Rattle.mvt_rows.specs.TileRows.{steps, utf8_of, text_of, value_of, truth_of, line_of, point_of, with_ring, with_ring_row, drawn_of, geometry_of}
 use Rattle.mvt_rows.proofs.TileLemmas.{inner_last}
-use Rattle.mvt_rows.proofs.RowLemmas.{related_weaker, each_related, steps_joined, steps_stay, part_behind, part_added}
+use Rattle.mvt_rows.proofs.RowLemmas.{related_weaker, each_related, steps_joined, steps_stay, part_after, part_added}
 use Rattle.mvt_rows.proofs.GrowthLemmas.{Grown, grown_fold, part_grows, polygon_grows, line_stays, ring_stays}
 
 -- what steps that each leave alone all of them leave alone
@@ -61,9 +61,9 @@ rows_pushed {f = f} {L = L} {row = row} pushes t (x ∷ xs) all =
     )
 
 -- texts and values
-pub text_behind : (front text : List ℕ) → IsUtf8 text → text_of (front ++ text) (behind front (length text)) ≡ Some text
-text_behind front text is =
-    ap (option_and_then utf8_of) (part_behind front text (length text) refl)
+pub text_after : (front text : List ℕ) → IsUtf8 text → text_of (front ++ text) (behind front (length text)) ≡ Some text
+text_after front text is =
+    ap (option_and_then utf8_of) (part_after front text (length text) refl)
     ∙ ap (λ b. if b then Some text else None) (is_utf8-from_IsUtf8 text is)
 
 abbrev pub value_row : Table → Value → ValueRow
@@ -86,7 +86,7 @@ value_keeps L keeps t (Text text) = keeps t _ _
 value_keeps L keeps t v = keeps t _ t.texts
 
 pub value_holds : (t : Table) (v : Value) → ValidValue v → value_of (with_value t v).texts (value_row t v) ≡ Some v
-value_holds t (Text text) valid = ap (option_map Text) (text_behind t.texts text valid)
+value_holds t (Text text) valid = ap (option_map Text) (text_after t.texts text valid)
 value_holds t (Float bits) valid = ap (λ b. option_map Float (if b then Some bits else None)) (lt-ltb bits (2 ^ 32) valid)
 value_holds t (Double bits) valid = refl
 value_holds t (Int z) valid = ap (λ y. Some (Int y)) (to_z-of_z w64 z valid)
@@ -103,11 +103,11 @@ map_back (p ∷ points) = ap (λ l. p ∷ l) (map_back points)
 abbrev part_row : ℕ → Table → List Point → PartRow
 part_row exterior t points = record { exterior = exterior; points = behind t.points (length points) }
 
-line_behind : (exterior : ℕ) (t : Table) (points : List Point)
+line_after : (exterior : ℕ) (t : Table) (points : List Point)
     → line_of (with_part exterior t points).points (part_row exterior t points) ≡ Some points
-line_behind exterior t points =
+line_after exterior t points =
     ap (option_map (λ rows. map point_of rows))
-    (part_behind t.points (map point_row points) (length points) (sym (length-map points point_row)))
+    (part_after t.points (map point_row points) (length points) (sym (length-map points point_row)))
     ∙ ap Some (map_back points)
 
 abbrev IsPart : ℕ → List PointRow → PartRow → List Point → Type 0
@@ -121,7 +121,7 @@ parts_pushed t lines =
       grows = part_grows 0;
       stays = λ t u grown row line is. (is.0, line_stays t.points u.points grown.points row line is.1);
       push = λ t line. refl;
-      holds = λ t line h. (refl, line_behind 0 t line);
+      holds = λ t line h. (refl, line_after 0 t line);
     } in
     rows_pushed pushes t lines (all_true lines)
 
@@ -156,7 +156,7 @@ polygon_steps t p =
     let row = part_row 1 t p.outer in
     let inner = parts_pushed first p.rest in
     let grown = grown_fold (with_part 0) (part_grows 0) first p.rest in
-    let line = line_stays first.points points grown.points row p.outer (line_behind 1 t p.outer) in (
+    let line = line_stays first.points points grown.points row p.outer (line_after 1 t p.outer) in (
       row ∷ inner.0,
       inner.1 ∙ append_assoc t.parts (row ∷ []) inner.0,
       λ ps. ap (option_and_then (λ next. steps (with_ring_row points) next inner.0)) (ring_step points ps row p.outer 1 true line refl refl)
@@ -197,7 +197,7 @@ drawn t (Unknown integers) id has tags = ap (option_map Unknown) (part_added t.i
 drawn t (Points points) id has tags =
     let now = with_part 0 t points in
     ap (option_and_then (drawn_of now.points 1)) (part_added t.parts now.parts (part_row 0 t points ∷ []) refl)
-    ∙ ap (option_map Points) (line_behind 0 t points)
+    ∙ ap (option_map Points) (line_after 0 t points)
 drawn t (Lines lines) id has tags =
     let now = fold (with_part 0) t lines in
     let rows = parts_pushed t lines in

@@ -46,17 +46,17 @@ related_more R xs i d ys y now so_far within here is =
     (subst (λ front. AreRelated R front (ys ++ y ∷ [])) (sym (take_more xs i d within))
     (related-append R (take i xs) ys (get_or xs i d ∷ []) (y ∷ []) so_far (here, tt)))
 
-none_behind : {X Y : Type 0} → (R : X → Y → Type 0) (front : List X) (x : X) (back : List X) → IsNone (R x) → (ys : List Y)
+none_after : {X Y : Type 0} → (R : X → Y → Type 0) (front : List X) (x : X) (back : List X) → IsNone (R x) → (ys : List Y)
     → AreRelated R (front ++ x ∷ back) ys → ⊥
-none_behind R [] x back none [] h = h
-none_behind R [] x back none (y ∷ ys) h = none y h.0
-none_behind R (z ∷ front) x back none [] h = h
-none_behind R (z ∷ front) x back none (y ∷ ys) h = none_behind R front x back none ys h.1
+none_after R [] x back none [] h = h
+none_after R [] x back none (y ∷ ys) h = none y h.0
+none_after R (z ∷ front) x back none [] h = h
+none_after R (z ∷ front) x back none (y ∷ ys) h = none_after R front x back none ys h.1
 
 pub none_related : {X Y : Type 0} → (R : X → Y → Type 0) (xs : List X) (i : ℕ) (d : X) → i < length xs → IsNone (R (get_or xs i d))
     → IsNone (AreRelated R xs)
 none_related R xs i d within none =
-    λ ys h. none_behind R (take i xs) (get_or xs i d) (drop (i + 1) xs) none ys (subst (λ l. AreRelated R l ys) (around xs i d within) h)
+    λ ys h. none_after R (take i xs) (get_or xs i d) (drop (i + 1) xs) none ys (subst (λ l. AreRelated R l ys) (around xs i d within) h)
 
 pub no_features : (t : Table) (keys others : List (List ℕ)) (values : List Value) (rows : List FeatureRow) (i : ℕ) (d : FeatureRow)
     → others ≡ keys → i < length rows → IsNone (IsFeature t others values (get_or rows i d))

@@ -23,8 +23,8 @@ use Rattle.mvt_rows.specs.Tables.{Table, behind, feature_row, foreign_row, open_
 use Rattle.mvt_rows.specs.TileRows.{each, part_of, text_of, value_of, IsFeature, IsItem, IsLayer}
 use Rattle.mvt_rows.specs.Visiting.{AreItemRows, AreLayerRows, AreRows, IsKey, IsValue}
 use Rattle.mvt_rows.proofs.GrowthLemmas.{Grown, grown_more, grown_fold, more_features, more_tags, more_texts, key_grows, value_grows, geometry_grows, text_stays, value_stays, feature_stays, item_stays}
-use Rattle.mvt_rows.proofs.RowLemmas.{each_related, part_added, part_behind, part_is, related_weaker}
-use Rattle.mvt_rows.proofs.TableLemmas.{Pushes, drawn, fold_keeps, geometry_keeps, id_is, rows_pushed, text_behind, value_holds, value_keeps, value_push, value_row}
+use Rattle.mvt_rows.proofs.RowLemmas.{each_related, part_added, part_after, part_is, related_weaker}
+use Rattle.mvt_rows.proofs.TableLemmas.{Pushes, drawn, fold_keeps, geometry_keeps, id_is, rows_pushed, text_after, value_holds, value_keeps, value_push, value_row}
 
 -- rows from a place on
 pub rows_start : {R X : Type 0} (Is : R → X → Type 0) (held : List R) (start : ℕ) → start ≡ length held → AreRows Is held start []
@@ -111,7 +111,7 @@ module _ (t : Table) (open_at : Places) (items : List Item) where
         grows = key_grows;
         stays = λ u w more span key is. text_stays u.texts w.texts more.texts span key is;
         push = λ u key. refl;
-        holds = λ u key is. text_behind u.texts key is;
+        holds = λ u key is. text_after u.texts key is;
       } in
       let made = rows_pushed pushes t keys utf8 in
       let features : now.features ≡ t.features = fold_keeps (λ (u : Table). u.features) with_key (λ u key. refl) t keys in
@@ -177,7 +177,7 @@ module _ (t : Table) (open_at : Places) (items : List Item) where
       let features_now = rows_stay (IsFeature t keys values) (IsFeature now keys values) (feature_stays keys values t now grown)
       t.features t.features open_at.features layer.features refl are.features_are in
       let is : IsLayer now row layer = record {
-        name = text_behind t.texts name utf8 ∙ ap Some name_is;
+        name = text_after t.texts name utf8 ∙ ap Some name_is;
         extent = sym extent_is;
         keys = keys;
         has_keys = ap (option_and_then (each (text_of now.texts))) (rows_part (IsKey now) t.keys open_at.keys keys keys_now)
@@ -201,7 +201,7 @@ module _ (t : Table) (open_at : Places) (items : List Item) where
       let grown = more_texts t now.layers content in
       related-append (IsItem now) t.layers items (foreign_row t version (length content) ∷ []) (Foreign version content ∷ [])
       (related_weaker (IsItem t) (IsItem now) (item_stays t now grown) t.layers items are)
-      ((other, refl, part_behind t.texts content (length content) refl), tt)
+      ((other, refl, part_after t.texts content (length content) refl), tt)
 
 -- what an item ends with
 pub layer_ends : (payload : List ℕ) (t : Table) (open_at : Places) (items : List Item) (name text : List ℕ) (extent : ℕ) (layer : ALayer)

@@ -1,4 +1,4 @@
--- What is wrong with rows that are no valid tile: the first thing, layer by layer and feature by feature; behind all rows,
+-- What is wrong with rows that are no valid tile: the first thing, layer by layer and feature by feature; after all rows,
 -- the first layer that can't be written.
 use Rattle.std.specs.Prelude.{◌≡◌, ℕ, ◌+◌, ◌==◌, nat_lt, true, List, [], ◌∷◌, take, slice_get, flat_map, Option, Some, None, Result, Ok, Err, option_map, if◌then◌else◌, ◌⊎◌}
 use Rattle.std.specs.Option.{option_or}

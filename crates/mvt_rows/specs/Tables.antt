@@ -41,7 +41,7 @@ table_size t =
     88 * length t.layers + (64 * length t.features + (16 * length t.keys + (32 * length t.values + (4 * length t.tags
     + (24 * length t.parts + (8 * length t.points + (4 * length t.integers + length t.texts)))))))
 
--- where so many entries stand behind a list
+-- where so many entries stand after a list
 abbrev pub behind : {A : Type 0} → List A → ℕ → Span
 behind held count = record { start = length held; len = count }
 
@@ -114,7 +114,7 @@ with_drawn tags t id geometry =
     let drawn = with_geometry (record t { tags = t.tags ++ tags }) geometry in
     record drawn { features = drawn.features ++ feature_row t drawn id geometry ∷ [] }
 
--- the row of a layer whose features, keys and values stand behind these places
+-- the row of a layer whose features, keys and values stand after these places
 abbrev pub open_row : Table → List ℕ → ℕ → Places → LayerRow
 open_row t name extent open_at = record {
   version = 2;

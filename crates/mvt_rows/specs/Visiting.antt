@@ -28,7 +28,7 @@ IsKey t span key = text_of t.texts span ≡ Some key
 abbrev pub IsValue : Table → ValueRow → Value → Type 0
 IsValue t row value = value_of t.texts row ≡ Some value
 
--- the items, and behind these places a layer's keys, values and features
+-- the items, and after these places a layer's keys, values and features
 pub record AreLayerRows (t : Table) (open_at : Places) (items : List Item) (keys : List (List ℕ)) (values : List Value)
     (features : List Feature) : Type 0 where
   pub items_are : AreItemRows t items

@@ -48,8 +48,8 @@ impl Model for Table {
     } };
 }
 
-/// Where so many entries stand behind a list.
-fn behind_list(start: usize, len: usize) -> Span
+/// Where so many entries stand after a list.
+fn after_list(start: usize, len: usize) -> Span
     ensures { result ≡ record { start = start; len = len } }
 {
     Span {
@@ -158,7 +158,7 @@ impl Table {
     fn add_part(&mut self, exterior: u32, points: &[Point]) -> Result<(), AllocError>
         ensures { OnOk result (self.new ≡ with_part exterior self.old points.now) }
     {
-        let points_at = behind_list(self.points.len(), points.len());
+        let points_at = after_list(self.points.len(), points.len());
         self.parts.push(PartRow {
             exterior,
             points: points_at,
@@ -200,7 +200,7 @@ impl Table {
         ensures key { OnOk result (self.new ≡ with_key self.old key.now) }
         ensures utf8 { IsUtf8 key.now }
     {
-        let text = behind_list(self.texts.len(), key.len());
+        let text = after_list(self.texts.len(), key.len());
         self.keys.push(text)?;
         self.texts.extend_from_slice(key.as_bytes())
     }
@@ -212,7 +212,7 @@ impl Table {
         self.values.push(ValueRow {
             kind,
             bits,
-            text: behind_list(0, 0),
+            text: after_list(0, 0),
         })?;
         Ok(())
     }
@@ -221,7 +221,7 @@ impl Table {
         ensures ok { OnOk result (self.new ≡ with_value self.old (Value.Text text.now)) }
         ensures err { OnErr result (self.new ≡ self.old) }
     {
-        let place = behind_list(self.texts.len(), text.len());
+        let place = after_list(self.texts.len(), text.len());
         self.values.reserve(1)?;
         self.texts.extend_from_slice(text.as_bytes())?;
         self.values

@@ -271,7 +271,7 @@ next_more [] behind (v ∷ vs) is = absurd is
 next_more (name ∷ names) behind (v ∷ []) is = is
 next_more (name ∷ names) behind (v ∷ w ∷ vs) is = absurd is
 
--- an end at a file behind others
+-- an end at a file after others
 cut_later : (limit : ℕ) (holds held : List ℕ → Option (List ℕ)) (all names : List (List ℕ)) (name shown : List ℕ)
     (behind : List (List ℕ)) (a b c : RunState) (tally : Tally) (failure : Failure)
     → ReportsFiles limit holds names a b [] tally → EndsEarly limit held (shown ∷ []) b c [] failure → held ≡ holds → shown ≡ name

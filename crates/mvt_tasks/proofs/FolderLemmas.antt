@@ -15,12 +15,12 @@ at_last : {A : Type 0} (b : Bool) (x : A) (found : Option A) → b ≡ true → 
 at_last true x found is = refl
 at_last false x found is = cc
 
--- behind a front in which none passes
-find_behind : {A : Type 0} (p : A → Bool) (front : List A) (x : A) (behind : List A) → find p front ≡ None → p x ≡ true
+-- after a front in which none passes
+find_after : {A : Type 0} (p : A → Bool) (front : List A) (x : A) (behind : List A) → find p front ≡ None → p x ≡ true
     → find p (front ++ x ∷ behind) ≡ Some x
-find_behind p [] x behind none passes = at_last (p x) x (find p behind) passes
-find_behind p (y ∷ ys) x behind none passes =
-    skips (p y) y (find p (ys ++ x ∷ behind)) x (find p ys) none (λ e. find_behind p ys x behind e passes)
+find_after p [] x behind none passes = at_last (p x) x (find p behind) passes
+find_after p (y ∷ ys) x behind none passes =
+    skips (p y) y (find p (ys ++ x ∷ behind)) x (find p ys) none (λ e. find_after p ys x behind e passes)
 
 none_next : {A : Type 0} (p : A → Bool) (front : List A) (x : A) → find p front ≡ None → p x ≡ false → find p (front ++ x ∷ []) ≡ None
 none_next p [] x none fails = ap (λ b. cond b (Some x) None) fails
@@ -38,7 +38,7 @@ unnamed_next front file name none fails = none_next (λ (f : MemoryFile). bytes_
 pub held_here : (all front : List MemoryFile) (file : MemoryFile) (behind : List MemoryFile) (name : List ℕ)
     → all ≡ front ++ file ∷ behind → file_named front name ≡ None → bytes_eq file.name name ≡ true → held_in all name ≡ bytes_of (Some file)
 held_here all front file behind name is none passes =
-    ap (λ files. held_in files name) is ∙ ap bytes_of (find_behind (λ (f : MemoryFile). bytes_eq f.name name) front file behind none passes)
+    ap (λ files. held_in files name) is ∙ ap bytes_of (find_after (λ (f : MemoryFile). bytes_eq f.name name) front file behind none passes)
 
 pub held_read : (r : Result SourceState ErrorKind) (held bytes : Option (List ℕ)) → held ≡ bytes
     → IfOk r (λ (reader : SourceState). bytes ≡ Some reader.left) → IfOk r (λ (reader : SourceState). held ≡ Some reader.left)

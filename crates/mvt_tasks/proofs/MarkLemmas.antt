@@ -3,7 +3,7 @@ use Rattle.std.proofs.Common.{◌≡◌, ℕ, ◌+◌, ◌<◌, ◌==◌, Bool, 
 use Rattle.std.proofs.lemmas.List.{take_more}
 use Rattle.mvt_tasks.specs.Checks.{marked}
 
--- whether a line begins behind some bytes
+-- whether a line begins after some bytes
 abbrev pub starts_line : Bool → List ℕ → Bool
 starts_line is_start [] = is_start
 starts_line is_start (b ∷ bs) = starts_line (b == 10) bs

@@ -55,7 +55,7 @@ abbrev pub line_printed : Option Reply → Option (List ℕ)
 line_printed None = Some (codes "read failed\n")
 line_printed (Some reply) = reply.printed
 
--- what goes to the output, and what goes to the error stream, each line behind the file's name
+-- what goes to the output, and what goes to the error stream, each line after the file's name
 unfoldable pub written_of : Checked → List ℕ
 written_of file = marked_text file.name (text_of file.reply)
 

@@ -33,7 +33,7 @@ done text = record { written = Some text; printed = None }
 abbrev pub refused : List ℕ → Reply
 refused line = record { written = None; printed = Some line }
 
--- the lines of the fields, and the line of the fault behind them
+-- the lines of the fields, and the line of the fault after them
 abbrev pub fields_reply : ℕ → List ℕ → Reply
 fields_reply limit input = record {
   written = Some (fields_lines limit input);
@@ -93,7 +93,7 @@ IsReply limit Check input reply = IsPrinted limit (λ tile. done (check_lines in
 IsReply limit Rewrite input reply = IsPrinted limit (bytes_reply limit) input reply
 IsReply limit (Extract names) input reply = IsPrinted limit (layers_reply limit names) input reply
 
--- how far a task reads: at most one byte beyond the limit; or no further behind a fault
+-- how far a task reads: at most one byte beyond the limit; or no further after a fault
 abbrev pub ReadsNoFurther : ℕ → Task → Inflow → Inflow → Type 0
 ReadsNoFurther limit Fields old new = TakesAtMost (limit + 1) old.left new.left
 ReadsNoFurther limit Show old new = StopsEarly limit new.given old.left new.left

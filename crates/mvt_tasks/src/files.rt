@@ -20,7 +20,7 @@ use mvt_io::{Sink, write_all};
 use std::alloc::Global;
 use std::io::ErrorKind;
 
-/// Checks files, one after another, and answers the status. What is said of a file stands behind
+/// Checks files, one after another, and answers the status. What is said of a file stands after
 /// its name; a file that can't be read doesn't end the run, and of more than one file a line sums
 /// up.
 pub fn check_files<F: Folder, W: Sink, E: Sink>(

@@ -4,7 +4,7 @@ ghost use Rattle.mvt_tasks.specs.Checks.{marked as marked_from};
 
 use std::alloc::{AllocError, Global};
 
-/// The lines of a text, each behind a file's name.
+/// The lines of a text, each after a file's name.
 pub(crate) fn named(alloc: Global, name: &str, text: &[u8]) -> Result<Vec<u8>, AllocError>
     ensures { IfOk result (λ bytes. bytes.items ≡ marked_from (name.now ++ codes ": ") true text.now) }
 {

@@ -14,7 +14,7 @@ use Rattle.mvt_wire.proofs.WireLaws.{field_function_end, split_function_is, spli
 use Rattle.mvt_tile.specs.declared.fault.DecodeError.{DecodeError}
 use Rattle.mvt_tile.specs.declared.fault.DecodeError.TheVariants.{Memory, Fault, Read}
 use Rattle.mvt_tile.specs.Faults.{outer_fault, is_open}
-use Rattle.mvt_tile.specs.Inner.Judging.{fault_behind, IsJudged, ReportsBehind}
+use Rattle.mvt_tile.specs.Inner.Judging.{fault_after, IsJudged, ReportsAfter}
 use Rattle.mvt_tile.specs.Streams.{IsCalm, IsLive, ReportsEarly, Decoding, StandsAs, StandsFor}
 use Rattle.mvt_tile.specs.TileRules.{field_rules, rest_rules_at, rest_rules, tile_rules, beyond, fault_within}
 use Rattle.mvt_model.specs.Tiles.{AreItems, IsTile}
@@ -30,7 +30,7 @@ calm_none f e = cc
 pub live_start : (limit : ℕ) → IsLive limit 0 [] [] []
 live_start limit =
     let all : split [] ≡ no_fields 0 [] = split_steps_none 0 [] field_function_end in
-    let none : fault_within limit [] ≡ None = fault_of_short limit [] (omega arith) ∙ first-tile [] ∙ ap (fault_behind []) all in
+    let none : fault_within limit [] ≡ None = fault_of_short limit [] (omega arith) ∙ first-tile [] ∙ ap (fault_after []) all in
     record {
       small = omega arith;
       rest = ap (λ (p : Parts). p.rest) all;
@@ -45,12 +45,12 @@ rest_calm at (b ∷ bs) e f reported =
     let is : outer_fault at (of_wire (rest_cause (b ∷ bs))) ≡ f = cc in
     ap is_open (sym is) ∙ ap (λ c. is_open (outer_fault at (of_wire c))) e
 
-too_large_behind : (limit offset : ℕ) (raw : List ℕ) → offset + length raw ≡ limit → IsCalm (first (rest_rules_at offset raw))
+too_large_after : (limit offset : ℕ) (raw : List ℕ) → offset + length raw ≡ limit → IsCalm (first (rest_rules_at offset raw))
     → beyond limit (first (rest_rules_at offset raw)) ≡ Some (outer_fault offset TooLarge)
-too_large_behind limit offset [] size calm =
+too_large_after limit offset [] size calm =
     let same : limit ≡ offset = omega arith in
     ap (λ n. Some (outer_fault n TooLarge)) same
-too_large_behind limit offset (b ∷ bs) size calm =
+too_large_after limit offset (b ∷ bs) size calm =
     let f = outer_fault offset (of_wire (rest_cause (b ∷ bs))) in
     ap (λ t. Some (cond t (outer_fault offset TooLarge) f)) (calm f refl)
 
@@ -88,14 +88,14 @@ module _ (limit offset : ℕ) (items : List Item) (raw s : List ℕ) (live : IsL
 
   -- the first fault of the stream and more
   fault_more : (t : List ℕ) → offset + (length raw + length t) ≤ limit
-      → fault_within limit (s ++ t) ≡ fault_behind (split s).fields (split_from offset (raw ++ t))
+      → fault_within limit (s ++ t) ≡ fault_after (split s).fields (split_from offset (raw ++ t))
   fault_more t fits =
       let size = live_length in
       let small : length (s ++ t) ≤ limit = simp length-append (omega arith) in
       fault_of_short limit (s ++ t) small ∙ first-more s t
-      ∙ option_or-none (first (each field_rules [] (split s).fields)) (fault_behind (split s).fields (rest_with s t))
+      ∙ option_or-none (first (each field_rules [] (split s).fields)) (fault_after (split s).fields (rest_with s t))
       (are_clean (split s).fields items live.items_are)
-      ∙ ap (fault_behind (split s).fields) (parts_more t)
+      ∙ ap (fault_after (split s).fields) (parts_more t)
 
   live_more : (new : List Item) (after t : List ℕ) (used : ℕ) → IsJudged offset (raw ++ t) items new used → after ≡ drop used (raw ++ t)
       → offset + (length raw + length t) ≤ limit → IsLive limit (offset + used) new after (s ++ t)
@@ -117,7 +117,7 @@ module _ (limit offset : ℕ) (items : List Item) (raw s : List ℕ) (live : IsL
             (rest_calm q.rest_at q.rest (ap rest_cause judged.rest ∙ judged.unfinished));
       }
 
-  pub live_fails : (piece t beyond : List ℕ) (e : DecodeError) → ReportsBehind e offset (raw ++ t) items → piece ≡ t ++ beyond
+  pub live_fails : (piece t beyond : List ℕ) (e : DecodeError) → ReportsAfter e offset (raw ++ t) items → piece ≡ t ++ beyond
       → offset + (length raw + length t) ≤ limit → ReportsEarly e (fault_within limit (s ++ piece))
   live_fails piece t beyond e reports is fits =
       subst (λ p. ReportsEarly e (fault_within limit p)) (append_assoc s t beyond ∙ ap (λ p. s ++ p) (sym is))
@@ -131,7 +131,7 @@ module _ (limit offset : ℕ) (items : List Item) (raw s : List ℕ) (live : IsL
       (are_clean (split s).fields items live.items_are)
       ∙ ap₂ (λ a r. first (rest_rules_at a r)) live.place live.rest
 
-  -- a stream that goes on behind the limit
+  -- a stream that goes on after the limit
   live_too_large : (more : List ℕ) → offset + length raw ≡ limit → (length more ≡ 0 → ⊥)
       → ReportsEarly (Fault (outer_fault offset TooLarge)) (fault_within limit (s ++ more))
   live_too_large more full some =
@@ -140,7 +140,7 @@ module _ (limit offset : ℕ) (items : List Item) (raw s : List ℕ) (live : IsL
       let calm : IsCalm (first (rest_rules_at offset raw)) = subst IsCalm (fault_of_short limit s live.small ∙ live_fault) live.calm in (
         fault_of_long limit (s ++ more) longer
             ∙ ap (λ xs. beyond limit (first (tile_rules xs))) (ap (λ n. take n (s ++ more)) (sym size) ∙ take-append_seam s more)
-            ∙ ap (beyond limit) live_fault ∙ too_large_behind limit offset raw full calm,
+            ∙ ap (beyond limit) live_fault ∙ too_large_after limit offset raw full calm,
         refl,
       )
 
@@ -150,7 +150,7 @@ module _ (limit offset : ℕ) (items : List Item) (raw s : List ℕ) (live : IsL
       let is : fault_within limit s ≡ first (rest_rules_at offset raw) = fault_of_short limit s live.small ∙ live_fault in
       is ∙ rest_open offset raw some (subst IsCalm is live.calm)
 
-  -- a stream that ends behind a field is the tile
+  -- a stream that ends after a field is the tile
   pub live_tile : raw ≡ [] → IsTile limit s (record { items = items })
   live_tile none = record {
     small = live.small;

@@ -25,7 +25,7 @@ pub any_mapped : {A B : Type 0} (f : A → B) (p : B → Bool) (xs : List A) →
 any_mapped f p [] = refl
 any_mapped f p (x ∷ xs) = ap (λ b. p (f x) || b) (any_mapped f p xs)
 
--- the first element that passes a test, behind some that don't
+-- the first element that passes a test, after some that don't
 
 by_head : (b : Bool) (n : ℕ) (o t r : Option ℕ) → cond b (Some n) o ≡ None → (o ≡ None → t ≡ r) → cond b (Some n) t ≡ r
 by_head true n o t r none k = cc
@@ -44,7 +44,7 @@ place_not p n [] y none is = ap (λ b. cond b (Some n) None) is
 place_not p n (x ∷ xs) y none is =
     by_head (p x) n (position_from p (n + 1) xs) (position_from p (n + 1) (xs ++ y ∷ [])) None none (λ e. place_not p (n + 1) xs y e is)
 
--- the element at an index, between those before it and those behind it
+-- the element at an index, between those before it and those after it
 pub at_index : {A : Type 0} (xs : List A) (i : ℕ) (x : A) → i < length xs → x ≡ get_or xs i x → xs ≡ take i xs ++ x ∷ drop (i + 1) xs
 at_index xs i x h is = around xs i x h ∙ ap (λ y. take i xs ++ y ∷ drop (i + 1) xs) (sym is)
 

@@ -56,11 +56,11 @@ are_more front items x d item are e held is new = record {
   distinct = distinct_more items item are.distinct new;
 }
 
--- the fault of a field that holds bytes, behind items
-pub first-behind : (front : List Entry) (items : List Item) (x : Entry) (d : List ℕ) → AreItems front items → eqb x.number LAYERS ≡ true
+-- the fault of a field that holds bytes, after items
+pub first-after : (front : List Entry) (items : List Item) (x : Entry) (d : List ℕ) → AreItems front items → eqb x.number LAYERS ≡ true
     → x.content ≡ bytes d
     → first (field_rules front x) ≡ payload_fault (length (layers_of front)) (flat_map names_in items) d x.body x.at
-first-behind front items x d are e held =
+first-after front items x d are e held =
     first-layer front x d e held ∙ ap (λ ns. payload_fault (length (layers_of front)) ns d x.body x.at) (names_same front items are)
 
 -- a payload without a fault is an item, and its name is new
@@ -95,7 +95,7 @@ bytes_there front x (fixed64 n) held e none = absurd (wrong_none front x e (ap i
 bytes_there front x (bytes d) held e none = (d, held)
 bytes_there front x (fixed32 n) held e none = absurd (wrong_none front x e (ap is_bytes held) none)
 
--- behind items, a field without a fault is no layer, or one item more
+-- after items, a field without a fault is no layer, or one item more
 field_there : (front : List Entry) (items : List Item) (x : Entry) (b : Bool) → eqb x.number LAYERS ≡ b → AreItems front items
     → first (field_rules front x) ≡ None
     → (more : List Item) × AreItems (front ++ x ∷ []) (items ++ more)
@@ -105,7 +105,7 @@ field_there front items x true e are none =
     let held = bytes_there front x x.content refl e none in
     let some =
     item_there (length (layers_of front)) (flat_map names_in items) held.0 x.body x.at
-    (sym (first-behind front items x held.0 are e held.1) ∙ none) in
+    (sym (first-after front items x held.0 are e held.1) ∙ none) in
     (some.0 ∷ [], are_more front items x held.0 some.0 are e held.1 some.1 some.2)
 
 -- fields without a fault are items
@@ -122,13 +122,13 @@ items_there (x ∷ xs) front items are none =
     let all = subst (AreItems ((front ++ x ∷ []) ++ xs)) (append_assoc items one.0 others.0) others.1 in
     (one.0 ++ others.0, subst (λ ys. AreItems ys (items ++ (one.0 ++ others.0))) (append_assoc front (x ∷ []) xs) all)
 
--- what is to be shown of the fields behind some that are items
-abbrev IsCleanBehind : List Entry → Type 0
-IsCleanBehind xs =
+-- what is to be shown of the fields after some that are items
+abbrev IsCleanAfter : List Entry → Type 0
+IsCleanAfter xs =
     (front : List Entry) (items more : List Item) → AreItems front items → AreRelated HoldsItem (layers_of xs) more
     → HasDistinctNames (items ++ more) → first (each field_rules front xs) ≡ None
 
-clean_item : (x : Entry) (xs : List Entry) → IsCleanBehind xs → (front : List Entry) (items more : List Item) → AreItems front items
+clean_item : (x : Entry) (xs : List Entry) → IsCleanAfter xs → (front : List Entry) (items more : List Item) → AreItems front items
     → AreRelated HoldsItem (x ∷ layers_of xs) more → HasDistinctNames (items ++ more) → eqb x.number LAYERS ≡ true
     → option_or (first (field_rules front x)) (first (each field_rules (front ++ x ∷ []) xs)) ≡ None
 clean_item x xs after front items [] are related distinct e = absurd related
@@ -136,13 +136,13 @@ clean_item x xs after front items (item ∷ more) are related distinct e =
     let d = related.0.0 in
     let new : repeats (flat_map names_in items) (names_in item) ≡ false = distinct_before items item more distinct in
     let clean : first (field_rules front x) ≡ None =
-    first-behind front items x d are e related.0.1
+    first-after front items x d are e related.0.1
     ∙ item_clean (length (layers_of front)) (flat_map names_in items) d x.body x.at item related.0.2 new in
     option_or-none (first (field_rules front x)) (first (each field_rules (front ++ x ∷ []) xs)) clean
     ∙ after (front ++ x ∷ []) (items ++ item ∷ []) more (are_more front items x d item are e related.0.1 related.0.2 new) related.1
     (subst HasDistinctNames (sym (append_assoc items (item ∷ []) more)) distinct)
 
-clean_field : (x : Entry) (xs : List Entry) → IsCleanBehind xs → (front : List Entry) (items more : List Item) → AreItems front items
+clean_field : (x : Entry) (xs : List Entry) → IsCleanAfter xs → (front : List Entry) (items more : List Item) → AreItems front items
     → AreRelated HoldsItem (layers_of (x ∷ xs)) more → HasDistinctNames (items ++ more) → (b : Bool) → eqb x.number LAYERS ≡ b
     → option_or (first (field_rules front x)) (first (each field_rules (front ++ x ∷ []) xs)) ≡ None
 clean_field x xs after front items more are related distinct false e =
@@ -153,7 +153,7 @@ clean_field x xs after front items more are related distinct true e =
     clean_item x xs after front items more are (subst (λ ys. AreRelated HoldsItem ys more) (layers_of-layer x xs e) related) distinct e
 
 -- the fields of items have no fault
-items_clean : (xs : List Entry) → IsCleanBehind xs
+items_clean : (xs : List Entry) → IsCleanAfter xs
 items_clean [] front items more are related distinct = refl
 items_clean (x ∷ xs) front items more are related distinct =
     each_first field_rules front x xs ∙ clean_field x xs (items_clean xs) front items more are related distinct (eqb x.number LAYERS) refl

@@ -27,12 +27,12 @@ use Rattle.mvt_tile.specs.declared.fault.DecodeError.TheVariants.{Memory, Fault,
 use Rattle.mvt_tile.specs.declared.fault.Fault.{Fault as AFault}
 use Rattle.mvt_model.specs.declared.numbers.tile.TheConstants.{LAYERS}
 use Rattle.mvt_tile.specs.Faults.{outer_fault, in_layer, is_open}
-use Rattle.mvt_tile.specs.Inner.Judging.{name_fault, payload_fault, fault_behind, IsJudged, IsPlaceOf, TakesItem, ReportsBehind}
+use Rattle.mvt_tile.specs.Inner.Judging.{name_fault, payload_fault, fault_after, IsJudged, IsPlaceOf, TakesItem, ReportsAfter}
 use Rattle.mvt_tile.specs.Streams.{ReportsEarly}
 use Rattle.mvt_tile.specs.TileRules.{is_bytes, field_rules, rest_rules, rest_rules_at}
 use Rattle.mvt_model.specs.Tiles.{layers_of, HoldsItem, AreItems}
 use Rattle.mvt_tile.proofs.LayerLemmas.{first-wrong}
-use Rattle.mvt_tile.proofs.ItemLemmas.{are_over, are_more, first-behind, are_clean}
+use Rattle.mvt_tile.proofs.ItemLemmas.{are_over, are_more, first-after, are_clean}
 use Rattle.mvt_tile.proofs.ShiftLemmas.{split_at_place, rest_dropped, place_within}
 
 -- what an error tells of a part, it tells of the whole
@@ -58,11 +58,11 @@ reports_name e n names given d payload_at tag_at none is reported =
 
 -- of a field
 
--- behind whatever fields are the old items, this field makes them the new ones
+-- after whatever fields are the old items, this field makes them the new ones
 abbrev pub IsNext : List Item → Entry → List Item → Type 0
 IsNext old x new = (front : List Entry) → AreItems front old → AreItems (front ++ x ∷ []) new
 
--- an error tells the fault of this field behind whatever fields are the items
+-- an error tells the fault of this field after whatever fields are the items
 abbrev pub ReportsOf : DecodeError → List Item → Entry → Type 0
 ReportsOf e items x = (front : List Entry) → AreItems front items → ReportsEarly e (first (field_rules front x))
 
@@ -95,7 +95,7 @@ module _ (items : List Item) (offset : ℕ) (x : Entry) (d : List ℕ) (payload_
       let here : ReportsEarly e (payload_fault (length items) names d (offset + x.body) (offset + x.at)) =
       subst (λ b. ReportsEarly e (payload_fault (length items) names d b (offset + x.at))) place.payload_at_is
       (subst (λ o. ReportsEarly e (payload_fault (length items) names d payload_at o)) place.tag_at_is h) in
-      subst (ReportsEarly e) (sym (first-behind front items (shifted offset x) d are is_layer place.holds))
+      subst (ReportsEarly e) (sym (first-after front items (shifted offset x) d are is_layer place.holds))
       (subst (λ n. ReportsEarly e (payload_fault n names d (offset + x.body) (offset + x.at)))
       (sym (length-related HoldsItem (layers_of front) items are.held)) here)
 
@@ -106,15 +106,15 @@ field_wrong offset x c is_layer held other front =
 
 -- fields that are items have no fault
 
-each_behind : (front xs ys : List Entry)
+each_after : (front xs ys : List Entry)
     → first (each field_rules front (xs ++ ys)) ≡ option_or (first (each field_rules front xs)) (first (each field_rules (front ++ xs) ys))
-each_behind front xs ys =
+each_after front xs ys =
     ap first (each-append field_rules front xs ys) ∙ first-append (each field_rules front xs) (each field_rules (front ++ xs) ys)
 
 pub fields_clean : (front xs : List Entry) (items : List Item) → AreItems (front ++ xs) items → first (each field_rules front xs) ≡ None
 fields_clean front xs items are =
     (option_or-nones (first (each field_rules [] front)) (first (each field_rules front xs))
-    (sym (each_behind [] front xs) ∙ are_clean (front ++ xs) items are)).1
+    (sym (each_after [] front xs) ∙ are_clean (front ++ xs) items are)).1
 
 -- of the fields so far
 
@@ -183,7 +183,7 @@ module _ (offset : ℕ) (b : List ℕ) (old now : List Item) (before : Parts) (s
     }
 
     -- it is at fault
-    pub so_far_fails : (e : DecodeError) → ReportsOf e now (shifted offset x) → ReportsBehind e offset b old
+    pub so_far_fails : (e : DecodeError) → ReportsOf e now (shifted offset x) → ReportsAfter e offset b old
     so_far_fails e reported front are =
         let done = map (shifted offset) so_far.done in
         let later = map (shifted offset) to_come.fields in
@@ -195,7 +195,7 @@ module _ (offset : ℕ) (b : List ℕ) (old now : List Item) (before : Parts) (s
         ∙ map-append (shifted offset) so_far.done (x ∷ to_come.fields) in
         reports_front e (first (each field_rules front parts.fields)) (first (rest_rules parts))
         (subst (λ xs. ReportsEarly e (first (each field_rules front xs))) (sym is)
-        (subst (ReportsEarly e) (sym (each_behind front done (shifted offset x ∷ later)))
+        (subst (ReportsEarly e) (sym (each_after front done (shifted offset x ∷ later)))
         (reports_back e (first (each field_rules front done)) (first (each field_rules (front ++ done) (shifted offset x ∷ later)))
         (fields_clean front done now now_are)
         (subst (ReportsEarly e) (sym (each_first field_rules (front ++ done) (shifted offset x) later))
@@ -244,7 +244,7 @@ module _ (offset : ℕ) (b : List ℕ) (old now : List Item) (before : Parts) (s
 
     pub so_far_broken : (r : Result ℕ DecodeError)
         → IfErr r (λ e. (fault.cause ≢ wire.Truncated) × (e ≡ Fault (outer_fault (offset + fault.at) (of_wire fault.cause))))
-        → IfErr r (λ e. ReportsBehind e offset b old)
+        → IfErr r (λ e. ReportsAfter e offset b old)
     so_far_broken (Ok n) h = tt
     so_far_broken (Err e) h = λ front are.
         let done = map (shifted offset) so_far.done in
@@ -256,7 +256,7 @@ module _ (offset : ℕ) (b : List ℕ) (old now : List Item) (before : Parts) (s
         let reported : first (rest_rules parts) ≡ Some (outer_fault (offset + fault.at) cause) =
         ap₂ (λ a r. first (rest_rules_at a r)) at rest ∙ rest_reported (offset + fault.at) before.rest step.1
         ∙ ap (λ c. Some (outer_fault (offset + fault.at) (of_wire c))) (sym step.3) in
-        subst (λ x. ReportsEarly x (fault_behind front parts)) (sym h.1)
+        subst (λ x. ReportsEarly x (fault_after front parts)) (sym h.1)
         (reports_back (Fault (outer_fault (offset + fault.at) cause)) (first (each field_rules front parts.fields)) (first (rest_rules parts))
         (ap (λ xs. first (each field_rules front xs)) (all_done step.0) ∙ fields_clean front done now (so_far.items_are front are))
         (reported, shut_cause (offset + fault.at) fault.cause h.0))

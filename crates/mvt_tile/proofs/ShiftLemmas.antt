@@ -15,7 +15,7 @@ front_of at (e ∷ es) b rest h =
     let more = front_of (at + length h.0) es h.1 rest h.4 in
     (h.0 ++ more.0, h.2 ∙ ap (λ bs. h.0 ++ bs) more.1 ∙ sym (append_assoc h.0 more.0 rest))
 
--- the rest is what stands behind its place
+-- the rest is what stands after its place
 pub rest_dropped : (b : List ℕ) → (split b).rest ≡ drop (split b).rest_at b
 rest_dropped b =
     let f = front_of 0 (split b).fields b (split b).rest (split_function_is b) in

@@ -15,7 +15,7 @@ use Rattle.mvt_feature.specs.declared.cause.Cause.TheVariants.{TooLarge}
 use Rattle.mvt_wire.proofs.WireLaws.{front_stays_rest, split_more_fields, split_more_place, split_more_rest, split_steps_none, split_steps_rest}
 use Rattle.mvt_tile.specs.declared.fault.Fault.{Fault}
 use Rattle.mvt_tile.specs.Faults.{outer_fault, is_open}
-use Rattle.mvt_tile.specs.Inner.Judging.{fault_behind}
+use Rattle.mvt_tile.specs.Inner.Judging.{fault_after}
 use Rattle.mvt_tile.specs.TileRules.{field_rules, rest_rules_at, rest_rules, tile_rules, beyond, fault_within}
 use Rattle.mvt_tile.specs.Streams.{IsCalm}
 use Rattle.mvt_tile.proofs.TileLemmas.{first-tile, fault_of_short, fault_of_long}
@@ -29,7 +29,7 @@ option_or_assoc None b c = refl
 option_or_assoc (Some x) b c = refl
 
 pub first-more : (s t : List ℕ)
-    → first (tile_rules (s ++ t)) ≡ option_or (first (each field_rules [] (split s).fields)) (fault_behind (split s).fields (rest_with s t))
+    → first (tile_rules (s ++ t)) ≡ option_or (first (each field_rules [] (split s).fields)) (fault_after (split s).fields (rest_with s t))
 first-more s t =
     let q = rest_with s t in
     first-tile (s ++ t)
@@ -47,7 +47,7 @@ either_stays (Some x) p q f e k = e
 -- the fault of a rest that isn't Truncated stays, whatever comes
 rest_stays : (front : List Entry) (at : ℕ) (rest t : List ℕ) (f : Fault) → StartsNoField rest → first (rest_rules_at at rest) ≡ Some f
     → is_open f ≡ false
-    → fault_behind front (split_from at (rest ++ t)) ≡ Some f
+    → fault_after front (split_from at (rest ++ t)) ≡ Some f
 rest_stays front at [] t f starts e shut = cc
 rest_stays front at (b ∷ bs) t f starts e shut =
     let is : f ≡ outer_fault at (of_wire (rest_cause (b ∷ bs))) = cc in
@@ -55,7 +55,7 @@ rest_stays front at (b ∷ bs) t f starts e shut =
     λ truncated. (let open_at : is_open (outer_fault at (of_wire (rest_cause (b ∷ bs)))) ≡ true =
     ap (λ c. is_open (outer_fault at (of_wire c))) truncated in let same = ap is_open is in cc) in
     let stays = front_stays_rest (b ∷ bs) t starts final in
-    ap (fault_behind front) (split_steps_none at ((b ∷ bs) ++ t) stays.0)
+    ap (fault_after front) (split_steps_none at ((b ∷ bs) ++ t) stays.0)
     ∙ ap (λ c. Some (outer_fault at (of_wire c))) stays.1
     ∙ ap Some (sym is)
 
@@ -63,7 +63,7 @@ pub tile_stays : (s t : List ℕ) (f : Fault) → first (tile_rules s) ≡ Some 
 tile_stays s t f e shut =
     first-more s t
     ∙ either_stays (first (each field_rules [] (split s).fields)) (first (rest_rules (split s)))
-    (fault_behind (split s).fields (rest_with s t)) f (sym (first-tile s) ∙ e)
+    (fault_after (split s).fields (rest_with s t)) f (sym (first-tile s) ∙ e)
     (λ reported. rest_stays (split s).fields (split s).rest_at (split s).rest t f (split_steps_rest 0 s) reported shut)
 
 beyond_stays : (limit : ℕ) (o : Option Fault) (f : Fault) → o ≡ Some f → is_open f ≡ false → beyond limit o ≡ Some f

@@ -7,7 +7,7 @@ use Rattle.mvt_tile.specs.declared.fault.DecodeError.{DecodeError}
 use Rattle.mvt_tile.specs.declared.fault.DecodeError.TheVariants.{Memory, Fault, Read}
 use Rattle.mvt_tile.specs.declared.fault.Fault.{Fault as AFault}
 use Rattle.mvt_tile.specs.Faults.{outer_fault}
-use Rattle.mvt_tile.specs.Inner.Judging.{IsJudged, ReportsBehind}
+use Rattle.mvt_tile.specs.Inner.Judging.{IsJudged, ReportsAfter}
 use Rattle.mvt_tile.specs.Streams.{IsLive, ReportsEarly, ReportsAtEnd}
 use Rattle.mvt_tile.specs.TileRules.{fault_within}
 use Rattle.mvt_model.specs.Tiles.{IsTile}
@@ -22,7 +22,7 @@ from_zero : (n : ℕ) → 0 + n ≡ n
 from_zero n = omega arith
 
 module _ (limit : ℕ) (b fitting beyond : List ℕ) (cut : b ≡ fitting ++ beyond) where
-  pub whole_fails : (e : DecodeError) → ReportsBehind e 0 fitting [] → length fitting ≤ limit → ReportsAtEnd e (fault_within limit b)
+  pub whole_fails : (e : DecodeError) → ReportsAfter e 0 fitting [] → length fitting ≤ limit → ReportsAtEnd e (fault_within limit b)
   whole_fails e reports fits =
       let all : 0 + (length {A = ℕ} [] + length fitting) ≤ limit = omega arith in
       at_end e (fault_within limit b) (live_fails limit 0 [] [] [] (live_start limit) b fitting beyond e reports cut all)

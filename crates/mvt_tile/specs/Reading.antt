@@ -33,7 +33,7 @@ StopsEarly limit piece (Some input) None = ⊥
 StopsEarly limit piece (Some input) (Some left) =
     (taken : List ℕ) × (input ≡ taken ++ left) × IsCalm (fault_within limit (take (length taken - piece) taken))
 
--- how a tile is read: no further behind a fault; in so many reads, each of which gives some bytes but the last; and where one
+-- how a tile is read: no further after a fault; in so many reads, each of which gives some bytes but the last; and where one
 -- fails it is the last, with the kind that is told
 pub record ReadsTile (limit : ℕ) (old new : Inflow) (kind : Option ErrorKind) : Type 0 where
   pub early : StopsEarly limit 65536 old.left new.left

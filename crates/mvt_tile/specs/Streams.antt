@@ -9,7 +9,7 @@ use Rattle.mvt_tile.specs.Faults.{is_open}
 use Rattle.mvt_tile.specs.TileRules.{fault_within}
 use Rattle.mvt_model.specs.Tiles.{AreItems}
 
--- a decoder: the error that it answers for good, the items so far, and the bytes behind the last whole field, with their place
+-- a decoder: the error that it answers for good, the items so far, and the bytes after the last whole field, with their place
 pub record Decoding : Type 0 where
   pub failure : Option DecodeError
   pub items : List Item
@@ -28,7 +28,7 @@ pub record IsLive (limit offset : ℕ) (items : List Item) (raw stream : List �
   pub items_are : AreItems (split stream).fields items
   pub calm : IsCalm (fault_within limit stream)
 
--- an error that no byte behind the stream can change; want of memory says nothing of the stream
+-- an error that no byte after the stream can change; want of memory says nothing of the stream
 abbrev pub ReportsEarly : DecodeError → Option AFault → Type 0
 ReportsEarly Memory fault = ⊤
 ReportsEarly (Fault f) fault = (fault ≡ Some f) × (is_open f ≡ false)

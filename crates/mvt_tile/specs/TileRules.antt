@@ -31,7 +31,7 @@ names_before xs = flat_map (λ x. payload_names (payload_of x)) (layers_of xs)
 abbrev pub repeats : List (List ℕ) → List (List ℕ) → Bool
 repeats others names = list_any (λ name. list_any (bytes_eq name) others) names
 
--- the rules of a layer behind others
+-- the rules of a layer after others
 abbrev pub layer_rules : List Entry → Entry → List (ℕ × Rules Fault)
 layer_rules front x =
     (1, map_faults (in_layer (length (layers_of front))) (item_rules (payload_of x) x.body x.at))
@@ -55,7 +55,7 @@ field_rules front x =
     then (if is_bytes x.content then rows (layer_rules front x) else under 0 (when true (outer_fault x.at WrongType)))
     else []
 
--- no bytes are left behind the fields
+-- no bytes are left after the fields
 abbrev pub rest_rules_at : ℕ → List ℕ → Rules Fault
 rest_rules_at at [] = []
 rest_rules_at at (b ∷ bs) = when true (outer_fault at (of_wire (rest_cause (b ∷ bs))))
@@ -68,7 +68,7 @@ unfoldable pub tile_rules : List ℕ → Rules Fault
 tile_rules input =
     each field_rules [] (split input).fields ++ under (length (split input).fields) (under 0 (rest_rules (split input)))
 
--- of an input that goes on behind the limit: an unfinished field is too large, and so is the input
+-- of an input that goes on after the limit: an unfinished field is too large, and so is the input
 abbrev pub beyond : ℕ → Option Fault → Option Fault
 beyond limit None = Some (outer_fault limit TooLarge)
 beyond limit (Some fault) = Some (if is_open fault then outer_fault fault.at TooLarge else fault)

@@ -9,7 +9,7 @@ use Rattle.mvt_tile.specs.Streams.{IsLive, ReportsEarly}
 use Rattle.mvt_tile.specs.TileRules.{fault_within}
 
 -- what a decoder has beside its visitor: the error that it answers for good, how many items there were and the names of the
--- layers among them, and the bytes behind the last whole field, with their place
+-- layers among them, and the bytes after the last whole field, with their place
 pub record Visiting : Type 0 where
   pub failure : Option DecodeError
   pub count : ℕ

@@ -23,7 +23,7 @@ use std::marker::Model;
 /// let tile = decoder.finish()?;
 /// ```
 ///
-/// It keeps the items that it read, their names, and the bytes behind the last whole field. A field
+/// It keeps the items that it read, their names, and the bytes after the last whole field. A field
 /// is judged once, when it is whole, so a fault is told as soon as no further byte can change it.
 /// After an error it answers that error for good, and holds no bytes.
 #[derive(Drop)]
@@ -60,7 +60,7 @@ impl TileDecoder {
         }
     }
 
-    /// How many bytes stand behind the last whole field; none after an error.
+    /// How many bytes stand after the last whole field; none after an error.
     pub fn held(&self) -> usize
         ensures { result ≡ length self.now.raw }
     {

@@ -23,7 +23,7 @@ use mvt_wire::{Field, Fields, Payload};
 use std::alloc::Global;
 
 /// Has a visitor take the first layer of version 2 of a name, and answers it; none where no layer has
-/// that name. Of the layers before it the versions and names are looked at, and of what is behind it
+/// that name. Of the layers before it the versions and names are looked at, and of what is after it
 /// nothing.
 ///
 /// # Errors

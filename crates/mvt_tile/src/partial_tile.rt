@@ -3,7 +3,7 @@ ghost use Rattle.std.specs.Prelude.{◌≡◌, ℕ, ◌+◌, ◌≤◌, List, []
 ghost use Rattle.mvt_message.specs.declared.item.Item.{Item};
 ghost use Rattle.mvt_model.specs.declared.tile.Tile.{Tile};
 ghost use Rattle.mvt_model.specs.Tiles.{IsTile};
-ghost use Rattle.mvt_tile.specs.Inner.Judging.{IsJudged, ReportsBehind};
+ghost use Rattle.mvt_tile.specs.Inner.Judging.{IsJudged, ReportsAfter};
 ghost use Rattle.mvt_tile.specs.Streams.{IsLive, ReportsEarly, ReportsAtEnd};
 ghost use Rattle.mvt_tile.specs.TileRules.{fault_within};
 
@@ -13,7 +13,7 @@ use mvt_base::LIMIT;
 use mvt_message::Cause;
 use std::alloc::Global;
 
-/// What took the items of the pieces so far, and the bytes behind the last whole field, with their
+/// What took the items of the pieces so far, and the bytes after the last whole field, with their
 /// place.
 #[derive(Drop)]
 pub(crate) struct PartialTile<T> {
@@ -36,7 +36,7 @@ impl<T: ItemVisitor> PartialTile<T> {
         }
     }
 
-    /// Takes the items in a piece behind the bytes that are held, and holds what is then left.
+    /// Takes the items in a piece after the bytes that are held, and holds what is then left.
     pub(crate) fn take(&mut self, alloc: Global, piece: &[u8]) -> Result<(), DecodeError>
         requires few { (given : T.Given) × (items : List Item)
             × T.has_visited given self.old.visitor items × (length items ≤ self.old.offset) }
@@ -81,7 +81,7 @@ impl<T: ItemVisitor> PartialTile<T> {
     }
 }
 
-/// Takes the items in a piece behind some bytes, keeps what is unfinished, and answers how many
+/// Takes the items in a piece after some bytes, keeps what is unfinished, and answers how many
 /// bytes were whole fields. Where no bytes stand before it, the piece isn't copied first.
 fn feed_after<T: ItemVisitor>(
     alloc: Global,
@@ -101,7 +101,7 @@ fn feed_after<T: ItemVisitor>(
     ensures within { IfOk result (λ used. used ≤ length raw.old.items + length piece.now) }
     ensures fault { (given : T.Given) (items : List Item) → T.has_visited given visitor.old items
         → IfErr result
-        (λ error. ReportsBehind error offset (raw.old.items ++ piece.now) items) }
+        (λ error. ReportsAfter error offset (raw.old.items ++ piece.now) items) }
 {
     if raw.is_empty() {
         let used = walk_fields(alloc, visitor, piece, offset)?;

@@ -11,7 +11,7 @@ ghost use Rattle.mvt_message.specs.Items.{names_in};
 ghost use Rattle.mvt_model.specs.declared.numbers.tile.TheConstants.{LAYERS};
 ghost use Rattle.mvt_model.specs.declared.tile.Tile.{Tile};
 ghost use Rattle.mvt_tile.specs.Faults.{outer_fault};
-ghost use Rattle.mvt_tile.specs.Inner.Judging.{IsJudged, IsPlaceOf, TakesItem, ReportsBehind, payload_fault, repeated_at, reported_in};
+ghost use Rattle.mvt_tile.specs.Inner.Judging.{IsJudged, IsPlaceOf, TakesItem, ReportsAfter, payload_fault, repeated_at, reported_in};
 ghost use Rattle.mvt_tile.specs.Streams.{ReportsEarly, ReportsAtEnd};
 ghost use Rattle.mvt_tile.specs.TileRules.{field_rules, fault_within};
 ghost use Rattle.mvt_model.specs.Tiles.{AreItems, IsTile};
@@ -90,7 +90,7 @@ pub(crate) fn walk_fields<T: ItemVisitor>(
         × IsJudged offset bytes.now items new used) }
     ensures fault { (given : T.Given) (items : List Item) → T.has_visited given visitor.old items
         → IfErr result
-        (λ error. ReportsBehind error offset bytes.now items) }
+        (λ error. ReportsAfter error offset bytes.now items) }
 {
     for field in Fields::new(bytes) {
         match field {

@@ -25,7 +25,7 @@ stopped (Some kept) decoder error s more stands answer =
     let same : kept ≡ error = cc in
     subst (λ e. ReportsAtEnd e (fault_within LIMIT (s ++ more))) same (reported_early kept s more stands.1)
 
--- what all make is what those before one make, what it makes, and what those behind it make
+-- what all make is what those before one make, what it makes, and what those after it make
 flat_seam : {X : Type 0} (f : X → List ℕ) (xs : List X) (i : ℕ) (d : X) → i < length xs
     → flat_map f xs ≡ (flat_map f (take i xs) ++ f (get_or xs i d)) ++ flat_map f (drop (i + 1) xs)
 flat_seam f xs i d below =

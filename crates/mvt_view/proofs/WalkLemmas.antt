@@ -72,15 +72,15 @@ listed_fault limit input old new lines longer fault f so_far step is f_is = (
       ∙ sym (fault_of_rest limit longer old.rest_at old.rest step.1) ∙ the_fault limit input old lines longer so_far is,
 )
 
-behind_limit : (limit : ℕ) (longer : Bool) (at : ℕ) → then_some longer (outer_fault limit TooLarge) ≡ rest_fault limit longer at []
-behind_limit limit true at = refl
-behind_limit limit false at = refl
+after_limit : (limit : ℕ) (longer : Bool) (at : ℕ) → then_some longer (outer_fault limit TooLarge) ≡ rest_fault limit longer at []
+after_limit limit true at = refl
+after_limit limit false at = refl
 
 pub listed_end : (limit : ℕ) (input : List ℕ) (old new : Parts) (lines : List ℕ) (longer : Bool) (o : Option Fault)
     → Listed limit input old lines → GivesEntry old None new → longer ≡ nat_lt limit (length input)
     → o ≡ then_some longer (outer_fault limit TooLarge) → (lines ≡ fields_lines limit input) × (o ≡ fields_fault limit input)
 listed_end limit input old new lines longer o so_far step is o_is = (
   all_reported limit input old lines so_far step.0,
-  o_is ∙ behind_limit limit longer old.rest_at
+  o_is ∙ after_limit limit longer old.rest_at
       ∙ ap (rest_fault limit longer old.rest_at) (sym step.1) ∙ the_fault limit input old lines longer so_far is,
 )

@@ -1,4 +1,4 @@
--- The lines of an input's top-level fields, and the fault behind them (Protocol Buffers, "Encoding", Message Structure).
+-- The lines of an input's top-level fields, and the fault after them (Protocol Buffers, "Encoding", Message Structure).
 use Rattle.std.specs.Prelude.{◌≡◌, ℕ, Bool, List, [], ◌∷◌, ◌++◌, length, take, nat_lt, Option, Some, None, codes, string_bytes, if◌then◌else◌}
 use Rattle.std.specs.List.{flat_map}
 use Rattle.std.specs.Fmt.{decimal}
@@ -35,7 +35,7 @@ reported_cause is_longer wire.WireType = WireType
 abbrev pub reported : Bool → ℕ → WireCause → Fault
 reported is_longer at cause = outer_fault at (reported_cause is_longer cause)
 
--- the fault behind the fields: the rest's, or the input's own where it goes on behind the limit
+-- the fault after the fields: the rest's, or the input's own where it goes on after the limit
 abbrev pub rest_fault : ℕ → Bool → ℕ → List ℕ → Option Fault
 rest_fault limit is_longer at [] = if is_longer then Some (outer_fault limit TooLarge) else None
 rest_fault limit is_longer at (b ∷ bs) = Some (reported is_longer at (rest_cause (b ∷ bs)))

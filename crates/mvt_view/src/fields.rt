@@ -1,4 +1,4 @@
-//! The lines of an input's top-level fields, and the fault behind them.
+//! The lines of an input's top-level fields, and the fault after them.
 ghost use Rattle.std.specs.Prelude.{◌≡◌, ◌++◌, OnOk, IfOk, string_bytes};
 ghost use Rattle.mvt_wire.specs.Field.{entry_of};
 ghost use Rattle.mvt_tile.specs.Faults.{outer_fault as outer};

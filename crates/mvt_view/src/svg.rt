@@ -20,7 +20,7 @@ use serde::{Described, Serialize, Serializer};
 use std::alloc::{AllocError, Global};
 use std::fmt::Write;
 
-/// The picture of a tile as an SVG document, without a line end behind it.
+/// The picture of a tile as an SVG document, without a line end after it.
 ///
 /// Points are dots, lines strokes, and polygons are filled by the rule of even and odd. Each layer
 /// has the colour of its index in the tile. Of unknown geometry and of layers of another version

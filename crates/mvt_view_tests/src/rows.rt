@@ -423,7 +423,7 @@ fn has_layer(rt: &(impl Abort + AllocGlobal), bytes: &[u8], name: &[u8], layer: 
     }
 }
 
-// The layer behind that of the name is broken.
+// The layer after that of the name is broken.
 #[test]
 fn reads_one_layer(rt: HostRuntime) {
     let layer = Rows {

@@ -338,7 +338,7 @@ fn limit() -> usize {
     LIMIT as usize
 }
 
-// One field of this head at the limit, and a byte behind it.
+// One field of this head at the limit, and a byte after it.
 fn beyond_limit(rt: &(impl Abort + AllocGlobal), head: &[u8]) -> Vec<u8> {
     let mut input = Vec::from_slice(rt.alloc(), head).expect(rt, "bytes");
     input

@@ -271,7 +271,7 @@ pub length_step : (ns : List ℕ) (i : ℕ) → i < length ns
     → length (short_numbers (take (i + 1) ns)) ≡ length (short_numbers (take i ns)) + length (short (get_or ns i 0))
 length_step ns i within = ap length (short_numbers_more ns i within) ∙ length-append _ _
 
--- a number of the list, behind those before it, is within the whole
+-- a number of the list, after those before it, is within the whole
 pub room_left : (ns : List ℕ) (i n : ℕ) → i < length ns → n ≡ get_or ns i 0
     → length (short_numbers (take i ns)) + length (short n) ≤ length (short_numbers ns)
 room_left ns i n within at =

@@ -28,7 +28,7 @@ payload_short (fixed32 n) fits = (
   sym (ap (little_number 4) (sym (append-nil (little_bytes 4 n))) ∙ little_number-reads_back 4 n [] fits),
 )
 
--- the bytes before a field's body, behind its tag
+-- the bytes before a field's body, after its tag
 lead : Content → ℕ
 lead (varint n) = 0
 lead (fixed64 n) = 0

@@ -78,7 +78,7 @@ going_on-before (x ∷ xs) i h =
       | inr large ↦ before_here xs x i large (rw (le-ltb x 128 large) at h) (going_on-before xs)
     ]
 
--- the byte behind them doesn't
+-- the byte after them doesn't
 pub going_on-at : (b : List ℕ) → going_on b < length b → get_or b (going_on b) 0 < 128
 unfolding going_on
 going_on-at [] h = absurd (omega arith)
@@ -88,7 +88,7 @@ going_on-at (x ∷ xs) h =
       | inr large ↦ rw (le-ltb x 128 large) (going_on-at xs (let more = rw (le-ltb x 128 large) at h in omega arith))
     ]
 
--- of a spelling with bytes behind it, all but one go on
+-- of a spelling with bytes after it, all but one go on
 pub going_on_front : (front back : List ℕ) → 1 ≤ length front → ((i : ℕ) → i + 1 < length front → 128 ≤ get_or front i 0)
     → get_or front (length front - 1) 0 < 128 → going_on (front ++ back) + 1 ≡ length front
 unfolding going_on

@@ -42,7 +42,7 @@ pub record IsField (b : List ℕ) (number : ℕ) (content : Content) : Type 0 wh
 abbrev pub StartsNoField : List ℕ → Type 0
 StartsNoField b = (front back : List ℕ) (number : ℕ) (content : Content) → b ≡ front ++ back → IsField front number content → ⊥
 
--- a field in a list: the places of its tag and of its payload (of bytes: behind their length), its number and content
+-- a field in a list: the places of its tag and of its payload (of bytes: after their length), its number and content
 pub record Entry : Type 0 where
   pub at : ℕ
   pub body : ℕ

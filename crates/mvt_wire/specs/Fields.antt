@@ -8,7 +8,7 @@ use Rattle.mvt_wire.specs.Field.{Content, varint, fixed64, bytes, fixed32, Entry
 use Rattle.mvt_wire.specs.Fronts.{rest_cause}
 use Rattle.mvt_wire.specs.Split.{Parts, behind}
 
--- the field of the source that begins at a place, with the place behind it; none at the end; or why none begins there
+-- the field of the source that begins at a place, with the place after it; none at the end; or why none begins there
 abbrev pub IsNext : List ℕ → ℕ → Result (Option (Field × ℕ)) WireFault → Type 0
 IsNext source at (Ok None) = at ≡ length source
 IsNext source at (Ok (Some found)) =

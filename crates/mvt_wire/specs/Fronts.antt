@@ -36,7 +36,7 @@ pub record Load : Type 0 where
   pub start : ℕ
   pub size : ℕ
 
--- bytes behind their length
+-- bytes after their length
 abbrev pub bytes_at : List ℕ → ℕ × ℕ → Result Load WireCause
 bytes_at b n =
     if nat_lt (length (drop n.1 b)) n.0 then Err Truncated
@@ -53,12 +53,12 @@ load_at w b =
     (if nat_lt (length b) 4 then Err Truncated else Ok (record { content = fixed32 (little_number 4 b); start = 0; size = 4 }))
     else Err WireType
 
--- the field of a tag and of the payload behind it, and its length
+-- the field of a tag and of the payload after it, and its length
 abbrev pub entry_with : ℕ → ℕ × ℕ → Load → Entry × ℕ
 entry_with at tag load =
     (record { at = at; body = at + (tag.1 + load.start); number = tag.0 / 8; content = load.content }, tag.1 + load.size)
 
--- the field behind a tag
+-- the field after a tag
 abbrev pub field_with_tag : ℕ → List ℕ → ℕ × ℕ → Result (Entry × ℕ) WireCause
 field_with_tag at b tag =
     if nat_lt tag.0 8 then Err FieldNumber

@@ -24,13 +24,13 @@ pub enum Payload<'a> {
 pub struct Field<'a> {
     /// The offset of the tag.
     pub at: usize,
-    /// The offset of the payload; of a `Len` payload, behind its length.
+    /// The offset of the payload; of a `Len` payload, after its length.
     pub body: usize,
     pub number: u32,
     pub payload: Payload<'a>,
 }
 
-/// The field that begins at an offset, with the offset behind it; `None` at the end.
+/// The field that begins at an offset, with the offset after it; `None` at the end.
 ///
 /// # Errors
 ///

@@ -56,7 +56,7 @@ pub fn one_split()
         → (es ≡ fs) × (r ≡ s) }
 {}
 
-/// A rest has one cause, `rest_cause`; and where that isn't Truncated, no bytes behind change it.
+/// A rest has one cause, `rest_cause`; and where that isn't Truncated, no bytes after change it.
 pub fn one_cause()
     ensures there { (b : List ℕ) → StartsNoField b → IsRestCause b (rest_cause b) }
     ensures only { (b : List ℕ) (c : WireCause) → IsRestCause b c
@@ -79,7 +79,7 @@ pub fn split_function()
     ensures whole { (b : List ℕ) → (split b).rest ≡ [] → Whole b (split b).fields }
 {}
 
-/// A split goes step by step: the field at the front and then the split of what is behind it.
+/// A split goes step by step: the field at the front and then the split of what is after it.
 pub fn split_steps()
     ensures field { (at : ℕ) (front back : List ℕ) (e : Entry) → IsFieldAt at front e
         → split_from at (front ++ back) ≡ behind e (split_from (at + length front) back) }
@@ -108,7 +108,7 @@ pub fn front_stays()
 {}
 
 /// The split of a longer list is the fields that were there and then the split of the rest with
-/// what is behind it.
+/// what is after it.
 pub fn split_more()
     ensures fields { (at : ℕ) (b more : List ℕ) → (split_from at (b ++ more)).fields
         ≡ (split_from at b).fields ++ (split_from (split_from at b).rest_at
@@ -177,7 +177,7 @@ pub fn packed_lengths()
         → length (short_numbers ns) ≤ 5 * length ns }
 {}
 
-/// Fields behind others are spelled behind them.
+/// Fields after others are spelled after them.
 pub fn spelled_parts()
     ensures { (fs gs : List Plain) → spelled (fs ++ gs) ≡ spelled fs ++ spelled gs }
 {}

@@ -8,7 +8,7 @@ pub trait NumberList {
     // The numbers so far.
     ghost numbers: { Self → List ℕ };
 
-    /// Reserves room for `more` numbers behind those that are there.
+    /// Reserves room for `more` numbers after those that are there.
     ///
     /// # Errors
     ///

@@ -50,7 +50,7 @@ impl PackedNumbers {
         self.bytes.clear();
     }
 
-    /// Reserves room for `more` numbers behind those that are there: each takes five bytes at most.
+    /// Reserves room for `more` numbers after those that are there: each takes five bytes at most.
     ///
     /// # Errors
     ///

@@ -20,9 +20,9 @@ pub record IsGrouped (texts : List (List ℕ)) (places : List ℕ) : Type 0 wher
   pub apart : (i j : ℕ) (a b : List ℕ) → slice_get texts i ≡ Some a → slice_get texts j ≡ Some b
       → slice_index places i ≡ slice_index places j → a ≡ b
 
--- the place of the first text behind these places: that of an earlier one that is equal, or its index
-abbrev pub IsPlaceBehind : List (List ℕ) → List ℕ → ℕ → Type 0
-IsPlaceBehind texts places place =
+-- the place of the first text after these places: that of an earlier one that is equal, or its index
+abbrev pub IsPlaceAfter : List (List ℕ) → List ℕ → ℕ → Type 0
+IsPlaceAfter texts places place =
     ((j : ℕ) × (j < length places) × (slice_get texts j ≡ slice_get texts (length places)) × (place ≡ slice_index places j))
     ⊎ (((j : ℕ) → j < length places → slice_get texts j ≡ slice_get texts (length places) → ⊥) × (place ≡ length places))
 

@@ -1,11 +1,11 @@
--- The polygons that rings make, from behind.
+-- The polygons that rings make, from after.
 use Rattle.std.specs.Prelude.{if◌then◌else◌, pos, List, [], ◌∷◌, ◌++◌}
 use Rattle.std.specs.Int.Signed.{lt_z}
 use Rattle.mvt_geometry.specs.declared.shape.Point.{Point}
 use Rattle.mvt_geometry.specs.declared.shape.Polygon.{Polygon}
 use Rattle.mvt_geometry.specs.Area.{area2}
 
--- the interior rings of a polygon that is open before these rings, and the polygons behind it
+-- the interior rings of a polygon that is open before these rings, and the polygons after it
 pub record Groups : Type 0 where
   pub inner : List (List Point)
   pub polygons : List Polygon
@@ -21,7 +21,7 @@ abbrev pub groups_of : List (List Point) → Groups
 groups_of [] = record { inner = []; polygons = [] }
 groups_of (ring ∷ rings) = with_ring ring (groups_of rings)
 
--- an open polygon, and those behind it
+-- an open polygon, and those after it
 abbrev pub opened : List Point → List (List Point) → List (List Point) → List Polygon
 opened outer rest rings = record { outer = outer; rest = rest ++ (groups_of rings).inner } ∷ (groups_of rings).polygons
 

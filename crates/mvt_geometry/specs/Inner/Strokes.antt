@@ -43,7 +43,7 @@ pub record Found (kind : Kind) (command : Command) (g : List ℕ) (k s : ℕ) (c
   pub next : Reached kind g (suc k) (s + 1 + 2 * length points) (last_of c points)
   pub moves_are : moves kind g k ≡ pairs_between c points
 
--- what a MoveTo and a LineTo that break no rule draw: the pen is then behind a line, or before the
+-- what a MoveTo and a LineTo that break no rule draw: the pen is then after a line, or before the
 -- ClosePath of a ring
 pub record FoundStroke (kind : Kind) (least : ℕ) (g : List ℕ) (k s : ℕ) (c : Point) : Type 0 where
   pub head : Point

@@ -3,7 +3,7 @@ ghost use Rattle.std.specs.Prelude.{◌≡◌, ◌-◌, OnOk};
 ghost use Rattle.mvt_feature.specs.Canonical.{type_number};
 ghost use Rattle.mvt_rows.specs.Tables.{with_drawn, with_foreign, with_layer_row};
 
-use super::{Table, behind_list};
+use super::{Table, after_list};
 use crate::places::Places;
 use crate::rows::{FeatureRow, LayerRow, Span};
 use mvt_feature::Drawn;
@@ -14,7 +14,7 @@ use std::alloc::AllocError;
 fn added(before: usize, now: usize) -> Span
     ensures { result ≡ record { start = before; len = now - before } }
 {
-    behind_list(before, now.saturating_sub(before))
+    after_list(before, now.saturating_sub(before))
 }
 
 /// The number of a geometry's type (4.3.4).
@@ -50,7 +50,7 @@ impl Table {
         Ok(())
     }
 
-    /// Adds the row of a layer whose features, keys and values stand behind these places, and its name.
+    /// Adds the row of a layer whose features, keys and values stand after these places, and its name.
     pub(super) fn add_layer_row(
         &mut self,
         name: &str,
@@ -62,11 +62,11 @@ impl Table {
         self.layers.push(LayerRow {
             version: 2,
             extent,
-            name: behind_list(self.texts.len(), name.len()),
+            name: after_list(self.texts.len(), name.len()),
             features: added(opened.features, self.features.len()),
             keys: added(opened.keys, self.keys.len()),
             values: added(opened.values, self.values.len()),
-            bytes: behind_list(0, 0),
+            bytes: after_list(0, 0),
         })?;
         self.texts.extend_from_slice(name.as_bytes())
     }
@@ -75,7 +75,7 @@ impl Table {
     pub(super) fn add_foreign(&mut self, version: u32, bytes: &[u8]) -> Result<(), AllocError>
         ensures { OnOk result (self.new ≡ with_foreign self.old version bytes.now) }
     {
-        let nowhere = behind_list(0, 0);
+        let nowhere = after_list(0, 0);
         self.layers.push(LayerRow {
             version,
             extent: 0,
@@ -83,7 +83,7 @@ impl Table {
             features: nowhere,
             keys: nowhere,
             values: nowhere,
-            bytes: behind_list(self.texts.len(), bytes.len()),
+            bytes: after_list(self.texts.len(), bytes.len()),
         })?;
         self.texts.extend_from_slice(bytes)
     }

@@ -61,11 +61,11 @@ pub record AreNamed (count : ℕ) (names : List (List ℕ)) (items : List Item) 
   pub counted : count ≡ length items
   pub named : (n : List ℕ) → list_any (bytes_eq n) names ≡ list_any (bytes_eq n) (flat_map names_in items)
 
--- the first fault of fields behind others, or of their rest
-abbrev pub fault_behind : List Entry → Parts → Option AFault
-fault_behind front parts = option_or (first (each field_rules front parts.fields)) (first (rest_rules parts))
+-- the first fault of fields after others, or of their rest
+abbrev pub fault_after : List Entry → Parts → Option AFault
+fault_after front parts = option_or (first (each field_rules front parts.fields)) (first (rest_rules parts))
 
--- so many bytes are whole fields, which are items behind whatever fields are the old items; the rest is unfinished
+-- so many bytes are whole fields, which are items after whatever fields are the old items; the rest is unfinished
 pub record IsJudged (offset : ℕ) (bytes : List ℕ) (old new : List Item) (used : ℕ) : Type 0 where
   pub place : (split_from offset bytes).rest_at ≡ offset + used
   pub within : used ≤ length bytes
@@ -74,7 +74,7 @@ pub record IsJudged (offset : ℕ) (bytes : List ℕ) (old new : List Item) (use
   pub items_are : (front : List Entry) → AreItems front old → AreItems (front ++ (split_from offset bytes).fields) new
   pub few : length new ≤ length old + used
 
--- an error tells the fault of the bytes, behind whatever fields are the items
-abbrev pub ReportsBehind : DecodeError → ℕ → List ℕ → List Item → Type 0
-ReportsBehind error offset bytes items =
-    (front : List Entry) → AreItems front items → ReportsEarly error (fault_behind front (split_from offset bytes))
+-- an error tells the fault of the bytes, after whatever fields are the items
+abbrev pub ReportsAfter : DecodeError → ℕ → List ℕ → List Item → Type 0
+ReportsAfter error offset bytes items =
+    (front : List Entry) → AreItems front items → ReportsEarly error (fault_after front (split_from offset bytes))

@@ -5,7 +5,7 @@ use mvt_attrs::{Attribute, Value};
 use mvt_base::{Items, LIMIT, Text};
 use mvt_geometry::Geometry;
 use mvt_io::MemorySink;
-use mvt_message::{Cause, Feature, Item, is_valid_item, item_len, put_item, room_behind_item};
+use mvt_message::{Cause, Feature, Item, is_valid_item, item_len, put_item, room_after_item};
 use mvt_tile::{
     DecodeError, Note, PutError, Tile, TileDecoder, WriteError, decode, encode, is_valid, judge,
     notes, rewrite, write_tile,
@@ -71,7 +71,7 @@ fn expect_endless(rt: &(impl Abort + AllocGlobal), front: &[u8]) {
 
 // Payloads of one byte too many, and of 2^63 bytes.
 #[test]
-fn goes_on_behind_the_limit(rt: HostRuntime) {
+fn goes_on_after_the_limit(rt: HostRuntime) {
     expect_endless(&rt, b"\x0A\xFC\xFF\xFF\x1F");
     expect_endless(&rt, b"\x0A\x80\x80\x80\x80\x80\x80\x80\x80\x80\x01");
 }
@@ -167,7 +167,7 @@ fn expect_lengths(rt: &(impl Abort + AllocGlobal), tile: &Tile) {
             Item::Foreign { .. } => (Some(LIMIT - 5), 5),
         };
         expect!(rt; is_valid_item(item));
-        expect_eq!(rt; room_behind_item(item, LIMIT), room);
+        expect_eq!(rt; room_after_item(item, LIMIT), room);
         expect_eq!(rt; item_len(rt.alloc(), item), Ok(len));
     }
 }

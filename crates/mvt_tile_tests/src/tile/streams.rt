@@ -69,7 +69,7 @@ fn expect_cut(rt: &(impl Abort + AllocGlobal), input: &[u8], cuts: u32, tile: &T
     expect_end(rt, decoder, tile);
 }
 
-// Pieces of no bytes in front and behind.
+// Pieces of no bytes in front and after.
 fn expect_between_nothing(rt: &(impl Abort + AllocGlobal), input: &[u8], tile: &Tile) {
     let mut decoder = TileDecoder::new(rt.alloc());
     let pieces: [&[u8]; 3] = [b"", input, b""];
@@ -117,7 +117,7 @@ fn reports_no_fault_of_what_is_unfinished(rt: HostRuntime) {
     let mut decoder = holding(&rt, b"\x18", 1, 1);
     expect_eq!(rt; decoder.feed(b"\x00"), Err(outer(0, Cause::WrongType)));
     drop(decoder);
-    // What stands behind a whole field is held, and told at its place.
+    // What stands after a whole field is held, and told at its place.
     let longer = both_of(&rt, ONE_POINT, b"\x1A\x11\x78");
     let decoder = holding(&rt, &longer, 22, 3);
     drop(longer);

@@ -124,7 +124,7 @@ pub(super) fn in_layer(layer: u32, at: u64, cause: Cause) -> DecodeError {
     })
 }
 
-// One input behind the other.
+// One input after the other.
 pub(super) fn joined(alloc: Global, front: &[u8], back: &[u8]) -> Result<Vec<u8>, AllocError> {
     let mut bytes = Vec::from_slice(alloc, front)?;
     bytes.extend_from_slice(back)?;

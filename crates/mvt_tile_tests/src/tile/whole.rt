@@ -156,7 +156,7 @@ fn foreign_tile(rt: &(impl Abort + AllocGlobal), version: u32, bytes: &[u8]) -> 
     Tile { items }
 }
 
-// The payloads of foreign items behind a tag and a length of one byte each.
+// The payloads of foreign items after a tag and a length of one byte each.
 #[test]
 fn carries_foreign_items(rt: HostRuntime) {
     let rows: [(u32, &[u8]); 4] = [

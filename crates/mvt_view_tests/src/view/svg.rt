@@ -49,7 +49,7 @@ fn draws_tiles(rt: HostRuntime) {
     );
 }
 
-// The layer behind one of another version has the second colour.
+// The layer after one of another version has the second colour.
 #[test]
 fn draws_layers_by_index(rt: HostRuntime) {
     expect_svg(
@@ -73,7 +73,7 @@ fn bare_layer(rt: &(impl Abort + AllocGlobal), name: &str, extent: u32) -> Item 
     })
 }
 
-// What is drawn of such a layer in a colour, which goes behind the others.
+// What is drawn of such a layer in a colour, which goes after the others.
 fn append_layer(
     rt: &(impl Abort + AllocGlobal),
     drawn: &mut String,

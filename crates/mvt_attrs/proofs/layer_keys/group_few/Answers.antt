@@ -12,11 +12,11 @@ loop-preserved c =
     let texts = c.args.texts.now in
     let places = c.loop.places.items in
     let found = c.loop.invariant.0 in
-    let behind = rw c.deref.ensures.value at c.place_behind-place.ensures in (
+    let behind = rw c.deref.ensures.value at c.place_after-place.ensures in (
       few_more texts places found.0 found.1 found.2 (get_or texts (length places) [])
           (slice_get-get_or texts (length places) [] (omega (arith, c.loop.invariant.1, c.loop-test.true)))
-          c.place_behind-place.result c.push.new.self.items behind c.in_ok-push.ensures.items,
-      omega (arith, ap length c.in_ok-push.ensures.items, length_push places c.place_behind-place.result, c.loop.invariant.1),
+          c.place_after-place.result c.push.new.self.items behind c.in_ok-push.ensures.items,
+      omega (arith, ap length c.in_ok-push.ensures.items, length_push places c.place_after-place.result, c.loop.invariant.1),
     )
 
 pub returns : goal.returns

@@ -1,7 +1,7 @@
 use Rattle.std.proofs.Common.{◌++◌, sym, ap₂, ◌∙◌, subst}
 use Rattle.mvt_geometry.specs.Commands.{pairs_of, positions, moved}
 use Rattle.mvt_geometry.specs.Inner.Building.{ArePlaces}
-use Rattle.mvt_geometry.proofs.BuildLemmas.{front_is, room_for, first_points, first_end, other_points, other_end, behind_is}
+use Rattle.mvt_geometry.proofs.BuildLemmas.{front_is, room_for, first_points, first_end, other_points, other_end, after_is}
 use Rattle.mvt_geometry.proofs.reading.build_line.Goals as goal
 
 pub split_at-requires-2 : goal.split_at-requires-2
@@ -45,5 +45,5 @@ returns-clause-line c = λ l more req.
       c.new-points.ensures ∙ c.in_ok-end.ensures.points ∙ ap₂ (λ xs ys. xs ++ ys) one points ∙ sym f.line_is,
       end,
       (rw c.count_in-count.ensures at c.split_at-2.ensures.back)
-          ∙ behind_is f c.split_at.result.0.now c.split_at.result.1.now c.split_at.ensures.front c.split_at.ensures.back,
+          ∙ after_is f c.split_at.result.0.now c.split_at.result.1.now c.split_at.ensures.front c.split_at.ensures.back,
     )

@@ -1,7 +1,7 @@
 use Rattle.std.proofs.Common.{subst}
 use Rattle.std.proofs.lemmas.Result.{err_from_is_err_and}
 use Rattle.mvt_geometry.specs.Inner.Writing.{ending, AreShort}
-use Rattle.mvt_geometry.proofs.WritingLemmas.{begins_more, begins_on, item_at, steps_of, steps_behind, end_behind, stroke_step}
+use Rattle.mvt_geometry.proofs.WritingLemmas.{begins_more, begins_on, item_at, steps_of, steps_after, end_after, stroke_step}
 use Rattle.mvt_geometry.proofs.writing.put_lines.Goals as goal
 
 pub put_line-requires-clause-steps : goal.put_line-requires-clause-steps
@@ -17,9 +17,9 @@ loop-line-preserved g c =
     let last = c.in_ok-cursor.ensures.last in (
       stroke_step _ _ _ (ending c.args.are_rings) l.cursor c.in_ok-cursor.cursor c.as_slice.result.now c.line-item.result _ _ e
           c.as_slice.ensures last c.in_ok-cursor.ensures.integers l.invariant.0,
-      end_behind l.cursor c.in_ok-cursor.cursor _ c.as_slice.result.now c.line-item.result _ _ e c.as_slice.ensures last
+      end_after l.cursor c.in_ok-cursor.cursor _ c.as_slice.result.now c.line-item.result _ _ e c.as_slice.ensures last
           l.invariant.1,
-      steps_behind l.cursor c.in_ok-cursor.cursor c.as_slice.result.now c.line-item.result _ _ e c.as_slice.ensures last
+      steps_after l.cursor c.in_ok-cursor.cursor c.as_slice.result.now c.line-item.result _ _ e c.as_slice.ensures last
           l.invariant.2,
       (subst AreShort e l.invariant.3).1,
       begins_more (g.N.NumberList.numbers c.args.integers.now) _ _ _ l.invariant.4 c.in_ok-cursor.ensures.integers,

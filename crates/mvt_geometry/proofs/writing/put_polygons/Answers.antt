@@ -3,7 +3,7 @@ use Rattle.mvt_base.proofs.ListLemmas.{all_left, all_right}
 use Rattle.std.proofs.lemmas.Result.{err_from_is_err_and}
 use Rattle.mvt_geometry.specs.Shape.{AreSteps, joined, rings_of, last_of}
 use Rattle.mvt_geometry.specs.Inner.Writing.{IsShort, AreShort}
-use Rattle.mvt_geometry.proofs.WritingLemmas.{begins_more, begins_on, item_at, rings_at, steps_of, steps_behind, stroke_step, strokes_step, strokes_front, strokes_back}
+use Rattle.mvt_geometry.proofs.WritingLemmas.{begins_more, begins_on, item_at, rings_at, steps_of, steps_after, stroke_step, strokes_step, strokes_front, strokes_back}
 use Rattle.mvt_geometry.proofs.writing.put_polygons.Goals as goal
 use Rattle.mvt_geometry.specs.Drawing.{strokes}
 
@@ -22,7 +22,7 @@ put_lines-requires-clause-steps g c =
     rings_at _ _ c.polygon-item.result
     (item_at c.args.polygons.now l.polygon-index c.polygon-item.result c.loop-polygon-test.true c.polygon-item.is) in
     let behind =
-    steps_behind l.cursor c.in_ok-cursor.cursor c.as_slice.result.now c.polygon-item.result.outer _ _ e c.as_slice.ensures
+    steps_after l.cursor c.in_ok-cursor.cursor c.as_slice.result.now c.polygon-item.result.outer _ _ e c.as_slice.ensures
     c.in_ok-cursor.ensures.last l.invariant.1 in
     subst (λ ls. AreSteps c.in_ok-cursor.cursor (joined ls)) (sym c.as_slice-in-loop-polygon.ensures)
     (strokes_front c.in_ok-cursor.cursor c.polygon-item.result.rest (rings_of (drop (l.polygon-index + 1) c.args.polygons.now))
@@ -45,7 +45,7 @@ loop-polygon-preserved g c =
     let more = rings_of (drop (l.polygon-index + 1) c.args.polygons.now) in
     let e = rings_at _ _ p (item_at c.args.polygons.now l.polygon-index p c.loop-polygon-test.true c.polygon-item.is) in
     let behind =
-    steps_behind l.cursor c.in_ok-cursor.cursor c.as_slice.result.now p.outer _ _ e c.as_slice.ensures
+    steps_after l.cursor c.in_ok-cursor.cursor c.as_slice.result.now p.outer _ _ e c.as_slice.ensures
     c.in_ok-cursor.ensures.last l.invariant.1 in
     let outer =
     stroke_step _ _ _ (15 ∷ []) l.cursor c.in_ok-cursor.cursor c.as_slice.result.now p.outer _ _ e c.as_slice.ensures

@@ -2,7 +2,7 @@ use Rattle.std.proofs.Common.{length, Err, ap, ◌∙◌, arith, length-append}
 use Rattle.mvt_wire.proofs.WireLaws.{short_lengths_bytes}
 use Rattle.mvt_message.specs.CanonicalItems.{canonical_item}
 use Rattle.mvt_model.specs.declared.numbers.tile.TheConstants.{LAYERS}
-use Rattle.mvt_model.proofs.WritingLemmas.{written, field_of, written_behind}
+use Rattle.mvt_model.proofs.WritingLemmas.{written, field_of, written_after}
 use Rattle.mvt_model.proofs.encoding.encode_more.Goals as goal
 
 pub returns-in-Ok : goal.returns-in-Ok
@@ -16,6 +16,6 @@ returns-in-Err-TooLarge c = λ items are.
       arith,
       large,
       short_lengths_bytes LAYERS (canonical_item c.args.item.now),
-      ap length (written_behind items c.args.item.now),
+      ap length (written_after items c.args.item.now),
       length-append (written items) (field_of c.args.item.now),
     )

@@ -2,7 +2,7 @@ use Rattle.std.proofs.Common.{◌+◌, ◌++◌, refl, subst, arith}
 use Rattle.std.proofs.lemmas.Result.{on_ok_weaker}
 use Rattle.mvt_wire.specs.Field.{bytes}
 use Rattle.mvt_wire.specs.Spelling.{short_field}
-use Rattle.mvt_model.specs.Comparing.{IsBehind}
+use Rattle.mvt_model.specs.Comparing.{IsAfter}
 use Rattle.mvt_model.specs.declared.numbers.tile.TheConstants.{LAYERS}
 use Rattle.mvt_model.proofs.SurveyLemmas.{found_more}
 use Rattle.mvt_model.proofs.WritingLemmas.{written}
@@ -10,7 +10,7 @@ use Rattle.mvt_model.proofs.findings.Findings.add.Goals as goal
 
 pub returns : goal.returns
 returns c = λ input items found count.
-    let behind = subst (λ d. IsBehind input (written items ++ short_field LAYERS (bytes d)) c.in_ok-self.field-0)
+    let behind = subst (λ d. IsAfter input (written items ++ short_field LAYERS (bytes d)) c.in_ok-self.field-0)
     c.requires.canonical (c.in_ok-self.ensures input (written items) found.behind) in
     on_ok_weaker c.note_item.result
     (λ noted. found_more 67108864 input c.args.self.now

@@ -2,7 +2,7 @@ use Rattle.std.proofs.Common.{◌≡◌, length, Some, slice_get, refl, sym, ap,
 use Rattle.std.proofs.lemmas.Bool.{cases_eq, false≢true}
 use Rattle.std.proofs.lemmas.Option.{slice_get_read}
 use Rattle.std.proofs.lemmas.Slice.Eq.{bytes_eq-Decides}
-use Rattle.mvt_attrs.proofs.layer_keys.place_behind.Goals as goal
+use Rattle.mvt_attrs.proofs.layer_keys.place_after.Goals as goal
 
 pub returns-then-eq : goal.returns-then-eq
 returns-then-eq c =
