@@ -7,7 +7,7 @@ ghost use Rattle.mvt_c.specs.Calls.{IsReported, NotShown};
 ghost use Rattle.mvt_c.specs.Calls.{of_decode, status_of, status_of_failure, status_of_refusal};
 ghost use Rattle.mvt_rows.specs.Decoding.{StandsFor};
 ghost use Rattle.mvt_rows.specs.Lent.{table_of};
-ghost use Rattle.mvt_rows.specs.Reading.{IsRead, IsReadBeyond};
+ghost use Rattle.mvt_rows.specs.Reading.{IsRead, IsReadPast};
 ghost use Rattle.mvt_rows.specs.Tables.{table_size};
 
 mod held;
@@ -106,7 +106,7 @@ pub extern "C" fn mvt_held_finish(held: Held, out: &mut Rows, fault: &mut Fault)
     // A decoder that hasn't failed wants memory for too many rows alone.
     ensures memory { result ≡ 2 → held.decoder.inner.0.failure ≡ None → (s : List ℕ)
         → StandsFor held.decoder.inner s
-        → IsReadBeyond s held.decoder.most }
+        → IsReadPast s held.decoder.most }
     ensures kept { IfSome held.decoder.inner.0.failure
         (λ error. result ≡ status_of_refusal (of_decode error)) }
     ensures few { result ≤ 2 }
@@ -130,7 +130,7 @@ fn finished(decoder: Decoder) -> Result<Table, Refusal>
         (λ refusal. (s : List ℕ) → StandsFor decoder.inner s → NotShown s refusal) }
     ensures memory { status_of result ≡ 2 → decoder.inner.0.failure ≡ None → (s : List ℕ)
         → StandsFor decoder.inner s
-        → IsReadBeyond s decoder.most }
+        → IsReadPast s decoder.most }
     ensures kept { IfSome decoder.inner.0.failure
         (λ error. status_of result ≡ status_of_refusal (of_decode error)) }
     ensures few { IfErr result (λ refusal. status_of_refusal refusal ≤ 2) }

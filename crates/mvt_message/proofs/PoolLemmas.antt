@@ -42,10 +42,10 @@ used_front pool grows done rest =
     (grown.0, ap (pool []) (attributes-append done rest) ∙ grown.1)
 
 -- with a feature it is a front of what all features use
-used_beyond : {X : Type 0} → (pool : List X → List Attribute → List X) → IsByParts pool → Grows pool
+used_past : {X : Type 0} → (pool : List X → List Attribute → List X) → IsByParts pool → Grows pool
     → (features : List Feature) (i bound : ℕ) (f : Feature) → i < length features → f ≡ get_or features i f
     → bound < length (pool (used pool (take i features)) f.attributes) → bound < length (used pool features)
-used_beyond pool by_parts grows features i bound f within here more =
+used_past pool by_parts grows features i bound f within here more =
     let next = take (i + 1) features in
     let now : pool (used pool (take i features)) f.attributes ≡ used pool next =
     used_more pool by_parts (take i features) f ∙ ap (used pool) (sym (front_more features i f within here)) in
@@ -72,17 +72,17 @@ pub values_front : (done rest : List Feature) → (added : List Value) × (value
 unfolding values_of
 values_front done rest = used_front value_pool pools_grow_values done rest
 
-pub keys_beyond : (features : List Feature) (i bound : ℕ) (f : Feature) → i < length features → f ≡ get_or features i f
+pub keys_past : (features : List Feature) (i bound : ℕ) (f : Feature) → i < length features → f ≡ get_or features i f
     → bound < length (key_pool (keys_of (take i features)) f.attributes) → bound < length (keys_of features)
 unfolding keys_of
-keys_beyond features i bound f within here more =
-    used_beyond key_pool pools_by_parts_keys pools_grow_keys features i bound f within here more
+keys_past features i bound f within here more =
+    used_past key_pool pools_by_parts_keys pools_grow_keys features i bound f within here more
 
-pub values_beyond : (features : List Feature) (i bound : ℕ) (f : Feature) → i < length features → f ≡ get_or features i f
+pub values_past : (features : List Feature) (i bound : ℕ) (f : Feature) → i < length features → f ≡ get_or features i f
     → bound < length (value_pool (values_of (take i features)) f.attributes) → bound < length (values_of features)
 unfolding values_of
-values_beyond features i bound f within here more =
-    used_beyond value_pool pools_by_parts_values pools_grow_values features i bound f within here more
+values_past features i bound f within here more =
+    used_past value_pool pools_by_parts_values pools_grow_values features i bound f within here more
 
 pub keys_distinct : (done : List Feature) → AreDistinct (keys_of done)
 unfolding keys_of

@@ -28,7 +28,7 @@ use Rattle.mvt_message.specs.CanonicalItems.{keys_of, values_of, head_fields, fe
 use Rattle.mvt_message.specs.PutErrors.{of_pool}
 use Rattle.mvt_message.specs.ValidItems.{ValidLayer}
 use Rattle.mvt_message.proofs.CanonicalLemmas.{pools_within}
-use Rattle.mvt_message.proofs.PoolLemmas.{keys_more, values_more, keys_front, values_front, keys_beyond, values_beyond, keys_distinct, values_distinct}
+use Rattle.mvt_message.proofs.PoolLemmas.{keys_more, values_more, keys_front, values_front, keys_past, values_past, keys_distinct, values_distinct}
 
 pub pool_full : (e : PoolError) → of_pool e ≡ TooLarge → e ≡ pools.Full
 pool_full pools.Memory h = cc
@@ -177,10 +177,10 @@ pub features_full : {features : List Feature} {i : ℕ} {f : Feature} {keys : Li
     → (bound ≤ length (keys_of features)) ⊎ (bound ≤ length (values_of features))
 features_full {features} {i} {f} bound so_far within here (inl more) =
     let longer = subst (λ k. bound < length (key_pool k f.attributes)) so_far.keys_are more in
-    inl (let all = keys_beyond features i bound f within here longer in omega arith)
+    inl (let all = keys_past features i bound f within here longer in omega arith)
 features_full {features} {i} {f} bound so_far within here (inr more) =
     let longer = subst (λ v. bound < length (value_pool v f.attributes)) so_far.values_are more in
-    inr (let all = values_beyond features i bound f within here longer in omega arith)
+    inr (let all = values_past features i bound f within here longer in omega arith)
 
 -- the whole layer
 abbrev pub IsLong : ℕ → ℕ → List Feature → Type 0

@@ -74,11 +74,11 @@ pub fn pools_by_features()
         key_pool (keys_of done) feature.attributes ≡ keys_of (done ++ feature ∷ []) }
     ensures more_values { (done : List Feature) (feature : Feature) →
         value_pool (values_of done) feature.attributes ≡ values_of (done ++ feature ∷ []) }
-    ensures beyond_keys { (features : List Feature) (i bound : ℕ) (feature : Feature) →
+    ensures past_keys { (features : List Feature) (i bound : ℕ) (feature : Feature) →
         i < length features → feature ≡ get_or features i feature
         → bound < length (key_pool (keys_of (take i features)) feature.attributes)
         → bound < length (keys_of features) }
-    ensures beyond_values { (features : List Feature) (i bound : ℕ) (feature : Feature) →
+    ensures past_values { (features : List Feature) (i bound : ℕ) (feature : Feature) →
         i < length features → feature ≡ get_or features i feature
         → bound < length (value_pool (values_of (take i features)) feature.attributes)
         → bound < length (values_of features) }

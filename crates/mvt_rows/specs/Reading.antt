@@ -27,5 +27,5 @@ abbrev pub IsLayerRead : List ℕ → List ℕ → Table → Type 0
 IsLayerRead name input table = (item : Item) × IsFirst name input item × IsTileOf table (record { items = item ∷ [] })
 
 -- the bytes are a tile, whose rows have more bytes than these
-abbrev pub IsReadBeyond : List ℕ → ℕ → Type 0
-IsReadBeyond input most = (table : Table) × IsRead input table × (most < table_size table)
+abbrev pub IsReadPast : List ℕ → ℕ → Type 0
+IsReadPast input most = (table : Table) × IsRead input table × (most < table_size table)

@@ -66,9 +66,9 @@ tile_stays s t f e shut =
     (fault_after (split s).fields (rest_with s t)) f (sym (first-tile s) ∙ e)
     (λ reported. rest_stays (split s).fields (split s).rest_at (split s).rest t f (split_steps_rest 0 s) reported shut)
 
-beyond_stays : (limit : ℕ) (o : Option Fault) (f : Fault) → o ≡ Some f → is_open f ≡ false → beyond limit o ≡ Some f
-beyond_stays limit None f e shut = cc
-beyond_stays limit (Some g) f e shut =
+past_stays : (limit : ℕ) (o : Option Fault) (f : Fault) → o ≡ Some f → is_open f ≡ false → beyond limit o ≡ Some f
+past_stays limit None f e shut = cc
+past_stays limit (Some g) f e shut =
     let same : g ≡ f = cc in
     ap (beyond limit) e ∙ ap (λ b. Some (cond b (outer_fault f.at TooLarge) f)) shut
 
@@ -92,7 +92,7 @@ fault_stays limit s t f e shut = by_length (ltb limit (length s)) refl (ltb limi
         let small : length s ≤ limit = ltb-false limit (length s) short in
         fault_of_long limit (s ++ t) (ltb-true limit (length (s ++ t)) long)
         ∙ ap (λ xs. beyond limit (first (tile_rules xs))) (fits limit s t small)
-        ∙ beyond_stays limit (first (tile_rules (s ++ take (limit - length s) t))) f
+        ∙ past_stays limit (first (tile_rules (s ++ take (limit - length s) t))) f
         (tile_stays s (take (limit - length s) t) f (sym (fault_of_short limit s small) ∙ e) shut) shut
     by_length false short false also =
         fault_of_short limit (s ++ t) (ltb-false limit (length (s ++ t)) also)
@@ -102,13 +102,13 @@ shut_either : (f : Fault) (b : Bool) → is_open f ≡ b → is_open (cond b (ou
 shut_either f true e = refl
 shut_either f false e = e
 
-beyond_shut : (limit : ℕ) (o : Option Fault) → (f : Fault) × (beyond limit o ≡ Some f) × (is_open f ≡ false)
-beyond_shut limit None = (outer_fault limit TooLarge, refl, refl)
-beyond_shut limit (Some f) = (cond (is_open f) (outer_fault f.at TooLarge) f, refl, shut_either f (is_open f) refl)
+past_shut : (limit : ℕ) (o : Option Fault) → (f : Fault) × (beyond limit o ≡ Some f) × (is_open f ≡ false)
+past_shut limit None = (outer_fault limit TooLarge, refl, refl)
+past_shut limit (Some f) = (cond (is_open f) (outer_fault f.at TooLarge) f, refl, shut_either f (is_open f) refl)
 
 pub fault_past_limit : (limit : ℕ) (s : List ℕ) → limit < length s → (f : Fault) × (fault_within limit s ≡ Some f) × (is_open f ≡ false)
 fault_past_limit limit s long =
-    let some = beyond_shut limit (first (tile_rules (take limit s))) in
+    let some = past_shut limit (first (tile_rules (take limit s))) in
     (some.0, fault_of_long limit s long ∙ some.1, some.2)
 
 -- the front of a stream that is calm is calm

@@ -46,15 +46,15 @@ unfolding fault_within
 fault_of_long limit b h =
     ap (λ t. cond t (beyond limit (first (tile_rules (take limit b)))) (first (tile_rules b))) (lt-ltb limit (length b) h)
 
-beyond_there : (limit : ℕ) (o : Option Fault) → beyond limit o ≡ None → ⊥
-beyond_there limit None e = cc
-beyond_there limit (Some f) e = cc
+past_there : (limit : ℕ) (o : Option Fault) → beyond limit o ≡ None → ⊥
+past_there limit None e = cc
+past_there limit (Some f) e = cc
 
 -- bytes without a fault are within the limit
 pub short_there : (limit : ℕ) (b : List ℕ) (t : Bool) → ltb limit (length b) ≡ t → fault_within limit b ≡ None → length b ≤ limit
 short_there limit b false e none = ltb-false limit (length b) e
 short_there limit b true e none =
-    absurd (beyond_there limit (first (tile_rules (take limit b))) (sym (fault_of_long limit b (ltb-true limit (length b) e)) ∙ none))
+    absurd (past_there limit (first (tile_rules (take limit b))) (sym (fault_of_long limit b (ltb-true limit (length b) e)) ∙ none))
 
 no_rest : (at : ℕ) (rest : List ℕ) → first (rest_rules_at at rest) ≡ None → rest ≡ []
 no_rest at [] e = refl

@@ -339,7 +339,7 @@ fn limit() -> usize {
 }
 
 // One field of this head at the limit, and a byte after it.
-fn beyond_limit(rt: &(impl Abort + AllocGlobal), head: &[u8]) -> Vec<u8> {
+fn past_limit(rt: &(impl Abort + AllocGlobal), head: &[u8]) -> Vec<u8> {
     let mut input = Vec::from_slice(rt.alloc(), head).expect(rt, "bytes");
     input
         .resize(limit().saturating_add(1), 0)
@@ -349,11 +349,11 @@ fn beyond_limit(rt: &(impl Abort + AllocGlobal), head: &[u8]) -> Vec<u8> {
 
 #[test]
 fn lists_fields_up_to_the_limit(rt: HostRuntime) {
-    let whole = beyond_limit(&rt, b"\x0A\xFB\xFF\xFF\x1F");
+    let whole = past_limit(&rt, b"\x0A\xFB\xFF\xFF\x1F");
     let large = fault(None, None, 67_108_864, Cause::TooLarge);
     expect_fields(&rt, &whole, "0 1 len 67108859\n", Some(large));
     drop(whole);
-    let cut = beyond_limit(&rt, b"\x0A\xFC\xFF\xFF\x1F");
+    let cut = past_limit(&rt, b"\x0A\xFC\xFF\xFF\x1F");
     expect_fields(&rt, &cut, "", Some(fault(None, None, 0, Cause::TooLarge)));
     drop(cut);
 }

@@ -181,7 +181,7 @@ fn expect_read(rt: &(impl Abort + AllocGlobal), input: &[u8], tile: &Tile) {
 // A bound that shares no text exceeds the limit, and the bytes are within it: 13 a feature, 1,048,584 of
 // the text, 11 of the rest and 4 in front; then 7 of the other item.
 #[test]
-fn is_written_beyond_the_bound(rt: HostRuntime) {
+fn is_written_past_the_bound(rt: HostRuntime) {
     let tile = sharing(&rt);
     expect!(rt; is_valid(&tile));
     let made = MemorySink::new(rt.alloc(), 1_049_516, limit(), u64::MAX, false);
