@@ -6,7 +6,9 @@ ghost use Rattle.mvt_attrs.specs.Inner.Finding.{Knows, IsRoomFor};
 
 use crate::entry::Entry;
 use crate::lookup::Lookup;
-use crate::two_choices::{TwoChoices, add_two_choices, find_two_choices, record_two_choices, two_choices_all};
+use crate::two_choices::{
+    TwoChoices, add_two_choices, find_two_choices, record_two_choices, two_choices_all,
+};
 use indexmap::IndexSet;
 use std::alloc::{AllocError, Global};
 
@@ -82,7 +84,13 @@ pub(crate) fn record<T: Entry>(
     match entry_index {
         EntryIndex::Plain => Ok(()),
         EntryIndex::Hashed(places) => add_hashed(places, entry.copied(alloc)?),
-        EntryIndex::TwoChoices(two_choices) => record_two_choices(alloc, two_choices, entries, entry, slot),
+        EntryIndex::TwoChoices(two_choices) => record_two_choices(
+            alloc,
+            two_choices,
+            entries,
+            entry,
+            slot,
+        ),
     }
 }
 
@@ -91,7 +99,8 @@ fn is_outgrown<T: Entry>(entry_index: &EntryIndex<T>, count: usize) -> bool {
     match entry_index {
         EntryIndex::Plain => count >= MOST_PLAIN,
         EntryIndex::Hashed(_) => count >= T::most_hashed(),
-        EntryIndex::TwoChoices(two_choices) => count >= two_choices.slots.len() / LEAST_SLOTS_PER_ENTRY,
+        EntryIndex::TwoChoices(two_choices) => count
+            >= two_choices.slots.len() / LEAST_SLOTS_PER_ENTRY,
     }
 }
 

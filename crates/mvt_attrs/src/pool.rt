@@ -6,8 +6,8 @@ ghost use Rattle.mvt_attrs.specs.Placed.{IsPlaced};
 
 use crate::entry::Entry;
 use crate::entry_index::{EntryIndex, find, record};
-use crate::pool_error::PoolError;
 use crate::lookup::Lookup;
+use crate::pool_error::PoolError;
 use crate::two_choices::is_at;
 use mvt_base::LIMIT;
 use std::alloc::{AllocError, Global};

@@ -24,7 +24,11 @@ pub struct TwoChoices<T: Entry> {
 
 /// Where an entry stands, or the slot that it can take. Its first slot is by a cheap hash.
 #[inline(always)]
-pub(crate) fn find_two_choices<T: Entry>(two_choices: &TwoChoices<T>, entries: &[T], entry: &T) -> Lookup
+pub(crate) fn find_two_choices<T: Entry>(
+    two_choices: &TwoChoices<T>,
+    entries: &[T],
+    entry: &T,
+) -> Lookup
     requires { IsTwoChoices T.cmp T.hash_input two_choices.now entries.now }
     ensures { IsLookupOf entries.now entry.now (IsFreeFor T.hash_input two_choices.now entry.now) result }
 {
@@ -85,7 +89,10 @@ pub(crate) fn is_at<T: Entry>(entries: &[T], index: usize, entry: &T) -> bool
 }
 
 /// Slots for these entries.
-pub(crate) fn two_choices_all<T: Entry>(alloc: Global, entries: &[T]) -> Result<TwoChoices<T>, AllocError>
+pub(crate) fn two_choices_all<T: Entry>(
+    alloc: Global,
+    entries: &[T],
+) -> Result<TwoChoices<T>, AllocError>
     requires distinct { AreDistinct entries.now }
     requires few { length entries.now + 1 < 2 ^ 32 }
     ensures { IfOk result (λ two_choices. IsTwoChoices T.cmp T.hash_input two_choices entries.now) }

@@ -15,7 +15,7 @@ ghost use Rattle.mvt_cli.specs.Refused.{IsUsage, usage_text};
 use crate::words::{Asked, Refusal, read_words};
 use mvt_base::LIMIT;
 use mvt_io::{Sink, Source};
-use mvt_tasks::{Failure, Folder, check_files, run_task, print};
+use mvt_tasks::{Failure, Folder, check_files, print, run_task};
 use std::alloc::Global;
 
 /// Runs the program on the words of its command line, the first of which is its name, and answers

@@ -67,7 +67,12 @@ pub(crate) fn read_fields(
 impl FeatureFields {
     /// What is known with one more field, which is told to stand at this place.
     #[inline(always)]
-    fn with(self, field: &Field<'_>, at: u64, scratch: &mut Scratch) -> Result<FeatureFields, MessageError>
+    fn with(
+        self,
+        field: &Field<'_>,
+        at: u64,
+        scratch: &mut Scratch,
+    ) -> Result<FeatureFields, MessageError>
         ensures ok { OnOk result (first
             (feature_form_rules field.now.number (content_of field.now.payload)) ≡ None) }
         ensures id { IfOk result (λ known. known.id ≡ id_after self.id field.now.number

@@ -4,10 +4,10 @@
 
 mod bound;
 mod features;
-mod layer_fields;
-mod layer_header;
 mod item;
 pub mod laws;
+mod layer_fields;
+mod layer_header;
 mod layer_len;
 mod layer_writing;
 mod naming;

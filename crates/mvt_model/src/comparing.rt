@@ -7,7 +7,6 @@ ghost use Rattle.mvt_model.specs.Comparing.{IsAfter};
 
 use crate::numbers::tile;
 use mvt_base::LIMIT;
-
 use mvt_wire::put_field_head;
 use std::alloc::{AllocError, Global};
 

@@ -12,8 +12,8 @@ ghost use Rattle.mvt_rows.specs.Lent.{table_of};
 ghost use Rattle.mvt_rows.specs.RowsFaults.{AreValid, IsFaultOf, IsFirstInvalidFeature, IsInvalid, feature_cause, features_wrong, geometry_cause, if_any, layer_wrong, row_wrong, text_wrong};
 
 use crate::rows::{FeatureRow, LayerRow, Rows, Span};
-use crate::rows_error::RowsError;
 use crate::rows_cause::{RowsCause, RowsFault};
+use crate::rows_error::RowsError;
 use crate::tiles::features::{geometry, id};
 use crate::tiles::parts::{find_part, keys};
 use crate::tiles::tile_of;
@@ -171,7 +171,11 @@ fn feature_cause(
     }
 }
 
-fn geometry_cause(alloc: Global, rows: &Rows, row: &FeatureRow) -> Result<Option<RowsCause>, RowsError>
+fn geometry_cause(
+    alloc: Global,
+    rows: &Rows,
+    row: &FeatureRow,
+) -> Result<Option<RowsCause>, RowsError>
     ensures cause { IfOk result (λ found. found ≡ geometry_cause (table_of rows.now) row.now) }
     ensures memory { IfErr result (λ error. error ≡ Memory) }
 {

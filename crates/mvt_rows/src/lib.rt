@@ -7,16 +7,16 @@ mod faults;
 pub mod laws;
 mod places;
 mod rows;
-mod rows_error;
 mod rows_cause;
+mod rows_error;
 mod table;
 mod tiles;
 mod writing;
 
 pub use faults::rows_fault;
 pub use rows::{FeatureRow, LayerRow, PartRow, PointRow, Rows, Span, ValueRow};
-pub use rows_error::RowsError;
 pub use rows_cause::{RowsCause, RowsFault};
+pub use rows_error::RowsError;
 pub use table::{RowsDecoder, RowsVisitor, Table, read_layer, read_rows, read_rows_within};
 pub use tiles::tile_of;
 pub use writing::write_rows;

@@ -14,8 +14,8 @@ ghost use Rattle.mvt_tile.specs.Streams.{ReportsAtEnd};
 ghost use Rattle.mvt_tile.specs.TileRules.{payload_of, rest_rules};
 
 use crate::fault::{DecodeError, Fault};
-use crate::walking::in_layer;
 use crate::visiting::TileVisitor;
+use crate::walking::in_layer;
 use mvt_base::LIMIT;
 use mvt_message::{Cause, has_name};
 use mvt_model::numbers::tile;

@@ -17,10 +17,10 @@ mod reading;
 mod rewriting;
 mod round_trip;
 mod surveying;
-mod walking;
 mod validity;
 mod visiting;
 mod visiting_decoder;
+mod walking;
 
 pub use decoder::{TileDecoder, decode};
 pub use extract_error::ExtractError;

@@ -55,7 +55,13 @@ impl<T: ItemVisitor> PartialTile<T> {
     {
         let room = LIMIT as usize - (self.offset as usize + self.raw.len());
         let (fitting, beyond) = piece.split_at(room.min(piece.len()));
-        let used = feed_after(alloc, &mut self.visitor, &mut self.raw, self.offset, fitting)?;
+        let used = feed_after(
+            alloc,
+            &mut self.visitor,
+            &mut self.raw,
+            self.offset,
+            fitting,
+        )?;
         self.offset += used as u64;
         if !beyond.is_empty() {
             return Err(DecodeError::Fault(Fault::outer(self.offset, Cause::TooLarge)));

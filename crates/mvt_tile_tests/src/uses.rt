@@ -71,7 +71,10 @@ fn a_stream_breaks_a_rule(rt: HostRuntime) {
 fn a_stream_fails(rt: HostRuntime) {
     let bytes = Vec::from_slice(rt.alloc(), ROME).expect(&rt, "bytes");
     let mut failing = MemorySource::new(bytes, 7, 1);
-    let is_failed_read = matches!(first_fault(rt.alloc(), &mut failing), Err(DecodeError::Read(_)));
+    let is_failed_read = matches!(
+        first_fault(rt.alloc(), &mut failing),
+        Err(DecodeError::Read(_))
+    );
     expect!(rt; is_failed_read);
     drop(failing);
 }
