@@ -5,6 +5,6 @@
 #[cfg(test)]
 mod expect;
 #[cfg(test)]
-mod tile;
+mod limits;
 #[cfg(test)]
-mod uses;
+mod tile;

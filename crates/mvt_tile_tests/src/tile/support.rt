@@ -13,7 +13,7 @@ use std::alloc::{AllocError, Global};
 use std::process::Abort;
 
 // More keys than are compared without memory.
-pub(super) const KEYS: [&str; 20] = [
+pub(crate) const KEYS: [&str; 20] = [
     "a",
     "b",
     "c",
@@ -36,7 +36,7 @@ pub(super) const KEYS: [&str; 20] = [
     "t",
 ];
 
-pub(super) fn points(alloc: Global, places: &[(i32, i32)]) -> Result<Items<Point>, AllocError> {
+pub(crate) fn points(alloc: Global, places: &[(i32, i32)]) -> Result<Items<Point>, AllocError> {
     let mut points = Vec::with_capacity(alloc, places.len())?;
     for (x, y) in places {
         points.push(Point { x: *x, y: *y })?;
@@ -45,7 +45,7 @@ pub(super) fn points(alloc: Global, places: &[(i32, i32)]) -> Result<Items<Point
 }
 
 // Layer `a` with these features.
-pub(super) fn layer_a(alloc: Global, features: Vec<Feature>) -> Result<Tile, AllocError> {
+pub(crate) fn layer_a(alloc: Global, features: Vec<Feature>) -> Result<Tile, AllocError> {
     let layer = Layer {
         name: Text::from_str(alloc, "a")?,
         extent: 4096,
@@ -59,7 +59,7 @@ pub(super) fn layer_a(alloc: Global, features: Vec<Feature>) -> Result<Tile, All
 }
 
 // Layer `a` with one feature.
-pub(super) fn one_feature(
+pub(crate) fn one_feature(
     alloc: Global,
     attributes: Vec<Attribute>,
     geometry: Geometry,
@@ -74,7 +74,7 @@ pub(super) fn one_feature(
 }
 
 // A point with these keys, whose values are true.
-pub(super) fn keyed(alloc: Global, keys: &[&str]) -> Result<Tile, AllocError> {
+pub(crate) fn keyed(alloc: Global, keys: &[&str]) -> Result<Tile, AllocError> {
     let mut attributes = Vec::new(alloc);
     for key in keys {
         attributes.push(Attribute {
@@ -87,7 +87,7 @@ pub(super) fn keyed(alloc: Global, keys: &[&str]) -> Result<Tile, AllocError> {
 }
 
 // Layers of these names, without features.
-pub(super) fn named(alloc: Global, names: &[&str]) -> Result<Tile, AllocError> {
+pub(crate) fn named(alloc: Global, names: &[&str]) -> Result<Tile, AllocError> {
     let mut items = Vec::new(alloc);
     for name in names {
         items.push(Item::Layer(Layer {
@@ -101,12 +101,12 @@ pub(super) fn named(alloc: Global, names: &[&str]) -> Result<Tile, AllocError> {
     })
 }
 
-pub(super) fn foreign_item(alloc: Global, version: u32, bytes: &[u8]) -> Result<Item, AllocError> {
+pub(crate) fn foreign_item(alloc: Global, version: u32, bytes: &[u8]) -> Result<Item, AllocError> {
     let bytes = Items::new(Vec::from_slice(alloc, bytes)?);
     Ok(Item::Foreign { version, bytes })
 }
 
-pub(super) fn outer(at: u64, cause: Cause) -> DecodeError {
+pub(crate) fn outer(at: u64, cause: Cause) -> DecodeError {
     DecodeError::Fault(Fault {
         layer: None,
         feature: None,
@@ -115,7 +115,7 @@ pub(super) fn outer(at: u64, cause: Cause) -> DecodeError {
     })
 }
 
-pub(super) fn in_layer(layer: u32, at: u64, cause: Cause) -> DecodeError {
+pub(crate) fn in_layer(layer: u32, at: u64, cause: Cause) -> DecodeError {
     DecodeError::Fault(Fault {
         layer: Some(layer),
         feature: None,
@@ -125,13 +125,13 @@ pub(super) fn in_layer(layer: u32, at: u64, cause: Cause) -> DecodeError {
 }
 
 // One input after the other.
-pub(super) fn joined(alloc: Global, front: &[u8], back: &[u8]) -> Result<Vec<u8>, AllocError> {
+pub(crate) fn joined(alloc: Global, front: &[u8], back: &[u8]) -> Result<Vec<u8>, AllocError> {
     let mut bytes = Vec::from_slice(alloc, front)?;
     bytes.extend_from_slice(back)?;
     Ok(bytes)
 }
 
-pub(super) fn names(alloc: Global, texts: &[&str]) -> Result<Vec<String>, AllocError> {
+pub(crate) fn names(alloc: Global, texts: &[&str]) -> Result<Vec<String>, AllocError> {
     let mut names = Vec::new(alloc);
     for text in texts {
         names.push(String::from_str(alloc, text)?)?;
@@ -140,16 +140,16 @@ pub(super) fn names(alloc: Global, texts: &[&str]) -> Result<Vec<String>, AllocE
 }
 
 // The tile of an input, with memory that isn't refused.
-pub(super) fn tile_of(rt: &(impl Abort + AllocGlobal), input: &[u8]) -> Tile {
+pub(crate) fn tile_of(rt: &(impl Abort + AllocGlobal), input: &[u8]) -> Tile {
     decode(rt.alloc(), input).expect(rt, "a tile")
 }
 
-pub(super) fn both_of(rt: &(impl Abort + AllocGlobal), front: &[u8], back: &[u8]) -> Vec<u8> {
+pub(crate) fn both_of(rt: &(impl Abort + AllocGlobal), front: &[u8], back: &[u8]) -> Vec<u8> {
     joined(rt.alloc(), front, back).expect(rt, "bytes")
 }
 
 // Feeds an input byte by byte, up to the first error.
-pub(super) fn feed_bytes(decoder: &mut TileDecoder, input: &[u8]) -> Result<(), DecodeError> {
+pub(crate) fn feed_bytes(decoder: &mut TileDecoder, input: &[u8]) -> Result<(), DecodeError> {
     for byte in input.chunks(1) {
         decoder.feed(byte)?;
     }
@@ -157,7 +157,7 @@ pub(super) fn feed_bytes(decoder: &mut TileDecoder, input: &[u8]) -> Result<(), 
 }
 
 // What comes of an input in pieces of one byte. An error stays.
-pub(super) fn fed(rt: &(impl Abort + AllocGlobal), input: &[u8]) -> Result<Tile, DecodeError> {
+pub(crate) fn fed(rt: &(impl Abort + AllocGlobal), input: &[u8]) -> Result<Tile, DecodeError> {
     let mut decoder = TileDecoder::new(rt.alloc());
     match feed_bytes(&mut decoder, input) {
         Ok(()) => decoder.finish(),
@@ -169,7 +169,7 @@ pub(super) fn fed(rt: &(impl Abort + AllocGlobal), input: &[u8]) -> Result<Tile,
 }
 
 // A decoder that has failed says so from then on.
-pub(super) fn expect_failed(
+pub(crate) fn expect_failed(
     rt: &impl Abort,
     mut decoder: TileDecoder,
     more: &[u8],
@@ -182,7 +182,7 @@ pub(super) fn expect_failed(
 
 // The input is this tile, whole and byte by byte, and where it is only judged it has no fault; the tile is
 // written as these bytes, and a survey tells whether the input is them.
-pub(super) fn expect_tile(
+pub(crate) fn expect_tile(
     rt: &(impl Abort + AllocGlobal),
     input: &[u8],
     tile: &Tile,
@@ -240,7 +240,7 @@ fn expect_rewritten(rt: &(impl Abort + AllocGlobal), input: &[u8], canonical: &[
 }
 
 // A reader of these bytes, so many at a time, which fails from one of its reads on.
-pub(super) fn reader_of(
+pub(crate) fn reader_of(
     rt: &(impl Abort + AllocGlobal),
     input: &[u8],
     step: usize,
@@ -251,7 +251,7 @@ pub(super) fn reader_of(
 }
 
 // The input has this fault, whole, byte by byte, and where it is only judged, surveyed or rewritten.
-pub(super) fn expect_fault(rt: &(impl Abort + AllocGlobal), input: &[u8], error: DecodeError) {
+pub(crate) fn expect_fault(rt: &(impl Abort + AllocGlobal), input: &[u8], error: DecodeError) {
     let alloc = rt.alloc();
     expect_eq!(rt; decode(alloc, input).err(), Some(error), "of {input:?}");
     expect_eq!(rt; fed(rt, input).err(), Some(error), "of {input:?} by bytes");

@@ -1,6 +1,6 @@
 //! Inputs and tiles of 64 MiB.
-use super::support::{feed_bytes, foreign_item, layer_a, outer, points, tile_of};
 use crate::expect::{expect, expect_eq};
+use crate::tile::support::{feed_bytes, foreign_item, layer_a, outer, points, tile_of};
 use mvt_attrs::{Attribute, Value};
 use mvt_base::{Items, LIMIT, Text};
 use mvt_geometry::Geometry;
