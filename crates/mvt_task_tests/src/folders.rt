@@ -1,5 +1,5 @@
 //! The command `check` over files in memory.
-ghost use Rattle.std.specs.Prelude.{◌≡◌, map, string_bytes};
+ghost use Rattle.std.specs.Prelude.{◌≡◌, Some, map, string_bytes};
 ghost use Rattle.mvt_io.specs.Devices.{outflow_of};
 ghost use Rattle.mvt_tasks.specs.Checks.{ChecksFiles, run_state};
 ghost use Rattle.mvt_tasks.specs.Folders.{held_in};
@@ -59,8 +59,8 @@ fn check_known(
     errors: &mut MemorySink,
 ) -> u8
     ensures { ChecksFiles LIMIT (held_in folder.old.files) (map string_bytes names.now)
-        (run_state folder.old.visits (outflow_of writer.old) (outflow_of errors.old))
-        (run_state folder.new.visits (outflow_of writer.new) (outflow_of errors.new)) result }
+        (run_state (Some folder.old.visits) (outflow_of writer.old) (outflow_of errors.old))
+        (run_state (Some folder.new.visits) (outflow_of writer.new) (outflow_of errors.new)) result }
 {
     check_files(alloc, names, folder, writer, errors)
 }
