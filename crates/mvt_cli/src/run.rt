@@ -8,6 +8,7 @@ ghost use Rattle.mvt_tasks.specs.declared.reply.Reply.{Reply as AReply};
 ghost use Rattle.mvt_tasks.specs.Checks.{IsToldOfAll, Tells, moment};
 ghost use Rattle.mvt_tasks.specs.Failures.{EndsFailed, FailsReading, line_of, status_of};
 ghost use Rattle.mvt_tasks.specs.Output.{Gives, HasOutput, IsReplyTo, PutOut, PutsOut, ReadsNoFurther};
+ghost use Rattle.mvt_tasks.specs.Visits.{OneAtATime};
 ghost use Rattle.mvt_cli.specs.Words.{task_in, faults_in, files_in};
 ghost use Rattle.mvt_cli.specs.Refused.{IsUsage, usage_text};
 
@@ -53,12 +54,14 @@ pub fn run<F: Folder, R: Source, W: Sink, E: Sink>(
         (R.state reader.new) }
     ensures reads { Reads (LIMIT + 2) (R.state reader.old) (R.state reader.new) }
 
-    // Files are each told of under their names, in order, and the reader is left as it was.
+    // Files are each told of under their names, in order, with one open at a time, and the reader is
+    // left as it was.
     ensures files { files_in (map string_bytes words.now) ≢ []
         → faults_in (map string_bytes words.now) ≡ []
         → IsToldOfAll LIMIT (F.holds folder.old) (files_in (map string_bytes words.now))
         (moment (F.visits folder.old) (W.state writer.old) (E.state errors.old))
-        (moment (F.visits folder.new) (W.state writer.new) (E.state errors.new)) result }
+        (moment (F.visits folder.new) (W.state writer.new) (E.state errors.new)) result
+        × OneAtATime (F.open_files folder.old) (F.open_files folder.new) }
     ensures apart { (files_in (map string_bytes words.now) ≡ [] → folder.new ≡ folder.old)
         × (files_in (map string_bytes words.now) ≢ [] → reader.new ≡ reader.old) }
 

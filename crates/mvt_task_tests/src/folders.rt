@@ -1,5 +1,5 @@
 //! The command `check` over files in memory.
-ghost use Rattle.std.specs.Prelude.{◌≡◌, map, string_bytes};
+ghost use Rattle.std.specs.Prelude.{◌≡◌, Some, map, string_bytes};
 ghost use Rattle.mvt_io.specs.Devices.{outflow_of};
 ghost use Rattle.mvt_tasks.specs.Checks.{IsToldOfAll, moment};
 ghost use Rattle.mvt_tasks.specs.Folders.{held_in};
@@ -59,8 +59,8 @@ fn check_known(
     errors: &mut MemorySink,
 ) -> u8
     ensures { IsToldOfAll LIMIT (held_in folder.old.files) (map string_bytes names.now)
-        (moment folder.old.visits (outflow_of writer.old) (outflow_of errors.old))
-        (moment folder.new.visits (outflow_of writer.new) (outflow_of errors.new)) result }
+        (moment (Some folder.old.visits) (outflow_of writer.old) (outflow_of errors.old))
+        (moment (Some folder.new.visits) (outflow_of writer.new) (outflow_of errors.new)) result }
 {
     check_files(alloc, names, folder, writer, errors)
 }
@@ -75,7 +75,8 @@ fn status_of(
     let names = names_of(rt.alloc(), names).expect(rt, "names");
     let mut folder = folder_of(rt.alloc()).expect(rt, "a folder");
     let status = check_known(rt.alloc(), &names, &mut folder, writer, errors);
-    expect_eq!(rt; folder.open_files(), 0);
+    let open = folder.open_files();
+    expect!(rt; open.now == 0 && open.most < 2);
     drop(folder);
     drop(names);
     status
@@ -179,7 +180,8 @@ fn wants_of(rt: &(impl Abort + AllocGlobal), names: &[String]) -> u32 {
         return 1;
     };
     let wanted = wants_in(rt, names, &mut folder);
-    expect_eq!(rt; folder.open_files(), 0);
+    let open = folder.open_files();
+    expect!(rt; open.now == 0 && open.most < 2);
     drop(folder);
     wanted
 }

@@ -3,7 +3,7 @@ use Rattle.std.proofs.Common.{◌≡◌, ℕ, ◌+◌, ◌<◌, ◌≤◌, inl, 
 use Rattle.std.proofs.lemmas.List.{map-append, length-append}
 use Rattle.std.proofs.Math.Seq.{take-append-add}
 use Rattle.std.proofs.lemmas.List.Sums.{sum_by-append}
-use Rattle.std.proofs.lemmas.Grind.{flat_map-append}
+use Rattle.std.proofs.lemmas.Grind.{common_steps, flat_map-append}
 use Rattle.std.proofs.KnownBytes.{Appends-nil, Appends-trans}
 use Rattle.std.specs.List.{flat_map}
 use Rattle.std.specs.Io.KnownBytes.{Appends, Keeps}
@@ -12,13 +12,14 @@ use Rattle.mvt_io.specs.Counts.{last_count}
 use Rattle.mvt_io.specs.States.{Outflow}
 use Rattle.mvt_tasks.specs.declared.failure.Failure.{Failure}
 use Rattle.mvt_tasks.specs.declared.failure.Failure.TheVariants.{Read, Write, Memory}
+use Rattle.mvt_tasks.specs.declared.folder.OpenFiles.{OpenFiles}
 use Rattle.mvt_tasks.specs.declared.folder.Visit.{Visit}
 use Rattle.mvt_tasks.specs.declared.reply.Reply.{Reply}
 use Rattle.mvt_tasks.specs.declared.tally.Tally.{Tally}
 use Rattle.mvt_tasks.specs.declared.tally.Verdict.{Verdict}
 use Rattle.mvt_tasks.specs.declared.tally.Verdict.TheVariants.{Accepted, Refused, Unread}
-use Rattle.mvt_tasks.specs.Visits.{AddsAll}
-use Rattle.mvt_tasks.specs.Checks.{AreChecked, Checked, IsCutShort, IsLater, IsNext, IsSaid, IsSaidOf, IsSaidOfOne, Moment, TakesUntil, Tells, count_of, is_accepted, is_refused, is_unread, tally_of, told_of, verdict_of, visit_of, written_of}
+use Rattle.mvt_tasks.specs.Visits.{AddsAll, IsNext, OneAtATime}
+use Rattle.mvt_tasks.specs.Checks.{AreChecked, Checked, IsCutShort, IsLater, IsSaid, IsSaidOf, IsSaidOfOne, Moment, TakesUntil, Tells, count_of, is_accepted, is_refused, is_unread, tally_of, told_of, verdict_of, visit_of, written_of}
 
 -- ---- the error stream
 
@@ -50,7 +51,7 @@ tells-trans a b c s t first then = record {
 
 -- ---- visits
 
-adds_nothing : (o : Option (List Visit)) → AddsAll o o []
+pub adds_nothing : (o : Option (List Visit)) → AddsAll o o []
 adds_nothing None = tt
 adds_nothing (Some xs) = sym (append-nil xs)
 
@@ -59,6 +60,11 @@ adds-trans a b None vs ws p q = tt
 adds-trans a None (Some z) vs ws p q = absurd q
 adds-trans None (Some y) (Some z) vs ws p q = absurd p
 adds-trans (Some x) (Some y) (Some z) vs ws p q = q ∙ ap (λ l. l ++ ws) p ∙ append_assoc x vs ws
+
+-- ---- open files
+
+pub one_more_then : (a b c : OpenFiles) → OneAtATime a b → OneAtATime b c → OneAtATime a c
+one_more_then a b c (fewer, most) (less, more) = (omega arith, grind (arith, common_steps))
 
 -- ---- tallies
 
@@ -333,12 +339,12 @@ cut_at_first limit holds names old errors line told =
 -- of an answer
 
 module _ {T : Type 0} (r : Result T Failure) (limit : ℕ) (holds : List ℕ → Option (List ℕ)) where
-  pub cut_first_of : (name : List ℕ) (old : Moment) (visits : Option (List Visit)) (v : Visit) → v.name ≡ name
-      → AddsAll old.visits visits (v ∷ []) → IfErr r (λ failure. failure ≡ Memory)
+  pub cut_first_of : (name : List ℕ) (old : Moment) (visits : Option (List Visit)) (next : List Visit) → IsNext (name ∷ []) next
+      → AddsAll old.visits visits next → IfErr r (λ failure. failure ≡ Memory)
       → IfErr r (IsCutShort limit holds (name ∷ []) old (record old { visits = visits }) [])
-  cut_first_of name old visits v of_name visited is =
+  cut_first_of name old visits next is_next visited is =
       weaker_err r (λ failure is_memory. subst (IsCutShort limit holds (name ∷ []) old (record old { visits = visits }) []) (sym is_memory)
-      (cut_first limit holds (name ∷ []) old visits (v ∷ []) of_name visited)) is
+      (cut_first limit holds (name ∷ []) old visits next is_next visited)) is
 
   pub cut_within_of : (name : List ℕ) (reply : Option Reply) (old new : Moment) → IsSaid limit (holds name) reply
       → AddsAll old.visits new.visits (visit_of name reply ∷ [])

@@ -1,6 +1,7 @@
 -- The first file of a name.
-use Rattle.std.proofs.Common.{◌≡◌, ℕ, Bool, true, false, cond, List, [], ◌∷◌, ◌++◌, find, bytes_eq, Option, Some, None, Result, Ok, Err, IfOk, refl, ap, ◌∙◌}
+use Rattle.std.proofs.Common.{◌≡◌, ◌≢◌, ℕ, Bool, true, false, cond, List, [], ◌∷◌, ◌++◌, find, bytes_eq, Option, Some, None, Result, Ok, Err, IfOk, IfErr, refl, ap, ◌∙◌}
 use Rattle.std.specs.declared.io.ErrorKind.{ErrorKind}
+use Rattle.std.specs.declared.io.ErrorKind.TheVariants.{OutOfMemory}
 use Rattle.mvt_io.specs.Devices.{SourceState}
 use Rattle.mvt_tasks.specs.declared.memory.MemoryFile.{MemoryFile}
 use Rattle.mvt_tasks.specs.Folders.{bytes_of, file_named, held_in}
@@ -43,3 +44,8 @@ pub held_read : (r : Result SourceState ErrorKind) (held bytes : Option (List �
     → IfOk r (λ (reader : SourceState). bytes ≡ Some reader.left) → IfOk r (λ (reader : SourceState). held ≡ Some reader.left)
 held_read (Ok reader) held bytes same is = same ∙ is
 held_read (Err kind) held bytes same is = tt
+
+pub missing_read : (r : Result SourceState ErrorKind) (held bytes : Option (List ℕ)) → held ≡ bytes
+    → IfErr r (λ kind. kind ≢ OutOfMemory → bytes ≡ None) → IfErr r (λ kind. kind ≢ OutOfMemory → held ≡ None)
+missing_read (Ok reader) held bytes same is = tt
+missing_read (Err kind) held bytes same is = λ other. same ∙ is other

@@ -17,7 +17,7 @@ use Rattle.mvt_tasks.specs.declared.tally.Verdict.TheVariants.{Accepted, Refused
 use Rattle.mvt_tasks.specs.declared.task.Task.TheVariants.{Check}
 use Rattle.mvt_tasks.specs.Failures.{line_of, status_of, FailsWriting}
 use Rattle.mvt_tasks.specs.Output.{IsReply}
-use Rattle.mvt_tasks.specs.Visits.{visit, Adds, AddsAll}
+use Rattle.mvt_tasks.specs.Visits.{visit, Adds, AddsAll, IsNext}
 
 -- a file, and what `check` answers for its bytes; no answer where they couldn't be read
 pub record Checked : Type 0 where
@@ -149,13 +149,6 @@ abbrev pub TakesUntil : Option (List ℕ) → Option (List ℕ) → List ℕ →
 TakesUntil old new text Read = ⊥
 TakesUntil old new text Write = TakesPrefix old new text
 TakesUntil old new text Memory = Appends old new text
-
--- at most one visit more, to the first of these files
-abbrev pub IsNext : List (List ℕ) → List Visit → Type 0
-IsNext names [] = ⊤
-IsNext [] (v ∷ vs) = ⊥
-IsNext (name ∷ names) (v ∷ []) = v.name ≡ name
-IsNext (name ∷ names) (v ∷ w ∷ vs) = ⊥
 
 -- a run that was over early: the files of a front of the names were checked, in order, at most one more was visited, what
 -- there is to say of the checked ones was taken, and on the error stream one line more

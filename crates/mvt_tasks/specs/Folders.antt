@@ -1,13 +1,15 @@
 -- Files in memory, and what was asked of them.
 use Rattle.std.specs.Prelude.{ℕ, List, find, bytes_eq, Option, Some, None}
 use Rattle.std.specs.Option.{option_map}
+use Rattle.mvt_tasks.specs.declared.folder.OpenFiles.{OpenFiles}
 use Rattle.mvt_tasks.specs.declared.folder.Visit.{Visit}
 use Rattle.mvt_tasks.specs.declared.memory.MemoryFile.{MemoryFile}
 
--- a folder's files, and the visits to it, where they are known
+-- a folder's files, the visits to it, and how many of its files are open
 pub record FolderState : Type 0 where
   pub files : List MemoryFile
-  pub visits : Option (List Visit)
+  pub visits : List Visit
+  pub open_files : OpenFiles
 
 -- the first file of a name
 abbrev pub file_named : List MemoryFile → List ℕ → Option MemoryFile

@@ -1,12 +1,13 @@
 //! The command `check` over files.
-ghost use Rattle.std.specs.Prelude.{◌≡◌, ◌≢◌, ◌<◌, ◌⊎◌, [], ◌∷◌, ◌++◌, ℕ, Bool, List, length, map, string_bytes, IfOk, IfErr, OnOk, OnErr};
+ghost use Rattle.std.specs.Prelude.{◌≡◌, ◌≢◌, ◌<◌, ◌⊎◌, [], ◌∷◌, ◌++◌, ℕ, List, length, map, string_bytes, IfOk, IfErr, OnOk, OnErr};
 ghost use Rattle.std.specs.List.{flat_map};
 ghost use Rattle.std.specs.Io.KnownBytes.{Appends};
 ghost use Rattle.mvt_io.specs.Counts.{counted};
 ghost use Rattle.mvt_io.specs.States.{NoneFailed};
+ghost use Rattle.mvt_tasks.specs.declared.folder.Visit.{Visit as AVisit};
 ghost use Rattle.mvt_tasks.specs.Checks.{Checked, FlushesAtMost, IsCutShort, IsSaid, IsSaidOf, IsSaidOfOne, IsToldOfAll, TakesUntil, Tells, line_told, marked_text, moment, status_after, summary, text_of, told_of, verdict_of, visit_of, written_of};
 ghost use Rattle.mvt_tasks.specs.Failures.{FailsWriting};
-ghost use Rattle.mvt_tasks.specs.Visits.{Adds, visit};
+ghost use Rattle.mvt_tasks.specs.Visits.{Adds, AddsAll, IsNext, OneAtATime};
 
 use crate::checking::check;
 use crate::failure::Failure;
@@ -14,7 +15,7 @@ use crate::folder::Folder;
 use crate::marks::named;
 use crate::reply::{Reply, fail};
 use crate::tally::{Tally, Verdict};
-use mvt_base::LIMIT;
+use mvt_base::{LIMIT, Text};
 use mvt_io::{Sink, write_all};
 use std::alloc::Global;
 use std::io::ErrorKind;
@@ -32,6 +33,7 @@ pub fn check_files<F: Folder, W: Sink, E: Sink>(
     ensures told { IsToldOfAll LIMIT (F.holds folder.old) (map string_bytes names.now)
         (moment (F.visits folder.old) (W.state writer.old) (E.state errors.old))
         (moment (F.visits folder.new) (W.state writer.new) (E.state errors.new)) result }
+    ensures one { OneAtATime (F.open_files folder.old) (F.open_files folder.new) }
     ensures sound { result < 2
         → NoneFailed (W.state writer.old).faults (W.state writer.new).faults }
 {
@@ -64,6 +66,7 @@ fn check_all<F: Folder, W: Sink, E: Sink>(
     ensures cut { IfErr result (IsCutShort LIMIT (F.holds folder.old) (map string_bytes names.now)
         (moment (F.visits folder.old) (W.state writer.old) (E.state errors.old))
         (moment (F.visits folder.new) (W.state writer.new) (E.state errors.new)) []) }
+    ensures one { OneAtATime (F.open_files folder.old) (F.open_files folder.new) }
 {
     let tally = check_each(alloc, names, folder, writer, errors)?;
     let line = tally.line(alloc, names.len())?;
@@ -90,6 +93,7 @@ fn check_each<F: Folder, W: Sink, E: Sink>(
     ensures cut { IfErr result (IsCutShort LIMIT (F.holds folder.old) (map string_bytes names.now)
         (moment (F.visits folder.old) (W.state writer.old) (E.state errors.old))
         (moment (F.visits folder.new) (W.state writer.new) (E.state errors.new)) []) }
+    ensures one { OneAtATime (F.open_files folder.old) (F.open_files folder.new) }
 {
     let mut tally = Tally::none();
     for name in names {
@@ -119,6 +123,7 @@ fn check_one<F: Folder, W: Sink, E: Sink>(
         (moment (F.visits folder.old) (W.state writer.old) (E.state errors.old))
         (moment (F.visits folder.new) (W.state writer.new) (E.state errors.new)) []) }
     ensures same { F.holds folder.new ≡ F.holds folder.old }
+    ensures one { OneAtATime (F.open_files folder.old) (F.open_files folder.new) }
 {
     let reply = check_file(alloc, name, folder)?;
     let verdict = Verdict::of(&reply);
@@ -138,18 +143,20 @@ fn check_file<F: Folder>(
     ensures said { IfOk result (IsSaid LIMIT (F.holds folder.old name.now)) }
     ensures visited { IfOk result (λ reply. Adds (F.visits folder.old) (F.visits folder.new)
         (visit_of name.now reply)) }
-    ensures asked { OnErr result ((is_read : Bool)
-        × Adds (F.visits folder.old) (F.visits folder.new) (visit name.now is_read)) }
+    ensures asked { OnErr result ((next : List AVisit) × IsNext (name.now ∷ []) next
+        × AddsAll (F.visits folder.old) (F.visits folder.new) next) }
+    ensures one { OneAtATime (F.open_files folder.old) (F.open_files folder.new) }
     ensures failed { IfErr result (λ failure. failure ≡ Failure.Memory) }
     ensures same { F.holds folder.new ≡ F.holds folder.old }
 {
+    let text = Text::from_str(alloc, name)?;
     let mut reader = match folder.open(name) {
         Ok(reader) => reader,
         Err(ErrorKind::OutOfMemory) => return Err(Failure::Memory),
         Err(_) => return Ok(None),
     };
     let checked = check(alloc, &mut reader);
-    folder.close(name, reader);
+    folder.close(text, reader);
     match checked {
         Ok(reply) => Ok(Some(reply)),
         Err(Failure::Memory) => Err(Failure::Memory),

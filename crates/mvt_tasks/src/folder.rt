@@ -1,7 +1,8 @@
 //! Files by their names.
-ghost use Rattle.std.specs.Prelude.{◌≡◌, ◌==◌, ℕ, List, false, Option, Some, IfOk, IfErr, IfSome, OnOk, OnErr};
+ghost use Rattle.std.specs.Prelude.{◌≡◌, ◌<◌, ◌==◌, ℕ, List, Option, Some, IfOk, IfErr, IfSome, OnOk, OnErr};
+ghost use Rattle.mvt_tasks.specs.declared.folder.OpenFiles.{OpenFiles as AnOpenFiles};
 ghost use Rattle.mvt_tasks.specs.declared.folder.Visit.{Visit as AVisit};
-ghost use Rattle.mvt_tasks.specs.Visits.{Adds, visit};
+ghost use Rattle.mvt_tasks.specs.Visits.{Adds, IsUnopened, one_less, one_more, visit};
 
 use mvt_base::Text;
 use mvt_io::{Host, Source};
@@ -16,6 +17,35 @@ pub struct Visit {
     pub is_read: bool,
 }
 
+/// How many files are open, and the most that were at a time.
+#[derive(Clone, Copy, Debug)]
+pub struct OpenFiles {
+    pub now: u64,
+    pub most: u64,
+}
+
+impl OpenFiles {
+    /// None so far.
+    pub fn none() -> Self
+        ensures { result ≡ record { now = 0; most = 0 } }
+    {
+        OpenFiles { now: 0, most: 0 }
+    }
+
+    pub(crate) fn add(&mut self)
+        ensures { self.new ≡ one_more self.old }
+    {
+        self.now = self.now.saturating_add(1);
+        self.most = self.most.max(self.now);
+    }
+
+    pub(crate) fn take(&mut self)
+        ensures { self.new ≡ one_less self.old }
+    {
+        self.now = self.now.saturating_sub(1);
+    }
+}
+
 /// Readers of files, by the files' names.
 pub trait Folder {
     type Reader: Source;
@@ -26,21 +56,27 @@ pub trait Folder {
     // The files that were asked for so far, where they are known.
     ghost visits: { Self → Option (List AVisit) };
 
-    /// Opens a file. A file that can't be opened has been visited; another one is when it is
-    /// closed.
+    ghost open_files: { Self → AnOpenFiles };
+
+    /// Opens a file. A file that can't be opened has been visited, unless memory was wanting;
+    /// another one is when it is closed.
     fn open(&mut self, name: &str) -> Result<Self::Reader, ErrorKind>
         ensures bytes { IfOk result (λ reader. IfSome (holds self.old name.now)
             (λ bytes. (Self.Reader.state reader).left ≡ Some bytes)) }
         ensures fresh { IfOk result (λ reader. (Self.Reader.state reader).faults.count ≡ 0) }
-        ensures opened { OnOk result (visits self.new ≡ visits self.old) }
-        ensures unopened { OnErr result
-            (Adds (visits self.old) (visits self.new) (visit name.now false)) }
+        ensures opened { OnOk result ((visits self.new ≡ visits self.old)
+            × (open_files self.new ≡ one_more (open_files self.old))) }
+        ensures unopened { IfErr result (λ kind. IsUnopened kind name.now (visits self.old)
+            (visits self.new)) }
+        ensures unchanged { OnErr result (open_files self.new ≡ open_files self.old) }
         ensures same { holds self.new ≡ holds self.old };
 
     /// Closes a file of this name. It was read if none of its reads failed.
-    fn close(&mut self, name: &str, reader: Self::Reader)
-        ensures closed { Adds (visits self.old) (visits self.new)
-            (visit name.now ((Self.Reader.state reader).faults.count == 0)) }
+    fn close(&mut self, name: Text, reader: Self::Reader)
+        requires { 0 < (open_files self.old).now }
+        ensures visited { Adds (visits self.old) (visits self.new)
+            (visit name ((Self.Reader.state reader).faults.count == 0)) }
+        ensures closed { open_files self.new ≡ one_less (open_files self.old) }
         ensures same { holds self.new ≡ holds self.old };
 }
 
@@ -48,12 +84,16 @@ pub trait Folder {
 #[derive(Drop)]
 pub struct Disk<'a, R: Files> {
     files: &'a R,
+    open: OpenFiles,
 }
 
 impl<'a, R: Files> Disk<'a, R> {
     /// The files that the system shows the program.
     pub fn new(files: &'a R) -> Self {
-        Disk { files }
+        Disk {
+            files,
+            open: OpenFiles::none(),
+        }
     }
 }
 
@@ -66,14 +106,20 @@ impl<R: Files> Folder for Disk<'_, R> {
 
     ghost visits = { λ _. None };
 
+    ghost open_files = { λ disk. disk.open };
+
     fn open(&mut self, name: &str) -> Result<Self::Reader, ErrorKind> {
         match fs::open(self.files, name) {
-            Ok(file) => Ok(Host::new(file)),
+            Ok(file) => {
+                self.open.add();
+                Ok(Host::new(file))
+            }
             Err(error) => Err(error.kind()),
         }
     }
 
-    fn close(&mut self, _name: &str, reader: Self::Reader) {
+    fn close(&mut self, _name: Text, reader: Self::Reader) {
         drop(reader);
+        self.open.take();
     }
 }

@@ -26,7 +26,7 @@ pub use checking::check;
 pub use extraction::extract_layers;
 pub use failure::Failure;
 pub use files::check_files;
-pub use folder::{Disk, Folder, Visit};
+pub use folder::{Disk, Folder, OpenFiles, Visit};
 pub use listing::list_fields;
 pub use memory::{MemoryFile, MemoryFolder};
 pub use names::Names;

@@ -1,9 +1,9 @@
 //! Files in memory, for tests.
-ghost use Rattle.std.specs.Prelude.{◌≡◌, ◌++◌, ◌∷◌, ◌==◌, [], false, None, Some, IfOk, IfSome, IfErr, OnOk, OnErr};
+ghost use Rattle.std.specs.Prelude.{◌≡◌, ◌≢◌, ◌++◌, ◌∷◌, ◌==◌, [], false, None, Some, IfOk, IfSome, IfErr, OnOk, OnErr};
 ghost use Rattle.mvt_tasks.specs.Folders.{bytes_of, held_in};
-ghost use Rattle.mvt_tasks.specs.Visits.{Adds, visit};
+ghost use Rattle.mvt_tasks.specs.Visits.{Adds, IsUnopened, one_less, one_more, visit};
 
-use crate::folder::{Folder, Visit};
+use crate::folder::{Folder, OpenFiles, Visit};
 use mvt_base::Text;
 use mvt_io::MemorySource;
 use std::alloc::{AllocError, Global};
@@ -19,69 +19,70 @@ pub struct MemoryFile {
     pub fails_from: u64,
 }
 
-/// Files by their names, and what they were asked for.
+/// Files by their names, and what they were asked for. There is room for the visits of the files
+/// that are open.
 #[derive(Drop)]
 pub struct MemoryFolder {
     alloc: Global,
     files: Vec<MemoryFile>,
-    visits: Option<Vec<Visit>>,
-    open: u64,
+    visits: Vec<Visit>,
+    open: OpenFiles,
 }
 
 impl Model for MemoryFolder {
-    ghost use Rattle.std.specs.Option.{option_map};
+    ghost use Rattle.std.specs.Prelude.{◌+◌, ◌≤◌, vec_len, vec_capacity};
     ghost use Rattle.mvt_tasks.specs.Folders.{FolderState};
 
     ghost Value = { FolderState };
 
-    ghost view = { λ f. record { files = f.files.items; visits = option_map (λ v. v.items) f.visits } };
+    ghost view = { λ f. record {
+      files = f.files.items;
+      visits = f.visits.items;
+      open_files = f.open;
+    } };
+
+    ghost invariant = { λ f. vec_len f.visits + f.open.now ≤ vec_capacity f.visits };
 }
 
 impl MemoryFolder {
     /// These files, none of which was asked for yet.
     pub fn new(alloc: Global, files: Vec<MemoryFile>) -> Self
-        ensures { result ≡ record { files = files.items; visits = Some [] } }
+        ensures { result ≡ record {
+          files = files.items;
+          visits = [];
+          open_files = record { now = 0; most = 0 };
+        } }
     {
         MemoryFolder {
             alloc,
             files,
-            visits: Some(Vec::new(alloc)),
-            open: 0,
+            visits: Vec::new(alloc),
+            open: OpenFiles::none(),
         }
     }
 
-    /// How many files are open.
-    pub fn open_files(&self) -> u64 {
-        self.open
-    }
-
-    /// Keeps a visit; without memory no visits are known any more.
-    fn keep(&mut self, name: &str, is_read: bool)
-        ensures visits { Adds self.old.visits self.new.visits (visit name.now is_read) }
-        ensures files { self.new.files ≡ self.old.files }
+    /// How many files are open, and the most that were at a time.
+    pub fn open_files(&self) -> OpenFiles
+        ensures { result ≡ self.now.open_files }
     {
-        let Some(mut visits) = self.visits.take() else {
-            return;
-        };
-        let Ok(name) = Text::from_str(self.alloc, name) else {
-            return;
-        };
-        if visits.push(Visit { name, is_read }).is_ok() {
-            self.visits = Some(visits);
-        }
+        self.open
     }
 }
 
 // The bytes that a read gives at most.
 const STEP: usize = 3;
 
-fn no_memory(_: AllocError) -> ErrorKind {
+fn no_memory(_: AllocError) -> ErrorKind
+    ensures { result ≡ ErrorKind.OutOfMemory }
+{
     ErrorKind::OutOfMemory
 }
 
 /// A reader of the first file of a name.
 fn opened(alloc: Global, files: &[MemoryFile], name: &str) -> Result<MemorySource, ErrorKind>
-    ensures bytes { IfOk result (λ reader. held_in files.now name.now ≡ Some reader.left) }
+    ensures held { IfOk result (λ reader. held_in files.now name.now ≡ Some reader.left) }
+    ensures missing { IfErr result (λ kind. kind ≢ ErrorKind.OutOfMemory
+        → held_in files.now name.now ≡ None) }
     ensures fresh { IfOk result (λ reader. reader.faults.count ≡ 0) }
 {
     for file in files {
@@ -93,7 +94,9 @@ fn opened(alloc: Global, files: &[MemoryFile], name: &str) -> Result<MemorySourc
 }
 
 fn reader_of(alloc: Global, file: &MemoryFile) -> Result<MemorySource, ErrorKind>
-    ensures bytes { IfOk result (λ reader. bytes_of (Some file.now) ≡ Some reader.left) }
+    ensures held { IfOk result (λ reader. bytes_of (Some file.now) ≡ Some reader.left) }
+    ensures missing { IfErr result (λ kind. kind ≢ ErrorKind.OutOfMemory
+        → bytes_of (Some file.now) ≡ None) }
     ensures fresh { IfOk result (λ reader. reader.faults.count ≡ 0) }
 {
     let Some(bytes) = &file.bytes else {
@@ -108,23 +111,51 @@ impl Folder for MemoryFolder {
 
     ghost holds = { λ f name. held_in f.files name };
 
-    ghost visits = { λ f. f.visits };
+    ghost visits = { λ f. Some f.visits };
 
-    fn open(&mut self, name: &str) -> Result<Self::Reader, ErrorKind> {
-        match opened(self.alloc, self.files.as_slice(), name) {
+    ghost open_files = { λ f. f.open_files };
+
+    /// Makes room for the visit before anything else.
+    fn open(&mut self, name: &str) -> Result<Self::Reader, ErrorKind>
+        ensures held { IfOk result (λ reader. held_in self.old.files name.now ≡ Some reader.left) }
+        ensures missing { IfErr result (λ kind. kind ≢ ErrorKind.OutOfMemory
+            → held_in self.old.files name.now ≡ None) }
+
+        // What every folder promises.
+        ensures bytes { IfOk result (λ reader. IfSome (held_in self.old.files name.now)
+            (λ bytes. Some reader.left ≡ Some bytes)) }
+        ensures fresh { IfOk result (λ reader. reader.faults.count ≡ 0) }
+        ensures opened { OnOk result ((Some self.new.visits ≡ Some self.old.visits)
+            × (self.new.open_files ≡ one_more self.old.open_files)) }
+        ensures unopened { IfErr result (λ kind. IsUnopened kind name.now (Some self.old.visits)
+            (Some self.new.visits)) }
+        ensures unchanged { OnErr result (self.new.open_files ≡ self.old.open_files) }
+        ensures same { held_in self.new.files ≡ held_in self.old.files }
+    {
+        let name = Text::from_str(self.alloc, name).map_err(no_memory)?;
+        let open = self.open.now.checked_add(1).ok_or(ErrorKind::OutOfMemory)?;
+        self.visits.reserve(open as usize).map_err(no_memory)?;
+        match opened(self.alloc, self.files.as_slice(), name.as_str()) {
             Ok(reader) => {
-                self.open = self.open.saturating_add(1);
+                self.open.add();
                 Ok(reader)
             }
+            Err(ErrorKind::OutOfMemory) => Err(ErrorKind::OutOfMemory),
             Err(kind) => {
-                self.keep(name, false);
+                self.visits.push_reserved(Visit {
+                    name,
+                    is_read: false,
+                });
                 Err(kind)
             }
         }
     }
 
-    fn close(&mut self, name: &str, reader: Self::Reader) {
-        self.open = self.open.saturating_sub(1);
-        self.keep(name, reader.failed() == 0);
+    fn close(&mut self, name: Text, reader: Self::Reader) {
+        self.open.take();
+        self.visits.push_reserved(Visit {
+            name,
+            is_read: reader.failed() == 0,
+        });
     }
 }

@@ -1,4 +1,5 @@
 use Rattle.std.proofs.Common.{◌<◌, inl, inr, refl, arith}
+use Rattle.std.proofs.lemmas.Grind.{common_steps}
 use Rattle.mvt_tasks.specs.declared.failure.Failure.TheVariants.{Memory}
 use Rattle.mvt_tasks.proofs.TasksLaws.{cut_at_first}
 use Rattle.mvt_cli.proofs.run.run.Goals as goal
@@ -9,7 +10,7 @@ returns-in-Err-clause-files g c = λ some accepted.
       | inl two ↦ absurd (c.in-Err.ensures.usage (c.refuse.ensures.usage.0 two) accepted)
       | inr four ↦
           let above : 2 < c.refuse.result = omega arith in
-          inr (Memory, refl, four, cut_at_first _ _ _ _ _ _ (c.refuse.ensures.line above), inl refl)
+          (inr (Memory, refl, four, cut_at_first _ _ _ _ _ _ (c.refuse.ensures.line above), inl refl), (omega arith, grind (arith, common_steps)))
     ]
 
 pub returns-in-Err-clause-failed : goal.returns-in-Err-clause-failed

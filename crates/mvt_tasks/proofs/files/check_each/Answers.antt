@@ -1,8 +1,9 @@
 use Rattle.std.proofs.Common.{rules, ◌≡◌, ◌++◌, ◌∷◌, [], length, map, take, drop, suc, string_bytes, refl, sym, ap, ◌∙◌, arith}
 use Rattle.std.proofs.lemmas.List.{map-append, length-map, length-take}
+use Rattle.std.proofs.lemmas.Grind.{common_steps}
 use Rattle.std.proofs.Math.Seq.{split_at}
 use Rattle.mvt_base.proofs.ListLemmas.{front_more}
-use Rattle.mvt_tasks.proofs.CheckLemmas.{cut_later_of, said_none, said_step, said_size}
+use Rattle.mvt_tasks.proofs.CheckLemmas.{cut_later_of, one_more_then, said_none, said_step, said_size}
 use Rattle.mvt_tasks.proofs.files.check_each.Goals as goal
 
 pub add-requires : goal.add-requires
@@ -14,7 +15,7 @@ add-requires g c =
     omega arith
 
 pub loop-name-init : goal.loop-name-init
-loop-name-init g c = record { said = said_none _ _ _ _ c.none-tally.ensures; unflushed = refl; sound = refl; same = refl }
+loop-name-init g c = record { said = said_none _ _ _ _ c.none-tally.ensures; unflushed = refl; sound = refl; one = grind (arith, common_steps); same = refl }
 
 pub loop-name-preserved : goal.loop-name-preserved
 loop-name-preserved g c = record {
@@ -26,6 +27,7 @@ loop-name-preserved g c = record {
       (record { accepted = c.add.ensures.accepted; refused = c.add.ensures.refused; unread = c.add.ensures.unread });
   unflushed = c.in_ok-verdict.ensures.unflushed ∙ c.loop-name.invariant.unflushed;
   sound = c.in_ok-verdict.ensures.sound ∙ c.loop-name.invariant.sound;
+  one = one_more_then _ _ _ c.loop-name.invariant.one c.in_ok-verdict.ensures.one;
   same = c.in_ok-verdict.ensures.same ∙ c.loop-name.invariant.same;
 }
 
@@ -39,3 +41,6 @@ returns-in_err-verdict-clause-cut g c =
     c.args.names.now) (sym c.name-item.is))
     ∙ map-append string_bytes (take c.loop-name.name-index c.args.names.now)
     (c.name-item.result ∷ drop (suc c.loop-name.name-index) c.args.names.now))
+
+pub returns-in_err-verdict-clause-one : goal.returns-in_err-verdict-clause-one
+returns-in_err-verdict-clause-one g c = one_more_then _ _ _ c.loop-name.invariant.one c.in_err-verdict.ensures.one

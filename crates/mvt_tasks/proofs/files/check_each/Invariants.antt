@@ -2,6 +2,7 @@ use Rattle.std.proofs.Common.{◌≡◌, [], map, take, string_bytes}
 use Rattle.mvt_base.specs.declared.TheConstants.{LIMIT}
 use Rattle.mvt_io.specs.States.{NoneFailed}
 use Rattle.mvt_tasks.specs.Checks.{IsSaidOf, moment}
+use Rattle.mvt_tasks.specs.Visits.{OneAtATime}
 use Rattle.mvt_tasks.proofs.files.check_each.Given as goal
 
 abbrev pub invariant-loop-name : goal.invariant-loop-name
@@ -11,5 +12,6 @@ invariant-loop-name g l = record {
       (moment (g.F.Folder.visits l.folder) (g.W.Sink.state l.writer) (g.E.Sink.state l.errors)) [] l.tally;
   unflushed : (g.W.Sink.state l.writer).flushes ≡ (g.W.Sink.state l.initial.writer).flushes;
   sound : NoneFailed (g.W.Sink.state l.initial.writer).faults (g.W.Sink.state l.writer).faults;
+  one : OneAtATime (g.F.Folder.open_files l.initial.folder) (g.F.Folder.open_files l.folder);
   same : g.F.Folder.holds l.folder ≡ g.F.Folder.holds l.initial.folder;
 }

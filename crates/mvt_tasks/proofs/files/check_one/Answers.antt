@@ -1,8 +1,7 @@
-use Rattle.std.proofs.Common.{rules, ◌≡◌, IfErr, refl, subst, ◌∙◌}
+use Rattle.std.proofs.Common.{rules, ◌≡◌, ◌∷◌, [], IfErr, refl, subst, ◌∙◌}
 use Rattle.std.specs.Io.KnownBytes.{Appends}
 use Rattle.mvt_tasks.specs.declared.failure.Failure.TheVariants.{Memory}
 use Rattle.mvt_tasks.specs.Checks.{TakesUntil, Tells, visit_of, written_of, told_of}
-use Rattle.mvt_tasks.specs.Visits.{visit}
 use Rattle.mvt_tasks.proofs.CheckLemmas.{cut_first_of, cut_within_of}
 use Rattle.mvt_tasks.proofs.files.check_one.Goals as goal
 
@@ -22,17 +21,17 @@ returns-clause-said g c = record {
 pub returns-in_err-reply-clause-cut : goal.returns-in_err-reply-clause-cut
 returns-in_err-reply-clause-cut g c =
     let asked = c.in_err-reply.ensures.asked in
-    cut_first_of c.from_residual.result _ _ _ _ _ (visit c.args.name.now asked.0) refl asked.1
+    cut_first_of c.from_residual.result _ _ _ _ _ asked.0 asked.1 asked.2
     (let h : IfErr c.from_residual.result (λ failure. failure ≡ Memory) = search rules in h)
 
 pub returns-in_err-written-clause-cut : goal.returns-in_err-written-clause-cut
 returns-in_err-written-clause-cut g c =
-    cut_first_of c.from_residual-in_err-written.result _ _ _ _ _ (visit_of c.args.name.now c.in_ok-reply.reply) refl c.in_ok-reply.ensures.visited
+    cut_first_of c.from_residual-in_err-written.result _ _ _ _ _ (visit_of c.args.name.now c.in_ok-reply.reply ∷ []) refl c.in_ok-reply.ensures.visited
     (let h : IfErr c.from_residual-in_err-written.result (λ failure. failure ≡ Memory) = search rules in h)
 
 pub returns-in_err-told-clause-cut : goal.returns-in_err-told-clause-cut
 returns-in_err-told-clause-cut g c =
-    cut_first_of c.from_residual-in_err-told.result _ _ _ _ _ (visit_of c.args.name.now c.in_ok-reply.reply) refl c.in_ok-reply.ensures.visited
+    cut_first_of c.from_residual-in_err-told.result _ _ _ _ _ (visit_of c.args.name.now c.in_ok-reply.reply ∷ []) refl c.in_ok-reply.ensures.visited
     (let h : IfErr c.from_residual-in_err-told.result (λ failure. failure ≡ Memory) = search rules in h)
 
 pub returns-in_err-put-clause-cut : goal.returns-in_err-put-clause-cut

@@ -1,12 +1,13 @@
-use Rattle.std.proofs.Common.{rules, ◌≡◌, ◌++◌, ◌∷◌, None, true, false, bytes_eq, take, drop, suc, sym, ap, subst, ◌∙◌}
+use Rattle.std.proofs.Common.{rules, arith, ◌≡◌, ◌++◌, ◌∷◌, None, true, false, bytes_eq, take, drop, suc, sym, ap, subst, ◌∙◌}
+use Rattle.std.proofs.lemmas.List.{take_all}
 use Rattle.std.proofs.Math.Seq.{split_at}
 use Rattle.mvt_base.proofs.ListLemmas.{front_more}
-use Rattle.mvt_tasks.specs.Folders.{file_named}
-use Rattle.mvt_tasks.proofs.FolderLemmas.{held_here, held_read, unnamed_next}
+use Rattle.mvt_tasks.specs.Folders.{bytes_of, file_named}
+use Rattle.mvt_tasks.proofs.FolderLemmas.{held_here, held_read, missing_read, unnamed_next}
 use Rattle.mvt_tasks.proofs.memory.opened.Goals as goal
 
-pub returns-then-eq-clause-bytes : goal.returns-then-eq-clause-bytes
-returns-then-eq-clause-bytes c =
+pub returns-then-eq-clause-held : goal.returns-then-eq-clause-held
+returns-then-eq-clause-held c =
     held_read c.reader_of.result _ _
     (held_here c.args.files.now (take c.loop-file.file-index c.args.files.now) c.file-item.result
     (drop (suc c.loop-file.file-index) c.args.files.now) c.args.name.now
@@ -14,7 +15,21 @@ returns-then-eq-clause-bytes c =
     ∙ ap (λ y. take c.loop-file.file-index c.args.files.now ++ y ∷ drop (suc c.loop-file.file-index) c.args.files.now) (sym c.file-item.is))
     c.loop-file.invariant
     (let e : bytes_eq c.file-item.result.name c.args.name.now ≡ true = search rules in e))
-    c.reader_of.ensures.bytes
+    c.reader_of.ensures.held
+
+pub returns-then-eq-clause-missing : goal.returns-then-eq-clause-missing
+returns-then-eq-clause-missing c =
+    missing_read c.reader_of.result _ _
+    (held_here c.args.files.now (take c.loop-file.file-index c.args.files.now) c.file-item.result
+    (drop (suc c.loop-file.file-index) c.args.files.now) c.args.name.now
+    (split_at c.args.files.now c.loop-file.file-index c.file-item.result c.loop-file-test.true
+    ∙ ap (λ y. take c.loop-file.file-index c.args.files.now ++ y ∷ drop (suc c.loop-file.file-index) c.args.files.now) (sym c.file-item.is))
+    c.loop-file.invariant
+    (let e : bytes_eq c.file-item.result.name c.args.name.now ≡ true = search rules in e))
+    c.reader_of.ensures.missing
+
+pub returns-clause-missing : goal.returns-clause-missing
+returns-clause-missing c = λ other. ap bytes_of (subst (λ files. file_named files c.args.name.now ≡ None) (take_all _ c.args.files.now (omega arith)) c.loop-file.invariant)
 
 pub loop-file-preserved : goal.loop-file-preserved
 loop-file-preserved c =
