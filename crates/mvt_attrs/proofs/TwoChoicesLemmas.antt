@@ -19,13 +19,13 @@ at_index (w ∷ xs) y (suc i) x e =
     ]
 
 -- what holds of each entry and of the new one at its place
-known_more : {A : Type 0} → (entries : List A) (new : A) (FeatureFields : ℕ → A → Type 0)
-    → ((i : ℕ) (x : A) → slice_get entries i ≡ Some x → FeatureFields i x) → FeatureFields (length entries) new
-    → (i : ℕ) (x : A) → slice_get (entries ++ new ∷ []) i ≡ Some x → FeatureFields i x
-known_more entries new FeatureFields before now i x at =
+known_more : {A : Type 0} → (entries : List A) (new : A) (Known : ℕ → A → Type 0)
+    → ((i : ℕ) (x : A) → slice_get entries i ≡ Some x → Known i x) → Known (length entries) new
+    → (i : ℕ) (x : A) → slice_get (entries ++ new ∷ []) i ≡ Some x → Known i x
+known_more entries new Known before now i x at =
     elim (at_index entries new i x at) [
       | inl there ↦ before i x there
-      | inr last ↦ subst (λ n. FeatureFields n x) last.0 (subst (FeatureFields (length entries)) last.1 now)
+      | inr last ↦ subst (λ n. Known n x) last.0 (subst (Known (length entries)) last.1 now)
     ]
 
 -- a slot that is taken stays so

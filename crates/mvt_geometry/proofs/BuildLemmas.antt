@@ -12,7 +12,7 @@ use Rattle.mvt_geometry.specs.Shape.{IsPlace, origin, rings_of, last_of}
 use Rattle.mvt_geometry.specs.Valid.{IsStroke, Grouped}
 use Rattle.mvt_geometry.specs.Drawing.{path_from, Draws, strokes}
 use Rattle.mvt_geometry.specs.Commands.{pairs_of, stepped, moved, positions}
-use Rattle.mvt_geometry.specs.Inner.Building.{ArePlaces, IsLayerFields, SpellLines, SpellRings}
+use Rattle.mvt_geometry.specs.Inner.Building.{ArePlaces, IsFront, SpellLines, SpellRings}
 use Rattle.mvt_geometry.proofs.PathLemmas.{pairs-path, positions-between, moved-between, length-path}
 use Rattle.mvt_geometry.proofs.StrokeLemmas.{stroke-more}
 use Rattle.mvt_geometry.proofs.GroupLemmas.{one_grouping}
@@ -53,7 +53,7 @@ pushes {before} {from} {parameters} {points} {c} {rest} p two to is =
     rw (take_rest rest 2, is) here
 
 -- a line in front of the integers
-pub record LayerFields (from : Point) (ints : List ℕ) (line : List Point) (more : List ℕ) : Type 0 where
+pub record Front (from : Point) (ints : List ℕ) (line : List Point) (more : List ℕ) : Type 0 where
   pub head : Point
   pub tail : List Point
   pub line_is : line ≡ head ∷ tail
@@ -61,7 +61,7 @@ pub record LayerFields (from : Point) (ints : List ℕ) (line : List Point) (mor
   pub few : length tail < 2 ^ 29
   pub places : ArePlaces (head ∷ tail)
 
-pub front_is : (from : Point) (ints : List ℕ) (line : List Point) (more : List ℕ) → IsLayerFields from ints line more → LayerFields from ints line more
+pub front_is : (from : Point) (ints : List ℕ) (line : List Point) (more : List ℕ) → IsFront from ints line more → Front from ints line more
 front_is from ints [] more f = absurd (omega (arith, f.is.enough))
 front_is from ints (p ∷ ps) more f = record {
   head = p;
@@ -74,7 +74,7 @@ front_is from ints (p ∷ ps) more f = record {
 
 -- the first of some lines
 pub lines_front : (end : List ℕ) (c : Point) (ints : List ℕ) (l : List Point) (ls : List (List Point))
-    → SpellLines end c ints (l ∷ ls) → IsLayerFields c ints l (end ++ strokes end (last_of c l) ls)
+    → SpellLines end c ints (l ∷ ls) → IsFront c ints l (end ++ strokes end (last_of c l) ls)
 lines_front end c ints [] ls a = absurd (omega (arith, a.are.0.enough))
 lines_front end c ints (p ∷ ps) ls a = record {
   is = a.are.0;
@@ -84,7 +84,7 @@ lines_front end c ints (p ∷ ps) ls a = record {
 }
 
 -- the parts of a line in front
-module _ {from : Point} {ints : List ℕ} {line : List Point} {more : List ℕ} (f : LayerFields from ints line more)
+module _ {from : Point} {ints : List ℕ} {line : List Point} {more : List ℕ} (f : Front from ints line more)
     (front back : List ℕ) (front_part : front ≡ take 4 ints) (back_part : back ≡ drop 4 ints) where
   pub front_are : front ≡ 9 ∷ (path_from from (f.head ∷ []) ++ ((2 + 8 * length f.tail) ∷ []))
   front_are = front_part ∙ ap (take 4) f.ints_are
@@ -131,7 +131,7 @@ pub record FirstLine (end : List ℕ) (c : Point) (ints : List ℕ) (lines : Lis
   pub line : List Point
   pub others : List (List Point)
   pub lines_are : lines ≡ line ∷ others
-  pub front : IsLayerFields c ints line (end ++ strokes end (last_of c line) others)
+  pub front : IsFront c ints line (end ++ strokes end (last_of c line) others)
   pub others_are : (d : Point) (rest : List ℕ) → d ≡ last_of c line → rest ≡ strokes end (last_of c line) others
       → SpellLines end d rest others
 

@@ -6,7 +6,7 @@ ghost use Rattle.mvt_geometry.specs.Commands.{pairs_of, moved, positions};
 ghost use Rattle.mvt_geometry.specs.Table.{geometry_fault};
 ghost use Rattle.mvt_geometry.specs.Reports.{Reports};
 ghost use Rattle.mvt_geometry.specs.Inner.Judging.{part_count};
-ghost use Rattle.mvt_geometry.specs.Inner.Building.{ArePlaces, IsLayerFields, SpellLines, SpellRings};
+ghost use Rattle.mvt_geometry.specs.Inner.Building.{ArePlaces, IsFront, SpellLines, SpellRings};
 ghost use Rattle.mvt_geometry.specs.Inner.Grouping.{opened, polygons_of};
 
 use crate::area::twice_area;
@@ -164,9 +164,9 @@ struct Line<'a> {
 
 /// The line in front of the integers: one pair after a MoveTo, and those after a LineTo.
 fn build_line<'a>(alloc: Global, from: Point, integers: &'a [u32]) -> Result<Line<'a>, AllocError>
-    requires { (l : List Point) × (more : List ℕ) × IsLayerFields from integers.now l more }
+    requires { (l : List Point) × (more : List ℕ) × IsFront from integers.now l more }
     ensures further { IfOk result (λ r. length r.behind.now < length integers.now) }
-    ensures line { (l : List Point) → (more : List ℕ) → IsLayerFields from integers.now l more
+    ensures line { (l : List Point) → (more : List ℕ) → IsFront from integers.now l more
         → IfOk result (λ r. (r.points ≡ l) × (r.end ≡ last_of from l) × (r.behind.now ≡ more)) }
 {
     let (head, tail) = integers.split_at(4);
@@ -185,9 +185,9 @@ fn build_line<'a>(alloc: Global, from: Point, integers: &'a [u32]) -> Result<Lin
 
 /// The ring in front of the integers: a line, and its ClosePath.
 fn build_ring<'a>(alloc: Global, from: Point, integers: &'a [u32]) -> Result<Line<'a>, AllocError>
-    requires { (l : List Point) × (more : List ℕ) × IsLayerFields from integers.now l (15 ∷ more) }
+    requires { (l : List Point) × (more : List ℕ) × IsFront from integers.now l (15 ∷ more) }
     ensures further { IfOk result (λ r. length r.behind.now < length integers.now) }
-    ensures line { (l : List Point) → (more : List ℕ) → IsLayerFields from integers.now l (15 ∷ more)
+    ensures line { (l : List Point) → (more : List ℕ) → IsFront from integers.now l (15 ∷ more)
         → IfOk result (λ r. (r.points ≡ l) × (r.end ≡ last_of from l) × (r.behind.now ≡ more)) }
 {
     let line = build_line(alloc, from, integers)?;

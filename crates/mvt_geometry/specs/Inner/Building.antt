@@ -11,7 +11,7 @@ abbrev pub ArePlaces : List Point → Type 0
 ArePlaces points = AllByRecursion IsPlace points
 
 -- a line stands in front
-pub record IsLayerFields (from : Point) (ints : List ℕ) (line : List Point) (more : List ℕ) : Type 0 where
+pub record IsFront (from : Point) (ints : List ℕ) (line : List Point) (more : List ℕ) : Type 0 where
   pub is : IsStroke 2 line
   pub spelled : ints ≡ stroke [] from line ++ more
 
