@@ -43,11 +43,11 @@ pub extern "C" fn mvt_judge(alloc: Global, bytes: &[u8]) -> bool {
     judge(alloc, bytes).is_ok()
 }
 
-/// Surveys a tile, and counts its features and 1.
+/// Surveys a tile, and counts its layers and 1.
 #[unsafe(no_mangle)]
 pub extern "C" fn mvt_survey(alloc: Global, bytes: &[u8]) -> u64 {
     match survey_tile(alloc, bytes) {
-        Ok(survey) => 1 + survey.features as u64,
+        Ok(survey) => (survey.layers as u64).saturating_add(1),
         Err(_) => 0,
     }
 }

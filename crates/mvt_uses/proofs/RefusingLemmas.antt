@@ -1,7 +1,6 @@
 -- A tile has no fault.
 use Rattle.std.proofs.Common.{◌≡◌, ℕ, List, Option, Some, None, IfSome, sym}
 use Rattle.mvt_base.specs.declared.TheConstants.{LIMIT}
-use Rattle.mvt_tile.specs.declared.fault.Fault.{Fault as AFault}
 use Rattle.mvt_model.specs.declared.tile.Tile.{Tile}
 use Rattle.mvt_model.specs.Tiles.{IsTile}
 use Rattle.mvt_tile.specs.TileRules.{fault_within}
@@ -11,8 +10,3 @@ pub no_fault : (left : Option (List ℕ)) (tile : Tile) → IfSome left (λ inpu
     → IfSome left (λ input. None ≡ fault_within LIMIT input)
 no_fault None tile h = tt
 no_fault (Some input) tile h = sym (tile_or_fault_clean input tile h)
-
-pub this_fault : (left : Option (List ℕ)) (fault : AFault) → IfSome left (λ input. fault_within LIMIT input ≡ Some fault)
-    → IfSome left (λ input. Some fault ≡ fault_within LIMIT input)
-this_fault None fault h = tt
-this_fault (Some input) fault h = sym h

@@ -1,5 +1,5 @@
 //! Read a tile from a stream, and say where it breaks a rule.
-ghost use Rattle.std.specs.Prelude.{◌≡◌, None, IfOk, IfErr, IfSome};
+ghost use Rattle.std.specs.Prelude.{◌≡◌, None, IfOk, IfErr, IfSome, IsSome};
 ghost use Rattle.mvt_tile.specs.Reading.{fault_of};
 ghost use Rattle.mvt_tile.specs.TileRules.{fault_within};
 
@@ -18,8 +18,21 @@ pub fn first_fault<R: Source>(alloc: Global, reader: &mut R) -> Result<Option<Fa
     ensures error { IfErr result (λ error. fault_of error ≡ None) }
 {
     match read_tile(alloc, reader) {
-        Ok(_) => Ok(None),
-        Err(DecodeError::Fault(fault)) => Ok(Some(fault)),
-        Err(error) => Err(error),
+        Ok(tile) => {
+            drop(tile);
+            Ok(None)
+        }
+        Err(error) => reported(error),
+    }
+}
+
+/// The fault that an error reports, or the error where it reports none.
+fn reported(error: DecodeError) -> Result<Option<Fault>, DecodeError>
+    ensures fault { IfOk result (λ found. (found ≡ fault_of error) × IsSome found) }
+    ensures error { IfErr result (λ error. fault_of error ≡ None) }
+{
+    match error {
+        DecodeError::Fault(fault) => Ok(Some(fault)),
+        error => Err(error),
     }
 }

@@ -33,7 +33,7 @@ use denote.Triple.Spec.{triple_of}
 use denote.Triple.Statement.{Triple, Contract}
 use denote.Triple.Table.{entered}
 use denote.Triple.Walked.{says, Stays, stay_dropped, walk_of, ends_at, walk_Meets}
-use Rattle.core.proofs.alloc.Calls.{token, handle_reports, Goes-blank}
+use Rattle.core.proofs.alloc.Calls.{token, handle_tells, Goes-blank}
 use Rattle.std_alloc.specs.Box.Ownership.{box_owns}
 use Rattle.std_alloc.proofs.BoxSteps.Form.{Bx, D, τ, R, P, B, word, box_typed}
 use Rattle.std_alloc.proofs.BoxSteps.Steps.{box_out, box_in}
@@ -100,7 +100,7 @@ module _ (E : Bx) (dx : Dict) where
         fpick ! (λ vss. fsplit ! $
         feq_l ! (λ eu. fsplit ! $
         feq_l ! (λ ep. fsplit ! $ rewrite ! 0 (λ (s : E.al.row.Denot). ‵ (E.al.row.own_val s vss.1.0)) ea refl $
-        handle_reports E.al ! a vss.1.0 (λ hw eh fw.
+        handle_tells E.al ! a vss.1.0 (λ hw eh fw.
         let d : D E = record { ptr = block_ptr b' o'; alloc = a; value = v.value } in
         let made : To.Denot = record { ptr = block_ptr b' o'; alloc = a; value = v.value } in
         lands_as ! (ap only
