@@ -48,7 +48,7 @@ fn a_piece_is_missing(rt: HostRuntime) {
 }
 
 #[test]
-fn a_stream_is_refused(rt: HostRuntime) {
+fn a_stream_is_a_tile(rt: HostRuntime) {
     let bytes = Vec::from_slice(rt.alloc(), ROME).expect(&rt, "bytes");
     let mut whole = MemorySource::new(bytes, 7, u64::MAX);
     expect_eq!(rt; first_fault(rt.alloc(), &mut whole), Ok(None));
