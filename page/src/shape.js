@@ -12,7 +12,7 @@ const ARROWS = 60;
 export function shapeOf(shape) {
   const { count, mark } = shape;
   const before = count === 0 ? 'It has no position before the fault.' : `The feature up to its fault: ${counted(count, 'position')}.`;
-  const told = mark === null ? `The feature, as far as it can be read: ${counted(count, 'position')}.` : `${before} The fault comes ${count === 0 ? 'at' : 'behind'} (${mark.map(signed).join(', ')}), where the circle is.`;
+  const told = mark === null ? `The feature, as far as it can be read: ${counted(count, 'position')}.` : `${before} The fault comes ${count === 0 ? 'at' : 'after'} (${mark.map(signed).join(', ')}), where the circle is.`;
   const canvas = element('canvas', { role: 'img', 'aria-label': told, width: SIDE * 2, height: SIDE * 2 });
   const draw = () => drawShape(canvas.getContext('2d'), shape);
   draw();

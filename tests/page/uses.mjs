@@ -115,7 +115,7 @@ await onPage('the faulty feature is drawn up to its fault', WIDE, async (page) =
     for (let at = 0; at < data.length; at += 4) count += data[at] > 150 && data[at + 1] < 60 && data[at + 2] < 60 ? 1 : 0;
     return count;
   })()`);
-  return (/up to its fault: \d+ position.*fault comes behind \(/.test(told) && red > 200) || `${told} ${red}`;
+  return (/up to its fault: \d+ position.*fault comes after \(/.test(told) && red > 200) || `${told} ${red}`;
 });
 
 // ---- what foreign texts may do
