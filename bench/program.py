@@ -1,14 +1,16 @@
 #!/usr/bin/env python3
-"""Measures `mvt check`, `show`, `rewrite` and `extract` on a tile of 500 kB and on one of 60 MiB, beside
-`protoc --decode` and GDAL's `ogrinfo` on the same tiles.
+"""Measures `mvt check`, `show`, `rewrite` and `extract` on a tile of 500 kB, on one that is a single layer of
+25 MB, and on one of 60 MiB, beside `protoc --decode` and GDAL's `ogrinfo` on the same tiles.
 
-    bench/program.py [crates/mvt_cli/out/mvt_cli]
+    bench/program.py [crates/mvt_cli/out/mvt_cli [library/out/libmvt.so.1]]
 
 Wants the program as `rt ci` or `rt run` leaves it, and Debian's protobuf-compiler and gdal-bin. Prints
 a table: the best wall time of the runs and the peak memory of that program alone (16 MB at least, which
-are this script's). Input comes from a file, output goes to /dev/null.
+are this script's). Input comes from a file, output goes to /dev/null. With the library, the time of its
+`mvt_judge` stands there too: of the call alone, without the reading of the file.
 """
 
+import ctypes
 import multiprocessing
 import os
 import random
@@ -107,6 +109,26 @@ def run(words, path):
     return seconds, usage.ru_maxrss * 1024 / 1e6, os.waitstatus_to_exitcode(status)
 
 
+def judged(library, path):
+    """The best time in seconds of the library's `mvt_judge`, and the status that it answers."""
+    judge = ctypes.CDLL(library).mvt_judge
+    with open(path, "rb") as file:
+        tile = file.read()
+    fault = ctypes.create_string_buffer(64)
+    best = float("inf")
+    for _ in range(ROUNDS):
+        started = time.perf_counter()
+        status = judge(tile, ctypes.c_size_t(len(tile)), fault)
+        best = min(best, time.perf_counter() - started)
+    return best, status
+
+
+def apart(function, *words):
+    """What a function answers in a process of its own, so that its memory isn't counted for the next program."""
+    with multiprocessing.Pool(1) as pool:
+        return pool.apply(function, words)
+
+
 def make(path, layers, size):
     """Writes a tile of so many layers of about so many bytes."""
     dice = random.Random(1)
@@ -117,14 +139,13 @@ def make(path, layers, size):
 
 def main():
     program = sys.argv[1] if len(sys.argv) > 1 else "crates/mvt_cli/out/mvt_cli"
+    library = sys.argv[2] if len(sys.argv) > 2 else None
     print("| Tile | Program | Seconds | Peak, MB |")
     print("|---|---|---|---|")
-    for label, layers, size in [("500 kB", 4, 93_000), ("60 MiB", 12, 5_100_000)]:
+    for label, layers, size in [("500 kB", 4, 93_000), ("one layer", 1, 22_500_000), ("60 MiB", 12, 5_100_000)]:
         with tempfile.NamedTemporaryFile(suffix=".mvt") as file:
-            # A process begins with the peak memory of the one that starts it, so another makes the tile.
-            maker = multiprocessing.Process(target=make, args=(file.name, layers, size))
-            maker.start()
-            maker.join()
+            # A process begins with the peak memory of the one that starts it.
+            apart(make, file.name, layers, size)
             runs = [("`mvt %s`" % word, [program, word]) for word in ("check", "show", "rewrite")]
             names = ["layer %d" % index for index in range(layers)]
             runs += [("`mvt extract` of all layers", [program, "extract"] + names),
@@ -132,11 +153,14 @@ def main():
             runs += [("`protoc --decode`", PROTO),
                      ("`ogrinfo -al -so`", ["ogrinfo", "-al", "-so", "MVT:" + file.name]),
                      ("`ogrinfo -al -q`", ["ogrinfo", "-al", "-q", "MVT:" + file.name])]
+            size = os.path.getsize(file.name)
             for name, words in runs:
                 seconds, peak, status = min(run(words, file.name) for _ in range(ROUNDS))
-                size = os.path.getsize(file.name)
                 said = "" if status == 0 else ", which refuses it with status %d" % status
                 print("| %s (%d bytes) | %s%s | %.3f | %.0f |" % (label, size, name, said, seconds, peak), flush=True)
+            if library:
+                seconds, status = apart(judged, library, file.name)
+                print("| %s (%d bytes) | `mvt_judge`%s | %.3f | |" % (label, size, "" if status == 0 else ", refused", seconds))
 
 
 main()
