@@ -1,5 +1,5 @@
 -- Values and features that are counted, and that a visitor has.
-use Rattle.std.proofs.Common.{◌≡◌, ◌≢◌, ℕ, ◌+◌, ◌^◌, ◌<◌, List, [], ◌∷◌, ◌++◌, length, Option, None, Result, Ok, Err, IfOk, IfErr, sym, ap, subst, ◌∙◌, arith}
+use Rattle.std.proofs.Common.{◌≡◌, ◌≢◌, ℕ, ◌+◌, ◌^◌, ◌<◌, List, [], ◌∷◌, ◌++◌, length, Option, None, sym, ap, subst, ◌∙◌, arith}
 use Rattle.std.specs.Option.{option_map}
 use Rattle.std.proofs.lemmas.List.{length_push}
 use Rattle.mvt_base.specs.Reports.{Reports}
@@ -18,7 +18,7 @@ use Rattle.mvt_feature.specs.Values.{IsValueOf}
 use Rattle.mvt_feature.specs.ValueRules.{value_fault}
 use Rattle.mvt_message.specs.declared.numbers.layer.TheConstants.{FEATURES, VALUES}
 use Rattle.mvt_message.specs.LayerFields.{bytes_of}
-use Rattle.mvt_message.specs.Inner.{values_fault, features_fault, AreValuesHeld, AreValuesSaid, AreFeaturesHeld}
+use Rattle.mvt_message.specs.Inner.{values_fault, features_fault, AreValuesHeld, AreFeaturesHeld}
 use Rattle.mvt_message.specs.Items.{HoldsValue, HoldsFeature}
 use Rattle.mvt_message.specs.ItemRules.{value_rules_of, feature_rules_of}
 use Rattle.mvt_message.proofs.OrFaultLemmas.{value_first}
@@ -56,21 +56,11 @@ module _ {Has : List Value → Type 0} {payload_at : ℕ} {done : List Entry} {c
         has = has;
       }
 
-pub values_few : (Has : List Value → Type 0) (payload_at : ℕ) (done : List Entry) (payload : List ℕ) (to_come : Parts)
-    (values : Result ℕ MessageError) → AreValuesSaid Has payload_at done values → Walk payload to_come done → length payload < 2 ^ 32
-    → IfOk values (λ count. count < 2 ^ 32)
-values_few Has payload_at done payload to_come (Ok count) said walk small =
+pub values_few : {Has : List Value → Type 0} {payload_at : ℕ} {done : List Entry} {count : ℕ} (payload : List ℕ) (to_come : Parts)
+    → AreValuesHeld Has payload_at done count → Walk payload to_come done → length payload < 2 ^ 32 → count < 2 ^ 32
+values_few {Has} {payload_at} {done} payload to_come so_far walk small =
     let few = selected_few payload to_come done VALUES walk small in
-    omega (arith, said.counted, length-related HoldsValue (only VALUES done) said.values said.so_far.1)
-values_few Has payload_at done payload to_come (Err e) said walk small = tt
-
--- one more field is a value, or has the first fault
-pub values_said_of : (Has : List Value → Type 0) (payload_at : ℕ) (done : List Entry) (values : Result ℕ MessageError)
-    → IfOk values (AreValuesHeld Has payload_at done)
-    → ((more : List Entry) → IfErr values (λ e. Reports (fault_of e) (values_fault payload_at (done ++ more))))
-    → AreValuesSaid Has payload_at done values
-values_said_of Has payload_at done (Ok count) held stops = held
-values_said_of Has payload_at done (Err e) held stops = stops
+    omega (arith, so_far.counted, length-related HoldsValue (only VALUES done) so_far.values so_far.so_far.1)
 
 module _ {Has : List Feature → Type 0} {payload_at : ℕ} {keys : List (List ℕ)} {values : List Value} {done : List Entry} {count : ℕ}
     (x : Entry) (so_far : AreFeaturesHeld Has payload_at keys values done count) where

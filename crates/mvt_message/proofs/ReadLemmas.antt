@@ -1,9 +1,9 @@
 -- The steps of the walks over a layer's fields.
 use Rattle.std.proofs.Common.{◌≡◌, ◌≢◌, ℕ, ◌+◌, ◌^◌, ◌<◌, ◌≤◌, ◌==◌, Bool, true, false, List, [], ◌∷◌, ◌++◌, length, map, Option, Some, None, Result, Ok, Err, refl, sym, ap, ap₂, ◌∙◌, subst, append_assoc, append-nil, arith, if◌then◌else◌, length-append}
 use Rattle.std.specs.Prelude.{is_none, unwrap_or}
-use Rattle.std.specs.Option.{option_map}
+use Rattle.std.specs.Option.{option_map, option_copied}
 use Rattle.std.specs.Result.{is_err}
-use Rattle.std.proofs.lemmas.Bool.{eq-eqb, ne_eqb}
+use Rattle.std.proofs.lemmas.Bool.{eq-eqb, eqb-true, ne_eqb}
 use Rattle.std.proofs.lemmas.List.{map-append}
 use Rattle.std.proofs.lemmas.List.Elements.{filter-append}
 use Rattle.mvt_base.specs.Reports.{Reports}
@@ -30,12 +30,13 @@ use Rattle.mvt_wire.proofs.WireLaws.{split_function_count}
 use Rattle.mvt_feature.proofs.FeatureLaws.{number_more, rests_none, rests_nothing, walks_end, walks_fault}
 use Rattle.mvt_feature.specs.Causes.{of_wire}
 use Rattle.mvt_message.specs.declared.numbers.layer.TheConstants.{NAME, FEATURES, KEYS, VALUES, EXTENT, VERSION}
+use Rattle.mvt_message.specs.declared.layer_header.LayerHeader.{LayerHeader}
 use Rattle.mvt_message.specs.declared.item.Layer.{Layer as ALayer}
 use Rattle.mvt_message.specs.declared.item.Item.TheVariants.{Layer, Foreign}
 use Rattle.mvt_message.specs.LayerFields.{version_forms, layer_forms, bytes_of, version_in, name_in, extent_in, keys_in, values_in}
 use Rattle.mvt_message.specs.ItemRules.{version_rules, layer_field_rules, feature_rules_of, item_fault}
 use Rattle.mvt_message.specs.Items.{HoldsValue, HoldsFeature, IsLayer, IsItem}
-use Rattle.mvt_message.specs.Inner.{rest_fault, versions_fault, forms_fault, no_name_fault, values_fault, features_fault, header_fault, layer_fault, IsVersionSoFar, IsLayerHeader, name_after, extent_after, keys_at, AreValuesSoFar}
+use Rattle.mvt_message.specs.Inner.{rest_fault, versions_fault, forms_fault, no_name_fault, values_fault, features_fault, header_fault, layer_fault, IsVersionSoFar, IsLayerHeader, header_forms, version_after, name_after, extent_after, keys_at, AreValuesSoFar}
 use Rattle.mvt_message.proofs.ChainLemmas.{item_chain, layer_chain}
 use Rattle.mvt_message.proofs.FormLemmas.{versions_form}
 use Rattle.mvt_message.proofs.SaidLemmas.{values_said}
@@ -93,6 +94,11 @@ unfolding version_rules
 version_first payload_at x b test =
     first-map_faults (fault_at (payload_at + x.at)) (number_rules version_forms x.number x.content)
     ∙ ap (λ (t : Bool). option_map (fault_at (payload_at + x.at)) (first (if t then form_rules uint32 x.content else []))) test
+
+version_of_forms : (payload_at : ℕ) (x : Entry)
+    → first (version_rules payload_at x) ≡ option_map (fault_at (payload_at + x.at)) (first (number_rules version_forms x.number x.content))
+unfolding version_rules
+version_of_forms payload_at x = first-map_faults (fault_at (payload_at + x.at)) (number_rules version_forms x.number x.content)
 
 version_more : (done : List Entry) (x : Entry) (b : Bool) → (x.number == VERSION) ≡ b
     → version_in (done ++ x ∷ []) ≡ (if b then number_of x.content else version_in done)
@@ -184,23 +190,73 @@ keys_more done x =
     by_test true = refl
     by_test false = refl
 
-pub head_step : (payload_at : ℕ) (done : List Entry) (x : Entry) (name new_name : Option (List ℕ)) (extent new_extent : ℕ)
-    (keys new_keys : List (List ℕ)) → IsLayerHeader payload_at name extent keys done → first (number_rules layer_forms x.number x.content) ≡ None
-    → new_name ≡ name_after name x.number x.content → new_extent ≡ extent_after extent x.number x.content
-    → new_keys ≡ keys ++ keys_at x.number x.content → IsLayerHeader payload_at new_name new_extent new_keys (done ++ x ∷ [])
-head_step payload_at done x name new_name extent new_extent keys new_keys so_far clean name_is extent_is keys_are = record {
-  clean = each_more (λ _. layer_field_rules payload_at) done x so_far.clean ∙ form_first payload_at x
-      ∙ ap (option_map (fault_at (payload_at + x.at))) clean;
-  name_is = name_is ∙ ap (λ o. name_after o x.number x.content) so_far.name_is ∙ sym (name_more done x);
-  extent_is = extent_is ∙ ap (λ n. extent_after n x.number x.content) so_far.extent_is ∙ sym (extent_more done x);
-  keys_are = keys_are ∙ ap (λ l. l ++ keys_at x.number x.content) so_far.keys_are ∙ sym (keys_more done x);
-}
-
-pub head_stops : (payload_at : ℕ) (done : List Entry) (x : Entry) (e : MessageError) → forms_fault payload_at done ≡ None
+head_stops : (payload_at : ℕ) (done : List Entry) (x : Entry) (e : MessageError) → forms_fault payload_at done ≡ None
     → Reports (fault_of e) (option_map (fault_at (payload_at + x.at)) (first (number_rules layer_forms x.number x.content)))
     → (more : List Entry) → Reports (fault_of e) (forms_fault payload_at ((done ++ x ∷ []) ++ more))
 head_stops payload_at done x e clean reported_here more =
     each_reported (layer_field_rules payload_at) e done x more clean (subst (Reports (fault_of e)) (sym (form_first payload_at x)) reported_here)
+
+-- with the version
+header_forms_clean : (x : Entry) (b : Bool) → (x.number == VERSION) ≡ b → first (number_rules header_forms x.number x.content) ≡ None
+    → (first (number_rules version_forms x.number x.content) ≡ None) × (first (number_rules layer_forms x.number x.content) ≡ None)
+header_forms_clean x true test clean =
+    let is = eqb-true x.number VERSION test in (
+      ap (λ (t : Bool). first (if t then form_rules uint32 x.content else [])) test
+          ∙ sym (ap (λ (t : Bool). first (if t then form_rules uint32 x.content else number_rules layer_forms x.number x.content)) test) ∙ clean,
+      ap (λ n. first (number_rules layer_forms n x.content)) is,
+    )
+header_forms_clean x false test clean = (
+  ap (λ (t : Bool). first (if t then form_rules uint32 x.content else [])) test,
+  sym (ap (λ (t : Bool). first (if t then form_rules uint32 x.content else number_rules layer_forms x.number x.content)) test) ∙ clean,
+)
+
+pub header_start : (payload_at : ℕ) (header : LayerHeader) → header.version ≡ None → option_copied header.name ≡ None
+    → header.extent ≡ 4096 → header.keys.items ≡ [] → IsLayerHeader payload_at [] header
+header_start payload_at header version name extent keys =
+    record { version = (refl, version); clean = refl; name_is = name; extent_is = extent; keys_are = keys }
+
+pub header_step : {payload_at : ℕ} {done : List Entry} {old : LayerHeader} (new : LayerHeader) (x : Entry)
+    → IsLayerHeader payload_at done old → first (number_rules header_forms x.number x.content) ≡ None
+    → new.version ≡ version_after old.version x.number x.content
+    → option_copied new.name ≡ name_after (option_copied old.name) x.number x.content
+    → new.extent ≡ extent_after old.extent x.number x.content → new.keys.items ≡ old.keys.items ++ keys_at x.number x.content
+    → IsLayerHeader payload_at (done ++ x ∷ []) new
+header_step {payload_at} {done} new x so_far clean version name extent keys =
+    let forms = header_forms_clean x (x.number == VERSION) refl clean in
+    let at = fault_at (payload_at + x.at) in
+    record {
+      version = (
+        each_more (λ _. version_rules payload_at) done x so_far.version.0 ∙ version_of_forms payload_at x ∙ ap (option_map at) forms.0,
+        version ∙ ap (λ v. version_after v x.number x.content) so_far.version.1 ∙ sym (number_more VERSION done x),
+      );
+      clean = each_more (λ _. layer_field_rules payload_at) done x so_far.clean ∙ form_first payload_at x ∙ ap (option_map at) forms.1;
+      name_is = name ∙ ap (λ o. name_after o x.number x.content) so_far.name_is ∙ sym (name_more done x);
+      extent_is = extent ∙ ap (λ n. extent_after n x.number x.content) so_far.extent_is ∙ sym (extent_more done x);
+      keys_are = keys ∙ ap (λ l. l ++ keys_at x.number x.content) so_far.keys_are ∙ sym (keys_more done x);
+    }
+
+-- a fault that is told of none is want of memory
+told_of_none : (reported fault there : Option MessageFault) → fault ≡ None → Reports reported fault → Reports reported there
+told_of_none reported fault there none h =
+    reports_as reported fault there (λ f is. let clash : None ≡ Some f = sym none ∙ is in absurd (cc)) h
+
+pub header_stops : {payload_at : ℕ} {done : List Entry} {old : LayerHeader} (x : Entry) (e : MessageError) → IsLayerHeader payload_at done old
+    → Reports (fault_of e) (option_map (fault_at (payload_at + x.at)) (first (number_rules header_forms x.number x.content)))
+    → (more : List Entry) → versions_fault payload_at ((done ++ x ∷ []) ++ more) ≡ None
+    → Reports (fault_of e) (forms_fault payload_at ((done ++ x ∷ []) ++ more))
+header_stops {payload_at} {done} {old} x e so_far reported_here more none = by_test (x.number == VERSION) refl
+  where
+    told : (b : Bool) → (x.number == VERSION) ≡ b
+        → Reports (fault_of e) (option_map (fault_at (payload_at + x.at))
+        (first (if b then form_rules uint32 x.content else number_rules layer_forms x.number x.content)))
+    told b test = subst (λ t. Reports (fault_of e) (option_map (fault_at (payload_at + x.at))
+        (first (if t then form_rules uint32 x.content else number_rules layer_forms x.number x.content)))) test reported_here
+
+    by_test : (b : Bool) → (x.number == VERSION) ≡ b → Reports (fault_of e) (forms_fault payload_at ((done ++ x ∷ []) ++ more))
+    by_test true test =
+        told_of_none (fault_of e) _ _ none
+        (version_stops payload_at done old.version x e so_far.version (eqb-true x.number VERSION test) (told true test) more)
+    by_test false test = head_stops payload_at done x e so_far.clean (told false test) more
 
 -- features
 pub feature_reported : (payload_at : ℕ) (keys : List (List ℕ)) (values : List Value) (earlier : List Entry) (x : Entry)
@@ -240,6 +296,11 @@ pub version_ends : {payload : List ℕ} {old new : Parts} {done : List Entry} (p
 version_ends {payload} {old} {new} {done} payload_at v walk step so_far =
     subst (λ xs. IsVersionSoFar payload_at xs v) (sym (walks_end payload old new done walk step).0) so_far
 
+pub header_ends : {payload : List ℕ} {old new : Parts} {done : List Entry} {payload_at : ℕ} {header : LayerHeader} → Walk payload old done
+    → GivesEntry old None new → IsLayerHeader payload_at done header → IsLayerHeader payload_at (split payload).fields header
+header_ends {payload} {old} {new} {done} {payload_at} {header} walk step so_far =
+    subst (λ xs. IsLayerHeader payload_at xs header) (sym (walks_end payload old new done walk step).0) so_far
+
 -- the exits of `read_version`
 pub head_some : (payload : List ℕ) (payload_at tag_at n : ℕ) → (split payload).rest ≡ []
     → versions_fault payload_at (split payload).fields ≡ None → Some n ≡ version_in (split payload).fields
@@ -270,7 +331,20 @@ head_versions payload payload_at tag_at e rest stays =
     (reports_or (fault_of e) (versions_fault payload_at (split payload).fields) _
     (or_reported (versions_fault payload_at) (split payload).fields e stays))
 
--- the exits of `read_layer`
+-- a walk that met a rest
+pub never_whole : {payload : List ℕ} {old : Parts} {done : List Entry} {fault : WireFault} (new : Parts) (payload_at : ℕ)
+    → Walk payload old done → GivesEntry old (Some (Err fault)) new → (split payload).rest ≡ [] → ⊥
+never_whole {payload} {old} {done} {fault} new payload_at walk step whole =
+    let there = walks_fault payload old new done fault payload_at walk step in
+    let none = rests_none payload_at (split payload) whole in
+    let clash : None ≡ Some (fault_at (payload_at + fault.at) (of_wire fault.cause)) = sym none ∙ there in
+    absurd (cc)
+
+-- the exits of a walk over a layer's fields
+pub versions_clean : (payload : List ℕ) (payload_at tag_at : ℕ) → header_fault payload payload_at tag_at ≡ None
+    → versions_fault payload_at (split payload).fields ≡ None
+versions_clean payload payload_at tag_at none = (option_or-nones _ _ (option_or-nones _ _ none).1).0
+
 pub forms_reported : (payload_at tag_at : ℕ) (xs : List Entry) (e : MessageError) → Reports (fault_of e) (forms_fault payload_at xs)
     → Reports (fault_of e) (layer_fault payload_at tag_at xs)
 forms_reported payload_at tag_at xs e h =
@@ -304,8 +378,8 @@ pub record IsClean (payload_at : ℕ) (xs : List Entry) (name : List ℕ) (keys 
   pub none_broken : values_fault payload_at xs ≡ None
   pub values_are : AreRelated HoldsValue (only VALUES xs) values
 
-pub front_clean : {payload_at extent : ℕ} {xs : List Entry} {found : Option (List ℕ)} {name : List ℕ} {held keys : List (List ℕ)}
-    (values : List Value) → IsLayerHeader payload_at found extent held xs → found ≡ Some name → keys ≡ held
+pub front_clean : {payload_at : ℕ} {xs : List Entry} {header : LayerHeader} {name : List ℕ} {keys : List (List ℕ)} (values : List Value)
+    → IsLayerHeader payload_at xs header → option_copied header.name ≡ Some name → keys ≡ header.keys.items
     → AreValuesSoFar payload_at xs values → IsClean payload_at xs name keys values
 front_clean values head name keys so_far = record {
   forms = head.clean;

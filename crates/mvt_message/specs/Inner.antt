@@ -1,5 +1,5 @@
 -- Definitions between private functions, which no public contract cites.
-use Rattle.std.specs.Prelude.{◌≡◌, ℕ, ◌==◌, List, [], ◌∷◌, ◌++◌, length, Option, Some, None, Result, Ok, Err, is_none, unwrap_or, ⊤, if◌then◌else◌}
+use Rattle.std.specs.Prelude.{◌≡◌, ℕ, ◌==◌, List, [], ◌∷◌, length, Option, Some, None, Result, Ok, is_none, unwrap_or, ⊤, if◌then◌else◌}
 use Rattle.std.specs.Option.{option_or, option_copied}
 use Rattle.mvt_base.specs.Reports.{Reports}
 use Rattle.mvt_base.specs.Related.{AreRelated}
@@ -13,14 +13,17 @@ use Rattle.mvt_feature.specs.declared.message_error.MessageError.{MessageError}
 use Rattle.mvt_feature.specs.declared.message_error.MessageError.TheVariants.{Memory, Fault}
 use Rattle.mvt_feature.specs.Faults.{MessageFault, fault_of, fault_at, rest_rules}
 use Rattle.mvt_feature.specs.Features.{number_of}
+use Rattle.mvt_feature.specs.Forms.{Form, uint32}
 use Rattle.mvt_feature.specs.Walks.{IsSoFar}
 use Rattle.mvt_feature.specs.Selection.{only, last_only}
 use Rattle.mvt_message.specs.declared.numbers.layer.TheConstants.{NAME, FEATURES, KEYS, VALUES, EXTENT, VERSION}
+use Rattle.mvt_message.specs.declared.layer_fields.LayerFault.{LayerFault}
+use Rattle.mvt_message.specs.declared.layer_fields.LayerFault.TheVariants.{Field, Value as AValue}
 use Rattle.mvt_message.specs.declared.layer_fields.LayerFields.{LayerFields}
 use Rattle.mvt_message.specs.declared.layer_header.LayerHeader.{LayerHeader}
 use Rattle.mvt_message.specs.ItemRules.{version_rules, layer_field_rules, value_rules_of, feature_rules_of, layer_table}
 use Rattle.mvt_message.specs.Items.{HoldsValue, HoldsFeature}
-use Rattle.mvt_message.specs.LayerFields.{bytes_of, version_in, name_in, extent_in, keys_in}
+use Rattle.mvt_message.specs.LayerFields.{layer_forms, bytes_of, version_in, name_in, extent_in, keys_in}
 
 -- the parts of an item's fault, row by row
 abbrev pub rest_fault : List ℕ → ℕ → Option MessageFault
@@ -57,7 +60,14 @@ layer_fault payload_at tag_at fields = first (rows (layer_table payload_at tag_a
 abbrev pub IsVersionSoFar : ℕ → List Entry → Result (Option ℕ) MessageError → Type 0
 IsVersionSoFar payload_at done version = IsSoFar (version_rules payload_at) (λ fields v. v ≡ version_in fields) done version
 
+-- the fields of a layer and their forms, with the version's
+abbrev pub header_forms : List (ℕ × Form)
+header_forms = (VERSION, uint32) ∷ layer_forms
+
 -- what one more field changes
+abbrev pub version_after : Option ℕ → ℕ → Content → Option ℕ
+version_after old number content = if number == VERSION then number_of content else old
+
 abbrev pub name_after : Option (List ℕ) → ℕ → Content → Option (List ℕ)
 name_after old number content = if number == NAME then Some (bytes_of content) else old
 
@@ -69,23 +79,13 @@ extent_after old number content = if number == EXTENT then unwrap_or (number_of 
 abbrev pub keys_at : ℕ → Content → List (List ℕ)
 keys_at number content = if number == KEYS then bytes_of content ∷ [] else []
 
--- what the fields so far say, or the first fault that they have, which stays whatever fields follow
-abbrev pub OrFault : {K : Type 0} → (List Entry → Option MessageFault) → (List Entry → K → Type 0) → List Entry → Result K MessageError → Type 0
-OrFault fault Say done (Ok k) = Say done k
-OrFault fault Say done (Err error) = (more : List Entry) → Reports (fault_of error) (fault (done ++ more))
-
--- the name, the extent and the keys by fields that break no rule
-pub record IsLayerHeader (payload_at : ℕ) (name : Option (List ℕ)) (extent : ℕ) (keys : List (List ℕ)) (fields : List Entry) : Type 0 where
+-- what is said by fields that break no rule
+pub record IsLayerHeader (payload_at : ℕ) (fields : List Entry) (header : LayerHeader) : Type 0 where
+  pub version : IsVersionSoFar payload_at fields (Ok header.version)
   pub clean : forms_fault payload_at fields ≡ None
-  pub name_is : name ≡ name_in fields
-  pub extent_is : extent ≡ extent_in fields
-  pub keys_are : keys ≡ keys_in fields
-
-abbrev pub IsLayerHeaderOf : ℕ → List Entry → LayerHeader → Type 0
-IsLayerHeaderOf payload_at fields head = IsLayerHeader payload_at (option_copied head.name) head.extent head.keys.items fields
-
-abbrev pub IsLayerHeaderSoFar : ℕ → List Entry → Result LayerHeader MessageError → Type 0
-IsLayerHeaderSoFar payload_at done head = OrFault (forms_fault payload_at) (IsLayerHeaderOf payload_at) done head
+  pub name_is : option_copied header.name ≡ name_in fields
+  pub extent_is : header.extent ≡ extent_in fields
+  pub keys_are : header.keys.items ≡ keys_in fields
 
 -- the values, and the features, by the fields so far
 abbrev pub AreValuesSoFar : ℕ → List Entry → List Value → Type 0
@@ -103,13 +103,14 @@ pub record AreValuesHeld (Has : List Value → Type 0) (payload_at : ℕ) (done 
   pub counted : count ≡ length values
   pub has : Has values
 
--- so many values, which a visitor has, or their first fault
-abbrev pub AreValuesSaid : (List Value → Type 0) → ℕ → List Entry → Result ℕ MessageError → Type 0
-AreValuesSaid Has payload_at done count = OrFault (values_fault payload_at) (AreValuesHeld Has payload_at) done count
-
--- the head and the values of a layer with these fields
+-- the head and the values of a layer with these fields, which break no rule
 abbrev pub IsLayerFields : (List Value → Type 0) → ℕ → List Entry → LayerFields → Type 0
-IsLayerFields Has payload_at fields front = IsLayerHeaderSoFar payload_at fields front.head × AreValuesSaid Has payload_at fields front.values
+IsLayerFields Has payload_at fields front = IsLayerHeader payload_at fields front.header × AreValuesHeld Has payload_at fields front.values
+
+-- the first fault of the forms, or of the values, of fields whose versions have none
+abbrev pub IsBroken : ℕ → List Entry → LayerFault → Type 0
+IsBroken payload_at fields (Field error) = versions_fault payload_at fields ≡ None → Reports (fault_of error) (forms_fault payload_at fields)
+IsBroken payload_at fields (AValue error) = Reports (fault_of error) (values_fault payload_at fields)
 
 -- features that are counted, and that a visitor has
 pub record AreFeaturesHeld (Has : List Feature → Type 0) (payload_at : ℕ) (keys : List (List ℕ)) (values : List Value)

@@ -1,75 +1,136 @@
 //! What the fields of a layer say besides its features (Mapbox Vector Tile Specification 2.1, 4.1),
 //! found in one walk.
-ghost use Rattle.std.specs.Prelude.{◌≡◌, ◌+◌, ◌^◌, ◌<◌, List, [], length, Some, None, IfOk, IfErr, OnOk};
+ghost use Rattle.std.specs.Prelude.{◌≡◌, ◌+◌, ◌^◌, ◌<◌, List, [], ◌∷◌, ◌++◌, length, IfOk, IfErr, OnOk};
 ghost use Rattle.mvt_base.specs.Reports.{Reports};
+ghost use Rattle.mvt_attrs.specs.declared.value.Value.{Value};
+ghost use Rattle.mvt_wire.specs.Field.{Entry, entry_of, content_of};
+ghost use Rattle.mvt_wire.specs.Fields.{bytes_size};
 ghost use Rattle.mvt_wire.specs.Split.{split};
 ghost use Rattle.mvt_feature.specs.Faults.{fault_of};
 ghost use Rattle.mvt_message.specs.declared.item.Item.{Item};
-ghost use Rattle.mvt_message.specs.LayerFields.{version_in};
-ghost use Rattle.mvt_message.specs.Inner.{header_fault, IsLayerFields};
+ghost use Rattle.mvt_message.specs.Inner.{versions_fault, values_fault, layer_fault, IsLayerFields, IsBroken};
 
-use crate::layer_header::{LayerHeader, take_header_field};
-use crate::numbers::layer;
+use crate::layer_header::LayerHeader;
 use crate::values::take_value;
-use crate::version::{take_version, version_of};
 use crate::visiting::LayerVisitor;
-use mvt_feature::{MessageError, rest_fault};
-use mvt_wire::Fields;
+use mvt_feature::{Cause, MessageError, fault_at, rest_fault};
+use mvt_wire::{Field, Fields};
 use std::alloc::Global;
 
-/// The head of a layer and how many values it has, or the first fault of each, which counts where
-/// no rule of an earlier rank is broken.
+/// The head of a layer and how many values it has.
 #[derive(Drop)]
 pub(crate) struct LayerFields<'a> {
-    pub(crate) head: Result<LayerHeader<'a>, MessageError>,
-    pub(crate) values: Result<usize, MessageError>,
-    /// How many features there are, which is only a hint.
-    pub(crate) features: usize,
+    pub(crate) header: LayerHeader<'a>,
+    pub(crate) values: usize,
 }
 
-/// The version of a payload, and what its fields say in a layer of version 2, whose values a
-/// visitor takes.
+/// The first fault of a walk over a layer's fields. One of an earlier rank may stand behind it, and
+/// in a layer of another version it is none.
+#[derive(Drop)]
+pub(crate) enum LayerFault {
+    /// A field hasn't its form, or the payload doesn't split into fields.
+    Field(MessageError),
+    Value(MessageError),
+}
+
+/// What the fields of a payload say, if it is a layer of version 2, whose values a visitor takes.
 pub(crate) fn read_layer_fields<'a, V: LayerVisitor>(
     alloc: Global,
     visitor: &mut V,
     payload: &'a [u8],
     payload_at: u64,
-    tag_at: u64,
-) -> Result<(u32, LayerFields<'a>), MessageError>
+) -> Result<LayerFields<'a>, LayerFault>
     requires small { length payload.now < 2 ^ 32 }
     requires fits { payload_at + length payload.now < 2 ^ 64 }
     requires start { (items : List Item) × V.has_values items visitor.old [] }
-    ensures version { IfOk result (λ found. version_in (split payload.now).fields ≡ Some found.0) }
+    ensures whole { OnOk result ((split payload.now).rest ≡ []) }
     ensures front { (items : List Item) → V.has_values items visitor.old []
-        → IfOk result (λ found. IsLayerFields (V.has_values items visitor.new) payload_at
-        (split payload.now).fields found.1) }
+        → IfOk result (IsLayerFields (V.has_values items visitor.new) payload_at
+        (split payload.now).fields) }
+    ensures broken { (split payload.now).rest ≡ []
+        → IfErr result (IsBroken payload_at (split payload.now).fields) }
     ensures kept { (items : List Item) → V.has_values items visitor.old []
-        → V.has_items items visitor.old
-        → OnOk result (V.has_items items visitor.new) }
-    ensures ok { OnOk result (header_fault payload.now payload_at tag_at ≡ None) }
-    ensures err { IfErr result (λ error. Reports (fault_of error)
-        (header_fault payload.now payload_at tag_at)) }
+        → V.has_items items visitor.old → V.has_items items visitor.new }
 {
-    let mut version = Ok(None);
-    let mut head = Ok(LayerHeader::new(alloc));
-    let mut values = Ok(0);
-    let mut features = 0usize;
+    let mut front = LayerFields {
+        header: LayerHeader::new(alloc),
+        values: 0,
+    };
     for field in Fields::new(payload) {
         match field {
-            Ok(field) => {
-                take_version(&mut version, &field, payload_at);
-                take_header_field(alloc, &mut head, &field, payload_at);
-                take_value(alloc, visitor, &mut values, &field, payload_at);
-                features = features.saturating_add(usize::from(field.number == layer::FEATURES));
-            }
-            Err(fault) => return Err(rest_fault(payload_at, fault)),
+            Ok(field) => front.take(alloc, visitor, &field, payload_at)?,
+            Err(fault) => return Err(LayerFault::Field(rest_fault(payload_at, fault))),
         }
     }
-    let version = version_of(version, tag_at)?;
-    let front = LayerFields {
-        head,
-        values,
-        features,
-    };
-    Ok((version, front))
+    Ok(front)
+}
+
+impl<'a> LayerFields<'a> {
+    /// Takes one more field; a visitor takes its value, if it is one.
+    #[inline(always)]
+    fn take<V: LayerVisitor>(
+        &mut self,
+        alloc: Global,
+        visitor: &mut V,
+        field: &Field<'a>,
+        payload_at: u64,
+    ) -> Result<(), LayerFault>
+        requires few { self.old.values < 2 ^ 32 }
+        requires at { payload_at + field.now.at < 2 ^ 64 }
+        requires body { payload_at + (field.now.body + bytes_size
+            (content_of field.now.payload)) < 2 ^ 64 }
+        ensures ok { (items : List Item) (done : List Entry)
+            → IsLayerFields (V.has_values items visitor.old) payload_at done self.old
+            → OnOk result (IsLayerFields (V.has_values items visitor.new) payload_at
+            (done ++ entry_of field.now ∷ []) self.new) }
+        ensures broken { (items : List Item) (done more : List Entry)
+            → IsLayerFields (V.has_values items visitor.old) payload_at done self.old
+            → IfErr result (IsBroken payload_at ((done ++ entry_of field.now ∷ []) ++ more)) }
+        ensures kept { (items : List Item) (held : List Value)
+            → V.has_values items visitor.old held
+            → V.has_items items visitor.old → V.has_items items visitor.new }
+    {
+        let at = payload_at + field.at as u64;
+        match self.header.take(alloc, field, at) {
+            Ok(()) => {}
+            Err(error) => return Err(LayerFault::Field(error)),
+        }
+        match take_value(alloc, visitor, field, payload_at, self.values) {
+            Ok(values) => self.values = values,
+            Err(error) => return Err(LayerFault::Value(error)),
+        }
+        Ok(())
+    }
+}
+
+/// The error of a layer of version 2, one of whose values has this one: that a field hasn't its form
+/// or that there is no name is told first.
+#[inline(never)]
+pub(crate) fn header_fault_or(
+    alloc: Global,
+    payload: &[u8],
+    payload_at: u64,
+    tag_at: u64,
+    error: MessageError,
+) -> MessageError
+    requires fits { payload_at + length payload.now < 2 ^ 64 }
+    requires whole { (split payload.now).rest ≡ [] }
+    requires versions { versions_fault payload_at (split payload.now).fields ≡ None }
+    ensures { Reports (fault_of error) (values_fault payload_at (split payload.now).fields)
+        → Reports (fault_of result) (layer_fault payload_at tag_at (split payload.now).fields) }
+{
+    let mut header = LayerHeader::new(alloc);
+    for field in Fields::new(payload) {
+        match field {
+            Ok(field) => match header.take(alloc, &field, payload_at + field.at as u64) {
+                Ok(()) => {}
+                Err(error) => return error,
+            },
+            Err(_) => unreachable!(),
+        }
+    }
+    match header.name {
+        Some(_) => error,
+        None => fault_at(tag_at, Cause::NoName),
+    }
 }

@@ -6,7 +6,7 @@ ghost use Rattle.mvt_wire.specs.Field.{Entry, entry_of, content_of};
 ghost use Rattle.mvt_wire.specs.Fields.{bytes_size};
 ghost use Rattle.mvt_feature.specs.Faults.{fault_of};
 ghost use Rattle.mvt_message.specs.declared.item.Item.{Item};
-ghost use Rattle.mvt_message.specs.Inner.{values_fault, AreValuesHeld, AreValuesSaid};
+ghost use Rattle.mvt_message.specs.Inner.{values_fault, AreValuesHeld};
 
 use crate::numbers::layer;
 use crate::payload::bytes_of;
@@ -15,38 +15,10 @@ use mvt_feature::MessageError;
 use mvt_wire::Field;
 use std::alloc::Global;
 
-/// How many values there are with one more field, unless a fault was met before it.
-#[inline(always)]
-pub(crate) fn take_value<V: LayerVisitor>(
-    alloc: Global,
-    visitor: &mut V,
-    values: &mut Result<usize, MessageError>,
-    field: &Field<'_>,
-    payload_at: u64,
-)
-    requires few { IfOk values.old (λ count. count < 2 ^ 32) }
-    requires at { payload_at + field.now.at < 2 ^ 64 }
-    requires body { payload_at + (field.now.body + bytes_size
-        (content_of field.now.payload)) < 2 ^ 64 }
-    ensures said { (items : List Item) (done : List Entry)
-        → AreValuesSaid (V.has_values items visitor.old) payload_at done values.old
-        → AreValuesSaid (V.has_values items visitor.new) payload_at
-        (done ++ entry_of field.now ∷ []) values.new }
-    ensures kept { (items : List Item) (done : List Entry)
-        → AreValuesSaid (V.has_values items visitor.old) payload_at done values.old
-        → V.has_items items visitor.old → V.has_items items visitor.new }
-{
-    let count = match *values {
-        Ok(count) => count,
-        Err(_) => return,
-    };
-    *values = visit_field(alloc, visitor, field, payload_at, count);
-}
-
 /// Has a visitor take the value of a field that holds one, after so many, and answers how many it
 /// has.
 #[inline(always)]
-fn visit_field<V: LayerVisitor>(
+pub(crate) fn take_value<V: LayerVisitor>(
     alloc: Global,
     visitor: &mut V,
     field: &Field<'_>,

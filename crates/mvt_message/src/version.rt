@@ -38,11 +38,7 @@ pub(crate) fn read_version(
 
 /// The last version with one more field, unless a fault was met before it.
 #[inline(always)]
-pub(crate) fn take_version(
-    version: &mut Result<Option<u32>, MessageError>,
-    field: &Field<'_>,
-    payload_at: u64,
-)
+fn take_version(version: &mut Result<Option<u32>, MessageError>, field: &Field<'_>, payload_at: u64)
     requires { payload_at + field.now.at < 2 ^ 64 }
     ensures more { (done : List Entry) → IsVersionSoFar payload_at done version.old
         → IsVersionSoFar payload_at (done ++ entry_of field.now ∷ []) version.new }
@@ -61,10 +57,7 @@ pub(crate) fn take_version(
 }
 
 /// The version of a payload that splits into fields, by its last version or the first fault of one.
-pub(crate) fn version_of(
-    version: Result<Option<u32>, MessageError>,
-    tag_at: u64,
-) -> Result<u32, MessageError>
+fn version_of(version: Result<Option<u32>, MessageError>, tag_at: u64) -> Result<u32, MessageError>
     ensures version { (payload_at : ℕ) (fields : List Entry)
         → IsVersionSoFar payload_at fields version
         → IfOk result (λ found. version_in fields ≡ Some found) }

@@ -11,16 +11,18 @@ ghost use Rattle.mvt_feature.specs.Features.{IsFeatureOf};
 ghost use Rattle.mvt_feature.specs.ValueRules.{value_fault};
 ghost use Rattle.mvt_feature.specs.Values.{IsValueOf};
 ghost use Rattle.mvt_message.specs.declared.item.Item.{Item};
+ghost use Rattle.mvt_message.specs.declared.item.Item.TheVariants.{Foreign};
 ghost use Rattle.mvt_message.specs.declared.item.Layer.{Layer as ALayer};
 ghost use Rattle.mvt_message.specs.Items.{IsItem, IsLayer};
 ghost use Rattle.mvt_message.specs.ItemRules.{item_fault};
 ghost use Rattle.mvt_message.specs.ValidItems.{ValidItem};
-ghost use Rattle.mvt_message.specs.Inner.{layer_fault, IsLayerFields};
+ghost use Rattle.mvt_message.specs.Inner.{layer_fault, IsLayerFields, IsBroken};
 ghost use Rattle.mvt_message.specs.Visiting.{HasLayer, IsVisited};
 
 use crate::features::visit_features;
-use crate::layer_fields::{LayerFields, read_layer_fields};
+use crate::layer_fields::{LayerFault, LayerFields, header_fault_or, read_layer_fields};
 use crate::numbers::VERSION_2;
+use crate::version::read_version;
 use mvt_attrs::LayerKeys;
 use mvt_base::{LIMIT, Text};
 use mvt_feature::{Cause, MessageError, Scratch, fault_at};
@@ -140,11 +142,51 @@ pub fn visit_layer<'a, V: LayerVisitor>(
     ensures fault { IfErr result (λ error. Reports (fault_of error)
         (item_fault payload.now payload_at tag_at)) }
 {
-    let (version, front) = read_layer_fields(alloc, visitor, payload, payload_at, tag_at)?;
+    let front = match read_layer_fields(alloc, visitor, payload, payload_at) {
+        Ok(front) => front,
+        Err(fault) => {
+            let version = foreign_version(alloc, payload, payload_at, tag_at, fault)?;
+            return Ok(Visited::Foreign { version });
+        }
+    };
+    let version = match front.header.version {
+        Some(version) => version,
+        None => return Err(fault_at(tag_at, Cause::NoVersion)),
+    };
     if version == VERSION_2 {
         return visit_parts(alloc, visitor, payload, payload_at, tag_at, front);
     }
     Ok(Visited::Foreign { version })
+}
+
+/// The version of a foreign item, of whose fields a walk met this fault.
+///
+/// # Errors
+///
+/// The first broken rule of an item that isn't foreign.
+fn foreign_version(
+    alloc: Global,
+    payload: &[u8],
+    payload_at: u64,
+    tag_at: u64,
+    fault: LayerFault,
+) -> Result<u32, MessageError>
+    requires fits { payload_at + length payload.now < 2 ^ 64 }
+    requires broken { (split payload.now).rest ≡ []
+        → IsBroken payload_at (split payload.now).fields fault }
+    ensures ok { OnOk result (item_fault payload.now payload_at tag_at ≡ None) }
+    ensures foreign { IfOk result (λ version. IsItem payload.now (Foreign version payload.now)) }
+    ensures fault { IfErr result (λ error. Reports (fault_of error)
+        (item_fault payload.now payload_at tag_at)) }
+{
+    let version = read_version(payload, payload_at, tag_at)?;
+    if version != VERSION_2 {
+        return Ok(version);
+    }
+    match fault {
+        LayerFault::Field(error) => Err(error),
+        LayerFault::Value(error) => Err(header_fault_or(alloc, payload, payload_at, tag_at, error)),
+    }
 }
 
 /// Goes over the keys and the features of a layer that splits into fields and has version 2, whose
@@ -170,27 +212,15 @@ fn visit_parts<'a, V: LayerVisitor>(
     ensures fault { IfErr result (λ error. Reports (fault_of error)
         (layer_fault payload_at tag_at (split payload.now).fields)) }
 {
-    let LayerFields {
-        head,
-        values,
-        features,
-    } = front;
-    let head = match head {
-        Ok(head) => head,
-        Err(error) => return Err(error),
-    };
-    let name = match head.name {
+    let LayerFields { header, values } = front;
+    let name = match header.name {
         Some(name) => name,
         None => return Err(fault_at(tag_at, Cause::NoName)),
     };
-    let values = match values {
-        Ok(values) => values,
-        Err(error) => return Err(error),
-    };
-    visitor.visit_keys(alloc, &head.keys, features)?;
-    visit_features(alloc, visitor, payload, payload_at, &head.keys, values)?;
+    visitor.visit_keys(alloc, &header.keys, header.features)?;
+    visit_features(alloc, visitor, payload, payload_at, &header.keys, values)?;
     Ok(Visited::Layer {
         name,
-        extent: head.extent,
+        extent: header.extent,
     })
 }

@@ -3,36 +3,21 @@ use Rattle.std.specs.Option.{option_copied}
 use Rattle.std.proofs.lemmas.Result.{err_from_is_err_and}
 use Rattle.mvt_wire.specs.Split.{split}
 use Rattle.mvt_message.specs.declared.item.Layer.{Layer as ALayer}
-use Rattle.mvt_message.specs.Inner.{forms_fault, values_fault}
 use Rattle.mvt_message.specs.LayerFields.{name_in}
-use Rattle.mvt_message.proofs.ReadLemmas.{or_reported, forms_reported, name_reported, values_reported, front_clean, features_reported, layer_ok, layer_read}
+use Rattle.mvt_message.proofs.ReadLemmas.{name_reported, front_clean, features_reported, layer_ok, layer_read}
 use Rattle.mvt_message.proofs.visiting.visit_parts.Goals as goal
-
-pub returns-in-Err-clause-fault : goal.returns-in-Err-clause-fault
-returns-in-Err-clause-fault g c =
-    let fields = (split c.args.payload.now).fields in
-    let reported = or_reported (forms_fault c.args.payload_at) fields _ (rw c.in-Err.is at c.requires.front.1.0) in
-    forms_reported c.args.payload_at c.args.tag_at fields _ reported
 
 pub returns-in-None-clause-fault : goal.returns-in-None-clause-fault
 returns-in-None-clause-fault g c =
     let fields = (split c.args.payload.now).fields in
-    let head = rw c.in-Ok.is at c.requires.front.1.0 in
+    let head = c.requires.front.1.0 in
     let none : None ≡ name_in fields = ap option_copied (sym c.in-None.is) ∙ head.name_is in
     rw c.fault_at.ensures (name_reported c.args.payload_at c.args.tag_at fields head.clean none)
-
-pub returns-in-Err-values-clause-fault : goal.returns-in-Err-values-clause-fault
-returns-in-Err-values-clause-fault g c =
-    let fields = (split c.args.payload.now).fields in
-    let head = rw c.in-Ok.is at c.requires.front.1.0 in
-    let name = ap option_copied (sym c.in-Some.is) ∙ head.name_is in
-    let reported = or_reported (values_fault c.args.payload_at) fields _ (rw c.in-Err-values.is at c.requires.front.1.1) in
-    values_reported c.args.payload_at c.args.tag_at fields _ head.clean name reported
 
 pub visit_features-requires-clause-held : goal.visit_features-requires-clause-held
 visit_features-requires-clause-held g c =
     let (items, front) = c.requires.front in
-    let values = rw c.in-Ok-values.is at front.1 in (
+    let values = front.1 in (
       items,
       values.values,
       sym values.counted,
@@ -44,8 +29,8 @@ pub returns-in_err-visit_features-clause-fault : goal.returns-in_err-visit_featu
 returns-in_err-visit_features-clause-fault g c =
     let p = err_from_is_err_and c.from_residual-in_err-visit_features.result c.from_residual-in_err-visit_features.ensures.1 in
     let (items, front) = c.requires.front in
-    let head = rw c.in-Ok.is at front.0 in
-    let values = rw c.in-Ok-values.is at front.1 in
+    let head = front.0 in
+    let values = front.1 in
     let clean = front_clean values.values head (ap option_copied c.in-Some.is) c.deref-2.ensures.value values.so_far in
     let has =
     subst (λ ks. g.V.LayerVisitor.has_features items ks values.values c.visit_keys.new.self [])
@@ -56,8 +41,8 @@ returns-in_err-visit_features-clause-fault g c =
 pub returns-clause-ok : goal.returns-clause-ok
 returns-clause-ok g c =
     let (items, front) = c.requires.front in
-    let head = rw c.in-Ok.is at front.0 in
-    let values = rw c.in-Ok-values.is at front.1 in
+    let head = front.0 in
+    let values = front.1 in
     let clean = front_clean values.values head (ap option_copied c.in-Some.is) c.deref-2.ensures.value values.so_far in
     let has =
     subst (λ ks. g.V.LayerVisitor.has_features items ks values.values c.visit_keys.new.self [])
@@ -66,12 +51,12 @@ returns-clause-ok g c =
 
 pub returns-clause-layer : goal.returns-clause-layer
 returns-clause-layer g c = λ items front.
-    let head = rw c.in-Ok.is at front.0 in
-    let values = rw c.in-Ok-values.is at front.1 in
+    let head = front.0 in
+    let values = front.1 in
     let clean = front_clean values.values head (ap option_copied c.in-Some.is) c.deref-2.ensures.value values.so_far in
     let has =
     subst (λ ks. g.V.LayerVisitor.has_features items ks values.values c.visit_keys.new.self [])
     (c.deref.ensures.value ∙ sym c.deref-2.ensures.value) (c.in_ok-visit_keys.ensures items values.values values.has) in
     let features = c.in_ok-visit_features.ensures.features items values.values (sym values.counted) has in
-    let layer : ALayer = record { name = c.in-Some.name.now; extent = c.in-Ok.head.extent; features = features.0 } in
+    let layer : ALayer = record { name = c.in-Some.name.now; extent = c.args.front.header.extent; features = features.0 } in
     (layer, layer_read layer clean head.extent_is features.1, (refl, refl, (c.deref-2.result.now, values.values, features.2)))
