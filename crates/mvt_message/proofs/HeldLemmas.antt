@@ -2,11 +2,13 @@
 use Rattle.std.proofs.Common.{◌≡◌, ◌≢◌, ℕ, ◌+◌, ◌^◌, ◌<◌, List, [], ◌∷◌, ◌++◌, length, Option, None, sym, ap, subst, ◌∙◌, arith}
 use Rattle.std.specs.Option.{option_map}
 use Rattle.std.proofs.lemmas.List.{length_push}
+use Rattle.mvt_base.specs.Related.{AreRelated}
 use Rattle.mvt_base.specs.Reports.{Reports}
+use Rattle.mvt_base.specs.Rules.{each, first}
 use Rattle.mvt_base.proofs.ListLemmas.{length-related}
 use Rattle.mvt_attrs.specs.declared.value.Value.{Value}
 use Rattle.mvt_wire.specs.Field.{Entry}
-use Rattle.mvt_wire.specs.Split.{Parts}
+use Rattle.mvt_wire.specs.Split.{Parts, split}
 use Rattle.mvt_feature.specs.declared.message_error.MessageError.{MessageError}
 use Rattle.mvt_feature.specs.Faults.{MessageFault, fault_of, in_feature}
 use Rattle.mvt_feature.specs.Selection.{only}
@@ -22,7 +24,7 @@ use Rattle.mvt_message.specs.Inner.{values_fault, features_fault, AreValuesHeld,
 use Rattle.mvt_message.specs.Items.{HoldsValue, HoldsFeature}
 use Rattle.mvt_message.specs.ItemRules.{value_rules_of, feature_rules_of}
 use Rattle.mvt_message.proofs.OrFaultLemmas.{value_first}
-use Rattle.mvt_message.proofs.ReadLemmas.{selected_few, selected_stops, so_far_skip, so_far_take, feature_reported}
+use Rattle.mvt_message.proofs.ReadLemmas.{none_left, selected_few, selected_stops, so_far_skip, so_far_take, feature_reported}
 
 -- the fault of the value of a field
 abbrev fault_of_value : ℕ → Entry → Option MessageFault
@@ -104,3 +106,22 @@ module _ {Has : List Feature → Type 0} {payload_at : ℕ} {keys : List (List �
         counted = omega (arith, length_push so_far.features feature, so_far.counted);
         has = has;
       }
+
+-- when all are counted, the fields to come hold none
+pub features_end : {Has : List Feature → Type 0} {payload_at : ℕ} {keys : List (List ℕ)} {values : List Value} {payload : List ℕ} {to_come : Parts}
+    {done : List Entry} {count features : ℕ} → Walk payload to_come done → AreFeaturesHeld Has payload_at keys values done count → count ≡ features
+    → features ≡ length (only FEATURES (split payload).fields) → AreFeaturesHeld Has payload_at keys values (split payload).fields count
+features_end {Has} {payload_at} {keys} {values} {payload} {to_come} {done} walk so_far all counted =
+    let related = length-related (HoldsFeature keys values) (only FEATURES done) so_far.features so_far.so_far.1 in
+    let fields = walk.fields in
+    let whole = ap (λ xs. length (only FEATURES xs)) fields in
+    let same = ap (only FEATURES) fields
+    ∙ none_left FEATURES done to_come.fields (related ∙ sym so_far.counted ∙ all ∙ counted ∙ whole) in
+    record {
+      features = so_far.features;
+      so_far =
+          subst (λ xs. (first (each (feature_rules_of payload_at keys values) [] xs) ≡ None) × AreRelated (HoldsFeature keys values) xs so_far.features)
+          (sym same) so_far.so_far;
+      counted = so_far.counted;
+      has = so_far.has;
+    }

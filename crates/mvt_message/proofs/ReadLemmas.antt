@@ -36,7 +36,7 @@ use Rattle.mvt_message.specs.declared.item.Item.TheVariants.{Layer, Foreign}
 use Rattle.mvt_message.specs.LayerFields.{version_forms, layer_forms, bytes_of, version_in, name_in, extent_in, keys_in, values_in}
 use Rattle.mvt_message.specs.ItemRules.{version_rules, layer_field_rules, feature_rules_of, item_fault}
 use Rattle.mvt_message.specs.Items.{HoldsValue, HoldsFeature, IsLayer, IsItem}
-use Rattle.mvt_message.specs.Inner.{rest_fault, versions_fault, forms_fault, no_name_fault, values_fault, features_fault, header_fault, layer_fault, IsVersionSoFar, IsLayerHeader, header_forms, version_after, name_after, extent_after, keys_at, AreValuesSoFar}
+use Rattle.mvt_message.specs.Inner.{rest_fault, versions_fault, forms_fault, no_name_fault, values_fault, features_fault, header_fault, layer_fault, IsVersionSoFar, IsLayerHeader, header_forms, version_after, name_after, extent_after, keys_at, features_after, AreValuesSoFar}
 use Rattle.mvt_message.proofs.ChainLemmas.{item_chain, layer_chain}
 use Rattle.mvt_message.proofs.FormLemmas.{versions_form}
 use Rattle.mvt_message.proofs.SaidLemmas.{values_said}
@@ -196,6 +196,16 @@ head_stops : (payload_at : ℕ) (done : List Entry) (x : Entry) (e : MessageErro
 head_stops payload_at done x e clean reported_here more =
     each_reported (layer_field_rules payload_at) e done x more clean (subst (Reports (fault_of e)) (sym (form_first payload_at x)) reported_here)
 
+features_more : (done : List Entry) (x : Entry) → length (only FEATURES (done ++ x ∷ [])) ≡ features_after (length (only FEATURES done)) x.number
+features_more done x =
+    ap length (filter-append (λ (y : Entry). y.number == FEATURES) done (x ∷ [])) ∙ length-append (only FEATURES done) (only FEATURES (x ∷ []))
+    ∙ by_test (x.number == FEATURES)
+  where
+    by_test : (b : Bool) → length (only FEATURES done) + length (if b then x ∷ [] else [])
+        ≡ (if b then length (only FEATURES done) + 1 else length (only FEATURES done))
+    by_test true = refl
+    by_test false = omega arith
+
 -- with the version
 header_forms_clean : (x : Entry) (b : Bool) → (x.number == VERSION) ≡ b → first (number_rules header_forms x.number x.content) ≡ None
     → (first (number_rules version_forms x.number x.content) ≡ None) × (first (number_rules layer_forms x.number x.content) ≡ None)
@@ -211,17 +221,23 @@ header_forms_clean x false test clean = (
 )
 
 pub header_start : (payload_at : ℕ) (header : LayerHeader) → header.version ≡ None → option_copied header.name ≡ None
-    → header.extent ≡ 4096 → header.keys.items ≡ [] → IsLayerHeader payload_at [] header
-header_start payload_at header version name extent keys =
-    record { version = (refl, version); clean = refl; name_is = name; extent_is = extent; keys_are = keys }
+    → header.extent ≡ 4096 → header.keys.items ≡ [] → header.features ≡ 0 → IsLayerHeader payload_at [] header
+header_start payload_at header version name extent keys features = record {
+  version = (refl, version);
+  clean = refl;
+  name_is = name;
+  extent_is = extent;
+  keys_are = keys;
+  features_are = features;
+}
 
 pub header_step : {payload_at : ℕ} {done : List Entry} {old : LayerHeader} (new : LayerHeader) (x : Entry)
     → IsLayerHeader payload_at done old → first (number_rules header_forms x.number x.content) ≡ None
     → new.version ≡ version_after old.version x.number x.content
     → option_copied new.name ≡ name_after (option_copied old.name) x.number x.content
     → new.extent ≡ extent_after old.extent x.number x.content → new.keys.items ≡ old.keys.items ++ keys_at x.number x.content
-    → IsLayerHeader payload_at (done ++ x ∷ []) new
-header_step {payload_at} {done} new x so_far clean version name extent keys =
+    → new.features ≡ features_after old.features x.number → IsLayerHeader payload_at (done ++ x ∷ []) new
+header_step {payload_at} {done} new x so_far clean version name extent keys features =
     let forms = header_forms_clean x (x.number == VERSION) refl clean in
     let at = fault_at (payload_at + x.at) in
     record {
@@ -233,6 +249,7 @@ header_step {payload_at} {done} new x so_far clean version name extent keys =
       name_is = name ∙ ap (λ o. name_after o x.number x.content) so_far.name_is ∙ sym (name_more done x);
       extent_is = extent ∙ ap (λ n. extent_after n x.number x.content) so_far.extent_is ∙ sym (extent_more done x);
       keys_are = keys ∙ ap (λ l. l ++ keys_at x.number x.content) so_far.keys_are ∙ sym (keys_more done x);
+      features_are = features ∙ ap (λ n. features_after n x.number) so_far.features_are ∙ sym (features_more done x);
     }
 
 -- a fault that is told of none is want of memory
@@ -257,6 +274,18 @@ header_stops {payload_at} {done} {old} x e so_far reported_here more none = by_t
         told_of_none (fault_of e) _ _ none
         (version_stops payload_at done old.version x e so_far.version (eqb-true x.number VERSION test) (told true test) more)
     by_test false test = head_stops payload_at done x e so_far.clean (told false test) more
+
+-- where all that are selected are done, the rest has none
+pub none_left : (k : ℕ) (done more : List Entry) → length (only k done) ≡ length (only k (done ++ more)) → only k (done ++ more) ≡ only k done
+none_left k done more all =
+    let parts = filter-append (λ (y : Entry). y.number == k) done more in
+    let count = all ∙ ap length parts ∙ length-append (only k done) (only k more) in
+    let none : length (only k more) ≡ 0 = omega arith in
+    parts ∙ ap (λ l. only k done ++ l) (nil_of (only k more) none) ∙ append-nil (only k done)
+  where
+    nil_of : (l : List Entry) → length l ≡ 0 → l ≡ []
+    nil_of [] e = refl
+    nil_of (x ∷ xs) e = absurd (omega arith)
 
 -- features
 pub feature_reported : (payload_at : ℕ) (keys : List (List ℕ)) (values : List Value) (earlier : List Entry) (x : Entry)
@@ -295,6 +324,12 @@ pub version_ends : {payload : List ℕ} {old new : Parts} {done : List Entry} (p
     → IsVersionSoFar payload_at (split payload).fields v
 version_ends {payload} {old} {new} {done} payload_at v walk step so_far =
     subst (λ xs. IsVersionSoFar payload_at xs v) (sym (walks_end payload old new done walk step).0) so_far
+
+pub header_few : {payload : List ℕ} {to_come : Parts} {done : List Entry} {payload_at : ℕ} {header : LayerHeader} → Walk payload to_come done
+    → IsLayerHeader payload_at done header → length payload < 2 ^ 32 → header.features < 2 ^ 32
+header_few {payload} {to_come} {done} walk so_far small =
+    let few = selected_few payload to_come done FEATURES walk small in
+    omega (arith, so_far.features_are)
 
 pub header_ends : {payload : List ℕ} {old new : Parts} {done : List Entry} {payload_at : ℕ} {header : LayerHeader} → Walk payload old done
     → GivesEntry old None new → IsLayerHeader payload_at done header → IsLayerHeader payload_at (split payload).fields header

@@ -1,5 +1,5 @@
 -- Definitions between private functions, which no public contract cites.
-use Rattle.std.specs.Prelude.{◌≡◌, ℕ, ◌==◌, List, [], ◌∷◌, length, Option, Some, None, Result, Ok, is_none, unwrap_or, ⊤, if◌then◌else◌}
+use Rattle.std.specs.Prelude.{◌≡◌, ℕ, ◌+◌, ◌==◌, List, [], ◌∷◌, length, Option, Some, None, Result, Ok, is_none, unwrap_or, ⊤, if◌then◌else◌}
 use Rattle.std.specs.Option.{option_or, option_copied}
 use Rattle.mvt_base.specs.Reports.{Reports}
 use Rattle.mvt_base.specs.Related.{AreRelated}
@@ -79,6 +79,9 @@ extent_after old number content = if number == EXTENT then unwrap_or (number_of 
 abbrev pub keys_at : ℕ → Content → List (List ℕ)
 keys_at number content = if number == KEYS then bytes_of content ∷ [] else []
 
+abbrev pub features_after : ℕ → ℕ → ℕ
+features_after old number = if number == FEATURES then old + 1 else old
+
 -- what is said by fields that break no rule
 pub record IsLayerHeader (payload_at : ℕ) (fields : List Entry) (header : LayerHeader) : Type 0 where
   pub version : IsVersionSoFar payload_at fields (Ok header.version)
@@ -86,6 +89,7 @@ pub record IsLayerHeader (payload_at : ℕ) (fields : List Entry) (header : Laye
   pub name_is : option_copied header.name ≡ name_in fields
   pub extent_is : header.extent ≡ extent_in fields
   pub keys_are : header.keys.items ≡ keys_in fields
+  pub features_are : header.features ≡ length (only FEATURES fields)
 
 -- the values, and the features, by the fields so far
 abbrev pub AreValuesSoFar : ℕ → List Entry → List Value → Type 0

@@ -24,7 +24,8 @@ use mvt_feature::{MessageError, Scratch};
 use mvt_wire::{Field, Fields};
 use std::alloc::Global;
 
-/// Has a visitor take the features of a layer with these keys and this number of values.
+/// Has a visitor take the features of a layer with these keys, this number of values, and so many
+/// features. What stands behind the last feature isn't looked at again.
 pub(crate) fn visit_features<V: LayerVisitor>(
     alloc: Global,
     visitor: &mut V,
@@ -32,10 +33,12 @@ pub(crate) fn visit_features<V: LayerVisitor>(
     payload_at: u64,
     keys: &[Text],
     values: usize,
+    features: usize,
 ) -> Result<(), MessageError>
     requires small { length payload.now < 2 ^ 32 }
     requires fits { payload_at + length payload.now < 2 ^ 64 }
     requires whole { (split payload.now).rest ≡ [] }
+    requires features { features ≡ length (only FEATURES (split payload.now).fields) }
     requires held { (items : List Item) × (held : List Value) × (length held ≡ values)
         × V.has_features items keys.now held visitor.old [] }
     ensures ok { (items : List Item) (held : List Value) → length held ≡ values
@@ -56,6 +59,9 @@ pub(crate) fn visit_features<V: LayerVisitor>(
     let mut scratch = Scratch::new(alloc);
     let mut count = 0usize;
     for field in Fields::new(payload) {
+        if count == features {
+            return Ok(());
+        }
         match field {
             Ok(field) => {
                 count = visit_field(

@@ -33,7 +33,7 @@ pub(crate) enum LayerFault {
     Value(MessageError),
 }
 
-/// What the fields of a payload say, if it is a layer of version 2, whose values a visitor takes.
+/// What the fields of a payload say, as those of a layer of version 2. A visitor takes the values.
 pub(crate) fn read_layer_fields<'a, V: LayerVisitor>(
     alloc: Global,
     visitor: &mut V,
@@ -75,7 +75,8 @@ impl<'a> LayerFields<'a> {
         field: &Field<'a>,
         payload_at: u64,
     ) -> Result<(), LayerFault>
-        requires few { self.old.values < 2 ^ 32 }
+        requires features { self.old.header.features < 2 ^ 32 }
+        requires values { self.old.values < 2 ^ 32 }
         requires at { payload_at + field.now.at < 2 ^ 64 }
         requires body { payload_at + (field.now.body + bytes_size
             (content_of field.now.payload)) < 2 ^ 64 }
@@ -113,6 +114,7 @@ pub(crate) fn header_fault_or(
     tag_at: u64,
     error: MessageError,
 ) -> MessageError
+    requires small { length payload.now < 2 ^ 32 }
     requires fits { payload_at + length payload.now < 2 ^ 64 }
     requires whole { (split payload.now).rest ≡ [] }
     requires versions { versions_fault payload_at (split payload.now).fields ≡ None }

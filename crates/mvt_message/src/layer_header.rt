@@ -1,13 +1,13 @@
 //! The fields of a layer besides the contents of its values and features (Mapbox Vector Tile
 //! Specification 2.1, 4.1).
-ghost use Rattle.std.specs.Prelude.{◌≡◌, ◌++◌, [], None, IfErr, OnOk};
+ghost use Rattle.std.specs.Prelude.{◌≡◌, ◌^◌, ◌<◌, ◌++◌, [], None, IfErr, OnOk};
 ghost use Rattle.std.specs.Option.{option_map, option_copied};
 ghost use Rattle.mvt_base.specs.Reports.{Reports};
 ghost use Rattle.mvt_base.specs.Rules.{first};
 ghost use Rattle.mvt_wire.specs.Field.{content_of};
 ghost use Rattle.mvt_feature.specs.Faults.{fault_of, fault_at as the_fault_at};
 ghost use Rattle.mvt_feature.specs.Forms.{number_rules};
-ghost use Rattle.mvt_message.specs.Inner.{header_forms, version_after, name_after, extent_after, keys_at};
+ghost use Rattle.mvt_message.specs.Inner.{header_forms, version_after, name_after, extent_after, keys_at, features_after};
 
 use crate::numbers::{DEFAULT_EXTENT, layer};
 use crate::payload::{check_bytes, text_of, uint32_of};
@@ -23,7 +23,7 @@ pub(crate) struct LayerHeader<'a> {
     pub(crate) name: Option<&'a str>,
     pub(crate) extent: u32,
     pub(crate) keys: Vec<Text>,
-    /// How many features there are, which is only a hint.
+    /// How many features there are.
     pub(crate) features: usize,
 }
 
@@ -33,6 +33,7 @@ impl<'a> LayerHeader<'a> {
         ensures name { option_copied result.name ≡ None }
         ensures extent { result.extent ≡ 4096 }
         ensures keys { result.keys.items ≡ [] }
+        ensures features { result.features ≡ 0 }
     {
         LayerHeader {
             version: None,
@@ -51,6 +52,7 @@ impl<'a> LayerHeader<'a> {
         field: &Field<'a>,
         at: u64,
     ) -> Result<(), MessageError>
+        requires few { self.old.features < 2 ^ 32 }
         ensures ok { OnOk result (first
             (number_rules header_forms field.now.number (content_of field.now.payload)) ≡ None) }
         ensures version { OnOk result (self.new.version
@@ -62,6 +64,8 @@ impl<'a> LayerHeader<'a> {
             ≡ extent_after self.old.extent field.now.number (content_of field.now.payload)) }
         ensures keys { OnOk result (self.new.keys.items
             ≡ self.old.keys.items ++ keys_at field.now.number (content_of field.now.payload)) }
+        ensures features { OnOk result (self.new.features
+            ≡ features_after self.old.features field.now.number) }
         ensures err { IfErr result (λ error. Reports (fault_of error)
             (option_map (the_fault_at at) (first
             (number_rules header_forms field.now.number (content_of field.now.payload))))) }
@@ -71,7 +75,7 @@ impl<'a> LayerHeader<'a> {
             layer::NAME => self.name = Some(text_of(payload, at)?),
             layer::FEATURES => {
                 check_bytes(payload, at)?;
-                self.features = self.features.saturating_add(1);
+                self.features += 1;
             }
             layer::KEYS => self
                 .keys

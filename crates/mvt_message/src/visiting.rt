@@ -171,6 +171,7 @@ fn foreign_version(
     tag_at: u64,
     fault: LayerFault,
 ) -> Result<u32, MessageError>
+    requires small { length payload.now < 2 ^ 32 }
     requires fits { payload_at + length payload.now < 2 ^ 64 }
     requires broken { (split payload.now).rest ≡ []
         → IsBroken payload_at (split payload.now).fields fault }
@@ -218,7 +219,9 @@ fn visit_parts<'a, V: LayerVisitor>(
         None => return Err(fault_at(tag_at, Cause::NoName)),
     };
     visitor.visit_keys(alloc, &header.keys, header.features)?;
-    visit_features(alloc, visitor, payload, payload_at, &header.keys, values)?;
+    let keys = &header.keys;
+    let features = header.features;
+    visit_features(alloc, visitor, payload, payload_at, keys, values, features)?;
     Ok(Visited::Layer {
         name,
         extent: header.extent,

@@ -101,9 +101,7 @@ fn append_numbers(bytes: &[u8], out: &mut Vec<u32>) -> Result<(), PackedError>
                 if number >= 1 << 32 {
                     return Err(PackedError::NumberRange);
                 }
-                if out.push(number as u32).is_err() {
-                    return Err(PackedError::Memory);
-                }
+                out.push_reserved(number as u32);
                 rest = &rest[size..];
             }
             Err(cause) => return Err(number_error(cause)),

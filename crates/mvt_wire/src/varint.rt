@@ -1,5 +1,5 @@
 //! Varints (Protocol Buffers, Encoding, "Base 128 Varints").
-ghost use Rattle.std.specs.Prelude.{◌≡◌, ℕ, ◌+◌, ◌≤◌, List, [], ◌∷◌, ◌++◌, length, take, IfOk, IfErr, IsOk, OnOk, OnErr, vec_len, vec_capacity};
+ghost use Rattle.std.specs.Prelude.{◌≡◌, ◌≢◌, ℕ, ◌+◌, ◌≤◌, List, [], ◌∷◌, ◌++◌, length, take, Ok, Err, IfOk, IfErr, IsOk, OnOk, OnErr, vec_len, vec_capacity};
 ghost use Rattle.mvt_wire.specs.Varint.{Spells, SpellsNone, spell_cause, short};
 ghost use Rattle.mvt_wire.specs.Fronts.{number_at};
 
@@ -36,27 +36,46 @@ pub(crate) fn varint_at(bytes: &[u8]) -> Result<(u64, usize), WireCause>
     match bytes {
         [a, ..] if *a < 128 => Ok((u64::from(*a), 1)),
         [a, b, ..] if *b < 128 => Ok((u64::from(*a & 0x7f) | (u64::from(*b) << 7), 2)),
-        _ => long_varint_at(bytes),
+        _ => {
+            let (number, size) = long_varint_at(bytes);
+            if size == 0 {
+                return Err(cause_of(bytes));
+            }
+            Ok((number, size))
+        }
     }
 }
 
-/// The same, byte by byte.
+/// The same, byte by byte; the size is 0 where the bytes begin with no varint. A pair is handed out
+/// in registers, so that short spellings don't pay for a place in memory.
 #[inline(never)]
-fn long_varint_at(bytes: &[u8]) -> Result<(u64, usize), WireCause>
-    ensures number { result ≡ number_at bytes.now }
-    ensures within { IfOk result (λ found. found.1 ≤ length bytes.now) }
+fn long_varint_at(bytes: &[u8]) -> (u64, usize)
+    ensures found { result.1 ≢ 0 → number_at bytes.now ≡ Ok result }
+    ensures none { result.1 ≡ 0 → number_at bytes.now ≡ Err (spell_cause bytes.now) }
+    ensures within { result.1 ≤ length bytes.now }
 {
     let mut value = 0u64;
     for (i, byte) in bytes.iter().enumerate() {
         if i == 9 && *byte > 1 {
-            return Err(WireCause::VarintRange);
+            return (0, 0);
         }
         value |= u64::from(*byte & 0x7f) << (7 * i);
         if *byte < 128 {
-            return Ok((value, i + 1));
+            return (value, i + 1);
         }
     }
-    Err(WireCause::Truncated)
+    (0, 0)
+}
+
+/// Why bytes begin with no varint.
+fn cause_of(bytes: &[u8]) -> WireCause
+    ensures { result ≡ spell_cause bytes.now }
+{
+    if bytes.len() < 10 {
+        WireCause::Truncated
+    } else {
+        WireCause::VarintRange
+    }
 }
 
 /// How many bytes the shortest spelling of a number has.

@@ -3,7 +3,7 @@ use Rattle.std.proofs.lemmas.Result.{err_from_is_err_and}
 use Rattle.mvt_wire.specs.Field.{entry_of}
 use Rattle.mvt_wire.specs.Fields.{Ahead}
 use Rattle.mvt_feature.proofs.FeatureLaws.{walks_start, walks_step}
-use Rattle.mvt_message.proofs.HeldLemmas.{features_few}
+use Rattle.mvt_message.proofs.HeldLemmas.{features_end, features_few}
 use Rattle.mvt_message.proofs.features.visit_features.Goals as goal
 
 pub loop-field-init : goal.loop-field-init
@@ -45,3 +45,14 @@ returns-in_err-count-in-Ok-clause-err g c = λ items held are has.
     let reported = (rw keys at c.in_err-count-in-Ok.ensures.err) items held done next.fields are
     (c.loop-field.invariant.2 items held are has) in
     rw (p.1, p.2, all) reported
+
+pub returns-then-count-features-clause-ok : goal.returns-then-count-features-clause-ok
+returns-then-count-features-clause-ok g c = λ items held are has.
+    let so_far = c.loop-field.invariant.2 items held are has in
+    (features_end c.loop-field.invariant.1 so_far c.if-count-features.true c.requires.features).so_far.0
+
+pub returns-then-count-features-clause-features : goal.returns-then-count-features-clause-features
+returns-then-count-features-clause-features g c = λ items held are has.
+    let so_far = c.loop-field.invariant.2 items held are has in
+    let whole = features_end c.loop-field.invariant.1 so_far c.if-count-features.true c.requires.features in
+    (whole.features, whole.so_far.1, whole.has)

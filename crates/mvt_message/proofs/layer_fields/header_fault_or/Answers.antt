@@ -4,7 +4,7 @@ use Rattle.mvt_wire.specs.Field.{entry_of}
 use Rattle.mvt_wire.specs.Fields.{Ahead}
 use Rattle.mvt_wire.specs.Split.{split}
 use Rattle.mvt_feature.proofs.FeatureLaws.{walks_start, walks_step}
-use Rattle.mvt_message.proofs.ReadLemmas.{header_start, header_step, header_stops, header_ends, forms_reported, name_reported, values_reported}
+use Rattle.mvt_message.proofs.ReadLemmas.{header_few, header_start, header_step, header_stops, header_ends, forms_reported, name_reported, values_reported}
 use Rattle.mvt_message.specs.LayerFields.{name_in}
 use Rattle.mvt_message.proofs.layer_fields.header_fault_or.Goals as goal
 
@@ -13,8 +13,12 @@ loop-field-init c = (
   [],
   walks_start _ _ (ap (λ (a : Ahead). a.to_come) c.into_iter-field-iterator.ensures.into_iter_gives ∙ c.new-field-items.ensures.fields)
       (rw c.into_iter-field-iterator.ensures.into_iter_gives c.new-field-items.ensures.place),
-  header_start _ _ c.new-header.ensures.version c.new-header.ensures.name c.new-header.ensures.extent c.new-header.ensures.keys,
+  header_start _ _ c.new-header.ensures.version c.new-header.ensures.name c.new-header.ensures.extent c.new-header.ensures.keys
+      c.new-header.ensures.features,
 )
+
+pub take-requires : goal.take-requires
+take-requires c = record { few = header_few c.loop-field.invariant.1 c.loop-field.invariant.2 c.requires.small }
 
 pub loop-field-preserved : goal.loop-field-preserved
 loop-field-preserved c =
@@ -22,7 +26,7 @@ loop-field-preserved c =
     let step = c.in-Ok-take.ensures in (
       done ++ entry_of c.in-Ok.field ∷ [],
       walks_step _ _ _ _ _ c.loop-field.invariant.1 (rw c.in-Ok.is at c.in-Some.ensures.steps).0,
-      header_step _ (entry_of c.in-Ok.field) c.loop-field.invariant.2 step.ok step.version step.name step.extent step.keys,
+      header_step _ (entry_of c.in-Ok.field) c.loop-field.invariant.2 step.ok step.version step.name step.extent step.keys step.features,
     )
 
 pub returns-in-Err-take : goal.returns-in-Err-take

@@ -3,7 +3,7 @@ use Rattle.mvt_wire.specs.Field.{entry_of}
 use Rattle.mvt_wire.specs.Fields.{Ahead}
 use Rattle.mvt_feature.proofs.FeatureLaws.{walks_start, walks_step}
 use Rattle.mvt_message.proofs.HeldLemmas.{values_few}
-use Rattle.mvt_message.proofs.ReadLemmas.{header_start, never_whole}
+use Rattle.mvt_message.proofs.ReadLemmas.{header_few, header_start, never_whole}
 use Rattle.std.proofs.lemmas.Result.{err_from_is_err_and}
 use Rattle.mvt_message.proofs.layer_fields.read_layer_fields.Goals as goal
 
@@ -13,14 +13,19 @@ loop-field-init g c = (
   walks_start _ _ (ap (λ (a : Ahead). a.to_come) c.into_iter-field-iterator.ensures.into_iter_gives ∙ c.new-field-items.ensures.fields)
       (rw c.into_iter-field-iterator.ensures.into_iter_gives c.new-field-items.ensures.place),
   λ items has. (
-    header_start _ c.new.result c.new.ensures.version c.new.ensures.name c.new.ensures.extent c.new.ensures.keys,
+    header_start _ c.new.result c.new.ensures.version c.new.ensures.name c.new.ensures.extent c.new.ensures.keys c.new.ensures.features,
     record { values = []; so_far = (refl, tt); counted = refl; has = has },
   ),
   λ items has before. before,
 )
 
-pub take-requires-clause-few : goal.take-requires-clause-few
-take-requires-clause-few g c =
+pub take-requires-clause-features : goal.take-requires-clause-features
+take-requires-clause-features g c =
+    let (items, has) = c.requires.start in
+    header_few c.loop-field.invariant.1 (c.loop-field.invariant.2 items has).0 c.requires.small
+
+pub take-requires-clause-values : goal.take-requires-clause-values
+take-requires-clause-values g c =
     let (items, has) = c.requires.start in
     values_few c.args.payload.now c.loop-field.field-iterator.to_come (c.loop-field.invariant.2 items has).1
     c.loop-field.invariant.1 c.requires.small

@@ -14,6 +14,11 @@ returns-in-None-clause-fault g c =
     let none : None ≡ name_in fields = ap option_copied (sym c.in-None.is) ∙ head.name_is in
     rw c.fault_at.ensures (name_reported c.args.payload_at c.args.tag_at fields head.clean none)
 
+pub visit_features-requires-clause-features : goal.visit_features-requires-clause-features
+visit_features-requires-clause-features g c =
+    let (items, front) = c.requires.front in
+    front.0.features_are
+
 pub visit_features-requires-clause-held : goal.visit_features-requires-clause-held
 visit_features-requires-clause-held g c =
     let (items, front) = c.requires.front in

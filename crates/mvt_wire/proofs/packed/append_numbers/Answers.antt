@@ -18,7 +18,14 @@ loop-rest-preserved c =
       read = inv.read ++ c.in-Ok.number ∷ [];
       split = read_on c.args.bytes.now c.loop-rest.rest.now inv.read c.in-Ok.number c.in-Ok.size inv.split (sym c.in-Ok.ensures.number);
       clean = read_clean inv.read c.in-Ok.number inv.clean c.if-number.false;
-      items = grind (arith, append_assoc, inv.items, c.push.ensures.items, c.if-is_err.ensures.negation);
+      items = grind (arith, append_assoc, inv.items, c.push_reserved.ensures.items);
+      room = omega (
+        arith,
+        inv.room,
+        c.push_reserved.ensures.len,
+        c.push_reserved.ensures.capacity,
+        read_smaller c.loop-rest.rest.now c.in-Ok.number c.in-Ok.size (sym c.in-Ok.ensures.number),
+      );
     }
 
 pub returns-in-Err-clause-err : goal.returns-in-Err-clause-err

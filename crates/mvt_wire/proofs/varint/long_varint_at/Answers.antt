@@ -1,17 +1,18 @@
-use Rattle.std.proofs.Common.{refl, sym, arith, get_or}
-use Rattle.mvt_wire.proofs.VarintLemmas.{IsGroup, varint_past, varint_ends, varint_cut, varint_goes_on, group_set, going_on-more}
+use Rattle.std.proofs.Common.{Err, refl, ap, ◌∙◌, arith, get_or}
+use Rattle.mvt_wire.proofs.VarintLemmas.{IsGroup, number_none, varint_past, varint_ends, varint_cut, varint_goes_on, group_set, going_on-more}
 use Rattle.mvt_wire.proofs.varint.long_varint_at.Goals as goal
 use Rattle.mvt_wire.proofs.varint.long_varint_at.Goals.{else-i-eq9-via-then-i-eq9+else-byte-gt1, else-i-eq9-via-else-i-eq9}
 
-pub returns-then-byte-gt1-clause-number : goal.returns-then-byte-gt1-clause-number
-returns-then-byte-gt1-clause-number c =
+pub returns-then-byte-gt1-clause-none : goal.returns-then-byte-gt1-clause-none
+returns-then-byte-gt1-clause-none c = λ _.
     let b = c.args.bytes.now in
-    sym
-    (varint_past b c.loop-i.i (get_or b c.loop-i.i 0) c.if-i-eq9.true c.loop-i-test.true refl c.if-byte-gt1.true
-    c.loop-i.invariant.goes_on)
+    let past =
+    varint_past b c.loop-i.i (get_or b c.loop-i.i 0) c.if-i-eq9.true c.loop-i-test.true refl c.if-byte-gt1.true
+    c.loop-i.invariant.goes_on in
+    past ∙ ap Err (number_none b _ past).1
 
-pub returns-then-byte-lt128-clause-number : goal.returns-then-byte-lt128-clause-number
-returns-then-byte-lt128-clause-number c =
+pub returns-then-byte-lt128-clause-found : goal.returns-then-byte-lt128-clause-found
+returns-then-byte-lt128-clause-found c = λ _.
     let b = c.args.bytes.now in
     let inv = c.loop-i.invariant in
     let group : IsGroup c.loop-i.i (get_or b c.loop-i.i 0) = record {
@@ -22,9 +23,8 @@ returns-then-byte-lt128-clause-number c =
       ];
     } in
     rw c.from.ensures
-    (sym
     (varint_ends b c.loop-i.i c.loop-i.value (get_or b c.loop-i.i 0) c.loop-i-test.true refl c.if-byte-lt128.true group
-    inv.goes_on inv.sum))
+    inv.goes_on inv.sum)
 
 pub loop-i-preserved : goal.loop-i-preserved
 loop-i-preserved c =
@@ -44,7 +44,8 @@ loop-i-preserved c =
       sum = rw c.from.ensures (group_set b c.loop-i.i c.loop-i.value (get_or b c.loop-i.i 0) c.loop-i-test.true refl group inv.sum);
     }
 
-pub returns-clause-number : goal.returns-clause-number
-returns-clause-number c =
+pub returns-clause-none : goal.returns-clause-none
+returns-clause-none c = λ _.
     let inv = c.loop-i.invariant in
-    sym (varint_cut c.args.bytes.now c.loop-i.i inv.within c.loop-i-test.false inv.goes_on)
+    let cut = varint_cut c.args.bytes.now c.loop-i.i inv.within c.loop-i-test.false inv.goes_on in
+    cut ∙ ap Err (number_none c.args.bytes.now _ cut).1

@@ -12,6 +12,6 @@ returns-in-Err-take_value-clause-broken g c = λ items done more so_far. c.in-Er
 pub returns-clause-ok : goal.returns-clause-ok
 returns-clause-ok g c = λ items done so_far.
     let step = c.in-Ok.ensures in (
-      header_step _ (entry_of c.args.field.now) so_far.0 step.ok step.version step.name step.extent step.keys,
+      header_step _ (entry_of c.args.field.now) so_far.0 step.ok step.version step.name step.extent step.keys step.features,
       c.in-Ok-take_value.ensures.ok items done so_far.1,
     )
