@@ -18,7 +18,8 @@ use Rattle.mvt_feature.specs.Forms.{number_rules}
 use Rattle.mvt_feature.specs.Values.{value_forms, Means}
 use Rattle.mvt_feature.specs.ValueRules.{is_kind, kinds, are_one_kind, value_field_rules}
 use Rattle.mvt_feature.proofs.ValueLemmas.{rules_clean}
-use Rattle.mvt_feature.specs.Inner.{value_of, kinds_with, AreKindsOf, AreSoFar}
+use Rattle.mvt_feature.specs.Meanings.{meant}
+use Rattle.mvt_feature.specs.Inner.{kinds_with, AreKindsOf, AreSoFar}
 
 kinds_take : (done : List Entry) (x : Entry) → is_kind x ≡ true → kinds (done ++ x ∷ []) ≡ kinds done ++ x ∷ []
 kinds_take done x h = filter-append is_kind done (x ∷ []) ∙ ap (λ b. kinds done ++ (if b then x ∷ [] else [])) h
@@ -44,7 +45,7 @@ one_number y ys x =
 -- one more field of a kind, after an only kind
 one_more : (y : Entry) (ys : List Entry) (x last : Entry) (number : ℕ) (old m : Meaning) (b : Bool)
     → (number == x.number) ≡ b → are_one_kind (y ∷ ys) ≡ true → last_or None (y ∷ ys) ≡ Some last → last.number ≡ number
-    → Means x.number x.content (value_of m)
+    → Means x.number x.content (meant m)
     → AreKindsOf (y ∷ ys ++ x ∷ []) (if b then One x.number m else Several)
 one_more y ys x last number old m true same one is named means =
     let of_first : last.number ≡ y.number = same_number y.number y ys last refl one is in
@@ -59,7 +60,7 @@ one_more y ys x last number old m false same one is named means =
 
 -- one more field of a kind
 with_more : (ys : List Entry) (k : Kinds) (x : Entry) (m : Meaning) → AreKindsOf ys k
-    → Means x.number x.content (value_of m) → AreKindsOf (ys ++ x ∷ []) (kinds_with k x.number m)
+    → Means x.number x.content (meant m) → AreKindsOf (ys ++ x ∷ []) (kinds_with k x.number m)
 with_more ys Nothing x m are means = rw are (refl, (x, (refl, (refl, means))))
 with_more [] (One number old) x m are means = cc (are.0)
 with_more (y ∷ ys) (One number old) x m (one, (last, (is, (named, old_means)))) means =
@@ -85,7 +86,7 @@ so_far_skip payload_at done k x so_far clean skip = (
 
 pub so_far_with : (payload_at : ℕ) (done : List Entry) (k : Kinds) (x : Entry) (m : Meaning)
     → AreSoFar payload_at done (Ok k) → first (number_rules value_forms x.number x.content) ≡ None → is_kind x ≡ true
-    → Means x.number x.content (value_of m) → AreSoFar payload_at (done ++ x ∷ []) (Ok (kinds_with k x.number m))
+    → Means x.number x.content (meant m) → AreSoFar payload_at (done ++ x ∷ []) (Ok (kinds_with k x.number m))
 so_far_with payload_at done k x m so_far clean take means = (
   each_more (λ _. value_field_rules payload_at) done x so_far.0 ∙ rules_clean payload_at x clean,
   subst (λ ys. AreKindsOf ys (kinds_with k x.number m)) (sym (kinds_take done x take))

@@ -16,7 +16,8 @@ use Rattle.mvt_feature.specs.declared.numbers.value.TheConstants.{STRING, FLOAT,
 use Rattle.mvt_wire.specs.Zigzag.{zig, unzig}
 use Rattle.mvt_feature.specs.declared.value.Meaning.{Meaning}
 use Rattle.mvt_feature.specs.declared.value.Kinds.TheVariants.{One}
-use Rattle.mvt_feature.specs.Inner.{value_of, AreKinds}
+use Rattle.mvt_feature.specs.Meanings.{meant}
+use Rattle.mvt_feature.specs.Inner.{AreKinds}
 use Rattle.mvt_base.proofs.OrderLemmas.{first_is_least, least_is_first, AreRowsFrom, rows_ordered, each_ordered, when_ordered}
 use Rattle.mvt_base.proofs.TableLemmas.{firsts, first-rows_all, when_none, none_each}
 use Rattle.mvt_base.proofs.SelectionLemmas.{only_number, only_all, last_of_all, last_there}
@@ -204,12 +205,12 @@ split_of payload xs whole = let only = split_function_only payload [] xs whole i
 -- the value of `read_meaning`
 pub kinds_value : (payload : List ℕ) (payload_at number : ℕ) (m : Meaning) → (split payload).rest ≡ []
     → ValuesClean payload_at (split payload).fields → AreKinds (split payload).fields (One number m)
-    → IsValueOf payload (value_of m)
+    → IsValueOf payload (meant m)
 kinds_value payload payload_at number m rest clean (one, (last, (is, (named, means)))) = (
   (split payload).fields,
   split_function_whole payload rest,
-  value_from payload_at (split payload).fields last (value_of m) clean one is
-      (subst (λ n. Means n last.content (value_of m)) (sym named) means),
+  value_from payload_at (split payload).fields last (meant m) clean one is
+      (subst (λ n. Means n last.content (meant m)) (sym named) means),
 )
 
 -- a field of a kind, of the right form, says a value

@@ -1,9 +1,11 @@
--- A feature whose tags are left as they stand (Mapbox Vector Tile Specification 2.1, 4.2).
-use Rattle.std.specs.Prelude.{ℕ, List}
+-- A feature whose tags are left as they stand, and whose geometry was told (Mapbox Vector Tile Specification 2.1, 4.2).
+use Rattle.std.specs.Prelude.{◌≡◌, ℕ, List}
 use Rattle.mvt_attrs.specs.declared.value.Attribute.{Attribute}
 use Rattle.mvt_attrs.specs.declared.value.Value.{Value}
 use Rattle.mvt_attrs.specs.Tags.{Resolved}
-use Rattle.mvt_feature.specs.declared.feature.Drawn.{Drawn}
+use Rattle.mvt_geometry.specs.declared.shape.Geometry.{Geometry}
+use Rattle.mvt_geometry.specs.Shape.{kind_of}
+use Rattle.mvt_feature.specs.declared.feature_fields.FeatureFields.{FeatureFields}
 use Rattle.mvt_feature.specs.declared.scratch.Scratch.{Scratch}
 use Rattle.mvt_feature.specs.Features.{IsFeatureOf}
 
@@ -11,8 +13,13 @@ use Rattle.mvt_feature.specs.Features.{IsFeatureOf}
 abbrev pub tags_of : Scratch → List ℕ
 tags_of scratch = scratch.tags.items
 
--- a payload that is a feature with this id and this geometry, and with the attributes that these tags name
-abbrev pub IsDrawnOf : List ℕ → List (List ℕ) → List Value → List ℕ → Drawn → Type 0
-IsDrawnOf payload keys values tags drawn =
-    (attributes : List Attribute) × Resolved keys values tags attributes
-    × IsFeatureOf payload keys values (record { id = drawn.id; attributes = attributes; geometry = drawn.geometry })
+-- a payload that is a feature with this id and this type, with the attributes that these tags name, and with a geometry of which
+-- something holds
+pub record IsDrawnOf (payload : List ℕ) (keys : List (List ℕ)) (values : List Value) (tags : List ℕ) (Holds : Geometry → Type 0)
+    (known : FeatureFields) : Type 0 where
+  pub attributes : List Attribute
+  pub geometry : Geometry
+  pub resolved : Resolved keys values tags attributes
+  pub is : IsFeatureOf payload keys values (record { id = known.id; attributes = attributes; geometry = geometry })
+  pub kind : known.kind ≡ kind_of geometry
+  pub holds : Holds geometry

@@ -2,7 +2,6 @@
 use Rattle.std.specs.Prelude.{◌≡◌, ◌≢◌, ℕ, ◌==◌, true, false, List, [], Option, Some, None, Result, if◌then◌else◌}
 use Rattle.std.specs.List.{last_or}
 use Rattle.mvt_attrs.specs.declared.value.Value.{Value}
-use Rattle.mvt_attrs.specs.declared.value.Value.TheVariants as values
 use Rattle.mvt_attrs.specs.Tags.{Resolved}
 use Rattle.mvt_geometry.specs.declared.shape.Kind.{Kind}
 use Rattle.mvt_geometry.specs.Drawing.{Draws}
@@ -13,9 +12,9 @@ use Rattle.mvt_feature.specs.declared.feature.Feature.{Feature}
 use Rattle.mvt_feature.specs.declared.feature_fields.FeatureFields.{FeatureFields}
 use Rattle.mvt_feature.specs.declared.scratch.Scratch.{Scratch}
 use Rattle.mvt_feature.specs.declared.value.Meaning.{Meaning}
-use Rattle.mvt_feature.specs.declared.value.Meaning.TheVariants as meanings
 use Rattle.mvt_feature.specs.declared.value.Kinds.{Kinds}
 use Rattle.mvt_feature.specs.declared.value.Kinds.TheVariants.{Nothing, One, Several}
+use Rattle.mvt_feature.specs.Meanings.{meant}
 use Rattle.mvt_feature.specs.Features.{number_of, number_in, kind_of_type, IsFeatureOf}
 use Rattle.mvt_feature.specs.FeatureRules.{numbers_of, joined, kind_in, feature_field_rules}
 use Rattle.mvt_feature.specs.Selection.{last_only}
@@ -23,22 +22,12 @@ use Rattle.mvt_feature.specs.Values.{Means}
 use Rattle.mvt_feature.specs.Walks.{IsSoFar}
 use Rattle.mvt_feature.specs.ValueRules.{kinds, are_one_kind, value_field_rules}
 
--- the value that a field means
-abbrev pub value_of : Meaning → Value
-value_of (meanings.Text text) = values.Text text.now
-value_of (meanings.Float bits) = values.Float bits
-value_of (meanings.Double bits) = values.Double bits
-value_of (meanings.Int z) = values.Int z
-value_of (meanings.Uint n) = values.Uint n
-value_of (meanings.Sint z) = values.Sint z
-value_of (meanings.Bool b) = values.Bool b
-
 -- the kinds that occur in fields, and what the last field of an only kind says
 abbrev pub AreKindsOf : List Entry → Kinds → Type 0
 AreKindsOf fields Nothing = fields ≡ []
 AreKindsOf fields (One number meaning) =
     (are_one_kind fields ≡ true)
-    × ((x : Entry) × ((last_or None fields ≡ Some x) × ((x.number ≡ number) × Means number x.content (value_of meaning))))
+    × ((x : Entry) × ((last_or None fields ≡ Some x) × ((x.number ≡ number) × Means number x.content (meant meaning))))
 AreKindsOf fields Several = (fields ≢ []) × (are_one_kind fields ≡ false)
 
 -- the fields of a value's payload that have one of its kinds

@@ -4,6 +4,7 @@ pub mod Selection
 pub mod Forms
 pub mod Texts
 pub mod Values
+pub mod Meanings
 pub mod ValueRules
 pub mod ValueIn
 pub mod Features

@@ -14,13 +14,6 @@ pub struct Feature {
     pub geometry: Geometry,
 }
 
-/// A feature without its attributes.
-#[derive(Debug, Drop)]
-pub struct Drawn {
-    pub id: Option<u64>,
-    pub geometry: Geometry,
-}
-
 impl Feature {
     /// An equal feature.
     ///

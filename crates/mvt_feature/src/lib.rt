@@ -19,12 +19,13 @@ mod writing;
 
 pub use bound::room_after_feature;
 pub use cause::Cause;
-pub use feature::{Drawn, Feature};
+pub use feature::Feature;
+pub use feature_fields::FeatureFields;
 pub use message_error::MessageError;
-pub use reading::{judge_feature, read_drawn, read_feature, read_feature_in};
+pub use reading::{draw_feature, judge_feature, read_feature, read_feature_in};
 pub use rewriting::rewrite_feature;
 pub use scratch::Scratch;
 pub use validity::{is_valid_feature, validate_feature};
-pub use value::{judge_value, read_value, text_of, varint_of};
+pub use value::{Meaning, judge_value, read_meaning, read_value, text_of, varint_of};
 pub use whole::{fault_at, rest_fault};
 pub use writing::{append_feature, append_value, value_len};

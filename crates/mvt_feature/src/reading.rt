@@ -2,19 +2,20 @@
 ghost use Rattle.std.specs.Prelude.{◌≡◌, ◌+◌, ◌^◌, ◌<◌, List, length, None, IfOk, IfErr, OnOk};
 ghost use Rattle.mvt_base.specs.Reports.{Reports};
 ghost use Rattle.mvt_attrs.specs.declared.value.Value.{Value};
+ghost use Rattle.mvt_geometry.specs.Visiting.{HasDrawn};
 ghost use Rattle.mvt_feature.specs.Faults.{fault_of};
 ghost use Rattle.mvt_feature.specs.Drawn.{tags_of, IsDrawnOf};
 ghost use Rattle.mvt_feature.specs.Features.{IsFeatureOf};
 ghost use Rattle.mvt_feature.specs.FeatureRules.{feature_fault};
 ghost use Rattle.mvt_feature.specs.Inner.{IsJudged};
 
-use crate::feature::{Drawn, Feature};
+use crate::feature::Feature;
 use crate::feature_fields::{FeatureFields, read_fields};
 use crate::message_error::MessageError;
 use crate::scratch::Scratch;
 use mvt_attrs::{LayerKeys, Value, judge_tags, resolve_in};
 use mvt_base::{Items, Text};
-use mvt_geometry::{judge_geometry, read_geometry};
+use mvt_geometry::{GeometryVisitor, draw_geometry, judge_geometry, read_geometry};
 use std::alloc::Global;
 
 /// The feature of a payload, in a layer with these keys and values.
@@ -75,24 +76,27 @@ pub fn read_feature_in(
     })
 }
 
-/// The id and the geometry of a feature, in a layer with these keys and this number of values.
+/// Tells a visitor the geometry of a feature, in a layer with these keys and this number of values,
+/// and answers what else its fields say.
 ///
 /// The tags are left in the scratch, as they stand.
 ///
 /// # Errors
 ///
 /// As `read_feature`.
-pub fn read_drawn(
+pub fn draw_feature<V: GeometryVisitor>(
     alloc: Global,
+    visitor: &mut V,
     payload: &[u8],
     payload_at: u64,
     keys: &mut LayerKeys<'_>,
     values: usize,
     scratch: &mut Scratch,
-) -> Result<Drawn, MessageError>
+) -> Result<FeatureFields, MessageError>
     requires { payload_at + length payload.now < 2 ^ 64 }
-    ensures feature { IfOk result (λ drawn. (held : List Value) → length held ≡ values
-        → IsDrawnOf payload.now keys.old held (tags_of scratch.new) drawn) }
+    ensures feature { IfOk result (λ known. (held : List Value) → length held ≡ values
+        → IsDrawnOf payload.now keys.old held (tags_of scratch.new)
+        (HasDrawn V.has_parts V.has_integers visitor.old visitor.new) known) }
     ensures ok { OnOk result ((held : List Value) → length held ≡ values
         → feature_fault payload.now payload_at keys.old held ≡ None) }
     ensures err { IfErr result (λ error. (held : List Value) → length held ≡ values
@@ -102,11 +106,8 @@ pub fn read_drawn(
     let known = read_fields(payload, payload_at, scratch)?;
     let tags = &scratch.tags;
     judge_tags(alloc, keys, values, tags)?;
-    let geometry = read_geometry(alloc, known.kind, &scratch.integers)?;
-    Ok(Drawn {
-        id: known.id,
-        geometry,
-    })
+    draw_geometry(visitor, known.kind, &scratch.integers)?;
+    Ok(known)
 }
 
 /// Whether a payload is a feature, in a layer with these keys and this number of values.

@@ -10,7 +10,8 @@ ghost use Rattle.mvt_feature.specs.Faults.{fault_of, rest_rules};
 ghost use Rattle.mvt_feature.specs.Forms.{any_varint, float, double, string, form_rules, number_rules};
 ghost use Rattle.mvt_feature.specs.Values.{value_forms, Means, IsValueOf};
 ghost use Rattle.mvt_feature.specs.ValueRules.{is_kind, value_field_rules, value_fault};
-ghost use Rattle.mvt_feature.specs.Inner.{value_of, kinds_with, AreKinds};
+ghost use Rattle.mvt_feature.specs.Meanings.{meant};
+ghost use Rattle.mvt_feature.specs.Inner.{kinds_with, AreKinds};
 
 use crate::cause::Cause;
 use crate::message_error::MessageError;
@@ -21,6 +22,18 @@ use mvt_base::Text;
 use mvt_wire::{Field, Fields, Payload, unzigzag64};
 use std::alloc::{AllocError, Global};
 use std::str;
+
+/// A value whose text is lent (Mapbox Vector Tile Specification 2.1, 4.1, message Value).
+#[derive(Clone, Copy, Debug)]
+pub enum Meaning<'a> {
+    Text(&'a str),
+    Float(u32),
+    Double(u64),
+    Int(i64),
+    Uint(u64),
+    Sint(i64),
+    Bool(bool),
+}
 
 /// The value of a payload.
 ///
@@ -64,11 +77,19 @@ pub fn judge_value(payload: &[u8], payload_at: u64, tag_at: u64) -> Result<(), M
     Ok(())
 }
 
-/// What the last field of the only kind says.
+/// What a payload means as a value, without memory: its text is lent.
+///
+/// # Errors
+///
+/// As `read_value`, but memory never runs out.
 #[inline(always)]
-fn read_meaning(payload: &[u8], payload_at: u64, tag_at: u64) -> Result<Meaning<'_>, MessageError>
+pub fn read_meaning(
+    payload: &[u8],
+    payload_at: u64,
+    tag_at: u64,
+) -> Result<Meaning<'_>, MessageError>
     requires { payload_at + length payload.now < 2 ^ 64 }
-    ensures value { IfOk result (λ meaning. IsValueOf payload.now (value_of meaning)) }
+    ensures value { IfOk result (λ meaning. IsValueOf payload.now (meant meaning)) }
     ensures ok { OnOk result (value_fault payload.now payload_at tag_at ≡ None) }
     ensures err { IfErr result (λ error. Reports (fault_of error)
         (value_fault payload.now payload_at tag_at)) }
@@ -88,18 +109,6 @@ enum Kinds<'a> {
     /// Only this one, and what its last field says.
     One { number: u32, meaning: Meaning<'a> },
     Several,
-}
-
-/// What a field says.
-#[derive(Clone, Copy, Debug)]
-enum Meaning<'a> {
-    Text(&'a str),
-    Float(u32),
-    Double(u64),
-    Int(i64),
-    Uint(u64),
-    Sint(i64),
-    Bool(bool),
 }
 
 /// The kinds that occur in a payload.
@@ -146,8 +155,8 @@ impl<'a> Kinds<'a> {
 
 impl Meaning<'_> {
     fn into_value(self, alloc: Global) -> Result<Value, AllocError>
-        ensures same { IfOk result (λ value. value ≡ value_of self.entry) }
-        ensures memory { OnErr result ((text : List ℕ) × (value_of self.entry ≡ values.Text text)
+        ensures same { IfOk result (λ value. value ≡ meant self.entry) }
+        ensures memory { OnErr result ((text : List ℕ) × (meant self.entry ≡ values.Text text)
             × (14 < length text)) }
     {
         match self {
@@ -170,7 +179,7 @@ fn meaning_of<'a>(field: &Field<'a>) -> Result<Option<Meaning<'a>>, Cause>
     ensures means { IfOk result (λ meaning. MatchOption meaning
         (is_kind (entry_of field.now) ≡ false)
         (λ m. (is_kind (entry_of field.now) ≡ true)
-        × Means field.now.number (content_of field.now.payload) (value_of m))) }
+        × Means field.now.number (content_of field.now.payload) (meant m))) }
     ensures err { IfErr result (λ cause. first
         (number_rules value_forms field.now.number (content_of field.now.payload)) ≡ Some cause) }
 {

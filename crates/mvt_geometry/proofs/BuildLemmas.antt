@@ -181,7 +181,7 @@ some_rings (p ∷ polygons) h = omega arith
 
 pub draws_polygons : (ints : List ℕ) (g : Geometry) → Draws kinds.Polygon ints g
     → (polygons : List Polygon) × (g ≡ Polygons polygons) × SpellRings ints (rings_of polygons)
-    × (polygons_of (rings_of polygons) ≡ polygons)
+    × (polygons_of (rings_of polygons) ≡ polygons) × Grouped (rings_of polygons) polygons
 draws_polygons ints (Unknown u) d = cc d.same_kind
 draws_polygons ints (Points ps) d = cc d.same_kind
 draws_polygons ints (Lines ls) d = cc d.same_kind
@@ -195,4 +195,5 @@ draws_polygons ints (Polygons polygons) d =
       refl,
       record { lines = record { are = weaker; spelled = d.spelled }; some = some_rings polygons d.valid.0 },
       one_grouping rings polygons d.valid.0,
+      d.valid.0,
     )

@@ -13,6 +13,8 @@ mod PolygonLemmas
 mod GroupLemmas
 mod WholeLemmas
 mod BuildLemmas
+mod DrawLemmas
+mod PartLemmas
 mod WritingLemmas
 mod ValidLemmas
 mod OrderedLemmas

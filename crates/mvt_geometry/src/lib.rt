@@ -14,6 +14,7 @@ pub mod laws;
 mod reading;
 mod shape;
 mod validity;
+mod visiting;
 mod writing;
 
 pub use area::twice_area;
@@ -23,4 +24,5 @@ pub use judging::judge_geometry;
 pub use reading::read_geometry;
 pub use shape::{Geometry, Kind, Point, Polygon, kind_of};
 pub use validity::is_valid_geometry;
+pub use visiting::{GeometryVisitor, draw_geometry};
 pub use writing::{append_geometry, put_geometry};

@@ -266,6 +266,90 @@ fn reports_faults(rt: HostRuntime) {
     expect_faults(&rt);
 }
 
+// The points that were told, how many each part had and whether it was exterior, and integers.
+#[derive(Drop)]
+struct Told {
+    points: Vec<(i32, i32)>,
+    ends: Vec<(usize, bool)>,
+    integers: Vec<u32>,
+}
+
+impl GeometryVisitor for Told {
+    ghost use Rattle.std.specs.Prelude.{⊤};
+
+    ghost has_parts = { λ start parts begun now. ⊤ };
+
+    ghost has_integers = { λ start integers now. ⊤ };
+
+    ghost begins = { λ start. tt };
+
+    fn visit_point(&mut self, point: Point) -> Result<(), AllocError> {
+        self.points.push((point.x, point.y))?;
+        Ok(())
+    }
+
+    fn end_part(&mut self, points: usize, exterior: bool) -> Result<(), AllocError> {
+        self.ends.push((points, exterior))?;
+        Ok(())
+    }
+
+    fn visit_integers(&mut self, integers: &[u32]) -> Result<(), AllocError> {
+        self.integers.extend_from_slice(integers)
+    }
+}
+
+fn expect_told(
+    rt: &(impl Abort + AllocGlobal),
+    kind: Kind,
+    integers: &[u32],
+    points: &[(i32, i32)],
+    ends: &[(usize, bool)],
+) {
+    let mut told = Told {
+        points: Vec::new(rt.alloc()),
+        ends: Vec::new(rt.alloc()),
+        integers: Vec::new(rt.alloc()),
+    };
+    draw_geometry(&mut told, kind, integers).expect(rt, "a geometry");
+    expect!(rt; told.points.as_slice() == points);
+    expect!(rt; told.ends.as_slice() == ends);
+    expect!(rt; told.integers.is_empty() || told.integers.as_slice() == integers);
+    expect!(rt; told.integers.is_empty() != (kind == Kind::Unknown));
+    drop(told);
+}
+
+// The second and the third are the examples of the specification (4.3.5.4 and 4.3.5.6).
+#[test]
+fn tells_parts(rt: HostRuntime) {
+    let points = [(5, 7), (3, 2)];
+    let ends = [(2, false)];
+    expect_told(&rt, Kind::Point, &[17, 10, 14, 3, 9], &points, &ends);
+    let lines = [9, 4, 4, 18, 0, 16, 16, 0, 9, 17, 17, 10, 4, 8];
+    let points = [(2, 2), (2, 10), (10, 10), (1, 1), (3, 5)];
+    let ends = [(3, false), (2, false)];
+    expect_told(&rt, Kind::LineString, &lines, &points, &ends);
+    let polygons = [
+        9, 0, 0, 26, 20, 0, 0, 20, 19, 0, 15, 9, 22, 2, 26, 18, 0, 0, 18, 17, 0, 15, 9, 4, 13, 26,
+        0, 8, 8, 0, 0, 7, 15,
+    ];
+    let first = [(0, 0), (10, 0), (10, 10), (0, 10)];
+    let others = [
+        (11, 11),
+        (20, 11),
+        (20, 20),
+        (11, 20),
+        (13, 13),
+        (13, 17),
+        (17, 17),
+        (17, 13),
+    ];
+    let mut points = Vec::from_slice(rt.alloc(), &first).expect(&rt, "points");
+    points.extend_from_slice(&others).expect(&rt, "points");
+    let ends = [(4, true), (4, true), (4, false)];
+    expect_told(&rt, Kind::Polygon, &polygons, &points, &ends);
+    expect_told(&rt, Kind::Unknown, &[7, 7], &[], &[]);
+}
+
 fn expect_area(rt: &(impl Abort + AllocGlobal), points: &[(i32, i32)], twice: i128) {
     let line = line(rt.alloc(), points).expect(rt, "a line");
     expect_eq!(rt; twice_area(line.as_slice()), twice);

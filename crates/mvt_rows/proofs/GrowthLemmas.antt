@@ -3,10 +3,10 @@ use Rattle.std.proofs.Common.{◌≡◌, ℕ, ◌==◌, List, [], ◌∷◌, ◌
 use Rattle.std.specs.List.{fold}
 use Rattle.mvt_attrs.specs.declared.value.Value.{Value}
 use Rattle.mvt_attrs.specs.declared.value.Value.TheVariants.{Text}
-use Rattle.mvt_geometry.specs.declared.shape.Point.{Point}
 use Rattle.mvt_geometry.specs.declared.shape.Polygon.{Polygon}
 use Rattle.mvt_geometry.specs.declared.shape.Geometry.{Geometry}
 use Rattle.mvt_geometry.specs.declared.shape.Geometry.TheVariants.{Unknown, Points, Lines, Polygons}
+use Rattle.mvt_geometry.specs.Visiting.{Part, parts_of}
 use Rattle.mvt_feature.specs.declared.feature.Feature.{Feature}
 use Rattle.mvt_message.specs.declared.item.Item.{Item}
 use Rattle.mvt_message.specs.declared.item.Item.TheVariants.{Layer, Foreign}
@@ -17,7 +17,7 @@ use Rattle.mvt_rows.specs.declared.rows.LayerRow.{LayerRow}
 use Rattle.mvt_rows.specs.declared.rows.PartRow.{PartRow}
 use Rattle.mvt_rows.specs.declared.rows.PointRow.{PointRow}
 use Rattle.mvt_rows.specs.declared.rows.ValueRow.{ValueRow}
-use Rattle.mvt_rows.specs.Tables.{Table, with_key, with_value, with_part, with_polygon, with_geometry}
+use Rattle.mvt_rows.specs.Tables.{Table, with_key, with_value, with_part, with_geometry}
 use Rattle.mvt_rows.specs.TileRows.{each, part_of, steps, text_of, value_of, utf8_of, line_of, point_of, with_ring_row, points_of, drawn_of, geometry_of, IsFeature, IsLayer, IsItem}
 use Rattle.mvt_rows.proofs.RowLemmas.{Stays, stays_then, stays_map, stays_if, each_stays, steps_stay, related_weaker, part_stays}
 
@@ -76,24 +76,12 @@ pub grown_fold : {X : Type 0} → (f : Table → X → Table) → ((t : Table) (
 grown_fold f grows t [] = grown_not t
 grown_fold f grows t (x ∷ xs) = grown_more t (f t x) (fold f (f t x) xs) (grows t x) (grown_fold f grows (f t x) xs)
 
--- more rows of features, more tags, and another text after other rows of layers
-pub more_features : (t : Table) (rows : List FeatureRow) → Grown t (record t { features = t.features ++ rows })
-more_features t rows =
+-- more rows of features and more tags, and another text after other rows of layers
+pub more_features : (t : Table) (rows : List FeatureRow) (tags : List ℕ)
+    → Grown t (record t { features = t.features ++ rows; tags = t.tags ++ tags })
+more_features t rows tags =
     record {
       features = pushed _ rows;
-      keys = same _;
-      values = same _;
-      tags = same _;
-      parts = same _;
-      points = same _;
-      integers = same _;
-      texts = same _;
-    }
-
-pub more_tags : (t : Table) (tags : List ℕ) → Grown t (record t { tags = t.tags ++ tags })
-more_tags t tags =
-    record {
-      features = same _;
       keys = same _;
       values = same _;
       tags = pushed _ tags;
@@ -153,8 +141,8 @@ value_grows t v =
       texts = same _;
     }
 
-pub part_grows : (exterior : ℕ) (t : Table) (points : List Point) → Grown t (with_part exterior t points)
-part_grows exterior t points =
+pub part_grows : (t : Table) (part : Part) → Grown t (with_part t part)
+part_grows t part =
     record {
       features = same _;
       keys = same _;
@@ -165,11 +153,6 @@ part_grows exterior t points =
       integers = same _;
       texts = same _;
     }
-
-pub polygon_grows : (t : Table) (p : Polygon) → Grown t (with_polygon t p)
-polygon_grows t p =
-    grown_more t (with_part 1 t p.outer) (with_polygon t p) (part_grows 1 t p.outer)
-    (grown_fold (with_part 0) (part_grows 0) (with_part 1 t p.outer) p.rest)
 
 pub geometry_grows : (t : Table) (g : Geometry) → Grown t (with_geometry t g)
 geometry_grows t (Unknown integers) =
@@ -183,9 +166,9 @@ geometry_grows t (Unknown integers) =
       integers = pushed _ integers;
       texts = same _;
     }
-geometry_grows t (Points points) = part_grows 0 t points
-geometry_grows t (Lines lines) = grown_fold (with_part 0) (part_grows 0) t lines
-geometry_grows t (Polygons polygons) = grown_fold with_polygon polygon_grows t polygons
+geometry_grows t (Points points) = grown_fold with_part part_grows t (parts_of (Points points))
+geometry_grows t (Lines lines) = grown_fold with_part part_grows t (parts_of (Lines lines))
+geometry_grows t (Polygons polygons) = grown_fold with_part part_grows t (parts_of (Polygons polygons))
 
 -- what is there stays as it is
 pub text_stays : (old new : List ℕ) → Longer ℕ old new → (span : Span) → Stays (text_of old span) (text_of new span)
@@ -201,7 +184,7 @@ pub line_stays : (old new : List PointRow) → Longer PointRow old new → (row 
 line_stays old new h row =
     stays_map (part_of old row.points) (part_of new row.points) (λ rows. map point_of rows) (part_stays old new h.more row.points h.is)
 
-pub ring_stays : (old new : List PointRow) → Longer PointRow old new → (ps : List Polygon) (row : PartRow)
+ring_stays : (old new : List PointRow) → Longer PointRow old new → (ps : List Polygon) (row : PartRow)
     → Stays (with_ring_row old ps row) (with_ring_row new ps row)
 ring_stays old new h ps row = stays_then (line_of old row) (line_of new row) _ _ (line_stays old new h row) (λ ring q k. k)
 

@@ -8,7 +8,7 @@ use Rattle.std.proofs.lemmas.Option.{none-some, same_Some}
 use Rattle.mvt_base.specs.Related.{AreRelated}
 use Rattle.mvt_rows.proofs.EachLemmas.{and_then_to}
 use Rattle.mvt_rows.specs.declared.rows.Span.{Span}
-use Rattle.mvt_rows.specs.Tables.{behind, added}
+use Rattle.mvt_rows.specs.Tables.{behind}
 use Rattle.mvt_rows.specs.TileRows.{each, part_of, steps}
 
 -- what is made of one is made of the other
@@ -75,6 +75,10 @@ part_is held front p back is start len from long =
 
 pub part_after : {X : Type 0} → (front p : List X) (len : ℕ) → len ≡ length p → part_of (front ++ p) (behind front len) ≡ Some p
 part_after front p len long = part_is (front ++ p) front p [] (ap (λ l. front ++ l) (sym (append-nil p))) (length front) len refl long
+
+-- what was added to a list
+abbrev pub added : {A : Type 0} → List A → List A → Span
+added old new = record { start = length old; len = length new - length old }
 
 pub part_added : {X : Type 0} → (old new more : List X) → new ≡ old ++ more → part_of new (added old new) ≡ Some more
 part_added old new more is =

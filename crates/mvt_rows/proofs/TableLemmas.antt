@@ -1,12 +1,12 @@
 -- The rows that texts, values and geometries are given are those texts, values and geometries.
-use Rattle.std.proofs.Common.{◌≡◌, ℕ, ◌^◌, Bool, true, false, List, [], ◌∷◌, ◌++◌, length, map, Option, Some, None, if◌then◌else◌, refl, sym, ap, ◌∙◌, append-nil, append_assoc}
+use Rattle.std.proofs.Common.{arith, ◌≡◌, ℕ, ◌-◌, ◌^◌, Bool, true, false, List, [], ◌∷◌, ◌++◌, length, map, Option, Some, None, if◌then◌else◌, refl, sym, ap, ap₂, ◌∙◌, append-nil, append_assoc, length-append}
 use Rattle.std.specs.Prelude.{IsUtf8, unwrap_or, is_some, ⊤}
 use Rattle.std.specs.Int.{w64, cast_unsigned}
-use Rattle.std.specs.List.{fold, AllByRecursion}
+use Rattle.std.specs.List.{fold, flat_map, AllByRecursion}
 use Rattle.std.specs.Option.{option_map, option_and_then}
 use Rattle.std.proofs.lemmas.Bool.{lt-ltb}
 use Rattle.std.proofs.lemmas.Int.{to_z-of_z}
-use Rattle.std.proofs.lemmas.List.{length-map}
+use Rattle.std.proofs.lemmas.List.{length-map, map-append}
 use Rattle.std.proofs.lemmas.Str.{is_utf8-from_IsUtf8}
 use Rattle.mvt_base.specs.Related.{AreRelated}
 use Rattle.mvt_base.proofs.ListLemmas.{all_true}
@@ -16,18 +16,20 @@ use Rattle.mvt_geometry.specs.declared.shape.Point.{Point}
 use Rattle.mvt_geometry.specs.declared.shape.Polygon.{Polygon}
 use Rattle.mvt_geometry.specs.declared.shape.Geometry.{Geometry}
 use Rattle.mvt_geometry.specs.declared.shape.Geometry.TheVariants.{Unknown, Points, Lines, Polygons}
+use Rattle.mvt_geometry.specs.declared.shape.Kind.{Kind}
 use Rattle.mvt_geometry.specs.Shape.{kind_of}
+use Rattle.mvt_geometry.specs.Visiting.{Part, plain, ring_parts, HasDrawn}
 use Rattle.mvt_feature.specs.Canonical.{type_number}
 use Rattle.mvt_feature.specs.Valid.{ValidValue}
 use Rattle.mvt_rows.specs.declared.rows.Span.{Span}
 use Rattle.mvt_rows.specs.declared.rows.PartRow.{PartRow}
 use Rattle.mvt_rows.specs.declared.rows.PointRow.{PointRow}
 use Rattle.mvt_rows.specs.declared.rows.ValueRow.{ValueRow}
-use Rattle.mvt_rows.specs.Tables.{Table, behind, added, point_row, number_row, with_value, with_part, with_polygon, with_geometry}
+use Rattle.mvt_rows.specs.Tables.{Table, behind, point_row, number_row, truth_number, with_value, with_part, with_parts, with_integers, with_geometry}
 use Rattle.mvt_rows.specs.TileRows.{steps, utf8_of, text_of, value_of, truth_of, line_of, point_of, with_ring, with_ring_row, drawn_of, geometry_of}
 use Rattle.mvt_rows.proofs.TileLemmas.{inner_last}
-use Rattle.mvt_rows.proofs.RowLemmas.{related_weaker, each_related, steps_joined, steps_stay, part_after, part_added}
-use Rattle.mvt_rows.proofs.GrowthLemmas.{Grown, grown_fold, part_grows, polygon_grows, line_stays, ring_stays}
+use Rattle.mvt_rows.proofs.RowLemmas.{added, each_related, steps_joined, part_after, part_added}
+use Rattle.mvt_rows.proofs.GrowthLemmas.{Grown, grown_fold, part_grows, line_stays}
 
 -- what steps that each leave alone all of them leave alone
 pub fold_keeps : {X B : Type 0} → (L : Table → B) (f : Table → X → Table) → ((t : Table) (x : X) → L (f t x) ≡ L t)
@@ -100,126 +102,170 @@ map_back : (points : List Point) → map point_of (map point_row points) ≡ poi
 map_back [] = refl
 map_back (p ∷ points) = ap (λ l. p ∷ l) (map_back points)
 
-abbrev part_row : ℕ → Table → List Point → PartRow
-part_row exterior t points = record { exterior = exterior; points = behind t.points (length points) }
+abbrev part_row : Table → Part → PartRow
+part_row t part = record { exterior = truth_number part.exterior; points = behind t.points (length part.points) }
 
-line_after : (exterior : ℕ) (t : Table) (points : List Point)
-    → line_of (with_part exterior t points).points (part_row exterior t points) ≡ Some points
-line_after exterior t points =
+line_after : (t : Table) (part : Part) → line_of (with_part t part).points (part_row t part) ≡ Some part.points
+line_after t part =
     ap (option_map (λ rows. map point_of rows))
-    (part_after t.points (map point_row points) (length points) (sym (length-map points point_row)))
-    ∙ ap Some (map_back points)
+    (part_after t.points (map point_row part.points) (length part.points) (sym (length-map part.points point_row)))
+    ∙ ap Some (map_back part.points)
 
-abbrev IsPart : ℕ → List PointRow → PartRow → List Point → Type 0
-IsPart exterior points row line = (row.exterior ≡ exterior) × (line_of points row ≡ Some line)
+truth_back : (b : Bool) → truth_of (truth_number b) ≡ Some b
+truth_back true = refl
+truth_back false = refl
 
-parts_pushed : (t : Table) (lines : List (List Point))
-    → (rows : List PartRow) × ((fold (with_part 0) t lines).parts ≡ t.parts ++ rows)
-    × AreRelated (IsPart 0 (fold (with_part 0) t lines).points) rows lines
-parts_pushed t lines =
-    let pushes : Pushes (with_part 0) (λ (t : Table). t.parts) (part_row 0) (λ x. ⊤) (λ (t : Table). IsPart 0 t.points) = record {
-      grows = part_grows 0;
-      stays = λ t u grown row line is. (is.0, line_stays t.points u.points grown.points row line is.1);
-      push = λ t line. refl;
-      holds = λ t line h. (refl, line_after 0 t line);
+abbrev IsPart : List PointRow → PartRow → Part → Type 0
+IsPart points row part = (truth_of row.exterior ≡ Some part.exterior) × (line_of points row ≡ Some part.points)
+
+parts_pushed : (t : Table) (parts : List Part)
+    → (rows : List PartRow) × ((fold with_part t parts).parts ≡ t.parts ++ rows)
+    × AreRelated (IsPart (fold with_part t parts).points) rows parts
+parts_pushed t parts =
+    let pushes : Pushes with_part (λ (t : Table). t.parts) part_row (λ x. ⊤) (λ (t : Table). IsPart t.points) = record {
+      grows = part_grows;
+      stays = λ t u grown row part is. (is.0, line_stays t.points u.points grown.points row part.points is.1);
+      push = λ t part. refl;
+      holds = λ t part h. (truth_back part.exterior, line_after t part);
     } in
-    rows_pushed pushes t lines (all_true lines)
+    rows_pushed pushes t parts (all_true parts)
 
-ring_step : (points : List PointRow) (ps : List Polygon) (row : PartRow) (ring : List Point) (n : ℕ) (exterior : Bool)
-    → line_of points row ≡ Some ring → row.exterior ≡ n → truth_of n ≡ Some exterior
-    → with_ring_row points ps row ≡ with_ring ps exterior ring
-ring_step points ps row ring n exterior is number truth =
-    ap (option_and_then (λ ring. option_and_then (λ exterior. with_ring ps exterior ring) (truth_of row.exterior))) is
-    ∙ ap (option_and_then (λ exterior. with_ring ps exterior ring)) (ap truth_of number ∙ truth)
+-- rows of lines
+lines_each : (points : List PointRow) (rows : List PartRow) (lines : List (List Point)) → AreRelated (IsPart points) rows (map plain lines)
+    → AreRelated (λ row line. line_of points row ≡ Some line) rows lines
+lines_each points [] [] h = tt
+lines_each points [] (line ∷ lines) h = absurd h
+lines_each points (row ∷ rows) [] h = absurd h
+lines_each points (row ∷ rows) (line ∷ lines) h = (h.0.1, lines_each points rows lines h.1)
 
-inner_steps : (points : List PointRow) (front : List Polygon) (outer : List Point) (rest : List (List Point)) (rows : List PartRow)
-    (rings : List (List Point))
-    → AreRelated (IsPart 0 points) rows rings
-    → steps (with_ring_row points) (front ++ record { outer = outer; rest = rest } ∷ []) rows ≡ Some
+-- rings as polygons
+abbrev with_ring_part : List Polygon → Part → Option (List Polygon)
+with_ring_part polygons part = with_ring polygons part.exterior part.points
+
+then_same : {X Y : Type 0} (f g : X → Option Y) → ((x : X) → f x ≡ g x) → (o : Option X) → option_and_then f o ≡ option_and_then g o
+then_same f g same None = refl
+then_same f g same (Some x) = same x
+
+ring_steps : (points : List PointRow) (ps : List Polygon) (rows : List PartRow) (parts : List Part) → AreRelated (IsPart points) rows parts
+    → steps (with_ring_row points) ps rows ≡ steps with_ring_part ps parts
+ring_steps points ps [] [] h = refl
+ring_steps points ps [] (part ∷ parts) h = absurd h
+ring_steps points ps (row ∷ rows) [] h = absurd h
+ring_steps points ps (row ∷ rows) (part ∷ parts) h =
+    let one : with_ring_row points ps row ≡ with_ring_part ps part =
+    ap (option_and_then (λ ring. option_and_then (λ exterior. with_ring ps exterior ring) (truth_of row.exterior))) h.0.1
+    ∙ ap (option_and_then (λ exterior. with_ring ps exterior part.points)) h.0.0 in
+    ap (option_and_then (λ next. steps (with_ring_row points) next rows)) one
+    ∙ then_same (λ next. steps (with_ring_row points) next rows) (λ next. steps with_ring_part next parts)
+    (λ next. ring_steps points next rows parts h.1) (with_ring_part ps part)
+
+inner_steps : (front : List Polygon) (outer : List Point) (rest rings : List (List Point))
+    → steps with_ring_part (front ++ record { outer = outer; rest = rest } ∷ []) (map plain rings) ≡ Some
     (front ++ record { outer = outer; rest = rest ++ rings } ∷ [])
-inner_steps points front outer rest [] [] h = ap (λ l. Some (front ++ record { outer = outer; rest = l } ∷ [])) (sym (append-nil rest))
-inner_steps points front outer rest [] (ring ∷ rings) h = absurd h
-inner_steps points front outer rest (row ∷ rows) [] h = absurd h
-inner_steps points front outer rest (row ∷ rows) (ring ∷ rings) h =
+inner_steps front outer rest [] = ap (λ l. Some (front ++ record { outer = outer; rest = l } ∷ [])) (sym (append-nil rest))
+inner_steps front outer rest (ring ∷ rings) =
     let p : Polygon = record { outer = outer; rest = rest } in
-    ap (option_and_then (λ next. steps (with_ring_row points) next rows))
-    (ring_step points (front ++ p ∷ []) row ring 0 false h.0.1 h.0.0 refl ∙ inner_last front p ring)
-    ∙ inner_steps points front outer (rest ++ ring ∷ []) rows rings h.1
+    ap (option_and_then (λ next. steps with_ring_part next (map plain rings))) (inner_last front p ring)
+    ∙ inner_steps front outer (rest ++ ring ∷ []) rings
     ∙ ap (λ l. Some (front ++ record { outer = outer; rest = l } ∷ [])) (append_assoc rest (ring ∷ []) rings)
 
-polygon_steps : (t : Table) (p : Polygon)
-    → (rows : List PartRow) × ((with_polygon t p).parts ≡ t.parts ++ rows)
-    × ((ps : List Polygon) → steps (with_ring_row (with_polygon t p).points) ps rows ≡ Some (ps ++ p ∷ []))
-polygon_steps t p =
-    let first = with_part 1 t p.outer in
-    let points = (with_polygon t p).points in
-    let row = part_row 1 t p.outer in
-    let inner = parts_pushed first p.rest in
-    let grown = grown_fold (with_part 0) (part_grows 0) first p.rest in
-    let line = line_stays first.points points grown.points row p.outer (line_after 1 t p.outer) in (
-      row ∷ inner.0,
-      inner.1 ∙ append_assoc t.parts (row ∷ []) inner.0,
-      λ ps. ap (option_and_then (λ next. steps (with_ring_row points) next inner.0)) (ring_step points ps row p.outer 1 true line refl refl)
-          ∙ inner_steps points ps p.outer [] inner.0 p.rest inner.2,
-    )
-
-polygons_steps : (t : Table) (polygons : List Polygon)
-    → (rows : List PartRow) × ((fold with_polygon t polygons).parts ≡ t.parts ++ rows)
-    × ((ps : List Polygon) → steps (with_ring_row (fold with_polygon t polygons).points) ps rows ≡ Some (ps ++ polygons))
-polygons_steps t [] = ([], sym (append-nil t.parts), λ ps. ap Some (sym (append-nil ps)))
-polygons_steps t (p ∷ polygons) =
-    let now = with_polygon t p in
-    let points = (fold with_polygon now polygons).points in
-    let first = polygon_steps t p in
-    let rest = polygons_steps now polygons in
-    let grown = grown_fold with_polygon polygon_grows now polygons in (
-      first.0 ++ rest.0,
-      rest.1 ∙ ap (λ l. l ++ rest.0) first.1 ∙ append_assoc t.parts first.0 rest.0,
-      λ ps. steps_joined (with_ring_row points) ps first.0 rest.0 (ps ++ p ∷ []) (Some (ps ++ (p ∷ polygons)))
-          (steps_stay (with_ring_row now.points) (with_ring_row points) (ring_stays now.points points grown.points) ps first.0
-          (ps ++ p ∷ []) (first.2 ps))
-          (rest.2 (ps ++ p ∷ []) ∙ ap Some (append_assoc ps (p ∷ []) polygons)),
-    )
+polygons_steps : (ps polygons : List Polygon) → steps with_ring_part ps (flat_map ring_parts polygons) ≡ Some (ps ++ polygons)
+polygons_steps ps [] = ap Some (sym (append-nil ps))
+polygons_steps ps (p ∷ polygons) =
+    steps_joined with_ring_part ps (ring_parts p) (flat_map ring_parts polygons) (ps ++ p ∷ []) (Some (ps ++ (p ∷ polygons)))
+    (inner_steps ps p.outer [] p.rest) (polygons_steps (ps ++ p ∷ []) polygons ∙ ap Some (append_assoc ps (p ∷ []) polygons))
 
 -- geometries
-pub drawn : (t : Table) (g : Geometry) (id has : ℕ) (tags : Span)
+drawn_at : (t : Table) (g : Geometry) (id has : ℕ) (tags : Span)
     → geometry_of (with_geometry t g)
     (record {
       id = id;
       has_id = has;
       kind = type_number (kind_of g);
       tags = tags;
-      parts =
-          added t.parts (with_geometry t g).parts;
+      parts = added t.parts (with_geometry t g).parts;
       integers = added t.integers (with_geometry t g).integers;
     }) ≡ Some g
-drawn t (Unknown integers) id has tags = ap (option_map Unknown) (part_added t.integers (t.integers ++ integers) integers refl)
-drawn t (Points points) id has tags =
-    let now = with_part 0 t points in
-    ap (option_and_then (drawn_of now.points 1)) (part_added t.parts now.parts (part_row 0 t points ∷ []) refl)
-    ∙ ap (option_map Points) (line_after 0 t points)
-drawn t (Lines lines) id has tags =
-    let now = fold (with_part 0) t lines in
-    let rows = parts_pushed t lines in
-    let are = related_weaker (IsPart 0 now.points) (λ row line. line_of now.points row ≡ Some line)
-    (λ row line is. is.1) rows.0 lines rows.2 in
+drawn_at t (Unknown integers) id has tags = ap (option_map Unknown) (part_added t.integers (t.integers ++ integers) integers refl)
+drawn_at t (Points points) id has tags =
+    let now = with_part t (plain points) in
+    ap (option_and_then (drawn_of now.points 1)) (part_added t.parts now.parts (part_row t (plain points) ∷ []) refl)
+    ∙ ap (option_map Points) (line_after t (plain points))
+drawn_at t (Lines lines) id has tags =
+    let now = fold with_part t (map plain lines) in
+    let rows = parts_pushed t (map plain lines) in
     ap (option_and_then (drawn_of now.points 2)) (part_added t.parts now.parts rows.0 rows.1)
-    ∙ ap (option_map Lines) (each_related (line_of now.points) rows.0 lines are)
-drawn t (Polygons polygons) id has tags =
-    let now = fold with_polygon t polygons in
-    let rows = polygons_steps t polygons in
-    ap (option_and_then (drawn_of now.points 3)) (part_added t.parts now.parts rows.0 rows.1) ∙ ap (option_map Polygons) (rows.2 [])
+    ∙ ap (option_map Lines) (each_related (line_of now.points) rows.0 lines (lines_each now.points rows.0 lines rows.2))
+drawn_at t (Polygons polygons) id has tags =
+    let parts = flat_map ring_parts polygons in
+    let now = fold with_part t parts in
+    let rows = parts_pushed t parts in
+    ap (option_and_then (drawn_of now.points 3)) (part_added t.parts now.parts rows.0 rows.1)
+    ∙ ap (option_map Polygons) (ring_steps now.points [] rows.0 parts rows.2 ∙ polygons_steps [] polygons)
 
-pub geometry_keeps : {B : Type 0} → (L : Table → B)
-    → ((t : Table) (exterior : ℕ) (points : List Point) → L (with_part exterior t points) ≡ L t)
+pub drawn : (t : Table) (g : Geometry) (id has : ℕ) (tags : Span) (kind : Kind) (parts integers : ℕ) → kind ≡ kind_of g
+    → parts ≡ length t.parts → integers ≡ length t.integers
+    → geometry_of (with_geometry t g)
+    (record {
+      id = id;
+      has_id = has;
+      kind = type_number kind;
+      tags = tags;
+      parts = record { start = parts; len = length (with_geometry t g).parts - parts };
+      integers = record { start = integers; len = length (with_geometry t g).integers - integers };
+    }) ≡ Some g
+drawn t g id has tags kind parts integers kind_is parts_are integers_are = rw (kind_is, parts_are, integers_are) (drawn_at t g id has tags)
+
+pub geometry_keeps : {B : Type 0} → (L : Table → B) → ((t : Table) (part : Part) → L (with_part t part) ≡ L t)
     → ((t : Table) (integers : List ℕ) → L (record t { integers = integers }) ≡ L t) → (t : Table) (g : Geometry)
     → L (with_geometry t g) ≡ L t
 geometry_keeps L parts numbers t (Unknown integers) = numbers t _
-geometry_keeps L parts numbers t (Points points) = parts t 0 points
-geometry_keeps L parts numbers t (Lines lines) = fold_keeps L (with_part 0) (λ t line. parts t 0 line) t lines
-geometry_keeps L parts numbers t (Polygons polygons) =
-    fold_keeps L with_polygon
-    (λ t p. fold_keeps L (with_part 0) (λ t ring. parts t 0 ring) (with_part 1 t p.outer) p.rest ∙ parts t 1 p.outer) t polygons
+geometry_keeps L parts numbers t (Points points) = parts t (plain points)
+geometry_keeps L parts numbers t (Lines lines) = fold_keeps L with_part parts t (map plain lines)
+geometry_keeps L parts numbers t (Polygons polygons) = fold_keeps L with_part parts t (flat_map ring_parts polygons)
+
+-- what was told of a geometry is that geometry
+fold_push : (t : Table) (parts : List Part) (part : Part) → fold with_part t (parts ++ part ∷ []) ≡ with_part (fold with_part t parts) part
+fold_push t [] part = refl
+fold_push t (p ∷ parts) part = fold_push (with_part t p) parts part
+
+no_points : (t : Table) → record t { points = t.points ++ [] } ≡ t
+no_points t = ap (λ points. let u : Table = record t { points = points } in u) (append-nil t.points)
+
+pub told : (start now : Table) (g : Geometry)
+    → HasDrawn (λ s parts begun t. t ≡ with_parts s parts begun) (λ s integers t. t ≡ with_integers s integers) start now g
+    → now ≡ with_geometry start g
+told start now (Unknown integers) is = is
+told start now (Points points) is = is ∙ no_points (with_part start (plain points))
+told start now (Lines lines) is = is ∙ no_points (fold with_part start (map plain lines))
+told start now (Polygons polygons) is = is ∙ no_points (fold with_part start (flat_map ring_parts polygons))
+
+pub point_told : (start : Table) (parts : List Part) (begun : List Point) (point : Point) (t : Table) → t ≡ with_parts start parts begun
+    → record t { points = t.points ++ point_row point ∷ [] } ≡ with_parts start parts (begun ++ point ∷ [])
+point_told start parts begun point t is =
+    let base = fold with_part start parts in
+    ap (λ (u : Table). let v : Table = record u { points = u.points ++ point_row point ∷ [] } in v) is
+    ∙ ap (λ points. let u : Table = record base { points = points } in u)
+    (append_assoc base.points (map point_row begun) (point_row point ∷ [])
+    ∙ ap (λ more. base.points ++ more) (sym (map-append point_row begun (point ∷ []))))
+
+pub part_told : (start : Table) (parts : List Part) (begun : List Point) (exterior : Bool) (n : ℕ) (t : Table)
+    → t ≡ with_parts start parts begun → n ≡ length begun
+    → record t {
+      parts = t.parts
+          ++ record { exterior = truth_number exterior; points = record { start = length t.points - n; len = n } } ∷ [];
+    } ≡ with_parts start (parts ++ record { exterior = exterior; points = begun } ∷ []) []
+part_told start parts begun exterior n t is count =
+    let base = fold with_part start parts in
+    let part : Part = record { exterior = exterior; points = begun } in
+    let points = base.points ++ map point_row begun in
+    let row : ℕ → ℕ → PartRow = λ s m. record { exterior = truth_number exterior; points = record { start = s; len = m } } in
+    let begins : length points - n ≡ length base.points =
+    omega (arith, length-append base.points (map point_row begun), length-map begun point_row, count) in
+    ap (λ (u : Table). let v : Table = record u { parts = u.parts ++ row (length u.points - n) n ∷ [] } in v) is
+    ∙ ap₂ (λ s m. let u : Table = record base { points = points; parts = base.parts ++ row s m ∷ [] } in u) begins count
+    ∙ sym (no_points (with_part base part))
+    ∙ ap (λ (u : Table). let v : Table = record u { points = u.points ++ [] } in v) (sym (fold_push start parts part))
 
 -- an id as its row has it
 pub id_is : (id : Option ℕ) → option_map (λ has. if has then Some (unwrap_or id 0) else None) (truth_of (if is_some id then 1 else 0)) ≡ Some id

@@ -9,7 +9,9 @@ use Rattle.mvt_attrs.specs.declared.value.Attribute.{Attribute}
 use Rattle.mvt_attrs.specs.declared.value.Value.{Value}
 use Rattle.mvt_attrs.specs.Tags.{Resolved}
 use Rattle.mvt_geometry.specs.declared.shape.Geometry.{Geometry}
+use Rattle.mvt_geometry.specs.Shape.{kind_of}
 use Rattle.mvt_feature.specs.declared.feature.Feature.{Feature}
+use Rattle.mvt_feature.specs.declared.feature_fields.FeatureFields.{FeatureFields}
 use Rattle.mvt_feature.specs.Valid.{ValidValue}
 use Rattle.mvt_message.specs.declared.item.Item.{Item}
 use Rattle.mvt_message.specs.declared.item.Item.TheVariants.{Layer, Foreign}
@@ -19,11 +21,11 @@ use Rattle.mvt_message.specs.Items.{IsItem as IsItemOf, names_in}
 use Rattle.mvt_message.specs.ValidItems.{ValidItem, ValidLayer}
 use Rattle.mvt_message.specs.Visiting.{HasLayer, IsVisited}
 use Rattle.mvt_rows.specs.declared.places.Places.{Places}
-use Rattle.mvt_rows.specs.Tables.{Table, behind, feature_row, foreign_row, open_row, with_drawn, with_foreign, with_geometry, with_key, with_layer_row, with_value}
+use Rattle.mvt_rows.specs.Tables.{Table, behind, feature_row, foreign_row, open_row, with_feature_row, with_foreign, with_geometry, with_key, with_layer_row, with_value}
 use Rattle.mvt_rows.specs.TileRows.{each, part_of, text_of, value_of, IsFeature, IsItem, IsLayer}
 use Rattle.mvt_rows.specs.Visiting.{AreItemRows, AreLayerRows, AreRows, IsKey, IsValue}
-use Rattle.mvt_rows.proofs.GrowthLemmas.{Grown, grown_more, grown_fold, more_features, more_tags, more_texts, key_grows, value_grows, geometry_grows, text_stays, value_stays, feature_stays, item_stays}
-use Rattle.mvt_rows.proofs.RowLemmas.{each_related, part_added, part_after, part_is, related_weaker}
+use Rattle.mvt_rows.proofs.GrowthLemmas.{Grown, grown_more, grown_fold, more_features, more_texts, key_grows, value_grows, geometry_grows, text_stays, value_stays, feature_stays, item_stays}
+use Rattle.mvt_rows.proofs.RowLemmas.{each_related, part_after, part_is, related_weaker}
 use Rattle.mvt_rows.proofs.TableLemmas.{Pushes, drawn, fold_keeps, geometry_keeps, id_is, rows_pushed, text_after, value_holds, value_keeps, value_push, value_row}
 
 -- rows from a place on
@@ -126,38 +128,34 @@ module _ (t : Table) (open_at : Places) (items : List Item) where
       }
 
   -- one more feature
-  pub feature_visited : (keys : List (List ℕ)) (values : List Value) (features : List Feature) (tags : List ℕ) (id : Option ℕ)
-      (attributes : List Attribute) (geometry : Geometry) → Resolved keys values tags attributes
+  pub feature_visited : (keys : List (List ℕ)) (values : List Value) (features : List Feature) (tags : List ℕ) (known : FeatureFields)
+      (opened : Places) (attributes : List Attribute) (geometry : Geometry) → opened.parts ≡ length t.parts
+      → opened.integers ≡ length t.integers → known.kind ≡ kind_of geometry → Resolved keys values tags attributes
       → AreLayerRows t open_at items keys values features
-      → AreLayerRows (with_drawn tags t id geometry) open_at items keys values
-      (features ++ record { id = id; attributes = attributes; geometry = geometry } ∷ [])
-  feature_visited keys values features tags id attributes geometry resolved are =
-      let tagged : Table = record t { tags = t.tags ++ tags } in
-      let shown = with_geometry tagged geometry in
-      let row = feature_row t shown id geometry in
-      let now = with_drawn tags t id geometry in
-      let grown = grown_more t tagged now (more_tags t tags)
-      (grown_more tagged shown now (geometry_grows tagged geometry) (more_features shown (row ∷ []))) in
-      let f : Feature = record { id = id; attributes = attributes; geometry = geometry } in
+      → AreLayerRows (with_feature_row tags (with_geometry t geometry) known opened) open_at items keys values
+      (features ++ record { id = known.id; attributes = attributes; geometry = geometry } ∷ [])
+  feature_visited keys values features tags known opened attributes geometry parts_are integers_are kind_is resolved are =
+      let shown = with_geometry t geometry in
+      let row = feature_row tags shown known opened in
+      let now = with_feature_row tags shown known opened in
+      let grown = grown_more t shown now (geometry_grows t geometry) (more_features shown (row ∷ []) tags) in
+      let f : Feature = record { id = known.id; attributes = attributes; geometry = geometry } in
       let is : IsFeature now keys values row f = record {
-        id = id_is id;
+        id = id_is known.id;
         tags = tags;
-        tagged = part_added t.tags shown.tags tags
-            (geometry_keeps (λ (u : Table). u.tags) (λ u exterior points. refl) (λ u integers. refl) tagged geometry);
+        tagged = part_after shown.tags tags (length tags) refl;
         attributes = resolved;
-        geometry = drawn tagged geometry row.id row.has_id row.tags;
+        geometry = drawn t geometry row.id row.has_id row.tags known.kind opened.parts opened.integers kind_is parts_are integers_are;
       } in
       let pushes : now.features ≡ t.features ++ row ∷ [] =
-      ap (λ l. l ++ row ∷ [])
-      (geometry_keeps (λ (u : Table). u.features) (λ u exterior points. refl) (λ u integers. refl) tagged geometry) in
+      ap (λ l. l ++ row ∷ []) (geometry_keeps (λ (u : Table). u.features) (λ u part. refl) (λ u integers. refl) t geometry) in
       record {
         items_are = items_stay t now grown
-            (geometry_keeps (λ (u : Table). u.layers) (λ u exterior points. refl) (λ u integers. refl) tagged geometry) items are.items_are;
+            (geometry_keeps (λ (u : Table). u.layers) (λ u part. refl) (λ u integers. refl) t geometry) items are.items_are;
         keys_are = rows_stay (IsKey t) (IsKey now) (text_stays t.texts now.texts grown.texts) t.keys now.keys open_at.keys keys
-            (geometry_keeps (λ (u : Table). u.keys) (λ u exterior points. refl) (λ u integers. refl) tagged geometry) are.keys_are;
+            (geometry_keeps (λ (u : Table). u.keys) (λ u part. refl) (λ u integers. refl) t geometry) are.keys_are;
         values_are = rows_stay (IsValue t) (IsValue now) (value_stays t.texts now.texts grown.texts) t.values now.values open_at.values
-            values (geometry_keeps (λ (u : Table). u.values) (λ u exterior points. refl) (λ u integers. refl) tagged geometry)
-            are.values_are;
+            values (geometry_keeps (λ (u : Table). u.values) (λ u part. refl) (λ u integers. refl) t geometry) are.values_are;
         features_are = rows_joined (IsFeature t keys values) (IsFeature now keys values) (feature_stays keys values t now grown)
             t.features now.features (row ∷ []) open_at.features features (f ∷ []) pushes (is, tt) are.features_are;
       }
@@ -230,7 +228,7 @@ foreign_ends payload t items version number content is valid version_is are = (
   refl,
   subst (λ v. AreItemRows (with_foreign t v payload) (items ++ Foreign number content ∷ [])) (sym version_is)
       (subst (λ c. AreItemRows (with_foreign t number payload) (items ++ Foreign number c ∷ [])) (sym is.3.2)
-      (foreign_visited t (record { features = 0; keys = 0; values = 0 }) items number payload valid.4 are)),
+      (foreign_visited t (record { features = 0; keys = 0; values = 0; parts = 0; integers = 0 }) items number payload valid.4 are)),
 )
 
 -- whether a layer was visited, or a foreign item

@@ -1,15 +1,15 @@
 -- A tile as flat rows. Each row names the parts that belong to it by where they stand in the list of their kind; parts are
 -- appended in the order of the tile.
-use Rattle.std.specs.Prelude.{ℕ, ◌+◌, ◌*◌, ◌-◌, List, [], ◌∷◌, ◌++◌, length, map, Option, unwrap_or, is_some, if◌then◌else◌}
+use Rattle.std.specs.Prelude.{ℕ, ◌+◌, ◌*◌, ◌-◌, Bool, List, [], ◌∷◌, ◌++◌, length, map, Option, unwrap_or, is_some, if◌then◌else◌}
 use Rattle.std.specs.Int.{w64, cast_unsigned}
 use Rattle.std.specs.List.{fold}
 use Rattle.mvt_attrs.specs.declared.value.Value.{Value}
 use Rattle.mvt_attrs.specs.declared.value.Value.TheVariants.{Text, Float, Double, Int, Uint, Sint, Bool as Truth}
 use Rattle.mvt_geometry.specs.declared.shape.Point.{Point}
-use Rattle.mvt_geometry.specs.declared.shape.Polygon.{Polygon}
 use Rattle.mvt_geometry.specs.declared.shape.Geometry.{Geometry}
 use Rattle.mvt_geometry.specs.declared.shape.Geometry.TheVariants.{Unknown, Points, Lines, Polygons}
-use Rattle.mvt_geometry.specs.Shape.{kind_of}
+use Rattle.mvt_geometry.specs.Visiting.{Part, parts_of}
+use Rattle.mvt_feature.specs.declared.feature_fields.FeatureFields.{FeatureFields}
 use Rattle.mvt_feature.specs.Canonical.{type_number}
 use Rattle.mvt_rows.specs.declared.places.Places.{Places}
 use Rattle.mvt_rows.specs.declared.rows.Span.{Span}
@@ -76,43 +76,45 @@ with_value t (Truth b) = with_number t 7 (if b then 1 else 0)
 abbrev pub point_row : Point → PointRow
 point_row p = record { x = p.x; y = p.y }
 
+-- 1 where it is true
+abbrev pub truth_number : Bool → ℕ
+truth_number b = if b then 1 else 0
+
 -- a table and one part more, with its points
-abbrev pub with_part : ℕ → Table → List Point → Table
-with_part exterior t points = record t {
-  parts = t.parts ++ record { exterior = exterior; points = behind t.points (length points) } ∷ [];
-  points = t.points ++ map point_row points;
+abbrev pub with_part : Table → Part → Table
+with_part t part = record t {
+  parts = t.parts ++ record { exterior = truth_number part.exterior; points = behind t.points (length part.points) } ∷ [];
+  points = t.points ++ map point_row part.points;
 }
 
--- a table and a polygon's rings, the exterior one first
-abbrev pub with_polygon : Table → Polygon → Table
-with_polygon t p = fold (with_part 0) (with_part 1 t p.outer) p.rest
+-- a table and these parts more, and points of one that isn't ended
+abbrev pub with_parts : Table → List Part → List Point → Table
+with_parts t parts begun = record (fold with_part t parts) { points = (fold with_part t parts).points ++ map point_row begun }
+
+-- a table and the integers of a geometry of unknown type
+abbrev pub with_integers : Table → List ℕ → Table
+with_integers t integers = record t { integers = t.integers ++ integers }
 
 abbrev pub with_geometry : Table → Geometry → Table
-with_geometry t (Unknown integers) = record t { integers = t.integers ++ integers }
-with_geometry t (Points points) = with_part 0 t points
-with_geometry t (Lines lines) = fold (with_part 0) t lines
-with_geometry t (Polygons polygons) = fold with_polygon t polygons
+with_geometry t (Unknown integers) = with_integers t integers
+with_geometry t (Points points) = fold with_part t (parts_of (Points points))
+with_geometry t (Lines lines) = fold with_part t (parts_of (Lines lines))
+with_geometry t (Polygons polygons) = fold with_part t (parts_of (Polygons polygons))
 
--- what was added to a list
-abbrev pub added : {A : Type 0} → List A → List A → Span
-added old new = record { start = length old; len = length new - length old }
-
--- the row of a feature that took a table from one state to another
-abbrev pub feature_row : Table → Table → Option ℕ → Geometry → FeatureRow
-feature_row old new id geometry = record {
-  id = unwrap_or id 0;
-  has_id = if is_some id then 1 else 0;
-  kind = type_number (kind_of geometry);
-  tags = added old.tags new.tags;
-  parts = added old.parts new.parts;
-  integers = added old.integers new.integers;
+-- the row of a feature with these tags, whose parts and integers stand after these places
+abbrev pub feature_row : List ℕ → Table → FeatureFields → Places → FeatureRow
+feature_row tags t known open_at = record {
+  id = unwrap_or known.id 0;
+  has_id = truth_number (is_some known.id);
+  kind = type_number known.kind;
+  tags = behind t.tags (length tags);
+  parts = record { start = open_at.parts; len = length t.parts - open_at.parts };
+  integers = record { start = open_at.integers; len = length t.integers - open_at.integers };
 }
 
--- a feature: its tags, its geometry and its row
-abbrev pub with_drawn : List ℕ → Table → Option ℕ → Geometry → Table
-with_drawn tags t id geometry =
-    let drawn = with_geometry (record t { tags = t.tags ++ tags }) geometry in
-    record drawn { features = drawn.features ++ feature_row t drawn id geometry ∷ [] }
+abbrev pub with_feature_row : List ℕ → Table → FeatureFields → Places → Table
+with_feature_row tags t known open_at =
+    record t { features = t.features ++ feature_row tags t known open_at ∷ []; tags = t.tags ++ tags }
 
 -- the row of a layer whose features, keys and values stand after these places
 abbrev pub open_row : Table → List ℕ → ℕ → Places → LayerRow

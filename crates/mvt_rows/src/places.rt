@@ -1,9 +1,11 @@
-//! Where the rows of a layer begin.
+//! Where the rows of a layer, or those of a feature, begin.
 
-/// How many features, keys and values a table has.
+/// How many rows a table has of each kind that a layer or a feature names.
 #[derive(Clone, Copy, Debug)]
 pub(crate) struct Places {
     pub(crate) features: usize,
     pub(crate) keys: usize,
     pub(crate) values: usize,
+    pub(crate) parts: usize,
+    pub(crate) integers: usize,
 }

@@ -1,17 +1,19 @@
 //! The lists of a tile's rows, as they grow.
-ghost use Rattle.std.specs.Prelude.{◌≡◌, ◌++◌, ◌∷◌, ◌*◌, [], IsUtf8, OnOk, OnErr, length, map, nat_le};
+ghost use Rattle.std.specs.Prelude.{◌≡◌, IsUtf8, OnOk, OnErr, length, nat_le};
 ghost use Rattle.std.specs.List.{AllByRecursion, fold};
+ghost use Rattle.mvt_attrs.specs.declared.value.Value.TheVariants as values;
+ghost use Rattle.mvt_feature.specs.Meanings.{meant};
 ghost use Rattle.mvt_rows.specs.Lent.{table_of};
-ghost use Rattle.mvt_rows.specs.Tables.{no_rows, behind, with_part, with_polygon, with_geometry, with_key, with_value, with_number, point_row, table_size};
+ghost use Rattle.mvt_rows.specs.Tables.{no_rows, with_key, with_value, with_number, table_size};
 
 mod layers;
 mod visiting;
 
 use crate::places::Places;
 use crate::rows::{FeatureRow, LayerRow, PartRow, PointRow, Rows, Span, ValueRow};
-use mvt_attrs::Value;
-use mvt_base::{Items, Text};
-use mvt_geometry::{Geometry, Point, Polygon};
+use mvt_base::Text;
+use mvt_feature::Meaning;
+use mvt_geometry::{GeometryVisitor, Point};
 use std::alloc::{AllocError, Global};
 use std::marker::Model;
 pub use visiting::{RowsDecoder, RowsVisitor, read_layer, read_rows, read_rows_within};
@@ -102,11 +104,15 @@ impl Table {
         ensures features { result.features ≡ length self.now.features }
         ensures keys { result.keys ≡ length self.now.keys }
         ensures values { result.values ≡ length self.now.values }
+        ensures parts { result.parts ≡ length self.now.parts }
+        ensures integers { result.integers ≡ length self.now.integers }
     {
         Places {
             features: self.features.len(),
             keys: self.keys.len(),
             values: self.values.len(),
+            parts: self.parts.len(),
+            integers: self.integers.len(),
         }
     }
 
@@ -154,48 +160,6 @@ impl Table {
         }
     }
 
-    /// Adds a line, a ring or the points of a feature.
-    fn add_part(&mut self, exterior: u32, points: &[Point]) -> Result<(), AllocError>
-        ensures { OnOk result (self.new ≡ with_part exterior self.old points.now) }
-    {
-        let points_at = after_list(self.points.len(), points.len());
-        self.parts.push(PartRow {
-            exterior,
-            points: points_at,
-        })?;
-        append_points(&mut self.points, points)
-    }
-
-    fn add_parts(&mut self, lines: &[Items<Point>]) -> Result<(), AllocError>
-        ensures { OnOk result (self.new ≡ fold (with_part 0) self.old lines.now) }
-    {
-        for line in lines {
-            self.add_part(0, line.as_slice())?;
-        }
-        Ok(())
-    }
-
-    fn add_polygons(&mut self, polygons: &[Polygon]) -> Result<(), AllocError>
-        ensures { OnOk result (self.new ≡ fold with_polygon self.old polygons.now) }
-    {
-        for polygon in polygons {
-            self.add_part(1, polygon.outer.as_slice())?;
-            self.add_parts(polygon.rest.as_slice())?;
-        }
-        Ok(())
-    }
-
-    fn add_geometry(&mut self, geometry: &Geometry) -> Result<(), AllocError>
-        ensures { OnOk result (self.new ≡ with_geometry self.old geometry.now) }
-    {
-        match geometry {
-            Geometry::Unknown(integers) => self.integers.extend_from_slice(integers.as_slice()),
-            Geometry::Points(points) => self.add_part(0, points.as_slice()),
-            Geometry::Lines(lines) => self.add_parts(lines.as_slice()),
-            Geometry::Polygons(polygons) => self.add_polygons(polygons.as_slice()),
-        }
-    }
-
     fn add_key(&mut self, key: &str) -> Result<(), AllocError>
         ensures key { OnOk result (self.new ≡ with_key self.old key.now) }
         ensures utf8 { IsUtf8 key.now }
@@ -218,7 +182,7 @@ impl Table {
     }
 
     fn add_text(&mut self, text: &str) -> Result<(), AllocError>
-        ensures ok { OnOk result (self.new ≡ with_value self.old (Value.Text text.now)) }
+        ensures ok { OnOk result (self.new ≡ with_value self.old (values.Text text.now)) }
         ensures err { OnErr result (self.new ≡ self.old) }
     {
         let place = after_list(self.texts.len(), text.len());
@@ -235,18 +199,18 @@ impl Table {
     }
 
     /// Adds a value, or nothing where memory runs out.
-    fn add_value(&mut self, value: &Value) -> Result<(), AllocError>
-        ensures ok { OnOk result (self.new ≡ with_value self.old value.now) }
+    fn add_value(&mut self, meaning: Meaning<'_>) -> Result<(), AllocError>
+        ensures ok { OnOk result (self.new ≡ with_value self.old (meant meaning.entry)) }
         ensures err { OnErr result (self.new ≡ self.old) }
     {
-        match value {
-            Value::Text(text) => self.add_text(text.as_str()),
-            Value::Float(bits) => self.add_number(2, u64::from(*bits)),
-            Value::Double(bits) => self.add_number(3, *bits),
-            Value::Int(number) => self.add_number(4, number.cast_unsigned()),
-            Value::Uint(number) => self.add_number(5, *number),
-            Value::Sint(number) => self.add_number(6, number.cast_unsigned()),
-            Value::Bool(truth) => self.add_number(7, u64::from(*truth)),
+        match meaning {
+            Meaning::Text(text) => self.add_text(text),
+            Meaning::Float(bits) => self.add_number(2, u64::from(bits)),
+            Meaning::Double(bits) => self.add_number(3, bits),
+            Meaning::Int(number) => self.add_number(4, number.cast_unsigned()),
+            Meaning::Uint(number) => self.add_number(5, number),
+            Meaning::Sint(number) => self.add_number(6, number.cast_unsigned()),
+            Meaning::Bool(truth) => self.add_number(7, u64::from(truth)),
         }
     }
 
@@ -262,15 +226,36 @@ impl Table {
     }
 }
 
-fn append_points(rows: &mut Vec<PointRow>, points: &[Point]) -> Result<(), AllocError>
-    ensures { OnOk result (rows.new.items ≡ rows.old.items ++ map point_row points.now) }
-{
-    rows.reserve(points.len())?;
-    for point in points {
-        rows.push(PointRow {
+impl GeometryVisitor for Table {
+    ghost use Rattle.std.specs.Prelude.{◌≡◌};
+    ghost use Rattle.std.proofs.Common.{ap, sym, append-nil};
+    ghost use Rattle.mvt_rows.specs.Tables.{Table as Rows, with_parts, with_integers};
+
+    ghost has_parts = { λ start parts begun table. table ≡ with_parts start parts begun };
+
+    ghost has_integers = { λ start integers table. table ≡ with_integers start integers };
+
+    ghost begins = { λ start. ap (λ points. let table : Rows = record start { points = points } in table)
+        (sym (append-nil start.points)) };
+
+    fn visit_point(&mut self, point: Point) -> Result<(), AllocError> {
+        self.points.push(PointRow {
             x: point.x,
             y: point.y,
         })?;
+        Ok(())
     }
-    Ok(())
+
+    fn end_part(&mut self, points: usize, exterior: bool) -> Result<(), AllocError> {
+        let start = self.points.len().saturating_sub(points);
+        self.parts.push(PartRow {
+            exterior: u32::from(exterior),
+            points: after_list(start, points),
+        })?;
+        Ok(())
+    }
+
+    fn visit_integers(&mut self, integers: &[u32]) -> Result<(), AllocError> {
+        self.integers.extend_from_slice(integers)
+    }
 }

@@ -1,9 +1,10 @@
 -- The polygons that rings make, from after.
-use Rattle.std.specs.Prelude.{if◌then◌else◌, pos, List, [], ◌∷◌, ◌++◌}
+use Rattle.std.specs.Prelude.{if◌then◌else◌, Bool, false, ◌||◌, pos, List, [], ◌∷◌, ◌++◌}
 use Rattle.std.specs.Int.Signed.{lt_z}
 use Rattle.mvt_geometry.specs.declared.shape.Point.{Point}
 use Rattle.mvt_geometry.specs.declared.shape.Polygon.{Polygon}
 use Rattle.mvt_geometry.specs.Area.{area2}
+use Rattle.mvt_geometry.specs.Visiting.{Part}
 
 -- the interior rings of a polygon that is open before these rings, and the polygons after it
 pub record Groups : Type 0 where
@@ -24,6 +25,12 @@ groups_of (ring ∷ rings) = with_ring ring (groups_of rings)
 -- an open polygon, and those after it
 abbrev pub opened : List Point → List (List Point) → List (List Point) → List Polygon
 opened outer rest rings = record { outer = outer; rest = rest ++ (groups_of rings).inner } ∷ (groups_of rings).polygons
+
+-- rings as parts; the first of all rings is exterior
+abbrev pub parts_of_rings : Bool → List (List Point) → List Part
+parts_of_rings is_first [] = []
+parts_of_rings is_first (ring ∷ rings) =
+    record { exterior = is_first || lt_z (pos 0) (area2 ring); points = ring } ∷ parts_of_rings false rings
 
 -- the polygons of rings whose first is exterior
 abbrev pub polygons_of : List (List Point) → List Polygon

@@ -1,13 +1,13 @@
 //! The rows of features and layers.
 ghost use Rattle.std.specs.Prelude.{◌≡◌, ◌-◌, OnOk};
 ghost use Rattle.mvt_feature.specs.Canonical.{type_number};
-ghost use Rattle.mvt_rows.specs.Tables.{with_drawn, with_foreign, with_layer_row};
+ghost use Rattle.mvt_rows.specs.Tables.{with_feature_row, with_foreign, with_layer_row};
 
 use super::{Table, after_list};
 use crate::places::Places;
 use crate::rows::{FeatureRow, LayerRow, Span};
-use mvt_feature::Drawn;
-use mvt_geometry::{Kind, kind_of};
+use mvt_feature::FeatureFields;
+use mvt_geometry::Kind;
 use std::alloc::AllocError;
 
 /// What was added to a list that had so many entries.
@@ -30,24 +30,25 @@ fn type_of(kind: Kind) -> u32
 }
 
 impl Table {
-    /// Adds a feature with its tags as they stand.
-    pub(super) fn add_drawn(&mut self, tags: &[u32], drawn: &Drawn) -> Result<(), AllocError>
-        ensures { OnOk result (self.new ≡ with_drawn tags.now self.old drawn.now.id drawn.now.geometry) }
+    /// Adds the row of a feature whose parts and integers stand after these places, and its tags as
+    /// they stand.
+    pub(super) fn add_feature_row(
+        &mut self,
+        tags: &[u32],
+        known: FeatureFields,
+        opened: Places,
+    ) -> Result<(), AllocError>
+        ensures { OnOk result (self.new ≡ with_feature_row tags.now self.old known opened) }
     {
-        let tags_at = self.tags.len();
-        let parts = self.parts.len();
-        let integers = self.integers.len();
-        self.tags.extend_from_slice(tags)?;
-        self.add_geometry(&drawn.geometry)?;
         self.features.push(FeatureRow {
-            id: drawn.id.unwrap_or(0),
-            has_id: u32::from(drawn.id.is_some()),
-            kind: type_of(kind_of(&drawn.geometry)),
-            tags: added(tags_at, self.tags.len()),
-            parts: added(parts, self.parts.len()),
-            integers: added(integers, self.integers.len()),
+            id: known.id.unwrap_or(0),
+            has_id: u32::from(known.id.is_some()),
+            kind: type_of(known.kind),
+            tags: after_list(self.tags.len(), tags.len()),
+            parts: added(opened.parts, self.parts.len()),
+            integers: added(opened.integers, self.integers.len()),
         })?;
-        Ok(())
+        self.tags.extend_from_slice(tags)
     }
 
     /// Adds the row of a layer whose features, keys and values stand after these places, and its name.

@@ -12,8 +12,8 @@ use super::Table;
 use crate::places::Places;
 use mvt_attrs::LayerKeys;
 use mvt_base::Text;
-use mvt_feature::{Scratch, read_drawn};
-use mvt_message::{LayerVisitor, MessageError, Visited, read_value, visit_layer};
+use mvt_feature::{Scratch, draw_feature, read_meaning};
+use mvt_message::{LayerVisitor, MessageError, Visited, visit_layer};
 use mvt_tile::{DecodeError, TileVisitor, VisitingDecoder, visit_named, visit_tile};
 use std::alloc::{AllocError, Global};
 
@@ -166,13 +166,13 @@ impl LayerVisitor for RowsVisitor {
 
     fn visit_value(
         &mut self,
-        alloc: Global,
+        _: Global,
         payload: &[u8],
         payload_at: u64,
         tag_at: u64,
     ) -> Result<(), MessageError> {
-        let value = read_value(alloc, payload, payload_at, tag_at)?;
-        self.table.add_value(&value)?;
+        let meaning = read_meaning(payload, payload_at, tag_at)?;
+        self.table.add_value(meaning)?;
         Ok(self.keep_within()?)
     }
 
@@ -190,8 +190,10 @@ impl LayerVisitor for RowsVisitor {
         values: usize,
         scratch: &mut Scratch,
     ) -> Result<(), MessageError> {
-        let drawn = read_drawn(alloc, payload, payload_at, keys, values, scratch)?;
-        self.table.add_drawn(scratch.tags(), &drawn)?;
+        let opened = self.table.places();
+        let table = &mut self.table;
+        let known = draw_feature(alloc, table, payload, payload_at, keys, values, scratch)?;
+        self.table.add_feature_row(scratch.tags(), known, opened)?;
         Ok(self.keep_within()?)
     }
 }

@@ -1,0 +1,34 @@
+-- What a visitor is told of a geometry (Mapbox Vector Tile Specification 2.1, 4.3.4).
+use Rattle.std.specs.Prelude.{ℕ, Bool, true, false, List, [], ◌∷◌, map}
+use Rattle.std.specs.List.{flat_map}
+use Rattle.mvt_geometry.specs.declared.shape.Point.{Point}
+use Rattle.mvt_geometry.specs.declared.shape.Polygon.{Polygon}
+use Rattle.mvt_geometry.specs.declared.shape.Geometry.{Geometry}
+use Rattle.mvt_geometry.specs.declared.shape.Geometry.TheVariants.{Unknown, Points, Lines, Polygons}
+
+-- a line, a ring, or all points of a feature of points; an exterior ring begins a polygon
+pub record Part : Type 0 where
+  pub exterior : Bool
+  pub points : List Point
+
+-- a part that begins no polygon
+abbrev pub plain : List Point → Part
+plain points = record { exterior = false; points = points }
+
+-- 4.3.4.4: the rings of a polygon
+abbrev pub ring_parts : Polygon → List Part
+ring_parts p = record { exterior = true; points = p.outer } ∷ map plain p.rest
+
+-- the parts of a geometry, in the order in which they are drawn; one of unknown type has none
+abbrev pub parts_of : Geometry → List Part
+parts_of (Unknown integers) = []
+parts_of (Points points) = plain points ∷ []
+parts_of (Lines lines) = map plain lines
+parts_of (Polygons polygons) = flat_map ring_parts polygons
+
+-- since it was in the first state a visitor was told this geometry: its parts, or its integers where it has no type
+abbrev pub HasDrawn : {V : Type 0} → (V → List Part → List Point → V → Type 0) → (V → List ℕ → V → Type 0) → V → V → Geometry → Type 0
+HasDrawn HasParts HasIntegers start now (Unknown integers) = HasIntegers start integers now
+HasDrawn HasParts HasIntegers start now (Points points) = HasParts start (parts_of (Points points)) [] now
+HasDrawn HasParts HasIntegers start now (Lines lines) = HasParts start (parts_of (Lines lines)) [] now
+HasDrawn HasParts HasIntegers start now (Polygons polygons) = HasParts start (parts_of (Polygons polygons)) [] now
