@@ -22,7 +22,7 @@ pub use cause::Cause;
 pub use feature::{Drawn, Feature};
 pub use message_error::MessageError;
 pub use reading::{judge_feature, read_drawn, read_feature, read_feature_in};
-pub use rewriting::rewrite_feature;
+pub use rewriting::{append_tagged_feature, rewrite_feature};
 pub use scratch::Scratch;
 pub use validity::{is_valid_feature, validate_feature};
 pub use value::{judge_value, read_value, text_of, varint_of};
