@@ -170,7 +170,9 @@ mvt_status mvt_read_layer(const uint8_t *bytes, size_t len, mvt_bytes name, mvt_
  * at all; points in more than one part; lines of less than two points and rings of less than three, or with a point
  * twice in a row; positions, and steps from one to the next, beyond 2,147,483,647 to either side; rings that wind the
  * wrong way round; an interior ring before all exterior ones; two layers of one name; bytes of a layer that aren't one of
- * its version. Also MVT_OK, MVT_NO_MEMORY, MVT_TOO_LARGE. */
+ * its version. Also MVT_OK, MVT_NO_MEMORY, MVT_TOO_LARGE.
+ * Spans that overlap name an entry each time anew. Where they name more entries in all than the lists have and 67,108,864
+ * more, the answer is MVT_NO_MEMORY, so that a few megabytes of rows can't ask for any amount of work. */
 mvt_status mvt_write(const mvt_tile *tile, mvt_bytes *out);
 
 /* What is wrong with rows, in the order in which it is looked for: layer by layer, and in a layer of version 2 first its
@@ -207,7 +209,8 @@ typedef struct {
 } mvt_rows_fault;
 
 /* Whether rows are a valid tile, and else the first thing that is wrong with them: why mvt_write answers MVT_NO_TILE.
- * It writes `fault` where it answers MVT_NO_TILE. MVT_OK, MVT_NO_TILE, MVT_NO_MEMORY. */
+ * It writes `fault` where it answers MVT_NO_TILE. MVT_OK, MVT_NO_TILE, and MVT_NO_MEMORY, also where spans that overlap
+ * name as many entries as mvt_write gives up at. */
 mvt_status mvt_judge_rows(const mvt_tile *tile, mvt_rows_fault *fault);
 
 /* A cause of mvt_rows_fault in plain words, which last for good; those of an unknown cause say so. */

@@ -180,6 +180,31 @@ static void write_what_nothing_names(void) {
     }
 }
 
+/* Features of 16,384 zeros each, all the same ones. Of 4,097 features a layer, its name, these features and 67,125,248 zeros
+ * are gone over, as many as the lists have and 67,108,864 more; its bytes are too many. Of one feature more, too much is
+ * gone over. */
+static void write_overlaps(void) {
+    enum { ZEROS = 16384, FEATURES = 4098 };
+    uint32_t *const integers = calloc(ZEROS, sizeof *integers);
+    mvt_feature *const features = calloc(FEATURES, sizeof *features);
+    require(integers != NULL && features != NULL, "memory");
+    for (int i = 0; i < FEATURES; ++i) features[i].integers = (mvt_span){0, ZEROS};
+    for (uint64_t count = 2; count <= FEATURES; count = count == 2 ? FEATURES - 1 : count + 1) {
+        const mvt_layer layer = {.version = 2, .extent = 4096, .name = {0, 1}, .features = {0, count}};
+        const mvt_tile tile = {.layers = &layer, .layer_count = 1, .features = features, .feature_count = count,
+                               .integers = integers, .integer_count = ZEROS, .texts = (const uint8_t *)"a", .text_len = 1};
+        mvt_rows_fault fault = {.cause = 99};
+        mvt_bytes out = {0};
+        const uint32_t wanted = count == 2 ? MVT_OK : count < FEATURES ? MVT_TOO_LARGE : MVT_NO_MEMORY;
+        require(mvt_write(&tile, &out) == wanted, "what spans that overlap are written as");
+        require(mvt_judge_rows(&tile, &fault) == (count < FEATURES ? MVT_OK : MVT_NO_MEMORY), "and are judged as");
+        require(fault.cause == 99 && (out.data == NULL) == (count > 2), "nothing is written but bytes");
+        mvt_bytes_free(&out);
+    }
+    free(features);
+    free(integers);
+}
+
 /* Layer `a` with a feature `k: true` at (25, 17), a line and a ring that are broken in one way each: what is said of it. */
 static void judge_rows(void) {
     for (uint32_t cause = 0; cause <= 19; ++cause) {
@@ -272,6 +297,7 @@ int main(void) {
     build_no_tile();
     judge_rows();
     write_what_nothing_names();
+    write_overlaps();
     explain();
     return 0;
 }

@@ -7,7 +7,7 @@ pub use Rattle.mvt_feature.proofs.OrFaultLemmas.{feature_there as feature_or_fau
 pub use Rattle.mvt_feature.proofs.CanonicalLemmas.{canonical_value as canonical_reads_value, canonical_feature as canonical_reads_feature}
 pub use Rattle.mvt_feature.proofs.FeatureFieldsLemmas.{number_more}
 pub use Rattle.mvt_feature.proofs.BoundLemmas.{bound_holds}
-pub use Rattle.mvt_feature.proofs.RangeLemmas.{value_valid as read_is_valid_value, feature_valid as read_is_valid_feature}
+pub use Rattle.mvt_feature.proofs.RangeLemmas.{value_valid as read_is_valid_value, feature_valid as read_is_valid_feature, attributes_valid as read_is_valid_attributes}
 use Rattle.std.specs.List.{AllByRecursion}
 use Rattle.std.specs.Prelude.{◌≡◌, List, [], ℕ, refl}
 use Rattle.mvt_feature.specs.declared.numbers.feature.TheConstants.{ID, TAGS, TYPE, GEOMETRY}

@@ -7,6 +7,8 @@ use Rattle.std.specs.List.{AllByRecursion}
 use Rattle.std.proofs.Math.Facts.{sfits_to_z, Fits-of_lt}
 use Rattle.mvt_attrs.specs.declared.value.Value.{Value}
 use Rattle.mvt_attrs.specs.declared.value.Value.TheVariants.{Text, Float, Double, Int, Uint, Sint, Bool as Truth}
+use Rattle.mvt_attrs.specs.declared.value.Attribute.{Attribute}
+use Rattle.mvt_attrs.specs.Tags.{Names}
 use Rattle.mvt_wire.specs.Field.{Content, varint, fixed64, bytes, fixed32, Entry, IsField, IsPayload}
 use Rattle.mvt_wire.specs.Split.{SplitFrom}
 use Rattle.mvt_wire.specs.Zigzag.{zig}
@@ -104,6 +106,13 @@ if_some : (o : Option ℕ) (P : ℕ → Type 0) → ((n : ℕ) → o ≡ Some n 
 if_some None P h = tt
 if_some (Some n) P h = h n refl
 
+pub attributes_valid : (keys : List (List ℕ)) (values : List Value) (tags : List ℕ) (attributes : List Attribute)
+    → AllByRecursion IsUtf8 keys → AllByRecursion ValidValue values → Names keys values tags attributes
+    → AllByRecursion ValidAttribute attributes
+attributes_valid keys values tags attributes utf8 valid named =
+    all_from ValidAttribute attributes
+    (λ i a at. (all_at IsUtf8 keys _ a.key utf8 (named.key i a at), all_at ValidValue values _ a.value valid (named.value i a at)))
+
 pub feature_valid : (payload : List ℕ) (keys : List (List ℕ)) (values : List Value) (f : Feature) → AreBytes payload
     → AllByRecursion IsUtf8 keys → AllByRecursion ValidValue values → IsFeatureOf payload keys values f → ValidFeature f
 feature_valid payload keys values f h utf8 valid (xs, whole, is) =
@@ -113,12 +122,7 @@ feature_valid payload keys values f h utf8 valid (xs, whole, is) =
           if_some f.id (λ n. n < 2 ^ 64)
           (λ n e. number_range (last_only ID xs) n (λ x at. last_of_all (λ (y : Entry). IsInRange y.content) (only ID xs) x ranges at)
           (sym is.id ∙ e));
-      attributes =
-          all_from ValidAttribute f.attributes
-          (λ i a at. (
-            all_at IsUtf8 keys _ a.key utf8 (is.attributes.named.key i a at),
-            all_at ValidValue values _ a.value valid (is.attributes.named.value i a at),
-          ));
+      attributes = attributes_valid keys values _ f.attributes utf8 valid is.attributes.named;
       distinct = is.attributes.distinct;
       drawn = is.geometry.valid;
     }

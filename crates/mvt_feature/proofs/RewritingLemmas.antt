@@ -1,11 +1,13 @@
 -- A feature whose payload was judged, and what is written of it.
-use Rattle.std.proofs.Common.{◌≡◌, ℕ, ◌<◌, ◌^◌, List, ◌++◌, None, refl, sym, ap, subst, ◌∙◌}
+use Rattle.std.proofs.Common.{◌≡◌, ℕ, ◌<◌, ◌^◌, List, ◌++◌, Option, None, refl, sym, ap, subst, ◌∙◌}
 use Rattle.std.specs.List.{AllByRecursion}
 use Rattle.mvt_attrs.specs.declared.value.Value.{Value}
 use Rattle.mvt_attrs.specs.declared.uses.LayerUses.{LayerUses}
 use Rattle.mvt_attrs.specs.TagRules.{tag_fault}
 use Rattle.mvt_attrs.specs.TagPlaces.{tags_in}
 use Rattle.mvt_attrs.specs.Using.{IsUsedBy}
+use Rattle.mvt_geometry.specs.declared.shape.Geometry.{Geometry}
+use Rattle.mvt_geometry.specs.Drawing.{drawn}
 use Rattle.mvt_geometry.specs.Shape.{kind_of}
 use Rattle.mvt_geometry.specs.Table.{geometry_fault}
 use Rattle.mvt_wire.specs.Spelling.{spelled}
@@ -56,4 +58,18 @@ parts_written keys values known scratch f old new before after tags are used tag
       ++ drawing_fields k scratch.integers.items))) are.integers.same_kind
       ∙ ap (λ i. before ++ spelled (id_fields f.id ++ (tags_fields (tags_in new.keys.used.items new.values.used.items f.attributes)
       ++ drawing_fields (kind_of f.geometry) i))) are.integers.spelled,
+)
+
+-- the same of a feature's parts
+pub fields_written : (f : Feature) (old new : LayerUses) (before after : List ℕ) (id : Option ℕ) (tags : List ℕ) (geometry : Geometry)
+    → IsUsedBy f.attributes old new → f.id ≡ id → f.geometry ≡ geometry
+    → tags ≡ tags_in new.keys.used.items new.values.used.items f.attributes
+    → after ≡ before ++ spelled (id_fields id ++ (tags_fields tags ++ drawing_fields (kind_of geometry) (drawn geometry)))
+    → IsRewritten f old new before after
+fields_written f old new before after id tags geometry used id_is geometry_is tags_are is = (
+  used,
+  is
+      ∙ ap (λ i. before ++ spelled (id_fields i ++ (tags_fields tags ++ drawing_fields (kind_of geometry) (drawn geometry)))) (sym id_is)
+      ∙ ap (λ g. before ++ spelled (id_fields f.id ++ (tags_fields tags ++ drawing_fields (kind_of g) (drawn g)))) (sym geometry_is)
+      ∙ ap (λ t. before ++ spelled (id_fields f.id ++ (tags_fields t ++ drawing_fields (kind_of f.geometry) (drawn f.geometry)))) tags_are,
 )

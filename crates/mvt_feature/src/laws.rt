@@ -2,6 +2,7 @@
 ghost use Rattle.std.specs.Prelude.{◌≡◌, ◌==◌, ◌↔◌, ℕ, ◌+◌, ◌^◌, ◌<◌, ◌≤◌, List, [], ◌∷◌, ◌++◌, length, None, Some, if◌then◌else◌, Ok, Err, IsUtf8};
 ghost use Rattle.std.specs.List.{AllByRecursion};
 ghost use Rattle.mvt_base.specs.Rules.{AreOrdered, IsLeast, each, first};
+ghost use Rattle.mvt_attrs.specs.declared.value.Attribute.{Attribute};
 ghost use Rattle.mvt_attrs.specs.declared.value.Value.{Value};
 ghost use Rattle.mvt_feature.specs.declared.numbers.feature.TheConstants.{ID, TAGS, TYPE, GEOMETRY};
 ghost use Rattle.mvt_feature.specs.declared.numbers.value.TheConstants.{STRING, FLOAT, DOUBLE, INT, UINT, SINT, BOOL};
@@ -21,7 +22,7 @@ ghost use Rattle.mvt_feature.specs.Bounds.{feature_bound};
 ghost use Rattle.mvt_feature.specs.Faults.{MessageFault, fault_at, rest_rules};
 ghost use Rattle.mvt_feature.specs.Forms.{Form, IsFirst, HaveForms, forms_rules};
 ghost use Rattle.mvt_feature.specs.Ranges.{AreBytes, IsInRange};
-ghost use Rattle.mvt_feature.specs.Valid.{ValidValue, ValidFeature};
+ghost use Rattle.mvt_feature.specs.Valid.{ValidAttribute, ValidValue, ValidFeature};
 ghost use Rattle.mvt_feature.specs.Features.{IsFeatureOf, number_in, number_of};
 ghost use Rattle.mvt_feature.specs.FeatureRules.{feature_rules, feature_fault};
 ghost use Rattle.mvt_feature.specs.Selection.{last_only};
@@ -115,7 +116,8 @@ pub fn bound_holds()
         (tags_in keys values feature.attributes) feature)) ≤ feature_bound feature }
 {}
 
-/// What bytes are read as is valid; a feature, where the keys and the values of its layer are.
+/// What bytes are read as is valid; a feature, or attributes, where the keys and the values of the
+/// layer are.
 pub fn read_is_valid()
     ensures fields { (payload : List ℕ) (fields : List Entry) → AreBytes payload
         → Whole payload fields
@@ -126,6 +128,10 @@ pub fn read_is_valid()
         (feature : Feature) →
         AreBytes payload → AllByRecursion IsUtf8 keys → AllByRecursion ValidValue values
         → IsFeatureOf payload keys values feature → ValidFeature feature }
+    ensures attributes { (keys : List (List ℕ)) (values : List Value) (tags : List ℕ)
+        (attributes : List Attribute) →
+        AllByRecursion IsUtf8 keys → AllByRecursion ValidValue values
+        → Names keys values tags attributes → AllByRecursion ValidAttribute attributes }
 {}
 
 /// Fields break no rule of their forms exactly where they have them, and these rules are in order.

@@ -23,7 +23,7 @@ pub use feature::Feature;
 pub use feature_fields::FeatureFields;
 pub use message_error::MessageError;
 pub use reading::{draw_feature, judge_feature, read_feature, read_feature_in};
-pub use rewriting::rewrite_feature;
+pub use rewriting::{append_tagged_feature, rewrite_feature};
 pub use scratch::Scratch;
 pub use validity::{is_valid_feature, validate_feature};
 pub use value::{Meaning, judge_value, read_meaning, read_value, text_of, varint_of};

@@ -1,9 +1,11 @@
-//! Features made canonical from their payloads: nothing is built (Mapbox Vector Tile Specification
-//! 2.1, 4.2).
+//! Features made canonical from their payloads or from their parts, with tags by index (Mapbox Vector
+//! Tile Specification 2.1, 4.2).
 ghost use Rattle.std.specs.Prelude.{◌≡◌, ℕ, ◌+◌, ◌^◌, ◌<◌, ◌++◌, List, length, None, IfErr, OnOk};
 ghost use Rattle.mvt_base.specs.Reports.{Reports};
 ghost use Rattle.mvt_attrs.specs.declared.value.Value.{Value};
+ghost use Rattle.mvt_attrs.specs.Tags.{Names};
 ghost use Rattle.mvt_attrs.specs.Using.{HasUses};
+ghost use Rattle.mvt_geometry.specs.Valid.{IsValid};
 ghost use Rattle.mvt_feature.specs.declared.feature.Feature.{Feature};
 ghost use Rattle.mvt_feature.specs.Faults.{fault_of};
 ghost use Rattle.mvt_feature.specs.Features.{IsFeatureOf};
@@ -17,6 +19,7 @@ use crate::reading::judge_known;
 use crate::scratch::Scratch;
 use crate::writing::append_fields;
 use mvt_attrs::{LayerKeys, LayerUses};
+use mvt_geometry::{Geometry, append_geometry, kind_of};
 use mvt_wire::PackedNumbers;
 use std::alloc::{AllocError, Global};
 
@@ -53,6 +56,36 @@ pub fn rewrite_feature(
     let known = judge_known(alloc, payload, payload_at, keys, values, scratch)?;
     append_judged(&known, uses, scratch, out)?;
     Ok(())
+}
+
+/// Appends the canonical payload of the feature that has this id, these tags and this geometry, in a
+/// layer of these uses. A tag becomes the index of its key or value among those that are used.
+///
+/// # Errors
+///
+/// When memory runs out.
+pub fn append_tagged_feature(
+    id: Option<u64>,
+    tags: &[u32],
+    geometry: &Geometry,
+    uses: &mut LayerUses,
+    scratch: &mut Scratch,
+    out: &mut Vec<u8>,
+) -> Result<(), AllocError>
+    requires { IsValid geometry.now }
+    ensures feature { (keys : List (List ℕ)) (held : List Value) (f : Feature)
+        → HasUses uses.old keys held → f.id ≡ id → f.geometry ≡ geometry.now
+        → Names keys held tags.now f.attributes
+        → OnOk result (IsRewritten f uses.old uses.new out.old.items out.new.items) }
+    ensures uses { (keys : List (List ℕ)) (held : List Value) (f : Feature)
+        → HasUses uses.old keys held → Names keys held tags.now f.attributes
+        → OnOk result (HasUses uses.new keys held) }
+{
+    scratch.last.clear();
+    scratch.drawing.clear();
+    uses.append_used(tags, &mut scratch.last)?;
+    append_geometry(geometry, &mut scratch.drawing)?;
+    append_fields(out, id, &scratch.last, kind_of(geometry), &scratch.drawing)
 }
 
 /// Appends the canonical payload of a feature that was judged.

@@ -1,5 +1,7 @@
 -- What is written of a layer while its features are visited.
-use Rattle.std.proofs.Common.{◌≡◌, ℕ, List, [], ◌∷◌, ◌++◌, map, refl, sym, ap, ap₂, ◌∙◌, append_assoc, append-nil}
+use Rattle.std.proofs.Common.{◌≡◌, ◌≢◌, ℕ, ◌<◌, ◌≤◌, List, [], ◌∷◌, ◌++◌, length, map, refl, sym, ap, ap₂, ◌∙◌, subst, arith, append_assoc, append-nil, length-append}
+use Rattle.std.proofs.lemmas.List.{map-append}
+use Rattle.mvt_base.specs.declared.TheConstants.{LIMIT}
 use Rattle.mvt_attrs.specs.declared.value.Value.{Value}
 use Rattle.mvt_attrs.specs.declared.uses.LayerUses.{LayerUses}
 use Rattle.mvt_attrs.specs.Pools.{key_pool, value_pool}
@@ -12,9 +14,11 @@ use Rattle.mvt_feature.specs.Rewriting.{IsRewritten}
 use Rattle.mvt_message.specs.declared.item.Layer.{Layer as ALayer}
 use Rattle.mvt_message.specs.declared.item.Item.TheVariants.{Layer, Foreign}
 use Rattle.mvt_message.specs.CanonicalItems.{canonical_item, keys_of, values_of, head_fields, feature_field, extent_fields, layer_fields}
-use Rattle.mvt_message.specs.Rewriting.{AreWritten}
+use Rattle.mvt_message.specs.declared.layer_writer.LayerWriter.{LayerWriter}
+use Rattle.mvt_message.specs.Rewriting.{AreWritten, HasWritten, HasWrittenUpTo}
+use Rattle.mvt_wire.proofs.WireLaws.{spelled_parts}
 use Rattle.mvt_message.proofs.PoolLemmas.{keys_more, values_more}
-use Rattle.mvt_message.proofs.PutLemmas.{spelled_more, tags_last, layer_parts, head_part, features_part, keys_part, values_part, extent_part}
+use Rattle.mvt_message.proofs.PutLemmas.{spelled_more, tags_last, layer_parts, head_part, features_part, keys_part, values_part, extent_part, pool_parts}
 
 pub keys_none : keys_of [] ≡ []
 unfolding keys_of
@@ -86,3 +90,50 @@ canonical_layer layer = refl
 pub canonical_foreign : (version : ℕ) (content : List ℕ) → canonical_item (Foreign version content) ≡ content
 unfolding canonical_item
 canonical_foreign version content = refl
+
+-- features that follow too many bytes are left out
+
+pub left_out_more : (keys : List (List ℕ)) (values : List Value) (w : LayerWriter) (features : List Feature) (f : Feature)
+    → HasWrittenUpTo LIMIT keys values w features → LIMIT < length w.features.items → HasWrittenUpTo LIMIT keys values w (features ++ f ∷ [])
+left_out_more keys values w features f has past = record {
+  kept = has.kept;
+  left_out = has.left_out ++ f ∷ [];
+  features_are = ap (λ fs. fs ++ f ∷ []) has.features_are ∙ append_assoc has.kept has.left_out (f ∷ []);
+  written = has.written;
+  past = λ _. past;
+}
+
+none_left_out : (kept left_out : List Feature) (count : ℕ) → (left_out ≢ [] → LIMIT < count) → count ≤ LIMIT → kept ++ left_out ≡ kept
+none_left_out kept [] count past within = append-nil kept
+none_left_out kept (f ∷ left_out) count past within = absurd (let long = past (λ e. cc) in omega arith)
+
+pub kept_all : (keys : List (List ℕ)) (values : List Value) (w : LayerWriter) (features : List Feature)
+    → HasWrittenUpTo LIMIT keys values w features → length w.features.items ≤ LIMIT → HasWritten keys values w features
+kept_all keys values w features has within =
+    subst (HasWritten keys values w) (sym (has.features_are ∙ none_left_out has.kept has.left_out _ has.past within)) has.written
+
+pub kept_more : (keys : List (List ℕ)) (values : List Value) (w : LayerWriter) (features : List Feature) (f : Feature)
+    → HasWritten keys values w (features ++ f ∷ []) → HasWrittenUpTo LIMIT keys values w (features ++ f ∷ [])
+kept_more keys values w features f written = record {
+  kept = features ++ f ∷ [];
+  left_out = [];
+  features_are = sym (append-nil (features ++ f ∷ []));
+  written = written;
+  past = λ some. absurd (some refl);
+}
+
+pub past_limit : (keys : List (List ℕ)) (values : List Value) (w : LayerWriter) (layer : ALayer)
+    → HasWrittenUpTo LIMIT keys values w layer.features → LIMIT < length w.features.items → LIMIT < length (canonical_item (Layer layer))
+past_limit keys values w layer has past =
+    let field = feature_field (keys_of layer.features) (values_of layer.features) in
+    let front : w.features.items ≡ spelled (map field has.kept) =
+    has.written.written has.left_out
+    ∙ ap (λ fs. spelled (map (feature_field (keys_of fs) (values_of fs)) has.kept)) (sym has.features_are) in
+    let parts : features_part layer.features ≡ spelled (map field has.kept) ++ spelled (map field has.left_out) =
+    ap (λ fs. spelled (map field fs)) has.features_are ∙ ap spelled (map-append field has.kept has.left_out)
+    ∙ spelled_parts (map field has.kept) (map field has.left_out) in
+    let whole = ap length (canonical_layer layer ∙ layer_parts layer) ∙ length-append (head_part layer) _ in
+    let behind = length-append (features_part layer.features) (pool_parts layer) in
+    let size = ap length parts ∙ length-append (spelled (map field has.kept)) (spelled (map field has.left_out)) in
+    let same = ap length front in
+    omega (arith, whole, behind, size, same)

@@ -1,11 +1,14 @@
 -- Features that are written after one another while others may follow.
-use Rattle.std.specs.Prelude.{◌≡◌, ℕ, List, [], ◌++◌, map}
+use Rattle.std.specs.Prelude.{◌≡◌, ◌≢◌, ℕ, ◌<◌, List, [], ◌++◌, length, map, Option, MatchOption, Vec}
+use Rattle.std.specs.Global.{Global}
 use Rattle.mvt_attrs.specs.declared.value.Value.{Value}
 use Rattle.mvt_attrs.specs.Using.{HasUses}
 use Rattle.mvt_wire.specs.Spelling.{spelled}
 use Rattle.mvt_feature.specs.declared.feature.Feature.{Feature}
-use Rattle.mvt_message.specs.declared.rewriting.LayerRewriter.{LayerRewriter}
-use Rattle.mvt_message.specs.CanonicalItems.{keys_of, values_of, feature_field}
+use Rattle.mvt_message.specs.declared.layer_writer.LayerWriter.{LayerWriter}
+use Rattle.mvt_message.specs.declared.item.Layer.{Layer as ALayer}
+use Rattle.mvt_message.specs.declared.item.Item.TheVariants.{Layer}
+use Rattle.mvt_message.specs.CanonicalItems.{canonical_item, keys_of, values_of, feature_field}
 
 -- their fields, whatever features follow
 abbrev pub AreWritten : List Feature → List ℕ → Type 0
@@ -14,15 +17,28 @@ AreWritten features out =
     → out ≡ spelled (map (feature_field (keys_of (features ++ more)) (values_of (features ++ more))) features)
 
 -- a layer's values so far
-pub record HasGathered (r : LayerRewriter) (values : List Value) : Type 0 where
-  pub uses : HasUses r.uses [] values
-  pub no_keys : r.uses.keys.used.items ≡ []
-  pub no_values : r.uses.values.used.items ≡ []
-  pub no_features : r.features.items ≡ []
+pub record HasGathered (w : LayerWriter) (values : List Value) : Type 0 where
+  pub uses : HasUses w.uses [] values
+  pub no_keys : w.uses.keys.used.items ≡ []
+  pub no_values : w.uses.values.used.items ≡ []
+  pub no_features : w.features.items ≡ []
 
 -- and its features so far
-pub record HasWritten (keys : List (List ℕ)) (values : List Value) (r : LayerRewriter) (features : List Feature) : Type 0 where
-  pub uses : HasUses r.uses keys values
-  pub keys_are : r.uses.keys.used.items ≡ keys_of features
-  pub values_are : r.uses.values.used.items ≡ values_of features
-  pub written : AreWritten features r.features.items
+pub record HasWritten (keys : List (List ℕ)) (values : List Value) (w : LayerWriter) (features : List Feature) : Type 0 where
+  pub uses : HasUses w.uses keys values
+  pub keys_are : w.uses.keys.used.items ≡ keys_of features
+  pub values_are : w.uses.values.used.items ≡ values_of features
+  pub written : AreWritten features w.features.items
+
+-- the same, where features are left out that follow more bytes than a limit
+pub record HasWrittenUpTo (limit : ℕ) (keys : List (List ℕ)) (values : List Value) (w : LayerWriter) (features : List Feature) : Type 0 where
+  pub kept : List Feature
+  pub left_out : List Feature
+  pub features_are : features ≡ kept ++ left_out
+  pub written : HasWritten keys values w kept
+  pub past : left_out ≢ [] → limit < length w.features.items
+
+-- the canonical payload of a layer; none where it is longer than a limit
+abbrev pub IsPayloadOf : ℕ → ALayer → Option (Vec ℕ Global) → Type 0
+IsPayloadOf limit layer made =
+    MatchOption made (limit < length (canonical_item (Layer layer))) (λ payload. payload.items ≡ canonical_item (Layer layer))

@@ -14,10 +14,10 @@ ghost use Rattle.mvt_message.specs.Items.{IsItem, names_in};
 ghost use Rattle.mvt_message.specs.Rewriting.{HasGathered, HasWritten};
 ghost use Rattle.mvt_message.specs.ValidItems.{ValidItem};
 
-use crate::layer_writing::{put_extent, put_head, put_keys, put_values};
+use crate::layer_writer::LayerWriter;
 use crate::numbers::layer;
 use crate::visiting::{LayerVisitor, Visited, visit_layer};
-use mvt_attrs::{LayerKeys, LayerUses};
+use mvt_attrs::LayerKeys;
 use mvt_base::{LIMIT, Text};
 use mvt_feature::{MessageError, Scratch, read_value, rewrite_feature};
 use mvt_wire::{Payload, put_field};
@@ -48,10 +48,10 @@ pub fn rewrite_item<'a>(
     ensures fault { IfErr result (λ error. Reports (fault_of error)
         (item_fault payload.now payload_at tag_at)) }
 {
-    let mut rewriter = LayerRewriter::new(alloc);
-    match visit_layer(alloc, &mut rewriter, payload, payload_at, tag_at) {
+    let mut writer = LayerWriter::new(alloc);
+    match visit_layer(alloc, &mut writer, payload, payload_at, tag_at) {
         Ok(Visited::Layer { name, extent }) => {
-            rewriter.append_layer(out, name, extent)?;
+            writer.append_layer(out, name, extent)?;
             Ok(Some(name))
         }
         Ok(Visited::Foreign { .. }) => {
@@ -63,49 +63,14 @@ pub fn rewrite_item<'a>(
 }
 
 /// Writes the features of a layer as they are visited, and keeps the keys and the values.
-#[derive(Drop)]
-struct LayerRewriter {
-    uses: LayerUses,
-    /// The payload of a feature.
-    payload: Vec<u8>,
-    /// The fields of the features.
-    features: Vec<u8>,
-}
-
-impl LayerRewriter {
-    fn new(alloc: Global) -> Self
-        ensures { HasGathered result [] }
-    {
-        LayerRewriter {
-            uses: LayerUses::new(alloc),
-            payload: Vec::new(alloc),
-            features: Vec::new(alloc),
-        }
-    }
-
-    /// Appends the canonical payload of the layer whose features it has.
-    fn append_layer(&self, out: &mut Vec<u8>, name: &str, extent: u32) -> Result<(), AllocError>
-        ensures { (keys : List (List ℕ)) (values : List AValue) (layer : Layer)
-            → HasWritten keys values self.now layer.features
-            → name.now ≡ layer.name → extent ≡ layer.extent
-            → OnOk result (out.new.items ≡ out.old.items ++ spelled (layer_fields layer)) }
-    {
-        put_head(out, name)?;
-        out.extend_from_slice(&self.features)?;
-        put_keys(out, self.uses.keys.used())?;
-        put_values(out, self.uses.values.used())?;
-        put_extent(out, extent)
-    }
-}
-
-impl LayerVisitor for LayerRewriter {
+impl LayerVisitor for LayerWriter {
     ghost use Rattle.mvt_message.specs.Rewriting.{HasGathered, HasWritten};
 
     ghost has_items = { λ _ _. Unit {0} };
 
-    ghost has_values = { λ _ rewriter values. HasGathered rewriter values };
+    ghost has_values = { λ _ writer values. HasGathered writer values };
 
-    ghost has_features = { λ _ keys values rewriter features. HasWritten keys values rewriter features };
+    ghost has_features = { λ _ keys values writer features. HasWritten keys values writer features };
 
     fn visit_value(
         &mut self,
@@ -120,7 +85,7 @@ impl LayerVisitor for LayerRewriter {
     }
 
     fn visit_keys(&mut self, _: Global, keys: &[Text], _: usize) -> Result<(), AllocError> {
-        self.uses.keys.add_all(keys)
+        self.add_keys(keys)
     }
 
     fn visit_feature(

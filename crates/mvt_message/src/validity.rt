@@ -80,8 +80,8 @@ fn are_valid(features: &[Feature]) -> bool
     true
 }
 
-/// Whether these are the bytes of a layer of this version, which isn't 2.
-fn are_of_version(version: u32, bytes: &[u8]) -> bool
+/// Whether these are the bytes of a layer of this version, which isn't 2. It takes no memory.
+pub fn are_of_version(version: u32, bytes: &[u8]) -> bool
     ensures { IsTrue result ↔ AreOfVersion version bytes.now }
 {
     match read_version(bytes, 0, 0) {

@@ -1,5 +1,5 @@
 -- Items written one after the other.
-use Rattle.std.proofs.Common.{◌≡◌, ℕ, ◌+◌, ◌<◌, ◌≤◌, List, [], ◌∷◌, ◌++◌, length, map, take, drop, get_or, Vec, Global, Option, None, Some, Result, Ok, Err, OnOk, OnErr, IfOk, refl, sym, ap, ap₂, subst, ◌∙◌, arith, append_assoc, append-nil, length-append, take-append-drop}
+use Rattle.std.proofs.Common.{◌≡◌, ℕ, ◌+◌, ◌<◌, ◌≤◌, List, [], ◌∷◌, ◌++◌, length, map, take, drop, get_or, Vec, Global, Option, None, Some, Result, Ok, Err, OnOk, IfOk, refl, sym, ap, ap₂, subst, ◌∙◌, arith, append_assoc, append-nil, length-append, take-append-drop}
 use Rattle.std.proofs.lemmas.List.{take_all, map-append}
 use Rattle.std.proofs.lemmas.Grind.{flat_map-append}
 use Rattle.std.specs.Option.{ok_or}
@@ -127,3 +127,9 @@ module _ (limit : ℕ) (tile : Tile) (items : List Item) (is : items ≡ tile.it
       → limit < length (canonical tile)
   encoded_large None are large = subst (λ b. limit < length b) (sym (canonical_is tile items is)) are
   encoded_large (Some b) are large = cc
+
+-- an item longer than a limit makes the whole longer
+pub long_items : (items : List Item) (item : Item) → LIMIT < length (canonical_item item) → AreEncoded LIMIT (items ++ item ∷ []) None
+long_items items item long =
+    let longer = short_lengths_bytes LAYERS (canonical_item item) in
+    omega (arith, ap length (written_after items item), length-append (written items) (field_of item))

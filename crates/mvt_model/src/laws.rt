@@ -1,8 +1,11 @@
 //! Laws about the definitions alone: functions without effect, whose contract is the law.
-ghost use Rattle.std.specs.Prelude.{◌≡◌, ◌≤◌, length};
+ghost use Rattle.std.specs.Prelude.{◌≡◌, ◌<◌, ◌≤◌, List, [], ◌∷◌, ◌++◌, length, None};
+ghost use Rattle.mvt_message.specs.declared.item.Item.{Item};
+ghost use Rattle.mvt_message.specs.CanonicalItems.{canonical_item};
 ghost use Rattle.mvt_model.specs.declared.numbers.tile.TheConstants.{LAYERS};
 ghost use Rattle.mvt_model.specs.declared.tile.Tile.{Tile};
 ghost use Rattle.mvt_model.specs.CanonicalTiles.{canonical};
+ghost use Rattle.mvt_model.specs.Encoding.{AreEncoded};
 ghost use Rattle.mvt_model.specs.Tiles.{IsTile};
 ghost use Rattle.mvt_model.specs.ValidTiles.{Valid};
 
@@ -17,4 +20,10 @@ pub fn field_numbers()
 /// The canonical bytes of a valid tile, within the limit, are that tile.
 pub fn canonical_reads()
     ensures { (t : Tile) → Valid t → length (canonical t) ≤ LIMIT → IsTile LIMIT (canonical t) t }
+{}
+
+/// Items of which one alone is longer than the limit have more canonical bytes than that.
+pub fn long_items()
+    ensures { (items : List Item) (item : Item) → LIMIT < length (canonical_item item)
+        → AreEncoded LIMIT (items ++ item ∷ []) None }
 {}

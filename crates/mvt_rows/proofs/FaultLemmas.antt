@@ -1,5 +1,5 @@
 -- The first thing that is wrong with rows, looked for row by row; rows with nothing wrong are a tile.
-use Rattle.std.proofs.Common.{◌≡◌, ℕ, ◌+◌, ◌<◌, ◌≤◌, ◌==◌, slice_get, IfErr, arith, add-one, drop-cons, nat_lt, Bool, true, false, List, [], ◌∷◌, ◌++◌, length, take, drop, get_or, IsUtf8, ◌^◌, flat_map, Option, Some, None, Result, Ok, Err, refl, sym, ap, ◌∙◌, subst, if◌then◌else◌}
+use Rattle.std.proofs.Common.{◌≡◌, ℕ, ◌+◌, ◌<◌, ◌≤◌, ◌==◌, slice_get, IfErr, add-one, drop-cons, nat_lt, Bool, true, false, List, [], ◌∷◌, length, take, drop, get_or, IsUtf8, ◌^◌, flat_map, Option, Some, None, Result, Ok, Err, refl, sym, ap, ◌∙◌, subst, if◌then◌else◌}
 use Rattle.std.specs.Option.{option_map, option_and_then, option_or}
 use Rattle.std.specs.Result.{IsErrAnd}
 use Rattle.std.proofs.lemmas.Bool.{eqb-true, eq-eqb, false≢true}
@@ -11,8 +11,6 @@ use Rattle.mvt_base.specs.Related.{AreRelated}
 use Rattle.mvt_base.proofs.RuleLemmas.{option_or-nones}
 use Rattle.mvt_attrs.specs.declared.value.Value.{Value}
 use Rattle.mvt_attrs.specs.declared.resolving.TagCause.{TagCause}
-use Rattle.mvt_attrs.specs.Tags.{Resolved}
-use Rattle.mvt_attrs.specs.TagRules.{tag_fault}
 use Rattle.mvt_attrs.proofs.AttrsLaws.{attributes_or_fault_there}
 use Rattle.mvt_feature.specs.declared.feature.Feature.{Feature}
 use Rattle.mvt_feature.specs.Valid.{ValidFeature}
@@ -34,8 +32,8 @@ use Rattle.mvt_rows.specs.declared.rows_cause.RowsCause.{RowsCause}
 use Rattle.mvt_rows.specs.declared.rows_cause.RowsCause.TheVariants.{BytesSpan, NameSpan, NameText, RepeatedName}
 use Rattle.mvt_rows.specs.declared.rows_cause.RowsFault.{RowsFault}
 use Rattle.mvt_rows.specs.Tables.{Table}
-use Rattle.mvt_rows.specs.TileRows.{each, part_of, utf8_of, text_of, value_of, id_of, geometry_of, keys_of, values_of, IsFeature, IsLayer, IsItem, IsTileOf}
-use Rattle.mvt_rows.specs.RowsFaults.{or_wrong, geometry_cause, tags_cause, feature_cause, features_wrong, text_wrong, keys_wrong, values_wrong, layer_wrong, row_wrong, rows_wrong, rows_fault, Wrong, of_tag_cause, IsInvalid, IsInvalidTile}
+use Rattle.mvt_rows.specs.TileRows.{each, part_of, utf8_of, text_of, value_of, id_of, geometry_of, IsFeature, IsLayer, IsItem, IsTileOf}
+use Rattle.mvt_rows.specs.RowsFaults.{or_wrong, geometry_cause, tags_cause, feature_cause, features_wrong, text_wrong, layer_wrong, row_wrong, rows_wrong, rows_fault, Wrong, of_tag_cause, IsInvalid, IsInvalidTile}
 
 -- a list from one of its elements on
 from_here : {X : Type 0} → (xs : List X) (i : ℕ) (x : X) → i < length xs → x ≡ get_or xs i x → drop i xs ≡ x ∷ drop (i + 1) xs

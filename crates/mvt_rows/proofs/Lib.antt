@@ -1,6 +1,7 @@
 pub mod RowsLaws
 mod EachLemmas
 mod TileLemmas
+mod WritingLemmas
 mod FaultLemmas
 mod RowLemmas
 mod GrowthLemmas

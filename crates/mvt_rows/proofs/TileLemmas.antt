@@ -82,7 +82,7 @@ inner_last [] p ring = refl
 inner_last (a ∷ []) p ring = refl
 inner_last (a ∷ (b ∷ front)) p ring = ap (option_map (λ more. a ∷ more)) (inner_last (b ∷ front) p ring)
 
-some_same : {X : Type 0} → (o : Option X) (x y : X) → o ≡ Some x → o ≡ Some y → x ≡ y
+pub some_same : {X : Type 0} → (o : Option X) (x y : X) → o ≡ Some x → o ≡ Some y → x ≡ y
 some_same o x y h k = same_Some x y (sym h ∙ k)
 
 -- tags with a fault are no feature's
@@ -123,7 +123,7 @@ layer_once t row a b h k =
     ap (λ x. record a { name = x }) name ∙ ap (λ x. record a { name = b.name; extent = x }) extent
     ∙ ap (λ x. record a { name = b.name; extent = b.extent; features = x }) features
 
-item_once : (t : Table) (row : LayerRow) (a b : Item) → IsItem t row a → IsItem t row b → a ≡ b
+pub item_once : (t : Table) (row : LayerRow) (a b : Item) → IsItem t row a → IsItem t row b → a ≡ b
 item_once t row (Layer a) (Layer b) h k = ap Layer (layer_once t row a b h.1 k.1)
 item_once t row (Layer a) (Foreign version content) h k = absurd (k.0 h.0)
 item_once t row (Foreign version content) (Layer b) h k = absurd (h.0 k.0)

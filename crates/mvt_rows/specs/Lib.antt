@@ -2,6 +2,7 @@ pub mod Tables
 pub mod Lent
 pub mod TileRows
 pub mod Written
+pub mod Writing
 pub mod RowsFaults
 pub mod Reading
 pub mod Visiting

@@ -3,8 +3,6 @@ use Rattle.std.specs.Prelude.{◌≡◌, ℕ, ◌<◌, List, length, ⊤}
 use Rattle.mvt_base.specs.declared.TheConstants.{LIMIT}
 use Rattle.mvt_attrs.specs.declared.resolving.TagError.{TagError}
 use Rattle.mvt_attrs.specs.declared.resolving.TagError.TheVariants as tags
-use Rattle.mvt_message.specs.declared.writing.PutError.{PutError}
-use Rattle.mvt_message.specs.declared.writing.PutError.TheVariants as put
 use Rattle.mvt_model.specs.declared.tile.Tile.{Tile}
 use Rattle.mvt_model.specs.CanonicalTiles.{canonical}
 use Rattle.mvt_model.specs.ValidTiles.{Valid}
@@ -17,11 +15,6 @@ use Rattle.mvt_rows.specs.TileRows.{IsTileOf}
 abbrev pub of_tags : TagError → RowsError
 of_tags tags.Memory = Memory
 of_tags (tags.Fault index cause) = NoTile
-
--- an error of writing, as an error of rows
-abbrev pub of_put : PutError → RowsError
-of_put put.Memory = Memory
-of_put put.TooLarge = TooLarge
 
 -- nothing is so
 abbrev pub IsNone : {X : Type 0} → (X → Type 0) → Type 0

@@ -15,9 +15,10 @@ use crate::rows::{FeatureRow, LayerRow, Rows, Span};
 use crate::rows_cause::{RowsCause, RowsFault};
 use crate::rows_error::RowsError;
 use crate::tiles::features::{geometry, id};
-use crate::tiles::parts::{find_part, keys};
+use crate::tiles::parts::{find_part, keys, part};
 use crate::tiles::tile_of;
 use crate::tiles::values::values;
+use crate::work::Work;
 use mvt_attrs::{LayerKeys, TagError, Value, judge_tags};
 use mvt_base::Text;
 use mvt_feature::validate_feature;
@@ -39,8 +40,9 @@ pub fn rows_fault(alloc: Global, rows: &Rows) -> Result<Option<RowsFault>, RowsE
         (IsFaultOf (table_of rows.now))) }
     ensures memory { IfErr result (λ error. error ≡ Memory) }
 {
+    let mut work = Work::of(rows);
     for (index, row) in rows.layers.iter().enumerate() {
-        if let Some((feature, cause)) = row_wrong(alloc, rows, row)? {
+        if let Some((feature, cause)) = row_wrong(alloc, rows, row, &mut work)? {
             return Ok(Some(RowsFault {
                 layer: index,
                 feature,
@@ -64,42 +66,52 @@ pub fn rows_fault(alloc: Global, rows: &Rows) -> Result<Option<RowsFault>, RowsE
 }
 
 /// What is wrong with a layer's row, its keys, values and features.
-fn row_wrong(alloc: Global, rows: &Rows, row: &LayerRow) -> Result<Option<Wrong>, RowsError>
+fn row_wrong(
+    alloc: Global,
+    rows: &Rows,
+    row: &LayerRow,
+    work: &mut Work,
+) -> Result<Option<Wrong>, RowsError>
     ensures wrong { IfOk result (λ found. found ≡ row_wrong (table_of rows.now) row.now) }
     ensures memory { IfErr result (λ error. error ≡ Memory) }
 {
     if row.version == 2 {
-        return layer_wrong(alloc, rows, row);
+        return layer_wrong(alloc, rows, row, work);
     }
-    match find_part(rows.texts, row.bytes) {
+    match if_any(part(rows.texts, row.bytes, work))? {
         Some(_) => Ok(None),
         None => Ok(Some((None, RowsCause::BytesSpan))),
     }
 }
 
-fn layer_wrong(alloc: Global, rows: &Rows, row: &LayerRow) -> Result<Option<Wrong>, RowsError>
+fn layer_wrong(
+    alloc: Global,
+    rows: &Rows,
+    row: &LayerRow,
+    work: &mut Work,
+) -> Result<Option<Wrong>, RowsError>
     ensures wrong { IfOk result (λ found. found ≡ layer_wrong (table_of rows.now) row.now) }
     ensures memory { IfErr result (λ error. error ≡ Memory) }
 {
-    if let Some(wrong) = text_wrong(rows.texts, row.name) {
+    if let Some(wrong) = text_wrong(rows.texts, row.name, work)? {
         return Ok(Some(wrong));
     }
-    let Some(spans) = find_part(rows.keys, row.keys) else {
+    let Some(spans) = if_any(part(rows.keys, row.keys, work))? else {
         return Ok(Some((None, RowsCause::KeysSpan)));
     };
-    let Some(keys) = if_any(keys(alloc, rows.texts, spans))? else {
+    let Some(keys) = if_any(keys(alloc, rows.texts, spans, work))? else {
         return Ok(Some((None, RowsCause::Key)));
     };
-    let Some(value_rows) = find_part(rows.values, row.values) else {
+    let Some(value_rows) = if_any(part(rows.values, row.values, work))? else {
         return Ok(Some((None, RowsCause::ValuesSpan)));
     };
-    let Some(values) = if_any(values(alloc, rows.texts, value_rows))? else {
+    let Some(values) = if_any(values(alloc, rows.texts, value_rows, work))? else {
         return Ok(Some((None, RowsCause::Value)));
     };
-    let Some(feature_rows) = find_part(rows.features, row.features) else {
+    let Some(feature_rows) = if_any(part(rows.features, row.features, work))? else {
         return Ok(Some((None, RowsCause::FeaturesSpan)));
     };
-    features_wrong(alloc, rows, &keys, &values, feature_rows)
+    features_wrong(alloc, rows, &keys, &values, feature_rows, work)
 }
 
 /// What was made, or nothing where rows are wrong.
@@ -113,15 +125,17 @@ fn if_any<T: Drop>(made: Result<T, RowsError>) -> Result<Option<T>, RowsError>
     }
 }
 
-fn text_wrong(texts: &[u8], span: Span) -> Option<Wrong>
-    ensures { result ≡ text_wrong texts.now span }
+fn text_wrong(texts: &[u8], span: Span, work: &mut Work) -> Result<Option<Wrong>, RowsError>
+    ensures wrong { IfOk result (λ found. found ≡ text_wrong texts.now span) }
+    ensures memory { IfErr result (λ error. error ≡ Memory) }
 {
     let Some(bytes) = find_part(texts, span) else {
-        return Some((None, RowsCause::NameSpan));
+        return Ok(Some((None, RowsCause::NameSpan)));
     };
+    work.count(span.len)?;
     match str::from_utf8(bytes) {
-        Ok(_) => None,
-        Err(_) => Some((None, RowsCause::NameText)),
+        Ok(_) => Ok(None),
+        Err(_) => Ok(Some((None, RowsCause::NameText))),
     }
 }
 
@@ -131,6 +145,7 @@ fn features_wrong(
     keys: &[Text],
     values: &[Value],
     feature_rows: &[FeatureRow],
+    work: &mut Work,
 ) -> Result<Option<Wrong>, RowsError>
     ensures wrong { IfOk result (λ found. found
         ≡ features_wrong (table_of rows.now) keys.now values.now 0 feature_rows.now) }
@@ -138,7 +153,7 @@ fn features_wrong(
 {
     let mut keys = LayerKeys::new(alloc, keys);
     for (index, row) in feature_rows.iter().enumerate() {
-        if let Some(cause) = feature_cause(alloc, rows, &mut keys, values, row)? {
+        if let Some(cause) = feature_cause(alloc, rows, &mut keys, values, row, work)? {
             return Ok(Some((Some(index), cause)));
         }
     }
@@ -152,6 +167,7 @@ fn feature_cause(
     keys: &mut LayerKeys<'_>,
     values: &[Value],
     row: &FeatureRow,
+    work: &mut Work,
 ) -> Result<Option<RowsCause>, RowsError>
     ensures cause { IfOk result (λ found. found
         ≡ feature_cause (table_of rows.now) keys.old values.now row.now) }
@@ -161,11 +177,11 @@ fn feature_cause(
     if id(row).is_none() {
         return Ok(Some(RowsCause::HasId));
     }
-    let Some(tags) = find_part(rows.tags, row.tags) else {
+    let Some(tags) = if_any(part(rows.tags, row.tags, work))? else {
         return Ok(Some(RowsCause::TagsSpan));
     };
     match judge_tags(alloc, keys, values.len(), tags) {
-        Ok(()) => geometry_cause(alloc, rows, row),
+        Ok(()) => geometry_cause(alloc, rows, row, work),
         Err(TagError::Fault { cause, .. }) => Ok(Some(RowsCause::of_tag(cause))),
         Err(TagError::Memory) => Err(RowsError::Memory),
     }
@@ -175,6 +191,7 @@ fn geometry_cause(
     alloc: Global,
     rows: &Rows,
     row: &FeatureRow,
+    work: &mut Work,
 ) -> Result<Option<RowsCause>, RowsError>
     ensures cause { IfOk result (λ found. found ≡ geometry_cause (table_of rows.now) row.now) }
     ensures memory { IfErr result (λ error. error ≡ Memory) }
@@ -182,7 +199,7 @@ fn geometry_cause(
     if row.kind > 3 {
         return Ok(Some(RowsCause::Kind));
     }
-    match geometry(alloc, rows, row) {
+    match geometry(alloc, rows, row, work) {
         Ok(_) => Ok(None),
         Err(RowsError::NoTile) => Ok(Some(RowsCause::Geometry)),
         Err(error) => Err(error),

@@ -11,6 +11,7 @@ mod rows_cause;
 mod rows_error;
 mod table;
 mod tiles;
+mod work;
 mod writing;
 
 pub use faults::rows_fault;

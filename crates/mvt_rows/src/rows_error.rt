@@ -1,6 +1,5 @@
 //! Why nothing is made of rows.
 use mvt_attrs::TagError;
-use mvt_tile::PutError;
 use std::alloc::{AllocError, AllocFailed};
 use thiserror::Error;
 
@@ -49,20 +48,6 @@ impl From<TagError> for RowsError {
         match error {
             TagError::Memory => RowsError::Memory,
             TagError::Fault { .. } => RowsError::NoTile,
-        }
-    }
-}
-
-impl From<PutError> for RowsError {
-    ghost use Rattle.std.specs.Prelude.{◌≡◌};
-    ghost use Rattle.mvt_rows.specs.Written.{of_put};
-
-    ghost from_gives = { λ error rows_error. rows_error ≡ of_put error };
-
-    fn from(error: PutError) -> Self {
-        match error {
-            PutError::Memory => RowsError::Memory,
-            PutError::TooLarge => RowsError::TooLarge,
         }
     }
 }

@@ -12,6 +12,7 @@ pub(crate) mod values;
 
 use crate::rows::{LayerRow, Rows};
 use crate::rows_error::RowsError;
+use crate::work::Work;
 use features::features;
 use mvt_base::Items;
 use mvt_message::{Item, Layer};
@@ -20,15 +21,20 @@ use parts::{keys, part, text};
 use std::alloc::Global;
 use values::values;
 
-fn layer(alloc: Global, rows: &Rows, row: &LayerRow) -> Result<Layer, RowsError>
+fn layer(alloc: Global, rows: &Rows, row: &LayerRow, work: &mut Work) -> Result<Layer, RowsError>
     ensures layer { IfOk result (IsLayer (table_of rows.now) row.now) }
     ensures none { IfErr result (FailsAs (IsNone (IsLayer (table_of rows.now) row.now))) }
 {
-    let name = text(alloc, rows.texts, row.name)?;
-    let keys = keys(alloc, rows.texts, part(rows.keys, row.keys)?)?;
-    let values = values(alloc, rows.texts, part(rows.values, row.values)?)?;
-    let of_layer = part(rows.features, row.features)?;
-    let features = features(alloc, rows, &keys, &values, of_layer)?;
+    let name = text(alloc, rows.texts, row.name, work)?;
+    let keys = keys(alloc, rows.texts, part(rows.keys, row.keys, work)?, work)?;
+    let values = values(
+        alloc,
+        rows.texts,
+        part(rows.values, row.values, work)?,
+        work,
+    )?;
+    let of_layer = part(rows.features, row.features, work)?;
+    let features = features(alloc, rows, &keys, &values, of_layer, work)?;
     Ok(Layer {
         name,
         extent: row.extent,
@@ -36,14 +42,14 @@ fn layer(alloc: Global, rows: &Rows, row: &LayerRow) -> Result<Layer, RowsError>
     })
 }
 
-fn item(alloc: Global, rows: &Rows, row: &LayerRow) -> Result<Item, RowsError>
+fn item(alloc: Global, rows: &Rows, row: &LayerRow, work: &mut Work) -> Result<Item, RowsError>
     ensures item { IfOk result (IsItem (table_of rows.now) row.now) }
     ensures none { IfErr result (FailsAs (IsNone (IsItem (table_of rows.now) row.now))) }
 {
     if row.version == 2 {
-        return Ok(Item::Layer(layer(alloc, rows, row)?));
+        return Ok(Item::Layer(layer(alloc, rows, row, work)?));
     }
-    let bytes = part(rows.texts, row.bytes)?;
+    let bytes = part(rows.texts, row.bytes, work)?;
     Ok(Item::Foreign {
         version: row.version,
         bytes: Items::new(Vec::from_slice(alloc, bytes)?),
@@ -59,9 +65,10 @@ pub fn tile_of(alloc: Global, rows: &Rows) -> Result<Tile, RowsError>
     ensures tile { IfOk result (IsTileOf (table_of rows.now)) }
     ensures none { IfErr result (FailsAs (IsNone (IsTileOf (table_of rows.now)))) }
 {
+    let mut work = Work::of(rows);
     let mut items = Vec::with_capacity(alloc, rows.layers.len())?;
     for row in rows.layers {
-        items.push(item(alloc, rows, row)?)?;
+        items.push(item(alloc, rows, row, &mut work)?)?;
     }
     Ok(Tile {
         items: Items::new(items),

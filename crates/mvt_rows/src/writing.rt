@@ -1,26 +1,126 @@
-//! Rows written as a tile's bytes.
-ghost use Rattle.std.specs.Prelude.{IfOk, IfErr};
+//! Rows written as a tile's bytes, layer by layer and feature by feature: no layer of it stands as a
+//! value.
+ghost use Rattle.std.specs.Prelude.{◌≡◌, ◌≢◌, ◌∷◌, ◌++◌, [], List, IfOk, IfErr, OnOk};
+ghost use Rattle.mvt_base.specs.declared.TheConstants.{LIMIT as the_limit};
+ghost use Rattle.mvt_message.specs.declared.item.Item.{Item};
+ghost use Rattle.mvt_message.specs.declared.item.Item.TheVariants.{Layer as IsALayer};
+ghost use Rattle.mvt_message.specs.declared.item.Layer.{Layer};
+ghost use Rattle.mvt_message.specs.Rewriting.{IsPayloadOf};
+ghost use Rattle.mvt_model.specs.Encoding.{AreEncoded};
 ghost use Rattle.mvt_rows.specs.Lent.{table_of};
-ghost use Rattle.mvt_rows.specs.Written.{IsWritten, NotWritten};
+ghost use Rattle.mvt_rows.specs.Writing.{HasAdded, HasAddedRow, IsRefused};
+ghost use Rattle.mvt_rows.specs.Written.{FailsAs, IsWritten, NotWritten};
 
-use crate::rows::Rows;
+mod layers;
+
+use crate::rows::{LayerRow, Rows};
 use crate::rows_error::RowsError;
-use crate::tiles::tile_of;
-use mvt_tile::{encode, validate};
-use std::alloc::Global;
+use crate::tiles::parts::{part, str_of};
+use crate::work::Work;
+use layers::layer_payload;
+use mvt_base::Text;
+use mvt_message::are_of_version;
+use mvt_model::encode_payload;
+use mvt_tile::add_name;
+use std::alloc::{AllocError, Global};
+use std::collections::BTreeSet;
 
-/// The canonical bytes of the tile that rows are.
+/// The canonical bytes of the tile that rows are. What it holds are these bytes, and of one layer its
+/// keys, its values, the fields of its features and one feature.
 ///
 /// # Errors
 ///
-/// Rows that are no valid tile; a result beyond the limit; want of memory.
+/// Rows that are no valid tile; a result beyond the limit; want of memory. Spans that overlap, and so
+/// name more entries than all lists and the limit have, are told as want of memory.
 pub fn write_rows(alloc: Global, rows: &Rows) -> Result<Vec<u8>, RowsError>
     ensures done { IfOk result (λ made. IsWritten (table_of rows.now) made.items) }
     ensures refused { IfErr result (NotWritten (table_of rows.now)) }
 {
-    let tile = tile_of(alloc, rows)?;
-    if !validate(alloc, &tile)? {
-        return Err(RowsError::NoTile);
+    let mut writer = RowsWriter::new(alloc, rows);
+    for row in rows.layers {
+        writer.add(alloc, rows, row)?;
     }
-    Ok(encode(alloc, &tile)?)
+    writer.out.ok_or(RowsError::TooLarge)
+}
+
+/// The names of the layers so far, and the canonical bytes; `None` from where they are more than the
+/// limit.
+#[derive(Drop)]
+struct RowsWriter {
+    work: Work,
+    names: BTreeSet<Text>,
+    out: Option<Vec<u8>>,
+}
+
+impl RowsWriter {
+    fn new(alloc: Global, rows: &Rows) -> Self
+        ensures { HasAdded result [] }
+    {
+        RowsWriter {
+            work: Work::of(rows),
+            names: BTreeSet::new(alloc),
+            out: Some(Vec::new(alloc)),
+        }
+    }
+
+    /// Adds the item of a row.
+    fn add(&mut self, alloc: Global, rows: &Rows, row: &LayerRow) -> Result<(), RowsError>
+        ensures added { (items : List Item) → HasAdded self.old items
+            → OnOk result (HasAddedRow (table_of rows.now) row.now self.new items) }
+        ensures refused { (items : List Item) → HasAdded self.old items
+            → IfErr result (FailsAs (IsRefused (table_of rows.now) row.now items)) }
+    {
+        if row.version == 2 {
+            self.add_layer(alloc, rows, row)
+        } else {
+            self.add_foreign(rows, row)
+        }
+    }
+
+    fn add_layer(&mut self, alloc: Global, rows: &Rows, row: &LayerRow) -> Result<(), RowsError>
+        requires { row.now.version ≡ 2 }
+        ensures added { (items : List Item) → HasAdded self.old items
+            → OnOk result (HasAddedRow (table_of rows.now) row.now self.new items) }
+        ensures refused { (items : List Item) → HasAdded self.old items
+            → IfErr result (FailsAs (IsRefused (table_of rows.now) row.now items)) }
+    {
+        let name = str_of(rows.texts, row.name, &mut self.work)?;
+        if !add_name(&mut self.names, Some(Text::from_str(alloc, name)?))? {
+            return Err(RowsError::NoTile);
+        }
+        let payload = layer_payload(alloc, rows, row, name, &mut self.work)?;
+        self.out = add_payload(self.out.take(), payload)?;
+        Ok(())
+    }
+
+    /// Adds the bytes of a layer of another version.
+    fn add_foreign(&mut self, rows: &Rows, row: &LayerRow) -> Result<(), RowsError>
+        requires { row.now.version ≢ 2 }
+        ensures added { (items : List Item) → HasAdded self.old items
+            → OnOk result (HasAddedRow (table_of rows.now) row.now self.new items) }
+        ensures refused { (items : List Item) → HasAdded self.old items
+            → IfErr result (FailsAs (IsRefused (table_of rows.now) row.now items)) }
+    {
+        let bytes = part(rows.texts, row.bytes, &mut self.work)?;
+        if !are_of_version(row.version, bytes) {
+            return Err(RowsError::NoTile);
+        }
+        self.out = encode_payload(self.out.take(), bytes)?;
+        Ok(())
+    }
+}
+
+/// The canonical bytes of one layer more; `None` from where they are more than the limit.
+fn add_payload(
+    out: Option<Vec<u8>>,
+    payload: Option<Vec<u8>>,
+) -> Result<Option<Vec<u8>>, AllocError>
+    ensures { (items : List Item) (layer : Layer) → AreEncoded the_limit items out
+        → IsPayloadOf the_limit layer payload
+        → IfOk result (AreEncoded the_limit (items ++ IsALayer layer ∷ [])) }
+{
+    match payload {
+        Some(payload) => encode_payload(out, &payload),
+        None => Ok(None),
+    }
 }

@@ -1,12 +1,15 @@
 //! Laws about the definitions alone: functions without effect, whose contract is the law.
-ghost use Rattle.std.specs.Prelude.{◌≡◌, ◌↔◌, ℕ, ◌<◌, ◌≤◌, List, ◌++◌, length, None, Some, false};
+ghost use Rattle.std.specs.Prelude.{◌≡◌, ◌↔◌, ℕ, ◌<◌, ◌≤◌, List, [], ◌∷◌, ◌++◌, length, None, Some, false};
+ghost use Rattle.std.specs.List.{flat_map};
 ghost use Rattle.mvt_base.specs.Rules.{AreOrdered, IsLeast, first};
+ghost use Rattle.mvt_message.specs.declared.item.Item.{Item};
+ghost use Rattle.mvt_message.specs.Items.{names_in};
 ghost use Rattle.mvt_tile.specs.declared.fault.Fault.{Fault};
 ghost use Rattle.mvt_model.specs.declared.tile.Tile.{Tile};
 ghost use Rattle.mvt_model.specs.CanonicalTiles.{canonical};
 ghost use Rattle.mvt_tile.specs.Faults.{is_open};
-ghost use Rattle.mvt_tile.specs.TileRules.{tile_rules, fault_within};
-ghost use Rattle.mvt_model.specs.Tiles.{IsTile};
+ghost use Rattle.mvt_tile.specs.TileRules.{tile_rules, fault_within, repeats};
+ghost use Rattle.mvt_model.specs.Tiles.{HasDistinctNames, IsTile};
 ghost use Rattle.mvt_model.specs.ValidTiles.{Valid, WasValid};
 
 use mvt_base::LIMIT;
@@ -51,4 +54,15 @@ pub fn fault_is_least()
 /// don't depend on the range.
 pub fn old_tiles_stay()
     ensures { (t : Tile) → WasValid t → Valid t }
+{}
+
+/// Names are distinct one by one: that of an item isn't among those before it.
+pub fn names_apart()
+    ensures nothing { HasDistinctNames [] }
+    ensures more { (items : List Item) (item : Item) → HasDistinctNames items
+        → repeats (flat_map names_in items) (names_in item) ≡ false
+        → HasDistinctNames (items ++ item ∷ []) }
+    ensures before { (items : List Item) (item : Item) (more : List Item)
+        → HasDistinctNames (items ++ item ∷ more)
+        → repeats (flat_map names_in items) (names_in item) ≡ false }
 {}

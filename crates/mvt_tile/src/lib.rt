@@ -29,6 +29,7 @@ pub use extraction::extract;
 pub use fault::{DecodeError, Fault};
 pub use finding::visit_named;
 pub use judging::judge;
+pub use layers::add_name;
 pub use mvt_attrs::{Attribute, Value};
 pub use mvt_base::{Items, LIMIT, Text};
 pub use mvt_feature::{Cause, Feature};

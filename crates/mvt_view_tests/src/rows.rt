@@ -153,6 +153,53 @@ fn writes_rows(rt: HostRuntime) {
     expect_written(&rt, &rows, &[0x1A, 0x02, 0x78, 0x01]);
 }
 
+// Two features of one part, whose tags name values that are one, by keys that are one.
+const OVERLAPS: Rows = Rows {
+    layers: &[LayerRow {
+        features: Span { start: 0, len: 2 },
+        keys: Span { start: 0, len: 2 },
+        values: Span { start: 0, len: 2 },
+        ..LAYER
+    }],
+    features: &[
+        FeatureRow {
+            tags: Span { start: 0, len: 2 },
+            ..FEATURE
+        },
+        FeatureRow {
+            tags: Span { start: 1, len: 2 },
+            ..FEATURE
+        },
+    ],
+    keys: &[Span { start: 1, len: 1 }, Span { start: 1, len: 1 }],
+    values: &[
+        ValueRow {
+            kind: 7,
+            bits: 1,
+            ..NUMBER
+        },
+        ValueRow {
+            kind: 7,
+            bits: 1,
+            ..NUMBER
+        },
+    ],
+    tags: &[0, 1, 0],
+    texts: b"ak",
+    ..ONE_POINT
+};
+
+const OVERLAPS_BYTES: [u8; 43] = [
+    0x1A, 0x29, 0x78, 0x02, 0x0A, 0x01, 0x61, 0x12, 0x0B, 0x12, 0x02, 0x00, 0x00, 0x18, 0x01, 0x22,
+    0x03, 0x09, 0x32, 0x22, 0x12, 0x0B, 0x12, 0x02, 0x00, 0x00, 0x18, 0x01, 0x22, 0x03, 0x09, 0x32,
+    0x22, 0x1A, 0x01, 0x6B, 0x22, 0x02, 0x38, 0x01, 0x28, 0x80, 0x20,
+];
+
+#[test]
+fn writes_rows_that_overlap(rt: HostRuntime) {
+    expect_written(&rt, &OVERLAPS, &OVERLAPS_BYTES);
+}
+
 #[test]
 fn refuses_what_is_not_there(rt: HostRuntime) {
     let rows = [

@@ -7,6 +7,7 @@ use super::parts::part;
 use super::values::truth;
 use crate::rows::{PartRow, PointRow};
 use crate::rows_error::RowsError;
+use crate::work::Work;
 use mvt_base::Items;
 use mvt_geometry::{Geometry, Point, Polygon};
 use std::alloc::{AllocError, Global};
@@ -22,11 +23,16 @@ fn positions(alloc: Global, rows: &[PointRow]) -> Result<Vec<Point>, AllocError>
 }
 
 /// A line, a ring or the points of a feature.
-fn line(alloc: Global, points: &[PointRow], row: &PartRow) -> Result<Items<Point>, RowsError>
+fn line(
+    alloc: Global,
+    points: &[PointRow],
+    row: &PartRow,
+    work: &mut Work,
+) -> Result<Items<Point>, RowsError>
     ensures line { IfOk result (λ line. line_of points.now row.now ≡ Some line) }
     ensures none { IfErr result (FailsAs (line_of points.now row.now ≡ None)) }
 {
-    let rows = part(points, row.points)?;
+    let rows = part(points, row.points, work)?;
     Ok(Items::new(positions(alloc, rows)?))
 }
 
@@ -34,13 +40,14 @@ fn lines(
     alloc: Global,
     points: &[PointRow],
     rows: &[PartRow],
+    work: &mut Work,
 ) -> Result<Vec<Items<Point>>, RowsError>
     ensures lines { IfOk result (λ lines. each (line_of points.now) rows.now ≡ Some lines.items) }
     ensures none { IfErr result (FailsAs (each (line_of points.now) rows.now ≡ None)) }
 {
     let mut lines = Vec::with_capacity(alloc, rows.len())?;
     for row in rows {
-        lines.push(line(alloc, points, row)?)?;
+        lines.push(line(alloc, points, row, work)?)?;
     }
     Ok(lines)
 }
@@ -68,13 +75,14 @@ fn add_ring(
     points: &[PointRow],
     polygons: &mut Vec<Polygon>,
     row: &PartRow,
+    work: &mut Work,
 ) -> Result<(), RowsError>
     ensures added { OnOk result
         (with_ring_row points.now polygons.old.items row.now ≡ Some polygons.new.items) }
     ensures none { IfErr result
         (FailsAs (with_ring_row points.now polygons.old.items row.now ≡ None)) }
 {
-    let ring = line(alloc, points, row)?;
+    let ring = line(alloc, points, row, work)?;
     match truth(u64::from(row.exterior)) {
         Some(true) => {
             polygons.push(Polygon {
@@ -88,25 +96,35 @@ fn add_ring(
     }
 }
 
-fn polygons(alloc: Global, points: &[PointRow], rows: &[PartRow]) -> Result<Vec<Polygon>, RowsError>
+fn polygons(
+    alloc: Global,
+    points: &[PointRow],
+    rows: &[PartRow],
+    work: &mut Work,
+) -> Result<Vec<Polygon>, RowsError>
     ensures polygons { IfOk result
         (λ polygons. steps (with_ring_row points.now) [] rows.now ≡ Some polygons.items) }
     ensures none { IfErr result (FailsAs (steps (with_ring_row points.now) [] rows.now ≡ None)) }
 {
     let mut polygons = Vec::new(alloc);
     for row in rows {
-        add_ring(alloc, points, &mut polygons, row)?;
+        add_ring(alloc, points, &mut polygons, row, work)?;
     }
     Ok(polygons)
 }
 
 /// All points of a feature, which are one part.
-fn points_alone(alloc: Global, points: &[PointRow], rows: &[PartRow]) -> Result<Geometry, RowsError>
+fn points_alone(
+    alloc: Global,
+    points: &[PointRow],
+    rows: &[PartRow],
+    work: &mut Work,
+) -> Result<Geometry, RowsError>
     ensures points { IfOk result (λ geometry. points_of points.now rows.now ≡ Some geometry) }
     ensures none { IfErr result (FailsAs (points_of points.now rows.now ≡ None)) }
 {
     match rows {
-        [row] => Ok(Geometry::Points(line(alloc, points, row)?)),
+        [row] => Ok(Geometry::Points(line(alloc, points, row, work)?)),
         _ => Err(RowsError::NoTile),
     }
 }
@@ -117,14 +135,15 @@ pub(crate) fn drawn(
     points: &[PointRow],
     kind: u32,
     rows: &[PartRow],
+    work: &mut Work,
 ) -> Result<Geometry, RowsError>
     ensures drawn { IfOk result (λ geometry. drawn_of points.now kind rows.now ≡ Some geometry) }
     ensures none { IfErr result (FailsAs (drawn_of points.now kind rows.now ≡ None)) }
 {
     match kind {
-        1 => points_alone(alloc, points, rows),
-        2 => Ok(Geometry::Lines(Items::new(lines(alloc, points, rows)?))),
-        3 => Ok(Geometry::Polygons(Items::new(polygons(alloc, points, rows)?))),
+        1 => points_alone(alloc, points, rows, work),
+        2 => Ok(Geometry::Lines(Items::new(lines(alloc, points, rows, work)?))),
+        3 => Ok(Geometry::Polygons(Items::new(polygons(alloc, points, rows, work)?))),
         _ => Err(RowsError::NoTile),
     }
 }

@@ -1,10 +1,12 @@
 //! What spans name: parts of lists, and texts.
-ghost use Rattle.std.specs.Prelude.{◌≡◌, Some, None, IfOk, IfErr, MatchOption};
+ghost use Rattle.std.specs.Prelude.{◌≡◌, ◌+◌, Some, None, IfOk, IfErr, IsUtf8, MatchOption, OnOk};
+ghost use Rattle.std.specs.List.{AllByRecursion};
 ghost use Rattle.mvt_rows.specs.Written.{FailsAs};
 ghost use Rattle.mvt_rows.specs.TileRows.{each, part_of, text_of};
 
 use crate::rows::Span;
 use crate::rows_error::RowsError;
+use crate::work::Work;
 use mvt_base::Text;
 use std::alloc::Global;
 use std::str;
@@ -18,32 +20,60 @@ pub(crate) fn find_part<T>(list: &[T], span: Span) -> Option<&[T]>
     list.get(span.start as usize..end as usize)
 }
 
-/// The same, as a step of reading.
-pub(crate) fn part<T>(list: &[T], span: Span) -> Result<&[T], RowsError>
+/// The same, as a step of reading, which counts.
+pub(crate) fn part<'a, T>(list: &'a [T], span: Span, work: &mut Work) -> Result<&'a [T], RowsError>
     ensures part { IfOk result (λ part. part_of list.now span ≡ Some part.now) }
     ensures none { IfErr result (FailsAs (part_of list.now span ≡ None)) }
+    ensures counted { OnOk result (work.new.left + span.len ≡ work.old.left) }
 {
-    find_part(list, span).ok_or(RowsError::NoTile)
+    match find_part(list, span) {
+        Some(part) => {
+            work.count(span.len)?;
+            Ok(part)
+        }
+        None => Err(RowsError::NoTile),
+    }
 }
 
-pub(crate) fn text(alloc: Global, texts: &[u8], span: Span) -> Result<Text, RowsError>
-    ensures text { IfOk result (λ text. text_of texts.now span ≡ Some text) }
+/// The text that a span names, where it lies.
+pub(crate) fn str_of<'a>(texts: &'a [u8], span: Span, work: &mut Work) -> Result<&'a str, RowsError>
+    ensures text { IfOk result (λ text. text_of texts.now span ≡ Some text.now) }
+    ensures utf8 { IfOk result (λ text. IsUtf8 text.now) }
     ensures none { IfErr result (FailsAs (text_of texts.now span ≡ None)) }
 {
-    match str::from_utf8(part(texts, span)?) {
-        Ok(text) => Ok(Text::from_str(alloc, text)?),
+    match str::from_utf8(part(texts, span, work)?) {
+        Ok(text) => Ok(text),
         Err(_) => Err(RowsError::NoTile),
     }
 }
 
+pub(crate) fn text(
+    alloc: Global,
+    texts: &[u8],
+    span: Span,
+    work: &mut Work,
+) -> Result<Text, RowsError>
+    ensures text { IfOk result (λ text. text_of texts.now span ≡ Some text) }
+    ensures utf8 { IfOk result IsUtf8 }
+    ensures none { IfErr result (FailsAs (text_of texts.now span ≡ None)) }
+{
+    Ok(Text::from_str(alloc, str_of(texts, span, work)?)?)
+}
+
 /// The keys of a layer.
-pub(crate) fn keys(alloc: Global, texts: &[u8], spans: &[Span]) -> Result<Vec<Text>, RowsError>
+pub(crate) fn keys(
+    alloc: Global,
+    texts: &[u8],
+    spans: &[Span],
+    work: &mut Work,
+) -> Result<Vec<Text>, RowsError>
     ensures keys { IfOk result (λ keys. each (text_of texts.now) spans.now ≡ Some keys.items) }
+    ensures utf8 { IfOk result (λ keys. AllByRecursion IsUtf8 keys.items) }
     ensures none { IfErr result (FailsAs (each (text_of texts.now) spans.now ≡ None)) }
 {
     let mut keys = Vec::with_capacity(alloc, spans.len())?;
     for span in spans {
-        keys.push(text(alloc, texts, *span)?)?;
+        keys.push(text(alloc, texts, *span, work)?)?;
     }
     Ok(keys)
 }

@@ -1,11 +1,14 @@
 //! Values of rows.
-ghost use Rattle.std.specs.Prelude.{◌≡◌, Some, None, IfOk, IfErr};
+ghost use Rattle.std.specs.Prelude.{◌≡◌, Some, None, IfOk, IfErr, IfSome};
+ghost use Rattle.std.specs.List.{AllByRecursion};
+ghost use Rattle.mvt_feature.specs.Valid.{ValidValue};
 ghost use Rattle.mvt_rows.specs.Written.{FailsAs};
 ghost use Rattle.mvt_rows.specs.TileRows.{each, float_of, number_of, truth_of, value_of};
 
 use super::parts::text;
 use crate::rows::ValueRow;
 use crate::rows_error::RowsError;
+use crate::work::Work;
 use mvt_attrs::Value;
 use std::alloc::Global;
 
@@ -29,7 +32,8 @@ fn float(bits: u64) -> Option<u32>
 
 /// A value that is no text.
 fn number(kind: u32, bits: u64) -> Option<Value>
-    ensures { result ≡ number_of kind bits }
+    ensures number { result ≡ number_of kind bits }
+    ensures valid { IfSome result ValidValue }
 {
     match kind {
         2 => Some(Value::Float(float(bits)?)),
@@ -42,12 +46,13 @@ fn number(kind: u32, bits: u64) -> Option<Value>
     }
 }
 
-fn value(alloc: Global, texts: &[u8], row: &ValueRow) -> Result<Value, RowsError>
+fn value(alloc: Global, texts: &[u8], row: &ValueRow, work: &mut Work) -> Result<Value, RowsError>
     ensures value { IfOk result (λ value. value_of texts.now row.now ≡ Some value) }
+    ensures valid { IfOk result ValidValue }
     ensures none { IfErr result (FailsAs (value_of texts.now row.now ≡ None)) }
 {
     if row.kind == 1 {
-        return Ok(Value::Text(text(alloc, texts, row.text)?));
+        return Ok(Value::Text(text(alloc, texts, row.text, work)?));
     }
     match number(row.kind, row.bits) {
         Some(value) => Ok(value),
@@ -60,14 +65,16 @@ pub(crate) fn values(
     alloc: Global,
     texts: &[u8],
     rows: &[ValueRow],
+    work: &mut Work,
 ) -> Result<Vec<Value>, RowsError>
     ensures values { IfOk result (λ values. each (value_of texts.now) rows.now
         ≡ Some values.items) }
+    ensures valid { IfOk result (λ values. AllByRecursion ValidValue values.items) }
     ensures none { IfErr result (FailsAs (each (value_of texts.now) rows.now ≡ None)) }
 {
     let mut values = Vec::with_capacity(alloc, rows.len())?;
     for row in rows {
-        values.push(value(alloc, texts, row)?)?;
+        values.push(value(alloc, texts, row, work)?)?;
     }
     Ok(values)
 }

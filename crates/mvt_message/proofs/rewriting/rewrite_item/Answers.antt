@@ -1,5 +1,5 @@
 use Rattle.std.proofs.Common.{◌++◌, ◌∷◌, [], refl, ap, sym, ◌∙◌}
-use Rattle.mvt_message.specs.declared.rewriting.LayerRewriter.{LayerRewriter}
+use Rattle.mvt_message.specs.declared.layer_writer.LayerWriter.{LayerWriter}
 use Rattle.mvt_message.specs.declared.item.Item.TheVariants as items
 use Rattle.mvt_message.specs.declared.visiting.Visited.TheVariants.{Layer, Foreign}
 use Rattle.mvt_message.specs.Items.{IsItem}
@@ -10,13 +10,13 @@ use Rattle.mvt_message.proofs.RewriteLemmas.{canonical_layer, canonical_foreign}
 use Rattle.mvt_message.proofs.rewriting.rewrite_item.Goals as goal
 
 -- nothing is known of other items
-abbrev HasItems : LayerRewriter → Type 0
-HasItems rewriter = Unit {0}
+abbrev HasItems : LayerWriter → Type 0
+HasItems writer = Unit {0}
 
 pub returns-in-Ok-Layer-clause-item : goal.returns-in-Ok-Layer-clause-item
 returns-in-Ok-Layer-clause-item c =
     let payload = c.args.payload.now in
-    let (item, is, valid, visited) = c.in-Ok-Layer.ensures.item [] c.new-rewriter.ensures tt in
+    let (item, is, valid, visited) = c.in-Ok-Layer.ensures.item [] c.new-writer.ensures tt in
     let reported = rw c.in-Ok-Layer.field-0-is at visited in
     let (layer, has, p) =
     layer_visited HasItems HasWritten c.visit_layer.new.visitor (Layer c.in-Ok-Layer.name c.in-Ok-Layer.extent)
@@ -32,7 +32,7 @@ returns-in-Ok-Layer-clause-item c =
 pub returns-in-Ok-Foreign-clause-item : goal.returns-in-Ok-Foreign-clause-item
 returns-in-Ok-Foreign-clause-item c =
     let payload = c.args.payload.now in
-    let (item, is, valid, visited) = c.in-Ok-Foreign.ensures.item [] c.new-rewriter.ensures tt in
+    let (item, is, valid, visited) = c.in-Ok-Foreign.ensures.item [] c.new-writer.ensures tt in
     let reported = rw c.in-Ok-Foreign.field-0-is at visited in
     let (number, content, has, p) =
     foreign_visited HasItems HasWritten c.visit_layer.new.visitor (Foreign c.in-Ok-Foreign.field-0-0)

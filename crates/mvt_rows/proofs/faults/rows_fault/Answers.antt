@@ -1,4 +1,4 @@
-use Rattle.std.proofs.Common.{◌≡◌, ◌∙◌, refl, sym, subst, arith, Some, slice_get, inr}
+use Rattle.std.proofs.Common.{◌∙◌, refl, sym, subst, arith, inr}
 use Rattle.std.proofs.lemmas.Option.{slice_get_read, slice_get_within}
 use Rattle.mvt_tile.specs.Validity.{IsFirstInvalid}
 use Rattle.mvt_rows.specs.declared.rows_cause.RowsFault.{RowsFault}

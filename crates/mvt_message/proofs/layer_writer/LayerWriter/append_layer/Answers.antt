@@ -1,7 +1,7 @@
 use Rattle.std.proofs.Common.{◌∙◌}
 use Rattle.std.proofs.lemmas.Result.{on_ok_weaker}
 use Rattle.mvt_message.proofs.RewriteLemmas.{layer_appended}
-use Rattle.mvt_message.proofs.rewriting.LayerRewriter.append_layer.Goals as goal
+use Rattle.mvt_message.proofs.layer_writer.LayerWriter.append_layer.Goals as goal
 
 pub returns : goal.returns
 returns c = λ keys values layer has names extents.

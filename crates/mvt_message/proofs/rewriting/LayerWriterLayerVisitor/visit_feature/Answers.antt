@@ -1,5 +1,5 @@
 use Rattle.mvt_message.proofs.RewriteLemmas.{written_more, used_keys, used_values}
-use Rattle.mvt_message.proofs.rewriting.LayerRewriterLayerVisitor.visit_feature.Goals as goal
+use Rattle.mvt_message.proofs.rewriting.LayerWriterLayerVisitor.visit_feature.Goals as goal
 
 pub returns-clause-feature : goal.returns-clause-feature
 returns-clause-feature c = λ items held features are has.

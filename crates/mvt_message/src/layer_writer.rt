@@ -1,0 +1,170 @@
+//! A layer written feature by feature, with tags by index (Mapbox Vector Tile Specification 2.1, 4.1).
+ghost use Rattle.std.specs.Prelude.{◌≡◌, ℕ, [], ◌∷◌, ◌++◌, List, length, IfOk, OnOk};
+ghost use Rattle.mvt_attrs.specs.declared.value.Value.{Value as AValue};
+ghost use Rattle.mvt_attrs.specs.Tags.{Names};
+ghost use Rattle.mvt_geometry.specs.Valid.{IsValid};
+ghost use Rattle.mvt_wire.specs.Spelling.{spelled};
+ghost use Rattle.mvt_feature.specs.declared.feature.Feature.{Feature};
+ghost use Rattle.mvt_message.specs.declared.item.Layer.{Layer};
+ghost use Rattle.mvt_message.specs.CanonicalItems.{layer_fields};
+ghost use Rattle.mvt_message.specs.Rewriting.{HasGathered, HasWritten, HasWrittenUpTo, IsPayloadOf};
+
+use crate::layer_writing::{put_extent, put_head, put_keys, put_values};
+use crate::numbers::layer;
+use mvt_attrs::{LayerUses, Value};
+use mvt_base::{LIMIT, Text};
+use mvt_feature::{Scratch, append_tagged_feature};
+use mvt_geometry::Geometry;
+use mvt_wire::{Payload, put_field};
+use std::alloc::{AllocError, Global};
+
+/// Writes a layer feature by feature: first come its values and its keys, which tags name by their
+/// indices.
+///
+/// ```ignore
+/// let mut writer = LayerWriter::new(alloc);
+/// writer.add_values(&values)?;
+/// writer.add_keys(&keys)?;
+/// for feature in features {
+///     writer.add_feature(feature.id, feature.tags, &feature.geometry, &mut scratch)?;
+/// }
+/// let payload = writer.payload(alloc, name, extent)?;
+/// ```
+///
+/// A key or a value is compared with others when it is added, once. What it holds are the layer's
+/// keys and values and the fields of its features. After an error it says nothing.
+#[derive(Drop)]
+pub struct LayerWriter {
+    pub(crate) uses: LayerUses,
+    /// The payload of a feature.
+    pub(crate) payload: Vec<u8>,
+    /// The fields of the features.
+    pub(crate) features: Vec<u8>,
+}
+
+impl LayerWriter {
+    /// A layer without values, without memory.
+    pub fn new(alloc: Global) -> Self
+        ensures { HasGathered result [] }
+    {
+        LayerWriter {
+            uses: LayerUses::new(alloc),
+            payload: Vec::new(alloc),
+            features: Vec::new(alloc),
+        }
+    }
+
+    /// Adds values of the layer, before its keys.
+    ///
+    /// # Errors
+    ///
+    /// When memory runs out.
+    pub fn add_values(&mut self, values: &[Value]) -> Result<(), AllocError>
+        ensures { (held : List AValue) → HasGathered self.old held
+            → OnOk result (HasGathered self.new (held ++ values.now)) }
+    {
+        self.uses.values.add_all(values)
+    }
+
+    /// Adds the keys of the layer, before its features.
+    ///
+    /// # Errors
+    ///
+    /// When memory runs out.
+    pub fn add_keys(&mut self, keys: &[Text]) -> Result<(), AllocError>
+        ensures { (held : List AValue) → HasGathered self.old held
+            → OnOk result (HasWritten keys.now held self.new []) }
+    {
+        self.uses.keys.add_all(keys)
+    }
+
+    /// How many values the layer has.
+    pub fn value_count(&self) -> usize
+        ensures { (keys : List (List ℕ)) (held : List AValue) (features : List Feature)
+            → HasWrittenUpTo LIMIT keys held self.now features → result ≡ length held }
+    {
+        self.uses.values.len()
+    }
+
+    /// Adds the feature that has this id, these tags and this geometry. From where the features
+    /// alone are more bytes than the limit, it is left out.
+    ///
+    /// # Errors
+    ///
+    /// When memory runs out.
+    pub fn add_feature(
+        &mut self,
+        id: Option<u64>,
+        tags: &[u32],
+        geometry: &Geometry,
+        scratch: &mut Scratch,
+    ) -> Result<(), AllocError>
+        requires { IsValid geometry.now }
+        ensures { (keys : List (List ℕ)) (held : List AValue) (features : List Feature)
+            (f : Feature)
+            → HasWrittenUpTo LIMIT keys held self.old features → f.id ≡ id
+            → f.geometry ≡ geometry.now → Names keys held tags.now f.attributes
+            → OnOk result (HasWrittenUpTo LIMIT keys held self.new (features ++ f ∷ [])) }
+    {
+        if self.features.len() as u64 > LIMIT {
+            return Ok(());
+        }
+        self.payload.clear();
+        append_tagged_feature(
+            id,
+            tags,
+            geometry,
+            &mut self.uses,
+            scratch,
+            &mut self.payload,
+        )?;
+        put_field(
+            &mut self.features,
+            layer::FEATURES,
+            &Payload::Len(&self.payload),
+        )
+    }
+
+    /// The canonical payload of the layer; `None` where its features alone are more bytes than the
+    /// limit.
+    ///
+    /// # Errors
+    ///
+    /// When memory runs out.
+    pub fn payload(
+        &self,
+        alloc: Global,
+        name: &str,
+        extent: u32,
+    ) -> Result<Option<Vec<u8>>, AllocError>
+        ensures { (keys : List (List ℕ)) (held : List AValue) (layer : Layer)
+            → HasWrittenUpTo LIMIT keys held self.now layer.features → layer.name ≡ name.now
+            → layer.extent ≡ extent → IfOk result (IsPayloadOf LIMIT layer) }
+    {
+        if self.features.len() as u64 > LIMIT {
+            return Ok(None);
+        }
+        let mut payload = Vec::new(alloc);
+        self.append_layer(&mut payload, name, extent)?;
+        Ok(Some(payload))
+    }
+
+    /// Appends the canonical payload of the layer whose features it has.
+    pub(crate) fn append_layer(
+        &self,
+        out: &mut Vec<u8>,
+        name: &str,
+        extent: u32,
+    ) -> Result<(), AllocError>
+        ensures { (keys : List (List ℕ)) (values : List AValue) (layer : Layer)
+            → HasWritten keys values self.now layer.features
+            → name.now ≡ layer.name → extent ≡ layer.extent
+            → OnOk result (out.new.items ≡ out.old.items ++ spelled (layer_fields layer)) }
+    {
+        put_head(out, name)?;
+        out.extend_from_slice(&self.features)?;
+        put_keys(out, self.uses.keys.used())?;
+        put_values(out, self.uses.values.used())?;
+        put_extent(out, extent)
+    }
+}
