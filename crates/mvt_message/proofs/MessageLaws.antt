@@ -3,7 +3,7 @@ pub use Rattle.mvt_message.proofs.OrFaultLemmas.{item_there as item_or_fault_the
 pub use Rattle.mvt_message.proofs.CanonicalLemmas.{item_canonical as canonical_reads, keys_valid as pools_of_features_keys, values_valid as pools_of_features_values, features_held as pools_of_features_held}
 pub use Rattle.mvt_message.proofs.PoolLemmas.{keys_more as pools_by_features_more_keys, values_more as pools_by_features_more_values, keys_past as pools_by_features_past_keys, values_past as pools_by_features_past_values}
 pub use Rattle.mvt_message.proofs.BoundLemmas.{bound_holds_lem as bound_holds}
-pub use Rattle.mvt_message.proofs.ValidLemmas.{old_items as old_items_stay}
+pub use Rattle.mvt_message.proofs.ValidLemmas.{item_valid as read_items_are_valid, old_items as old_items_stay}
 use Rattle.std.specs.Prelude.{◌≡◌, refl}
 use Rattle.mvt_message.specs.declared.numbers.layer.TheConstants.{NAME, FEATURES, KEYS, VALUES, EXTENT, VERSION}
 

@@ -5,6 +5,7 @@ ghost use Rattle.mvt_base.specs.Rules.{AreOrdered, first};
 ghost use Rattle.mvt_attrs.specs.Pools.{key_pool, value_pool};
 ghost use Rattle.mvt_attrs.specs.TagPlaces.{IsIn};
 ghost use Rattle.mvt_feature.specs.declared.feature.Feature.{Feature};
+ghost use Rattle.mvt_feature.specs.Ranges.{AreBytes};
 ghost use Rattle.mvt_feature.specs.Valid.{ValidFeature, ValidValue};
 ghost use Rattle.mvt_message.specs.declared.numbers.layer.TheConstants.{NAME, FEATURES, KEYS, VALUES, EXTENT, VERSION};
 ghost use Rattle.mvt_message.specs.declared.item.Item.{Item};
@@ -42,6 +43,11 @@ pub fn item_in_order()
 /// A payload is one item at most.
 pub fn one_item()
     ensures { (b : List ℕ) (i j : Item) → IsItem b i → IsItem b j → i ≡ j }
+{}
+
+/// The item of a payload is valid.
+pub fn read_items_are_valid()
+    ensures { (b : List ℕ) (item : Item) → AreBytes b → IsItem b item → ValidItem item }
 {}
 
 /// The names of an item are those of its payload.

@@ -27,7 +27,7 @@ pub use item::{Item, Layer};
 pub use layer_writer::LayerWriter;
 pub use mvt_base::LIMIT;
 pub use mvt_feature::{Cause, Feature, MessageError, read_feature, read_value};
-pub use naming::has_name;
+pub use naming::{has_name, name_in};
 pub use reading::{judge_item, read_item};
 pub use rewriting::rewrite_item;
 pub use validity::{are_of_version, is_valid_item, is_valid_layer, validate_item};

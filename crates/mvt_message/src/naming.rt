@@ -1,6 +1,7 @@
 //! The name of a layer, of which nothing else is looked at.
-ghost use Rattle.std.specs.Prelude.{◌≡◌, ◌==◌, bytes_eq, if◌then◌else◌};
+ghost use Rattle.std.specs.Prelude.{◌≡◌, ◌==◌, Some, bytes_eq, if◌then◌else◌};
 ghost use Rattle.std.specs.List.{list_any};
+ghost use Rattle.std.specs.Option.{option_copied, option_to_list};
 ghost use Rattle.mvt_wire.specs.Field.{content_of};
 ghost use Rattle.mvt_feature.specs.Features.{number_of};
 ghost use Rattle.mvt_message.specs.declared.numbers.layer.TheConstants.{NAME, VERSION};
@@ -15,15 +16,25 @@ use mvt_wire::{Field, Fields, Payload};
 pub fn has_name(payload: &[u8], name: &[u8]) -> bool
     ensures { result ≡ list_any (bytes_eq name.now) (payload_names payload.now) }
 {
+    match name_in(payload) {
+        Some(own) => name == own,
+        None => false,
+    }
+}
+
+/// The name of a payload of version 2, also where it breaks a rule: the name may be no text.
+pub fn name_in<'a>(payload: &'a [u8]) -> Option<&'a [u8]>
+    ensures { option_to_list (option_copied result) ≡ payload_names payload.now }
+{
     let mut has_version = false;
-    let mut has_name = false;
+    let mut name = None;
     for field in Fields::new(payload) {
         if let Ok(field) = field {
             has_version = version_after(has_version, &field);
-            has_name = name_after(has_name, &field, name);
+            name = name_after(name, &field);
         }
     }
-    has_version && has_name
+    if has_version { name } else { None }
 }
 
 /// Whether the last version is 2, with one more field.
@@ -40,13 +51,13 @@ fn version_after(before: bool, field: &Field<'_>) -> bool
     }
 }
 
-/// Whether the last name is this one, with one more field.
-fn name_after(before: bool, field: &Field<'_>, name: &[u8]) -> bool
-    ensures { result ≡ (if field.now.number == NAME
-        then bytes_eq name.now (the_bytes_of (content_of field.now.payload)) else before) }
+/// The last name, with one more field.
+fn name_after<'a>(before: Option<&'a [u8]>, field: &Field<'a>) -> Option<&'a [u8]>
+    ensures { option_copied result ≡ (if field.now.number == NAME
+        then Some (the_bytes_of (content_of field.now.payload)) else option_copied before.entry) }
 {
     if field.number != layer::NAME {
         return before;
     }
-    name == bytes_of(&field.payload)
+    Some(bytes_of(&field.payload))
 }

@@ -1,21 +1,23 @@
 -- The layers that are wanted of a tile, by the set of their names.
-use Rattle.std.proofs.Common.{◌≡◌, ℕ, ◌+◌, Bool, true, false, cond, not, ◌||◌, List, [], ◌∷◌, ◌++◌, filter, bytes_eq, Option, Some, Vec, Global, refl, sym, ap, ap₂, subst, ◌∙◌}
+use Rattle.std.proofs.Common.{◌≡◌, ℕ, ◌+◌, Bool, true, false, cond, not, ◌||◌, List, [], ◌∷◌, ◌++◌, filter, bytes_eq, Option, Some, Vec, Global, IsUtf8, refl, sym, ap, ap₂, subst, ◌∙◌, append-nil}
 use Rattle.std.specs.Bool.{OnFalse}
 use Rattle.std.specs.List.{list_any, position_from}
 use Rattle.std.proofs.lemmas.Bool.{not-false}
 use Rattle.std.proofs.lemmas.List.Elements.{filter-append}
 use Rattle.std.proofs.lemmas.List.Folds.{list_any-append}
 use Rattle.std.proofs.lemmas.Slice.Eq.{bytes_eq-Decides}
+use Rattle.mvt_base.proofs.ListLemmas.{all_joined}
 use Rattle.mvt_message.specs.declared.item.Item.{Item as AnItem}
 use Rattle.mvt_message.specs.declared.item.Item.TheVariants.{Layer, Foreign}
 use Rattle.mvt_message.specs.Items.{names_in}
+use Rattle.mvt_message.specs.ValidItems.{ValidItem, ValidLayer}
 use Rattle.mvt_model.specs.declared.tile.Tile.{Tile}
 use Rattle.mvt_model.specs.CanonicalTiles.{canonical}
 use Rattle.mvt_model.specs.Encoding.{AreEncoded, IsEncoded}
 use Rattle.mvt_tile.specs.declared.rewriting.Rewriter.{Rewriter}
 use Rattle.mvt_tile.specs.Extraction.{first_missing, is_among, is_named, pick}
 use Rattle.mvt_tile.specs.Inner.Judging.{AreNamed}
-use Rattle.mvt_tile.specs.Inner.Wanting.{HasRewritten, IsSetOf, all_items, is_in}
+use Rattle.mvt_tile.specs.Inner.Wanting.{HasRewritten, IsSetOf, all_items, is_in, names_of}
 use Rattle.mvt_tile.specs.TileRules.{repeats}
 use Rattle.mvt_tile.proofs.ExtractionLemmas.{any_named}
 use Rattle.mvt_tile.proofs.NameLemmas.{bytes_eq_comm, or_right_false}
@@ -90,6 +92,38 @@ pub layers_encoded : (limit : ℕ) (items : List AnItem) (names : List (List ℕ
     → AreEncoded limit (filter (is_among names) items) made → IsEncoded limit (pick (record { items = items }) names) made
 unfolding canonical
 layers_encoded limit items names made are = are
+
+-- an item more that isn't wanted
+pub unwanted_more : (limit : ℕ) (wanted : AnItem → Bool) (items : List AnItem) (item : AnItem) (old new : Rewriter)
+    → HasRewritten limit wanted old items → wanted item ≡ false → ValidItem item
+    → AreNamed new.names.count new.names.names.keys (items ++ item ∷ []) → new.out ≡ old.out → new.wanted ≡ old.wanted
+    → HasRewritten limit wanted new (items ++ item ∷ [])
+unwanted_more limit wanted items item old new has is valid named out wants = record {
+  named = named;
+  encoded = subst (λ xs. AreEncoded limit xs new.out)
+      (sym (append-nil (filter wanted items)) ∙ wanted_more wanted items item false (sym is))
+      (subst (AreEncoded limit (filter wanted items)) (sym out) has.encoded);
+  valid = all_joined ValidItem items (item ∷ []) has.valid (valid, tt);
+  wants = λ i. ap (λ w. is_in (names_of w) i) wants ∙ has.wants i;
+}
+
+-- ---- whether a payload is wanted
+
+pub wants_name : (keys name : List (List ℕ)) (text own : List ℕ) (item : AnItem) (b : Bool) → b ≡ list_any (bytes_eq text) keys
+    → text ≡ own → own ∷ [] ≡ name → names_in item ≡ name → b ≡ repeats keys (names_in item)
+wants_name keys name text own item b is copied named of =
+    is ∙ ap (λ n. list_any (bytes_eq n) keys) copied ∙ sym (or_right_false (list_any (bytes_eq own) keys))
+    ∙ ap (repeats keys) (named ∙ sym of)
+
+pub wants_nothing : (keys name : List (List ℕ)) (item : AnItem) → [] ≡ name → names_in item ≡ name → false ≡ repeats keys (names_in item)
+wants_nothing keys name item none of = ap (repeats keys) (none ∙ sym of)
+
+-- the name of a valid item is a text
+pub name_is_text : (name : List (List ℕ)) (own : List ℕ) (item : AnItem) → own ∷ [] ≡ name → names_in item ≡ name → ValidItem item
+    → IsUtf8 own
+unfolding ValidItem ValidLayer
+name_is_text name own (Layer l) named of valid = subst IsUtf8 (let same : own ∷ [] ≡ l.name ∷ [] = named ∙ sym of in cc) valid.0
+name_is_text name own (Foreign version content) named of valid = absurd (let none : own ∷ [] ≡ [] = named ∙ sym of in cc)
 
 -- ---- the first name that no layer has
 

@@ -1,5 +1,5 @@
-//! A tile made canonical: its items are rewritten one after the other, and only the bytes of those
-//! that are wanted are kept.
+//! A tile made canonical: its items that are wanted are rewritten one after the other, and the others
+//! are judged.
 ghost use Rattle.std.specs.Prelude.{◌≡◌, ◌+◌, ◌≤◌, max, Bool, true, false, List, [], ◌∷◌, ◌++◌, length, IfOk, IfErr, IfSome, OnOk};
 ghost use Rattle.std.specs.Io.KnownBytes.{IsAtEnd};
 ghost use Rattle.std.specs.List.{flat_map};
@@ -7,7 +7,7 @@ ghost use Rattle.std.specs.Option.{option_to_list};
 ghost use Rattle.mvt_base.specs.Reports.{Reports};
 ghost use Rattle.mvt_message.specs.declared.item.Item.{Item as AnItem};
 ghost use Rattle.mvt_message.specs.CanonicalItems.{canonical_item};
-ghost use Rattle.mvt_message.specs.Items.{names_in};
+ghost use Rattle.mvt_message.specs.Items.{IsItem, names_in};
 ghost use Rattle.mvt_message.specs.ValidItems.{ValidItem};
 ghost use Rattle.mvt_model.specs.declared.tile.Tile.{Tile};
 ghost use Rattle.mvt_model.specs.Encoding.{IsEncoded};
@@ -26,10 +26,11 @@ use crate::reading::read_whole;
 use crate::walking::{ItemVisitor, in_layer, walk_whole};
 use mvt_base::{LIMIT, Text};
 use mvt_io::Source;
-use mvt_message::rewrite_item;
+use mvt_message::{name_in, rewrite_item};
 use mvt_model::encode_payload;
-use std::alloc::Global;
+use std::alloc::{AllocError, Global};
 use std::collections::BTreeSet;
+use std::str;
 
 /// The canonical bytes of a tile; `None` where these are more than the limit. One item is held at a
 /// time.
@@ -95,23 +96,29 @@ impl Rewriter {
         }
     }
 
-    fn wants(&self, name: &Option<Text>) -> bool
-        ensures { (item : AnItem) → names_in item ≡ option_to_list name.now
-            → result ≡ is_in (names_of self.now.wanted) item }
+    /// Whether an item with this payload is wanted.
+    fn wants(&self, alloc: Global, payload: &[u8]) -> Result<bool, AllocError>
+        ensures { (item : AnItem) → IsItem payload.now item → ValidItem item
+            → IfOk result (λ wants. wants ≡ is_in (names_of self.now.wanted) item) }
     {
-        match (&self.wanted, name) {
-            (None, _) => true,
-            (Some(_), None) => false,
-            (Some(names), Some(name)) => holds_name(names, name),
+        let Some(names) = &self.wanted else {
+            return Ok(true);
+        };
+        let Some(name) = name_in(payload) else {
+            return Ok(false);
+        };
+        match str::from_utf8(name) {
+            Ok(name) => Ok(holds_name(names, &Text::from_str(alloc, name)?)),
+            Err(_) => Ok(false),
         }
     }
 
-    /// Adds an item with this name and this canonical payload.
+    /// Adds an item that is wanted, with this name and this canonical payload.
     fn add(&mut self, name: Option<Text>, tag_at: u64, canonical: &[u8]) -> Result<(), DecodeError>
         requires { self.old.names.count ≤ LIMIT }
         ensures added { (wanted : AnItem → Bool) (items : List AnItem) (item : AnItem)
             → HasRewritten LIMIT wanted self.old items → names_in item ≡ option_to_list name
-            → ValidItem item → canonical.now ≡ canonical_item item
+            → ValidItem item → wanted item ≡ true → canonical.now ≡ canonical_item item
             → OnOk result (HasRewritten LIMIT wanted self.new (items ++ item ∷ [])
             × (repeats (flat_map names_in items) (names_in item) ≡ false)) }
         ensures fault { (wanted : AnItem → Bool) (items : List AnItem)
@@ -119,11 +126,8 @@ impl Rewriter {
             → IfErr result (λ error. ReportsEarly error (name_fault (length items)
             (flat_map names_in items) (option_to_list name) tag_at)) }
     {
-        let is_wanted = self.wants(&name);
         self.names.add(name, tag_at)?;
-        if is_wanted {
-            self.out = encode_payload(self.out.take(), canonical)?;
-        }
+        self.out = encode_payload(self.out.take(), canonical)?;
         Ok(())
     }
 }
@@ -139,7 +143,8 @@ impl ItemVisitor for Rewriter {
 
     ghost has_visited = { HasRewritten LIMIT };
 
-    /// Makes an item canonical, and keeps its name, and its bytes where it is wanted.
+    /// Makes an item that is wanted canonical, and keeps its bytes; judges another. It keeps the name
+    /// of either.
     fn visit_item(
         &mut self,
         alloc: Global,
@@ -147,6 +152,9 @@ impl ItemVisitor for Rewriter {
         payload_at: u64,
         tag_at: u64,
     ) -> Result<(), DecodeError> {
+        if !self.wants(alloc, payload)? {
+            return self.names.visit_item(alloc, payload, payload_at, tag_at);
+        }
         let mut canonical = Vec::new(alloc);
         match rewrite_item(alloc, payload, payload_at, tag_at, &mut canonical) {
             Ok(name) => self.add(text_of(alloc, name)?, tag_at, &canonical),
