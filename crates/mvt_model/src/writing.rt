@@ -24,7 +24,8 @@ use std::io::ErrorKind;
 
 /// Has a writer take the canonical bytes of a tile: one item after the other is made and written.
 /// Where there are several and a quick bound of their length is beyond the limit, the lengths of
-/// all items are added up first. The writer isn't flushed.
+/// all items are added up first. The writer isn't flushed. Texts cost what they cost
+/// [`encode`](crate::encode).
 ///
 /// # Errors
 ///

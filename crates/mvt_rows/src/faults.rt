@@ -34,7 +34,7 @@ type Wrong = (Option<usize>, RowsCause);
 ///
 /// # Errors
 ///
-/// When memory runs out.
+/// When memory runs out, or spans that overlap name more entries than all lists and the limit have.
 pub fn rows_fault(alloc: Global, rows: &Rows) -> Result<Option<RowsFault>, RowsError>
     ensures fault { IfOk result (λ found. MatchOption found (AreValid (table_of rows.now))
         (IsFaultOf (table_of rows.now))) }
