@@ -25,9 +25,9 @@ use mvt_wire::{Field, Fields, PackedError, Payload, append_packed};
 
 /// What the fields of a feature say besides its tags and integers.
 #[derive(Clone, Copy, Debug)]
-pub(crate) struct FeatureFields {
-    pub(crate) id: Option<u64>,
-    pub(crate) kind: Kind,
+pub struct FeatureFields {
+    pub id: Option<u64>,
+    pub kind: Kind,
 }
 
 /// What the fields of a payload say; the tags and the integers are left in the scratch.

@@ -20,6 +20,7 @@ mod writing;
 pub use bound::room_after_feature;
 pub use cause::Cause;
 pub use feature::{Drawn, Feature};
+pub use feature_fields::FeatureFields;
 pub use message_error::MessageError;
 pub use reading::{judge_feature, read_drawn, read_feature, read_feature_in};
 pub use rewriting::rewrite_feature;

@@ -9,6 +9,7 @@ pub mod laws;
 mod layer_fields;
 mod layer_header;
 mod layer_len;
+mod layer_rewriting;
 mod layer_writing;
 mod naming;
 pub mod numbers;
@@ -23,8 +24,9 @@ mod writing;
 
 pub use bound::room_after_item;
 pub use item::{Item, Layer};
+pub use layer_rewriting::{RewriteVisitor, Rewritten, RewrittenLayer, rewrite_parts};
 pub use mvt_base::LIMIT;
-pub use mvt_feature::{Cause, Feature, MessageError, read_feature, read_value};
+pub use mvt_feature::{Cause, Feature, FeatureFields, MessageError, read_feature, read_value};
 pub use naming::{has_name, name_in};
 pub use reading::{judge_item, read_item};
 pub use rewriting::rewrite_item;

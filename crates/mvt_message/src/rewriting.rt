@@ -1,25 +1,19 @@
 //! An item made canonical from its payload: no value of it stands in memory (Mapbox Vector Tile
 //! Specification 2.1, 4.1).
-ghost use Rattle.std.specs.Prelude.{◌≡◌, ℕ, ◌+◌, ◌^◌, ◌<◌, ◌≤◌, [], ◌++◌, List, length, None, IfOk, IfErr, OnOk};
+ghost use Rattle.std.specs.Prelude.{◌≡◌, ◌+◌, ◌^◌, ◌<◌, ◌≤◌, [], ◌++◌, length, None, IfOk, IfErr, OnOk};
 ghost use Rattle.std.specs.Option.{option_copied, option_to_list};
 ghost use Rattle.mvt_base.specs.Reports.{Reports};
-ghost use Rattle.mvt_attrs.specs.declared.value.Value.{Value as AValue};
-ghost use Rattle.mvt_wire.specs.Spelling.{spelled};
 ghost use Rattle.mvt_feature.specs.Faults.{fault_of};
 ghost use Rattle.mvt_message.specs.declared.item.Item.{Item};
-ghost use Rattle.mvt_message.specs.declared.item.Layer.{Layer};
-ghost use Rattle.mvt_message.specs.CanonicalItems.{canonical_item, layer_fields};
+ghost use Rattle.mvt_message.specs.CanonicalItems.{canonical_item};
 ghost use Rattle.mvt_message.specs.ItemRules.{item_fault};
 ghost use Rattle.mvt_message.specs.Items.{IsItem, names_in};
-ghost use Rattle.mvt_message.specs.Rewriting.{HasGathered, HasWritten};
 ghost use Rattle.mvt_message.specs.ValidItems.{ValidItem};
 
-use crate::layer_writing::{put_extent, put_head, put_keys, put_values};
+use crate::layer_rewriting::{RewriteVisitor, Rewritten, rewrite_parts};
 use crate::numbers::layer;
-use crate::visiting::{LayerVisitor, Visited, visit_layer};
-use mvt_attrs::{LayerKeys, LayerUses};
-use mvt_base::{LIMIT, Text};
-use mvt_feature::{MessageError, Scratch, read_value, rewrite_feature};
+use mvt_base::LIMIT;
+use mvt_feature::{FeatureFields, MessageError};
 use mvt_wire::{Payload, put_field};
 use std::alloc::{AllocError, Global};
 
@@ -48,13 +42,14 @@ pub fn rewrite_item<'a>(
     ensures fault { IfErr result (λ error. Reports (fault_of error)
         (item_fault payload.now payload_at tag_at)) }
 {
-    let mut rewriter = LayerRewriter::new(alloc);
-    match visit_layer(alloc, &mut rewriter, payload, payload_at, tag_at) {
-        Ok(Visited::Layer { name, extent }) => {
-            rewriter.append_layer(out, name, extent)?;
-            Ok(Some(name))
+    match rewrite_parts(alloc, FeatureBytes::new(alloc), payload, payload_at, tag_at) {
+        Ok(Rewritten::Layer(layer)) => {
+            layer.append_head(out)?;
+            out.extend_from_slice(&layer.visitor.bytes)?;
+            layer.append_tail(out)?;
+            Ok(Some(layer.name))
         }
-        Ok(Visited::Foreign { .. }) => {
+        Ok(Rewritten::Foreign(_)) => {
             out.extend_from_slice(payload)?;
             Ok(None)
         }
@@ -62,91 +57,34 @@ pub fn rewrite_item<'a>(
     }
 }
 
-/// Writes the features of a layer as they are visited, and keeps the keys and the values.
+/// Keeps the canonical fields of the features.
 #[derive(Drop)]
-struct LayerRewriter {
-    uses: LayerUses,
-    /// The payload of a feature.
-    payload: Vec<u8>,
-    /// The fields of the features.
-    features: Vec<u8>,
+struct FeatureBytes {
+    bytes: Vec<u8>,
 }
 
-impl LayerRewriter {
+impl FeatureBytes {
     fn new(alloc: Global) -> Self
-        ensures { HasGathered result [] }
+        ensures { result.bytes.items ≡ [] }
     {
-        LayerRewriter {
-            uses: LayerUses::new(alloc),
-            payload: Vec::new(alloc),
-            features: Vec::new(alloc),
+        FeatureBytes {
+            bytes: Vec::new(alloc),
         }
     }
-
-    /// Appends the canonical payload of the layer whose features it has.
-    fn append_layer(&self, out: &mut Vec<u8>, name: &str, extent: u32) -> Result<(), AllocError>
-        ensures { (keys : List (List ℕ)) (values : List AValue) (layer : Layer)
-            → HasWritten keys values self.now layer.features
-            → name.now ≡ layer.name → extent ≡ layer.extent
-            → OnOk result (out.new.items ≡ out.old.items ++ spelled (layer_fields layer)) }
-    {
-        put_head(out, name)?;
-        out.extend_from_slice(&self.features)?;
-        put_keys(out, self.uses.keys.used())?;
-        put_values(out, self.uses.values.used())?;
-        put_extent(out, extent)
-    }
 }
 
-impl LayerVisitor for LayerRewriter {
-    ghost use Rattle.mvt_message.specs.Rewriting.{HasGathered, HasWritten};
+impl RewriteVisitor for FeatureBytes {
+    ghost use Rattle.std.specs.Prelude.{◌≡◌};
 
-    ghost has_items = { λ _ _. Unit {0} };
+    ghost has_features = { λ _ visitor _ done. visitor.bytes.items ≡ done };
 
-    ghost has_values = { λ _ rewriter values. HasGathered rewriter values };
-
-    ghost has_features = { λ _ keys values rewriter features. HasWritten keys values rewriter features };
-
-    fn visit_value(
+    fn visit_rewritten(
         &mut self,
-        alloc: Global,
+        _: Global,
+        _: &FeatureFields,
+        _: &[u32],
         payload: &[u8],
-        payload_at: u64,
-        tag_at: u64,
-    ) -> Result<(), MessageError> {
-        let value = read_value(alloc, payload, payload_at, tag_at)?;
-        self.uses.values.add(&value)?;
-        Ok(())
-    }
-
-    fn visit_keys(&mut self, _: Global, keys: &[Text], _: usize) -> Result<(), AllocError> {
-        self.uses.keys.add_all(keys)
-    }
-
-    fn visit_feature(
-        &mut self,
-        alloc: Global,
-        payload: &[u8],
-        payload_at: u64,
-        keys: &mut LayerKeys<'_>,
-        _: usize,
-        scratch: &mut Scratch,
-    ) -> Result<(), MessageError> {
-        self.payload.clear();
-        rewrite_feature(
-            alloc,
-            payload,
-            payload_at,
-            keys,
-            &mut self.uses,
-            scratch,
-            &mut self.payload,
-        )?;
-        put_field(
-            &mut self.features,
-            layer::FEATURES,
-            &Payload::Len(&self.payload),
-        )?;
-        Ok(())
+    ) -> Result<(), AllocError> {
+        put_field(&mut self.bytes, layer::FEATURES, &Payload::Len(payload))
     }
 }

@@ -1,5 +1,5 @@
 -- A tile with an item that can't be written is none that can.
-use Rattle.std.proofs.Common.{◌≡◌, ℕ, ◌+◌, ◌<◌, ◌↔◌, Bool, true, false, not, List, ◌∷◌, length, take, drop, get_or, Option, Some, None, MatchOption, IsTrue, is_some, refl, sym, subst}
+use Rattle.std.proofs.Common.{◌≡◌, ℕ, ◌+◌, ◌↔◌, Bool, true, false, not, List, ◌∷◌, take, drop, Option, Some, None, MatchOption, IsTrue, is_some, refl, sym, subst}
 use Rattle.std.specs.List.{AllByRecursion}
 use Rattle.std.proofs.lemmas.Bool.{false≢true}
 use Rattle.std.proofs.lemmas.Option.{slice_get_within, get_or_from_slice_get}
