@@ -46,7 +46,7 @@ use Rattle.mvt_rows.specs.declared.writing.layers.LayerParts.{LayerParts}
 use Rattle.mvt_rows.specs.Tables.{Table}
 use Rattle.mvt_rows.specs.TileRows.{part_of, text_of, utf8_of, IsFeature, IsItem, IsTileOf}
 use Rattle.mvt_rows.specs.Written.{FailsAs, IsNone, IsNoTile, IsWritten, NotWritten}
-use Rattle.mvt_rows.specs.Writing.{AreFeatureParts, AreInRange, AreLayerParts, IsValidFeatureOf, IsValidLayerOf, IsValidItemOf, IsRefused, HasAdded, HasAddedRow}
+use Rattle.mvt_rows.specs.Writing.{AreNames, AreFeatureParts, AreInRange, AreLayerParts, IsValidFeatureOf, IsValidLayerOf, IsValidItemOf, IsRefused, HasAdded, HasAddedRow}
 use Rattle.mvt_rows.proofs.TileLemmas.{some_same, item_once, none_related, related_more}
 
 -- ---- lists
@@ -66,7 +66,7 @@ related_alone R P (x ∷ xs) [] h = absurd h
 related_alone R P (x ∷ xs) (y ∷ ys) h = let rest = related_alone R P xs ys h.1 in ((h.0.0, rest.0), (h.0.1, rest.1))
 
 -- what is related to a list is made of what is related to its parts
-related_at : {X Y : Type 0} → (R : X → Y → Type 0) (front : List X) (x : X) (back : List X) (ys : List Y) → AreRelated R (front ++ x ∷ back) ys
+pub related_at : {X Y : Type 0} → (R : X → Y → Type 0) (front : List X) (x : X) (back : List X) (ys : List Y) → AreRelated R (front ++ x ∷ back) ys
     → (before : List Y) × (y : Y) × (after : List Y) × (ys ≡ before ++ y ∷ after) × AreRelated R front before × R x y
 related_at R [] x back [] h = absurd h
 related_at R [] x back (y ∷ ys) h = ([], y, ys, refl, tt, h.0)
@@ -208,9 +208,6 @@ repeats_by : (names others given : List (List ℕ)) → ((n : List ℕ) → list
     → repeats names given ≡ repeats others given
 repeats_by names others [] same = refl
 repeats_by names others (n ∷ given) same = ap₂ (λ a b. a || b) (same n) (repeats_by names others given same)
-
-abbrev pub AreNames : List (List ℕ) → List Item → Type 0
-AreNames names items = (n : List ℕ) → list_any (bytes_eq n) names ≡ list_any (bytes_eq n) (flat_map names_in items)
 
 -- the name of one item more, where it has one, is new
 pub named_more : (names after : List (List ℕ)) (items : List Item) (item : Item) → AreNames names items → HasDistinctNames items

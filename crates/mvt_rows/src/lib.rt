@@ -19,5 +19,4 @@ pub use rows::{FeatureRow, LayerRow, PartRow, PointRow, Rows, Span, ValueRow};
 pub use rows_cause::{RowsCause, RowsFault};
 pub use rows_error::RowsError;
 pub use table::{RowsDecoder, RowsVisitor, Table, read_layer, read_rows, read_rows_within};
-pub use tiles::tile_of;
 pub use writing::write_rows;

@@ -16,7 +16,6 @@ use crate::work::Work;
 use features::features;
 use mvt_base::Items;
 use mvt_message::{Item, Layer};
-use mvt_tile::Tile;
 use parts::{keys, part, text};
 use std::alloc::Global;
 use values::values;
@@ -53,24 +52,5 @@ fn item(alloc: Global, rows: &Rows, row: &LayerRow, work: &mut Work) -> Result<I
     Ok(Item::Foreign {
         version: row.version,
         bytes: Items::new(Vec::from_slice(alloc, bytes)?),
-    })
-}
-
-/// The tile that rows are.
-///
-/// # Errors
-///
-/// Rows that are none; want of memory.
-pub fn tile_of(alloc: Global, rows: &Rows) -> Result<Tile, RowsError>
-    ensures tile { IfOk result (IsTileOf (table_of rows.now)) }
-    ensures none { IfErr result (FailsAs (IsNone (IsTileOf (table_of rows.now)))) }
-{
-    let mut work = Work::of(rows);
-    let mut items = Vec::with_capacity(alloc, rows.layers.len())?;
-    for row in rows.layers {
-        items.push(item(alloc, rows, row, &mut work)?)?;
-    }
-    Ok(Tile {
-        items: Items::new(items),
     })
 }
