@@ -1,4 +1,4 @@
--- A feature whose tags are left as they stand, and whose geometry was told (Mapbox Vector Tile Specification 2.1, 4.2).
+-- A feature whose tags or integers are left as they stand, and whose geometry was told (Mapbox Vector Tile Specification 2.1, 4.2).
 use Rattle.std.specs.Prelude.{◌≡◌, ℕ, List}
 use Rattle.mvt_attrs.specs.declared.value.Attribute.{Attribute}
 use Rattle.mvt_attrs.specs.declared.value.Value.{Value}
@@ -12,6 +12,10 @@ use Rattle.mvt_feature.specs.Features.{IsFeatureOf}
 -- the tags that were read last
 abbrev pub tags_of : Scratch → List ℕ
 tags_of scratch = scratch.tags.items
+
+-- the integers that were read last
+abbrev pub integers_of : Scratch → List ℕ
+integers_of scratch = scratch.integers.items
 
 -- a payload that is a feature with this id and this type, with the attributes that these tags name, and with a geometry of which
 -- something holds

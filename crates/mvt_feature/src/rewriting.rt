@@ -1,12 +1,14 @@
 //! Features made canonical from their payloads or from their parts, with tags by index (Mapbox Vector
 //! Tile Specification 2.1, 4.2).
-ghost use Rattle.std.specs.Prelude.{◌≡◌, ℕ, ◌+◌, ◌^◌, ◌<◌, ◌++◌, List, length, None, IfErr, OnOk};
+ghost use Rattle.std.specs.Prelude.{◌≡◌, ℕ, ◌+◌, ◌^◌, ◌<◌, ◌++◌, List, length, None, IfOk, IfErr, OnOk};
 ghost use Rattle.mvt_base.specs.Reports.{Reports};
 ghost use Rattle.mvt_attrs.specs.declared.value.Value.{Value};
 ghost use Rattle.mvt_attrs.specs.Tags.{Names};
 ghost use Rattle.mvt_attrs.specs.Using.{HasUses};
 ghost use Rattle.mvt_geometry.specs.Valid.{IsValid};
 ghost use Rattle.mvt_feature.specs.declared.feature.Feature.{Feature};
+ghost use Rattle.mvt_geometry.specs.Drawing.{Draws};
+ghost use Rattle.mvt_feature.specs.Drawn.{integers_of};
 ghost use Rattle.mvt_feature.specs.Faults.{fault_of};
 ghost use Rattle.mvt_feature.specs.Features.{IsFeatureOf};
 ghost use Rattle.mvt_feature.specs.FeatureRules.{feature_fault};
@@ -25,7 +27,7 @@ use std::alloc::{AllocError, Global};
 
 /// Judges the payload of a feature, and appends the canonical one, in a layer with these keys and
 /// the values of these uses. A tag becomes the index of its key or value among those that are used,
-/// and the integers stay.
+/// and the integers stay, in the scratch too.
 ///
 /// # Errors
 ///
@@ -38,13 +40,14 @@ pub fn rewrite_feature(
     uses: &mut LayerUses,
     scratch: &mut Scratch,
     out: &mut Vec<u8>,
-) -> Result<(), MessageError>
+) -> Result<FeatureFields, MessageError>
     requires { payload_at + length payload.now < 2 ^ 64 }
     ensures ok { (held : List Value) → HasUses uses.old keys.old held
         → OnOk result (feature_fault payload.now payload_at keys.old held ≡ None) }
     ensures feature { (held : List Value) → HasUses uses.old keys.old held
-        → OnOk result ((f : Feature) × IsFeatureOf payload.now keys.old held f
-        × IsRewritten f uses.old uses.new out.old.items out.new.items) }
+        → IfOk result (λ fields. (f : Feature) × IsFeatureOf payload.now keys.old held f
+        × IsRewritten f uses.old uses.new out.old.items out.new.items × (f.id ≡ fields.id)
+        × Draws fields.kind (integers_of scratch.new) f.geometry) }
     ensures uses { (held : List Value) → HasUses uses.old keys.old held
         → OnOk result (HasUses uses.new keys.old held) }
     ensures err { (held : List Value) → HasUses uses.old keys.old held
@@ -55,7 +58,7 @@ pub fn rewrite_feature(
     let values = uses.values.len();
     let known = judge_known(alloc, payload, payload_at, keys, values, scratch)?;
     append_judged(&known, uses, scratch, out)?;
-    Ok(())
+    Ok(known)
 }
 
 /// Appends the canonical payload of the feature that has this id, these tags and this geometry, in a
@@ -101,6 +104,7 @@ fn append_judged(
     ensures uses { (keys : List (List ℕ)) (held : List Value) (f : Feature)
         → HasUses uses.old keys held → AreOf keys held known.now scratch.old f
         → OnOk result (HasUses uses.new keys held) }
+    ensures integers { scratch.new.integers.items ≡ scratch.old.integers.items }
 {
     scratch.last.clear();
     scratch.drawing.clear();

@@ -1,6 +1,6 @@
 //! Lists that are used again from feature to feature.
 ghost use Rattle.std.specs.Prelude.{◌≡◌};
-ghost use Rattle.mvt_feature.specs.Drawn.{tags_of};
+ghost use Rattle.mvt_feature.specs.Drawn.{tags_of, integers_of};
 
 use mvt_wire::PackedNumbers;
 use std::alloc::{AllocError, Global};
@@ -46,6 +46,13 @@ impl Scratch {
         ensures { result.now ≡ tags_of self.now }
     {
         &self.tags
+    }
+
+    /// The integers of the feature that was read last.
+    pub fn integers(&self) -> &[u32]
+        ensures { result.now ≡ integers_of self.now }
+    {
+        &self.integers
     }
 
     /// A scratch for writing, whose lists needn't grow for a small feature.

@@ -10,7 +10,7 @@ use Rattle.mvt_wire.specs.Split.{Parts, split}
 use Rattle.mvt_feature.specs.Features.{number_in, number_of}
 use Rattle.mvt_feature.specs.Selection.{only}
 use Rattle.mvt_message.specs.declared.numbers.layer.TheConstants.{NAME, VERSION}
-use Rattle.mvt_message.specs.LayerFields.{bytes_of, is_two, name_in, version_in}
+use Rattle.mvt_message.specs.LayerFields.{bytes_of, is_two}
 use Rattle.mvt_message.specs.ItemRules.{payload_names}
 
 -- whether the last version is 2, and the last name, of fields after others

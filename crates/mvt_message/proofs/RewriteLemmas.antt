@@ -15,7 +15,7 @@ use Rattle.mvt_message.specs.declared.item.Layer.{Layer as ALayer}
 use Rattle.mvt_message.specs.declared.item.Item.TheVariants.{Layer, Foreign}
 use Rattle.mvt_message.specs.CanonicalItems.{canonical_item, keys_of, values_of, head_fields, feature_field, extent_fields, layer_fields}
 use Rattle.mvt_message.specs.declared.layer_writer.LayerWriter.{LayerWriter}
-use Rattle.mvt_message.specs.Rewriting.{AreWritten, HasWritten, HasWrittenUpTo}
+use Rattle.mvt_message.specs.Rewriting.{AreWritten, HasWritten, HasWrittenUpTo, tail_of}
 use Rattle.mvt_wire.proofs.WireLaws.{spelled_parts}
 use Rattle.mvt_message.proofs.PoolLemmas.{keys_more, values_more}
 use Rattle.mvt_message.proofs.PutLemmas.{spelled_more, tags_last, layer_parts, head_part, features_part, keys_part, values_part, extent_part, pool_parts}
@@ -58,31 +58,6 @@ written_more features f old new before after payload out longer written keys val
     written (f ∷ more) ∙ ap (λ fs. spelled (map (feature_field (keys_of fs) (values_of fs)) features)) (sym joined) in
     grown ∙ ap₂ (λ o b. o ++ short_field 2 (bytes b)) front whole ∙ spelled_more field features f []
 
--- the parts of a layer, after one another
-pub layer_appended : (layer : ALayer) (name : List ℕ) (extent : ℕ) (features : List ℕ) (keys : List (List ℕ)) (values : List Value)
-    (start a b c d e : List ℕ)
-    → name ≡ layer.name → extent ≡ layer.extent → AreWritten layer.features features
-    → keys ≡ keys_of layer.features → values ≡ values_of layer.features
-    → a ≡ start ++ spelled (head_fields name) → b ≡ a ++ features → c ≡ b ++ keys_part keys → d ≡ c ++ values_part values
-    → e ≡ d ++ spelled (extent_fields extent) → e ≡ start ++ spelled (layer_fields layer)
-layer_appended layer name extent features keys values start a b c d e names extents written keys_are values_are ha hb hc hd he =
-    let F = features_part layer.features in
-    let K = keys_part (keys_of layer.features) in
-    let V = values_part (values_of layer.features) in
-    let E = extent_part layer in
-    let H = head_part layer in
-    let all : features ≡ F =
-    written [] ∙ ap (λ fs. spelled (map (feature_field (keys_of fs) (values_of fs)) layer.features)) (append-nil layer.features) in
-    let a_is : a ≡ start ++ H = ha ∙ ap (λ n. start ++ spelled (head_fields n)) names in
-    let b_is : b ≡ (start ++ H) ++ F = hb ∙ ap₂ (λ x y. x ++ y) a_is all in
-    let c_is : c ≡ ((start ++ H) ++ F) ++ K = hc ∙ ap₂ (λ x y. x ++ keys_part y) b_is keys_are in
-    let d_is : d ≡ (((start ++ H) ++ F) ++ K) ++ V = hd ∙ ap₂ (λ x y. x ++ values_part y) c_is values_are in
-    he ∙ ap₂ (λ x n. x ++ spelled (extent_fields n)) d_is extents ∙ regroup start H F K V E
-    ∙ ap (λ l. start ++ l) (sym (layer_parts layer))
-  where
-    regroup : (s h f k v x : List ℕ) → ((((s ++ h) ++ f) ++ k) ++ v) ++ x ≡ s ++ (h ++ (f ++ (k ++ (v ++ x))))
-    regroup s h f k v x = simp append_assoc
-
 pub canonical_layer : (layer : ALayer) → canonical_item (Layer layer) ≡ spelled (layer_fields layer)
 unfolding canonical_item
 canonical_layer layer = refl
@@ -90,6 +65,29 @@ canonical_layer layer = refl
 pub canonical_foreign : (version : ℕ) (content : List ℕ) → canonical_item (Foreign version content) ≡ content
 unfolding canonical_item
 canonical_foreign version content = refl
+
+-- the parts of a layer, after one another
+pub layer_rewritten : (layer : ALayer) (name : List ℕ) (extent : ℕ) (uses : LayerUses) (done : List ℕ) → name ≡ layer.name
+    → extent ≡ layer.extent → uses.keys.used.items ≡ keys_of layer.features → uses.values.used.items ≡ values_of layer.features
+    → AreWritten layer.features done
+    → canonical_item (Layer layer) ≡ spelled (head_fields name) ++ (done ++ tail_of uses extent)
+layer_rewritten layer name extent uses done names extents keys_are values_are written =
+    let all : done ≡ features_part layer.features =
+    written [] ∙ ap (λ fs. spelled (map (feature_field (keys_of fs) (values_of fs)) layer.features)) (append-nil layer.features) in
+    let ends : values_part (values_of layer.features) ++ extent_part layer
+    ≡ values_part uses.values.used.items ++ spelled (extent_fields extent) =
+    ap₂ (λ v e. values_part v ++ spelled (extent_fields e)) (sym values_are) (sym extents) in
+    canonical_layer layer ∙ layer_parts layer
+    ∙ ap₂ (λ n b. spelled (head_fields n) ++ b) (sym names)
+    (ap₂ (λ b t. b ++ t) (sym all) (ap₂ (λ k e. keys_part k ++ e) (sym keys_are) ends))
+
+pub appended : (start head done tail whole a b c : List ℕ) → a ≡ start ++ head → b ≡ a ++ done → c ≡ b ++ tail
+    → whole ≡ head ++ (done ++ tail) → c ≡ start ++ whole
+appended start head done tail whole a b c ha hb hc is =
+    hc ∙ ap (λ x. x ++ tail) (hb ∙ ap (λ x. x ++ done) ha) ∙ regroup start head done tail ∙ ap (λ w. start ++ w) (sym is)
+  where
+    regroup : (s h d t : List ℕ) → ((s ++ h) ++ d) ++ t ≡ s ++ (h ++ (d ++ t))
+    regroup s h d t = simp append_assoc
 
 -- features that follow too many bytes are left out
 

@@ -1,14 +1,19 @@
--- Features that are written after one another while others may follow.
+-- A layer that is made canonical: its features are written after one another while others may follow.
 use Rattle.std.specs.Prelude.{◌≡◌, ◌≢◌, ℕ, ◌<◌, List, [], ◌++◌, length, map, Option, MatchOption, Vec}
 use Rattle.std.specs.Global.{Global}
 use Rattle.mvt_attrs.specs.declared.value.Value.{Value}
+use Rattle.mvt_attrs.specs.declared.uses.LayerUses.{LayerUses}
 use Rattle.mvt_attrs.specs.Using.{HasUses}
 use Rattle.mvt_wire.specs.Spelling.{spelled}
 use Rattle.mvt_feature.specs.declared.feature.Feature.{Feature}
 use Rattle.mvt_message.specs.declared.layer_writer.LayerWriter.{LayerWriter}
 use Rattle.mvt_message.specs.declared.item.Layer.{Layer as ALayer}
-use Rattle.mvt_message.specs.declared.item.Item.TheVariants.{Layer}
-use Rattle.mvt_message.specs.CanonicalItems.{canonical_item, keys_of, values_of, feature_field}
+use Rattle.mvt_message.specs.declared.item.Item.TheVariants as items
+use Rattle.mvt_message.specs.declared.layer_rewriting.Rewritten.{Rewritten}
+use Rattle.mvt_message.specs.declared.layer_rewriting.Rewritten.TheVariants.{Layer, Foreign}
+use Rattle.mvt_message.specs.CanonicalItems.{canonical_item, keys_of, values_of, head_fields, feature_field, key_field, value_field, extent_fields}
+use Rattle.mvt_message.specs.Items.{IsItem}
+use Rattle.mvt_message.specs.ValidItems.{ValidItem}
 
 -- their fields, whatever features follow
 abbrev pub AreWritten : List Feature → List ℕ → Type 0
@@ -41,4 +46,18 @@ pub record HasWrittenUpTo (limit : ℕ) (keys : List (List ℕ)) (values : List 
 -- the canonical payload of a layer; none where it is longer than a limit
 abbrev pub IsPayloadOf : ℕ → ALayer → Option (Vec ℕ Global) → Type 0
 IsPayloadOf limit layer made =
-    MatchOption made (limit < length (canonical_item (Layer layer))) (λ payload. payload.items ≡ canonical_item (Layer layer))
+    MatchOption made (limit < length (canonical_item (items.Layer layer))) (λ payload. payload.items ≡ canonical_item (items.Layer layer))
+
+-- the fields of a layer behind its features
+abbrev pub tail_of : LayerUses → ℕ → List ℕ
+tail_of uses extent =
+    spelled (map key_field uses.keys.used.items) ++ (spelled (map value_field uses.values.used.items) ++ spelled (extent_fields extent))
+
+-- a payload is the item that was made canonical, of whose features this visitor was told
+abbrev pub IsRewrittenAs : {V : Type 0} → (V → List Feature → List ℕ → Type 0) → List ℕ → Rewritten V → Type 0
+IsRewrittenAs WasTold payload (Layer r) =
+    (layer : ALayer) × IsItem payload (items.Layer layer) × ValidItem (items.Layer layer) × (r.name.now ≡ layer.name)
+    × WasTold r.visitor layer.features r.writer.features.items
+    × (canonical_item (items.Layer layer)
+    ≡ spelled (head_fields r.name.now) ++ (r.writer.features.items ++ tail_of r.writer.uses r.extent))
+IsRewrittenAs WasTold payload (Foreign version) = IsItem payload (items.Foreign version payload) × ValidItem (items.Foreign version payload)

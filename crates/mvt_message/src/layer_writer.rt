@@ -6,8 +6,8 @@ ghost use Rattle.mvt_geometry.specs.Valid.{IsValid};
 ghost use Rattle.mvt_wire.specs.Spelling.{spelled};
 ghost use Rattle.mvt_feature.specs.declared.feature.Feature.{Feature};
 ghost use Rattle.mvt_message.specs.declared.item.Layer.{Layer};
-ghost use Rattle.mvt_message.specs.CanonicalItems.{layer_fields};
-ghost use Rattle.mvt_message.specs.Rewriting.{HasGathered, HasWritten, HasWrittenUpTo, IsPayloadOf};
+ghost use Rattle.mvt_message.specs.CanonicalItems.{head_fields};
+ghost use Rattle.mvt_message.specs.Rewriting.{HasGathered, HasWritten, HasWrittenUpTo, IsPayloadOf, tail_of};
 
 use crate::layer_writing::{put_extent, put_head, put_keys, put_values};
 use crate::numbers::layer;
@@ -156,13 +156,18 @@ impl LayerWriter {
         name: &str,
         extent: u32,
     ) -> Result<(), AllocError>
-        ensures { (keys : List (List ℕ)) (values : List AValue) (layer : Layer)
-            → HasWritten keys values self.now layer.features
-            → name.now ≡ layer.name → extent ≡ layer.extent
-            → OnOk result (out.new.items ≡ out.old.items ++ spelled (layer_fields layer)) }
+        ensures { OnOk result (out.new.items ≡ out.old.items ++ (spelled (head_fields name.now)
+            ++ (self.now.features.items ++ tail_of self.now.uses extent))) }
     {
         put_head(out, name)?;
         out.extend_from_slice(&self.features)?;
+        self.append_tail(out, extent)
+    }
+
+    /// Appends the fields behind those of the features.
+    pub(crate) fn append_tail(&self, out: &mut Vec<u8>, extent: u32) -> Result<(), AllocError>
+        ensures { OnOk result (out.new.items ≡ out.old.items ++ tail_of self.now.uses extent) }
+    {
         put_keys(out, self.uses.keys.used())?;
         put_values(out, self.uses.values.used())?;
         put_extent(out, extent)

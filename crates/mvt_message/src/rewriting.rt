@@ -1,26 +1,18 @@
 //! An item made canonical from its payload: no value of it stands in memory (Mapbox Vector Tile
 //! Specification 2.1, 4.1).
-ghost use Rattle.std.specs.Prelude.{◌≡◌, ℕ, ◌+◌, ◌^◌, ◌<◌, ◌≤◌, [], ◌++◌, List, length, None, IfOk, IfErr, OnOk};
+ghost use Rattle.std.specs.Prelude.{◌≡◌, ◌+◌, ◌^◌, ◌<◌, ◌≤◌, ◌++◌, length, None, IfOk, IfErr, OnOk};
 ghost use Rattle.std.specs.Option.{option_copied, option_to_list};
 ghost use Rattle.mvt_base.specs.Reports.{Reports};
-ghost use Rattle.mvt_attrs.specs.declared.value.Value.{Value as AValue};
-ghost use Rattle.mvt_wire.specs.Spelling.{spelled};
 ghost use Rattle.mvt_feature.specs.Faults.{fault_of};
 ghost use Rattle.mvt_message.specs.declared.item.Item.{Item};
-ghost use Rattle.mvt_message.specs.declared.item.Layer.{Layer};
-ghost use Rattle.mvt_message.specs.CanonicalItems.{canonical_item, layer_fields};
+ghost use Rattle.mvt_message.specs.CanonicalItems.{canonical_item};
 ghost use Rattle.mvt_message.specs.ItemRules.{item_fault};
 ghost use Rattle.mvt_message.specs.Items.{IsItem, names_in};
-ghost use Rattle.mvt_message.specs.Rewriting.{HasGathered, HasWritten};
 ghost use Rattle.mvt_message.specs.ValidItems.{ValidItem};
 
-use crate::layer_writer::LayerWriter;
-use crate::numbers::layer;
-use crate::visiting::{LayerVisitor, Visited, visit_layer};
-use mvt_attrs::LayerKeys;
-use mvt_base::{LIMIT, Text};
-use mvt_feature::{MessageError, Scratch, read_value, rewrite_feature};
-use mvt_wire::{Payload, put_field};
+use crate::layer_rewriting::{RewriteVisitor, Rewritten, rewrite_parts};
+use mvt_base::LIMIT;
+use mvt_feature::{FeatureFields, MessageError};
 use std::alloc::{AllocError, Global};
 
 /// Appends the canonical payload of the item that a payload is, and answers the name of the layer.
@@ -48,13 +40,12 @@ pub fn rewrite_item<'a>(
     ensures fault { IfErr result (λ error. Reports (fault_of error)
         (item_fault payload.now payload_at tag_at)) }
 {
-    let mut writer = LayerWriter::new(alloc);
-    match visit_layer(alloc, &mut writer, payload, payload_at, tag_at) {
-        Ok(Visited::Layer { name, extent }) => {
-            writer.append_layer(out, name, extent)?;
-            Ok(Some(name))
+    match rewrite_parts(alloc, Untold, payload, payload_at, tag_at) {
+        Ok(Rewritten::Layer(layer)) => {
+            layer.writer.append_layer(out, layer.name, layer.extent)?;
+            Ok(Some(layer.name))
         }
-        Ok(Visited::Foreign { .. }) => {
+        Ok(Rewritten::Foreign(_)) => {
             out.extend_from_slice(payload)?;
             Ok(None)
         }
@@ -62,56 +53,20 @@ pub fn rewrite_item<'a>(
     }
 }
 
-/// Writes the features of a layer as they are visited, and keeps the keys and the values.
-impl LayerVisitor for LayerWriter {
-    ghost use Rattle.mvt_message.specs.Rewriting.{HasGathered, HasWritten};
+/// Keeps nothing of the features, which are written all the same.
+#[derive(Drop)]
+struct Untold;
 
-    ghost has_items = { λ _ _. Unit {0} };
+impl RewriteVisitor for Untold {
+    ghost has_features = { λ _ _ _ _. Unit {0} };
 
-    ghost has_values = { λ _ writer values. HasGathered writer values };
-
-    ghost has_features = { λ _ keys values writer features. HasWritten keys values writer features };
-
-    fn visit_value(
+    fn visit_rewritten(
         &mut self,
-        alloc: Global,
-        payload: &[u8],
-        payload_at: u64,
-        tag_at: u64,
-    ) -> Result<(), MessageError> {
-        let value = read_value(alloc, payload, payload_at, tag_at)?;
-        self.uses.values.add(&value)?;
-        Ok(())
-    }
-
-    fn visit_keys(&mut self, _: Global, keys: &[Text], _: usize) -> Result<(), AllocError> {
-        self.add_keys(keys)
-    }
-
-    fn visit_feature(
-        &mut self,
-        alloc: Global,
-        payload: &[u8],
-        payload_at: u64,
-        keys: &mut LayerKeys<'_>,
-        _: usize,
-        scratch: &mut Scratch,
-    ) -> Result<(), MessageError> {
-        self.payload.clear();
-        rewrite_feature(
-            alloc,
-            payload,
-            payload_at,
-            keys,
-            &mut self.uses,
-            scratch,
-            &mut self.payload,
-        )?;
-        put_field(
-            &mut self.features,
-            layer::FEATURES,
-            &Payload::Len(&self.payload),
-        )?;
+        _: Global,
+        _: &FeatureFields,
+        _: &[u32],
+        _: &[u8],
+    ) -> Result<(), AllocError> {
         Ok(())
     }
 }

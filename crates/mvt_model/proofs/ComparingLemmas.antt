@@ -1,16 +1,26 @@
--- Bytes compared with the field of an item.
-use Rattle.std.proofs.Common.{◌≡◌, ◌≢◌, ℕ, List, ◌++◌, Option, Some, None, Bor, sym, ap, ◌∙◌, append_assoc}
+-- Bytes compared with the front of an input.
+use Rattle.std.proofs.Common.{◌≡◌, ◌≢◌, ℕ, List, ◌++◌, Option, Some, None, Bor, sym, ap, subst, ◌∙◌, append_assoc}
 use Rattle.std.proofs.lemmas.List.{append_cancel_left}
 use Rattle.mvt_model.specs.Comparing.{IsAfter}
 
-pub after_parts : (bytes head body payload front : List ℕ) (r : Option (Bor (List ℕ))) → front ≡ head ++ payload → bytes ≡ head ++ body
-    → IsAfter body payload r → IsAfter bytes front r
-after_parts bytes head body payload front None is at none =
-    λ more e. none more (append_cancel_left head body (payload ++ more)
-    (sym at ∙ e ∙ ap (λ f. f ++ more) is ∙ append_assoc head payload more))
-after_parts bytes head body payload front (Some rest) is at there =
-    at ∙ ap (λ b. head ++ b) there ∙ sym (append_assoc head payload rest.now) ∙ ap (λ f. f ++ rest.now) (sym is)
+-- behind what stands there, or where that isn't there
 
-pub after_none : (bytes head payload front : List ℕ) → front ≡ head ++ payload → ((more : List ℕ) → bytes ≢ head ++ more) → (more : List ℕ)
-    → bytes ≢ front ++ more
-after_none bytes head payload front is none more e = none (payload ++ more) (e ∙ ap (λ f. f ++ more) is ∙ append_assoc head payload more)
+pub after_more : (input front part rest : List ℕ) (r : Option (Bor (List ℕ))) → input ≡ front ++ rest → IsAfter rest part r
+    → IsAfter input (front ++ part) r
+after_more input front part rest None at none =
+    λ more e. none more (append_cancel_left front rest (part ++ more) (sym at ∙ e ∙ append_assoc front part more))
+after_more input front part rest (Some behind) at there =
+    at ∙ ap (λ b. front ++ b) there ∙ sym (append_assoc front part behind.now)
+
+pub after_none : (input front part : List ℕ) → ((more : List ℕ) → input ≢ front ++ more) → (more : List ℕ) → input ≢ (front ++ part) ++ more
+after_none input front part none more e = none (part ++ more) (e ∙ append_assoc front part more)
+
+-- the parts of an item's field
+pub after_field : (input front field head features tail whole : List ℕ) (r : Option (Bor (List ℕ)))
+    → whole ≡ field ++ (head ++ (features ++ tail)) → IsAfter input ((((front ++ field) ++ head) ++ features) ++ tail) r
+    → IsAfter input (front ++ whole) r
+after_field input front field head features tail whole r is after =
+    subst (λ b. IsAfter input b r) (regroup front field head features tail ∙ ap (λ w. front ++ w) (sym is)) after
+  where
+    regroup : (s f h x t : List ℕ) → (((s ++ f) ++ h) ++ x) ++ t ≡ s ++ (f ++ (h ++ (x ++ t)))
+    regroup s f h x t = simp append_assoc

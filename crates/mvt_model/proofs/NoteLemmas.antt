@@ -1,7 +1,7 @@
 -- Notes of numbered elements.
-use Rattle.std.proofs.Common.{◌≡◌, inr, inl, ne_eqb, ◌≤◌, ℕ, ◌+◌, ◌<◌, Bool, true, false, cond, eqb, List, [], ◌∷◌, ◌++◌, length, take, get_or, Option, Some, None, refl, sym, ap, ap₂, ◌∙◌, arith, append_assoc, append-nil, length-append, length-take, add-zero}
+use Rattle.std.proofs.Common.{◌≡◌, inr, inl, ne_eqb, ◌≤◌, ℕ, ◌+◌, ◌<◌, Bool, true, false, cond, eqb, List, [], ◌∷◌, ◌++◌, length, take, get_or, Option, Some, None, refl, sym, ap, ap₂, ◌∙◌, arith, append_assoc, append-nil, length-append, length-take, add-zero, zero-add}
 use Rattle.std.proofs.lemmas.Bool.{cases_lt}
-use Rattle.std.proofs.lemmas.List.{get_or_default}
+use Rattle.std.proofs.lemmas.List.{get_or_default, take-append-le, take_all}
 use Rattle.std.specs.List.{position_from}
 use Rattle.std.specs.Option.{option_or}
 use Rattle.std.proofs.lemmas.Grind.{flat_map-append}
@@ -91,6 +91,53 @@ first_of_more q features i f h is =
     ∙ first_more (λ (g : Feature). is_id q g.id) 0 (take i features) f
     ∙ ap (λ k. option_or (first_of q (take i features)) (cond (is_id q f.id) (Some k) None)) size
 
+pub id_noted : (layer n : ℕ) (found other : ℕ → Option ℕ) (id : Option ℕ) → ((q : ℕ) → found q ≡ other q)
+    → id_note layer n found id ≡ id_note layer n other id
+id_noted layer n found other None same = refl
+id_noted layer n found other (Some id) same = ap (earlier_note layer n) (same id)
+
+-- of the features so far
+
+pub first_of_last : (q : ℕ) (features : List Feature) (f : Feature) (n : ℕ) (id : Option ℕ) → n ≡ length features → f.id ≡ id
+    → option_or (first_of q features) (cond (is_id q id) (Some n) None) ≡ first_of q (features ++ f ∷ [])
+first_of_last q features f n id count is =
+    ap₂ (λ i k. option_or (first_of q features) (cond (is_id q i) (Some k) None)) (sym is) (count ∙ sym (zero-add (length features)))
+    ∙ sym (first_more (λ (g : Feature). is_id q g.id) 0 features f)
+
+-- features before others have the same notes with and without these
+noted_front : (layer : ℕ) (all features : List Feature) (n : ℕ) (xs : List Feature)
+    → ((k : ℕ) → k < n + length xs → take k all ≡ take k features)
+    → numbered (feature_notes layer all) n xs ≡ numbered (feature_notes layer features) n xs
+noted_front layer all features n [] same = refl
+noted_front layer all features n (x ∷ xs) same =
+    ap₂ (λ before notes. (id_note layer n (λ id. first_of id before) x.id ++ geometry_notes layer n x.geometry) ++ notes)
+    (same n (omega arith)) (noted_front layer all features (n + 1) xs (λ k h. same k (omega (arith, h))))
+
+pub noted_last : (at layer : ℕ) (features : List Feature) (f : Feature) (n : ℕ) (id : Option ℕ) (found : ℕ → Option ℕ)
+    (old mid new : List Note)
+    → at ≡ layer → n ≡ length features → f.id ≡ id → ((q : ℕ) → found q ≡ first_of q features)
+    → old ≡ numbered (feature_notes layer features) 0 features → mid ≡ old ++ id_note at n found id
+    → new ≡ mid ++ geometry_notes at n f.geometry
+    → new ≡ numbered (feature_notes layer (features ++ f ∷ [])) 0 (features ++ f ∷ [])
+noted_last at layer features f n id found old mid new layer_is count is same so_far e g =
+    let all = features ++ f ∷ [] in
+    let before : take n all ≡ features =
+    take-append-le n features (f ∷ []) (omega (arith, count)) ∙ take_all n features (omega (arith, count)) in
+    let here : new ≡ old ++ (id_note layer n found id ++ geometry_notes layer n f.geometry) =
+    g ∙ ap (λ ns. ns ++ geometry_notes at n f.geometry) e
+    ∙ append_assoc old (id_note at n found id) (geometry_notes at n f.geometry)
+    ∙ ap (λ l. old ++ (id_note l n found id ++ geometry_notes l n f.geometry)) layer_is in
+    let one : id_note layer n found id ≡ id_note layer n (λ q. first_of q (take n all)) f.id =
+    id_noted layer n found (λ q. first_of q (take n all)) id (λ q. same q ∙ ap (first_of q) (sym before))
+    ∙ ap (id_note layer n (λ q. first_of q (take n all))) (sym is) in
+    here
+    ∙ ap₂ (λ ns i. ns ++ (i ++ geometry_notes layer n f.geometry)) so_far one
+    ∙ ap₂ (λ ns k. ns ++ feature_notes layer all k f)
+    (sym (noted_front layer all features 0 features (λ k h. take-append-le k features (f ∷ []) (omega (arith, h)))))
+    (count ∙ sym (zero-add (length features)))
+    ∙ ap (λ ns. numbered (feature_notes layer all) 0 features ++ ns) (sym (append-nil (feature_notes layer all (0 + length features) f)))
+    ∙ sym (numbered-append (feature_notes layer all) 0 features (f ∷ []))
+
 -- ids that rise
 
 other_id : (q next : ℕ) (id : Option ℕ) → next ≤ q → ((k : ℕ) → id ≡ Some k → k < next) → is_id q id ≡ false
@@ -122,11 +169,6 @@ pub nothing_noted : (layer n : ℕ) (features : List Feature) (id : Option ℕ)
     → ((k : ℕ) → id ≡ Some k → first_of k (take n features) ≡ None) → id_note layer n (λ k. first_of k (take n features)) id ≡ []
 nothing_noted layer n features None none = refl
 nothing_noted layer n features (Some k) none = ap (earlier_note layer n) (none k refl)
-
-pub id_noted : (layer n : ℕ) (found other : ℕ → Option ℕ) (id : Option ℕ) → ((q : ℕ) → found q ≡ other q)
-    → id_note layer n found id ≡ id_note layer n other id
-id_noted layer n found other None same = refl
-id_noted layer n found other (Some id) same = ap (earlier_note layer n) (same id)
 
 pub feature_noted : (layer n : ℕ) (features : List Feature) (f : Feature) (found : ℕ → Option ℕ) (old mid new : List Note)
     → ((q : ℕ) → found q ≡ first_of q (take n features)) → mid ≡ old ++ id_note layer n found f.id

@@ -1,20 +1,23 @@
 -- What is found of items, one after the other.
-use Rattle.std.proofs.Common.{◌≡◌, ◌≢◌, ℕ, ◌+◌, ◌≤◌, Bool, false, ◌==◌, eqb, List, [], ◌∷◌, ◌++◌, length, bytes_eq, refl, sym, ap, ap₂, subst, ◌∙◌, arith, append-nil, length-append, zero-add}
+use Rattle.std.proofs.Common.{◌≡◌, ◌≢◌, ℕ, ◌+◌, ◌≤◌, Bool, false, ◌==◌, eqb, List, [], ◌∷◌, ◌++◌, length, bytes_eq, refl, sym, ap, ap₂, subst, ◌∙◌, arith, append_assoc, append-nil, length-append, zero-add}
 use Rattle.std.specs.List.{sum_by}
 use Rattle.std.proofs.lemmas.Bool.{eqb-true, eq-eqb, ne_eqb, false≢true}
 use Rattle.std.proofs.lemmas.Bool.Decides.{same_from_decides}
 use Rattle.std.proofs.lemmas.List.{append_cancel_left, nil_from_length}
 use Rattle.std.proofs.lemmas.List.Sums.{sum_by-append}
 use Rattle.std.proofs.lemmas.Slice.Eq.{bytes_eq-Decides}
+use Rattle.mvt_feature.specs.declared.feature.Feature.{Feature}
 use Rattle.mvt_message.specs.declared.item.Item.{Item}
+use Rattle.mvt_message.specs.declared.item.Item.TheVariants.{Foreign}
+use Rattle.mvt_message.specs.CanonicalItems.{canonical_item}
 use Rattle.mvt_model.specs.declared.note.Note.{Note}
-use Rattle.mvt_model.specs.declared.note.Note.TheVariants.{NoLayers}
+use Rattle.mvt_model.specs.declared.note.Note.TheVariants.{NoFeatures, NoLayers}
 use Rattle.mvt_model.specs.declared.survey.Survey.{Survey}
 use Rattle.mvt_model.specs.declared.findings.Findings.{Findings}
 use Rattle.mvt_model.specs.declared.tile.Tile.{Tile}
 use Rattle.mvt_model.specs.Comparing.{IsAfter}
 use Rattle.mvt_model.specs.Findings.{AreFound}
-use Rattle.mvt_model.specs.Notes.{numbered, note_if, item_notes, notes_of}
+use Rattle.mvt_model.specs.Notes.{numbered, note_if, feature_notes, item_notes, layer_notes, notes_of}
 use Rattle.mvt_model.specs.Survey.{feature_count, survey_of}
 use Rattle.mvt_model.proofs.NoteLemmas.{numbered-append}
 use Rattle.mvt_model.proofs.WritingLemmas.{written, field_of, written-append, written_one}
@@ -58,6 +61,19 @@ found_more limit input old new items item count index found at is most sum behin
       ∙ ap (λ ns. numbered item_notes 0 items ++ ns) (sym (append-nil (item_notes (0 + length items) item)))
       ∙ sym (numbered-append item_notes 0 items (item ∷ []));
 }
+
+-- of a layer, by the notes of its features
+pub layer_noted : (index count : ℕ) (features : List Feature) (start mid own new : List Note) → count ≡ length features
+    → mid ≡ start ++ note_if (count == 0) (NoFeatures index) → own ≡ numbered (feature_notes index features) 0 features
+    → new ≡ mid ++ own → new ≡ start ++ layer_notes index features
+layer_noted index count features start mid own new is e g whole =
+    whole ∙ ap₂ (λ m o. m ++ o) e g
+    ∙ append_assoc start (note_if (count == 0) (NoFeatures index)) (numbered (feature_notes index features) 0 features)
+    ∙ ap (λ n. start ++ (note_if (n == 0) (NoFeatures index) ++ numbered (feature_notes index features) 0 features)) is
+
+pub foreign_payload : (version : ℕ) (payload : List ℕ) → [] ++ (payload ++ []) ≡ canonical_item (Foreign version payload)
+unfolding canonical_item
+foreign_payload version payload = append-nil payload
 
 -- of all items
 

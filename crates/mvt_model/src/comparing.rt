@@ -1,4 +1,4 @@
-//! Whether bytes begin with the canonical bytes of an item.
+//! Whether an input begins with the canonical bytes of items.
 ghost use Rattle.std.specs.Prelude.{◌≡◌, ◌++◌, ℕ, List, length, IfOk};
 ghost use Rattle.mvt_wire.specs.Field.{bytes as in_bytes};
 ghost use Rattle.mvt_wire.specs.Spelling.{short_field};
@@ -10,19 +10,42 @@ use mvt_base::LIMIT;
 use mvt_wire::put_field_head;
 use std::alloc::{AllocError, Global};
 
-/// What stands after the field of an item with this canonical payload, where that is at the front of
-/// some bytes.
-pub(crate) fn after_payload<'b>(
+/// What stands behind one item more, whose canonical payload is a head, the fields of features and
+/// a tail.
+pub(crate) fn after_item<'b>(
     alloc: Global,
-    payload: &[u8],
-    bytes: &'b [u8],
+    head: &[u8],
+    features: &[u8],
+    tail: &[u8],
+    behind: Option<&'b [u8]>,
 ) -> Result<Option<&'b [u8]>, AllocError>
-    ensures { IfOk result (IsAfter bytes.now (short_field LAYERS (in_bytes payload.now))) }
+    ensures { (input front : List ℕ) → IsAfter input front behind.entry
+        → IfOk result (IsAfter input (front ++ short_field LAYERS
+        (in_bytes (head.now ++ (features.now ++ tail.now))))) }
 {
-    let head = field_head(alloc, payload.len())?;
-    match bytes.strip_prefix(head.as_slice()) {
-        Some(body) => Ok(body.strip_prefix(payload)),
-        None => Ok(None),
+    let field = field_head(alloc, len_of(head, features, tail)?)?;
+    let from_head = after(field.as_slice(), behind);
+    let from_features = after(head, from_head);
+    let from_tail = after(features, from_features);
+    Ok(after(tail, from_tail))
+}
+
+/// The number of an item's bytes. More than can be counted don't fit any memory.
+fn len_of(head: &[u8], features: &[u8], tail: &[u8]) -> Result<usize, AllocError>
+    ensures { IfOk result (λ len. len ≡ length (head.now ++ (features.now ++ tail.now))) }
+{
+    let behind = features.len().checked_add(tail.len()).ok_or(AllocError)?;
+    head.len().checked_add(behind).ok_or(AllocError)
+}
+
+/// What stands behind some bytes more.
+fn after<'b>(part: &[u8], behind: Option<&'b [u8]>) -> Option<&'b [u8]>
+    ensures { (input front : List ℕ) → IsAfter input front behind.entry
+        → IsAfter input (front ++ part.now) result }
+{
+    match behind {
+        Some(rest) => rest.strip_prefix(part),
+        None => None,
     }
 }
 

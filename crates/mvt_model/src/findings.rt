@@ -1,21 +1,29 @@
 //! What is found of items, one after the other.
-ghost use Rattle.std.specs.Prelude.{◌≡◌, ℕ, ◌≤◌, List, [], ◌∷◌, ◌++◌, length, bytes_eq, IfOk, OnOk};
-ghost use Rattle.mvt_wire.specs.Field.{bytes as in_bytes};
-ghost use Rattle.mvt_wire.specs.Spelling.{short_field};
-ghost use Rattle.mvt_message.specs.CanonicalItems.{canonical_item};
-ghost use Rattle.mvt_model.specs.declared.numbers.tile.TheConstants.{LAYERS};
+ghost use Rattle.std.specs.Prelude.{◌≡◌, ℕ, ◌+◌, ◌^◌, ◌<◌, ◌≤◌, List, [], ◌∷◌, ◌++◌, length, bytes_eq, None, IfOk, IfErr, OnOk};
+ghost use Rattle.std.specs.Option.{option_copied, option_to_list};
+ghost use Rattle.mvt_base.specs.Reports.{Reports};
+ghost use Rattle.mvt_wire.specs.Spelling.{spelled};
+ghost use Rattle.mvt_feature.specs.Faults.{fault_of};
+ghost use Rattle.mvt_message.specs.declared.item.Layer.{Layer as ALayer};
+ghost use Rattle.mvt_message.specs.declared.item.Item.TheVariants as an_item;
+ghost use Rattle.mvt_message.specs.CanonicalItems.{canonical_item, head_fields};
+ghost use Rattle.mvt_message.specs.ItemRules.{item_fault};
+ghost use Rattle.mvt_message.specs.Items.{IsItem, names_in};
+ghost use Rattle.mvt_message.specs.Rewriting.{tail_of};
+ghost use Rattle.mvt_message.specs.ValidItems.{ValidItem};
 ghost use Rattle.mvt_model.specs.declared.tile.Tile.{Tile};
 ghost use Rattle.mvt_model.specs.CanonicalTiles.{canonical};
 ghost use Rattle.mvt_model.specs.Comparing.{IsAfter};
-ghost use Rattle.mvt_model.specs.Findings.{AreFound};
+ghost use Rattle.mvt_model.specs.Findings.{AreFound, AreNoted};
 ghost use Rattle.mvt_model.specs.Survey.{feature_count as the_feature_count, survey_of};
 
-use crate::comparing::after_payload;
+use crate::comparing::after_item;
+use crate::layer_noting::LayerNotes;
 use crate::note::Note;
-use crate::noting::{note_if, note_item};
+use crate::noting::note_if;
 use crate::survey::Survey;
 use mvt_base::{Items, LIMIT};
-use mvt_message::Item;
+use mvt_message::{Item, MessageError, Rewritten, RewrittenLayer, rewrite_parts};
 use std::alloc::{AllocError, Global};
 
 /// What was found of the items of an input so far. Each is compared with the input where it stands,
@@ -41,25 +49,94 @@ impl<'a> Findings<'a> {
         }
     }
 
-    /// Adds what is found of the item after so many others, whose canonical payload this is.
-    pub fn add(
+    /// Adds what is found of the item of a payload, after so many others, and answers the name of
+    /// the layer. No value of it is made: what it holds are the layer's keys and values and the
+    /// canonical fields of its features.
+    ///
+    /// # Errors
+    ///
+    /// As [`read_item`](mvt_message::read_item).
+    pub fn add<'b>(
         &mut self,
         alloc: Global,
         index: usize,
-        item: &Item,
-        payload: &[u8],
-    ) -> Result<(), AllocError>
-        requires canonical { payload.now ≡ canonical_item item.now }
+        payload: &'b [u8],
+        payload_at: u64,
+        tag_at: u64,
+    ) -> Result<Option<&'b str>, MessageError>
+        requires small { length payload.now ≤ LIMIT }
+        requires fits { payload_at + length payload.now < 2 ^ 64 }
         requires few { index ≤ LIMIT }
         requires found { (input : List ℕ) × (items : List Item)
             × AreFound LIMIT input self.old items × (length items ≡ index) }
+        ensures ok { OnOk result (item_fault payload.now payload_at tag_at ≡ None) }
+        ensures found { (input : List ℕ) (items : List Item) → AreFound LIMIT input self.old items
+            → length items ≡ index
+            → IfOk result (λ name. (item : Item) × IsItem payload.now item × ValidItem item
+            × (option_to_list (option_copied name) ≡ names_in item)
+            × AreFound LIMIT input self.new (items ++ item ∷ [])) }
+        ensures fault { IfErr result (λ error. Reports (fault_of error)
+            (item_fault payload.now payload_at tag_at)) }
+    {
+        let noted = LayerNotes::new(alloc, index);
+        match rewrite_parts(alloc, noted, payload, payload_at, tag_at) {
+            Ok(Rewritten::Layer(layer)) => {
+                self.add_layer(alloc, index, &layer)?;
+                Ok(Some(layer.name))
+            }
+            Ok(Rewritten::Foreign(version)) => {
+                self.add_foreign(alloc, index, version, payload)?;
+                Ok(None)
+            }
+            Err(error) => Err(error),
+        }
+    }
+
+    /// Adds what was found of a layer.
+    fn add_layer(
+        &mut self,
+        alloc: Global,
+        index: usize,
+        layer: &RewrittenLayer<'_, LayerNotes>,
+    ) -> Result<(), AllocError>
+        requires few { index ≤ LIMIT }
+        requires found { (input : List ℕ) × (items : List Item)
+            × AreFound LIMIT input self.old items × (length items ≡ index) }
+        ensures { (input : List ℕ) (items : List Item) (l : ALayer)
+            → AreFound LIMIT input self.old items → length items ≡ index
+            → AreNoted index layer.now.visitor l.features
+            → canonical_item (an_item.Layer l) ≡ spelled (head_fields layer.now.name.now)
+            ++ (layer.now.writer.features.items
+            ++ tail_of layer.now.writer.uses layer.now.extent)
+            → OnOk result (AreFound LIMIT input self.new (items ++ an_item.Layer l ∷ [])) }
+    {
+        let mut head = Vec::new(alloc);
+        layer.append_head(&mut head)?;
+        let mut tail = Vec::new(alloc);
+        layer.append_tail(&mut tail)?;
+        self.behind = after_item(alloc, &head, layer.features(), &tail, self.behind)?;
+        let noted = &layer.visitor;
+        note_if(&mut self.notes, noted.count == 0, Note::NoFeatures(index))?;
+        self.notes.extend_from_slice(&noted.notes)?;
+        self.features += noted.count as u128;
+        Ok(())
+    }
+
+    /// Adds what is found of a layer of another version.
+    fn add_foreign(
+        &mut self,
+        alloc: Global,
+        index: usize,
+        version: u32,
+        payload: &[u8],
+    ) -> Result<(), AllocError>
         ensures { (input : List ℕ) (items : List Item) → AreFound LIMIT input self.old items
             → length items ≡ index
-            → OnOk result (AreFound LIMIT input self.new (items ++ item.now ∷ [])) }
+            → OnOk result (AreFound LIMIT input self.new
+            (items ++ an_item.Foreign version payload.now ∷ [])) }
     {
-        self.features += feature_count(item) as u128;
-        self.behind = after_next(alloc, payload, self.behind)?;
-        note_item(alloc, &mut self.notes, index, item)
+        self.behind = after_item(alloc, &[], payload, &[], self.behind)?;
+        note_if(&mut self.notes, true, Note::Foreign(index, version))
     }
 
     /// The survey of so many layers.
@@ -91,21 +168,6 @@ pub fn feature_count(item: &Item) -> usize
     match item {
         Item::Layer(layer) => layer.features.as_slice().len(),
         Item::Foreign { .. } => 0,
-    }
-}
-
-/// What stands after one item more, whose payload this is.
-fn after_next<'b>(
-    alloc: Global,
-    payload: &[u8],
-    behind: Option<&'b [u8]>,
-) -> Result<Option<&'b [u8]>, AllocError>
-    ensures { (input front : List ℕ) → IsAfter input front behind.entry
-        → IfOk result (IsAfter input (front ++ short_field LAYERS (in_bytes payload.now))) }
-{
-    match behind {
-        Some(rest) => after_payload(alloc, payload, rest),
-        None => Ok(None),
     }
 }
 

@@ -6,6 +6,7 @@ mod comparing;
 mod encoding;
 mod findings;
 pub mod laws;
+mod layer_noting;
 mod note;
 mod noting;
 pub mod numbers;

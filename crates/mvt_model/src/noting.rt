@@ -44,7 +44,7 @@ fn note_items(alloc: Global, notes: &mut Vec<Note>, items: &[Item]) -> Result<()
     Ok(())
 }
 
-pub(crate) fn note_item(
+fn note_item(
     alloc: Global,
     notes: &mut Vec<Note>,
     index: usize,
@@ -124,7 +124,7 @@ fn note_features(
 }
 
 /// Notes an id that an earlier feature has; the first feature of an id is kept.
-fn note_id(
+pub(crate) fn note_id(
     notes: &mut Vec<Note>,
     ids: &mut BTreeMap<u64, usize>,
     layer: usize,
@@ -162,7 +162,7 @@ fn keep_id(
     Ok(())
 }
 
-fn note_geometry(
+pub(crate) fn note_geometry(
     notes: &mut Vec<Note>,
     layer: usize,
     feature: usize,

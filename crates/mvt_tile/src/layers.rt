@@ -5,7 +5,7 @@ ghost use Rattle.std.specs.List.{AllByRecursion, flat_map, list_any};
 ghost use Rattle.std.specs.Option.{option_to_list};
 ghost use Rattle.mvt_message.specs.Items.{IsItem, names_in};
 ghost use Rattle.mvt_message.specs.ValidItems.{ValidItem};
-ghost use Rattle.mvt_tile.specs.Inner.Judging.{AreNamed, name_fault, payload_fault};
+ghost use Rattle.mvt_tile.specs.Inner.Judging.{AreNamed, name_fault};
 ghost use Rattle.mvt_tile.specs.Inner.Wanting.{IsSetOf};
 ghost use Rattle.mvt_tile.specs.Streams.{ReportsEarly};
 ghost use Rattle.mvt_tile.specs.TileRules.{repeats};
@@ -142,36 +142,6 @@ impl Names {
         }
         self.count += 1;
         Ok(())
-    }
-
-    /// Reads an item, and adds its name.
-    pub(crate) fn read_named(
-        &mut self,
-        alloc: Global,
-        payload: &[u8],
-        payload_at: u64,
-        tag_at: u64,
-    ) -> Result<Item, DecodeError>
-        requires few { self.old.count ≤ LIMIT }
-        requires fits { payload_at + length payload.now ≤ LIMIT }
-        ensures item { IfOk result (IsItem payload.now) }
-        ensures valid { IfOk result ValidItem }
-        ensures named { IfOk result (λ item. (items : List Item)
-            → AreNamed self.old.count self.old.names.keys items
-            → AreNamed self.new.count self.new.names.keys (items ++ item ∷ [])
-            × (repeats (flat_map names_in items) (names_in item) ≡ false)) }
-        ensures fault { IfErr result (λ error. (items : List Item)
-            → AreNamed self.old.count self.old.names.keys items
-            → ReportsEarly error (payload_fault (length items)
-            (flat_map names_in items) payload.now payload_at tag_at)) }
-    {
-        match read_item(alloc, payload, payload_at, tag_at) {
-            Ok(item) => {
-                self.add(name_of(alloc, &item)?, tag_at)?;
-                Ok(item)
-            }
-            Err(error) => Err(in_layer(self.count, error)),
-        }
     }
 }
 

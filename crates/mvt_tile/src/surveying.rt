@@ -1,4 +1,4 @@
-//! Surveying a tile: its items are read one after the other, and none is kept.
+//! Surveying a tile: its items are made canonical one after the other, and none is kept.
 ghost use Rattle.std.specs.Prelude.{◌≡◌, bytes_eq, IfOk, IfErr};
 ghost use Rattle.mvt_message.specs.ValidItems.{ValidItem};
 ghost use Rattle.mvt_model.specs.declared.tile.Tile.{Tile};
@@ -11,15 +11,15 @@ ghost use Rattle.mvt_model.specs.Tiles.{IsTile};
 ghost use Rattle.mvt_model.specs.ValidTiles.{Valid};
 
 use crate::fault::DecodeError;
+use crate::judging::text_of;
 use crate::layers::Names;
 use crate::walking::{ItemVisitor, in_layer, walk_whole};
 use mvt_base::LIMIT;
-use mvt_message::rewrite_item;
 use mvt_model::{Findings, Survey};
 use std::alloc::Global;
 
-/// Surveys a tile. One item is read at a time, compared with the bytes where it stands, and let go:
-/// so what is kept are the names of the layers and the notes.
+/// Surveys a tile. One item is made canonical at a time, feature by feature, compared with the bytes
+/// where it stands, and let go: so what is kept are the names of the layers and the notes.
 ///
 /// # Errors
 ///
@@ -60,7 +60,7 @@ impl<'a> ItemVisitor for Surveyor<'a> {
     ghost has_visited = { λ input s items. AreNamed s.names.count s.names.names.keys items
         × AreFound LIMIT input s.found items × AllByRecursion ValidItem items };
 
-    /// Makes an item canonical, reads it, and keeps its name and what is found of it.
+    /// Keeps what is found of an item, and its name.
     fn visit_item(
         &mut self,
         alloc: Global,
@@ -69,13 +69,12 @@ impl<'a> ItemVisitor for Surveyor<'a> {
         tag_at: u64,
     ) -> Result<(), DecodeError> {
         let index = self.names.count;
-        let mut canonical = Vec::new(alloc);
-        match rewrite_item(alloc, payload, payload_at, tag_at, &mut canonical) {
-            Ok(_) => {}
-            Err(error) => return Err(in_layer(index, error)),
+        match self
+            .found
+            .add(alloc, index as usize, payload, payload_at, tag_at)
+        {
+            Ok(name) => self.names.add(text_of(alloc, name)?, tag_at),
+            Err(error) => Err(in_layer(index, error)),
         }
-        let item = self.names.read_named(alloc, payload, payload_at, tag_at)?;
-        self.found.add(alloc, index as usize, &item, &canonical)?;
-        Ok(())
     }
 }

@@ -1,7 +1,8 @@
 use Rattle.std.proofs.Common.{ap, sym, ◌∙◌, ◌++◌, arith}
 use Rattle.mvt_wire.specs.Spelling.{spelled}
-use Rattle.mvt_message.specs.CanonicalItems.{layer_fields}
-use Rattle.mvt_message.proofs.RewriteLemmas.{canonical_layer, kept_all, past_limit}
+use Rattle.mvt_message.specs.CanonicalItems.{head_fields}
+use Rattle.mvt_message.specs.Rewriting.{tail_of}
+use Rattle.mvt_message.proofs.RewriteLemmas.{layer_rewritten, kept_all, past_limit}
 use Rattle.mvt_message.proofs.layer_writer.LayerWriter.payload.Goals as goal
 
 pub returns-then-len-gt-LIMIT : goal.returns-then-len-gt-LIMIT
@@ -9,5 +10,9 @@ returns-then-len-gt-LIMIT c = λ keys held layer has name extent. past_limit key
 
 pub returns : goal.returns
 returns c = λ keys held layer has name extent.
-    c.in_ok-append_layer.ensures keys held layer (kept_all keys held c.args.self.now layer.features has (omega arith)) (sym name) (sym extent)
-    ∙ ap (λ l. l ++ spelled (layer_fields layer)) c.new-payload.ensures.items ∙ sym (canonical_layer layer)
+    let all = kept_all keys held c.args.self.now layer.features has (omega arith) in
+    let w = c.args.self.now in
+    c.in_ok-append_layer.ensures
+    ∙ ap (λ l. l ++ (spelled (head_fields c.args.name.now) ++ (w.features.items ++ tail_of w.uses c.args.extent))) c.new-payload.ensures.items
+    ∙ sym (layer_rewritten layer c.args.name.now c.args.extent w.uses w.features.items (sym name) (sym extent)
+    all.keys_are all.values_are all.written)

@@ -1,19 +1,27 @@
-use Rattle.std.proofs.Common.{◌+◌, ◌++◌, refl, subst, arith}
-use Rattle.std.proofs.lemmas.Result.{on_ok_weaker}
-use Rattle.mvt_wire.specs.Field.{bytes}
-use Rattle.mvt_wire.specs.Spelling.{short_field}
-use Rattle.mvt_model.specs.Comparing.{IsAfter}
-use Rattle.mvt_model.specs.declared.numbers.tile.TheConstants.{LAYERS}
-use Rattle.mvt_model.proofs.SurveyLemmas.{found_more}
-use Rattle.mvt_model.proofs.WritingLemmas.{written}
+use Rattle.std.proofs.Common.{[], ◌∷◌, refl, ap, sym, subst}
+use Rattle.mvt_message.specs.declared.item.Item.TheVariants.{Layer, Foreign}
+use Rattle.mvt_model.specs.Findings.{AreNoted}
 use Rattle.mvt_model.proofs.findings.Findings.add.Goals as goal
 
-pub returns : goal.returns
-returns c = λ input items found count.
-    let behind = subst (λ d. IsAfter input (written items ++ short_field LAYERS (bytes d)) c.in_ok-self.field-0)
-    c.requires.canonical (c.in_ok-self.ensures input (written items) found.behind) in
-    on_ok_weaker c.note_item.result
-    (λ noted. found_more 67108864 input c.args.self.now
-    (record { features = c.args.self.now.features + c.feature_count.result; behind = c.in_ok-self.field-0; notes = c.note_item.new.notes })
-    items c.args.item.now c.feature_count.result c.args.index found count c.feature_count.ensures (omega arith) refl
-    behind noted) c.note_item.ensures
+pub returns-in_ok-add_layer-in-Ok-Layer-clause-found : goal.returns-in_ok-add_layer-in-Ok-Layer-clause-found
+returns-in_ok-add_layer-in-Ok-Layer-clause-found c = λ input items found count.
+    let start = subst (λ n. AreNoted n c.new-noted.result []) (sym count) c.new-noted.ensures in
+    let (layer, is, valid, name, told, canonical) = rw c.in-Ok-Layer.field-0-is at c.in-Ok-Layer.ensures.item items start in (
+      Layer layer,
+      is,
+      valid,
+      ap (λ n. n ∷ []) name,
+      c.in_ok-add_layer-in-Ok-Layer.ensures input items layer found count
+          (subst (λ n. AreNoted n c.in-Ok-Layer.layer.visitor layer.features) count told) canonical,
+    )
+
+pub returns-in_ok-add_foreign-in-Ok-Foreign-clause-found : goal.returns-in_ok-add_foreign-in-Ok-Foreign-clause-found
+returns-in_ok-add_foreign-in-Ok-Foreign-clause-found c = λ input items found count.
+    let start = subst (λ n. AreNoted n c.new-noted.result []) (sym count) c.new-noted.ensures in
+    let (is, valid) = rw c.in-Ok-Foreign.field-0-is at c.in-Ok-Foreign.ensures.item items start in (
+      Foreign c.in-Ok-Foreign.version c.args.payload.now,
+      is,
+      valid,
+      refl,
+      c.in_ok-add_foreign-in-Ok-Foreign.ensures input items found count,
+    )
