@@ -1,12 +1,16 @@
 -- What a set's look-ups and insertions say of the list of its keys.
-use Rattle.std.proofs.Common.{◌≡◌, ◌≢◌, refl, subst, slice_get, cond, ℕ, zero, suc, ◌<◌, Bool, true, false, List, [], ◌∷◌, ◌++◌, length, get_or, Option, Some, None, Contains, Decides, inl, inr, sym, ap, ◌∙◌, is_some, position, arith}
+use Rattle.std.proofs.Common.{◌≡◌, ◌≢◌, refl, subst, slice_get, cond, ℕ, zero, suc, ◌<◌, Bool, true, false, List, [], ◌∷◌, ◌++◌, length, get_or, Option, Some, None, Result, Ok, Err, Contains, Decides, inl, inr, sym, ap, ◌∙◌, is_some, position, IsErr, IsErrAnd, arith}
 use Rattle.std.specs.List.{list_any}
 use Rattle.std.proofs.lemmas.Bool.{cond_both, false≢true, or_left, or_right, or_cases, false_from_ne_true, cond-false, both_ways}
 use Rattle.std.proofs.lemmas.List.{get_or_default}
 use Rattle.std.proofs.lemmas.List.Elements.{Contains-push_cases}
 use Rattle.std.proofs.lemmas.List.Quantifiers.{all_pairs_push, position-Some}
-use Rattle.std.proofs.lemmas.Option.{slice_get-get_or}
+use Rattle.std.proofs.lemmas.Option.{slice_get-get_or, slice_get_within, get_or_from_slice_get}
 use Rattle.indexmap.specs.IndexSet.{insert_key}
+use Rattle.mvt_base.specs.declared.TheConstants.{LIMIT}
+use Rattle.mvt_attrs.specs.declared.pool_error.PoolError.{PoolError}
+use Rattle.mvt_attrs.specs.declared.pool_error.PoolError.TheVariants.{Memory, Full}
+use Rattle.mvt_attrs.specs.Placed.{IsPlaced}
 use Rattle.mvt_attrs.specs.FirstUse.{AreDistinct}
 use Rattle.mvt_attrs.specs.Inner.Found.{IsPlaceOf}
 
@@ -80,3 +84,50 @@ module _ {A : Type 0} (entries : List A) (new : A) where
       (cond_both (here x) (Some (length entries)) (old x) (IsPlaceOf (entries ++ new ∷ []) x)
       (λ e. last_there entries new ∙ ap Some ((decides x).0 e))
       (λ e. found_still x (old x) (λ same. both_ways (here x) e ((decides x).1 same)) (known x)))
+
+-- an entry is there already, the pool is full, memory ran out, or the entry goes last
+
+pub is_there : {A : Type 0} → (pool : List A) (x : A) (i : ℕ) → slice_get pool i ≡ Some x → IsPlaced pool pool x (Ok i)
+is_there pool x i at =
+    let there : Contains pool x = (i, slice_get_within pool i x at, get_or_from_slice_get pool i x x at) in
+    record {
+      index = at;
+      present = λ _. refl;
+      kept = λ _. refl;
+      added = λ new. absurd (new there);
+      unchanged = tt;
+      full = (λ never. absurd (let clash : Ok i ≡ Err Full = never in cc), λ told. absurd (told.1 there));
+    }
+
+pub is_full : {A : Type 0} → (pool : List A) (x : A) → (Contains pool x → ⊥) → length pool ≡ LIMIT → IsPlaced pool pool x (Err Full)
+is_full pool x new most = record {
+  index = tt;
+  present = λ there. absurd (new there);
+  kept = λ _. refl;
+  added = λ _. tt;
+  unchanged = refl;
+  full = (λ _. (most, new), λ _. refl);
+}
+
+pub is_left : {A : Type 0} → (pool after : List A) (x : A) (r : Result ℕ PoolError) → (Contains pool x → ⊥) → length pool ≢ LIMIT
+    → after ≡ pool → IsErr r × IsErrAnd r (λ e. e ≡ Memory) → IsPlaced pool after x r
+is_left pool after x (Ok i) new room same is = absurd (let clash : false ≡ true = is.0 in cc)
+is_left pool after x (Err e) new room same is = rw (is.1, same) (record {
+  index = tt;
+  present = λ there. absurd (new there);
+  kept = λ _. refl;
+  added = λ _. tt;
+  unchanged = refl;
+  full = (λ told. absurd (let left : Result ℕ PoolError = Err Memory in let clash : left ≡ Err Full = told in cc), λ told. absurd (room told.0));
+})
+
+pub is_last : {A : Type 0} → (pool after : List A) (x : A) (i : ℕ) → (Contains pool x → ⊥) → i ≡ length pool → length pool ≢ LIMIT
+    → after ≡ pool ++ x ∷ [] → IsPlaced pool after x (Ok i)
+is_last pool after x i new at room more = rw (at, more) (record {
+  index = last_there pool x;
+  present = λ _. refl;
+  kept = λ there. absurd (new there);
+  added = λ _. refl;
+  unchanged = tt;
+  full = (λ never. absurd (let clash : Ok (length pool) ≡ Err Full = never in cc), λ told. absurd (room told.0));
+})
