@@ -1,7 +1,7 @@
 #!/usr/bin/env bash
-# Builds mvt_bench and bench/NAME.cc, and runs it: NAME is wire or tile, which want protozero's headers
-# (Debian: libprotozero-dev), geometry, view or hostile. Wants g++. A crate that isn't proved yet is
-# proved first.
+# Builds mvt_bench and bench/NAME.cc, and runs it: NAME is wire or tile, which want protozero's
+# headers (Debian: libprotozero-dev), geometry, view or hostile. Wants g++. A crate that isn't
+# proved yet is proved first.
 set -euo pipefail
 cd "$(dirname "$0")/.."
 name=$1

@@ -32,7 +32,8 @@ inline std::vector<fs::path> in(const fs::path& folder) {
 }
 
 // The tiles of a folder and the folders below it that are accepted, and how many aren't.
-inline std::pair<Tiles, std::size_t> tiles_in(const fs::path& folder, const std::function<bool(const std::string&)>& accepts) {
+inline std::pair<Tiles, std::size_t> tiles_in(
+    const fs::path& folder, const std::function<bool(const std::string&)>& accepts) {
     std::pair<Tiles, std::size_t> found;
     for (const auto& entry : fs::recursive_directory_iterator(folder)) {
         const auto ending = entry.path().extension();
@@ -67,7 +68,8 @@ inline double seconds_of(const Work& work, const Tiles& tiles) {
 inline std::vector<double> best_of(const std::vector<Work>& works, const Tiles& tiles) {
     std::vector<double> seconds(works.size(), 1e9);
     for (int round = 0; round < 9; ++round) {
-        for (std::size_t i = 0; i < works.size(); ++i) seconds[i] = std::min(seconds[i], seconds_of(works[i], tiles));
+        for (std::size_t i = 0; i < works.size(); ++i)
+            seconds[i] = std::min(seconds[i], seconds_of(works[i], tiles));
     }
     return seconds;
 }

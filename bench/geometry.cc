@@ -1,5 +1,5 @@
-// Measures mvt_geometry beside the same work by hand in C++: the integers of a feature are judged by
-// every rule and built into lists of points, in one process.
+// Measures mvt_geometry beside the same work by hand in C++: the integers of a feature are judged
+// by every rule and built into lists of points, in one process.
 //
 //   bench/beside.sh geometry
 //
@@ -11,7 +11,8 @@
 #include <random>
 #include <vector>
 
-extern "C" std::uint64_t mvt_read_geometry(std::uint32_t kind, const std::uint32_t* integers, std::size_t len);
+extern "C" std::uint64_t mvt_read_geometry(
+    std::uint32_t kind, const std::uint32_t* integers, std::size_t len);
 
 struct Point {
     std::int32_t x, y;
@@ -30,7 +31,9 @@ struct Reader {
     std::size_t at = 0;
     std::int64_t x = 0, y = 0;
 
-    static std::int64_t unzig(std::uint32_t n) { return (n >> 1) ^ -static_cast<std::int64_t>(n & 1); }
+    static std::int64_t unzig(std::uint32_t n) {
+        return (n >> 1) ^ -static_cast<std::int64_t>(n & 1);
+    }
 
     bool step(Line& line, bool draws) {
         const auto dx = g[at], dy = g[at + 1];
@@ -85,7 +88,8 @@ static std::uint64_t polygons(const std::vector<std::uint32_t>& integers) {
     std::vector<Polygon> all;
     while (reader.at < integers.size()) {
         Line ring;
-        if (!reader.stroke(ring, 2) || reader.at == integers.size() || integers[reader.at] != 15) return 0;
+        if (!reader.stroke(ring, 2) || reader.at == integers.size() || integers[reader.at] != 15)
+            return 0;
         ++reader.at;
         const auto twice = area(ring);
         if (all.empty() ? twice < 0 : false) return 0;
@@ -98,10 +102,13 @@ static std::uint64_t polygons(const std::vector<std::uint32_t>& integers) {
     return all.size();
 }
 
-static std::uint32_t zig(std::int64_t n) { return static_cast<std::uint32_t>(n >= 0 ? 2 * n : -2 * n - 1); }
+static std::uint32_t zig(std::int64_t n) {
+    return static_cast<std::uint32_t>(n >= 0 ? 2 * n : -2 * n - 1);
+}
 
 // A list of features, each of so many strokes of so many points.
-static void geometry_row(const char* name, std::uint32_t kind, std::size_t features, std::size_t strokes, std::size_t points) {
+static void geometry_row(const char* name, std::uint32_t kind, std::size_t features,
+    std::size_t strokes, std::size_t points) {
     std::mt19937 random{7};
     std::vector<std::vector<std::uint32_t>> all;
     for (std::size_t f = 0; f < features; ++f) {
@@ -113,7 +120,8 @@ static void geometry_row(const char* name, std::uint32_t kind, std::size_t featu
             g.push_back(2 + 8 * static_cast<std::uint32_t>(points - 1));
             for (std::size_t i = 1; i < points; ++i) {
                 // A staircase to the right and down, which for a ring closes with positive area.
-                g.push_back(zig(kind == 3 && i + 1 == points ? -static_cast<std::int64_t>(points) : 1 + random() % 9));
+                g.push_back(zig(kind == 3 && i + 1 == points ? -static_cast<std::int64_t>(points)
+                                                             : 1 + random() % 9));
                 g.push_back(zig(kind == 3 && i + 1 < points ? 0 : 1 + random() % 9));
             }
             if (kind == 3) g.push_back(15);
@@ -134,7 +142,8 @@ static void geometry_row(const char* name, std::uint32_t kind, std::size_t featu
 }
 
 int main() {
-    std::printf("| What | mvt_geometry, ns a point | C++, ns a point | speed |\n|---|---|---|---|\n");
+    std::printf(
+        "| What | mvt_geometry, ns a point | C++, ns a point | speed |\n|---|---|---|---|\n");
     geometry_row("lines of 10,000 points", 2, 200, 1, 10'000);
     geometry_row("lines of 10 points", 2, 100'000, 1, 10);
     geometry_row("100 lines of 10 points a feature", 2, 1'000, 100, 10);

@@ -79,7 +79,8 @@ public:
         put_bytes(payload, 1, name);
     }
 
-    void add(const std::uint64_t* id, const Attributes& attributes, std::uint32_t kind, const std::vector<std::uint32_t>& geometry) {
+    void add(const std::uint64_t* id, const Attributes& attributes, std::uint32_t kind,
+        const std::vector<std::uint32_t>& geometry) {
         std::string feature;
         if (id) put_number(feature, 1, *id);
         std::vector<std::uint32_t> tags;
@@ -103,7 +104,8 @@ public:
 
 // A line of so many points, each to the right of and below the last.
 inline std::vector<std::uint32_t> line(std::mt19937& random, std::uint32_t points) {
-    std::vector<std::uint32_t> integers{9, 1 + static_cast<std::uint32_t>(random() % 8000), 1 + static_cast<std::uint32_t>(random() % 8000), 2 + 8 * (points - 1)};
+    std::vector<std::uint32_t> integers{9, 1 + static_cast<std::uint32_t>(random() % 8000),
+        1 + static_cast<std::uint32_t>(random() % 8000), 2 + 8 * (points - 1)};
     for (std::uint32_t i = 1; i < points; ++i) {
         integers.push_back(2 * (1 + random() % 9));
         integers.push_back(2 * (1 + random() % 9));
@@ -141,7 +143,8 @@ inline std::string many_layers() {
     return tile;
 }
 
-// The payload of a layer of features of 60 bytes or so: an id, four attributes, and a line of 16 points.
+// The payload of a layer of features of 60 bytes or so: an id, four attributes, and a line of 16
+// points.
 inline std::string many_features(std::uint64_t count) {
     std::mt19937 random{2};
     Layer layer{"roads"};
@@ -163,8 +166,10 @@ inline std::string long_texts(std::uint64_t count) {
     Layer layer{"signs"};
     for (std::uint64_t id = 0; id < count; ++id) {
         const Attributes attributes{
-            {"name", text_value("A street whose name has the number " + std::to_string(random() % 20'000))},
-            {"operator", text_value("The road office of the district " + std::to_string(random() % 100))},
+            {"name", text_value("A street whose name has the number "
+                                + std::to_string(random() % 20'000))},
+            {"operator",
+                text_value("The road office of the district " + std::to_string(random() % 100))},
         };
         layer.add(&id, attributes, 1, {9, 50, 34});
     }

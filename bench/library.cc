@@ -1,5 +1,5 @@
-// Measures the library for C over folders of real tiles, beside protozero and the classes that protoc makes,
-// in one process. Tiles that the library refuses are left out for all.
+// Measures the library for C over folders of real tiles, beside protozero and the classes that
+// protoc makes, in one process. Tiles that the library refuses are left out for all.
 //
 //   bench/library.sh FOLDER
 //
@@ -62,16 +62,20 @@ static void row(const folders::fs::path& folder) {
     const double size = folders::bytes_in(tiles);
     const auto seconds = folders::best_of(works, tiles);
     const auto speed = [&](double time) { return size / time / 1e6; };
-    std::printf("| %s | %zu, %zu | %.1f | %.0f | %.0f | %.2f | %.0f | %.0f | %.2f | %.0f | %.0f | %.2f |\n",
-        folder.filename().c_str(), tiles.size(), refused, size / 1e6, speed(seconds[0]), speed(seconds[1]),
-        seconds[1] / seconds[0], speed(seconds[2]), speed(seconds[3]), seconds[3] / seconds[2], speed(seconds[4]),
-        speed(seconds[5]), seconds[5] / seconds[4]);
+    std::printf(
+        "| %s | %zu, %zu | %.1f | %.0f | %.0f | %.2f | %.0f | %.0f | %.2f | %.0f | %.0f | %.2f |\n",
+        folder.filename().c_str(), tiles.size(), refused, size / 1e6, speed(seconds[0]),
+        speed(seconds[1]), seconds[1] / seconds[0], speed(seconds[2]), speed(seconds[3]),
+        seconds[3] / seconds[2], speed(seconds[4]), speed(seconds[5]), seconds[5] / seconds[4]);
     std::fflush(stdout);
 }
 
 int main(int argc, char** argv) {
     if (argc != 2) return 2;
-    std::printf("| Folder | Tiles, refused | MB | `mvt_read`, MB/s | protozero into values | Speed | `mvt_judge` | protozero, judged | Speed | `mvt_rewrite` | protoc, parse and serialize | Speed |\n"
-                "|---|---|---|---|---|---|---|---|---|---|---|---|\n");
+    std::printf(
+        "| Folder | Tiles, refused | MB | `mvt_read`, MB/s | protozero into values | Speed | "
+        "`mvt_judge` | protozero, judged | Speed | `mvt_rewrite` | protoc, parse and serialize | "
+        "Speed |\n"
+        "|---|---|---|---|---|---|---|---|---|---|---|---|\n");
     for (const auto& folder : folders::in(argv[1])) row(folder);
 }

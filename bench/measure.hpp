@@ -15,7 +15,8 @@ inline double best(const std::function<std::uint64_t()>& work, std::uint64_t exp
         const auto answer = work();
         const auto end = std::chrono::steady_clock::now();
         if (answer != expected) {
-            std::printf("the answers differ: %llu and %llu\n", static_cast<unsigned long long>(answer), static_cast<unsigned long long>(expected));
+            std::printf("the answers differ: %llu and %llu\n",
+                static_cast<unsigned long long>(answer), static_cast<unsigned long long>(expected));
             std::exit(1);
         }
         least = std::min(least, std::chrono::duration<double, std::nano>(end - start).count());
@@ -24,7 +25,8 @@ inline double best(const std::function<std::uint64_t()>& work, std::uint64_t exp
 }
 
 // A line of a table: nanoseconds a unit of work, and how many times as fast as the other ours is.
-inline void row(const char* name, std::size_t count, const std::function<std::uint64_t()>& ours, const std::function<std::uint64_t()>& theirs) {
+inline void row(const char* name, std::size_t count, const std::function<std::uint64_t()>& ours,
+    const std::function<std::uint64_t()>& theirs) {
     const auto expected = theirs();
     const double mine = best(ours, expected) / static_cast<double>(count);
     const double other = best(theirs, expected) / static_cast<double>(count);

@@ -1,6 +1,7 @@
 #!/usr/bin/env bash
-# Counts the instructions of write_tile by callgrind, for keys of one hash and for other keys: a row for each
-# number of layers and of keys in each. Wants g++ and valgrind. A crate that isn't proved yet is proved first.
+# Counts the instructions of write_tile by callgrind, for keys of one hash and for other keys: a row
+# for each number of layers and of keys in each. Wants g++ and valgrind. A crate that isn't proved
+# yet is proved first.
 set -euo pipefail
 cd "$(dirname "$0")/.."
 kit=$(dirname "$(rt doc)")
@@ -12,7 +13,8 @@ g++ -std=c++17 -O2 -DNDEBUG -march=x86-64-v2 -o bench/out/one-hash bench/one-has
 count() {
   local times counts=()
   for times in 0 1; do
-    counts+=("$(valgrind --tool=callgrind --callgrind-out-file=/dev/null bench/out/one-hash "$@" $times 2>&1 |
+    counts+=("$(valgrind --tool=callgrind --callgrind-out-file=/dev/null \
+      bench/out/one-hash "$@" $times 2>&1 |
       sed -n 's/.*Collected : //p')")
   done
   echo $((counts[1] - counts[0]))

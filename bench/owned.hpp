@@ -74,7 +74,8 @@ std::vector<std::vector<Point>> lines_of(const Numbers& numbers) {
     return lines;
 }
 
-inline Feature feature_of(protozero::pbf_reader message, const std::vector<std::string>& keys, const std::vector<Value>& values) {
+inline Feature feature_of(protozero::pbf_reader message, const std::vector<std::string>& keys,
+    const std::vector<Value>& values) {
     Feature feature;
     while (message.next()) {
         switch (message.tag()) {
@@ -117,7 +118,8 @@ inline Layer layer_of(protozero::pbf_reader message) {
 
 inline std::vector<Layer> tile_of(const std::string& bytes) {
     std::vector<Layer> layers;
-    for (protozero::pbf_reader message{bytes}; message.next(3);) layers.push_back(layer_of(message.get_message()));
+    for (protozero::pbf_reader message{bytes}; message.next(3);)
+        layers.push_back(layer_of(message.get_message()));
     return layers;
 }
 

@@ -1,6 +1,6 @@
-// Measures reading and writing over folders of real tiles, beside protozero and the classes that protoc
-// makes, in one process. Tiles that mvt_tile refuses are left out for all. What protozero writes is first
-// checked to be the canonical bytes of a tile.
+// Measures reading and writing over folders of real tiles, beside protozero and the classes that
+// protoc makes, in one process. Tiles that mvt_tile refuses are left out for all. What protozero
+// writes is first checked to be the canonical bytes of a tile.
 //
 //   bench/real.sh FOLDER
 //
@@ -18,7 +18,8 @@
 
 extern "C" std::uint64_t mvt_decode(const unsigned char* bytes, std::size_t len, bool keeps);
 extern "C" bool mvt_judge(const unsigned char* bytes, std::size_t len);
-extern "C" std::uint64_t mvt_write(const unsigned char* bytes, std::size_t len, std::uint32_t times);
+extern "C" std::uint64_t mvt_write(
+    const unsigned char* bytes, std::size_t len, std::uint32_t times);
 extern "C" bool mvt_is_canonical(const unsigned char* bytes, std::size_t len);
 
 using folders::bytes_of;
@@ -47,7 +48,8 @@ static std::uint64_t written(const std::string& bytes, int times) {
 // What is measured. Of writing the time with no writing is taken off.
 static constexpr int writes = 8;
 static const std::vector<folders::Work> works{
-    [](const std::string& t) { return mvt_decode(bytes_of(t), t.size(), false); },  // and the tile dropped
+    // And the tile dropped.
+    [](const std::string& t) { return mvt_decode(bytes_of(t), t.size(), false); },
     [](const std::string& t) { return owned::count(owned::tile_of(t)); },
     [](const std::string& t) { return std::uint64_t{mvt_judge(bytes_of(t), t.size())}; },
     [](const std::string& t) { return walk::judge(t); },
@@ -61,7 +63,8 @@ static const std::vector<folders::Work> works{
 };
 
 static void row(const folders::fs::path& folder) {
-    const auto [tiles, refused] = folders::tiles_in(folder, [](const std::string& t) { return mvt_decode(bytes_of(t), t.size(), false) != 0; });
+    const auto [tiles, refused] = folders::tiles_in(
+        folder, [](const std::string& t) { return mvt_decode(bytes_of(t), t.size(), false) != 0; });
     if (tiles.empty()) return;
     for (const auto& tile : tiles) {
         const auto bytes = writing::bytes_of(owned::tile_of(tile));
@@ -71,19 +74,26 @@ static void row(const folders::fs::path& folder) {
     }
     const double size = folders::bytes_in(tiles);
     const auto seconds = folders::best_of(works, tiles);
-    const double ours = (seconds[5] - seconds[6]) / writes, serializing = (seconds[7] - seconds[8]) / writes;
+    const double ours = (seconds[5] - seconds[6]) / writes,
+                 serializing = (seconds[7] - seconds[8]) / writes;
     const double by_hand = (seconds[9] - seconds[10]) / writes;
     const auto speed = [&](double time) { return size / time / 1e6; };
-    std::printf("| %s | %zu, %zu | %.1f | %.0f | %.0f | %.2f | %.0f | %.0f | %.2f | %.0f | %.0f | %.0f | %.2f | %.0f | %.2f |\n",
-        folder.filename().c_str(), tiles.size(), refused, size / 1e6, speed(seconds[0]), speed(seconds[1]),
-        seconds[1] / seconds[0], speed(seconds[2]), speed(seconds[3]), seconds[3] / seconds[2], speed(seconds[4]),
-        speed(ours), speed(serializing), serializing / ours, speed(by_hand), by_hand / ours);
+    std::printf(
+        "| %s | %zu, %zu | %.1f | %.0f | %.0f | %.2f | %.0f | %.0f | %.2f | %.0f | %.0f | %.0f | "
+        "%.2f | %.0f | %.2f |\n",
+        folder.filename().c_str(), tiles.size(), refused, size / 1e6, speed(seconds[0]),
+        speed(seconds[1]), seconds[1] / seconds[0], speed(seconds[2]), speed(seconds[3]),
+        seconds[3] / seconds[2], speed(seconds[4]), speed(ours), speed(serializing),
+        serializing / ours, speed(by_hand), by_hand / ours);
     std::fflush(stdout);
 }
 
 int main(int argc, char** argv) {
     if (argc != 2) return 2;
-    std::printf("| Folder | Tiles, refused | MB | `decode`, MB/s | protozero into values | Speed | `judge` | protozero, judged | Speed | protoc, parse | `write_tile` | protoc, serialize | Speed | protozero, written | Speed |\n"
-                "|---|---|---|---|---|---|---|---|---|---|---|---|---|---|---|\n");
+    std::printf(
+        "| Folder | Tiles, refused | MB | `decode`, MB/s | protozero into values | Speed | `judge` "
+        "| protozero, judged | Speed | protoc, parse | `write_tile` | protoc, serialize | Speed | "
+        "protozero, written | Speed |\n"
+        "|---|---|---|---|---|---|---|---|---|---|---|---|---|---|---|\n");
     for (const auto& folder : folders::in(argv[1])) row(folder);
 }

@@ -35,7 +35,8 @@ inline Run timed(const std::function<std::uint64_t()>& work) {
     const auto end = std::chrono::steady_clock::now();
     rusage usage{};
     getrusage(RUSAGE_SELF, &usage);
-    return {std::chrono::duration<double>(end - start).count(), (usage.ru_maxrss - before) * 1024 / 1e6, answer};
+    return {std::chrono::duration<double>(end - start).count(),
+        (usage.ru_maxrss - before) * 1024 / 1e6, answer};
 }
 
 inline Run run_apart(const std::function<std::uint64_t()>& work) {
@@ -65,15 +66,17 @@ struct Work {
     std::function<std::uint64_t()> run;
 };
 
-// The best time and the largest memory of each work in three rounds over all of them, so that a busy
-// moment doesn't hit one work alone. Each must answer as expected.
+// The best time and the largest memory of each work in three rounds over all of them, so that a
+// busy moment doesn't hit one work alone. Each must answer as expected.
 inline std::vector<Run> best_apart(const std::vector<Work>& works) {
     std::vector<Run> best(works.size(), Run{1e9, 0, 0});
     for (int round = 0; round < 3; ++round) {
         for (std::size_t i = 0; i < works.size(); ++i) {
             const Run run = run_apart(works[i].run);
             if (run.answer != works[i].expected) {
-                std::printf("%s: the answers differ: %llu and %llu\n", works[i].name, static_cast<unsigned long long>(run.answer), static_cast<unsigned long long>(works[i].expected));
+                std::printf("%s: the answers differ: %llu and %llu\n", works[i].name,
+                    static_cast<unsigned long long>(run.answer),
+                    static_cast<unsigned long long>(works[i].expected));
                 std::exit(1);
             }
             best[i].seconds = std::min(best[i].seconds, run.seconds);

@@ -3,9 +3,9 @@
 //
 //   bench/beside.sh tile
 //
-// Each run has a process of its own. Prints the best time of three rounds, and the largest growth of
-// memory, in which the tile's bytes don't count. What is read isn't dropped. A tile is written four
-// times over, after it was read: that is taken off the time, but not off the memory.
+// Each run has a process of its own. Prints the best time of three rounds, and the largest growth
+// of memory, in which the tile's bytes don't count. What is read isn't dropped. A tile is written
+// four times over, after it was read: that is taken off the time, but not off the memory.
 #include "layers.hpp"
 #include "owned.hpp"
 #include "run.hpp"
@@ -17,7 +17,8 @@
 
 extern "C" std::uint64_t mvt_decode(const unsigned char* bytes, std::size_t len, bool keeps);
 extern "C" std::uint64_t mvt_feed(const unsigned char* bytes, std::size_t len, std::size_t piece);
-extern "C" std::uint64_t mvt_write(const unsigned char* bytes, std::size_t len, std::uint32_t times);
+extern "C" std::uint64_t mvt_write(
+    const unsigned char* bytes, std::size_t len, std::uint32_t times);
 extern "C" bool mvt_is_canonical(const unsigned char* bytes, std::size_t len);
 extern "C" std::uint64_t mvt_read_item(const unsigned char* payload, std::size_t len);
 
@@ -39,11 +40,13 @@ static void rows(const char* name, const std::string& tile, std::uint64_t parts)
         {"`feed` of 1 byte", expected, [&] { return mvt_feed(bytes, len, 1); }},
         {"`feed` of 4,096 bytes", expected, [&] { return mvt_feed(bytes, len, 4096); }},
         {"`feed` of all bytes", expected, [&] { return mvt_feed(bytes, len, len); }},
-        {"protozero into values", expected, [&] { return owned::count(*new std::vector<owned::Layer>(owned::tile_of(tile))); }},
+        {"protozero into values", expected,
+            [&] { return owned::count(*new std::vector<owned::Layer>(owned::tile_of(tile))); }},
     };
     auto best = best_apart(works);
     best[1].seconds = (best[1].seconds - best[0].seconds) / times;
-    for (std::size_t i = 0; i < works.size(); ++i) line_of(name, works[i].name, best[i].seconds, best[i].megabytes);
+    for (std::size_t i = 0; i < works.size(); ++i)
+        line_of(name, works[i].name, best[i].seconds, best[i].megabytes);
 }
 
 int main() {
@@ -53,9 +56,11 @@ int main() {
     rows("1,000,000 features", tile_of(many_features(1'000'000)), 1'000'001);
     rows("500,000 features, texts above 30 bytes", tile_of(long_texts(500'000)), 500'001);
     const auto payload = many_features(100'000);
-    const std::vector<Work> works{{"`read_item`", 100'001, [&] {
-        return mvt_read_item(reinterpret_cast<const unsigned char*>(payload.data()), payload.size());
-    }}};
+    const std::vector<Work> works{
+        {"`read_item`", 100'001, [&] {
+             return mvt_read_item(
+                 reinterpret_cast<const unsigned char*>(payload.data()), payload.size());
+         }}};
     const auto best = best_apart(works);
     line_of("100,000 features", works[0].name, best[0].seconds, best[0].megabytes);
 }

@@ -3,8 +3,8 @@
 //   bench/beside.sh view
 //
 // Each run has a process of its own, and reads the tile from its bytes first: that is taken off its
-// time, but not off its memory. A text is made eight times over, a tree once. Prints the best time of
-// three rounds, and the largest growth of memory.
+// time, but not off its memory. A text is made eight times over, a tree once. Prints the best time
+// of three rounds, and the largest growth of memory.
 #include "layers.hpp"
 #include "run.hpp"
 
@@ -14,9 +14,11 @@
 #include <vector>
 
 extern "C" std::uint64_t mvt_decode(const unsigned char* bytes, std::size_t len, bool keeps);
-extern "C" std::uint64_t mvt_json_text(const unsigned char* bytes, std::size_t len, std::uint32_t times);
+extern "C" std::uint64_t mvt_json_text(
+    const unsigned char* bytes, std::size_t len, std::uint32_t times);
 extern "C" std::uint64_t mvt_json_of(const unsigned char* bytes, std::size_t len, bool prints);
-extern "C" std::uint64_t mvt_report_text(const unsigned char* bytes, std::size_t len, std::uint32_t times);
+extern "C" std::uint64_t mvt_report_text(
+    const unsigned char* bytes, std::size_t len, std::uint32_t times);
 
 static constexpr std::uint32_t times = 8;
 
@@ -39,7 +41,8 @@ static void rows(const char* name, const std::string& tile, std::uint64_t parts)
     table_head();
     line_of(name, works[0].name, read, best[0].megabytes);
     for (std::size_t i = 1; i < works.size(); ++i) {
-        line_of(name, works[i].name, (best[i].seconds - read) / (i < 3 ? 1 : times), best[i].megabytes);
+        line_of(
+            name, works[i].name, (best[i].seconds - read) / (i < 3 ? 1 : times), best[i].megabytes);
     }
 }
 

@@ -1,5 +1,5 @@
-// A tile walked by protozero and judged without values: fields, tags within the pools, and each command,
-// position and ring of a geometry. It judges neither UTF-8 nor repeated keys or names.
+// A tile walked by protozero and judged without values: fields, tags within the pools, and each
+// command, position and ring of a geometry. It judges neither UTF-8 nor repeated keys or names.
 #pragma once
 
 #include <protozero/pbf_message.hpp>
@@ -108,7 +108,8 @@ private:
     bool fresh_ = true;
 };
 
-inline void judge_feature(protozero::pbf_reader message, const std::vector<protozero::data_view>& keys, std::size_t values, std::uint64_t& sum) {
+inline void judge_feature(protozero::pbf_reader message,
+    const std::vector<protozero::data_view>& keys, std::size_t values, std::uint64_t& sum) {
     using Numbers = protozero::iterator_range<protozero::pbf_reader::const_uint32_iterator>;
     Numbers tags, geometry;
     std::uint32_t kind = 0;
@@ -149,7 +150,8 @@ inline void judge_layer(protozero::pbf_reader message, std::uint64_t& sum) {
     }
     require(version == 2);
     for (const auto& value : values) judge_value(protozero::pbf_reader{value}, sum);
-    for (const auto& feature : features) judge_feature(protozero::pbf_reader{feature}, keys, values.size(), sum);
+    for (const auto& feature : features)
+        judge_feature(protozero::pbf_reader{feature}, keys, values.size(), sum);
 }
 
 // A sum over what was read, so that nothing is left out. Throws for bytes that break a rule.

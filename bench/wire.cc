@@ -64,7 +64,9 @@ static void packed_row(const char* name, const std::vector<std::uint32_t>& numbe
     put_varint(framed, 4 * 8 + 2);
     put_varint(framed, content.size());
     framed += content;
-    row(name, numbers.size(), [&] { return mvt_read_packed(start(content), content.size()); }, [&] { return protozero_packed(framed); });
+    row(
+        name, numbers.size(), [&] { return mvt_read_packed(start(content), content.size()); },
+        [&] { return protozero_packed(framed); });
 }
 
 int main() {
@@ -87,7 +89,10 @@ int main() {
         put_varint(two_bytes, 4 * 8);
         put_varint(two_bytes, random() % 128);
         switch (random() % 4) {
-            case 0: put_varint(mixed_fields, 1 * 8); put_varint(mixed_fields, random() >> (random() % 64)); break;
+            case 0:
+                put_varint(mixed_fields, 1 * 8);
+                put_varint(mixed_fields, random() >> (random() % 64));
+                break;
             case 1: put_varint(mixed_fields, 2 * 8 + 5); mixed_fields.append(4, 'x'); break;
             case 2: put_varint(mixed_fields, 3 * 8 + 1); mixed_fields.append(8, 'y'); break;
             default: {
@@ -99,7 +104,9 @@ int main() {
         }
     }
     const auto fields_row = [&](const char* name, const std::string& bytes) {
-        row(name, count, [&] { return mvt_walk_fields(start(bytes), bytes.size()); }, [&] { return protozero_walk(bytes); });
+        row(
+            name, count, [&] { return mvt_walk_fields(start(bytes), bytes.size()); },
+            [&] { return protozero_walk(bytes); });
     };
     fields_row("fields of two bytes", two_bytes);
     fields_row("fields of all wire types", mixed_fields);

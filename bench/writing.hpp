@@ -1,5 +1,5 @@
-// A tile of `owned.hpp` written by protozero: the pools of a layer are unordered maps over the tile's own
-// texts and values, and messages and packed numbers are written in place.
+// A tile of `owned.hpp` written by protozero: the pools of a layer are unordered maps over the
+// tile's own texts and values, and messages and packed numbers are written in place.
 #pragma once
 
 #include "owned.hpp"
@@ -21,7 +21,8 @@ struct ValueHash {
     std::size_t operator()(const owned::Value* value) const {
         const auto hash = std::visit([](const auto& held) {
             using Held = std::decay_t<decltype(held)>;
-            if constexpr (std::is_same_v<Held, owned::Sint>) return std::hash<std::int64_t>{}(held.number);
+            if constexpr (std::is_same_v<Held, owned::Sint>)
+                return std::hash<std::int64_t>{}(held.number);
             else return std::hash<Held>{}(held);
         }, *value);
         return hash * 31 + value->index();
@@ -33,7 +34,8 @@ struct ValueEqual {
         if (one->index() != other->index()) return false;
         return std::visit([&](const auto& held) {
             using Held = std::decay_t<decltype(held)>;
-            if constexpr (std::is_same_v<Held, owned::Sint>) return held.number == std::get<Held>(*other).number;
+            if constexpr (std::is_same_v<Held, owned::Sint>)
+                return held.number == std::get<Held>(*other).number;
             else return held == std::get<Held>(*other);
         }, *one);
     }
@@ -46,7 +48,8 @@ struct Pool {
     std::vector<Key> entries;
 
     std::uint32_t place(const Key& key) {
-        const auto [found, is_new] = places.try_emplace(key, static_cast<std::uint32_t>(entries.size()));
+        const auto [found, is_new] =
+            places.try_emplace(key, static_cast<std::uint32_t>(entries.size()));
         if (is_new) entries.push_back(key);
         return found->second;
     }
@@ -85,7 +88,8 @@ inline void put_geometry(protozero::pbf_writer& feature, const owned::Feature& f
     }
 }
 
-inline void put_feature(protozero::pbf_writer out, const owned::Feature& feature, Keys& keys, Values& values) {
+inline void put_feature(
+    protozero::pbf_writer out, const owned::Feature& feature, Keys& keys, Values& values) {
     if (feature.id) out.add_uint64(1, *feature.id);
     if (!feature.attributes.empty()) {
         protozero::packed_field_uint32 tags{out, 2};

@@ -30,7 +30,8 @@ pub enum EntryIndex<T: Entry> {
 /// Where an entry stands, or can be noted.
 pub(crate) fn find<T: Entry>(entry_index: &EntryIndex<T>, entries: &[T], entry: &T) -> Lookup
     requires { Knows T.cmp T.hash_input entry_index.now entries.now }
-    ensures { IsLookupOf entries.now entry.now (IsRoomFor T.hash_input entry_index.now entry.now) result }
+    ensures { IsLookupOf entries.now entry.now
+        (IsRoomFor T.hash_input entry_index.now entry.now) result }
 {
     let place = match entry_index {
         EntryIndex::Plain => search(entries, entry),

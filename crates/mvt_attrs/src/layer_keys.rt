@@ -42,7 +42,8 @@ impl<'k> Model for LayerKeys<'k> {
 
     ghost view = { λ k. k.texts.now };
 
-    ghost invariant = { λ k. OnTrue k.is_grouped (IsReady k.texts.now k.places.items k.marks.items k.turn) };
+    ghost invariant = { λ k. OnTrue k.is_grouped
+        (IsReady k.texts.now k.places.items k.marks.items k.turn) };
 }
 
 impl<'k> LayerKeys<'k> {

@@ -30,7 +30,8 @@ pub(crate) fn find_two_choices<T: Entry>(
     entry: &T,
 ) -> Lookup
     requires { IsTwoChoices T.cmp T.hash_input two_choices.now entries.now }
-    ensures { IsLookupOf entries.now entry.now (IsFreeFor T.hash_input two_choices.now entry.now) result }
+    ensures { IsLookupOf entries.now entry.now
+        (IsFreeFor T.hash_input two_choices.now entry.now) result }
 {
     let slots = two_choices.slots.as_slice();
     let mut state = FoldHasher::default();
@@ -46,9 +47,10 @@ pub(crate) fn find_two_choices<T: Entry>(
 fn find_second<T: Entry>(two_choices: &TwoChoices<T>, entries: &[T], entry: &T) -> Lookup
     requires known { IsTwoChoices T.cmp T.hash_input two_choices.now entries.now }
     requires first { IsReportedBy two_choices.now.slots.items
-        (first_slot T.hash_input (length two_choices.now.slots.items) entry.now) entries.now entry.now
-        None }
-    ensures { IsLookupOf entries.now entry.now (IsFreeFor T.hash_input two_choices.now entry.now) result }
+        (first_slot T.hash_input (length two_choices.now.slots.items) entry.now)
+        entries.now entry.now None }
+    ensures { IsLookupOf entries.now entry.now
+        (IsFreeFor T.hash_input two_choices.now entry.now) result }
 {
     let slots = two_choices.slots.as_slice();
     let mut state = DefaultHasher::new();

@@ -6,8 +6,8 @@ use std::marker::Model;
 /// The most bytes of a text that is kept in place.
 pub(crate) const MOST_INLINE: usize = 14;
 
-/// A text of at most `MOST_INLINE` bytes: the front of an array, and zeros after it, so that two texts
-/// are compared as texts of one length that the compiler knows.
+/// A text of at most `MOST_INLINE` bytes: the front of an array, and zeros after it, so that two
+/// texts are compared as texts of one length that the compiler knows.
 #[derive(Drop)]
 pub(crate) struct Inline {
     len: u8,

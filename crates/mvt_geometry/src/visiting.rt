@@ -23,8 +23,8 @@ use crate::shape::{Kind, Point};
 use mvt_wire::unzigzag32;
 use std::alloc::AllocError;
 
-/// What is told a geometry: each point of a part, and then the part's end. A part is a line, a ring,
-/// or all points of a feature of points (Mapbox Vector Tile Specification 2.1, 4.3.4).
+/// What is told a geometry: each point of a part, and then the part's end. A part is a line, a
+/// ring, or all points of a feature of points (Mapbox Vector Tile Specification 2.1, 4.3.4).
 pub trait GeometryVisitor: Drop {
     // Since it was in the first state it was told these parts, and these points of one to come.
     ghost has_parts: { Self → List Part → List Point → Self → Type 0 };
@@ -156,8 +156,8 @@ struct Line<'a> {
     behind: &'a [u32],
 }
 
-/// Tells the points of the line in front of the integers: one pair after a MoveTo, and those after a
-/// LineTo.
+/// Tells the points of the line in front of the integers: one pair after a MoveTo, and those after
+/// a LineTo.
 #[inline(always)]
 fn draw_line<'a, V: GeometryVisitor>(
     visitor: &mut V,

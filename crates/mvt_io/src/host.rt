@@ -89,7 +89,11 @@ impl<T: Read> Source for Host<T> {
 }
 
 impl<T: Write> Sink for Host<T> {
-    ghost state = { λ h. record { taken = T.contents h.inner; flushes = h.flushes; faults = h.faults } };
+    ghost state = { λ h. record {
+      taken = T.contents h.inner;
+      flushes = h.flushes;
+      faults = h.faults;
+    } };
 
     fn write(&mut self, piece: &[u8]) -> Result<usize, ErrorKind> {
         match self.inner.write(piece) {

@@ -15,7 +15,8 @@ use std::marker::Model;
 /// write on.
 ///
 /// ```
-/// let mut writer = MemorySink::new(alloc, 5, 2, u64::MAX, false)?; // two bytes a write, five in all
+/// // Two bytes a write, five in all.
+/// let mut writer = MemorySink::new(alloc, 5, 2, u64::MAX, false)?;
 /// ```
 #[derive(Drop)]
 pub struct MemorySink {

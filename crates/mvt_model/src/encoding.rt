@@ -17,9 +17,9 @@ use std::alloc::{AllocError, Global};
 
 /// The canonical bytes of a tile.
 ///
-/// An attribute's texts are compared with those of its layer, each time as far as they are alike: so
-/// long texts that many features name, and that differ at their ends, cost their length for each of
-/// them. Bytes are made canonical without that, by `rewrite` of mvt_tile.
+/// An attribute's texts are compared with those of its layer, each time as far as they are alike:
+/// so long texts that many features name, and that differ at their ends, cost their length for each
+/// of them. Bytes are made canonical without that, by `rewrite` of mvt_tile.
 ///
 /// # Errors
 ///

@@ -30,7 +30,10 @@ impl<'a> Model for Fields<'a> {
 
     ghost Value = { Ahead };
 
-    ghost view = { λ s. record { source = s.source; to_come = split_from s.at (drop s.at s.source.now) } };
+    ghost view = { λ s. record {
+      source = s.source;
+      to_come = split_from s.at (drop s.at s.source.now);
+    } };
 
     ghost invariant = { λ s. s.at ≤ length s.source.now };
 }
