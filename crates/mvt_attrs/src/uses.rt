@@ -13,6 +13,9 @@ use crate::value::Value;
 use mvt_base::{LIMIT, Text};
 use std::alloc::{AllocError, Global};
 
+/// How many entries there is room for once there is one: the lists of a small layer never grow.
+const FIRST_ROOM: usize = 16;
+
 /// The entries of a layer, and which of them its features use.
 ///
 /// Entries are compared when they are added, each once. From then on an entry is known by its
@@ -71,7 +74,7 @@ impl<T: Entry> Uses<T> {
             Err(_) => return Err(AllocError),
         };
         add_mark(&mut self.marks, self.distinct.len())?;
-        self.places.push(place)?;
+        push_in_room(&mut self.places, place)?;
         Ok(())
     }
 
@@ -126,12 +129,22 @@ impl<T: Entry> Uses<T> {
         }
         let alloc = *self.used.allocator();
         match self.distinct.entry(place) {
-            Some(entry) => self.used.push(entry.copied(alloc)?)?,
+            Some(entry) => push_in_room(&mut self.used, entry.copied(alloc)?)?,
             None => return Err(AllocError),
         }
         self.marks[place as usize] = index as u32 + 1;
         Ok(index as u32)
     }
+}
+
+/// Adds an item after the others; the first takes room for those of a small layer.
+#[inline(always)]
+fn push_in_room<T: Drop>(items: &mut Vec<T>, item: T) -> Result<(), AllocError>
+    ensures { OnOk result (items.new.items ≡ items.old.items ++ item ∷ []) }
+{
+    items.reserve(if items.is_empty() { FIRST_ROOM } else { 1 })?;
+    items.push_reserved(item);
+    Ok(())
 }
 
 /// Adds a mark of no use, where fewer than `count` places have one.
@@ -141,7 +154,7 @@ fn add_mark(marks: &mut Vec<u32>, count: usize) -> Result<(), AllocError>
     ensures same { count ≤ length marks.old.items → marks.new.items ≡ marks.old.items }
 {
     if marks.len() < count {
-        marks.push(0)?;
+        push_in_room(marks, 0)?;
     }
     Ok(())
 }

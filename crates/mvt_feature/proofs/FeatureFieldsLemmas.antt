@@ -20,7 +20,7 @@ use Rattle.mvt_feature.specs.FeatureRules.{numbers_of, joined, kind_in, feature_
 use Rattle.mvt_feature.specs.Selection.{only, last_only}
 use Rattle.mvt_feature.specs.Inner.{id_after, kind_after, numbers_at, AreFeatureFields, AreFeatureFieldsSoFar}
 
-joined_more : (k : ℕ) (xs : List Entry) (x : Entry) → joined k (xs ++ x ∷ []) ≡ joined k xs ++ numbers_at k x.number x.content
+pub joined_more : (k : ℕ) (xs : List Entry) (x : Entry) → joined k (xs ++ x ∷ []) ≡ joined k xs ++ numbers_at k x.number x.content
 joined_more k xs x =
     ap (flat_map (λ (y : Entry). numbers_of y.content)) (filter-append (λ (y : Entry). y.number == k) xs (x ∷ []))
     ∙ flat_map-append (λ (y : Entry). numbers_of y.content) (only k xs) (only k (x ∷ []))

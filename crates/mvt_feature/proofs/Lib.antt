@@ -9,6 +9,7 @@ mod FeatureLemmas
 mod OrFaultLemmas
 mod WritingLemmas
 mod RewritingLemmas
+mod CopyingLemmas
 mod CanonicalLemmas
 mod ValidLemmas
 mod RangeLemmas

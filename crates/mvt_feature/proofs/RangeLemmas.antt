@@ -22,12 +22,12 @@ use Rattle.mvt_feature.specs.Valid.{ValidValue, ValidAttribute, ValidFeature}
 use Rattle.mvt_feature.specs.Forms.{string, HasForm}
 use Rattle.mvt_feature.specs.Values.{Means, IsValueOf}
 
-bytes_front : (xs ys : List ℕ) → AreBytes (xs ++ ys) → AreBytes xs
+pub bytes_front : (xs ys : List ℕ) → AreBytes (xs ++ ys) → AreBytes xs
 bytes_front [] ys h k = lit< tt
 bytes_front (x ∷ xs) ys h zero = h zero
 bytes_front (x ∷ xs) ys h (suc k) = bytes_front xs ys (λ i. h (suc i)) k
 
-bytes_back : (xs ys : List ℕ) → AreBytes (xs ++ ys) → AreBytes ys
+pub bytes_back : (xs ys : List ℕ) → AreBytes (xs ++ ys) → AreBytes ys
 bytes_back [] ys h = h
 bytes_back (x ∷ xs) ys h = bytes_back xs ys (λ i. h (suc i))
 

@@ -50,10 +50,13 @@ type_number kinds.Point = 1
 type_number kinds.LineString = 2
 type_number kinds.Polygon = 3
 
+-- the type
+abbrev pub type_fields : Kind → List Plain
+type_fields kind = plain TYPE (varint (type_number kind)) ∷ []
+
 -- the type, and the integers packed in one piece
 abbrev pub drawing_fields : Kind → List ℕ → List Plain
-drawing_fields kind integers =
-    plain TYPE (varint (type_number kind)) ∷ (plain GEOMETRY (bytes (short_numbers integers)) ∷ [])
+drawing_fields kind integers = type_fields kind ++ plain GEOMETRY (bytes (short_numbers integers)) ∷ []
 
 -- the fields of a feature with these tags
 abbrev pub feature_fields : List ℕ → Feature → List Plain

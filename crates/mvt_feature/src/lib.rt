@@ -4,6 +4,7 @@
 
 mod bound;
 mod cause;
+mod copying;
 mod feature;
 mod feature_fields;
 pub mod laws;

@@ -15,6 +15,7 @@ ghost use Rattle.mvt_feature.specs.FeatureRules.{feature_fault};
 ghost use Rattle.mvt_feature.specs.Inner.{AreOf};
 ghost use Rattle.mvt_feature.specs.Rewriting.{IsRewritten};
 
+use crate::copying::append_copied;
 use crate::feature_fields::FeatureFields;
 use crate::message_error::MessageError;
 use crate::reading::judge_known;
@@ -22,7 +23,6 @@ use crate::scratch::Scratch;
 use crate::writing::append_fields;
 use mvt_attrs::{LayerKeys, LayerUses};
 use mvt_geometry::{Geometry, append_geometry, kind_of};
-use mvt_wire::PackedNumbers;
 use std::alloc::{AllocError, Global};
 
 /// Judges the payload of a feature, and appends the canonical one, in a layer with these keys and
@@ -57,7 +57,7 @@ pub fn rewrite_feature(
 {
     let values = uses.values.len();
     let known = judge_known(alloc, payload, payload_at, keys, values, scratch)?;
-    append_judged(&known, uses, scratch, out)?;
+    append_judged(payload, &known, uses, scratch, out)?;
     Ok(known)
 }
 
@@ -91,15 +91,17 @@ pub fn append_tagged_feature(
     append_fields(out, id, &scratch.last, kind_of(geometry), &scratch.drawing)
 }
 
-/// Appends the canonical payload of a feature that was judged.
+/// Appends the canonical payload of the feature that a payload was judged to be.
 fn append_judged(
+    payload: &[u8],
     known: &FeatureFields,
     uses: &mut LayerUses,
     scratch: &mut Scratch,
     out: &mut Vec<u8>,
 ) -> Result<(), AllocError>
     ensures rewritten { (keys : List (List ℕ)) (held : List Value) (f : Feature)
-        → HasUses uses.old keys held → AreOf keys held known.now scratch.old f
+        → HasUses uses.old keys held → IsFeatureOf payload.now keys held f
+        → AreOf keys held known.now scratch.old f
         → OnOk result (IsRewritten f uses.old uses.new out.old.items out.new.items) }
     ensures uses { (keys : List (List ℕ)) (held : List Value) (f : Feature)
         → HasUses uses.old keys held → AreOf keys held known.now scratch.old f
@@ -107,17 +109,14 @@ fn append_judged(
     ensures integers { scratch.new.integers.items ≡ scratch.old.integers.items }
 {
     scratch.last.clear();
-    scratch.drawing.clear();
+    scratch.last.reserve(scratch.tags.len())?;
     uses.append_used(&scratch.tags, &mut scratch.last)?;
-    push_all(&mut scratch.drawing, &scratch.integers)?;
-    append_fields(out, known.id, &scratch.last, known.kind, &scratch.drawing)
-}
-
-fn push_all(packed: &mut PackedNumbers, numbers: &[u32]) -> Result<(), AllocError>
-    ensures { OnOk result (packed.new ≡ packed.old ++ numbers.now) }
-{
-    for number in numbers {
-        packed.push(*number)?;
-    }
-    Ok(())
+    append_copied(
+        out,
+        payload,
+        known.id,
+        &scratch.last,
+        known.kind,
+        &scratch.integers,
+    )
 }

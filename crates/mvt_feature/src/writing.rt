@@ -7,7 +7,7 @@ ghost use Rattle.mvt_attrs.specs.Tags.{Names};
 ghost use Rattle.mvt_attrs.specs.TagPlaces.{tags_in};
 ghost use Rattle.mvt_geometry.specs.Valid.{IsValid};
 ghost use Rattle.mvt_wire.specs.Spelling.{spelled};
-ghost use Rattle.mvt_feature.specs.Canonical.{value_fields, id_fields, tags_fields, drawing_fields, feature_fields, type_number as the_type_number};
+ghost use Rattle.mvt_feature.specs.Canonical.{value_fields, id_fields, tags_fields, type_fields, drawing_fields, feature_fields, type_number as the_type_number};
 
 use crate::feature::Feature;
 use crate::numbers::{feature, value};
@@ -125,9 +125,24 @@ pub(crate) fn append_fields(
         ++ spelled (id_fields id ++ (tags_fields tags.now ++ drawing_fields kind integers.now))) }
     ensures left { OnErr result (Extends out.old.items out.new.items) }
 {
+    append_front(out, id, tags, kind)?;
+    put_field(out, feature::GEOMETRY, &Payload::Len(integers.as_bytes()))
+}
+
+/// Appends what stands before the integers of a feature: its id, its tags and its type.
+pub(crate) fn append_front(
+    out: &mut Vec<u8>,
+    id: Option<u64>,
+    tags: &[u32],
+    kind: Kind,
+) -> Result<(), AllocError>
+    ensures ok { OnOk result (out.new.items ≡ out.old.items
+        ++ spelled (id_fields id ++ (tags_fields tags.now ++ type_fields kind))) }
+    ensures left { OnErr result (Extends out.old.items out.new.items) }
+{
     append_id(out, id)?;
     append_tags_field(out, tags)?;
-    append_drawing(out, kind, integers)
+    put_field(out, feature::TYPE, &Payload::Varint(type_number(kind)))
 }
 
 fn append_id(out: &mut Vec<u8>, id: Option<u64>) -> Result<(), AllocError>
@@ -148,15 +163,6 @@ fn append_tags_field(out: &mut Vec<u8>, tags: &[u32]) -> Result<(), AllocError>
         return Ok(());
     }
     put_packed(out, feature::TAGS, tags)
-}
-
-fn append_drawing(out: &mut Vec<u8>, kind: Kind, integers: &PackedNumbers) -> Result<(), AllocError>
-    ensures ok { OnOk result (out.new.items ≡ out.old.items ++ spelled
-        (drawing_fields kind integers.now)) }
-    ensures left { OnErr result (Extends out.old.items out.new.items) }
-{
-    put_field(out, feature::TYPE, &Payload::Varint(type_number(kind)))?;
-    put_field(out, feature::GEOMETRY, &Payload::Len(integers.as_bytes()))
 }
 
 fn type_number(kind: Kind) -> u64

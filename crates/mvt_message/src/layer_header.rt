@@ -1,6 +1,6 @@
 //! The fields of a layer besides the contents of its values and features (Mapbox Vector Tile
 //! Specification 2.1, 4.1).
-ghost use Rattle.std.specs.Prelude.{◌≡◌, ◌^◌, ◌<◌, ◌++◌, [], None, IfErr, OnOk};
+ghost use Rattle.std.specs.Prelude.{◌≡◌, ◌^◌, ◌<◌, [], ◌∷◌, ◌++◌, None, IfErr, OnOk};
 ghost use Rattle.std.specs.Option.{option_map, option_copied};
 ghost use Rattle.mvt_base.specs.Reports.{Reports};
 ghost use Rattle.mvt_base.specs.Rules.{first};
@@ -14,7 +14,10 @@ use crate::payload::{check_bytes, text_of, uint32_of};
 use mvt_base::Text;
 use mvt_feature::MessageError;
 use mvt_wire::Field;
-use std::alloc::Global;
+use std::alloc::{AllocError, Global};
+
+/// How many keys there is room for once there is one.
+const FIRST_KEYS: usize = 16;
 
 /// What the fields so far say.
 #[derive(Drop)]
@@ -77,9 +80,10 @@ impl<'a> LayerHeader<'a> {
                 check_bytes(payload, at)?;
                 self.features += 1;
             }
-            layer::KEYS => self
-                .keys
-                .push(Text::from_str(alloc, text_of(payload, at)?)?)?,
+            layer::KEYS => {
+                let key = Text::from_str(alloc, text_of(payload, at)?)?;
+                add_key(&mut self.keys, key)?;
+            }
             layer::VALUES => check_bytes(payload, at)?,
             layer::EXTENT => self.extent = uint32_of(payload, at)?,
             layer::VERSION => self.version = Some(uint32_of(payload, at)?),
@@ -87,4 +91,14 @@ impl<'a> LayerHeader<'a> {
         }
         Ok(())
     }
+}
+
+/// Adds a key; the first takes room for those of a small layer.
+#[inline(always)]
+fn add_key(keys: &mut Vec<Text>, key: Text) -> Result<(), AllocError>
+    ensures { OnOk result (keys.new.items ≡ keys.old.items ++ key ∷ []) }
+{
+    keys.reserve(if keys.is_empty() { FIRST_KEYS } else { 1 })?;
+    keys.push_reserved(key);
+    Ok(())
 }

@@ -124,7 +124,7 @@ pub fn rewrite_parts<'a, V: RewriteVisitor>(
         (item_fault payload.now payload_at tag_at)) }
 {
     let mut rewriter = LayerRewriter {
-        writer: LayerWriter::new(alloc),
+        writer: LayerWriter::with_room(alloc, payload.len())?,
         visitor,
     };
     match visit_layer(alloc, &mut rewriter, payload, payload_at, tag_at) {

@@ -9,7 +9,7 @@ ghost use Rattle.mvt_message.specs.declared.item.Layer.{Layer};
 ghost use Rattle.mvt_message.specs.CanonicalItems.{head_fields};
 ghost use Rattle.mvt_message.specs.Rewriting.{HasGathered, HasWritten, HasWrittenUpTo, IsPayloadOf, tail_of};
 
-use crate::layer_writing::{put_extent, put_head, put_keys, put_values};
+use crate::layer_writing::{FEATURE_ROOM, put_extent, put_head, put_keys, put_values};
 use crate::numbers::layer;
 use mvt_attrs::{LayerUses, Value};
 use mvt_base::{LIMIT, Text};
@@ -17,6 +17,9 @@ use mvt_feature::{Scratch, append_tagged_feature};
 use mvt_geometry::Geometry;
 use mvt_wire::{Payload, put_field};
 use std::alloc::{AllocError, Global};
+
+/// The most bytes that a list of features has room for at first.
+const MOST_ROOM: usize = 1 << 16;
 
 /// Writes a layer feature by feature: first come its values and its keys, which tags name by their
 /// indices.
@@ -52,6 +55,21 @@ impl LayerWriter {
             payload: Vec::new(alloc),
             features: Vec::new(alloc),
         }
+    }
+
+    /// The same with room for the features of a payload of so many bytes, of which a small one is
+    /// written without a growth.
+    ///
+    /// # Errors
+    ///
+    /// When memory runs out.
+    pub(crate) fn with_room(alloc: Global, bytes: usize) -> Result<Self, AllocError>
+        ensures { IfOk result (λ writer. HasGathered writer []) }
+    {
+        let mut writer = LayerWriter::new(alloc);
+        writer.payload.reserve(bytes.min(FEATURE_ROOM))?;
+        writer.features.reserve(bytes.min(MOST_ROOM))?;
+        Ok(writer)
     }
 
     /// Adds values of the layer, before its keys.

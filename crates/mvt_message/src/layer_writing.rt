@@ -15,7 +15,7 @@ use mvt_wire::{Payload, put_field, put_field_head};
 use std::alloc::{AllocError, Global};
 
 /// How many bytes a feature's payload has room for at first: a small one never grows.
-const FEATURE_ROOM: usize = 256;
+pub(crate) const FEATURE_ROOM: usize = 256;
 
 /// Appends the version and the name.
 pub(crate) fn put_head(out: &mut Vec<u8>, name: &str) -> Result<(), AllocError>

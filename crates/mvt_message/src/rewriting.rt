@@ -42,6 +42,7 @@ pub fn rewrite_item<'a>(
 {
     match rewrite_parts(alloc, Untold, payload, payload_at, tag_at) {
         Ok(Rewritten::Layer(layer)) => {
+            out.reserve(payload.len())?;
             layer.writer.append_layer(out, layer.name, layer.extent)?;
             Ok(Some(layer.name))
         }

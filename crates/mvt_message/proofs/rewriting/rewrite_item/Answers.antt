@@ -1,4 +1,4 @@
-use Rattle.std.proofs.Common.{◌++◌, ◌∷◌, [], refl, ap, sym, ◌∙◌}
+use Rattle.std.proofs.Common.{◌++◌, ◌∷◌, [], refl, ap, ap₂, sym, ◌∙◌}
 use Rattle.mvt_message.specs.declared.item.Item.TheVariants as items
 use Rattle.mvt_message.proofs.RewriteLemmas.{canonical_foreign}
 use Rattle.mvt_message.proofs.rewriting.rewrite_item.Goals as goal
@@ -10,7 +10,7 @@ returns-in_ok-append_layer-in-Ok-Layer-clause-item c =
       is,
       valid,
       ap (λ n. n ∷ []) name,
-      c.in_ok-append_layer-in-Ok-Layer.ensures ∙ ap (λ b. c.args.out.now.items ++ b) (sym canonical),
+      c.in_ok-append_layer-in-Ok-Layer.ensures ∙ ap₂ (λ o b. o ++ b) c.reserve.ensures.items (sym canonical),
     )
 
 pub returns-in_ok-extend_from_slice-in-Ok-Foreign-clause-item : goal.returns-in_ok-extend_from_slice-in-Ok-Foreign-clause-item

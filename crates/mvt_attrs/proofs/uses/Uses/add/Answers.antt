@@ -11,4 +11,4 @@ returns-clause-uses g c = λ entries uses.
     (grown g.T.PartialEq.eq g.met.T.Entry.identical old c.place.new.self c.args.entry.now e.kept e.added)
     c.len.ensures.distinct e.index
     (λ lt. c.in_ok-add_mark.ensures.new (omega (arith, lt, c.len.ensures.len)))
-    (λ le. c.in_ok-add_mark.ensures.same (omega (arith, le, c.len.ensures.len))) c.in_ok-push.ensures.items
+    (λ le. c.in_ok-add_mark.ensures.same (omega (arith, le, c.len.ensures.len))) c.in_ok-push_in_room.ensures

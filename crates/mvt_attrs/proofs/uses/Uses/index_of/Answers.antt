@@ -28,8 +28,8 @@ returns-clause-uses g c = λ entries uses.
     let mark = read_at _ d.marks.items c.in-Some.place.now c.in-Some-get.mark.now c.deref-2.ensures.value c.in-Some-get.ensures.lookup.1 in
     used_more d.distinct d.places.items d.marks.items d.used.items entries uses c.args.entry c.in-Some.place.now
     (omega (arith, c.in-Some.ensures.lookup.3.0, ap length c.deref.ensures.value, uses.count)) place c.in-Some-get.mark.now mark c.in_ok-copied-in-Some-entry.field-0 c.len-index.result
-    c.push.new.self.items (ap Some c.in_ok-copied-in-Some-entry.ensures ∙ c.in-Some-entry.ensures) c.if-mark-ne0.false
-    (omega (arith, c.len-index.ensures, d.used.ok.0)) c.in_ok-push-in-Some-entry.ensures.items
+    c.push_in_room.new.items.items (ap Some c.in_ok-copied-in-Some-entry.ensures ∙ c.in-Some-entry.ensures) c.if-mark-ne0.false
+    (omega (arith, c.len-index.ensures, d.used.ok.0)) c.in_ok-push_in_room-in-Some-entry.ensures
 
 pub returns-clause-index : goal.returns-clause-index
 returns-clause-index g c = λ entries x uses at.
@@ -37,8 +37,8 @@ returns-clause-index g c = λ entries x uses at.
     let place = read_at _ d.places.items c.args.entry c.in-Some.place.now c.deref.ensures.value c.in-Some.ensures.lookup.1 in
     let here = place_stands d.distinct d.places.items d.marks.items d.used.items entries uses c.args.entry c.in-Some.place.now
     (slice_get_within entries c.args.entry x at) place x at in
-    used_last d.used.items c.push.new.self.items c.in_ok-copied-in-Some-entry.field-0 x c.len-index.result
-    (omega (arith, c.len-index.ensures, d.used.ok.0)) c.in_ok-push-in-Some-entry.ensures.items
+    used_last d.used.items c.push_in_room.new.items.items c.in_ok-copied-in-Some-entry.field-0 x c.len-index.result
+    (omega (arith, c.len-index.ensures, d.used.ok.0)) c.in_ok-push_in_room-in-Some-entry.ensures
     (ap Some c.in_ok-copied-in-Some-entry.ensures ∙ c.in-Some-entry.ensures ∙ here)
 
 pub returns-clause-kept : goal.returns-clause-kept
