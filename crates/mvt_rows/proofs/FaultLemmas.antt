@@ -1,11 +1,8 @@
 -- The first thing that is wrong with rows, looked for row by row; rows with nothing wrong are a tile.
-use Rattle.std.proofs.Common.{◌≡◌, ℕ, ◌+◌, ◌<◌, ◌≤◌, ◌==◌, slice_get, IfErr, add-one, drop-cons, nat_lt, Bool, true, false, List, [], ◌∷◌, length, take, drop, get_or, IsUtf8, ◌^◌, flat_map, Option, Some, None, Result, Ok, Err, refl, sym, ap, ◌∙◌, subst, if◌then◌else◌}
-use Rattle.std.specs.Option.{option_map, option_and_then, option_or}
+use Rattle.std.proofs.Common.{◌≡◌, ℕ, ◌+◌, ◌==◌, IfErr, nat_lt, Bool, true, false, List, [], ◌∷◌, Option, Some, None, Result, Ok, Err, refl, sym, ap, ◌∙◌, if◌then◌else◌}
+use Rattle.std.specs.Option.{option_map, option_and_then}
 use Rattle.std.specs.Result.{IsErrAnd}
 use Rattle.std.proofs.lemmas.Bool.{eqb-true, eq-eqb, false≢true}
-use Rattle.std.proofs.lemmas.List.{drop_all}
-use Rattle.std.proofs.lemmas.Option.{same_Some}
-use Rattle.std.specs.List.{AllByRecursion}
 use Rattle.std.specs.Str.{is_utf8}
 use Rattle.mvt_base.specs.Related.{AreRelated}
 use Rattle.mvt_base.proofs.RuleLemmas.{option_or-nones}
@@ -13,57 +10,24 @@ use Rattle.mvt_attrs.specs.declared.value.Value.{Value}
 use Rattle.mvt_attrs.specs.declared.resolving.TagCause.{TagCause}
 use Rattle.mvt_attrs.proofs.AttrsLaws.{attributes_or_fault_there}
 use Rattle.mvt_feature.specs.declared.feature.Feature.{Feature}
-use Rattle.mvt_feature.specs.Valid.{ValidFeature}
 use Rattle.mvt_message.specs.declared.item.Item.{Item}
 use Rattle.mvt_message.specs.declared.item.Item.TheVariants.{Layer, Foreign}
 use Rattle.mvt_message.specs.declared.item.Layer.{Layer as ALayer}
-use Rattle.mvt_message.specs.Items.{names_in}
-use Rattle.mvt_message.specs.ValidItems.{ValidItem, ValidLayer}
 use Rattle.mvt_model.specs.declared.tile.Tile.{Tile}
-use Rattle.mvt_tile.specs.TileRules.{repeats}
-use Rattle.mvt_tile.specs.Validity.{IsFirstInvalid}
 use Rattle.mvt_rows.specs.declared.rows_error.RowsError.{RowsError}
 use Rattle.mvt_rows.specs.declared.rows_error.RowsError.TheVariants.{Memory, TooLarge, NoTile}
 use Rattle.mvt_rows.specs.Written.{FailsAs}
 use Rattle.mvt_rows.specs.declared.rows.Span.{Span}
 use Rattle.mvt_rows.specs.declared.rows.FeatureRow.{FeatureRow}
 use Rattle.mvt_rows.specs.declared.rows.LayerRow.{LayerRow}
-use Rattle.mvt_rows.specs.declared.rows_cause.RowsCause.{RowsCause}
-use Rattle.mvt_rows.specs.declared.rows_cause.RowsCause.TheVariants.{BytesSpan, NameSpan, NameText, RepeatedName}
+use Rattle.mvt_rows.specs.declared.rows_cause.RowsCause.TheVariants.{BytesSpan, NameSpan, NameText}
 use Rattle.mvt_rows.specs.declared.rows_cause.RowsFault.{RowsFault}
 use Rattle.mvt_rows.specs.Tables.{Table}
 use Rattle.mvt_rows.specs.TileRows.{each, part_of, utf8_of, text_of, value_of, id_of, geometry_of, IsFeature, IsLayer, IsItem, IsTileOf}
-use Rattle.mvt_rows.specs.RowsFaults.{or_wrong, geometry_cause, tags_cause, feature_cause, features_wrong, text_wrong, layer_wrong, row_wrong, rows_wrong, rows_fault, Wrong, of_tag_cause, IsInvalid, IsInvalidTile}
+use Rattle.mvt_rows.specs.RowsFaults.{or_wrong, geometry_cause, tags_cause, feature_cause, features_wrong, text_wrong, layer_wrong, row_wrong, rows_wrong, rows_fault, Wrong, of_tag_cause}
 
--- a list from one of its elements on
-from_here : {X : Type 0} → (xs : List X) (i : ℕ) (x : X) → i < length xs → x ≡ get_or xs i x → drop i xs ≡ x ∷ drop (i + 1) xs
-from_here xs i x within is =
-    drop-cons xs i x within ∙ ap (λ n. get_or xs i x ∷ drop n xs) (sym (add-one i)) ∙ ap (λ y. y ∷ drop (i + 1) xs) (sym is)
-
-pub features_here : (t : Table) (keys : List (List ℕ)) (values : List Value) (rows : List FeatureRow) (i : ℕ) (row : FeatureRow)
-    (o : Option RowsCause) → i < length rows → row ≡ get_or rows i row → feature_cause t keys values row ≡ o
-    → features_wrong t keys values i (drop i rows)
-    ≡ option_or (option_map (λ cause. (Some i, cause)) o) (features_wrong t keys values (i + 1) (drop (i + 1) rows))
-features_here t keys values rows i row o within is found =
-    ap (features_wrong t keys values i) (from_here rows i row within is)
-    ∙ ap (λ o. option_or (option_map (λ cause. (Some i, cause)) o) (features_wrong t keys values (i + 1) (drop (i + 1) rows))) found
-
-abbrev pub at_layer : ℕ → Wrong → RowsFault
+abbrev at_layer : ℕ → Wrong → RowsFault
 at_layer n w = record { layer = n; feature = w.0; cause = w.1 }
-
-pub rows_here : (t : Table) (rows : List LayerRow) (i : ℕ) (row : LayerRow) (o : Option Wrong) → i < length rows
-    → row ≡ get_or rows i row → row_wrong t row ≡ o
-    → rows_wrong t i (drop i rows) ≡ option_or (option_map (at_layer i) o) (rows_wrong t (i + 1) (drop (i + 1) rows))
-rows_here t rows i row o within is found =
-    ap (rows_wrong t i) (from_here rows i row within is)
-    ∙ ap (λ o. option_or (option_map (at_layer i) o) (rows_wrong t (i + 1) (drop (i + 1) rows))) found
-
-pub features_end : (t : Table) (keys : List (List ℕ)) (values : List Value) (rows : List FeatureRow) (i : ℕ) → length rows ≤ i
-    → features_wrong t keys values i (drop i rows) ≡ None
-features_end t keys values rows i past = ap (features_wrong t keys values i) (drop_all i rows past)
-
-pub rows_end : (t : Table) (rows : List LayerRow) (i : ℕ) → length rows ≤ i → rows_wrong t i (drop i rows) ≡ None
-rows_end t rows i past = ap (rows_wrong t i) (drop_all i rows past)
 
 -- where nothing is wrong, what was looked for is there
 
@@ -148,15 +112,6 @@ items_there t n (row ∷ rows) h =
 pub tile_there : (t : Table) → rows_fault t ≡ None → (tile : Tile) × IsTileOf t tile
 tile_there t h = let items = items_there t 0 t.layers h in (record { items = items.0 }, items.1)
 
--- a layer whose features can be written is kept from it by its name alone
-pub by_its_name : (before : List Item) (item : Item) (layer : ALayer) → item ≡ Layer layer → IsUtf8 layer.name → layer.extent < 2 ^ 32
-    → AllByRecursion ValidFeature layer.features → (ValidItem item → repeats (flat_map names_in before) (names_in item) ≡ true)
-    → IsInvalid before item None RepeatedName
-unfolding ValidItem ValidLayer
-by_its_name before item layer is utf8 extent features =
-    subst (λ i. (ValidItem i → repeats (flat_map names_in before) (names_in i) ≡ true) → IsInvalid before i None RepeatedName) (sym is)
-    (λ h. h (utf8, extent, features))
-
 -- a name that is a text, and one that isn't
 abbrev pub utf8_wrong : List ℕ → Option Wrong
 utf8_wrong bytes = or_wrong (utf8_of bytes) (None, NameText) (λ _. None)
@@ -172,23 +127,6 @@ pub no_text : (texts : List ℕ) (span : Span) (bytes : List ℕ) → part_of te
 no_text texts span bytes part utf8 =
     sym (ap (λ o. or_wrong o (None, NameSpan) utf8_wrong) part
     ∙ ap (λ (b : Bool). or_wrong (if b then Some bytes else None) (None, NameText) (λ _. None)) utf8)
-
--- the first item of a tile that can't be written, with what is wrong with it
-pub invalid_tile : (items : List Item) (i : ℕ) (item : Item) (feature : Option ℕ) (cause : RowsCause) → IsFirstInvalid items i
-    → slice_get items i ≡ Some item
-    → ((before : List Item) → (ValidItem item → repeats (flat_map names_in before) (names_in item) ≡ true)
-    → IsInvalid before item feature cause)
-    → IsInvalidTile items (record { layer = i; feature = feature; cause = cause })
-invalid_tile items i item feature cause first there wrong =
-    let same = same_Some first.item item (sym first.there ∙ there) in
-    record {
-      item = item;
-      there = there;
-      valid = first.valid;
-      distinct = first.distinct;
-      wrong = wrong (take i items)
-          (subst (λ x. ValidItem x → repeats (flat_map names_in (take i items)) (names_in x) ≡ true) same first.wrong);
-    }
 
 memory_of : (P : Type 0) (e : RowsError) → FailsAs P e → (P → ⊥) → e ≡ Memory
 memory_of P Memory h never = refl

@@ -3,6 +3,7 @@ mod EachLemmas
 mod TileLemmas
 mod WritingLemmas
 mod FaultLemmas
+mod JudgingLemmas
 mod RowLemmas
 mod GrowthLemmas
 mod TableLemmas

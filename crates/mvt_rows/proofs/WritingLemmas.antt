@@ -46,7 +46,7 @@ use Rattle.mvt_rows.specs.declared.writing.layers.LayerParts.{LayerParts}
 use Rattle.mvt_rows.specs.Tables.{Table}
 use Rattle.mvt_rows.specs.TileRows.{part_of, text_of, utf8_of, IsFeature, IsItem, IsTileOf}
 use Rattle.mvt_rows.specs.Written.{FailsAs, IsNone, IsNoTile, IsWritten, NotWritten}
-use Rattle.mvt_rows.specs.Writing.{AreFeatureParts, AreInRange, AreLayerParts, IsValidFeatureOf, IsValidLayerOf, IsValidItemOf, IsRefused, HasAdded, HasAddedRow}
+use Rattle.mvt_rows.specs.Writing.{AreNames, AreFeatureParts, AreInRange, AreLayerParts, IsValidFeatureOf, IsValidLayerOf, IsValidItemOf, IsRefused, HasAdded, HasAddedRow}
 use Rattle.mvt_rows.proofs.TileLemmas.{some_same, item_once, none_related, related_more}
 
 -- ---- lists
@@ -66,7 +66,7 @@ related_alone R P (x ∷ xs) [] h = absurd h
 related_alone R P (x ∷ xs) (y ∷ ys) h = let rest = related_alone R P xs ys h.1 in ((h.0.0, rest.0), (h.0.1, rest.1))
 
 -- what is related to a list is made of what is related to its parts
-related_at : {X Y : Type 0} → (R : X → Y → Type 0) (front : List X) (x : X) (back : List X) (ys : List Y) → AreRelated R (front ++ x ∷ back) ys
+pub related_at : {X Y : Type 0} → (R : X → Y → Type 0) (front : List X) (x : X) (back : List X) (ys : List Y) → AreRelated R (front ++ x ∷ back) ys
     → (before : List Y) × (y : Y) × (after : List Y) × (ys ≡ before ++ y ∷ after) × AreRelated R front before × R x y
 related_at R [] x back [] h = absurd h
 related_at R [] x back (y ∷ ys) h = ([], y, ys, refl, tt, h.0)
@@ -209,9 +209,6 @@ repeats_by : (names others given : List (List ℕ)) → ((n : List ℕ) → list
 repeats_by names others [] same = refl
 repeats_by names others (n ∷ given) same = ap₂ (λ a b. a || b) (same n) (repeats_by names others given same)
 
-abbrev pub AreNames : List (List ℕ) → List Item → Type 0
-AreNames names items = (n : List ℕ) → list_any (bytes_eq n) names ≡ list_any (bytes_eq n) (flat_map names_in items)
-
 -- the name of one item more, where it has one, is new
 pub named_more : (names after : List (List ℕ)) (items : List Item) (item : Item) → AreNames names items → HasDistinctNames items
     → repeats names (names_in item) ≡ false
@@ -225,9 +222,26 @@ named_more names after items item named distinct new more =
       names_apart_more items item distinct (sym (repeats_by names (flat_map names_in items) (names_in item) named) ∙ new),
     )
 
-or_nothing : (a : Bool) → a ≡ (a || false)
+pub or_nothing : (a : Bool) → a ≡ (a || false)
 or_nothing true = refl
 or_nothing false = refl
+
+-- the name of a layer is one of those before it
+pub name_repeated : (names : List (List ℕ)) (items : List Item) (name text : List ℕ) (new : Bool) → AreNames names items → text ≡ name
+    → new ≡ not (repeats names (text ∷ [])) → new ≡ false → repeats (flat_map names_in items) (name ∷ []) ≡ true
+name_repeated names items name text new are same added there =
+    ap (λ n. repeats (flat_map names_in items) (n ∷ [])) (sym same) ∙ sym (repeats_by names (flat_map names_in items) (text ∷ []) are)
+    ∙ not-false (repeats names (text ∷ [])) (sym added ∙ there)
+
+-- the name of a layer is new
+pub layer_named : (names after : List (List ℕ)) (items : List Item) (layer : ALayer) (text : List ℕ) (new : Bool) → AreNames names items
+    → HasDistinctNames items → text ≡ layer.name → new ≡ not (repeats names (text ∷ [])) → new ≡ true
+    → ((n : List ℕ) → list_any (bytes_eq n) after ≡ (list_any (bytes_eq n) names || list_any (bytes_eq n) (text ∷ [])))
+    → AreNames after (items ++ Layer layer ∷ []) × HasDistinctNames (items ++ Layer layer ∷ [])
+layer_named names after items layer text new named distinct same added is_new more =
+    named_more names after items (Layer layer) named distinct
+    (ap (λ n. repeats names (n ∷ [])) (sym same) ∙ not-true (repeats names (text ∷ [])) (sym added ∙ is_new))
+    (λ n. more n ∙ ap (λ t. list_any (bytes_eq n) names || list_any (bytes_eq n) (t ∷ [])) same)
 
 -- ---- items
 
@@ -244,9 +258,7 @@ pub name_refused : (t : Table) (row : LayerRow) (items : List Item) (names : Lis
     → row.version ≡ 2 → text_of t.texts row.name ≡ Some name → text ≡ name → AreNames names items
     → new ≡ not (repeats names (text ∷ [])) → new ≡ false → IsRefused t row items
 name_refused t row items names name text new is named same are added there (Layer layer) h =
-    let one : layer.name ≡ text = some_same _ _ _ h.0.1.name named ∙ sym same in
-    ap (λ n. repeats (flat_map names_in items) (n ∷ [])) one ∙ sym (repeats_by names (flat_map names_in items) (text ∷ []) are)
-    ∙ not-false (repeats names (text ∷ [])) (sym added ∙ there)
+    name_repeated names items layer.name text new are (same ∙ some_same _ _ _ named h.0.1.name) added there
 name_refused t row items names name text new is named same are added there (Foreign version content) h = absurd (h.0.0 is)
 
 pub layer_added : (t : Table) (row : LayerRow) (layer : ALayer) (items : List Item) (old w : RowsWriter) (name text : List ℕ) (new : Bool)
@@ -256,11 +268,9 @@ pub layer_added : (t : Table) (row : LayerRow) (layer : ALayer) (items : List It
     → AreEncoded LIMIT (items ++ Layer layer ∷ []) w.out → HasAddedRow t row w items
 unfolding ValidItem
 layer_added t row layer items old w name text new is named same has valid added is_new more encoded =
-    let one : text ≡ layer.name = same ∙ some_same _ _ _ named valid.0.name in
     let names =
-    named_more old.names.keys w.names.keys items (Layer layer) has.named has.distinct
-    (ap (λ n. repeats old.names.keys (n ∷ [])) (sym one) ∙ not-true (repeats old.names.keys (text ∷ [])) (sym added ∙ is_new))
-    (λ n. more n ∙ ap (λ t. list_any (bytes_eq n) old.names.keys || list_any (bytes_eq n) (t ∷ [])) one) in
+    layer_named old.names.keys w.names.keys items layer text new has.named has.distinct (same ∙ some_same _ _ _ named valid.0.name)
+    added is_new more in
     (Layer layer, ((is, valid.0), valid.1), record { named = names.0; distinct = names.1; encoded = encoded })
 
 pub foreign_refused : (t : Table) (row : LayerRow) (items : List Item) (content : List ℕ) (b : Bool)

@@ -4,6 +4,7 @@ pub mod TileRows
 pub mod Written
 pub mod Writing
 pub mod RowsFaults
+pub mod Judging
 pub mod Reading
 pub mod Visiting
 pub mod Decoding

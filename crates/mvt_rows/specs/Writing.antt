@@ -62,9 +62,13 @@ IsValidItemOf t row item = IsItem t row item × ValidItem item
 abbrev pub IsRefused : Table → LayerRow → List Item → Type 0
 IsRefused t row items = (item : Item) → IsValidItemOf t row item → repeats (flat_map names_in items) (names_in item) ≡ true
 
+-- a set of names has those of these items
+abbrev pub AreNames : List (List ℕ) → List Item → Type 0
+AreNames names items = (n : List ℕ) → list_any (bytes_eq n) names ≡ list_any (bytes_eq n) (flat_map names_in items)
+
 -- the names of items, which are distinct, and their canonical bytes
 pub record HasAdded (w : RowsWriter) (items : List Item) : Type 0 where
-  pub named : (n : List ℕ) → list_any (bytes_eq n) w.names.keys ≡ list_any (bytes_eq n) (flat_map names_in items)
+  pub named : AreNames w.names.keys items
   pub distinct : HasDistinctNames items
   pub encoded : AreEncoded LIMIT items w.out
 

@@ -1,36 +1,39 @@
 //! The first thing that is wrong with rows that are no valid tile.
 
-ghost use Rattle.std.specs.Prelude.{◌≡◌, true, List, IfOk, IfErr, MatchOption};
-ghost use Rattle.std.specs.List.{AllByRecursion, flat_map};
+ghost use Rattle.std.specs.Prelude.{◌≡◌, None, List, IfOk, IfErr, MatchOption};
+ghost use Rattle.std.specs.List.{AllByRecursion};
 ghost use Rattle.mvt_feature.specs.Valid.{ValidFeature};
 ghost use Rattle.mvt_message.specs.declared.item.Item.{Item as AnItem};
-ghost use Rattle.mvt_message.specs.Items.{names_in};
-ghost use Rattle.mvt_message.specs.ValidItems.{ValidItem};
-ghost use Rattle.mvt_tile.specs.TileRules.{repeats};
+ghost use Rattle.mvt_message.specs.declared.item.Item.TheVariants.{Layer as IsALayer};
+ghost use Rattle.mvt_model.specs.Tiles.{HasDistinctNames};
 ghost use Rattle.mvt_rows.specs.declared.rows_error.RowsError.TheVariants.{Memory};
+ghost use Rattle.mvt_rows.specs.Judging.{IsNext};
 ghost use Rattle.mvt_rows.specs.Lent.{table_of};
-ghost use Rattle.mvt_rows.specs.RowsFaults.{AreValid, IsFaultOf, IsFirstInvalidFeature, IsInvalid, feature_cause, features_wrong, geometry_cause, if_any, layer_wrong, row_wrong, text_wrong};
+ghost use Rattle.mvt_rows.specs.RowsFaults.{AreValid, IsFaultOf, IsFirstInvalidFeature, IsInvalid, feature_cause, features_wrong, geometry_cause, if_any, layer_wrong, row_wrong, rows_fault as the_rows_fault, text_wrong};
+ghost use Rattle.mvt_rows.specs.Writing.{AreNames};
 
 use crate::rows::{FeatureRow, LayerRow, Rows, Span};
 use crate::rows_cause::{RowsCause, RowsFault};
 use crate::rows_error::RowsError;
+use crate::tiles;
 use crate::tiles::features::{geometry, id};
 use crate::tiles::parts::{find_part, keys, part};
-use crate::tiles::tile_of;
 use crate::tiles::values::values;
 use crate::work::Work;
 use mvt_attrs::{LayerKeys, TagError, Value, judge_tags};
 use mvt_base::Text;
 use mvt_feature::validate_feature;
-use mvt_message::{Feature, Item};
-use mvt_tile::first_invalid;
+use mvt_message::{Feature, Item, Layer, are_of_version};
+use mvt_tile::add_name;
 use std::alloc::{AllocError, Global};
+use std::collections::BTreeSet;
 use std::str;
 
 /// Where in a layer something is wrong, and what.
 type Wrong = (Option<usize>, RowsCause);
 
-/// The first thing that is wrong with rows, or nothing where they are a valid tile.
+/// The first thing that is wrong with rows, or nothing where they are a valid tile. It holds one
+/// item at a time, and the names of the layers before it.
 ///
 /// # Errors
 ///
@@ -38,6 +41,17 @@ type Wrong = (Option<usize>, RowsCause);
 pub fn rows_fault(alloc: Global, rows: &Rows) -> Result<Option<RowsFault>, RowsError>
     ensures fault { IfOk result (λ found. MatchOption found (AreValid (table_of rows.now))
         (IsFaultOf (table_of rows.now))) }
+    ensures memory { IfErr result (λ error. error ≡ Memory) }
+{
+    match first_wrong(alloc, rows)? {
+        Some(fault) => Ok(Some(fault)),
+        None => first_invalid(alloc, rows),
+    }
+}
+
+/// The first thing that keeps rows from being a tile.
+fn first_wrong(alloc: Global, rows: &Rows) -> Result<Option<RowsFault>, RowsError>
+    ensures wrong { IfOk result (λ found. found ≡ the_rows_fault (table_of rows.now)) }
     ensures memory { IfErr result (λ error. error ≡ Memory) }
 {
     let mut work = Work::of(rows);
@@ -50,19 +64,29 @@ pub fn rows_fault(alloc: Global, rows: &Rows) -> Result<Option<RowsFault>, RowsE
             }));
         }
     }
-    let tile = tile_of(alloc, rows)?;
-    let items = tile.items.as_slice();
-    match first_invalid(alloc, &tile)? {
-        Some(index) => {
-            let (feature, cause) = item_wrong(alloc, &items[index])?;
-            Ok(Some(RowsFault {
+    Ok(None)
+}
+
+/// The first item that keeps rows that are a tile from being written, and why.
+fn first_invalid(alloc: Global, rows: &Rows) -> Result<Option<RowsFault>, RowsError>
+    requires { the_rows_fault (table_of rows.now) ≡ None }
+    ensures fault { IfOk result (λ found. MatchOption found (AreValid (table_of rows.now))
+        (IsFaultOf (table_of rows.now))) }
+    ensures memory { IfErr result (λ error. error ≡ Memory) }
+{
+    let mut work = Work::of(rows);
+    let mut names = BTreeSet::new(alloc);
+    for (index, row) in rows.layers.iter().enumerate() {
+        let item = tiles::item(alloc, rows, row, &mut work)?;
+        if let Some((feature, cause)) = item_wrong(alloc, &mut names, &item)? {
+            return Ok(Some(RowsFault {
                 layer: index,
                 feature,
                 cause,
-            }))
+            }));
         }
-        None => Ok(None),
     }
+    Ok(None)
 }
 
 /// What is wrong with a layer's row, its keys, values and features.
@@ -206,22 +230,48 @@ fn geometry_cause(
     }
 }
 
-/// Why an item can't be written that isn't valid, or has the name of one before it.
-fn item_wrong(alloc: Global, item: &Item) -> Result<Wrong, AllocError>
-    ensures { (before : List AnItem)
-        → (ValidItem item.now → repeats (flat_map names_in before) (names_in item.now) ≡ true)
-        → IfOk result (λ wrong. IsInvalid before item.now wrong.0 wrong.1) }
+/// Why an item can't be written behind others with these names, to which its own is added else.
+fn item_wrong(
+    alloc: Global,
+    names: &mut BTreeSet<Text>,
+    item: &Item,
+) -> Result<Option<Wrong>, AllocError>
+    ensures { (before : List AnItem) → AreNames names.old.keys before → HasDistinctNames before
+        → IfOk result (λ found. MatchOption found (IsNext names.new.keys before item.now)
+        (λ wrong. IsInvalid before item.now wrong.0 wrong.1)) }
 {
-    let Item::Layer(layer) = item else {
-        return Ok((None, RowsCause::Bytes));
-    };
+    match item {
+        Item::Layer(layer) => layer_invalid(alloc, names, layer),
+        Item::Foreign { version, bytes } => {
+            if are_of_version(*version, bytes.as_slice()) {
+                return Ok(None);
+            }
+            Ok(Some((None, RowsCause::Bytes)))
+        }
+    }
+}
+
+/// The same of a layer.
+fn layer_invalid(
+    alloc: Global,
+    names: &mut BTreeSet<Text>,
+    layer: &Layer,
+) -> Result<Option<Wrong>, AllocError>
+    ensures { (before : List AnItem) → AreNames names.old.keys before → HasDistinctNames before
+        → IfOk result (λ found. MatchOption found
+        (IsNext names.new.keys before (IsALayer layer.now))
+        (λ wrong. IsInvalid before (IsALayer layer.now) wrong.0 wrong.1)) }
+{
     // Read for the proof, which so knows that the name is UTF-8 and the extent has 32 bits.
     let _name = layer.name.as_str();
     let _extent = layer.extent;
-    match first_invalid_feature(alloc, layer.features.as_slice())? {
-        Some(index) => Ok((Some(index), RowsCause::Drawing)),
-        None => Ok((None, RowsCause::RepeatedName)),
+    if let Some(index) = first_invalid_feature(alloc, layer.features.as_slice())? {
+        return Ok(Some((Some(index), RowsCause::Drawing)));
     }
+    if !add_name(names, Some(layer.name.copy(alloc)?))? {
+        return Ok(Some((None, RowsCause::RepeatedName)));
+    }
+    Ok(None)
 }
 
 fn first_invalid_feature(alloc: Global, features: &[Feature]) -> Result<Option<usize>, AllocError>

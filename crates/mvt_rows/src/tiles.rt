@@ -42,7 +42,17 @@ fn layer(alloc: Global, rows: &Rows, row: &LayerRow, work: &mut Work) -> Result<
     })
 }
 
-fn item(alloc: Global, rows: &Rows, row: &LayerRow, work: &mut Work) -> Result<Item, RowsError>
+/// The item that a layer's row is.
+///
+/// # Errors
+///
+/// A row that is none; want of memory.
+pub(crate) fn item(
+    alloc: Global,
+    rows: &Rows,
+    row: &LayerRow,
+    work: &mut Work,
+) -> Result<Item, RowsError>
     ensures item { IfOk result (IsItem (table_of rows.now) row.now) }
     ensures none { IfErr result (FailsAs (IsNone (IsItem (table_of rows.now) row.now))) }
 {

@@ -2,10 +2,11 @@
 use crate::expect::{expect, expect_eq};
 use mvt_message::Cause;
 use mvt_rows::{
-    FeatureRow, LayerRow, PartRow, PointRow, Rows, RowsDecoder, RowsError, RowsVisitor, Span,
-    ValueRow, read_layer, read_rows, read_rows_within, write_rows,
+    FeatureRow, LayerRow, PartRow, PointRow, Rows, RowsCause, RowsDecoder, RowsError, RowsFault,
+    RowsVisitor, Span, ValueRow, read_layer, read_rows, read_rows_within, rows_fault, tile_of,
+    write_rows,
 };
-use mvt_tile::{DecodeError, Fault};
+use mvt_tile::{DecodeError, Fault, encode};
 use std::process::Abort;
 
 const NOWHERE: Span = Span { start: 0, len: 0 };
@@ -293,6 +294,90 @@ fn reports_why_nothing_is_made(rt: HostRuntime) {
     drop(text);
 }
 
+fn fault_of(rt: &(impl Abort + AllocGlobal), rows: &Rows) -> Option<RowsFault> {
+    rows_fault(rt.alloc(), rows).expect(rt, "a verdict")
+}
+
+fn expect_fault(
+    rt: &(impl Abort + AllocGlobal),
+    rows: &Rows,
+    layer: usize,
+    feature: Option<usize>,
+    cause: RowsCause,
+) {
+    let fault = RowsFault {
+        layer,
+        feature,
+        cause,
+    };
+    expect_eq!(rt; fault_of(rt, rows), Some(fault));
+}
+
+#[test]
+fn finds_nothing_wrong(rt: HostRuntime) {
+    for rows in &[NONE, ONE_POINT, NUMBERS, OVERLAPS, READ] {
+        expect_eq!(rt; fault_of(&rt, rows), None);
+    }
+}
+
+// Layers `a` and `b`, each with a point that can't be drawn; a layer of version 1, and one of `a`.
+const UNDRAWN: Rows = Rows {
+    layers: &[
+        LAYER,
+        LayerRow {
+            name: Span { start: 1, len: 1 },
+            ..LAYER
+        },
+        LayerRow {
+            version: 1,
+            bytes: Span { start: 2, len: 2 },
+            ..LAYER
+        },
+        LayerRow {
+            features: NOWHERE,
+            ..LAYER
+        },
+    ],
+    points: &[PointRow { x: i32::MIN, y: 0 }],
+    texts: b"ab\x78\x01",
+    ..ONE_POINT
+};
+
+#[test]
+fn finds_what_cannot_be_written(rt: HostRuntime) {
+    expect_fault(&rt, &UNDRAWN, 0, Some(0), RowsCause::Drawing);
+    let bytes = Rows {
+        points: ONE_POINT.points,
+        texts: b"ab\x78\x03",
+        ..UNDRAWN
+    };
+    expect_fault(&rt, &bytes, 2, None, RowsCause::Bytes);
+    let names = Rows {
+        points: ONE_POINT.points,
+        ..UNDRAWN
+    };
+    expect_fault(&rt, &names, 3, None, RowsCause::RepeatedName);
+}
+
+// What keeps rows from being a tile is looked for in all of them first.
+#[test]
+fn finds_what_is_no_tile_first(rt: HostRuntime) {
+    let rows = Rows {
+        texts: b"ab\x78",
+        ..UNDRAWN
+    };
+    expect_fault(&rt, &rows, 2, None, RowsCause::BytesSpan);
+}
+
+#[test]
+fn makes_a_tile_of_rows(rt: HostRuntime) {
+    let tile = tile_of(rt.alloc(), &NUMBERS).expect(&rt, "a tile");
+    let bytes = encode(rt.alloc(), &tile).expect(&rt, "bytes");
+    expect_eq!(rt; bytes.as_slice(), &NUMBERS_BYTES[..]);
+    drop(bytes);
+    drop(tile);
+}
+
 // Layer `a` of a point and a ring, with two keys and two values that no feature names, and a layer
 // of version 1.
 const READ_BYTES: [u8; 67] = [
@@ -533,6 +618,37 @@ fn rows_refused_memory(rt: HostRuntime) {
     let mut refused: u32 = 0;
     for _ in 0..2 {
         refused = refused.saturating_add(u32::from(is_reading_refused(&rt)));
+    }
+    expect!(rt; refused <= 1);
+}
+
+fn is_judging_refused(rt: &(impl Abort + AllocGlobal), rows: &Rows) -> bool {
+    match rows_fault(rt.alloc(), rows) {
+        Ok(found) => {
+            let fault = RowsFault {
+                layer: 3,
+                feature: None,
+                cause: RowsCause::RepeatedName,
+            };
+            expect_eq!(rt; found, Some(fault));
+            false
+        }
+        Err(error) => {
+            expect_eq!(rt; error, RowsError::Memory);
+            true
+        }
+    }
+}
+
+#[test]
+fn judging_rows_refused_memory(rt: HostRuntime) {
+    let rows = Rows {
+        points: ONE_POINT.points,
+        ..UNDRAWN
+    };
+    let mut refused: u32 = 0;
+    for _ in 0..2 {
+        refused = refused.saturating_add(u32::from(is_judging_refused(&rt, &rows)));
     }
     expect!(rt; refused <= 1);
 }

@@ -1,10 +1,15 @@
-use Rattle.std.proofs.Common.{arith, subst}
-use Rattle.std.specs.List.{AllByRecursion}
-use Rattle.mvt_feature.specs.Valid.{ValidFeature}
-use Rattle.mvt_rows.proofs.FaultLemmas.{by_its_name}
+use Rattle.std.proofs.Common.{subst}
+use Rattle.mvt_message.specs.ValidItems.{AreOfVersion}
+use Rattle.mvt_rows.proofs.JudgingLemmas.{foreign_invalid, foreign_next}
 use Rattle.mvt_rows.proofs.faults.item_wrong.Goals as goal
 
-pub returns-in-None : goal.returns-in-None
-returns-in-None c = λ before h.
-    by_its_name before c.args.item.now c.in-Layer.layer c.in-Layer.is c.as_str-name.ensures.utf8
-    (omega arith) (subst (AllByRecursion ValidFeature) c.as_slice.ensures (rw c.in-None.is at c.in_ok-index.ensures)) h
+pub returns-in-Layer : goal.returns-in-Layer
+returns-in-Layer c = λ before named distinct. rw c.in-Layer.is (c.layer_invalid.ensures before named distinct)
+
+pub returns-then-are_of_version : goal.returns-then-are_of_version
+returns-then-are_of_version c = λ before named distinct.
+    rw c.in-Foreign.is (foreign_next _ before _ _ named distinct (subst (AreOfVersion _) c.as_slice.ensures (c.are_of_version.ensures.0 c.if-are_of_version.true)))
+
+pub returns-else-are_of_version : goal.returns-else-are_of_version
+returns-else-are_of_version c = λ before named distinct.
+    rw c.in-Foreign.is (foreign_invalid before _ _ _ (rw (← c.as_slice.ensures) c.are_of_version.ensures) c.if-are_of_version.false)

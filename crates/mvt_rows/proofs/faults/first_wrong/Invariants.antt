@@ -1,7 +1,7 @@
 use Rattle.std.proofs.Common.{◌≡◌, drop}
 use Rattle.mvt_rows.specs.Lent.{table_of}
 use Rattle.mvt_rows.specs.RowsFaults.{rows_wrong}
-use Rattle.mvt_rows.proofs.faults.rows_fault.Given as goal
+use Rattle.mvt_rows.proofs.faults.first_wrong.Given as goal
 
 abbrev pub invariant-loop-index : goal.invariant-loop-index
 invariant-loop-index l =
