@@ -3,10 +3,7 @@
 use mvt_base::LIMIT;
 use mvt_io::{Host, MemorySink};
 use mvt_message::{Item, read_item};
-use mvt_tile::{
-    DecodeError, NamedLayers, Tile, TileDecoder, decode, extract_bytes, feature_count, judge,
-    rewrite, survey_tile, write_tile,
-};
+use mvt_tile::{DecodeError, Tile, TileDecoder, decode, feature_count, judge, write_tile};
 use std::alloc::Global;
 use std::{io, mem};
 
@@ -41,41 +38,6 @@ pub extern "C" fn mvt_decode(alloc: Global, bytes: &[u8], keeps: bool) -> u64 {
 #[unsafe(no_mangle)]
 pub extern "C" fn mvt_judge(alloc: Global, bytes: &[u8]) -> bool {
     judge(alloc, bytes).is_ok()
-}
-
-/// Surveys a tile, and counts its layers and 1.
-#[unsafe(no_mangle)]
-pub extern "C" fn mvt_survey(alloc: Global, bytes: &[u8]) -> u64 {
-    match survey_tile(alloc, bytes) {
-        Ok(survey) => (survey.layers as u64).saturating_add(1),
-        Err(_) => 0,
-    }
-}
-
-/// Rewrites a tile, and counts its canonical bytes and 1.
-#[unsafe(no_mangle)]
-pub extern "C" fn mvt_rewritten(alloc: Global, bytes: &[u8]) -> u64 {
-    match rewrite(alloc, bytes) {
-        Ok(Some(canonical)) => 1 + canonical.len() as u64,
-        Ok(None) => 1,
-        Err(_) => 0,
-    }
-}
-
-/// Extracts the layer of a name from a tile, and counts its canonical bytes and 1.
-#[unsafe(no_mangle)]
-pub extern "C" fn mvt_extracted(alloc: Global, bytes: &[u8], name: &[u8]) -> u64 {
-    let Ok(name) = str::from_utf8(name) else {
-        return 0;
-    };
-    let Ok(name) = String::from_str(alloc, name) else {
-        return 0;
-    };
-    match extract_bytes(alloc, bytes, &[name]) {
-        Ok(NamedLayers::Bytes(canonical)) => 1 + canonical.len() as u64,
-        Ok(NamedLayers::TooLarge) | Ok(NamedLayers::Missing(_)) => 1,
-        Err(_) => 0,
-    }
 }
 
 /// Feeds a tile in pieces, and keeps it.
