@@ -1,6 +1,6 @@
 //! Read a tile from a stream, and say where it breaks a rule.
 ghost use Rattle.std.specs.Prelude.{◌≡◌, None, IfOk, IfErr, IfSome, IsSome};
-ghost use Rattle.mvt_tile.specs.Reading.{fault_of};
+ghost use Rattle.mvt_tile.specs.Reading.{ReadsTile, fault_of, kind_of, kind_reported};
 ghost use Rattle.mvt_tile.specs.TileRules.{fault_within};
 
 use mvt_tile::{DecodeError, Fault, LIMIT, Source, read_tile};
@@ -16,6 +16,7 @@ pub fn first_fault<R: Source>(alloc: Global, reader: &mut R) -> Result<Option<Fa
     ensures fault { IfOk result (λ found. IfSome (R.state reader.old).left
         (λ input. found ≡ fault_within LIMIT input)) }
     ensures error { IfErr result (λ error. fault_of error ≡ None) }
+    ensures read { ReadsTile LIMIT (R.state reader.old) (R.state reader.new) (kind_of result) }
 {
     match read_tile(alloc, reader) {
         Ok(tile) => {
@@ -30,6 +31,7 @@ pub fn first_fault<R: Source>(alloc: Global, reader: &mut R) -> Result<Option<Fa
 fn reported(error: DecodeError) -> Result<Option<Fault>, DecodeError>
     ensures fault { IfOk result (λ found. (found ≡ fault_of error) × IsSome found) }
     ensures error { IfErr result (λ error. fault_of error ≡ None) }
+    ensures kind { kind_of result ≡ kind_reported error }
 {
     match error {
         DecodeError::Fault(fault) => Ok(Some(fault)),
