@@ -95,6 +95,7 @@ impl RowsVisitor {
     /// No rows yet, without memory. Their lists shall have at most so many bytes.
     pub fn new(alloc: Global, most: u64) -> Self
         ensures table { result.table ≡ no_rows }
+        ensures most { result.most ≡ most }
         ensures items { AreItemRows result.table [] }
     {
         let table = Table::new(alloc);
