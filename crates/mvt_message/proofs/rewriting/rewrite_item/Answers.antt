@@ -10,7 +10,7 @@ returns-in_ok-append_layer-in-Ok-Layer-clause-item c =
       is,
       valid,
       ap (λ n. n ∷ []) name,
-      c.in_ok-append_layer-in-Ok-Layer.ensures ∙ ap (λ b. c.args.out.now.items ++ b) (sym canonical),
+      c.in_ok-append_layer-in-Ok-Layer.ensures.ok ∙ ap (λ b. c.args.out.now.items ++ b) (sym canonical),
     )
 
 pub returns-in_ok-extend_from_slice-in-Ok-Foreign-clause-item : goal.returns-in_ok-extend_from_slice-in-Ok-Foreign-clause-item
