@@ -1,9 +1,10 @@
 //! The entries of a layer that its features use, each once, in order of first use.
-ghost use Rattle.std.specs.Prelude.{◌≡◌, ◌<◌, ◌≤◌, ◌++◌, ◌∷◌, [], List, ℕ, Some, Contains, length, slice_get, IfOk, OnOk};
+ghost use Rattle.std.specs.Prelude.{◌≡◌, ◌<◌, ◌≤◌, ◌++◌, ◌∷◌, [], List, ℕ, Some, Contains, length, slice_get, IfOk, OnErr, OnOk};
 ghost use Rattle.mvt_attrs.specs.declared.value.Attribute.{Attribute};
 ghost use Rattle.mvt_attrs.specs.declared.value.Value.{Value as AValue};
 ghost use Rattle.mvt_attrs.specs.Tags.{Names};
 ghost use Rattle.mvt_attrs.specs.TagPlaces.{tags_in};
+ghost use Rattle.mvt_base.specs.Related.{Extends};
 ghost use Rattle.mvt_attrs.specs.Using.{AreUsesOf, HasUses, IsUsedBy};
 
 use crate::entry::Entry;
@@ -184,7 +185,7 @@ impl LayerUses {
     ///
     /// # Errors
     ///
-    /// When memory runs out, or a tag names nothing.
+    /// When memory runs out, or a tag names nothing; the list is then as it was or a longer one.
     pub fn append_used(&mut self, tags: &[u32], out: &mut Vec<u32>) -> Result<(), AllocError>
         ensures uses { (keys : List (List ℕ)) (values : List AValue)
             (attributes : List Attribute) → HasUses self.old keys values
@@ -199,6 +200,7 @@ impl LayerUses {
             → Names keys values tags.now attributes
             → OnOk result (out.new.items ≡ out.old.items
             ++ tags_in self.new.keys.used.items self.new.values.used.items attributes) }
+        ensures left { OnErr result (Extends out.old.items out.new.items) }
     {
         let mut rest = tags;
         while let [key, value, others @ ..] = rest {

@@ -1,6 +1,7 @@
 //! The integers of a feature, copied where they stand as they are to be written (Mapbox Vector Tile
 //! Specification 2.1, 4.3).
-ghost use Rattle.std.specs.Prelude.{◌≡◌, ◌++◌, IfSome, IsTrue, OnOk};
+ghost use Rattle.std.specs.Prelude.{◌≡◌, ◌++◌, IfSome, IsTrue, OnErr, OnOk};
+ghost use Rattle.mvt_base.specs.Related.{Extends};
 ghost use Rattle.mvt_wire.specs.Field.{bytes as in_bytes, content_of};
 ghost use Rattle.mvt_wire.specs.Packed.{packed};
 ghost use Rattle.mvt_wire.specs.Spelling.{short_field, short_numbers, spelled};
@@ -20,7 +21,7 @@ use std::alloc::AllocError;
 const LEAST_COPIED: usize = 32;
 
 /// Appends the fields of a feature with this id, these tags and this type, whose integers are those
-/// of a payload.
+/// of a payload. After an error the list is as it was or a longer one.
 pub(crate) fn append_copied(
     out: &mut Vec<u8>,
     payload: &[u8],
@@ -29,9 +30,10 @@ pub(crate) fn append_copied(
     kind: Kind,
     integers: &[u32],
 ) -> Result<(), AllocError>
-    ensures { integers.now ≡ joined GEOMETRY (split payload.now).fields
+    ensures ok { integers.now ≡ joined GEOMETRY (split payload.now).fields
         → OnOk result (out.new.items ≡ out.old.items
         ++ spelled (id_fields id ++ (tags_fields tags.now ++ drawing_fields kind integers.now))) }
+    ensures left { OnErr result (Extends out.old.items out.new.items) }
 {
     append_front(out, id, tags, kind)?;
     append_integers(out, payload, integers)
@@ -40,9 +42,10 @@ pub(crate) fn append_copied(
 /// Appends the integers of a payload's feature, packed in one piece. Where that is how they stand
 /// in the payload, they are copied.
 fn append_integers(out: &mut Vec<u8>, payload: &[u8], integers: &[u32]) -> Result<(), AllocError>
-    ensures { integers.now ≡ joined GEOMETRY (split payload.now).fields
+    ensures ok { integers.now ≡ joined GEOMETRY (split payload.now).fields
         → OnOk result (out.new.items ≡ out.old.items
         ++ short_field GEOMETRY (in_bytes (short_numbers integers.now))) }
+    ensures left { OnErr result (Extends out.old.items out.new.items) }
 {
     if integers.len() < LEAST_COPIED {
         return put_packed(out, feature::GEOMETRY, integers);

@@ -1,6 +1,7 @@
 //! Features made canonical from their payloads or from their parts, with tags by index (Mapbox Vector
 //! Tile Specification 2.1, 4.2).
-ghost use Rattle.std.specs.Prelude.{◌≡◌, ℕ, ◌+◌, ◌^◌, ◌<◌, ◌++◌, List, length, None, IfOk, IfErr, OnOk};
+ghost use Rattle.std.specs.Prelude.{◌≡◌, ℕ, ◌+◌, ◌^◌, ◌<◌, ◌++◌, List, length, None, IfOk, IfErr, OnErr, OnOk};
+ghost use Rattle.mvt_base.specs.Related.{Extends};
 ghost use Rattle.mvt_base.specs.Reports.{Reports};
 ghost use Rattle.mvt_attrs.specs.declared.value.Value.{Value};
 ghost use Rattle.mvt_attrs.specs.Tags.{Names};
@@ -31,7 +32,7 @@ use std::alloc::{AllocError, Global};
 ///
 /// # Errors
 ///
-/// As `read_feature`.
+/// As `read_feature`, and the list is then as it was or a longer one.
 pub fn rewrite_feature(
     alloc: Global,
     payload: &[u8],
@@ -53,6 +54,7 @@ pub fn rewrite_feature(
     ensures err { (held : List Value) → HasUses uses.old keys.old held
         → IfErr result (λ error. Reports (fault_of error)
         (feature_fault payload.now payload_at keys.old held)) }
+    ensures left { OnErr result (Extends out.old.items out.new.items) }
     ensures same { keys.new ≡ keys.old }
 {
     let values = uses.values.len();
@@ -66,7 +68,7 @@ pub fn rewrite_feature(
 ///
 /// # Errors
 ///
-/// When memory runs out.
+/// When memory runs out; the list is then as it was or a longer one.
 pub fn append_tagged_feature(
     id: Option<u64>,
     tags: &[u32],
@@ -83,6 +85,7 @@ pub fn append_tagged_feature(
     ensures uses { (keys : List (List ℕ)) (held : List Value) (f : Feature)
         → HasUses uses.old keys held → Names keys held tags.now f.attributes
         → OnOk result (HasUses uses.new keys held) }
+    ensures left { OnErr result (Extends out.old.items out.new.items) }
 {
     scratch.last.clear();
     scratch.drawing.clear();
@@ -107,6 +110,7 @@ fn append_judged(
         → HasUses uses.old keys held → AreOf keys held known.now scratch.old f
         → OnOk result (HasUses uses.new keys held) }
     ensures integers { scratch.new.integers.items ≡ scratch.old.integers.items }
+    ensures left { OnErr result (Extends out.old.items out.new.items) }
 {
     scratch.last.clear();
     scratch.last.reserve(scratch.tags.len())?;

@@ -28,4 +28,4 @@ returns-clause-rewritten c = λ keys held f uses is are.
     (grown ∙ ap (λ i. c.args.out.now.items
     ++ spelled (id_fields c.args.known.now.id ++ (tags_fields c.deref-2.result.now ++ drawing_fields c.args.known.now.kind i)))
     c.deref-3.ensures.value))
-    (c.append_copied.ensures joined_are)
+    (c.append_copied.ensures.ok joined_are)
