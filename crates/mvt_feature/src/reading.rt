@@ -1,5 +1,5 @@
 //! Reading features (Mapbox Vector Tile Specification 2.1, 4.1, message Feature).
-ghost use Rattle.std.specs.Prelude.{◌≡◌, ◌+◌, ◌^◌, ◌<◌, List, length, None, IfOk, IfErr, OnOk};
+ghost use Rattle.std.specs.Prelude.{◌≡◌, ◌≢◌, ◌+◌, ◌^◌, ◌<◌, List, length, None, IfOk, IfErr, OnOk};
 ghost use Rattle.mvt_base.specs.Reports.{Reports};
 ghost use Rattle.mvt_attrs.specs.declared.value.Value.{Value};
 ghost use Rattle.mvt_geometry.specs.Visiting.{HasDrawn};
@@ -79,7 +79,7 @@ pub fn read_feature_in(
 /// Tells a visitor the geometry of a feature, in a layer with these keys and this number of values,
 /// and answers what else its fields say.
 ///
-/// The tags are left in the scratch, as they stand.
+/// The tags are left in the scratch, as they stand. All is judged before anything is told.
 ///
 /// # Errors
 ///
@@ -101,6 +101,8 @@ pub fn draw_feature<V: GeometryVisitor>(
         → feature_fault payload.now payload_at keys.old held ≡ None) }
     ensures err { IfErr result (λ error. (held : List Value) → length held ≡ values
         → Reports (fault_of error) (feature_fault payload.now payload_at keys.old held)) }
+    ensures untold { (held : List Value) → length held ≡ values
+        → feature_fault payload.now payload_at keys.old held ≢ None → visitor.new ≡ visitor.old }
     ensures same { keys.new ≡ keys.old }
 {
     let known = read_fields(payload, payload_at, scratch)?;

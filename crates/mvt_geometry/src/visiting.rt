@@ -1,5 +1,5 @@
 //! A geometry told point by point, without lists.
-ghost use Rattle.std.specs.Prelude.{◌≡◌, pos, ◌||◌, ◌<◌, ◌≤◌, ◌*◌, ◌^◌, ℕ, true, List, [], ◌∷◌, ◌++◌, length, map, IfOk, IfErr, OnOk};
+ghost use Rattle.std.specs.Prelude.{◌≡◌, ◌≢◌, pos, ◌||◌, ◌<◌, ◌≤◌, ◌*◌, ◌^◌, ℕ, true, List, [], ◌∷◌, ◌++◌, length, map, IfOk, IfErr, OnOk};
 ghost use Rattle.mvt_geometry.specs.declared.shape.Point.{Point};
 ghost use Rattle.mvt_geometry.specs.declared.shape.Geometry.{Geometry};
 ghost use Rattle.std.specs.Int.RustNames.{unsigned_abs};
@@ -74,6 +74,7 @@ pub fn draw_geometry<V: GeometryVisitor>(
     ensures err { IfErr result (λ e. Reports e (geometry_fault kind integers.now)) }
     ensures memory { result ≡ Err GeometryError.Memory → (g : Geometry)
         × Draws kind integers.now g }
+    ensures untold { geometry_fault kind integers.now ≢ None → visitor.new ≡ visitor.old }
 {
     judge(kind, integers)?;
     Ok(draw(visitor, kind, integers)?)

@@ -50,3 +50,20 @@ returns-clause-ok g c =
     λ held e. feature_clean says c.args.keys.now held
     (rw c.deref.ensures.value at (c.in_ok-judge_tags.ensures.ok held e))
     (rw c.deref-2.ensures.value at c.in_ok-draw_geometry.ensures.ok)
+
+pub returns-in_err-draw_geometry-clause-untold : goal.returns-in_err-draw_geometry-clause-untold
+returns-in_err-draw_geometry-clause-untold g c =
+    let known = c.in_ok-known.ensures in
+    let says : Says c.args.payload.now c.args.payload_at _ _ _ = record { whole = known.whole; clean = known.ok; known_is = known.known } in
+    λ held e faulty. c.in_err-draw_geometry.ensures.untold
+    (λ clean. faulty (feature_clean says c.args.keys.now held
+    (rw c.deref.ensures.value at (c.in_ok-judge_tags.ensures.ok held e))
+    (rw c.deref-2.ensures.value at clean)))
+
+pub returns-clause-untold : goal.returns-clause-untold
+returns-clause-untold g c =
+    let known = c.in_ok-known.ensures in
+    let says : Says c.args.payload.now c.args.payload_at _ _ _ = record { whole = known.whole; clean = known.ok; known_is = known.known } in
+    λ held e faulty. absurd (faulty (feature_clean says c.args.keys.now held
+    (rw c.deref.ensures.value at (c.in_ok-judge_tags.ensures.ok held e))
+    (rw c.deref-2.ensures.value at c.in_ok-draw_geometry.ensures.ok)))

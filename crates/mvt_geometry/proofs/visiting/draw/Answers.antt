@@ -1,4 +1,4 @@
-use Rattle.std.proofs.Common.{◌≡◌, map, [], sym, ap, ◌∙◌, subst}
+use Rattle.std.proofs.Common.{◌∙◌, subst}
 use Rattle.std.proofs.lemmas.List.{take_rest}
 use Rattle.mvt_geometry.specs.Drawing.{Draws}
 use Rattle.mvt_geometry.proofs.BuildLemmas.{draws_points, draws_lines, draws_polygons}

@@ -1,4 +1,4 @@
-use Rattle.std.proofs.Common.{rules, arith, ◌≡◌, ◌<◌, ◌-◌, ◌*◌, ◌^◌, [], ◌∷◌, ◌++◌, length, take, ℤ, to_z, of_z, sym, ap, ap₂, ◌∙◌, subst, length-take}
+use Rattle.std.proofs.Common.{rules, arith, ◌≡◌, ◌<◌, ◌-◌, ◌^◌, [], ◌∷◌, length, to_z, of_z, sym, ap, ap₂, ◌∙◌, subst}
 use Rattle.std.specs.Int.{w128}
 use Rattle.mvt_geometry.specs.Area.{area2, cross}
 use Rattle.mvt_geometry.specs.Commands.{pairs_of, positions, moved}

@@ -1,7 +1,6 @@
-use Rattle.std.proofs.Common.{arith, ◌≡◌, ◌/◌, ◌∷◌, [], length, refl, sym, ap, ◌∙◌, subst}
+use Rattle.std.proofs.Common.{arith, ◌≡◌, ◌/◌, [], length, sym, ap, ◌∙◌, subst}
 use Rattle.mvt_geometry.specs.Shape.{origin}
 use Rattle.mvt_geometry.specs.Commands.{pairs_of, positions}
-use Rattle.mvt_geometry.specs.Visiting.{plain}
 use Rattle.mvt_geometry.specs.Inner.Building.{ArePlaces}
 use Rattle.mvt_geometry.proofs.BuildLemmas.{positions-path}
 use Rattle.mvt_geometry.proofs.PathLemmas.{length-path}

@@ -1,4 +1,4 @@
-use Rattle.std.proofs.Common.{rules, arith, ◌≡◌, ◌<◌, ◌≤◌, ◌||◌, ◌++◌, [], ◌∷◌, false, pos, length, drop, refl, sym, ap, ◌∙◌, subst, append_assoc, append-nil, to_z, of_z}
+use Rattle.std.proofs.Common.{rules, arith, ◌≡◌, ◌<◌, ◌||◌, ◌++◌, [], ◌∷◌, false, pos, length, drop, refl, sym, ap, ◌∙◌, subst, append_assoc, append-nil, to_z, of_z}
 use Rattle.std.specs.Int.{w128}
 use Rattle.std.specs.Int.Signed.{lt_z}
 use Rattle.std.proofs.lemmas.List.{take_rest}
