@@ -1,11 +1,12 @@
 -- What is written of a layer so far.
-use Rattle.std.proofs.Common.{◌≡◌, ℕ, ◌+◌, ◌<◌, ◌≤◌, ◌⊎◌, inl, inr, List, [], ◌∷◌, ◌++◌, length, map, take, drop, get_or, slice_get, Some, Result, Err, refl, sym, ap, ap₂, ◌∙◌, subst, arith, append_assoc, append-nil, length-append}
+use Rattle.std.proofs.Common.{◌≡◌, ℕ, ◌+◌, ◌*◌, ◌<◌, ◌≤◌, ◌⊎◌, inl, inr, List, [], ◌∷◌, ◌++◌, length, map, take, drop, get_or, slice_get, Some, Result, Err, refl, sym, ap, ap₂, ◌∙◌, subst, arith, append_assoc, append-nil, length-append}
 use Rattle.std.specs.List.{AllByRecursion}
 use Rattle.std.specs.Result.{IsErrAnd}
 use Rattle.std.proofs.lemmas.Option.{slice_get_within, get_or_from_slice_get}
 use Rattle.std.proofs.lemmas.Result.{err_from_is_err_and}
-use Rattle.std.proofs.lemmas.List.{map-append, take-append-drop}
+use Rattle.std.proofs.lemmas.List.{append_cancel_right, map-append, take-append-drop}
 use Rattle.mvt_base.specs.declared.TheConstants.{LIMIT}
+use Rattle.mvt_base.specs.Related.{Extends}
 use Rattle.mvt_base.proofs.ListLemmas.{all_weaker, front_more}
 use Rattle.mvt_attrs.specs.declared.pool_error.PoolError.{PoolError}
 use Rattle.mvt_attrs.specs.declared.pool_error.PoolError.TheVariants as pools
@@ -16,6 +17,7 @@ use Rattle.mvt_attrs.specs.Tags.{Names}
 use Rattle.mvt_attrs.specs.TagPlaces.{tags_in}
 use Rattle.mvt_geometry.specs.Valid.{IsValid}
 use Rattle.mvt_wire.specs.Field.{bytes}
+use Rattle.mvt_wire.specs.Varint.{short}
 use Rattle.mvt_wire.specs.Spelling.{Plain, short_field, spelled}
 use Rattle.mvt_feature.specs.declared.feature.Feature.{Feature}
 use Rattle.mvt_feature.specs.Canonical.{feature_fields}
@@ -67,6 +69,21 @@ pub list_step : {Y : Type 0} → (g : Y → Plain) (ys : List Y) (i : ℕ) {y : 
 list_step g ys i {y} start within here was more =
     more ∙ ap (λ l. l ++ short_field (g y).number (g y).content) was ∙ spelled_more g (take i ys) y start
     ∙ ap (λ l. start ++ spelled (map g l)) (sym (front_more ys i y within (sym here)))
+
+-- what has grown twice has grown
+pub extends_more : (start grown : List ℕ) {old new : List ℕ} → old ≡ start ++ grown → Extends old new → Extends start new
+extends_more start grown was more =
+    (grown ++ more.0, more.1 ∙ ap (λ l. l ++ more.0) was ∙ append_assoc start grown more.0)
+
+-- the head of a field, without the bytes that are to come
+pub head_extends : (old new d : List ℕ) (number : ℕ) → new ++ d ≡ old ++ short_field number (bytes d) → Extends old new
+unfolding short_field
+head_extends old new d number is =
+    let tag = short (8 * number + 2) in
+    let len = short (length d) in
+    let parts : old ++ (tag ++ (len ++ d)) ≡ (old ++ (tag ++ len)) ++ d =
+    ap (λ l. old ++ l) (sym (append_assoc tag len d)) ∙ sym (append_assoc old (tag ++ len) d) in
+    (tag ++ len, append_cancel_right new (old ++ (tag ++ len)) d (is ∙ parts))
 
 -- where the entry was looked up
 pub entry_step : {Y : Type 0} → (g : Y → Plain) (ys : List Y) (i : ℕ) {y : Y} (start : List ℕ) {old new : List ℕ}

@@ -1,6 +1,7 @@
 //! A layer made canonical one feature after the other: each is written, and a visitor is told it
 //! (Mapbox Vector Tile Specification 2.1, 4.1).
-ghost use Rattle.std.specs.Prelude.{◌≡◌, ℕ, ◌+◌, ◌^◌, ◌<◌, ◌≤◌, [], ◌∷◌, ◌++◌, List, length, None, IfOk, IfErr, OnOk};
+ghost use Rattle.std.specs.Prelude.{◌≡◌, ℕ, ◌+◌, ◌^◌, ◌<◌, ◌≤◌, [], ◌∷◌, ◌++◌, List, length, None, IfOk, IfErr, OnErr, OnOk};
+ghost use Rattle.mvt_base.specs.Related.{Extends};
 ghost use Rattle.mvt_base.specs.Reports.{Reports};
 ghost use Rattle.mvt_geometry.specs.Drawing.{Draws};
 ghost use Rattle.mvt_wire.specs.Field.{bytes as in_bytes};
@@ -71,10 +72,11 @@ impl<'a, V: RewriteVisitor> RewrittenLayer<'a, V> {
     ///
     /// # Errors
     ///
-    /// When memory runs out.
+    /// When memory runs out; the list is then as it was or a longer one.
     pub fn append_head(&self, out: &mut Vec<u8>) -> Result<(), AllocError>
-        ensures { OnOk result (out.new.items
+        ensures ok { OnOk result (out.new.items
             ≡ out.old.items ++ spelled (head_fields self.now.name.now)) }
+        ensures left { OnErr result (Extends out.old.items out.new.items) }
     {
         put_head(out, self.name)
     }
@@ -90,10 +92,11 @@ impl<'a, V: RewriteVisitor> RewrittenLayer<'a, V> {
     ///
     /// # Errors
     ///
-    /// When memory runs out.
+    /// When memory runs out; the list is then as it was or a longer one.
     pub fn append_tail(&self, out: &mut Vec<u8>) -> Result<(), AllocError>
-        ensures { OnOk result (out.new.items
+        ensures ok { OnOk result (out.new.items
             ≡ out.old.items ++ tail_of self.now.writer.uses self.now.extent) }
+        ensures left { OnErr result (Extends out.old.items out.new.items) }
     {
         self.writer.append_tail(out, self.extent)
     }

@@ -1,5 +1,6 @@
 //! A layer written feature by feature, with tags by index (Mapbox Vector Tile Specification 2.1, 4.1).
-ghost use Rattle.std.specs.Prelude.{◌≡◌, ℕ, [], ◌∷◌, ◌++◌, List, length, IfOk, OnOk};
+ghost use Rattle.std.specs.Prelude.{◌≡◌, ℕ, [], ◌∷◌, ◌++◌, List, length, IfOk, OnErr, OnOk};
+ghost use Rattle.mvt_base.specs.Related.{Extends};
 ghost use Rattle.mvt_attrs.specs.declared.value.Value.{Value as AValue};
 ghost use Rattle.mvt_attrs.specs.Tags.{Names};
 ghost use Rattle.mvt_geometry.specs.Valid.{IsValid};
@@ -174,8 +175,9 @@ impl LayerWriter {
         name: &str,
         extent: u32,
     ) -> Result<(), AllocError>
-        ensures { OnOk result (out.new.items ≡ out.old.items ++ (spelled (head_fields name.now)
+        ensures ok { OnOk result (out.new.items ≡ out.old.items ++ (spelled (head_fields name.now)
             ++ (self.now.features.items ++ tail_of self.now.uses extent))) }
+        ensures left { OnErr result (Extends out.old.items out.new.items) }
     {
         put_head(out, name)?;
         out.extend_from_slice(&self.features)?;
@@ -184,7 +186,8 @@ impl LayerWriter {
 
     /// Appends the fields behind those of the features.
     pub(crate) fn append_tail(&self, out: &mut Vec<u8>, extent: u32) -> Result<(), AllocError>
-        ensures { OnOk result (out.new.items ≡ out.old.items ++ tail_of self.now.uses extent) }
+        ensures ok { OnOk result (out.new.items ≡ out.old.items ++ tail_of self.now.uses extent) }
+        ensures left { OnErr result (Extends out.old.items out.new.items) }
     {
         put_keys(out, self.uses.keys.used())?;
         put_values(out, self.uses.values.used())?;

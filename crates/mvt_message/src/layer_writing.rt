@@ -1,5 +1,6 @@
 //! The parts of a layer in their canonical spelling (Mapbox Vector Tile Specification 2.1, 4.1).
-ghost use Rattle.std.specs.Prelude.{◌≡◌, ◌⊎◌, ◌+◌, ◌<◌, ◌≤◌, [], ◌++◌, length, map, OnOk, IsErrOf};
+ghost use Rattle.std.specs.Prelude.{◌≡◌, ◌⊎◌, ◌+◌, ◌<◌, ◌≤◌, [], ◌++◌, length, map, OnErr, OnOk, IsErrOf};
+ghost use Rattle.mvt_base.specs.Related.{Extends};
 ghost use Rattle.std.specs.List.{AllByRecursion};
 ghost use Rattle.mvt_geometry.specs.Valid.{IsValid};
 ghost use Rattle.mvt_wire.specs.Spelling.{spelled};
@@ -19,7 +20,8 @@ pub(crate) const FEATURE_ROOM: usize = 256;
 
 /// Appends the version and the name.
 pub(crate) fn put_head(out: &mut Vec<u8>, name: &str) -> Result<(), AllocError>
-    ensures { OnOk result (out.new.items ≡ out.old.items ++ spelled (head_fields name.now)) }
+    ensures ok { OnOk result (out.new.items ≡ out.old.items ++ spelled (head_fields name.now)) }
+    ensures left { OnErr result (Extends out.old.items out.new.items) }
 {
     put_field(out, layer::VERSION, &Payload::Varint(u64::from(VERSION_2)))?;
     put_field(out, layer::NAME, &Payload::Len(name.as_bytes()))
@@ -62,7 +64,8 @@ pub(crate) fn put_features(
 
 /// Appends the keys.
 pub(crate) fn put_keys(out: &mut Vec<u8>, keys: &[Text]) -> Result<(), AllocError>
-    ensures { OnOk result (out.new.items ≡ out.old.items ++ spelled (map key_field keys.now)) }
+    ensures ok { OnOk result (out.new.items ≡ out.old.items ++ spelled (map key_field keys.now)) }
+    ensures left { OnErr result (Extends out.old.items out.new.items) }
 {
     for key in keys {
         put_field(out, layer::KEYS, &Payload::Len(key.as_str().as_bytes()))?;
@@ -72,7 +75,8 @@ pub(crate) fn put_keys(out: &mut Vec<u8>, keys: &[Text]) -> Result<(), AllocErro
 
 /// Appends the values.
 pub(crate) fn put_values(out: &mut Vec<u8>, values: &[Value]) -> Result<(), AllocError>
-    ensures { OnOk result (out.new.items ≡ out.old.items ++ spelled (map value_field values.now)) }
+    ensures ok { OnOk result (out.new.items ≡ out.old.items ++ spelled (map value_field values.now)) }
+    ensures left { OnErr result (Extends out.old.items out.new.items) }
 {
     for value in values {
         put_field_head(out, layer::VALUES, value_len(value))?;
@@ -83,7 +87,8 @@ pub(crate) fn put_values(out: &mut Vec<u8>, values: &[Value]) -> Result<(), Allo
 
 /// Appends the extent.
 pub(crate) fn put_extent(out: &mut Vec<u8>, extent: u32) -> Result<(), AllocError>
-    ensures { OnOk result (out.new.items ≡ out.old.items ++ spelled (extent_fields extent)) }
+    ensures ok { OnOk result (out.new.items ≡ out.old.items ++ spelled (extent_fields extent)) }
+    ensures left { OnErr result (Extends out.old.items out.new.items) }
 {
     put_field(out, layer::EXTENT, &Payload::Varint(u64::from(extent)))
 }

@@ -1,6 +1,7 @@
 //! An item made canonical from its payload: no value of it stands in memory (Mapbox Vector Tile
 //! Specification 2.1, 4.1).
-ghost use Rattle.std.specs.Prelude.{◌≡◌, ◌+◌, ◌^◌, ◌<◌, ◌≤◌, ◌++◌, length, None, IfOk, IfErr, OnOk};
+ghost use Rattle.std.specs.Prelude.{◌≡◌, ◌+◌, ◌^◌, ◌<◌, ◌≤◌, ◌++◌, length, None, IfOk, IfErr, OnErr, OnOk};
+ghost use Rattle.mvt_base.specs.Related.{Extends};
 ghost use Rattle.std.specs.Option.{option_copied, option_to_list};
 ghost use Rattle.mvt_base.specs.Reports.{Reports};
 ghost use Rattle.mvt_feature.specs.Faults.{fault_of};
@@ -23,7 +24,7 @@ use std::alloc::{AllocError, Global};
 ///
 /// # Errors
 ///
-/// As [`read_item`](crate::read_item).
+/// As [`read_item`](crate::read_item), and the list is then as it was or a longer one.
 pub fn rewrite_item<'a>(
     alloc: Global,
     payload: &'a [u8],
@@ -39,6 +40,7 @@ pub fn rewrite_item<'a>(
         × (out.new.items ≡ out.old.items ++ canonical_item item)) }
     ensures fault { IfErr result (λ error. Reports (fault_of error)
         (item_fault payload.now payload_at tag_at)) }
+    ensures left { OnErr result (Extends out.old.items out.new.items) }
 {
     match rewrite_parts(alloc, Untold, payload, payload_at, tag_at) {
         Ok(Rewritten::Layer(layer)) => {

@@ -10,7 +10,7 @@ returns-in_ok-append_layer-in-Ok-Layer-clause-item c =
       is,
       valid,
       ap (λ n. n ∷ []) name,
-      c.in_ok-append_layer-in-Ok-Layer.ensures ∙ ap₂ (λ o b. o ++ b) c.reserve.ensures.items (sym canonical),
+      c.in_ok-append_layer-in-Ok-Layer.ensures.ok ∙ ap₂ (λ o b. o ++ b) c.reserve.ensures.items (sym canonical),
     )
 
 pub returns-in_ok-extend_from_slice-in-Ok-Foreign-clause-item : goal.returns-in_ok-extend_from_slice-in-Ok-Foreign-clause-item

@@ -11,25 +11,25 @@ put_features-requires-clause-valid c = layer_geometries c.args.layer.now c.as_sl
 pub returns-in_err-put_features-clause-too_large : goal.returns-in_err-put_features-clause-too_large
 returns-in_err-put_features-clause-too_large c = λ h.
     let cause = exit_is c.from_residual-in_err-put_features.result c.from_residual-in_err-put_features.ensures.1 h in
-    let head = c.in_ok-put_head.ensures ∙ ap₂ (λ x y. x ++ spelled (head_fields y)) c.requires.no_bytes c.as_str.ensures.text in
+    let head = c.in_ok-put_head.ensures.ok ∙ ap₂ (λ x y. x ++ spelled (head_fields y)) c.requires.no_bytes c.as_str.ensures.text in
     layer_long c.args.layer.now c.as_slice.ensures (ap length head) (c.in_err-put_features.ensures.too_large (ap Err cause))
 
 pub returns-then-len-gt-LIMIT-clause-too_large : goal.returns-then-len-gt-LIMIT-clause-too_large
 returns-then-len-gt-LIMIT-clause-too_large c = λ _.
-    let head = c.in_ok-put_head.ensures ∙ ap₂ (λ x y. x ++ spelled (head_fields y)) c.requires.no_bytes c.as_str.ensures.text in
+    let head = c.in_ok-put_head.ensures.ok ∙ ap₂ (λ x y. x ++ spelled (head_fields y)) c.requires.no_bytes c.as_str.ensures.text in
     let features = c.in_ok-put_features.ensures in
     let whole = layer_put c.args.layer.now c.as_slice.ensures (c.entries.ensures ∙ features.keys)
     (c.entries-2.ensures ∙ features.values)
-    head features.ok c.in_ok-put_keys.ensures c.in_ok-put_values.ensures c.in_ok-put_extent.ensures in
+    head features.ok c.in_ok-put_keys.ensures.ok c.in_ok-put_values.ensures.ok c.in_ok-put_extent.ensures.ok in
     long_as c.put_extent.new.out.items _ c.len.result LIMIT whole (c.len.ensures ∙ c.put_extent.new.out.ok.0) c.if-len-gt-LIMIT.true
 
 pub returns-clause-put : goal.returns-clause-put
 returns-clause-put c =
-    let head = c.in_ok-put_head.ensures ∙ ap₂ (λ x y. x ++ spelled (head_fields y)) c.requires.no_bytes c.as_str.ensures.text in
+    let head = c.in_ok-put_head.ensures.ok ∙ ap₂ (λ x y. x ++ spelled (head_fields y)) c.requires.no_bytes c.as_str.ensures.text in
     let features = c.in_ok-put_features.ensures in
     layer_put c.args.layer.now c.as_slice.ensures (c.entries.ensures ∙ features.keys)
     (c.entries-2.ensures ∙ features.values)
-    head features.ok c.in_ok-put_keys.ensures c.in_ok-put_values.ensures c.in_ok-put_extent.ensures
+    head features.ok c.in_ok-put_keys.ensures.ok c.in_ok-put_values.ensures.ok c.in_ok-put_extent.ensures.ok
 
 pub returns-clause-limit : goal.returns-clause-limit
 returns-clause-limit c =

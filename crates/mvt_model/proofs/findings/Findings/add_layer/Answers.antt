@@ -15,9 +15,9 @@ returns c = λ input items l found count noted canonical.
     let layer = c.args.layer.now in
     let own = layer.visitor in
     let head : c.deref.result.now ≡ spelled (head_fields layer.name.now) =
-    c.deref.ensures.value ∙ c.in_ok-append_head.ensures ∙ ap (λ b. b ++ spelled (head_fields layer.name.now)) c.new-head.ensures.items in
+    c.deref.ensures.value ∙ c.in_ok-append_head.ensures.ok ∙ ap (λ b. b ++ spelled (head_fields layer.name.now)) c.new-head.ensures.items in
     let tail : c.deref-2.result.now ≡ tail_of layer.writer.uses layer.extent =
-    c.deref-2.ensures.value ∙ c.in_ok-append_tail.ensures ∙ ap (λ b. b ++ tail_of layer.writer.uses layer.extent) c.new-tail.ensures.items in
+    c.deref-2.ensures.value ∙ c.in_ok-append_tail.ensures.ok ∙ ap (λ b. b ++ tail_of layer.writer.uses layer.extent) c.new-tail.ensures.items in
     let payload : c.deref.result.now ++ (c.features.result.now ++ c.deref-2.result.now) ≡ canonical_item (Layer l) =
     ap₂ (λ h b. h ++ b) head (ap₂ (λ d t. d ++ t) (c.features.ensures) tail) ∙ sym canonical in
     let behind = subst (λ d. IsAfter input (written items ++ short_field LAYERS (bytes d)) c.in_ok-self.field-0) payload
