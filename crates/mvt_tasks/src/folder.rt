@@ -88,8 +88,10 @@ pub struct Disk<'a, R: Files> {
 }
 
 impl<'a, R: Files> Disk<'a, R> {
-    /// The files that the system shows the program.
-    pub fn new(files: &'a R) -> Self {
+    /// The files that the system shows the program, of which none is open.
+    pub fn new(files: &'a R) -> Self
+        ensures { result.open ≡ record { now = 0; most = 0 } }
+    {
         Disk {
             files,
             open: OpenFiles::none(),
