@@ -30,7 +30,8 @@ fn keep(held: Held, out: &mut Held)
     mem::forget(mem::replace(out, held));
 }
 
-/// A decoder of no bytes yet, whose rows shall have at most so many bytes (`mvt_decoder_new_within`).
+/// A decoder of no bytes yet, whose rows shall have at most so many bytes
+/// (`mvt_decoder_new_within`).
 #[unsafe(no_mangle)]
 pub extern "C" fn mvt_held_new(alloc: Global, most: u64, out: &mut Held) -> u32
     ensures made { result ≡ 0 → StandsFor out.new.decoder.inner [] }

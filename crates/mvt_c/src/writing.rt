@@ -39,7 +39,8 @@ pub extern "C" fn mvt_write(alloc: Global, rows: &Rows, out: &mut Bytes) -> u32
     }
 }
 
-/// What is wrong with rows, and where. Where no feature is to blame, `feature` and `has_feature` are 0.
+/// What is wrong with rows, and where. Where no feature is to blame, `feature` and `has_feature`
+/// are 0.
 #[repr(C)]
 #[derive(Clone, Copy, Debug)]
 pub struct RowsFaultRow {

@@ -13,12 +13,14 @@ pub fn lines_ask()
     ensures draw { (name : List ℕ) → task_in (name ∷ codes "draw" ∷ []) ≡ Task.Draw }
     ensures check { (name : List ℕ) → task_in (name ∷ codes "check" ∷ []) ≡ Task.Check }
     ensures rewrite { (name : List ℕ) → task_in (name ∷ codes "rewrite" ∷ []) ≡ Task.Rewrite }
-    ensures extract { (name : List ℕ) → task_in (name ∷ codes "extract" ∷ codes "b" ∷ codes "a" ∷ [])
+    ensures extract { (name : List ℕ)
+        → task_in (name ∷ codes "extract" ∷ codes "b" ∷ codes "a" ∷ [])
         ≡ Task.Extract (codes "b" ∷ codes "a" ∷ []) }
     ensures no_files { (name : List ℕ) → files_in (name ∷ codes "check" ∷ []) ≡ [] }
     ensures files { (name : List ℕ) → files_in (name ∷ codes "check" ∷ codes "b" ∷ codes "a" ∷ [])
         ≡ codes "b" ∷ codes "a" ∷ [] }
-    ensures hyphens { (name : List ℕ) → files_in (name ∷ codes "check" ∷ codes "--" ∷ codes "-b" ∷ [])
+    ensures hyphens { (name : List ℕ)
+        → files_in (name ∷ codes "check" ∷ codes "--" ∷ codes "-b" ∷ [])
         ≡ codes "-b" ∷ [] }
 {}
 

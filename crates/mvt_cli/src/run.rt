@@ -54,8 +54,8 @@ pub fn run<F: Folder, R: Source, W: Sink, E: Sink>(
         (R.state reader.new) }
     ensures reads { Reads (LIMIT + 2) (R.state reader.old) (R.state reader.new) }
 
-    // Files are each told of under their names, in order, with one open at a time, and the reader is
-    // left as it was.
+    // Files are each told of under their names, in order, with one open at a time, and the reader
+    // is left as it was.
     ensures files { files_in (map string_bytes words.now) ≢ []
         → faults_in (map string_bytes words.now) ≡ []
         → ChecksFiles LIMIT (F.holds folder.old) (files_in (map string_bytes words.now))

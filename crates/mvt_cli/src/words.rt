@@ -109,7 +109,8 @@ fn extract_command<'a>(alloc: Global) -> Result<Command<'a>, AllocError>
 /// The refusal for an error of clap's, by its kind and its text, for which memory may be wanting.
 fn refusal_of(kind: ErrorKind, text: Result<String, AllocError>) -> Refusal
     ensures usage { IsUsage result → kind ≢ ErrorKind.OutOfMemory }
-    ensures printed { kind ≢ ErrorKind.OutOfMemory → IfOk text (λ text. result ≡ Refusal.Usage text) }
+    ensures printed { kind ≢ ErrorKind.OutOfMemory
+        → IfOk text (λ text. result ≡ Refusal.Usage text) }
 {
     if kind == ErrorKind::OutOfMemory {
         return Refusal::Memory;

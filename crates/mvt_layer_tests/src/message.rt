@@ -18,7 +18,8 @@ const ONE_POINT_B: [u8; 17] = [
     0x20,
 ];
 
-// Two features with the attribute `k` of 5, by two entries of the layer for one key, and the same with one.
+// Two features with the attribute `k` of 5, by two entries of the layer for one key, and the same
+// with one.
 const TWICE_A_KEY: [u8; 44] = [
     0x78, 0x02, 0x0A, 0x01, 0x61, 0x12, 0x0B, 0x12, 0x02, 0x00, 0x00, 0x18, 0x01, 0x22, 0x03, 0x09,
     0x32, 0x22, 0x12, 0x0B, 0x12, 0x02, 0x01, 0x00, 0x18, 0x01, 0x22, 0x03, 0x09, 0x32, 0x22, 0x1A,
@@ -38,7 +39,8 @@ const BARE: [u8; 14] = [
     0x78, 0x02, 0x0A, 0x01, 0x61, 0x12, 0x04, 0x18, 0x00, 0x22, 0x00, 0x28, 0x80, 0x20,
 ];
 
-// A layer with a name, a key and a value that are too long to be kept in place, and a feature of nothing.
+// A layer with a name, a key and a value that are too long to be kept in place, and a feature of
+// nothing.
 const LONG_TEXTS: &[u8] = b"\x78\x02\x0A\x12a name of 18 bytes\
     \x12\x08\x12\x02\x00\x00\x18\x00\x22\x00\
     \x1A\x12a text of 18 bytes\x22\x14\x0A\x12a text of 18 bytes\x28\x80\x20";
@@ -217,8 +219,8 @@ fn expect_bound(rt: &impl Abort, item: Item, bound: u8) {
     drop(item);
 }
 
-// A layer: 24 and its name, the field of its feature with 11 in front, and 33 for an attribute and its key.
-// An item of another version is its bytes.
+// A layer: 24 and its name, the field of its feature with 11 in front, and 33 for an attribute and
+// its key. An item of another version is its bytes.
 #[test]
 fn bounds(rt: HostRuntime) {
     expect_bound(&rt, layer_item(&rt, &["k"]), 130);

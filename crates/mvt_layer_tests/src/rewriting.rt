@@ -4,8 +4,9 @@ use mvt_message::*;
 use std::alloc::Global;
 use std::process::Abort;
 
-// A layer whose fields stand in no order: equal keys, and long texts that differ at their ends, stand at two
-// places each, a key and a value aren't named, and the name and the extent are told twice.
+// A layer whose fields stand in no order: equal keys, and long texts that differ at their ends,
+// stand at two places each, a key and a value aren't named, and the name and the extent are told
+// twice.
 const MIXED: [u8; 309] = [
     0x28, 0x80, 0x04, 0x22, 0x1A, 0x0A, 0x18, 0x6F, 0x6E, 0x65, 0x20, 0x74, 0x65, 0x78, 0x74, 0x20,
     0x6F, 0x66, 0x20, 0x61, 0x20, 0x6C, 0x61, 0x79, 0x65, 0x72, 0x2C, 0x20, 0x65, 0x6E, 0x65, 0x22,
@@ -99,8 +100,8 @@ const POINT: [u8; 17] = [
 // A layer of version 1, whose features are no features.
 const FOREIGN: [u8; 8] = [0x12, 0x01, 0xFF, 0x78, 0x01, 0x0A, 0x01, 0x61];
 
-// The name and the canonical bytes of a short payload that begins at 2, after the tag at 0. They are put after
-// a byte.
+// The name and the canonical bytes of a short payload that begins at 2, after the tag at 0. They
+// are put after a byte.
 fn rewrite_short<'a>(
     alloc: Global,
     payload: &'a [u8],

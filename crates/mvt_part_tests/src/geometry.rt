@@ -489,7 +489,8 @@ fn expect_bound(rt: &impl Abort, geometry: Geometry, bound: u8) {
     drop(geometry);
 }
 
-// Five bytes an integer: a MoveTo, a LineTo and a ClosePath for each line, and two integers a point.
+// Five bytes an integer: a MoveTo, a LineTo and a ClosePath for each line, and two integers a
+// point.
 #[test]
 fn bounds(rt: HostRuntime) {
     expect_bound(&rt, unknown(&rt, &[9, 0, 0]), 15);

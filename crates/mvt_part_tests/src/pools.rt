@@ -14,7 +14,8 @@ const LETTERS: [&str; 40] = [
     "M", "N",
 ];
 
-// A front after which the kit's FoldHasher forgets 8 bytes, in a text of 48 bytes: see bench/hostile.cc.
+// A front after which the kit's FoldHasher forgets 8 bytes, in a text of 48 bytes: see
+// bench/hostile.cc.
 const FRONT: &str = "aaaaaaaa10000297\x13-.\x0ebG\x02b";
 
 fn hashes_alike(rt: &(impl Abort + AllocGlobal), number: u32) -> Text {
@@ -65,8 +66,8 @@ fn second_end(text: &Text) -> u64 {
     state.finish() % (1 << 20)
 }
 
-// Three texts that meet in their first slot, of which the last two meet in their second one too, and the
-// places that they get after the letters.
+// Three texts that meet in their first slot, of which the last two meet in their second one too,
+// and the places that they get after the letters.
 const MEETING: [(u32, u32); 3] = [(0, 40), (988, 41), (2_066, 42)];
 
 fn expect_meeting(rt: &(impl Abort + AllocGlobal), number: u32, last: &Text) {

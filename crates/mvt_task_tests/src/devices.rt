@@ -16,8 +16,8 @@ fn expect_untouched(rt: &impl Abort, calls: Calls) {
     expect_eq!(rt; calls.flushes, 0);
 }
 
-// A complete output is flushed once, and that of a refused tile isn't touched; the fields are told up
-// to the broken one.
+// A complete output is flushed once, and that of a refused tile isn't touched; the fields are told
+// up to the broken one.
 #[test]
 fn flushes_once_or_writes_nothing(rt: HostRuntime) {
     for (command, written) in point_written() {

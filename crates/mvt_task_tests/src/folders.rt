@@ -49,8 +49,8 @@ fn folder_of(alloc: Global) -> Result<MemoryFolder, AllocError> {
     Ok(MemoryFolder::new(alloc, files))
 }
 
-// Files whose bytes are known, and writers that keep theirs: what is said of each file is what `check`
-// answers for its bytes.
+// Files whose bytes are known, and writers that keep theirs: what is said of each file is what
+// `check` answers for its bytes.
 fn check_known(
     alloc: Global,
     names: &[String],
@@ -60,7 +60,8 @@ fn check_known(
 ) -> u8
     ensures { ChecksFiles LIMIT (held_in folder.old.files) (map string_bytes names.now)
         (run_state (Some folder.old.visits) (outflow_of writer.old) (outflow_of errors.old))
-        (run_state (Some folder.new.visits) (outflow_of writer.new) (outflow_of errors.new)) result }
+        (run_state (Some folder.new.visits) (outflow_of writer.new) (outflow_of errors.new))
+        result }
 {
     check_files(alloc, names, folder, writer, errors)
 }

@@ -1,5 +1,5 @@
-//! The tests of tasks: replies over readers and writers in memory, devices that fail, files in memory,
-//! and refused growths. They call what is public, as any other crate does.
+//! The tests of tasks: replies over readers and writers in memory, devices that fail, files in
+//! memory, and refused growths. They call what is public, as any other crate does.
 #![tactic(auto)]
 
 #[cfg(test)]

@@ -11,17 +11,22 @@ pub(super) const ONE_POINT: &[u8] =
 
 // That layer, and the same point in the layer b.
 pub(super) const BOTH: &[u8] =
-    b"\x1A\x11\x78\x02\x0A\x01a\x12\x07\x18\x01\x22\x03\x09\x32\x22\x28\x80\x20\x1A\x11\x78\x02\x0A\x01b\x12\x07\x18\x01\x22\x03\x09\x32\x22\x28\x80\x20";
+    b"\x1A\x11\x78\x02\x0A\x01a\x12\x07\x18\x01\x22\x03\x09\x32\x22\x28\x80\x20\
+    \x1A\x11\x78\x02\x0A\x01b\x12\x07\x18\x01\x22\x03\x09\x32\x22\x28\x80\x20";
 
 const POINT_LISTED: &str = "0 3 len 17\n";
 
-const POINT_SHOWN: &str =
-    "{\"layers\":[{\"extent\":4096,\"features\":[{\"attributes\":[],\"geometry\":{\"points\":[[25,17]]},\"id\":null}],\"name\":\"a\"}]}\n";
+const POINT_SHOWN: &str = concat!(
+    r#"{"layers":[{"extent":4096,"features":[{"attributes":[],"#,
+    r#""geometry":{"points":[[25,17]]},"id":null}],"name":"a"}]}"#,
+    "\n"
+);
 
 const POINT_DRAWN: &str = concat!(
     r#"<svg xmlns="http://www.w3.org/2000/svg" viewBox="0 0 1 1">"#,
-    "\n<style>path{fill:none;stroke:currentColor;stroke-width:.2%;stroke-linecap:round;stroke-linejoin:round}",
-    ".points{stroke-width:1%}.polygons{fill:currentColor;fill-opacity:.2;fill-rule:evenodd}</style>\n",
+    "\n<style>path{fill:none;stroke:currentColor;stroke-width:.2%;",
+    "stroke-linecap:round;stroke-linejoin:round}.points{stroke-width:1%}",
+    ".polygons{fill:currentColor;fill-opacity:.2;fill-rule:evenodd}</style>\n",
     r##"<svg color="#0072b2" viewBox="0 0 4096 4096"><title>a</title>"##,
     "\n",
     r#"<path class="points" d="M25 17h0"><title>{"attributes":[],"id":null}</title></path>"#,

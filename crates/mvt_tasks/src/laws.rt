@@ -20,7 +20,7 @@ pub fn one_reply()
 /// A check of files that was over before its first file, for want of memory, was cut short, with
 /// one line told.
 pub fn cut_at_first()
-    ensures { (limit : ℕ) (holds : List ℕ → Option (List ℕ)) (names : List (List ℕ)) (old : RunState)
-        (errors : Outflow) (line : List ℕ) → Prints old.errors errors line
+    ensures { (limit : ℕ) (holds : List ℕ → Option (List ℕ)) (names : List (List ℕ))
+        (old : RunState) (errors : Outflow) (line : List ℕ) → Prints old.errors errors line
         → EndsEarly limit holds names old (record old { errors = errors }) line MemoryFailure }
 {}

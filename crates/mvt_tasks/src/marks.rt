@@ -6,7 +6,8 @@ use std::alloc::{AllocError, Global};
 
 /// The lines of a text, each after a file's name.
 pub(crate) fn named(alloc: Global, name: &str, text: &[u8]) -> Result<Vec<u8>, AllocError>
-    ensures { IfOk result (λ bytes. bytes.items ≡ marked_from (name.now ++ codes ": ") true text.now) }
+    ensures { IfOk result (λ bytes. bytes.items
+        ≡ marked_from (name.now ++ codes ": ") true text.now) }
 {
     let mark = format!(in alloc; "{name}: ")?;
     marked(alloc, mark.as_bytes(), text)

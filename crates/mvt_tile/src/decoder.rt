@@ -40,7 +40,12 @@ impl Model for TileDecoder {
 
     ghost Value = { Decoding };
 
-    ghost view = { λ d. record { failure = d.failure; items = d.partial.visitor; raw = d.partial.raw.items; offset = d.partial.offset } };
+    ghost view = { λ d. record {
+      failure = d.failure;
+      items = d.partial.visitor;
+      raw = d.partial.raw.items;
+      offset = d.partial.offset;
+    } };
 
     ghost invariant = { λ d. IfNone d.failure
         ((length d.partial.visitor ≤ d.partial.offset)

@@ -22,13 +22,14 @@ use mvt_model::numbers::tile;
 use mvt_wire::{Field, Fields, Payload};
 use std::alloc::Global;
 
-/// Has a visitor take the first layer of version 2 of a name, and answers it; none where no layer has
-/// that name. Of the layers before it the versions and names are looked at, and of what is after it
-/// nothing.
+/// Has a visitor take the first layer of version 2 of a name, and answers it; none where no layer
+/// has that name. Of the layers before it the versions and names are looked at, and of what is
+/// after it nothing.
 ///
 /// # Errors
 ///
-/// The first fault of that layer; bytes that are no field, before it; too many bytes; want of memory.
+/// The first fault of that layer; bytes that are no field, before it; too many bytes; want of
+/// memory.
 pub fn visit_named<V: TileVisitor>(
     alloc: Global,
     visitor: V,

@@ -36,7 +36,8 @@ impl Model for Layers {
 
     ghost view = { λ l. l.items.items };
 
-    ghost invariant = { λ l. AreKept l.names.names.keys l.items.items × (l.names.count ≡ length l.items.items) };
+    ghost invariant = { λ l. AreKept l.names.names.keys l.items.items
+        × (l.names.count ≡ length l.items.items) };
 }
 
 impl Layers {
@@ -155,8 +156,8 @@ pub(crate) fn name_of(alloc: Global, item: &Item) -> Result<Option<Text>, AllocE
     }
 }
 
-/// Adds the name of an item to the names of those before it, where it has one, and answers whether it
-/// is new.
+/// Adds the name of an item to the names of those before it, where it has one, and answers whether
+/// it is new.
 ///
 /// # Errors
 ///

@@ -82,8 +82,8 @@ fn feed_all<R: Source, T: ItemVisitor>(
     requires raw { partial.old.raw.items ≡ [] }
     requires offset { partial.old.offset ≡ 0 }
     ensures fed { (given : T.Given) → T.has_visited given partial.old.visitor [] → OnOk result
-        (HasFed LIMIT (T.has_visited given partial.new.visitor) partial.new.offset partial.new.raw.items
-        (R.state reader.old).left (R.state reader.new).left 0) }
+        (HasFed LIMIT (T.has_visited given partial.new.visitor) partial.new.offset
+        partial.new.raw.items (R.state reader.old).left (R.state reader.new).left 0) }
     ensures end { OnOk result (IsAtEnd (R.state reader.new).left) }
     ensures stopped { IfErr result (HasStopped LIMIT (R.state reader.new).given
         (R.state reader.old).left (R.state reader.new).left) }

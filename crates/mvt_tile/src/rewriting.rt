@@ -1,5 +1,5 @@
-//! A tile made canonical: its items that are wanted are rewritten one after the other, and the others
-//! are judged.
+//! A tile made canonical: its items that are wanted are rewritten one after the other, and the
+//! others are judged.
 ghost use Rattle.std.specs.Prelude.{◌≡◌, ◌+◌, ◌≤◌, max, Bool, true, false, List, [], ◌∷◌, ◌++◌, length, IfOk, IfErr, IfSome, OnOk};
 ghost use Rattle.std.specs.Io.KnownBytes.{IsAtEnd};
 ghost use Rattle.std.specs.List.{flat_map};
@@ -143,8 +143,8 @@ impl ItemVisitor for Rewriter {
 
     ghost has_visited = { HasRewritten LIMIT };
 
-    /// Makes an item that is wanted canonical, and keeps its bytes; judges another. It keeps the name
-    /// of either.
+    /// Makes an item that is wanted canonical, and keeps its bytes; judges another. It keeps the
+    /// name of either.
     fn visit_item(
         &mut self,
         alloc: Global,

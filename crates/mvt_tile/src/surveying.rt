@@ -18,8 +18,8 @@ use mvt_base::LIMIT;
 use mvt_model::{Findings, Survey};
 use std::alloc::Global;
 
-/// Surveys a tile. One item is made canonical at a time, feature by feature, compared with the bytes
-/// where it stands, and let go: so what is kept are the names of the layers and the notes.
+/// Surveys a tile. One item is made canonical at a time, feature by feature, compared with the
+/// bytes where it stands, and let go: so what is kept are the names of the layers and the notes.
 ///
 /// # Errors
 ///

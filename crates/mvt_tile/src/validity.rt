@@ -32,8 +32,8 @@ pub fn validate(alloc: Global, tile: &Tile) -> Result<bool, AllocError>
     Ok(first_invalid(alloc, tile)?.is_none())
 }
 
-/// The index of the first item that keeps a tile from being written, since it can't be written itself
-/// or has the name of an earlier layer. It takes the time that [`validate`] takes.
+/// The index of the first item that keeps a tile from being written, since it can't be written
+/// itself or has the name of an earlier layer. It takes the time that [`validate`] takes.
 pub fn first_invalid(alloc: Global, tile: &Tile) -> Result<Option<usize>, AllocError>
     ensures { IfOk result (λ found. MatchOption found (Valid tile.now)
         (IsFirstInvalid tile.now.items)) }

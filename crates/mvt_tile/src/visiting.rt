@@ -20,14 +20,14 @@ use mvt_base::{LIMIT, Text};
 use mvt_message::MessageError;
 use std::alloc::Global;
 
-/// What is told the items of a tile, one after the other. It judges an item while it takes it, but for
-/// its name.
+/// What is told the items of a tile, one after the other. It judges an item while it takes it, but
+/// for its name.
 pub trait TileVisitor: Drop {
     // What it has when it took these items.
     ghost has_items: { Self → List Item → Type 0 };
 
-    /// Takes the item of a payload, and answers the name of the layer that it is. The payload's first byte
-    /// and the tag of its field stand at these places.
+    /// Takes the item of a payload, and answers the name of the layer that it is. The payload's
+    /// first byte and the tag of its field stand at these places.
     ///
     /// # Errors
     ///
@@ -41,18 +41,19 @@ pub trait TileVisitor: Drop {
     ) -> Result<Option<Text>, MessageError>
         requires known { (items : List Item) × has_items self.old items }
         requires fits { payload_at + length payload.now ≤ LIMIT }
-        ensures item { (items : List Item) → has_items self.old items → IfOk result (λ name. (item : Item)
-            × IsItem payload.now item × ValidItem item × (names_in item ≡ option_to_list name)
-            × has_items self.new (items ++ item ∷ [])) }
-        ensures fault { IfErr result (λ error. Reports (fault_of error) (item_fault payload.now payload_at tag_at)) };
+        ensures item { (items : List Item) → has_items self.old items → IfOk result (λ name.
+            (item : Item) × IsItem payload.now item × ValidItem item
+            × (names_in item ≡ option_to_list name) × has_items self.new (items ++ item ∷ [])) }
+        ensures fault { IfErr result (λ error. Reports (fault_of error)
+            (item_fault payload.now payload_at tag_at)) };
 }
 
 /// Has a visitor take the items of a tile, and answers it.
 ///
 /// # Errors
 ///
-/// The first fault, which is the one that [`decode`](crate::decode) tells; want of memory. Never a failed
-/// read.
+/// The first fault, which is the one that [`decode`](crate::decode) tells; want of memory. Never a
+/// failed read.
 pub fn visit_tile<V: TileVisitor>(alloc: Global, visitor: V, bytes: &[u8]) -> Result<V, DecodeError>
     requires { V.has_items visitor [] }
     ensures tile { IfOk result (λ visitor. (tile : Tile) × IsTile LIMIT bytes.now tile × Valid tile
@@ -79,7 +80,8 @@ impl<V: TileVisitor> ItemVisitor for Named<V> {
 
     ghost Given = { Unit {0} };
 
-    ghost has_visited = { λ _ named items. HasNamed (V.has_items named.visitor) named.names.count named.names.names.keys items };
+    ghost has_visited = { λ _ named items. HasNamed (V.has_items named.visitor) named.names.count
+        named.names.names.keys items };
 
     /// Has the visitor take an item, and adds its name.
     fn visit_item(

@@ -44,13 +44,14 @@ impl<V: TileVisitor> Model for VisitingDecoder<V> {
       d.partial.visitor.visitor,
     ) };
 
-    ghost invariant = { λ d. IfNone d.failure ((s : List ℕ) × HasVisited LIMIT (V.has_items d.partial.visitor.visitor) (record {
-      failure = d.failure;
-      count = d.partial.visitor.names.count;
-      names = d.partial.visitor.names.names.keys;
-      raw = d.partial.raw.items;
-      offset = d.partial.offset;
-    }) s) };
+    ghost invariant = { λ d. IfNone d.failure ((s : List ℕ)
+        × HasVisited LIMIT (V.has_items d.partial.visitor.visitor) (record {
+          failure = d.failure;
+          count = d.partial.visitor.names.count;
+          names = d.partial.visitor.names.names.keys;
+          raw = d.partial.raw.items;
+          offset = d.partial.offset;
+        }) s) };
 }
 
 impl<V: TileVisitor> VisitingDecoder<V> {

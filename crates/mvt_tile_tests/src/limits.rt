@@ -27,7 +27,8 @@ fn filled(rt: &(impl Abort + AllocGlobal), front: &[u8], byte: u8) -> Vec<u8> {
     bytes
 }
 
-// An input that is as long as the limit, byte by byte: so many bytes are held, and one byte more is refused.
+// An input that is as long as the limit, byte by byte: so many bytes are held, and one byte more is
+// refused.
 fn expect_fed(rt: &(impl Abort + AllocGlobal), input: &[u8], held: usize, error: DecodeError) {
     let mut decoder = TileDecoder::new(rt.alloc());
     expect_eq!(rt; feed_bytes(&mut decoder, input), Ok(()));
@@ -178,8 +179,8 @@ fn expect_read(rt: &(impl Abort + AllocGlobal), input: &[u8], tile: &Tile) {
     drop(read);
 }
 
-// A bound that shares no text exceeds the limit, and the bytes are within it: 13 a feature, 1,048,584 of
-// the text, 11 of the rest and 4 in front; then 7 of the other item.
+// A bound that shares no text exceeds the limit, and the bytes are within it: 13 a feature,
+// 1,048,584 of the text, 11 of the rest and 4 in front; then 7 of the other item.
 #[test]
 fn is_written_past_the_bound(rt: HostRuntime) {
     let tile = sharing(&rt);

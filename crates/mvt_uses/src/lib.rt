@@ -1,5 +1,5 @@
-//! Four uses of `mvt_tile`, as a caller writes them: say why a stream is no tile, read a tile in pieces,
-//! look into a tile, make one.
+//! Four uses of `mvt_tile`, as a caller writes them: say why a stream is no tile, read a tile in
+//! pieces, look into a tile, make one.
 #![tactic(auto)]
 
 mod counting;

@@ -10,15 +10,18 @@ use mvt_tile::{
 };
 use std::alloc::{AllocError, Global};
 
-/// The canonical bytes of a tile with one named place, or nothing where the place can't stand in a tile.
+/// The canonical bytes of a tile with one named place, or nothing where the place can't stand in a
+/// tile.
 ///
 /// # Errors
 ///
 /// TooLarge for more bytes than the limit; want of memory.
 pub fn place_tile(alloc: Global, name: &str, at: Point) -> Result<Option<Vec<u8>>, PutError>
     ensures bytes { IfOk result (AreBytesOf (place_of name.now at)) }
-    ensures reads { IfOk result (λ found. IfSome found (λ bytes. IsTile LIMIT bytes.items (place_of name.now at))) }
-    ensures too_large { IsErrOf result PutError.TooLarge → LIMIT < length (canonical (place_of name.now at)) }
+    ensures reads { IfOk result (λ found. IfSome found (λ bytes.
+        IsTile LIMIT bytes.items (place_of name.now at))) }
+    ensures too_large { IsErrOf result PutError.TooLarge
+        → LIMIT < length (canonical (place_of name.now at)) }
 {
     let tile = place(alloc, name, at)?;
     if !validate(alloc, &tile)? {

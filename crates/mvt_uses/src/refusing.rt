@@ -6,8 +6,8 @@ ghost use Rattle.mvt_tile.specs.TileRules.{fault_within};
 use mvt_tile::{DecodeError, Fault, LIMIT, Source, read_tile};
 use std::alloc::Global;
 
-/// The first broken rule of the bytes that a reader has left, with its layer, its feature, its place
-/// and its cause; nothing where they are a tile. It reads no further after a fault.
+/// The first broken rule of the bytes that a reader has left, with its layer, its feature, its
+/// place and its cause; nothing where they are a tile. It reads no further after a fault.
 ///
 /// # Errors
 ///

@@ -31,7 +31,10 @@ pub fn svg_text(alloc: Global, tile: &Tile) -> Result<String, ViewError>
 {
     let mut text = String::from_str(
         alloc,
-        "<svg xmlns=\"http://www.w3.org/2000/svg\" viewBox=\"0 0 1 1\">\n<style>path{fill:none;stroke:currentColor;stroke-width:.2%;stroke-linecap:round;stroke-linejoin:round}.points{stroke-width:1%}.polygons{fill:currentColor;fill-opacity:.2;fill-rule:evenodd}</style>\n",
+        "<svg xmlns=\"http://www.w3.org/2000/svg\" viewBox=\"0 0 1 1\">\n\
+        <style>path{fill:none;stroke:currentColor;stroke-width:.2%;\
+        stroke-linecap:round;stroke-linejoin:round}.points{stroke-width:1%}\
+        .polygons{fill:currentColor;fill-opacity:.2;fill-rule:evenodd}</style>\n",
     )?;
     push_items(alloc, &mut text, tile.items.as_slice())?;
     text.push_str("</svg>")?;

@@ -11,8 +11,10 @@ use std::process::Abort;
 
 mod svg;
 
-const ONE_POINT: &str =
-    r#"{"layers":[{"extent":4096,"features":[{"attributes":[],"geometry":{"points":[[25,17]]},"id":null}],"name":"a"}]}"#;
+const ONE_POINT: &str = concat!(
+    r#"{"layers":[{"extent":4096,"features":[{"attributes":[],"#,
+    r#""geometry":{"points":[[25,17]]},"id":null}],"name":"a"}]}"#
+);
 
 const FLAT: &str = "ok layers 1 features 1 canonical yes\nnote FlatRing layer 0 feature 0 ring 2\n";
 
@@ -179,12 +181,21 @@ fn shows_tiles(rt: HostRuntime) {
     expect_json(
         &rt,
         rings_tile(&rt),
-        r#"{"layers":[{"extent":4096,"features":[{"attributes":[],"geometry":{"polygons":[{"outer":[[0,0],[10,0],[10,10],[0,10]],"rest":[[[2,2],[2,8],[8,8]],[[1,1],[2,2],[3,3]]]}]},"id":null}],"name":"a"}]}"#,
+        concat!(
+            r#"{"layers":[{"extent":4096,"features":[{"attributes":[],"geometry":{"polygons":[{"#,
+            r#""outer":[[0,0],[10,0],[10,10],[0,10]],"#,
+            r#""rest":[[[2,2],[2,8],[8,8]],[[1,1],[2,2],[3,3]]]}]},"id":null}],"name":"a"}]}"#
+        ),
     );
     expect_json(
         &rt,
         all_kinds(&rt),
-        r#"{"layers":[{"extent":4096,"features":[{"attributes":[["a",{"int":5}],["b",{"uint":5}],["c",{"sint":5}],["d",{"float_bits":2147483648}],["e",{"double_bits":9223372036854775808}],["f",{"bool":true}]],"geometry":{"unknown":[]},"id":null}],"name":"a"}]}"#,
+        concat!(
+            r#"{"layers":[{"extent":4096,"features":[{"attributes":["#,
+            r#"["a",{"int":5}],["b",{"uint":5}],["c",{"sint":5}],["d",{"float_bits":2147483648}],"#,
+            r#"["e",{"double_bits":9223372036854775808}],["f",{"bool":true}]],"#,
+            r#""geometry":{"unknown":[]},"id":null}],"name":"a"}]}"#
+        ),
     );
     expect_json(
         &rt,
@@ -207,8 +218,8 @@ fn far_line(rt: &(impl Abort + AllocGlobal), text: &str) -> Feature {
     }
 }
 
-// A text with quotes, control characters and characters beyond ASCII, and numbers at their ends. The
-// expected text was made by Python: json.dumps(tile, ensure_ascii=False, sort_keys=True,
+// A text with quotes, control characters and characters beyond ASCII, and numbers at their ends.
+// The expected text was made by Python: json.dumps(tile, ensure_ascii=False, sort_keys=True,
 // separators=(",", ":")).
 #[test]
 fn shows_texts(rt: HostRuntime) {
@@ -217,7 +228,9 @@ fn shows_texts(rt: HostRuntime) {
     let expected = concat!(
         r#"{"layers":[{"extent":4096,"features":[{"attributes":[["\"",{"string":"#,
         "\"a\\\"b\\\\c/\\n\\r\\t\\b\\f\\u0001\\u001f\u{7f}\u{e9}\u{2028}\u{6f22}\u{1f600}\"",
-        r#"}],["",{"sint":-9223372036854775808}]],"geometry":{"lines":[[[-9,2147483647],[-2147483647,0]]]},"id":18446744073709551615}],"name":"#,
+        r#"}],["",{"sint":-9223372036854775808}]],"#,
+        r#""geometry":{"lines":[[[-9,2147483647],[-2147483647,0]]]},"#,
+        r#""id":18446744073709551615}],"name":"#,
         "\"a\\\"b\\\\c/\\n\\r\\t\\b\\f\\u0001\\u001f\u{7f}\u{e9}\u{2028}\u{6f22}\u{1f600}\"",
         "}]}"
     );

@@ -1,5 +1,5 @@
-//! Refused growths: each test passes too where one allocation, whichever, is refused. Each call has two
-//! turns, of which one at most may want memory; the other answers as ever.
+//! Refused growths: each test passes too where one allocation, whichever, is refused. Each call has
+//! two turns, of which one at most may want memory; the other answers as ever.
 use super::rows::*;
 use super::support::{KEYS, feed_bytes, joined, keyed, named, names};
 use crate::expect::{expect, expect_eq};
@@ -223,8 +223,8 @@ enum Written {
     Nothing,
 }
 
-// What a writer took of both items, which a run ended with this answer. Where memory is wanted, it took
-// whole items only.
+// What a writer took of both items, which a run ended with this answer. Where memory is wanted, it
+// took whole items only.
 fn what_was_taken(
     rt: &impl Abort,
     answer: Result<(), WriteError>,
@@ -259,8 +259,8 @@ fn write_both(rt: &(impl Abort + AllocGlobal), both: &[u8]) -> Written {
     what
 }
 
-// The sweep sees that some run prints the line: then the first item was written before the second was
-// made, so items are made one after the other.
+// The sweep sees that some run prints the line: then the first item was written before the second
+// was made, so items are made one after the other.
 #[test]
 fn refused_writes(rt: HostRuntime) {
     let mut refused = 0u32;

@@ -1,5 +1,5 @@
-//! The known tiles, pieces, devices and names, with growths refused. As in the other tests of refused
-//! growths, one turn at most wants memory, and the others answer as ever.
+//! The known tiles, pieces, devices and names, with growths refused. As in the other tests of
+//! refused growths, one turn at most wants memory, and the others answer as ever.
 use super::rows::*;
 use super::support::{expect_failed, joined, names};
 use crate::expect::{expect, expect_eq};

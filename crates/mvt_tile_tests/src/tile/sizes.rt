@@ -1,5 +1,5 @@
-//! Tiles of the sizes at which code could turn: none, one and two of a kind, around each bound up to which
-//! entries are compared one by one, and many. With ample memory each call answers.
+//! Tiles of the sizes at which code could turn: none, one and two of a kind, around each bound up
+//! to which entries are compared one by one, and many. With ample memory each call answers.
 use super::support::{KEYS, expect_tile, layer_a, named, names, one_feature, points, reader_of};
 use crate::expect::{expect, expect_eq};
 use mvt_attrs::{Attribute, Value};

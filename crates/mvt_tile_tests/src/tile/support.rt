@@ -180,8 +180,8 @@ pub(crate) fn expect_failed(
     expect_eq!(rt; decoder.finish().err(), Some(error));
 }
 
-// The input is this tile, whole and byte by byte, and where it is only judged it has no fault; the tile is
-// written as these bytes, and a survey tells whether the input is them.
+// The input is this tile, whole and byte by byte, and where it is only judged it has no fault; the
+// tile is written as these bytes, and a survey tells whether the input is them.
 pub(crate) fn expect_tile(
     rt: &(impl Abort + AllocGlobal),
     input: &[u8],
@@ -250,7 +250,8 @@ pub(crate) fn reader_of(
     MemorySource::new(bytes, step.max(1), fails_from)
 }
 
-// The input has this fault, whole, byte by byte, and where it is only judged, surveyed or rewritten.
+// The input has this fault, whole, byte by byte, and where it is only judged, surveyed or
+// rewritten.
 pub(crate) fn expect_fault(rt: &(impl Abort + AllocGlobal), input: &[u8], error: DecodeError) {
     let alloc = rt.alloc();
     expect_eq!(rt; decode(alloc, input).err(), Some(error), "of {input:?}");

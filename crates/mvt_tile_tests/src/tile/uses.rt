@@ -7,8 +7,9 @@ use mvt_uses::{count_features, first_fault, place_tile, tile_of_pieces};
 use std::process::Abort;
 
 // The layer "places", in which Rome stands at (1,2).
-const ROME: &[u8] =
-    b"\x1A\x28\x78\x02\x0A\x06places\x12\x0B\x12\x02\x00\x00\x18\x01\x22\x03\x09\x02\x04\x1A\x04name\x22\x06\x0A\x04Rome\x28\x80\x20";
+const ROME: &[u8] = b"\x1A\x28\x78\x02\x0A\x06places\
+    \x12\x0B\x12\x02\x00\x00\x18\x01\x22\x03\x09\x02\x04\
+    \x1A\x04name\x22\x06\x0A\x04Rome\x28\x80\x20";
 
 fn expect_place(rt: &(impl Abort + AllocGlobal), at: Point, expected: Option<&[u8]>) {
     let bytes = place_tile(rt.alloc(), "Rome", at).expect(rt, "a place");

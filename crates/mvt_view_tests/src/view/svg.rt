@@ -3,8 +3,9 @@ use super::*;
 
 const HEAD: &str = concat!(
     r#"<svg xmlns="http://www.w3.org/2000/svg" viewBox="0 0 1 1">"#,
-    "\n<style>path{fill:none;stroke:currentColor;stroke-width:.2%;stroke-linecap:round;stroke-linejoin:round}",
-    ".points{stroke-width:1%}.polygons{fill:currentColor;fill-opacity:.2;fill-rule:evenodd}</style>\n"
+    "\n<style>path{fill:none;stroke:currentColor;stroke-width:.2%;",
+    "stroke-linecap:round;stroke-linejoin:round}.points{stroke-width:1%}",
+    ".polygons{fill:currentColor;fill-opacity:.2;fill-rule:evenodd}</style>\n"
 );
 
 const POINT: &str = concat!(
@@ -33,7 +34,8 @@ fn draws_tiles(rt: HostRuntime) {
         concat!(
             r##"<svg color="#0072b2" viewBox="0 0 4096 4096"><title>a</title>"##,
             "\n",
-            r#"<path class="polygons" d="M0 0L10 0L10 10L0 10zM2 2L2 8L8 8zM1 1L2 2L3 3z"><title>{"attributes":[],"id":null}</title></path>"#,
+            r#"<path class="polygons" d="M0 0L10 0L10 10L0 10zM2 2L2 8L8 8zM1 1L2 2L3 3z">"#,
+            r#"<title>{"attributes":[],"id":null}</title></path>"#,
             "\n</svg>\n</svg>"
         ),
     );
@@ -43,7 +45,10 @@ fn draws_tiles(rt: HostRuntime) {
         concat!(
             r##"<svg color="#0072b2" viewBox="0 0 4096 4096"><title>a</title>"##,
             "\n",
-            r#"<path class="unknown" d=""><title>{"attributes":[["a",{"int":5}],["b",{"uint":5}],["c",{"sint":5}],["d",{"float_bits":2147483648}],["e",{"double_bits":9223372036854775808}],["f",{"bool":true}]],"id":null}</title></path>"#,
+            r#"<path class="unknown" d=""><title>{"attributes":["#,
+            r#"["a",{"int":5}],["b",{"uint":5}],["c",{"sint":5}],["d",{"float_bits":2147483648}],"#,
+            r#"["e",{"double_bits":9223372036854775808}],["f",{"bool":true}]],"#,
+            r#""id":null}</title></path>"#,
             "\n</svg>\n</svg>"
         ),
     );
@@ -58,7 +63,8 @@ fn draws_layers_by_index(rt: HostRuntime) {
         concat!(
             r##"<svg color="#d55e00" viewBox="0 0 4096 4096"><title>a</title>"##,
             "\n",
-            r#"<path class="points" d="M25 17h0"><title>{"attributes":[],"id":null}</title></path>"#,
+            r#"<path class="points" d="M25 17h0">"#,
+            r#"<title>{"attributes":[],"id":null}</title></path>"#,
             "\n</svg>\n</svg>"
         ),
     );
@@ -130,14 +136,19 @@ fn two_lines(rt: &(impl Abort + AllocGlobal), text: &str) -> Feature {
 // hasn't. In JSON those below U+0020 are spelled.
 #[test]
 fn draws_texts(rt: HostRuntime) {
-    let name =
-        "a<b>&\"'\r\n\t\u{0}\u{8}\u{1f}\u{7f}\u{e9}\u{d7ff}\u{e000}\u{fffd}\u{fffe}\u{ffff}\u{10000}]]>";
+    let name = concat!(
+        "a<b>&\"'\r\n\t\u{0}\u{8}\u{1f}\u{7f}\u{e9}",
+        "\u{d7ff}\u{e000}\u{fffd}\u{fffe}\u{ffff}\u{10000}]]>"
+    );
     let expected = concat!(
         r##"<svg color="#0072b2" viewBox="0 0 4096 4096"><title>"##,
-        "a&lt;b&gt;&amp;\"'&#13;\n\t\u{fffd}\u{fffd}\u{fffd}\u{7f}\u{e9}\u{d7ff}\u{e000}\u{fffd}\u{fffd}\u{fffd}\u{10000}]]&gt;",
+        "a&lt;b&gt;&amp;\"'&#13;\n\t\u{fffd}\u{fffd}\u{fffd}\u{7f}\u{e9}",
+        "\u{d7ff}\u{e000}\u{fffd}\u{fffd}\u{fffd}\u{10000}]]&gt;",
         "</title>\n",
-        r#"<path class="lines" d="M-9 2147483647L-2147483647 0L5 5M1 2L3 4"><title>{"attributes":[["&lt;/title&gt;",{"string":"#,
-        "\"a&lt;b&gt;&amp;\\\"'\\r\\n\\t\\u0000\\b\\u001f\u{7f}\u{e9}\u{d7ff}\u{e000}\u{fffd}\u{fffd}\u{fffd}\u{10000}]]&gt;\"",
+        r#"<path class="lines" d="M-9 2147483647L-2147483647 0L5 5M1 2L3 4">"#,
+        r#"<title>{"attributes":[["&lt;/title&gt;",{"string":"#,
+        "\"a&lt;b&gt;&amp;\\\"'\\r\\n\\t\\u0000\\b\\u001f\u{7f}\u{e9}",
+        "\u{d7ff}\u{e000}\u{fffd}\u{fffd}\u{fffd}\u{10000}]]&gt;\"",
         r#"}]],"id":18446744073709551615}</title></path>"#,
         "\n</svg>\n</svg>"
     );
