@@ -19,9 +19,6 @@ use mvt_geometry::Geometry;
 use mvt_wire::{Payload, put_field};
 use std::alloc::{AllocError, Global};
 
-/// The most bytes that a list of features has room for at first.
-const MOST_ROOM: usize = 1 << 16;
-
 /// Writes a layer feature by feature: first come its values and its keys, which tags name by their
 /// indices.
 ///
@@ -58,8 +55,7 @@ impl LayerWriter {
         }
     }
 
-    /// The same with room for the features of a payload of so many bytes, of which a small one is
-    /// written without a growth.
+    /// The same with room for the features of a payload of so many bytes, which rarely become more.
     ///
     /// # Errors
     ///
@@ -69,7 +65,7 @@ impl LayerWriter {
     {
         let mut writer = LayerWriter::new(alloc);
         writer.payload.reserve(bytes.min(FEATURE_ROOM))?;
-        writer.features.reserve(bytes.min(MOST_ROOM))?;
+        writer.features.reserve(bytes)?;
         Ok(writer)
     }
 
