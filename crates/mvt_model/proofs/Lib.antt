@@ -3,5 +3,6 @@ mod CanonicalLemmas
 mod WritingLemmas
 mod BoundLemmas
 mod ComparingLemmas
+mod IdLemmas
 mod NoteLemmas
 mod SurveyLemmas

@@ -1,7 +1,6 @@
 -- Notes of numbered elements.
-use Rattle.std.proofs.Common.{◌≡◌, inr, inl, ne_eqb, ◌≤◌, ℕ, ◌+◌, ◌<◌, Bool, true, false, cond, eqb, List, [], ◌∷◌, ◌++◌, length, take, get_or, Option, Some, None, refl, sym, ap, ap₂, ◌∙◌, arith, append_assoc, append-nil, length-append, length-take, add-zero, zero-add}
-use Rattle.std.proofs.lemmas.Bool.{cases_lt}
-use Rattle.std.proofs.lemmas.List.{get_or_default, take-append-le, take_all}
+use Rattle.std.proofs.Common.{◌≡◌, ℕ, ◌+◌, ◌<◌, Bool, true, false, cond, eqb, List, [], ◌∷◌, ◌++◌, length, take, get_or, Option, Some, None, refl, sym, ap, ap₂, ◌∙◌, arith, append_assoc, append-nil, length-append, length-take, add-zero, zero-add}
+use Rattle.std.proofs.lemmas.List.{take-append-le, take_all}
 use Rattle.std.specs.List.{position_from}
 use Rattle.std.specs.Option.{option_or}
 use Rattle.std.proofs.lemmas.Grind.{flat_map-append}
@@ -96,6 +95,11 @@ pub id_noted : (layer n : ℕ) (found other : ℕ → Option ℕ) (id : Option �
 id_noted layer n found other None same = refl
 id_noted layer n found other (Some id) same = ap (earlier_note layer n) (same id)
 
+-- the note of an id, from the feature that had it first
+pub id_note_is : (layer n : ℕ) (first : ℕ → Option ℕ) {id : Option ℕ} {k : ℕ} {earlier : Option ℕ} → id ≡ Some k → earlier ≡ first k
+    → id_note layer n first id ≡ earlier_note layer n earlier
+id_note_is layer n first is same = ap (id_note layer n first) is ∙ ap (earlier_note layer n) (sym same)
+
 -- of the features so far
 
 pub first_of_last : (q : ℕ) (features : List Feature) (f : Feature) (n : ℕ) (id : Option ℕ) → n ≡ length features → f.id ≡ id
@@ -137,38 +141,6 @@ noted_last at layer features f n id found old mid new layer_is count is same so_
     (count ∙ sym (zero-add (length features)))
     ∙ ap (λ ns. numbered (feature_notes layer all) 0 features ++ ns) (sym (append-nil (feature_notes layer all (0 + length features) f)))
     ∙ sym (numbered-append (feature_notes layer all) 0 features (f ∷ []))
-
--- ids that rise
-
-other_id : (q next : ℕ) (id : Option ℕ) → next ≤ q → ((k : ℕ) → id ≡ Some k → k < next) → is_id q id ≡ false
-other_id q next None above below = refl
-other_id q next (Some k) above below = ne_eqb q k (λ e. (let less = below k refl in omega (arith, e)))
-
-pub none_above : (q next : ℕ) (features : List Feature) (i : ℕ) (f : Feature) → i < length features → f ≡ get_or features i f
-    → first_of q (take i features) ≡ None → next ≤ q → ((k : ℕ) → f.id ≡ Some k → k < next) → first_of q (take (i + 1) features) ≡ None
-none_above q next features i f h is none above below =
-    first_of_more q features i f h is
-    ∙ ap₂ (λ o b. option_or o (cond b (Some i) None)) none (other_id q next f.id above below)
-
--- no feature so far has an id of one before it
-abbrev pub AreDistinctTo : ℕ → List Feature → Type 0
-AreDistinctTo i features = (n : ℕ) (f : Feature) (id : ℕ) → n < i → f ≡ get_or features n f → f.id ≡ Some id
-    → first_of id (take n features) ≡ None
-
-pub distinct_more : (features : List Feature) (i : ℕ) (f : Feature) → i < length features → f ≡ get_or features i f
-    → AreDistinctTo i features → ((id : ℕ) → f.id ≡ Some id → first_of id (take i features) ≡ None) → AreDistinctTo (i + 1) features
-distinct_more features i f h is before here = λ n g id within at own. elim (cases_lt n i) [
-  | inl earlier ↦ before n g id earlier at own
-  | inr last ↦
-      let same : n ≡ i = omega arith in
-      let is_last : g ≡ f = at ∙ ap (λ k. get_or features k g) same ∙ get_or_default features i g f h ∙ sym is in
-      ap (λ k. first_of id (take k features)) same ∙ here id (ap (λ (x : Feature). x.id) (sym is_last) ∙ own)
-]
-
-pub nothing_noted : (layer n : ℕ) (features : List Feature) (id : Option ℕ)
-    → ((k : ℕ) → id ≡ Some k → first_of k (take n features) ≡ None) → id_note layer n (λ k. first_of k (take n features)) id ≡ []
-nothing_noted layer n features None none = refl
-nothing_noted layer n features (Some k) none = ap (earlier_note layer n) (none k refl)
 
 pub feature_noted : (layer n : ℕ) (features : List Feature) (f : Feature) (found : ℕ → Option ℕ) (old mid new : List Note)
     → ((q : ℕ) → found q ≡ first_of q (take n features)) → mid ≡ old ++ id_note layer n found f.id

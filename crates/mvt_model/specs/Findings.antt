@@ -1,8 +1,6 @@
 -- What a survey knows of the items so far.
 use Rattle.std.specs.Prelude.{◌≡◌, ℕ, ◌*◌, ◌≤◌, List, length, map}
-use Rattle.std.specs.BTreeMap.{get}
 use Rattle.std.specs.List.{sum_by}
-use Rattle.std.specs.Ordering.{nat_cmp}
 use Rattle.mvt_feature.specs.declared.feature.Feature.{Feature}
 use Rattle.mvt_wire.specs.Spelling.{spelled}
 use Rattle.mvt_message.specs.declared.item.Item.{Item}
@@ -10,6 +8,7 @@ use Rattle.mvt_model.specs.declared.findings.Findings.{Findings}
 use Rattle.mvt_model.specs.declared.layer_noting.LayerNotes.{LayerNotes}
 use Rattle.mvt_model.specs.CanonicalTiles.{item_field}
 use Rattle.mvt_model.specs.Comparing.{IsAfter}
+use Rattle.mvt_model.specs.FirstIds.{AreFirst}
 use Rattle.mvt_model.specs.Notes.{numbered, item_notes, feature_notes, first_of}
 use Rattle.mvt_model.specs.Survey.{feature_count}
 
@@ -17,7 +16,7 @@ use Rattle.mvt_model.specs.Survey.{feature_count}
 pub record AreNoted (layer : ℕ) (noted : LayerNotes) (features : List Feature) : Type 0 where
   pub layer_is : noted.layer ≡ layer
   pub count_is : noted.count ≡ length features
-  pub ids_are : (q : ℕ) → get nat_cmp noted.ids q ≡ first_of q features
+  pub ids_are : AreFirst noted.ids (λ q. first_of q features)
   pub notes_are : noted.notes.items ≡ numbered (feature_notes layer features) 0 features
 
 -- this was found of the items at the front of an input

@@ -7,4 +7,5 @@ pub mod Writing
 pub mod Comparing
 pub mod Notes
 pub mod Survey
+pub mod FirstIds
 pub mod Findings

@@ -1,5 +1,5 @@
 -- What is noted of a tile that is accepted.
-use Rattle.std.specs.Prelude.{◌≡◌, ℕ, ◌+◌, ◌-◌, ◌<◌, ◌&&◌, ◌==◌, Bool, false, pos, List, [], ◌∷◌, ◌++◌, length, take, get_or, slice_get, Option, Some, None, if◌then◌else◌}
+use Rattle.std.specs.Prelude.{ℕ, ◌+◌, ◌-◌, ◌&&◌, ◌==◌, Bool, false, pos, List, [], ◌∷◌, ◌++◌, length, take, slice_get, Option, Some, None, if◌then◌else◌}
 use Rattle.std.specs.List.{position_from}
 use Rattle.std.specs.Ordering.{int_eq}
 use Rattle.mvt_feature.specs.declared.feature.Feature.{Feature}
@@ -55,11 +55,6 @@ is_id id (Some other) = id == other
 -- the first feature of an id
 abbrev pub first_of : ℕ → List Feature → Option ℕ
 first_of id features = position_from (λ f. is_id id f.id) 0 features
-
--- no feature has an id of one before it
-abbrev pub HaveDistinctIds : List Feature → Type 0
-HaveDistinctIds features = (n : ℕ) (f : Feature) (id : ℕ) → n < length features → f ≡ get_or features n f → f.id ≡ Some id
-    → first_of id (take n features) ≡ None
 
 -- the note of an id that an earlier feature has
 abbrev pub earlier_note : ℕ → ℕ → Option ℕ → List Note

@@ -5,12 +5,12 @@ ghost use Rattle.mvt_geometry.specs.Drawing.{Draws};
 ghost use Rattle.mvt_model.specs.Findings.{AreNoted};
 ghost use Rattle.mvt_model.specs.Notes.{geometry_notes};
 
+use crate::first_ids::FirstIds;
 use crate::note::Note;
 use crate::noting::{note_geometry, note_id};
 use mvt_geometry::{Kind, read_geometry};
 use mvt_message::{FeatureFields, RewriteVisitor};
 use std::alloc::{AllocError, Global};
-use std::collections::BTreeMap;
 
 /// The notes of the features of a layer.
 #[derive(Drop)]
@@ -20,7 +20,7 @@ pub(crate) struct LayerNotes {
     /// How many features there are.
     pub(crate) count: usize,
     /// The first feature of each id.
-    ids: BTreeMap<u64, usize>,
+    ids: FirstIds,
     pub(crate) notes: Vec<Note>,
 }
 
@@ -32,7 +32,7 @@ impl LayerNotes {
         LayerNotes {
             layer,
             count: 0,
-            ids: BTreeMap::new(alloc),
+            ids: FirstIds::new(alloc),
             notes: Vec::new(alloc),
         }
     }

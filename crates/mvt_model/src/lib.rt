@@ -5,6 +5,7 @@
 mod comparing;
 mod encoding;
 mod findings;
+mod first_ids;
 pub mod laws;
 mod layer_noting;
 mod note;

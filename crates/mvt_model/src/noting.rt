@@ -1,11 +1,11 @@
 //! The notes of a tile.
-ghost use Rattle.std.specs.Prelude.{◌≡◌, ◌==◌, ℕ, ◌+◌, ◌++◌, length, Some, None, IfOk, IsTrue, OnOk, if◌then◌else◌};
-ghost use Rattle.std.specs.BTreeMap.{get};
+ghost use Rattle.std.specs.Prelude.{◌≡◌, ℕ, ◌+◌, ◌++◌, length, Option, Some, None, IfOk, OnOk, if◌then◌else◌};
 ghost use Rattle.std.specs.Option.{option_or};
-ghost use Rattle.std.specs.Ordering.{nat_cmp};
 ghost use Rattle.mvt_geometry.specs.Shape.{rings_of};
-ghost use Rattle.mvt_model.specs.Notes.{numbered, note_if as the_note_if, is_closed as the_is_closed, ring_notes, geometry_notes, HaveDistinctIds, is_id, id_note, earlier_note, feature_notes, layer_notes, item_notes, notes_of};
+ghost use Rattle.mvt_model.specs.FirstIds.{AreFirst};
+ghost use Rattle.mvt_model.specs.Notes.{numbered, note_if as the_note_if, is_closed as the_is_closed, ring_notes, geometry_notes, is_id, id_note, feature_notes, layer_notes, item_notes, notes_of};
 
+use crate::first_ids::FirstIds;
 use crate::note::Note;
 use crate::tile::Tile;
 use mvt_base::Items;
@@ -13,7 +13,6 @@ use mvt_feature::Feature;
 use mvt_geometry::{Geometry, Point, Polygon, twice_area};
 use mvt_message::Item;
 use std::alloc::{AllocError, Global};
-use std::collections::BTreeMap;
 
 /// What is noted of a tile, in the order of its layers, features and rings.
 pub fn notes(alloc: Global, tile: &Tile) -> Result<Vec<Note>, AllocError>
@@ -67,43 +66,7 @@ fn note_layer(
     ensures { OnOk result (notes.new.items ≡ notes.old.items ++ layer_notes index features.now) }
 {
     note_if(notes, features.is_empty(), Note::NoFeatures(index))?;
-    if have_rising_ids(features) {
-        note_geometries(notes, index, features)
-    } else {
-        note_features(alloc, notes, index, features)
-    }
-}
-
-/// Whether each id is above those before it. Then none repeats, and none has to be kept.
-fn have_rising_ids(features: &[Feature]) -> bool
-    ensures { IsTrue result → HaveDistinctIds features.now }
-{
-    let mut least = 0;
-    for feature in features {
-        if let Some(id) = feature.id {
-            if id < least || id == u64::MAX {
-                return false;
-            }
-            least = id + 1;
-        }
-    }
-    true
-}
-
-/// Notes features of which no two have the same id.
-fn note_geometries(
-    notes: &mut Vec<Note>,
-    index: usize,
-    features: &[Feature],
-) -> Result<(), AllocError>
-    requires { HaveDistinctIds features.now }
-    ensures { OnOk result (notes.new.items
-        ≡ notes.old.items ++ numbered (feature_notes index features.now) 0 features.now) }
-{
-    for (number, feature) in features.iter().enumerate() {
-        note_geometry(notes, index, number, &feature.geometry)?;
-    }
-    Ok(())
+    note_features(alloc, notes, index, features)
 }
 
 fn note_features(
@@ -115,7 +78,7 @@ fn note_features(
     ensures { OnOk result (notes.new.items
         ≡ notes.old.items ++ numbered (feature_notes index features.now) 0 features.now) }
 {
-    let mut ids = BTreeMap::new(alloc);
+    let mut ids = FirstIds::new(alloc);
     for (number, feature) in features.iter().enumerate() {
         note_id(notes, &mut ids, index, number, feature.id)?;
         note_geometry(notes, index, number, &feature.geometry)?;
@@ -126,39 +89,22 @@ fn note_features(
 /// Notes an id that an earlier feature has; the first feature of an id is kept.
 pub(crate) fn note_id(
     notes: &mut Vec<Note>,
-    ids: &mut BTreeMap<u64, usize>,
+    ids: &mut FirstIds,
     layer: usize,
     feature: usize,
     id: Option<u64>,
 ) -> Result<(), AllocError>
-    ensures notes { OnOk result (notes.new.items ≡ notes.old.items ++ id_note layer feature
-        (get nat_cmp ids.old) id) }
-    ensures ids { OnOk result ((q : ℕ) → get nat_cmp ids.new q
-        ≡ option_or (get nat_cmp ids.old q) (if is_id q id then Some feature else None)) }
+    ensures notes { (first : ℕ → Option ℕ) → AreFirst ids.old first → OnOk result
+        (notes.new.items ≡ notes.old.items ++ id_note layer feature first id) }
+    ensures ids { (first : ℕ → Option ℕ) → AreFirst ids.old first → OnOk result
+        (AreFirst ids.new (λ q. option_or (first q) (if is_id q id then Some feature else None))) }
 {
-    match id {
-        None => Ok(()),
-        Some(id) => keep_id(notes, ids, layer, feature, id),
-    }
-}
-
-fn keep_id(
-    notes: &mut Vec<Note>,
-    ids: &mut BTreeMap<u64, usize>,
-    layer: usize,
-    feature: usize,
-    id: u64,
-) -> Result<(), AllocError>
-    ensures notes { OnOk result (notes.new.items ≡ notes.old.items ++ earlier_note layer feature
-        (get nat_cmp ids.old id)) }
-    ensures ids { OnOk result ((q : ℕ) → get nat_cmp ids.new q
-        ≡ option_or (get nat_cmp ids.old q) (if q == id then Some feature else None)) }
-{
-    if let Some(earlier) = ids.get(&id).copied() {
-        notes.push(Note::RepeatedId(layer, feature, earlier))?;
+    let Some(id) = id else {
         return Ok(());
+    };
+    if let Some(earlier) = ids.take(id, feature)? {
+        notes.push(Note::RepeatedId(layer, feature, earlier))?;
     }
-    ids.insert(id, feature)?;
     Ok(())
 }
 
