@@ -84,17 +84,17 @@ pub trait Folder {
 #[derive(Drop)]
 pub struct Disk<'a, R: Files> {
     files: &'a R,
-    open: OpenFiles,
+    opens: OpenFiles,
 }
 
 impl<'a, R: Files> Disk<'a, R> {
     /// The files that the system shows the program, of which none is open.
     pub fn new(files: &'a R) -> Self
-        ensures { result.open ≡ record { now = 0; most = 0 } }
+        ensures { result.opens ≡ record { now = 0; most = 0 } }
     {
         Disk {
             files,
-            open: OpenFiles::none(),
+            opens: OpenFiles::none(),
         }
     }
 }
@@ -108,12 +108,12 @@ impl<R: Files> Folder for Disk<'_, R> {
 
     ghost visits = { λ _. None };
 
-    ghost open_files = { λ disk. disk.open };
+    ghost open_files = { λ disk. disk.opens };
 
     fn open(&mut self, name: &str) -> Result<Self::Reader, ErrorKind> {
         match fs::open(self.files, name) {
             Ok(file) => {
-                self.open.add();
+                self.opens.add();
                 Ok(Host::new(file))
             }
             Err(error) => Err(error.kind()),
@@ -122,6 +122,6 @@ impl<R: Files> Folder for Disk<'_, R> {
 
     fn close(&mut self, _name: Text, reader: Self::Reader) {
         drop(reader);
-        self.open.take();
+        self.opens.take();
     }
 }

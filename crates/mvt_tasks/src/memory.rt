@@ -26,7 +26,7 @@ pub struct MemoryFolder {
     alloc: Global,
     files: Vec<MemoryFile>,
     visits: Vec<Visit>,
-    open: OpenFiles,
+    opens: OpenFiles,
 }
 
 impl Model for MemoryFolder {
@@ -38,10 +38,10 @@ impl Model for MemoryFolder {
     ghost view = { λ f. record {
       files = f.files.items;
       visits = f.visits.items;
-      open_files = f.open;
+      open_files = f.opens;
     } };
 
-    ghost invariant = { λ f. vec_len f.visits + f.open.now ≤ vec_capacity f.visits };
+    ghost invariant = { λ f. vec_len f.visits + f.opens.now ≤ vec_capacity f.visits };
 }
 
 impl MemoryFolder {
@@ -57,7 +57,7 @@ impl MemoryFolder {
             alloc,
             files,
             visits: Vec::new(alloc),
-            open: OpenFiles::none(),
+            opens: OpenFiles::none(),
         }
     }
 
@@ -65,7 +65,7 @@ impl MemoryFolder {
     pub fn open_files(&self) -> OpenFiles
         ensures { result ≡ self.now.open_files }
     {
-        self.open
+        self.opens
     }
 }
 
@@ -133,11 +133,11 @@ impl Folder for MemoryFolder {
         ensures same { held_in self.new.files ≡ held_in self.old.files }
     {
         let name = Text::from_str(self.alloc, name).map_err(no_memory)?;
-        let open = self.open.now.checked_add(1).ok_or(ErrorKind::OutOfMemory)?;
+        let open = self.opens.now.checked_add(1).ok_or(ErrorKind::OutOfMemory)?;
         self.visits.reserve(open as usize).map_err(no_memory)?;
         match opened(self.alloc, self.files.as_slice(), name.as_str()) {
             Ok(reader) => {
-                self.open.add();
+                self.opens.add();
                 Ok(reader)
             }
             Err(ErrorKind::OutOfMemory) => Err(ErrorKind::OutOfMemory),
@@ -152,7 +152,7 @@ impl Folder for MemoryFolder {
     }
 
     fn close(&mut self, name: Text, reader: Self::Reader) {
-        self.open.take();
+        self.opens.take();
         self.visits.push_reserved(Visit {
             name,
             is_read: reader.failed() == 0,
