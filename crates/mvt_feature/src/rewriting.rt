@@ -1,5 +1,5 @@
-//! Features made canonical from their payloads or from their parts, with tags by index (Mapbox Vector
-//! Tile Specification 2.1, 4.2).
+//! Features made canonical from their payloads or from their parts, with tags by index (Mapbox
+//! Vector Tile Specification 2.1, 4.2).
 ghost use Rattle.std.specs.Prelude.{◌≡◌, ℕ, ◌+◌, ◌^◌, ◌<◌, ◌++◌, List, length, None, IfOk, IfErr, OnErr, OnOk};
 ghost use Rattle.mvt_base.specs.Related.{Extends};
 ghost use Rattle.mvt_base.specs.Reports.{Reports};
@@ -63,8 +63,8 @@ pub fn rewrite_feature(
     Ok(known)
 }
 
-/// Appends the canonical payload of the feature that has this id, these tags and this geometry, in a
-/// layer of these uses. A tag becomes the index of its key or value among those that are used.
+/// Appends the canonical payload of the feature that has this id, these tags and this geometry, in
+/// a layer of these uses. A tag becomes the index of its key or value among those that are used.
 ///
 /// # Errors
 ///

@@ -104,8 +104,8 @@ impl<'a> LayerFields<'a> {
     }
 }
 
-/// The error of a layer of version 2, one of whose values has this one: that a field hasn't its form
-/// or that there is no name is told first.
+/// The error of a layer of version 2, one of whose values has this one: that a field hasn't its
+/// form or that there is no name is told first.
 #[inline(never)]
 pub(crate) fn header_fault_or(
     alloc: Global,

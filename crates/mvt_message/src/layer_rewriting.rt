@@ -104,8 +104,9 @@ impl<'a, V: RewriteVisitor> RewrittenLayer<'a, V> {
 
 /// Makes the item of a payload canonical, and has a visitor be told the features.
 ///
-/// A key or a value is compared with others once, so the time grows as sorting the payload, whatever
-/// its texts are. What it holds are the layer's keys and values and the fields of its features.
+/// A key or a value is compared with others once, so the time grows as sorting the payload,
+/// whatever its texts are. What it holds are the layer's keys and values and the fields of its
+/// features.
 ///
 /// # Errors
 ///
@@ -158,7 +159,8 @@ impl<V: RewriteVisitor> LayerVisitor for LayerRewriter<V> {
 
     ghost has_items = { λ items r. V.has_features items r.visitor [] [] };
 
-    ghost has_values = { λ items r values. HasGathered r.writer values × V.has_features items r.visitor [] [] };
+    ghost has_values = { λ items r values. HasGathered r.writer values
+        × V.has_features items r.visitor [] [] };
 
     ghost has_features = { λ items keys values r features. HasWritten keys values r.writer features
         × V.has_features items r.visitor features r.writer.features.items };

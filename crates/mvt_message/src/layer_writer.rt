@@ -1,4 +1,5 @@
-//! A layer written feature by feature, with tags by index (Mapbox Vector Tile Specification 2.1, 4.1).
+//! A layer written feature by feature, with tags by index (Mapbox Vector Tile Specification 2.1,
+//! 4.1).
 ghost use Rattle.std.specs.Prelude.{◌≡◌, ℕ, [], ◌∷◌, ◌++◌, List, length, IfOk, OnErr, OnOk};
 ghost use Rattle.mvt_base.specs.Related.{Extends};
 ghost use Rattle.mvt_attrs.specs.declared.value.Value.{Value as AValue};

@@ -75,7 +75,8 @@ pub(crate) fn put_keys(out: &mut Vec<u8>, keys: &[Text]) -> Result<(), AllocErro
 
 /// Appends the values.
 pub(crate) fn put_values(out: &mut Vec<u8>, values: &[Value]) -> Result<(), AllocError>
-    ensures ok { OnOk result (out.new.items ≡ out.old.items ++ spelled (map value_field values.now)) }
+    ensures ok { OnOk result (out.new.items
+        ≡ out.old.items ++ spelled (map value_field values.now)) }
     ensures left { OnErr result (Extends out.old.items out.new.items) }
 {
     for value in values {

@@ -104,9 +104,11 @@ impl LayerVisitor for Kept {
 
     ghost has_items = { λ _ kept. Unit {0} };
 
-    ghost has_values = { λ _ kept values. (kept.values.items ≡ values) × (kept.features.items ≡ []) };
+    ghost has_values = { λ _ kept values. (kept.values.items ≡ values)
+        × (kept.features.items ≡ []) };
 
-    ghost has_features = { λ _ keys values kept features. (kept.values.items ≡ values) × (kept.features.items ≡ features) };
+    ghost has_features = { λ _ keys values kept features. (kept.values.items ≡ values)
+        × (kept.features.items ≡ features) };
 
     fn visit_value(
         &mut self,

@@ -19,8 +19,9 @@ use std::alloc::{AllocError, Global};
 /// Appends the canonical payload of the item that a payload is, and answers the name of the layer.
 /// It may be longer than the limit.
 ///
-/// A key or a value is compared with others once, so the time grows as sorting the payload, whatever
-/// its texts are. What it holds are the layer's keys and values and the fields of its features.
+/// A key or a value is compared with others once, so the time grows as sorting the payload,
+/// whatever its texts are. What it holds are the layer's keys and values and the fields of its
+/// features.
 ///
 /// # Errors
 ///

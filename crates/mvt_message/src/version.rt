@@ -66,7 +66,8 @@ fn version_of(version: Result<Option<u32>, MessageError>, tag_at: u64) -> Result
         → OnOk result (header_fault payload payload_at tag_at ≡ None) }
     ensures err { (payload : List ℕ) (payload_at : ℕ) → (split payload).rest ≡ []
         → IsVersionSoFar payload_at (split payload).fields version
-        → IfErr result (λ error. Reports (fault_of error) (header_fault payload payload_at tag_at)) }
+        → IfErr result (λ error. Reports (fault_of error)
+        (header_fault payload payload_at tag_at)) }
     ensures fault { IfErr version IsFault → IfErr result IsFault }
 {
     match version? {

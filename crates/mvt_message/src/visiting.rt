@@ -106,7 +106,8 @@ pub trait LayerVisitor: Drop {
         ensures err { (items : List Item) (held : List Value) (features : List AFeature)
             → length held ≡ values
             → has_features items keys.old held self.old features → IfErr result
-            (λ error. Reports (fault_of error) (feature_fault payload.now payload_at keys.old held)) }
+            (λ error. Reports (fault_of error)
+            (feature_fault payload.now payload_at keys.old held)) }
         ensures same { keys.new ≡ keys.old };
 }
 
@@ -204,11 +205,12 @@ fn visit_parts<'a, V: LayerVisitor>(
     requires fits { payload_at + length payload.now < 2 ^ 64 }
     requires whole { (split payload.now).rest ≡ [] }
     requires front { (items : List Item)
-        × IsLayerFields (V.has_values items visitor.old) payload_at (split payload.now).fields front }
+        × IsLayerFields (V.has_values items visitor.old) payload_at (split payload.now).fields
+        front }
     ensures ok { OnOk result (layer_fault payload_at tag_at (split payload.now).fields ≡ None) }
     ensures layer { (items : List Item)
-        → IsLayerFields (V.has_values items visitor.old) payload_at (split payload.now).fields front.entry
-        → IfOk result (λ visited. (layer : ALayer) × IsLayer (split payload.now).fields layer
+        → IsLayerFields (V.has_values items visitor.old) payload_at (split payload.now).fields
+        front.entry → IfOk result (λ visited. (layer : ALayer) × IsLayer (split payload.now).fields layer
         × HasLayer (V.has_features items) visitor.new visited layer) }
     ensures fault { IfErr result (λ error. Reports (fault_of error)
         (layer_fault payload_at tag_at (split payload.now).fields)) }

@@ -31,8 +31,9 @@ impl FirstIds {
     pub(crate) fn take(&mut self, id: u64, feature: usize) -> Result<Option<usize>, AllocError>
         ensures earlier { (first : ℕ → Option ℕ) → AreFirst self.old first
             → IfOk result (λ earlier. earlier ≡ first id) }
-        ensures first { (first : ℕ → Option ℕ) → AreFirst self.old first → OnOk result
-            (AreFirst self.new (λ q. option_or (first q) (if q == id then Some feature else None))) }
+        ensures first { (first : ℕ → Option ℕ) → AreFirst self.old first
+            → OnOk result (AreFirst self.new
+            (λ q. option_or (first q) (if q == id then Some feature else None))) }
     {
         if is_above_all(id, &self.rising) {
             self.rising.push((id, feature))?;

@@ -9,8 +9,8 @@ pub struct Span {
     pub len: u64,
 }
 
-/// A layer. One of version 2 has a name, an extent, features and its keys and values; one of another
-/// version its bytes. What it hasn't is 0.
+/// A layer. One of version 2 has a name, an extent, features and its keys and values; one of
+/// another version its bytes. What it hasn't is 0.
 #[repr(C)]
 #[derive(Clone, Copy, Debug, PartialEq, Eq)]
 pub struct LayerRow {

@@ -6,9 +6,9 @@ use mvt_attrs::TagCause;
 
 /// What is wrong with rows.
 ///
-/// The causes stand in the order in which they are looked for: layer by layer, and in a layer first its
-/// name, its keys and its values, then feature by feature. The last three are looked for when all rows
-/// have been read.
+/// The causes stand in the order in which they are looked for: layer by layer, and in a layer first
+/// its name, its keys and its values, then feature by feature. The last three are looked for when
+/// all rows have been read.
 #[derive(Clone, Copy, Debug, PartialEq, Eq)]
 pub enum RowsCause {
     /// The span of a layer's name reaches beyond the texts.
@@ -21,8 +21,8 @@ pub enum RowsCause {
     Key,
     /// The span of a layer's values reaches beyond the values.
     ValuesSpan,
-    /// A value has a kind that isn't 1 to 7, a number out of its range, or a text that reaches beyond
-    /// the texts or isn't UTF-8.
+    /// A value has a kind that isn't 1 to 7, a number out of its range, or a text that reaches
+    /// beyond the texts or isn't UTF-8.
     Value,
     /// The span of a layer's features reaches beyond the features.
     FeaturesSpan,
@@ -42,11 +42,11 @@ pub enum RowsCause {
     RepeatedKey,
     /// The kind of a feature isn't 0 to 3.
     Kind,
-    /// The parts, points or integers of a feature reach beyond their list, `exterior` is neither 0 nor
-    /// 1, a polygon begins with an interior ring, or points aren't one part.
+    /// The parts, points or integers of a feature reach beyond their list, `exterior` is neither 0
+    /// nor 1, a polygon begins with an interior ring, or points aren't one part.
     Geometry,
-    /// No commands draw a feature's geometry: a line is too short or goes nowhere, a ring has no area
-    /// or runs the wrong way round, or a position or a number is out of its range (4.3).
+    /// No commands draw a feature's geometry: a line is too short or goes nowhere, a ring has no
+    /// area or runs the wrong way round, or a position or a number is out of its range (4.3).
     Drawing,
     /// The bytes of a layer of another version aren't fields with that version.
     Bytes,

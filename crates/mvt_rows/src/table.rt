@@ -87,7 +87,8 @@ impl Table {
         }
     }
 
-    /// Makes room for the rows of a tile of so many bytes, and of a large one for the first of them.
+    /// Makes room for the rows of a tile of so many bytes, and of a large one for the first of
+    /// them.
     pub(crate) fn make_room(&mut self, len: usize) -> Result<(), AllocError>
         ensures { self.new ≡ self.old }
     {
@@ -235,7 +236,8 @@ impl GeometryVisitor for Table {
 
     ghost has_integers = { λ start integers table. table ≡ with_integers start integers };
 
-    ghost begins = { λ start. ap (λ points. let table : Rows = record start { points = points } in table)
+    ghost begins = { λ start.
+        ap (λ points. let table : Rows = record start { points = points } in table)
         (sym (append-nil start.points)) };
 
     fn visit_point(&mut self, point: Point) -> Result<(), AllocError> {

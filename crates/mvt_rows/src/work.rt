@@ -8,8 +8,8 @@ use crate::rows::Rows;
 use mvt_base::LIMIT;
 use std::alloc::AllocError;
 
-/// How many entries of the lists may still be gone over: at first as many as the limit and all lists
-/// have.
+/// How many entries of the lists may still be gone over: at first as many as the limit and all
+/// lists have.
 ///
 /// Spans that don't overlap name no entry twice, and stay within the lists' lengths. Where they
 /// overlap, each time counts: so rows of a few megabytes can't ask for more work than they and the

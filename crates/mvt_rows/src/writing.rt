@@ -1,5 +1,5 @@
-//! Rows written as a tile's bytes, layer by layer and feature by feature: no layer of it stands as a
-//! value.
+//! Rows written as a tile's bytes, layer by layer and feature by feature: no layer of it stands as
+//! a value.
 ghost use Rattle.std.specs.Prelude.{◌≡◌, ◌≢◌, ◌∷◌, ◌++◌, [], List, IfOk, IfErr, OnOk};
 ghost use Rattle.mvt_base.specs.declared.TheConstants.{LIMIT as the_limit};
 ghost use Rattle.mvt_message.specs.declared.item.Item.{Item};
@@ -25,13 +25,13 @@ use mvt_tile::add_name;
 use std::alloc::{AllocError, Global};
 use std::collections::BTreeSet;
 
-/// The canonical bytes of the tile that rows are. What it holds are these bytes, and of one layer its
-/// keys, its values, the fields of its features and one feature.
+/// The canonical bytes of the tile that rows are. What it holds are these bytes, and of one layer
+/// its keys, its values, the fields of its features and one feature.
 ///
 /// # Errors
 ///
-/// Rows that are no valid tile; a result beyond the limit; want of memory. Spans that overlap, and so
-/// name more entries than all lists and the limit have, are told as want of memory.
+/// Rows that are no valid tile; a result beyond the limit; want of memory. Spans that overlap, and
+/// so name more entries than all lists and the limit have, are told as want of memory.
 pub fn write_rows(alloc: Global, rows: &Rows) -> Result<Vec<u8>, RowsError>
     ensures done { IfOk result (λ made. IsWritten (table_of rows.now) made.items) }
     ensures refused { IfErr result (NotWritten (table_of rows.now)) }
@@ -43,8 +43,8 @@ pub fn write_rows(alloc: Global, rows: &Rows) -> Result<Vec<u8>, RowsError>
     writer.out.ok_or(RowsError::TooLarge)
 }
 
-/// The names of the layers so far, and the canonical bytes; `None` from where they are more than the
-/// limit.
+/// The names of the layers so far, and the canonical bytes; `None` from where they are more than
+/// the limit.
 #[derive(Drop)]
 struct RowsWriter {
     work: Work,

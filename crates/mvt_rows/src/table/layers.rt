@@ -51,7 +51,8 @@ impl Table {
         self.tags.extend_from_slice(tags)
     }
 
-    /// Adds the row of a layer whose features, keys and values stand after these places, and its name.
+    /// Adds the row of a layer whose features, keys and values stand after these places, and its
+    /// name.
     pub(super) fn add_layer_row(
         &mut self,
         name: &str,

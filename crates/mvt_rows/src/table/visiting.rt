@@ -17,8 +17,8 @@ use mvt_message::{LayerVisitor, MessageError, Visited, visit_layer};
 use mvt_tile::{DecodeError, TileVisitor, VisitingDecoder, visit_named, visit_tile};
 use std::alloc::{AllocError, Global};
 
-/// Reads a tile as rows. A layer has its keys and its values as the tile has them, also those that no
-/// feature names.
+/// Reads a tile as rows. A layer has its keys and its values as the tile has them, also those that
+/// no feature names.
 ///
 /// # Errors
 ///
@@ -50,12 +50,13 @@ pub fn read_rows_within(alloc: Global, bytes: &[u8], most: u64) -> Result<Table,
     Ok(table)
 }
 
-/// Reads the first layer of version 2 of a name as rows whose lists have at most so many bytes; none
-/// where no layer has that name. Nothing else is judged.
+/// Reads the first layer of version 2 of a name as rows whose lists have at most so many bytes;
+/// none where no layer has that name. Nothing else is judged.
 ///
 /// # Errors
 ///
-/// The first fault of that layer; bytes before it that are no field; too many bytes; want of memory.
+/// The first fault of that layer; bytes before it that are no field; too many bytes; want of
+/// memory.
 pub fn read_layer(
     alloc: Global,
     bytes: &[u8],
@@ -161,9 +162,11 @@ impl LayerVisitor for RowsVisitor {
 
     ghost has_items = { λ items rows. AreItemRows rows.table items };
 
-    ghost has_values = { λ items rows values. AreLayerRows rows.table rows.opened items [] values [] };
+    ghost has_values = { λ items rows values. AreLayerRows rows.table rows.opened items [] values
+        [] };
 
-    ghost has_features = { λ items keys values rows features. AreLayerRows rows.table rows.opened items keys values features };
+    ghost has_features = { λ items keys values rows features. AreLayerRows rows.table rows.opened
+        items keys values features };
 
     fn visit_value(
         &mut self,
