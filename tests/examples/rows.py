@@ -75,6 +75,9 @@ NO_FEATURES = "ok layers 1 features 0 canonical %s\nnote NoFeatures layer 0\n"
 OTHER = "ok layers 1 features 0 canonical yes\nnote Foreign layer 0 version %d\n"
 WITH_UINT = feature(POINT, '["k",{"uint":5}]')
 SAME_ID = "1A1E 7802 0A0161 1209080718012203093222 1209080718012203093222 288020"
+# Features of these ids, some of which an earlier one has.
+IDS = (7, 9, 3, 9, 3, 7)
+IDS_REPEATED = "1A4A 7802 0A0161" + "".join("1209 08%02X 1801 2203093222" % it for it in IDS) + "288020"
 
 # An input, its report, its JSON, and its canonical bytes.
 ACCEPTED = [
@@ -110,6 +113,13 @@ ACCEPTED = [
         "ok layers 1 features 2 canonical yes\nnote RepeatedId layer 0 feature 1 earlier 0\n",
         shown(layer(feature(POINT, "", "7") + "," + feature(POINT, "", "7"))),
         SAME_ID,
+    ),
+    (
+        IDS_REPEATED,
+        "ok layers 1 features 6 canonical yes\nnote RepeatedId layer 0 feature 3 earlier 1\n"
+        "note RepeatedId layer 0 feature 4 earlier 2\nnote RepeatedId layer 0 feature 5 earlier 0\n",
+        shown(layer(",".join(feature(POINT, "", str(it)) for it in IDS))),
+        IDS_REPEATED,
     ),
     # A feature without fields, and one with a field that isn't known.
     ("1A07 7802 0A0161 1200", UNLIKE, NOTHING, BARE),
