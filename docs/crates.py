@@ -24,6 +24,7 @@ WORDS = {
     "mvt_cli": "the program mvt",
     "mvt_c": "the library for C",
     "mvt_bench": "what bench/ measures",
+    "mvt_workloads": "the jobs that are timed",
     "mvt_part_tests": "tests up to mvt_geometry",
     "mvt_layer_tests": "tests of layers",
     "mvt_tile_tests": "tests of tiles",
@@ -48,6 +49,7 @@ COLUMN = {
     "mvt_cli": 0,
     "mvt_c": 1,
     "mvt_bench": 2,
+    "mvt_workloads": 2,
     "mvt_part_tests": 3,
     "mvt_layer_tests": 3,
     "mvt_tile_tests": 0,
@@ -107,7 +109,7 @@ def drawn():
                 'fill="none" stroke="#888" stroke-width="1.5"/>'
             )
     for name, (x, y) in at.items():
-        fill = "#e8f1e4" if name in ("mvt_cli", "mvt_c", "mvt_bench") else "#e6eef8"
+        fill = "#e8f1e4" if name in ("mvt_cli", "mvt_c", "mvt_bench", "mvt_workloads") else "#e6eef8"
         lines += [
             f'<rect x="{x - WIDE / 2:g}" y="{y - HIGH / 2:g}" width="{WIDE}" height="{HIGH}" rx="6" fill="{fill}" stroke="#678"/>',
             f'<text x="{x:g}" y="{y - 4:g}" font-size="15" font-weight="bold" fill="#123">{name}</text>',

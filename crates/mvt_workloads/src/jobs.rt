@@ -1,0 +1,121 @@
+//! The jobs, by the public calls that users wait for.
+
+use crate::digest::Digest;
+use mvt_io::Host;
+use mvt_rows::{read_rows, write_rows};
+use mvt_tasks::{Reply, Task, answer};
+use mvt_tile::{decode, encode, judge, rewrite};
+use std::alloc::{AllocError, Global};
+
+/// What is done with each tile.
+#[derive(Clone, Copy, PartialEq, Eq)]
+pub enum Job {
+    /// It is judged.
+    Judge,
+    /// It is checked, as the command `check` does.
+    Check,
+    /// It is made canonical.
+    Rewrite,
+    /// It is read as rows, and these are written.
+    Rows,
+    /// It is shown and drawn, as the commands `show` and `draw` do.
+    Show,
+    /// It is awkward, and is judged, read and written as a value, rewritten, and checked.
+    Awkward,
+}
+
+impl Job {
+    pub fn named(name: &str) -> Option<Job> {
+        match name {
+            "judge" => Some(Job::Judge),
+            "check" => Some(Job::Check),
+            "rewrite" => Some(Job::Rewrite),
+            "rows" => Some(Job::Rows),
+            "show" => Some(Job::Show),
+            "awkward" => Some(Job::Awkward),
+            _ => None,
+        }
+    }
+
+    pub fn takes_awkward_tiles(self) -> bool {
+        self == Job::Awkward
+    }
+}
+
+/// Does a job on a tile, and mixes what it gives into the digest.
+pub fn run_job(
+    alloc: Global,
+    job: Job,
+    tile: &[u8],
+    digest: &mut Digest,
+) -> Result<(), AllocError> {
+    match job {
+        Job::Judge => judged(alloc, tile, digest),
+        Job::Check => replied(alloc, Task::Check, tile, digest),
+        Job::Rewrite => rewritten(alloc, tile, digest),
+        Job::Rows => passed_by_rows(alloc, tile, digest),
+        Job::Show => {
+            replied(alloc, Task::Show, tile, digest);
+            replied(alloc, Task::Draw, tile, digest);
+        }
+        Job::Awkward => {
+            judged(alloc, tile, digest);
+            passed_by_value(alloc, tile, digest);
+            passed_by_rows(alloc, tile, digest);
+            rewritten(alloc, tile, digest);
+            replied(alloc, Task::Check, tile, digest);
+        }
+    }
+    Ok(())
+}
+
+fn judged(alloc: Global, tile: &[u8], digest: &mut Digest) {
+    match judge(alloc, tile) {
+        Ok(()) => digest.add_number(0),
+        Err(error) => digest.add_error(error),
+    }
+}
+
+fn rewritten(alloc: Global, tile: &[u8], digest: &mut Digest) {
+    match rewrite(alloc, tile) {
+        Ok(Some(bytes)) => digest.add_bytes(&bytes),
+        Ok(None) => digest.add_number(0),
+        Err(error) => digest.add_error(error),
+    }
+}
+
+fn passed_by_value(alloc: Global, tile: &[u8], digest: &mut Digest) {
+    match decode(alloc, tile) {
+        Ok(value) => match encode(alloc, &value) {
+            Ok(bytes) => digest.add_bytes(&bytes),
+            Err(_) => digest.add_number(0),
+        },
+        Err(error) => digest.add_error(error),
+    }
+}
+
+/// The lists of rows last until whoever has them frees them, so each tile's stay until the end.
+fn passed_by_rows(alloc: Global, tile: &[u8], digest: &mut Digest) {
+    match read_rows(alloc, tile) {
+        Ok(table) => match write_rows(alloc, &table.leak()) {
+            Ok(bytes) => digest.add_bytes(&bytes),
+            Err(_) => digest.add_number(0),
+        },
+        Err(error) => digest.add_error(error),
+    }
+}
+
+fn replied(alloc: Global, task: Task, tile: &[u8], digest: &mut Digest) {
+    let mut reader = Host::new(tile);
+    match answer(alloc, task, &mut reader) {
+        Ok(Reply { written, printed }) => {
+            if let Some(bytes) = written {
+                digest.add_bytes(bytes.as_slice());
+            }
+            if let Some(line) = printed {
+                digest.add_bytes(line.as_str().as_bytes());
+            }
+        }
+        Err(failure) => digest.add_number(u64::from(failure.status())),
+    }
+}

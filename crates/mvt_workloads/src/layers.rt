@@ -1,0 +1,209 @@
+//! Layers as producers write them: features first, then keys and values in order of first use, then
+//! the extent, and the version last.
+
+use crate::features::{Shape, put_geometry};
+use crate::message::Message;
+use crate::random::Random;
+use std::alloc::{AllocError, Global};
+
+/// What the values of a key are.
+#[derive(Clone, Copy)]
+pub enum Content {
+    Text,
+    Number,
+    Double,
+    Bool,
+}
+
+/// A key, and how many values it takes; 0 where each feature has one of its own.
+#[derive(Clone, Copy)]
+pub struct Key {
+    pub name: &'static str,
+    pub content: Content,
+    pub values: u32,
+}
+
+/// How a layer is made: each number of features and of points is up to this one, and half of it or
+/// more.
+#[derive(Clone, Copy)]
+pub struct Form {
+    pub name: &'static str,
+    pub shape: Shape,
+    pub features: u32,
+    pub points: u32,
+    pub keys: &'static [Key],
+}
+
+/// Keys or values so far: their fields, and the index and 1 that each has which is used again.
+#[derive(Drop)]
+struct Entries {
+    fields: Message,
+    count: u32,
+    indices: Vec<u32>,
+}
+
+const MOST_SHARED: usize = 4096;
+
+impl Entries {
+    fn new(alloc: Global) -> Result<Self, AllocError> {
+        Ok(Entries {
+            fields: Message::new(alloc),
+            count: 0,
+            indices: Vec::from_elem(alloc, 0, MOST_SHARED)?,
+        })
+    }
+
+    /// The index of the entry of this slot, and whether it is new. Without a slot it is.
+    fn place(&mut self, slot: Option<usize>) -> (u32, bool) {
+        let next = self.count;
+        if let Some(index) = slot.and_then(|slot| self.indices.get_mut(slot)) {
+            if *index > 0 {
+                return (*index - 1, false);
+            }
+            *index = next.wrapping_add(1);
+        }
+        self.count = next.wrapping_add(1);
+        (next, true)
+    }
+}
+
+/// A layer in the making.
+#[derive(Drop)]
+struct LayerMaker {
+    layer: Message,
+    keys: Entries,
+    values: Entries,
+    feature: Message,
+    part: Message,
+}
+
+const FIELD_KEYS: u32 = 3;
+
+const FIELD_VALUES: u32 = 4;
+
+impl LayerMaker {
+    fn new(alloc: Global) -> Result<Self, AllocError> {
+        Ok(LayerMaker {
+            layer: Message::new(alloc),
+            keys: Entries::new(alloc)?,
+            values: Entries::new(alloc)?,
+            feature: Message::new(alloc),
+            part: Message::new(alloc),
+        })
+    }
+
+    fn add_key(&mut self, number: usize, key: Key) -> Result<u32, AllocError> {
+        let (index, is_new) = self.keys.place(Some(number));
+        if is_new {
+            self.keys.fields.put_bytes(FIELD_KEYS, key.name.as_bytes())?;
+        }
+        Ok(index)
+    }
+
+    fn add_value(
+        &mut self,
+        random: &mut Random,
+        number: usize,
+        key: Key,
+    ) -> Result<u32, AllocError> {
+        let slot = if key.values == 0 {
+            None
+        } else {
+            let choice = random.within(1, key.values) as usize;
+            Some((number % 16) * 256 + choice % 256)
+        };
+        let (index, is_new) = self.values.place(slot);
+        if is_new {
+            self.part.clear();
+            put_content(&mut self.part, random, key.content)?;
+            self.values.fields.put_message(FIELD_VALUES, &self.part)?;
+        }
+        Ok(index)
+    }
+
+    /// The tags of a feature: mostly all keys.
+    fn put_tags(&mut self, random: &mut Random, keys: &[Key]) -> Result<Message, AllocError> {
+        let mut tags = self.part.fresh();
+        for (number, key) in keys.iter().enumerate() {
+            if number > 0 && random.one_in(8) {
+                continue;
+            }
+            let name = self.add_key(number, *key)?;
+            let value = self.add_value(random, number, *key)?;
+            tags.put_number(u64::from(name))?;
+            tags.put_number(u64::from(value))?;
+        }
+        Ok(tags)
+    }
+
+    fn add_feature(&mut self, random: &mut Random, form: Form) -> Result<(), AllocError> {
+        self.feature.clear();
+        if random.one_in(2) {
+            let id = random.within(1 << 14, 1 << 20);
+            self.feature.put_uint(1, u64::from(id))?;
+        }
+        let tags = self.put_tags(random, form.keys)?;
+        self.feature.put_message(2, &tags)?;
+        self.feature.put_uint(3, form.shape.number())?;
+        self.part.clear();
+        let points = random.within(form.points / 2, form.points);
+        put_geometry(&mut self.part, random, form.shape, points)?;
+        self.feature.put_message(4, &self.part)?;
+        self.layer.put_message(2, &self.feature)
+    }
+
+    /// Ends the layer with its keys and values, its extent and its version.
+    fn finish(self) -> Result<Message, AllocError> {
+        let LayerMaker {
+            mut layer,
+            keys,
+            values,
+            ..
+        } = self;
+        layer.put_fields(&keys.fields)?;
+        layer.put_fields(&values.fields)?;
+        layer.put_uint(5, 4096)?;
+        layer.put_uint(15, 2)?;
+        Ok(layer)
+    }
+}
+
+/// Appends a text of some letters, which may change, and of a letter of two bytes now and then.
+fn put_text(out: &mut Message, random: &mut Random, letters: u32) -> Result<(), AllocError> {
+    let mut text = out.fresh();
+    for _ in 0..letters {
+        if random.one_in(20) {
+            text.put_raw(&[0xc3, 0xa9])?;
+        } else {
+            text.mark(3)?;
+            text.put_raw(&[random.letter()])?;
+        }
+    }
+    out.put_message(1, &text)
+}
+
+fn put_content(out: &mut Message, random: &mut Random, content: Content) -> Result<(), AllocError> {
+    match content {
+        Content::Text => {
+            let letters = random.within(4, 18);
+            put_text(out, random, letters)
+        }
+        Content::Number => out.put_uint(5, u64::from(random.within(0, 100_000))),
+        Content::Double => out.put_double(3, random.next() >> 2),
+        Content::Bool => out.put_uint(7, u64::from(random.within(0, 1))),
+    }
+}
+
+/// A layer of this form. One of sixteen has a key first that no feature uses.
+pub fn make_layer(alloc: Global, random: &mut Random, form: Form) -> Result<Message, AllocError> {
+    let mut maker = LayerMaker::new(alloc)?;
+    maker.layer.put_bytes(1, form.name.as_bytes())?;
+    if random.one_in(16) {
+        maker.keys.place(None);
+        maker.keys.fields.put_bytes(FIELD_KEYS, b"unused")?;
+    }
+    for _ in 0..random.within(form.features / 2, form.features) {
+        maker.add_feature(random, form)?;
+    }
+    maker.finish()
+}
