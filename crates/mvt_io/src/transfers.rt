@@ -8,7 +8,7 @@ use std::alloc::Global;
 use std::io::ErrorKind;
 
 /// The most bytes that one read asks for.
-const PIECE: usize = 65_536;
+const PIECE: usize = 16_384;
 
 /// All bytes that the reader has left, but at most so many.
 ///
