@@ -1,6 +1,7 @@
 -- What is found of items, one after the other.
-use Rattle.std.proofs.Common.{◌≡◌, ◌≢◌, ℕ, ◌+◌, ◌≤◌, Bool, false, ◌==◌, eqb, List, [], ◌∷◌, ◌++◌, length, bytes_eq, refl, sym, ap, ap₂, subst, ◌∙◌, arith, append_assoc, append-nil, length-append, zero-add}
+use Rattle.std.proofs.Common.{◌≡◌, ◌≢◌, ℕ, ◌+◌, ◌≤◌, Bool, false, ◌==◌, eqb, Bor, List, [], ◌∷◌, ◌++◌, length, bytes_eq, None, Ok, Err, Result, refl, sym, ap, ap₂, subst, ◌∙◌, arith, append_assoc, append-nil, length-append, zero-add}
 use Rattle.std.specs.List.{sum_by}
+use Rattle.std.specs.Result.{OnOk}
 use Rattle.std.proofs.lemmas.Bool.{eqb-true, eq-eqb, ne_eqb, false≢true}
 use Rattle.std.proofs.lemmas.Bool.Decides.{same_from_decides}
 use Rattle.std.proofs.lemmas.List.{append_cancel_left, nil_from_length}
@@ -8,17 +9,25 @@ use Rattle.std.proofs.lemmas.List.Sums.{sum_by-append}
 use Rattle.std.proofs.lemmas.Slice.Eq.{bytes_eq-Decides}
 use Rattle.mvt_feature.specs.declared.feature.Feature.{Feature}
 use Rattle.mvt_message.specs.declared.item.Item.{Item}
-use Rattle.mvt_message.specs.declared.item.Item.TheVariants.{Foreign}
+use Rattle.mvt_message.specs.declared.item.Item.TheVariants.{Layer, Foreign}
+use Rattle.mvt_message.specs.declared.item.Layer.{Layer as ALayer}
+use Rattle.mvt_message.specs.declared.visiting.Visited.TheVariants as visited
+use Rattle.mvt_message.specs.Items.{IsItem}
+use Rattle.mvt_message.specs.ValidItems.{ValidItem}
+use Rattle.mvt_message.specs.Visiting.{HasLayer, IsVisited}
+use Rattle.mvt_attrs.specs.declared.value.Value.{Value}
 use Rattle.mvt_message.specs.CanonicalItems.{canonical_item}
 use Rattle.mvt_model.specs.declared.note.Note.{Note}
 use Rattle.mvt_model.specs.declared.note.Note.TheVariants.{NoFeatures, NoLayers}
 use Rattle.mvt_model.specs.declared.survey.Survey.{Survey}
 use Rattle.mvt_model.specs.declared.findings.Findings.{Findings}
 use Rattle.mvt_model.specs.declared.tile.Tile.{Tile}
+use Rattle.mvt_model.specs.Beginning.{IsNoLayer}
 use Rattle.mvt_model.specs.Comparing.{IsAfter}
 use Rattle.mvt_model.specs.Findings.{AreFound}
 use Rattle.mvt_model.specs.Notes.{numbered, note_if, feature_notes, item_notes, layer_notes, notes_of}
 use Rattle.mvt_model.specs.Survey.{feature_count, survey_of}
+use Rattle.mvt_model.proofs.BeginningLemmas.{no_layer_after}
 use Rattle.mvt_model.proofs.NoteLemmas.{numbered-append}
 use Rattle.mvt_model.proofs.WritingLemmas.{written, field_of, written-append, written_one}
 
@@ -97,3 +106,39 @@ pub surveyed : (tile : Tile) (layers features : ℕ) (is answer : Bool) (notes :
     → (let survey : Survey = record { layers = layers; features = features; is_canonical = is; notes = notes } in survey) ≡ survey_of tile
     answer
 surveyed tile layers features is answer notes count sum same noted = rw (sym count, sum, same, noted) refl
+
+-- of a layer that was visited
+pub layer_told : {V : Type 0} (HasItems : V → Type 0) (HasFeatures : List (List ℕ) → List Value → V → List Feature → Type 0) (visitor : V)
+    (name : Bor (List ℕ)) (extent : ℕ) (P : Item → Type 0) (item : Item)
+    → IsVisited HasItems HasFeatures visitor (visited.Layer name extent) item → P item
+    → (layer : ALayer) × HasLayer HasFeatures visitor (visited.Layer name extent) layer × P (Layer layer)
+layer_told HasItems HasFeatures visitor name extent P (Layer layer) is p = (layer, is, p)
+layer_told HasItems HasFeatures visitor name extent P (Foreign version content) is p = absurd is
+
+foreign_same : (version other : ℕ) (payload content : List ℕ) → version ≡ other → IsItem payload (Foreign other content)
+    → Foreign other content ≡ Foreign version payload
+unfolding IsItem
+foreign_same version other payload content same of = ap₂ Foreign (sym same) of.3.2
+
+pub foreign_told : {V : Type 0} (HasItems : V → Type 0) (HasFeatures : List (List ℕ) → List Value → V → List Feature → Type 0) (visitor : V)
+    (version : ℕ) (payload : List ℕ) (item : Item)
+    → IsVisited HasItems HasFeatures visitor (visited.Foreign version) item → IsItem payload item → item ≡ Foreign version payload
+foreign_told HasItems HasFeatures visitor version payload (Layer layer) is of = absurd is
+foreign_told HasItems HasFeatures visitor version payload (Foreign other content) is of = foreign_same version other payload content is.0 of
+
+-- one layer more that isn't canonical where it stands
+pub layer_other : (limit : ℕ) (input : List ℕ) (old new : Findings) (items : List Item) (layer : ALayer) (count index : ℕ)
+    → AreFound limit input old items → length items ≡ index → IsNoLayer old.behind → ValidItem (Layer layer)
+    → count ≡ length layer.features → count ≤ 18446744073709551615 → new.features ≡ old.features + count → new.behind ≡ None
+    → new.notes.items ≡ old.notes.items ++ layer_notes index layer.features
+    → AreFound limit input new (items ++ Layer layer ∷ [])
+layer_other limit input old new items layer count index found at none valid is most sum behind noted =
+    found_more limit input old new items (Layer layer) count index found at is most sum
+    (subst (IsAfter input (written items ++ field_of (Layer layer))) (sym behind)
+    (no_layer_after input (written items) old.behind layer none valid found.behind)) noted
+
+-- two facts of a success, and one that always holds
+pub on_ok_joined : {X E : Type 0} (result : Result X E) {P Q R S : Type 0} → (P → Q → R → S) → OnOk result P → OnOk result Q → R
+    → OnOk result S
+on_ok_joined (Ok x) all p q r = all p q r
+on_ok_joined (Err e) all p q r = tt

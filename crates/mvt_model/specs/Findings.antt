@@ -10,6 +10,7 @@ use Rattle.mvt_model.specs.CanonicalTiles.{item_field}
 use Rattle.mvt_model.specs.Comparing.{IsAfter}
 use Rattle.mvt_model.specs.FirstIds.{AreFirst}
 use Rattle.mvt_model.specs.Notes.{numbered, item_notes, feature_notes, first_of}
+use Rattle.mvt_model.specs.Rings.{HasBegun}
 use Rattle.mvt_model.specs.Survey.{feature_count}
 
 -- the notes of a layer's features so far
@@ -18,6 +19,10 @@ pub record AreNoted (layer : ℕ) (noted : LayerNotes) (features : List Feature)
   pub count_is : noted.count ≡ length features
   pub ids_are : AreFirst noted.ids (λ q. first_of q features)
   pub notes_are : noted.notes.items ≡ numbered (feature_notes layer features) 0 features
+
+-- and nothing of the one that follows
+abbrev pub AreNotedSoFar : ℕ → LayerNotes → List Feature → Type 0
+AreNotedSoFar layer noted features = AreNoted layer noted features × HasBegun layer (length features) noted.rings
 
 -- this was found of the items at the front of an input
 pub record AreFound (limit : ℕ) (input : List ℕ) (found : Findings) (items : List Item) : Type 0 where

@@ -5,7 +5,9 @@ pub mod Bounds
 pub mod Encoding
 pub mod Writing
 pub mod Comparing
+pub mod Beginning
 pub mod Notes
 pub mod Survey
 pub mod FirstIds
+pub mod Rings
 pub mod Findings

@@ -1,8 +1,9 @@
 //! What is found of items, one after the other.
-ghost use Rattle.std.specs.Prelude.{◌≡◌, ℕ, ◌+◌, ◌^◌, ◌<◌, ◌≤◌, List, [], ◌∷◌, ◌++◌, length, bytes_eq, None, IfOk, IfErr, OnOk};
+ghost use Rattle.std.specs.Prelude.{◌≡◌, ℕ, ◌+◌, ◌*◌, ◌^◌, ◌<◌, ◌≤◌, List, [], ◌∷◌, ◌++◌, length, bytes_eq, None, IfOk, IfErr, OnOk};
 ghost use Rattle.std.specs.Option.{option_copied, option_to_list};
 ghost use Rattle.mvt_base.specs.Reports.{Reports};
 ghost use Rattle.mvt_wire.specs.Spelling.{spelled};
+ghost use Rattle.mvt_feature.specs.declared.feature.Feature.{Feature};
 ghost use Rattle.mvt_feature.specs.Faults.{fault_of};
 ghost use Rattle.mvt_message.specs.declared.item.Layer.{Layer as ALayer};
 ghost use Rattle.mvt_message.specs.declared.item.Item.TheVariants as an_item;
@@ -13,17 +14,22 @@ ghost use Rattle.mvt_message.specs.Rewriting.{tail_of};
 ghost use Rattle.mvt_message.specs.ValidItems.{ValidItem};
 ghost use Rattle.mvt_model.specs.declared.tile.Tile.{Tile};
 ghost use Rattle.mvt_model.specs.CanonicalTiles.{canonical};
+ghost use Rattle.mvt_model.specs.Beginning.{IsNoLayer};
 ghost use Rattle.mvt_model.specs.Comparing.{IsAfter};
-ghost use Rattle.mvt_model.specs.Findings.{AreFound, AreNoted};
+ghost use Rattle.mvt_model.specs.Findings.{AreFound, AreNotedSoFar};
+ghost use Rattle.mvt_model.specs.Notes.{layer_notes};
 ghost use Rattle.mvt_model.specs.Survey.{feature_count as the_feature_count, survey_of};
 
+use crate::beginning::may_be_layer;
 use crate::comparing::after_item;
 use crate::layer_noting::LayerNotes;
 use crate::note::Note;
 use crate::noting::note_if;
 use crate::survey::Survey;
 use mvt_base::{Items, LIMIT};
-use mvt_message::{Item, MessageError, Rewritten, RewrittenLayer, rewrite_parts};
+use mvt_message::{
+    Item, MessageError, Rewritten, RewrittenLayer, Visited, rewrite_parts, visit_layer,
+};
 use std::alloc::{AllocError, Global};
 
 /// What was found of the items of an input so far. Each is compared with the input where it stands,
@@ -50,8 +56,9 @@ impl<'a> Findings<'a> {
     }
 
     /// Adds what is found of the item of a payload, after so many others, and answers the name of
-    /// the layer. No value of it is made: what it holds are the layer's keys and values and the
-    /// canonical fields of its features.
+    /// the layer. No value of it is made. Where the input may go on with its canonical bytes, it
+    /// holds the layer's keys and values and the canonical fields of its features; else nothing is
+    /// written.
     ///
     /// # Errors
     ///
@@ -78,6 +85,9 @@ impl<'a> Findings<'a> {
         ensures fault { IfErr result (λ error. Reports (fault_of error)
             (item_fault payload.now payload_at tag_at)) }
     {
+        if !may_be_layer(self.behind) {
+            return self.add_other(alloc, index, payload, payload_at, tag_at);
+        }
         let noted = LayerNotes::new(alloc, index);
         match rewrite_parts(alloc, noted, payload, payload_at, tag_at) {
             Ok(Rewritten::Layer(layer)) => {
@@ -85,6 +95,45 @@ impl<'a> Findings<'a> {
                 Ok(Some(layer.name))
             }
             Ok(Rewritten::Foreign(version)) => {
+                self.add_foreign(alloc, index, version, payload)?;
+                Ok(None)
+            }
+            Err(error) => Err(error),
+        }
+    }
+
+    /// The same of an item that is no canonical layer where it stands: nothing is written for it.
+    fn add_other<'b>(
+        &mut self,
+        alloc: Global,
+        index: usize,
+        payload: &'b [u8],
+        payload_at: u64,
+        tag_at: u64,
+    ) -> Result<Option<&'b str>, MessageError>
+        requires small { length payload.now ≤ LIMIT }
+        requires fits { payload_at + length payload.now < 2 ^ 64 }
+        requires few { index ≤ LIMIT }
+        requires found { (input : List ℕ) × (items : List Item)
+            × AreFound LIMIT input self.old items × (length items ≡ index) }
+        requires other { IsNoLayer self.old.behind }
+        ensures ok { OnOk result (item_fault payload.now payload_at tag_at ≡ None) }
+        ensures found { (input : List ℕ) (items : List Item) → AreFound LIMIT input self.old items
+            → length items ≡ index
+            → IfOk result (λ name. (item : Item) × IsItem payload.now item × ValidItem item
+            × (option_to_list (option_copied name) ≡ names_in item)
+            × AreFound LIMIT input self.new (items ++ item ∷ [])) }
+        ensures fault { IfErr result (λ error. Reports (fault_of error)
+            (item_fault payload.now payload_at tag_at)) }
+    {
+        let mut noted = LayerNotes::new(alloc, index);
+        match visit_layer(alloc, &mut noted, payload, payload_at, tag_at) {
+            Ok(Visited::Layer { name, .. }) => {
+                self.behind = None;
+                self.add_notes(index, &noted)?;
+                Ok(Some(name))
+            }
+            Ok(Visited::Foreign { version }) => {
                 self.add_foreign(alloc, index, version, payload)?;
                 Ok(None)
             }
@@ -104,7 +153,7 @@ impl<'a> Findings<'a> {
             × AreFound LIMIT input self.old items × (length items ≡ index) }
         ensures { (input : List ℕ) (items : List Item) (l : ALayer)
             → AreFound LIMIT input self.old items → length items ≡ index
-            → AreNoted index layer.now.visitor l.features
+            → AreNotedSoFar index layer.now.visitor l.features
             → canonical_item (an_item.Layer l) ≡ spelled (head_fields layer.now.name.now)
             ++ (layer.now.writer.features.items
             ++ tail_of layer.now.writer.uses layer.now.extent)
@@ -115,7 +164,20 @@ impl<'a> Findings<'a> {
         let mut tail = Vec::new(alloc);
         layer.append_tail(&mut tail)?;
         self.behind = after_item(alloc, &head, layer.features(), &tail, self.behind)?;
-        let noted = &layer.visitor;
+        self.add_notes(index, &layer.visitor)
+    }
+
+    /// Adds the notes of a layer's features and their number.
+    fn add_notes(&mut self, index: usize, noted: &LayerNotes) -> Result<(), AllocError>
+        requires few { index ≤ LIMIT }
+        requires found { self.old.features ≤ index * 18446744073709551615 }
+        ensures notes { (features : List Feature) → AreNotedSoFar index noted.now features
+            → OnOk result (self.new.notes.items
+            ≡ self.old.notes.items ++ layer_notes index features) }
+        ensures count { OnOk result (self.new.features ≡ self.old.features + noted.now.count) }
+        ensures few { noted.now.count < 2 ^ 64 }
+        ensures behind { self.new.behind ≡ self.old.behind }
+    {
         note_if(&mut self.notes, noted.count == 0, Note::NoFeatures(index))?;
         self.notes.extend_from_slice(&noted.notes)?;
         self.features += noted.count as u128;

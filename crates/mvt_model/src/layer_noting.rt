@@ -1,15 +1,17 @@
-//! What is found of a layer while it is made canonical, one feature after the other.
-ghost use Rattle.std.specs.Prelude.{◌≡◌, ◌++◌, List, [], OnOk};
-ghost use Rattle.mvt_geometry.specs.declared.shape.Geometry.{Geometry as AGeometry};
-ghost use Rattle.mvt_geometry.specs.Drawing.{Draws};
-ghost use Rattle.mvt_model.specs.Findings.{AreNoted};
-ghost use Rattle.mvt_model.specs.Notes.{geometry_notes};
+//! What is found of a layer while it is judged, one feature after the other.
+ghost use Rattle.std.specs.Prelude.{◌≡◌, ◌∷◌, ◌++◌, ℕ, List, [], length, OnOk};
+ghost use Rattle.mvt_feature.specs.declared.feature.Feature.{Feature as AFeature};
+ghost use Rattle.mvt_model.specs.Findings.{AreNoted, AreNotedSoFar};
+ghost use Rattle.mvt_model.specs.Rings.{HasNotedAll};
 
 use crate::first_ids::FirstIds;
 use crate::note::Note;
-use crate::noting::{note_geometry, note_id};
-use mvt_geometry::{Kind, read_geometry};
-use mvt_message::{FeatureFields, RewriteVisitor};
+use crate::noting::note_id;
+use crate::ring_noting::RingNotes;
+use mvt_attrs::LayerKeys;
+use mvt_base::Text;
+use mvt_feature::{Scratch, draw_feature, judge_value};
+use mvt_message::{FeatureFields, LayerVisitor, MessageError, RewriteVisitor};
 use std::alloc::{AllocError, Global};
 
 /// The notes of the features of a layer.
@@ -21,74 +23,97 @@ pub(crate) struct LayerNotes {
     pub(crate) count: usize,
     /// The first feature of each id.
     ids: FirstIds,
+    /// The notes of the rings of the next feature.
+    rings: RingNotes,
     pub(crate) notes: Vec<Note>,
 }
 
 impl LayerNotes {
     /// Of no features, without memory.
     pub(crate) fn new(alloc: Global, layer: usize) -> Self
-        ensures { AreNoted layer result [] }
+        ensures { AreNotedSoFar layer result [] }
     {
         LayerNotes {
             layer,
             count: 0,
             ids: FirstIds::new(alloc),
+            rings: RingNotes::new(alloc, layer),
             notes: Vec::new(alloc),
         }
     }
-}
 
-impl RewriteVisitor for LayerNotes {
-    ghost use Rattle.std.specs.Prelude.{◌≡◌, length};
-    ghost use Rattle.mvt_model.specs.Findings.{AreNoted};
-
-    ghost has_features = { λ items noted features _. AreNoted (length items) noted features };
-
-    fn visit_rewritten(
-        &mut self,
-        alloc: Global,
-        fields: &FeatureFields,
-        integers: &[u32],
-        _: &[u8],
-    ) -> Result<(), AllocError> {
-        note_id(
-            &mut self.notes,
-            &mut self.ids,
-            self.layer,
-            self.count,
-            fields.id,
-        )?;
-        note_drawn(
-            alloc,
-            &mut self.notes,
-            self.layer,
-            self.count,
-            fields.kind,
-            integers,
-        )?;
+    /// Adds the next feature, which may have an id and whose rings were noted.
+    fn add(&mut self, id: Option<u64>) -> Result<(), AllocError>
+        ensures { (layer : ℕ) (features : List AFeature) (f : AFeature)
+            → AreNoted layer self.old features
+            → HasNotedAll layer (length features) f.geometry self.old.rings → f.id ≡ id
+            → OnOk result (AreNotedSoFar layer self.new (features ++ f ∷ [])) }
+    {
+        note_id(&mut self.notes, &mut self.ids, self.layer, self.count, id)?;
+        self.notes.extend_from_slice(&self.rings.notes)?;
         self.count = self.count.checked_add(1).ok_or(AllocError)?;
+        self.rings.begin(self.count);
         Ok(())
     }
 }
 
-/// Notes the rings of a feature of this kind, whose geometry these integers draw.
-fn note_drawn(
-    alloc: Global,
-    notes: &mut Vec<Note>,
-    layer: usize,
-    feature: usize,
-    kind: Kind,
-    integers: &[u32],
-) -> Result<(), AllocError>
-    ensures { (g : AGeometry) → Draws kind integers.now g → OnOk result (notes.new.items
-        ≡ notes.old.items ++ geometry_notes layer feature g) }
-{
-    if kind != Kind::Polygon {
-        return Ok(());
+/// Of a layer that is judged alone.
+impl LayerVisitor for LayerNotes {
+    ghost use Rattle.std.specs.Prelude.{[], length};
+    ghost use Rattle.mvt_model.specs.Findings.{AreNotedSoFar};
+
+    ghost has_items = { λ items noted. AreNotedSoFar (length items) noted [] };
+
+    ghost has_values = { λ items noted _. AreNotedSoFar (length items) noted [] };
+
+    ghost has_features = { λ items _ _ noted features.
+        AreNotedSoFar (length items) noted features };
+
+    fn visit_value(
+        &mut self,
+        _: Global,
+        payload: &[u8],
+        payload_at: u64,
+        tag_at: u64,
+    ) -> Result<(), MessageError> {
+        judge_value(payload, payload_at, tag_at)
     }
-    match read_geometry(alloc, kind, integers) {
-        Ok(geometry) => note_geometry(notes, layer, feature, &geometry),
-        // The integers were judged, so memory ran out.
-        Err(_) => Err(AllocError),
+
+    fn visit_keys(&mut self, _: Global, _: &[Text], _: usize) -> Result<(), AllocError> {
+        Ok(())
+    }
+
+    fn visit_feature(
+        &mut self,
+        alloc: Global,
+        payload: &[u8],
+        payload_at: u64,
+        keys: &mut LayerKeys<'_>,
+        values: usize,
+        scratch: &mut Scratch,
+    ) -> Result<(), MessageError> {
+        let rings = &mut self.rings;
+        let known = draw_feature(alloc, rings, payload, payload_at, keys, values, scratch)?;
+        Ok(self.add(known.id)?)
+    }
+}
+
+/// Of a layer that is made canonical too.
+impl RewriteVisitor for LayerNotes {
+    ghost use Rattle.std.specs.Prelude.{length};
+    ghost use Rattle.mvt_model.specs.Findings.{AreNotedSoFar};
+
+    ghost has_features = { λ items noted features _.
+        AreNotedSoFar (length items) noted features };
+
+    fn visit_rewritten(
+        &mut self,
+        _: Global,
+        fields: &FeatureFields,
+        integers: &[u32],
+        _: &[u8],
+    ) -> Result<(), AllocError> {
+        self.rings.add_rings(fields.kind, integers)?;
+        self.add(fields.id)
     }
 }

@@ -2,6 +2,7 @@
 //! survey says of it. Tiles are read in mvt_tile, which hands up what is here.
 #![tactic(auto)]
 
+mod beginning;
 mod comparing;
 mod encoding;
 mod findings;
@@ -11,6 +12,8 @@ mod layer_noting;
 mod note;
 mod noting;
 pub mod numbers;
+mod path;
+mod ring_noting;
 mod survey;
 mod tile;
 mod write_error;

@@ -1,5 +1,7 @@
 //! The notes of a tile.
-ghost use Rattle.std.specs.Prelude.{◌≡◌, ℕ, ◌+◌, ◌++◌, length, Option, Some, None, IfOk, OnOk, if◌then◌else◌};
+ghost use Rattle.std.specs.Prelude.{◌≡◌, ℕ, ◌+◌, pos, ◌++◌, length, Option, Some, None, IfOk, OnOk, if◌then◌else◌};
+ghost use Rattle.std.specs.Ordering.{int_eq};
+ghost use Rattle.mvt_model.specs.declared.note.Note.TheVariants.{ClosedTwice, FlatRing};
 ghost use Rattle.std.specs.Option.{option_or};
 ghost use Rattle.mvt_geometry.specs.Shape.{rings_of};
 ghost use Rattle.mvt_model.specs.FirstIds.{AreFirst};
@@ -108,7 +110,7 @@ pub(crate) fn note_id(
     Ok(())
 }
 
-pub(crate) fn note_geometry(
+fn note_geometry(
     notes: &mut Vec<Note>,
     layer: usize,
     feature: usize,
@@ -172,13 +174,35 @@ fn note_ring(
     ensures { OnOk result (notes.new.items
         ≡ notes.old.items ++ ring_notes layer feature number ring.now) }
 {
-    let is_flat = twice_area(ring) == 0;
-    note_if(notes, is_flat, Note::FlatRing(layer, feature, number))?;
+    note_known_ring(
+        notes,
+        layer,
+        feature,
+        number,
+        twice_area(ring),
+        is_closed(ring),
+    )
+}
+
+/// Notes a ring that has this area, doubled, and whose last point is its first or isn't.
+pub(crate) fn note_known_ring(
+    notes: &mut Vec<Note>,
+    layer: usize,
+    feature: usize,
+    number: usize,
+    twice_area: i128,
+    is_closed: bool,
+) -> Result<(), AllocError>
+    ensures { OnOk result (notes.new.items ≡ notes.old.items
+        ++ (the_note_if (int_eq twice_area (pos 0)) (FlatRing layer feature number)
+        ++ the_note_if is_closed (ClosedTwice layer feature number))) }
+{
     note_if(
         notes,
-        is_closed(ring),
-        Note::ClosedTwice(layer, feature, number),
-    )
+        twice_area == 0,
+        Note::FlatRing(layer, feature, number),
+    )?;
+    note_if(notes, is_closed, Note::ClosedTwice(layer, feature, number))
 }
 
 fn is_closed(ring: &[Point]) -> bool

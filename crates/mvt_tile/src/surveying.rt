@@ -1,4 +1,4 @@
-//! Surveying a tile: its items are made canonical one after the other, and none is kept.
+//! Surveying a tile: its items are judged or made canonical one after the other, and none is kept.
 ghost use Rattle.std.specs.Prelude.{◌≡◌, bytes_eq, IfOk, IfErr};
 ghost use Rattle.mvt_message.specs.ValidItems.{ValidItem};
 ghost use Rattle.mvt_model.specs.declared.tile.Tile.{Tile};
@@ -18,8 +18,9 @@ use mvt_base::LIMIT;
 use mvt_model::{Findings, Survey};
 use std::alloc::Global;
 
-/// Surveys a tile. One item is made canonical at a time, feature by feature, compared with the
-/// bytes where it stands, and let go: so what is kept are the names of the layers and the notes.
+/// Surveys a tile. One item is taken at a time, feature by feature. Where it may be canonical, it
+/// is made so, compared with the bytes where it stands, and let go; else it is judged alone. So
+/// what is kept are the names of the layers and the notes.
 ///
 /// # Errors
 ///
