@@ -118,3 +118,60 @@ fn surveys(rt: HostRuntime) {
     expect_survey(&rt, &canonical, (2, 2), true, &notes);
     drop(canonical);
 }
+
+// The one layer of an input that begins with its version, with the version last.
+fn turned_of(rt: &(impl Abort + AllocGlobal), input: &[u8]) -> Vec<u8> {
+    let (head, layer) = input.split_at(input.len().min(2));
+    let (version, fields) = layer.split_at(layer.len().min(2));
+    let front = both_of(rt, head, fields);
+    let turned = both_of(rt, &front, version);
+    drop(front);
+    turned
+}
+
+fn expect_turned(rt: &(impl Abort + AllocGlobal), input: &[u8], features: u128, expected: &[Note]) {
+    let turned = turned_of(rt, input);
+    expect_notes(rt, &turned, expected);
+    expect_survey(rt, &turned, (1, features), false, expected);
+    drop(turned);
+}
+
+// As most programs write tiles.
+#[test]
+fn surveys_layers_with_the_version_last(rt: HostRuntime) {
+    let rows: [(&[u8], u128, &[Note]); 7] = [
+        (PLAIN, 0, &[Note::NoFeatures(0)]),
+        (ONE_POINT, 1, &[]),
+        (CLOSED_LINE, 1, &[]),
+        (SAME_ID, 2, &[Note::RepeatedId(0, 1, 0)]),
+        (RINGS, 1, &[Note::FlatRing(0, 0, 2)]),
+        (CLOSED_TWICE, 1, &[Note::ClosedTwice(0, 0, 0)]),
+        (
+            FLAT_AND_CLOSED,
+            1,
+            &[Note::FlatRing(0, 0, 0), Note::ClosedTwice(0, 0, 0)],
+        ),
+    ];
+    for (input, features, expected) in rows {
+        expect_turned(&rt, input, features, expected);
+    }
+}
+
+#[test]
+fn surveys_layers_with_the_extent_behind_the_name(rt: HostRuntime) {
+    expect_survey(&rt, EXTENT_FIRST, (1, 1), false, &[]);
+    expect_survey(&rt, PLAIN, (1, 0), true, &[Note::NoFeatures(0)]);
+}
+
+// Canonical up to a layer, and behind one that isn't.
+#[test]
+fn surveys_behind_a_difference(rt: HostRuntime) {
+    let turned = turned_of(&rt, RINGS);
+    let behind = both_of(&rt, ONE_POINT_B, &turned);
+    let before = both_of(&rt, &turned, ONE_POINT_B);
+    drop(turned);
+    expect_survey(&rt, &behind, (2, 2), false, &[Note::FlatRing(1, 0, 2)]);
+    drop(behind);
+    expect_survey(&rt, &before, (2, 2), false, &[Note::FlatRing(0, 0, 2)]);
+    drop(before);
+}
