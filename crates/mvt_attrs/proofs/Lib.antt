@@ -1,6 +1,8 @@
 pub mod AttrsLaws
+mod ApartLemmas
 mod EqualityLemmas
 mod FirstUseLemmas
+mod FirstUsesLemmas
 mod PoolLemmas
 mod MarkingLemmas
 mod TagLemmas

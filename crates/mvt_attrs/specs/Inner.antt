@@ -1,4 +1,5 @@
 -- What only the private functions' contracts cite.
+pub mod Apart
 pub mod Finding
 pub mod Found
 pub mod Marking

@@ -1,4 +1,5 @@
 pub mod FirstUse
+pub mod FirstUses
 pub mod Values
 pub mod Pools
 pub mod Placed

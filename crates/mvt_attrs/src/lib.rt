@@ -2,6 +2,7 @@
 //! keys and values that a layer holds, and the tags that name entries of these pools.
 #![tactic(auto)]
 
+mod distinct;
 mod entry;
 mod entry_index;
 mod judging;
@@ -14,10 +15,12 @@ mod pool;
 mod pool_error;
 mod resolving;
 mod two_choices;
+mod use_order;
 mod uses;
 mod value;
 mod value_pool;
 
+pub use distinct::are_distinct;
 pub use entry::Entry;
 pub use judging::judge_tags;
 pub use key_pool::KeyPool;
@@ -26,6 +29,7 @@ pub use placing::{append_tags, tags_of};
 pub use pool::Pool;
 pub use pool_error::PoolError;
 pub use resolving::{TagCause, TagError, resolve, resolve_in};
+pub use use_order::first_uses;
 pub use uses::{LayerUses, Uses};
 pub use value::{Attribute, Value};
 pub use value_pool::ValuePool;

@@ -10,6 +10,7 @@ mod OrFaultLemmas
 mod WritingLemmas
 mod RewritingLemmas
 mod CopyingLemmas
+mod CopyingPartsLemmas
 mod CanonicalLemmas
 mod ValidLemmas
 mod RangeLemmas

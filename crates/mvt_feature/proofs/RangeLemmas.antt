@@ -50,11 +50,11 @@ fields_range at b (x ∷ xs) rest h (front, back, is, here, more) =
     )
 
 -- values
-signed_range : (z : ℤ) → zig z < 2 ^ 64 → FitsSigned w64 z
+pub signed_range : (z : ℤ) → zig z < 2 ^ 64 → FitsSigned w64 z
 signed_range (pos n) h = search rules
 signed_range (negsuc n) h = search rules
 
-code_range : (n : ℕ) → n < 2 ^ 64 → FitsSigned w64 (cast_signed w64 n)
+pub code_range : (n : ℕ) → n < 2 ^ 64 → FitsSigned w64 (cast_signed w64 n)
 code_range n h = sfits_to_z (Fits-of_lt h)
 
 means_range : (n : ℕ) (c : Content) (v : Value) → IsInRange c → (n ≡ 1 → HasForm string c) → Means n c v → ValidValue v
@@ -102,7 +102,7 @@ number_range (Some x) n h e = of_content x.content (h x refl) e
     of_content (fixed64 m) range e = cc
     of_content (fixed32 m) range e = cc
 
-if_some : (o : Option ℕ) (P : ℕ → Type 0) → ((n : ℕ) → o ≡ Some n → P n) → IfSome o P
+pub if_some : (o : Option ℕ) (P : ℕ → Type 0) → ((n : ℕ) → o ≡ Some n → P n) → IfSome o P
 if_some None P h = tt
 if_some (Some n) P h = h n refl
 

@@ -16,4 +16,5 @@ pub mod Valid
 pub mod Ranges
 pub mod Walks
 pub mod Inner
+pub mod Copying
 pub mod Drawn

@@ -59,7 +59,7 @@ fn append_integers(out: &mut Vec<u8>, payload: &[u8], integers: &[u32]) -> Resul
 }
 
 /// Whether bytes that spell these numbers are their shortest spellings.
-fn are_shortest(bytes: &[u8], numbers: &[u32]) -> bool
+pub(crate) fn are_shortest(bytes: &[u8], numbers: &[u32]) -> bool
     ensures { (packed bytes.now).numbers ≡ numbers.now → IsTrue result
         → bytes.now ≡ short_numbers numbers.now }
 {

@@ -3,6 +3,7 @@
 #![tactic(auto)]
 
 mod bound;
+mod canonical;
 mod cause;
 mod copying;
 mod feature;
@@ -19,6 +20,7 @@ mod whole;
 mod writing;
 
 pub use bound::room_after_feature;
+pub use canonical::{NotCanonical, is_canonical_value, judge_canonical};
 pub use cause::Cause;
 pub use feature::Feature;
 pub use feature_fields::FeatureFields;

@@ -3,7 +3,7 @@ use Rattle.std.proofs.Common.{◌≡◌, ℕ, zero, suc, ◌+◌, ◌*◌, ◌^�
 use Rattle.std.specs.Prelude.{IsUtf8, Contains, unwrap_or, ⊤}
 use Rattle.std.specs.List.{AllByRecursion, last_or}
 use Rattle.std.specs.Option.{option_map}
-use Rattle.std.proofs.lemmas.Bool.{eq-eqb}
+use Rattle.std.proofs.lemmas.Bool.{eq-eqb, eqb-true}
 use Rattle.mvt_base.specs.declared.TheConstants.{LIMIT}
 use Rattle.mvt_base.specs.Related.{AreRelated}
 use Rattle.mvt_base.proofs.ListLemmas.{all_weaker, all_joined, all_left, all_right, all_mapped, all_unmapped, all_true, mapped_one}
@@ -14,6 +14,7 @@ use Rattle.mvt_attrs.specs.Pools.{key_pool, value_pool}
 use Rattle.mvt_attrs.specs.TagPlaces.{tags_in, IsIn}
 use Rattle.mvt_wire.specs.Field.{Content, varint, bytes, fixed64, fixed32, Entry}
 use Rattle.mvt_wire.specs.Spelling.{Plain, plain_of, short_field, spelled, IsFit, FitsContent}
+use Rattle.mvt_wire.specs.Split.{Whole}
 use Rattle.mvt_feature.specs.declared.feature.Feature.{Feature}
 use Rattle.mvt_feature.specs.Canonical.{plain, value_fields, feature_fields}
 use Rattle.mvt_feature.specs.Features.{IsFeatureOf, number_in, number_of}
@@ -31,6 +32,7 @@ use Rattle.mvt_message.specs.declared.item.Item.TheVariants.{Layer, Foreign}
 use Rattle.mvt_message.specs.LayerFields.{bytes_of, version_in, keys_in}
 use Rattle.mvt_message.specs.Items.{HoldsFeature, IsLayer, IsItem}
 use Rattle.mvt_message.specs.CanonicalItems.{attributes_of, keys_of, values_of, head_fields, extent_fields, fields_with, layer_fields, canonical_item}
+use Rattle.mvt_message.specs.Copying.{body_fields}
 use Rattle.mvt_message.specs.ValidItems.{ValidLayer, AreOfVersion, ValidItem}
 
 -- the contents of the fields of a number
@@ -152,10 +154,45 @@ record AreContents (keys : List (List ℕ)) (values : List Value) (layer : ALaye
   keys_are : contents_of KEYS xs ≡ map (λ key. bytes (same_bytes key)) keys
   values_are : contents_of VALUES xs ≡ map (λ v. bytes (value_bytes v)) values
 
+-- the contents of the fields of each number are those of a layer with these keys and values
+abbrev HasContents : List (List ℕ) → List Value → ALayer → List Entry → Type 0
+HasContents keys values layer xs = (k : ℕ) → contents_of k xs ≡ contents_at k (fields_with keys values layer)
+
+in_place : (keys : List (List ℕ)) (values : List Value) (layer : ALayer) (xs : List Entry)
+    → map plain_of xs ≡ fields_with keys values layer → HasContents keys values layer xs
+in_place keys values layer xs is k = only_contents k xs ∙ ap (contents_at k) is
+
+-- also where the version stands behind the others
+abbrev rest_with : List (List ℕ) → List Value → ALayer → List Plain
+rest_with keys values layer = plain NAME (bytes layer.name) ∷ tail keys values layer.features layer.extent
+
+abbrev version_alone : List Plain
+version_alone = plain VERSION (varint 2) ∷ []
+
+no_version : (keys : List (List ℕ)) (values : List Value) (layer : ALayer) → contents_at VERSION (rest_with keys values layer) ≡ []
+no_version keys values layer = tail_none VERSION keys values layer.features layer.extent refl refl refl
+
+version_behind : (k : ℕ) (rest : List Content) (b : Bool) → (VERSION == k) ≡ b → (VERSION ≡ k → rest ≡ [])
+    → rest ++ contents_at k version_alone ≡ (if VERSION == k then varint 2 ∷ rest else rest)
+version_behind k rest true e none =
+    let nothing : rest ≡ [] = none (eqb-true VERSION k e) in
+    ap (λ l. l ++ contents_at k version_alone) nothing
+    ∙ ap (λ (t : Bool). if t then varint 2 ∷ [] else []) e
+    ∙ sym (ap (λ (t : Bool). if t then varint 2 ∷ rest else rest) e ∙ ap (λ l. varint 2 ∷ l) nothing)
+version_behind k rest false e none =
+    ap (λ (t : Bool). rest ++ (if t then varint 2 ∷ [] else [])) e ∙ append-nil rest
+    ∙ sym (ap (λ (t : Bool). if t then varint 2 ∷ rest else rest) e)
+
+moved : (keys : List (List ℕ)) (values : List Value) (layer : ALayer) (xs : List Entry)
+    → map plain_of xs ≡ rest_with keys values layer ++ version_alone → HasContents keys values layer xs
+moved keys values layer xs is k =
+    only_contents k xs ∙ ap (contents_at k) is ∙ contents-append k (rest_with keys values layer) version_alone
+    ∙ version_behind k (contents_at k (rest_with keys values layer)) (VERSION == k) refl
+    (λ number. subst (λ j. contents_at j (rest_with keys values layer) ≡ []) number (no_version keys values layer))
+
 are_contents : (keys : List (List ℕ)) (values : List Value) (layer : ALayer) (xs : List Entry)
-    → map plain_of xs ≡ fields_with keys values layer → AreContents keys values layer xs
-are_contents keys values layer xs is =
-    let at = λ (k : ℕ). only_contents k xs ∙ ap (contents_at k) is in
+    → HasContents keys values layer xs → AreContents keys values layer xs
+are_contents keys values layer xs at =
     let none = λ (k : ℕ). tail_none k keys values layer.features layer.extent in
     let parts = λ (k : ℕ). tail_contents k keys values layer.features layer.extent in
     let features = contents_same FEATURES (feature_bytes keys values) layer.features in
@@ -176,7 +213,7 @@ are_contents keys values layer xs is =
 
 -- the fields of a layer, wherever they stand, are the layer
 pub layer_is : (xs : List Entry) (keys : List (List ℕ)) (values : List Value) (layer : ALayer)
-    → map plain_of xs ≡ fields_with keys values layer → IsUtf8 layer.name → layer.extent < 2 ^ 32 → AllByRecursion IsUtf8 keys
+    → HasContents keys values layer xs → IsUtf8 layer.name → layer.extent < 2 ^ 32 → AllByRecursion IsUtf8 keys
     → AllByRecursion (λ v. IsValueOf (value_bytes v) v) values
     → AllByRecursion (λ f. IsFeatureOf (feature_bytes keys values f) keys values f) layer.features
     → HaveForm VERSION (HasForm uint32) xs × (version_in xs ≡ Some 2) × IsLayer xs layer
@@ -364,18 +401,24 @@ features_read keys values (f ∷ fs) few_keys few_values valid held small =
       features_read keys values fs few_keys few_values valid.1 held.1 small.1,
     )
 
-pub layer_canonical : (layer : ALayer) → ValidLayer layer → length (spelled (layer_fields layer)) < 2 ^ 32
-    → IsItem (spelled (layer_fields layer)) (Layer layer)
+layer_fits : (layer : ALayer) → layer.extent < 2 ^ 32 → length (spelled (layer_fields layer)) < 2 ^ 32
+    → AllByRecursion IsFit (layer_fields layer)
+layer_fits layer small within =
+    all_fit (layer_fields layer) (layer_fine (keys_of layer.features) (values_of layer.features) layer small) (omega arith)
+
+-- fields with the contents of a valid layer are this layer
+layer_from : (layer : ALayer) (b : List ℕ) (xs : List Entry) → Whole b xs
+    → HasContents (keys_of layer.features) (values_of layer.features) layer xs → ValidLayer layer
+    → length (spelled (layer_fields layer)) < 2 ^ 32 → IsItem b (Layer layer)
 unfolding IsItem ValidLayer
-layer_canonical layer valid within =
+layer_from layer b xs whole at valid within =
     let features = layer.features in
     let keys = keys_of features in
     let values = values_of features in
     let feature_fields = all_of FEATURES (feature_bytes keys values) features in
     let key_fields = all_of KEYS same_bytes keys in
     let value_fields = all_of VALUES value_bytes values in
-    let fits = all_fit (layer_fields layer) (layer_fine keys values layer valid.1) (omega arith) in
-    let whole = spelled_whole_whole (layer_fields layer) fits in
+    let fits = layer_fits layer valid.1 within in
     let pool_fits = all_right IsFit key_fields _ (all_right IsFit feature_fields _ fits.1.1) in
     let feature_sizes = sizes FEATURES (feature_bytes keys values) features (all_left IsFit feature_fields _ fits.1.1) in
     let value_sizes = sizes VALUES value_bytes values (all_left IsFit value_fields (extent_fields layer.extent) pool_fits) in
@@ -384,8 +427,29 @@ layer_canonical layer valid within =
     let few_values : length values ≤ 2 ^ 32 = omega (arith, pools.1) in
     let hold_values = values_read values (values_valid features valid.2) value_sizes in
     let hold_features = features_read keys values features few_keys few_values valid.2 (features_held features) feature_sizes in
-    let is = layer_is whole.0 keys values layer whole.2 valid.0 valid.1 (keys_valid features valid.2) hold_values hold_features in
-    (whole.0, whole.1, is.0, (is.1, is.2))
+    let is = layer_is xs keys values layer at valid.0 valid.1 (keys_valid features valid.2) hold_values hold_features in
+    (xs, whole, is.0, (is.1, is.2))
+
+pub layer_canonical : (layer : ALayer) → ValidLayer layer → length (spelled (layer_fields layer)) < 2 ^ 32
+    → IsItem (spelled (layer_fields layer)) (Layer layer)
+unfolding ValidLayer
+layer_canonical layer valid within =
+    let whole = spelled_whole_whole (layer_fields layer) (layer_fits layer valid.1 within) in
+    layer_from layer (spelled (layer_fields layer)) whole.0 whole.1
+    (in_place (keys_of layer.features) (values_of layer.features) layer whole.0 whole.2) valid within
+
+-- and its version may stand behind them
+pub layer_moved : (layer : ALayer) → ValidLayer layer → length (spelled (layer_fields layer)) < 2 ^ 32
+    → IsItem (spelled (body_fields layer) ++ short_field VERSION (varint 2)) (Layer layer)
+unfolding ValidLayer
+layer_moved layer valid within =
+    let fits = layer_fits layer valid.1 within in
+    let rest = rest_with (keys_of layer.features) (values_of layer.features) layer in
+    let whole = spelled_whole_whole (rest ++ version_alone) (all_joined IsFit rest version_alone fits.1 (fits.0, tt)) in
+    subst (λ b. IsItem b (Layer layer))
+    (spelled_parts rest version_alone ∙ ap (λ v. spelled rest ++ v) (append-nil (short_field VERSION (varint 2))))
+    (layer_from layer (spelled (rest ++ version_alone)) whole.0 whole.1
+    (moved (keys_of layer.features) (values_of layer.features) layer whole.0 whole.2) valid within)
 
 foreign_canonical : (version : ℕ) (content : List ℕ) → AreOfVersion version content → IsItem content (Foreign version content)
 unfolding IsItem

@@ -7,4 +7,5 @@ pub mod ValidItems
 pub mod PutErrors
 pub mod Visiting
 pub mod Rewriting
+pub mod Copying
 pub mod Inner

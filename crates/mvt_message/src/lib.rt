@@ -3,6 +3,7 @@
 #![tactic(auto)]
 
 mod bound;
+mod copying;
 mod features;
 mod item;
 pub mod laws;

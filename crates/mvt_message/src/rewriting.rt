@@ -1,6 +1,6 @@
 //! An item made canonical from its payload: no value of it stands in memory (Mapbox Vector Tile
 //! Specification 2.1, 4.1).
-ghost use Rattle.std.specs.Prelude.{◌≡◌, ◌+◌, ◌^◌, ◌<◌, ◌≤◌, ◌++◌, length, None, IfOk, IfErr, OnErr, OnOk};
+ghost use Rattle.std.specs.Prelude.{◌≡◌, ◌+◌, ◌^◌, ◌<◌, ◌≤◌, ◌∷◌, ◌++◌, length, None, IfOk, IfErr, OnErr, OnOk};
 ghost use Rattle.mvt_base.specs.Related.{Extends};
 ghost use Rattle.std.specs.Option.{option_copied, option_to_list};
 ghost use Rattle.mvt_base.specs.Reports.{Reports};
@@ -11,9 +11,11 @@ ghost use Rattle.mvt_message.specs.ItemRules.{item_fault};
 ghost use Rattle.mvt_message.specs.Items.{IsItem, names_in};
 ghost use Rattle.mvt_message.specs.ValidItems.{ValidItem};
 
+use crate::copying::{VERSION_FIELD, copied};
 use crate::layer_rewriting::{RewriteVisitor, Rewritten, rewrite_parts};
+use crate::reading::judge_item;
 use mvt_base::LIMIT;
-use mvt_feature::{FeatureFields, MessageError};
+use mvt_feature::{FeatureFields, MessageError, NotCanonical};
 use std::alloc::{AllocError, Global};
 
 /// Appends the canonical payload of the item that a payload is, and answers the name of the layer.
@@ -27,6 +29,49 @@ use std::alloc::{AllocError, Global};
 ///
 /// As [`read_item`](crate::read_item), and the list is then as it was or a longer one.
 pub fn rewrite_item<'a>(
+    alloc: Global,
+    payload: &'a [u8],
+    payload_at: u64,
+    tag_at: u64,
+    out: &mut Vec<u8>,
+) -> Result<Option<&'a str>, MessageError>
+    requires small { length payload.now ≤ LIMIT }
+    requires fits { payload_at + length payload.now < 2 ^ 64 }
+    ensures ok { OnOk result (item_fault payload.now payload_at tag_at ≡ None) }
+    ensures item { IfOk result (λ name. (item : Item) × IsItem payload.now item × ValidItem item
+        × (option_to_list (option_copied name) ≡ names_in item)
+        × (out.new.items ≡ out.old.items ++ canonical_item item)) }
+    ensures fault { IfErr result (λ error. Reports (fault_of error)
+        (item_fault payload.now payload_at tag_at)) }
+    ensures left { OnErr result (Extends out.old.items out.new.items) }
+{
+    match copied(alloc, payload) {
+        Ok(layer) => {
+            append_copied(out, layer.body)?;
+            Ok(Some(layer.name))
+        }
+        Err(NotCanonical::Memory) => Err(MessageError::Memory),
+        Err(NotCanonical::Broken) => {
+            // Judging tells the fault in less time than rewriting up to it.
+            judge_item(alloc, payload, payload_at, tag_at)?;
+            rewrite_anew(alloc, payload, payload_at, tag_at, out)
+        }
+        Err(NotCanonical::Other) => rewrite_anew(alloc, payload, payload_at, tag_at, out),
+    }
+}
+
+/// Appends the version, and the other fields of a layer as they stand.
+fn append_copied(out: &mut Vec<u8>, body: &[u8]) -> Result<(), AllocError>
+    ensures ok { OnOk result (out.new.items ≡ out.old.items ++ 120 ∷ (2 ∷ body.now)) }
+    ensures left { OnErr result (Extends out.old.items out.new.items) }
+{
+    out.reserve(body.len() + VERSION_FIELD.len())?;
+    out.extend_from_slice(&VERSION_FIELD)?;
+    out.extend_from_slice(body)
+}
+
+/// The same of any item, field by field.
+fn rewrite_anew<'a>(
     alloc: Global,
     payload: &'a [u8],
     payload_at: u64,

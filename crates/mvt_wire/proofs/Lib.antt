@@ -3,6 +3,7 @@ mod FieldLemmas
 mod PackedLemmas
 mod PackedNumbersLemmas
 mod PieceLemmas
+mod ShortFieldLemmas
 mod ShortLemmas
 mod SpellingLemmas
 mod SplitLemmas

@@ -1,0 +1,128 @@
+-- Attributes that use the entries of a layer in order.
+use Rattle.std.proofs.Common.{◌≡◌, ℕ, ◌<◌, ◌≤◌, List, [], ◌∷◌, ◌++◌, length, take, drop, get_or, Some, Contains, slice_get, inl, inr, refl, sym, ap, subst, ◌∙◌, arith, append_assoc, append-nil}
+use Rattle.std.proofs.lemmas.List.{get_or-take, length-take-le}
+use Rattle.std.proofs.lemmas.Option.{slice_get_within, get_or_from_slice_get, slice_get-get_or}
+use Rattle.mvt_base.proofs.ListLemmas.{front_more}
+use Rattle.mvt_base.specs.Related.{AreRelated}
+use Rattle.mvt_attrs.specs.declared.value.Attribute.{Attribute}
+use Rattle.mvt_attrs.specs.declared.value.Value.{Value}
+use Rattle.mvt_attrs.specs.FirstUse.{AreDistinct}
+use Rattle.mvt_attrs.specs.FirstUses.{AreFirstUses, IsUseOf}
+use Rattle.mvt_attrs.specs.Pools.{key_pool, value_pool}
+use Rattle.mvt_attrs.specs.Tags.{Names}
+use Rattle.mvt_attrs.specs.TagRules.{pairs_of}
+use Rattle.mvt_attrs.proofs.JudgingLemmas.{named_front, named_none}
+use Rattle.mvt_attrs.proofs.ResolvedLemmas.{related_from_names}
+use Rattle.mvt_attrs.proofs.TagLemmas.{NamesOne}
+use Rattle.mvt_attrs.proofs.PlacingLemmas.{IsPut}
+use Rattle.mvt_attrs.proofs.UsesLemmas.{one_place, TagsSoFar, tags_start, tags_step}
+
+pub distinct_front : {A : Type 0} → (xs : List A) (n : ℕ) → n ≤ length xs → AreDistinct xs → AreDistinct (take n xs)
+distinct_front xs n within apart i j d before inside e =
+    let size : length (take n xs) ≡ n = length-take-le n xs within in
+    apart i j d before (omega arith) (sym (get_or-take n xs i d (omega arith)) ∙ e ∙ get_or-take n xs j d (omega arith))
+
+module _ {A : Type 0} (xs : List A) (apart : AreDistinct xs) (used : ℕ) (within : used ≤ length xs) where
+  size : length (take used xs) ≡ used
+  size = length-take-le used xs within
+
+  in_front : (k : ℕ) (x : A) → k < used → slice_get xs k ≡ Some x → slice_get (take used xs) k ≡ Some x
+  in_front k x lt at =
+      slice_get-get_or (take used xs) k x (omega (arith, size)) ∙ ap Some (get_or-take used xs k x lt ∙ get_or_from_slice_get xs k x x at)
+
+  from_front : (x : A) → Contains (take used xs) x → (k : ℕ) × (k < used) × (slice_get xs k ≡ Some x)
+  from_front x (k, lt, is) =
+      let less : k < used = omega (arith, size) in
+      (k, less, slice_get-get_or xs k x (omega arith) ∙ ap Some (sym (get_or-take used xs k x less) ∙ is))
+
+  there : (k : ℕ) (x : A) → k < used → slice_get xs k ≡ Some x → Contains (take used xs) x
+  there k x lt at = (k, omega (arith, size), get_or-take used xs k x lt ∙ get_or_from_slice_get xs k x x at)
+
+  pub use_step : (k after : ℕ) (x : A) → slice_get xs k ≡ Some x → IsUseOf used k after
+      → IsPut (take used xs) (take after xs) x × (slice_get (take after xs) k ≡ Some x) × (after ≤ length xs)
+  use_step k after x at (inl (lt, is)) =
+      let same : take after xs ≡ take used xs = ap (λ n. take n xs) is in (
+        record { kept = λ _. same; added = λ none. absurd (none (there k x lt at)) },
+        ap (λ l. slice_get l k) same ∙ in_front k x lt at,
+        omega arith,
+      )
+  use_step k after x at (inr (last, is)) =
+      let inside : k < length xs = slice_get_within xs k x at in
+      let here : slice_get xs used ≡ Some x = ap (slice_get xs) (sym last) ∙ at in
+      let longer : take after xs ≡ take used xs ++ x ∷ [] =
+      ap (λ n. take n xs) is ∙ front_more xs used x (omega arith) (sym (get_or_from_slice_get xs used x x here)) in (
+        record {
+          kept = λ has.
+              let seen = from_front x has in
+              let one : seen.0 ≡ used = one_place xs seen.0 used x apart seen.2 here in
+              absurd (let less = seen.1 in omega arith);
+          added = λ _. longer;
+        },
+        slice_get-get_or (take after xs) k x (omega (arith, length-take-le after xs (omega arith)))
+            ∙ ap Some (get_or-take after xs k x (omega arith) ∙ get_or_from_slice_get xs k x x at),
+        omega arith,
+      )
+
+-- so many entries are used by the attributes so far, and these tags name those to come
+pub record FirstUsesSoFar (keys : List (List ℕ)) (values : List Value) (attributes : List Attribute) (rest : List ℕ)
+    (keys_before values_before used_keys used_values : ℕ) : Type 0 where
+  pub done : List Attribute
+  pub to_come : List Attribute
+  pub parts : attributes ≡ done ++ to_come
+  pub named : AreRelated (NamesOne keys values) (pairs_of rest) to_come
+  pub keys_within : used_keys ≤ length keys
+  pub values_within : used_values ≤ length values
+  pub tags : List ℕ
+  pub so_far : TagsSoFar done (take keys_before keys) (take used_keys keys) (take values_before values) (take used_values values) tags
+
+module _ (keys : List (List ℕ)) (values : List Value) (attributes : List Attribute) (apart_keys : AreDistinct keys)
+    (apart_values : AreDistinct values) (keys_before values_before : ℕ) where
+  pub uses_start : (tags : List ℕ) → keys_before ≤ length keys → values_before ≤ length values → Names keys values tags attributes
+      → FirstUsesSoFar keys values attributes tags keys_before values_before keys_before values_before
+  uses_start tags few_keys few_values names = record {
+    done = [];
+    to_come = attributes;
+    parts = refl;
+    named = related_from_names keys values tags attributes names;
+    keys_within = few_keys;
+    values_within = few_values;
+    tags = [];
+    so_far = tags_start (take keys_before keys) (take values_before values) (distinct_front keys keys_before few_keys apart_keys)
+        (distinct_front values values_before few_values apart_values);
+  }
+
+  pub uses_step : (rest left : List ℕ) (used_keys used_values more_keys more_values : ℕ)
+      → FirstUsesSoFar keys values attributes rest keys_before values_before used_keys used_values → 2 ≤ length rest
+      → left ≡ drop 2 rest → IsUseOf used_keys (get_or rest 0 0) more_keys → IsUseOf used_values (get_or rest 1 0) more_values
+      → FirstUsesSoFar keys values attributes left keys_before values_before more_keys more_values
+  uses_step rest left used_keys used_values more_keys more_values so_far some is key value =
+      let front = named_front keys values rest so_far.to_come some so_far.named in
+      let a = front.0 in
+      let of_key = use_step keys apart_keys used_keys so_far.keys_within (get_or rest 0 0) more_keys a.key front.3.0 key in
+      let of_value = use_step values apart_values used_values so_far.values_within (get_or rest 1 0) more_values a.value front.3.1 value in
+      record {
+        done = so_far.done ++ a ∷ [];
+        to_come = front.1;
+        parts = so_far.parts ∙ ap (λ as'. so_far.done ++ as') front.2 ∙ sym (append_assoc so_far.done (a ∷ []) front.1);
+        named = subst (λ l. AreRelated (NamesOne keys values) (pairs_of l) front.1) (sym is) front.4;
+        keys_within = of_key.2;
+        values_within = of_value.2;
+        tags = so_far.tags ++ get_or rest 0 0 ∷ (get_or rest 1 0 ∷ []);
+        so_far = tags_step so_far.done (take keys_before keys) (take used_keys keys) (take more_keys keys) (take values_before values)
+            (take used_values values) (take more_values values) so_far.tags a (get_or rest 0 0) (get_or rest 1 0) so_far.so_far of_key.0
+            of_value.0 of_key.1 of_value.1;
+      }
+
+  pub uses_end : (rest : List ℕ) (used_keys used_values : ℕ)
+      → FirstUsesSoFar keys values attributes rest keys_before values_before used_keys used_values → length rest < 2
+      → AreFirstUses keys values attributes keys_before values_before (used_keys, used_values)
+  uses_end rest used_keys used_values so_far none =
+      let all : so_far.done ≡ attributes =
+      sym (so_far.parts
+      ∙ ap (λ as'. so_far.done ++ as') (named_none keys values rest so_far.to_come none so_far.named) ∙ append-nil so_far.done) in
+      record {
+        keys_within = so_far.keys_within;
+        values_within = so_far.values_within;
+        keys_are = ap (key_pool (take keys_before keys)) (sym all) ∙ sym so_far.so_far.keys_are;
+        values_are = ap (value_pool (take values_before values)) (sym all) ∙ sym so_far.so_far.values_are;
+      }

@@ -1,0 +1,119 @@
+//! Whether no text stands twice in a list.
+ghost use Rattle.std.specs.Prelude.{◌≡◌, ◌≢◌, ◌+◌, ◌^◌, ◌<◌, ℕ, List, length, slice_get, Some, IfOk, IfSome, IsTrue, false};
+ghost use Rattle.std.specs.Borrow.{Bor};
+ghost use Rattle.mvt_attrs.specs.FirstUse.{AreDistinct};
+ghost use Rattle.mvt_attrs.specs.FirstUses.{lent};
+ghost use Rattle.mvt_attrs.specs.Inner.Apart.{IsApart, AreApart, AreMarks, IsFreeFor, text_slot};
+
+use mvt_base::LIMIT;
+use std::alloc::{AllocError, Global};
+use std::hash::{FoldHasher, Hasher};
+
+/// The most entries that are each compared with all before them.
+const MOST_COMPARED: usize = 8;
+
+/// How many slots are looked at for an entry, at most.
+const MOST_STEPS: usize = 32;
+
+/// Whether all entries are different. It may also say no where many of them have one hash, so that
+/// the time grows with their bytes alone, whatever they are.
+///
+/// # Errors
+///
+/// When memory runs out.
+pub fn are_distinct(alloc: Global, entries: &[&[u8]]) -> Result<bool, AllocError>
+    ensures { IfOk result (λ holds. IsTrue holds → AreDistinct (lent entries.now)) }
+{
+    if entries.len() <= MOST_COMPARED {
+        return Ok(are_few_distinct(entries));
+    }
+    if entries.len() as u64 >= LIMIT {
+        return Ok(false);
+    }
+    are_many_distinct(alloc, entries)
+}
+
+fn are_few_distinct(entries: &[&[u8]]) -> bool
+    ensures { IsTrue result → AreDistinct (lent entries.now) }
+{
+    for index in 0..entries.len() {
+        if stands_before(entries, index) {
+            return false;
+        }
+    }
+    true
+}
+
+/// Whether the entry of an index stands before it too.
+fn stands_before(entries: &[&[u8]], index: usize) -> bool
+    requires { index < length entries.now }
+    ensures { result ≡ false → (i : ℕ) → i < index → IsApart entries.now i index }
+{
+    for before in 0..index {
+        if is_text(entries[before], entries[index]) {
+            return true;
+        }
+    }
+    false
+}
+
+#[inline(always)]
+fn is_text(one: &[u8], other: &[u8]) -> bool
+    ensures { result ≡ false → one.now ≢ other.now }
+{
+    one == other
+}
+
+/// The same of many, by their hashes.
+#[inline(never)]
+fn are_many_distinct(alloc: Global, entries: &[&[u8]]) -> Result<bool, AllocError>
+    requires { length entries.now < 2 ^ 31 }
+    ensures { IfOk result (λ holds. IsTrue holds → AreDistinct (lent entries.now)) }
+{
+    let room = (entries.len() * 2).next_power_of_two();
+    let mut slots = vec![in alloc; 0u32; room + MOST_STEPS]?;
+    for index in 0..entries.len() {
+        match free_slot(&slots, entries, index, room) {
+            Some(slot) => slots[slot] = index as u32 + 1,
+            None => return Ok(false),
+        }
+    }
+    Ok(true)
+}
+
+/// The slot for the entry of an index: the first free one from that of its hash on. `None` where
+/// an equal entry stands before, or no slot nearby is free.
+fn free_slot(slots: &[u32], entries: &[&[u8]], index: usize, room: usize) -> Option<usize>
+    requires there { index < length entries.now }
+    requires some { 0 < room }
+    requires room { length slots.now ≡ room + 32 }
+    requires marks { AreMarks slots.now (length entries.now) }
+    ensures { (entry : Bor (List ℕ)) → slice_get entries.now index ≡ Some entry
+        → IfSome result (IsFreeFor entries.now slots.now index (text_slot room entry.now)) }
+{
+    let entry = entries[index];
+    let first = first_slot(entry, room);
+    for slot in first..first + MOST_STEPS {
+        let mark = slots[slot] as usize;
+        if mark == 0 {
+            return Some(slot);
+        }
+        if is_text(entries[mark - 1], entry) {
+            return None;
+        }
+    }
+    None
+}
+
+/// The slot that the hash of a text names. The room is a power of two, so that all its slots are
+/// named.
+#[inline(always)]
+fn first_slot(text: &[u8], room: usize) -> usize
+    requires { 0 < room }
+    ensures value { result ≡ text_slot room text.now }
+    ensures within { result < room }
+{
+    let mut state = FoldHasher::default();
+    state.write(text);
+    state.finish() as usize & (room - 1)
+}

@@ -1,0 +1,66 @@
+-- A layer that is canonical but for where its version stands.
+use Rattle.std.specs.Prelude.{◌≡◌, ℕ, ◌≤◌, ◌⊎◌, List, [], ◌∷◌, ◌++◌, length, map, drop, take, IsUtf8}
+use Rattle.std.specs.Borrow.{Bor}
+use Rattle.std.specs.List.{AllByRecursion}
+use Rattle.mvt_attrs.specs.declared.value.Value.{Value}
+use Rattle.mvt_attrs.specs.FirstUses.{lent}
+use Rattle.mvt_wire.specs.Field.{bytes}
+use Rattle.mvt_wire.specs.Spelling.{Plain, spelled}
+use Rattle.mvt_feature.specs.declared.feature.Feature.{Feature}
+use Rattle.mvt_feature.specs.Canonical.{plain, value_fields}
+use Rattle.mvt_feature.specs.Copying.{AreReady}
+use Rattle.mvt_feature.specs.Valid.{ValidFeature, ValidValue}
+use Rattle.mvt_message.specs.declared.item.Layer.{Layer as ALayer}
+use Rattle.mvt_message.specs.declared.item.Item.TheVariants as items
+use Rattle.mvt_message.specs.declared.numbers.layer.TheConstants.{NAME}
+use Rattle.mvt_message.specs.CanonicalItems.{canonical_item, keys_of, values_of, feature_field, key_field, value_field, extent_fields}
+use Rattle.mvt_message.specs.Items.{IsItem}
+use Rattle.mvt_message.specs.ValidItems.{ValidItem, ValidLayer}
+
+-- the fields of a layer besides its version
+abbrev pub body_fields : ALayer → List Plain
+body_fields layer =
+    plain NAME (bytes layer.name)
+    ∷ (map (feature_field (keys_of layer.features) (values_of layer.features)) layer.features
+    ++ (map key_field (keys_of layer.features) ++ (map value_field (values_of layer.features) ++ extent_fields layer.extent)))
+
+-- these are the canonical fields of a layer of this name, but for its version
+abbrev pub IsBodyOf : List ℕ → List ℕ → Type 0
+IsBodyOf body name = (layer : ALayer) × ValidLayer layer × (name ≡ layer.name) × (body ≡ spelled (body_fields layer))
+
+-- the payload of a layer of this name, whose canonical payload is the version and then these fields
+abbrev pub IsCopied : List ℕ → List ℕ → List ℕ → Type 0
+IsCopied payload name body =
+    (layer : ALayer) × IsItem payload (items.Layer layer) × ValidItem (items.Layer layer) × (name ≡ layer.name)
+    × (canonical_item (items.Layer layer) ≡ 120 ∷ (2 ∷ body))
+
+-- a version of 2, and then these fields; or it stands behind them
+abbrev pub HasBody : List ℕ → List ℕ → Type 0
+HasBody payload body = (payload ≡ 120 ∷ (2 ∷ body)) ⊎ (payload ≡ body ++ 120 ∷ (2 ∷ []))
+
+-- texts in the fields of keys, from one place to another
+abbrev pub AreKeysFrom : List ℕ → ℕ → List (List ℕ) → ℕ → Type 0
+AreKeysFrom body start keys at =
+    (at ≤ length body) × (drop start body ≡ spelled (map key_field keys) ++ drop at body) × AllByRecursion IsUtf8 keys
+
+-- values in their fields
+abbrev pub AreValuesFrom : List ℕ → ℕ → List (Bor (List ℕ)) → ℕ → Type 0
+AreValuesFrom body start payloads at =
+    (at ≤ length body)
+    × ((values : List Value) × (drop start body ≡ spelled (map value_field values) ++ drop at body) × AllByRecursion ValidValue values
+    × (lent payloads ≡ map (λ (v : Value). spelled (value_fields v)) values))
+
+-- features in their fields, which use the first of the keys and of the values, in their order
+pub record AreFeaturesFrom (body : List ℕ) (start : ℕ) (keys : List (List ℕ)) (values : List Value) (at : ℕ) (used : ℕ × ℕ) : Type 0 where
+  pub features : List Feature
+  pub fields : drop start body ≡ spelled (map (feature_field keys values) features) ++ drop at body
+  pub valid : AllByRecursion ValidFeature features
+  pub keys_are : keys_of features ≡ take used.0 keys
+  pub values_are : values_of features ≡ take used.1 values
+  pub ready : AreReady keys values used
+
+-- all of them are used
+abbrev pub AreAllFeatures : List ℕ → ℕ → List (List ℕ) → List Value → ℕ → Type 0
+AreAllFeatures body start keys values at =
+    (features : List Feature) × (drop start body ≡ spelled (map (feature_field keys values) features) ++ drop at body)
+    × AllByRecursion ValidFeature features × (keys_of features ≡ keys) × (values_of features ≡ values)

@@ -1,0 +1,260 @@
+//! A layer that is canonical but for where its version stands (Mapbox Vector Tile Specification
+//! 2.1, 4.1).
+ghost use Rattle.std.specs.Prelude.{◌≡◌, ◌≤◌, ◌<◌, ◌+◌, ◌^◌, ℕ, List, ◌++◌, length, drop, IfOk, IfSome, IsTrue, IsUtf8, OnOk};
+ghost use Rattle.mvt_attrs.specs.declared.value.Value.{Value as AValue};
+ghost use Rattle.mvt_attrs.specs.FirstUse.{AreDistinct};
+ghost use Rattle.mvt_attrs.specs.FirstUses.{lent};
+ghost use Rattle.mvt_wire.specs.Field.{bytes, varint};
+ghost use Rattle.mvt_wire.specs.Spelling.{short_field};
+ghost use Rattle.mvt_feature.specs.Copying.{AreReady, IsCanonicalValue};
+ghost use Rattle.mvt_message.specs.declared.numbers.layer.TheConstants.{NAME, KEYS, VALUES, EXTENT};
+ghost use Rattle.mvt_message.specs.Copying.{IsBodyOf, IsCopied, HasBody, AreKeysFrom, AreValuesFrom, AreFeaturesFrom, AreAllFeatures};
+
+use crate::numbers::layer;
+use mvt_attrs::{LayerKeys, are_distinct};
+use mvt_base::{LIMIT, Text};
+use mvt_feature::{NotCanonical, Scratch, is_canonical_value, judge_canonical};
+use mvt_wire::{short_bytes_at, short_number_at};
+use std::alloc::{AllocError, Global};
+use std::str;
+
+/// The field of version 2.
+pub(crate) const VERSION_FIELD: [u8; 2] = [0x78, 2];
+
+/// The parts of such a layer: its name, and its fields besides the version as they stand.
+#[derive(Clone, Copy)]
+pub(crate) struct CopiedLayer<'a> {
+    pub(crate) name: &'a str,
+    pub(crate) body: &'a [u8],
+}
+
+/// The parts of a layer of version 2 that can be copied: all its fields are canonical, and the
+/// version stands before or behind them.
+///
+/// # Errors
+///
+/// Where it can't, or isn't known to; that says nothing of the payload.
+pub(crate) fn copied(alloc: Global, payload: &[u8]) -> Result<CopiedLayer<'_>, NotCanonical>
+    requires { length payload.now ≤ LIMIT }
+    ensures { IfOk result (λ l. IsCopied payload.now l.name.now l.body.now) }
+{
+    let Some(body) = body_of(payload) else {
+        return Err(NotCanonical::Other);
+    };
+    let name = name_of_body(alloc, body)?;
+    Ok(CopiedLayer { name, body })
+}
+
+/// What stands behind the version, or before it.
+fn body_of(payload: &[u8]) -> Option<&[u8]>
+    ensures { IfSome result (λ body. HasBody payload.now body.now) }
+{
+    match payload {
+        [0x78, 2, body @ ..] => Some(body),
+        [body @ .., 0x78, 2] => Some(body),
+        _ => None,
+    }
+}
+
+/// The name of a layer that has these fields besides the version, where they are canonical.
+fn name_of_body(alloc: Global, body: &[u8]) -> Result<&str, NotCanonical>
+    ensures { IfOk result (λ name. IsBodyOf body.now name.now) }
+{
+    let Some((name, features_at)) = name_from(body) else {
+        return Err(NotCanonical::Other);
+    };
+    let keys_at = after_features(body, features_at);
+    let (keys, values_at) = keys_from(alloc, body, keys_at)?;
+    let (values, extent_at) = values_from(alloc, body, values_at)?;
+    if !ends_with_extent(body, extent_at) {
+        return Err(NotCanonical::Other);
+    }
+    if !are_apart(alloc, &keys, &values)? {
+        return Err(NotCanonical::Other);
+    }
+    judge_features(alloc, body, features_at, keys_at, &keys, values.len())?;
+    Ok(name)
+}
+
+/// The name in front, and the offset after it.
+fn name_from(body: &[u8]) -> Option<(&str, usize)>
+    ensures field { IfSome result (λ f. body.now
+        ≡ short_field NAME (bytes f.0.now) ++ drop f.1 body.now) }
+    ensures text { IfSome result (λ f. IsUtf8 f.0.now) }
+    ensures within { IfSome result (λ f. f.1 ≤ length body.now) }
+{
+    let (bytes, after) = short_bytes_at(body, 0, layer::NAME)?;
+    match str::from_utf8(bytes) {
+        Ok(name) => Some((name, after)),
+        Err(_) => None,
+    }
+}
+
+/// The offset after the features, whatever they are.
+fn after_features(body: &[u8], start: usize) -> usize
+    requires { start ≤ length body.now }
+    ensures { result ≤ length body.now }
+{
+    let mut at = start;
+    while let Some((_, after)) = short_bytes_at(body, at, layer::FEATURES) {
+        at = after;
+    }
+    at
+}
+
+/// The keys, and the offset after them.
+fn keys_from(alloc: Global, body: &[u8], start: usize) -> Result<(Vec<Text>, usize), AllocError>
+    requires { start ≤ length body.now }
+    ensures { IfOk result (λ f. AreKeysFrom body.now start f.0.items f.1) }
+{
+    let mut keys = Vec::with_capacity(alloc, FIRST_ROOM)?;
+    let mut at = start;
+    while let Some((key, after)) = key_from(alloc, body, at)? {
+        keys.push(key)?;
+        at = after;
+    }
+    Ok((keys, at))
+}
+
+/// How many keys, and values, there is room for at first.
+const FIRST_ROOM: usize = 16;
+
+fn key_from(alloc: Global, body: &[u8], at: usize) -> Result<Option<(Text, usize)>, AllocError>
+    requires { at ≤ length body.now }
+    ensures field { IfOk result (λ found. IfSome found (λ f. drop at body.now
+        ≡ short_field KEYS (bytes f.0) ++ drop f.1 body.now)) }
+    ensures text { IfOk result (λ found. IfSome found (λ f. IsUtf8 f.0)) }
+    ensures within { IfOk result (λ found. IfSome found (λ f.
+        (at < f.1) × (f.1 ≤ length body.now))) }
+{
+    let Some((bytes, after)) = short_bytes_at(body, at, layer::KEYS) else {
+        return Ok(None);
+    };
+    match str::from_utf8(bytes) {
+        Ok(text) => Ok(Some((Text::from_str(alloc, text)?, after))),
+        Err(_) => Ok(None),
+    }
+}
+
+/// The payloads of the values, and the offset after them.
+fn values_from(alloc: Global, body: &[u8], start: usize) -> Result<(Vec<&[u8]>, usize), AllocError>
+    requires { start ≤ length body.now }
+    ensures { IfOk result (λ f. AreValuesFrom body.now start f.0.items f.1) }
+{
+    let mut values = Vec::with_capacity(alloc, FIRST_ROOM)?;
+    let mut at = start;
+    while let Some((value, after)) = value_from(body, at) {
+        values.push(value)?;
+        at = after;
+    }
+    Ok((values, at))
+}
+
+fn value_from(body: &[u8], at: usize) -> Option<(&[u8], usize)>
+    requires { at ≤ length body.now }
+    ensures field { IfSome result (λ f. drop at body.now
+        ≡ short_field VALUES (bytes f.0.now) ++ drop f.1 body.now) }
+    ensures value { IfSome result (λ f. (value : AValue) × IsCanonicalValue f.0.now value) }
+    ensures within { IfSome result (λ f. (at < f.1) × (f.1 ≤ length body.now)) }
+{
+    let (value, after) = short_bytes_at(body, at, layer::VALUES)?;
+    if !is_canonical_value(value) {
+        return None;
+    }
+    Some((value, after))
+}
+
+/// Whether the extent stands at an offset, and nothing behind it.
+fn ends_with_extent(body: &[u8], at: usize) -> bool
+    requires { at ≤ length body.now }
+    ensures { IsTrue result → (extent : ℕ) × (extent < 2 ^ 32)
+        × (drop at body.now ≡ short_field EXTENT (varint extent)) }
+{
+    match short_number_at(body, at, layer::EXTENT) {
+        Some((extent, end)) => end == body.len() && extent < 1 << 32,
+        None => false,
+    }
+}
+
+/// Whether no key and no value stands twice. It may also say no for want of time.
+fn are_apart(alloc: Global, keys: &[Text], values: &[&[u8]]) -> Result<bool, AllocError>
+    ensures keys { IfOk result (λ apart. IsTrue apart → AreDistinct keys.now) }
+    ensures values { IfOk result (λ apart. IsTrue apart → AreDistinct (lent values.now)) }
+{
+    let texts = bytes_of_texts(alloc, keys)?;
+    if !are_distinct(alloc, &texts)? {
+        return Ok(false);
+    }
+    are_distinct(alloc, values)
+}
+
+fn bytes_of_texts(alloc: Global, texts: &[Text]) -> Result<Vec<&[u8]>, AllocError>
+    ensures { IfOk result (λ found. lent found.items ≡ texts.now) }
+{
+    let mut found = Vec::with_capacity(alloc, texts.len())?;
+    for text in texts {
+        found.push(text.as_str().as_bytes())?;
+    }
+    Ok(found)
+}
+
+/// Judges whether canonical features stand from one offset to another, in a layer with these keys
+/// and this number of values, and use all of them in their order.
+fn judge_features(
+    alloc: Global,
+    body: &[u8],
+    start: usize,
+    end: usize,
+    keys: &[Text],
+    values: usize,
+) -> Result<(), NotCanonical>
+    requires { start ≤ length body.now }
+    ensures { OnOk result ((held : List AValue) → length held ≡ values
+        → AreReady keys.now held (0, 0) → AreAllFeatures body.now start keys.now held end) }
+{
+    let mut layer_keys = LayerKeys::new(alloc, keys);
+    let mut scratch = Scratch::for_payload(alloc, body.len())?;
+    let mut used = (0, 0);
+    let mut at = start;
+    while at < end {
+        let (after, more) = take_feature(
+            alloc,
+            body,
+            at,
+            &mut layer_keys,
+            values,
+            used,
+            &mut scratch,
+        )?;
+        at = after;
+        used = more;
+    }
+    if at != end || used.0 != keys.len() || used.1 != values {
+        return Err(NotCanonical::Other);
+    }
+    Ok(())
+}
+
+/// The offset after the feature at one, and how many keys and values are used then.
+fn take_feature(
+    alloc: Global,
+    body: &[u8],
+    at: usize,
+    keys: &mut LayerKeys<'_>,
+    values: usize,
+    used: (usize, usize),
+    scratch: &mut Scratch,
+) -> Result<(usize, (usize, usize)), NotCanonical>
+    requires { at ≤ length body.now }
+    ensures feature { IfOk result (λ f. (start : ℕ) (held : List AValue)
+        → length held ≡ values → AreFeaturesFrom body.now start keys.old held at used
+        → AreFeaturesFrom body.now start keys.old held f.0 f.1) }
+    ensures within { IfOk result (λ f. (at < f.0) × (f.0 ≤ length body.now)) }
+    ensures same { keys.new ≡ keys.old }
+{
+    let Some((payload, after)) = short_bytes_at(body, at, layer::FEATURES) else {
+        return Err(NotCanonical::Other);
+    };
+    let more = judge_canonical(alloc, payload, keys, values, used, scratch)?;
+    Ok((after, more))
+}
