@@ -4,3 +4,4 @@ mod FrontLemmas
 mod WalkLemmas
 mod WholeLemmas
 mod SvgLemmas
+mod XmlLemmas

@@ -1,5 +1,5 @@
 -- A text between two tags (XML 1.0, 2.2 Characters, 2.4 Character Data, 2.11 End-of-Line Handling).
-use Rattle.std.specs.Prelude.{ℕ, ◌==◌, ◌&&◌, ◌||◌, Bool, List, nat_lt, codes, if◌then◌else◌}
+use Rattle.std.specs.Prelude.{ℕ, ◌==◌, ◌&&◌, ◌||◌, Bool, not, List, nat_lt, codes, if◌then◌else◌}
 use Rattle.std.specs.Char.{encode_utf8}
 use Rattle.std.specs.List.{flat_map}
 use Rattle.std.specs.Str.{chars}
@@ -19,3 +19,7 @@ escaped_char c =
 
 abbrev pub escaped : List ℕ → List ℕ
 escaped text = flat_map escaped_char (chars text)
+
+-- a byte that stands in no character which is escaped: not below 32, not of & < >, and none that begins one from U+F000 to U+FFFF
+abbrev pub is_plain : ℕ → Bool
+is_plain b = nat_lt 31 b && (not (b == 38) && (not (b == 60) && (not (b == 62) && not (b == 239))))

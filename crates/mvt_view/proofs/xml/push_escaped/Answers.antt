@@ -1,18 +1,11 @@
-use Rattle.std.proofs.Common.{ap, ◌∙◌, sym, ◌++◌, string_bytes}
-use Rattle.std.specs.List.{flat_map}
-use Rattle.std.proofs.lemmas.List.{flat_map_more, map-id}
-use Rattle.std.proofs.lemmas.Iterator.{YieldsList-from_chars}
-use Rattle.std.proofs.lemmas.Iterator.Consumers.{YieldsList-end}
-use Rattle.mvt_view.specs.Xml.{escaped_char}
+use Rattle.std.proofs.Common.{rules, ◌≡◌, ◌∙◌, true, sym, ap}
+use Rattle.std.specs.List.{list_all}
+use Rattle.mvt_view.specs.Xml.{is_plain}
+use Rattle.mvt_view.proofs.XmlLemmas.{plain_stays}
 use Rattle.mvt_view.proofs.xml.push_escaped.Goals as goal
 
-pub loop-c-preserved : goal.loop-c-preserved
-loop-c-preserved c =
-    c.in_ok-push_char.ensures ∙ ap (λ bytes. bytes ++ escaped_char c.in-Some.c) c.loop-c.invariant
-    ∙ flat_map_more escaped_char (string_bytes c.args.text.now) c.loop-c.yielded c.in-Some.c
-
-pub returns : goal.returns
-returns c =
-    let end = YieldsList-end (YieldsList-from_chars c.args.plain.now c.utf8.plain cc) c.loop-c.yielded _
-    c.loop-c.yielded_by _ _ c.in-None.is c.next.ensures.steps in
-    c.loop-c.invariant ∙ ap (λ cs. string_bytes c.args.text.now ++ flat_map escaped_char cs) (sym (map-id c.loop-c.yielded) ∙ end.0)
+pub returns-then-are_plain : goal.returns-then-are_plain
+returns-then-are_plain c =
+    let plain = ap (list_all is_plain) (sym c.as_bytes.ensures.value) ∙ sym c.are_plain.ensures ∙ c.if-are_plain.true in
+    let same = plain_stays c.args.plain.now c.utf8.plain plain in
+    search (rules, c.push_str.ensures.bytes, same)

@@ -1,7 +1,7 @@
 use Rattle.std.proofs.Common.{◌≡◌, ◌++◌, string_bytes}
 use Rattle.std.specs.List.{flat_map}
 use Rattle.mvt_view.specs.Xml.{escaped_char}
-use Rattle.mvt_view.proofs.xml.push_escaped.Given as goal
+use Rattle.mvt_view.proofs.xml.push_chars.Given as goal
 
 abbrev pub invariant-loop-c : goal.invariant-loop-c
 invariant-loop-c l =
