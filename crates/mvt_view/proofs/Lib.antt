@@ -3,5 +3,6 @@ mod EventLemmas
 mod FrontLemmas
 mod WalkLemmas
 mod WholeLemmas
+mod NumberLemmas
 mod SvgLemmas
 mod XmlLemmas

@@ -4,6 +4,7 @@
 mod fault;
 mod fields;
 pub mod laws;
+mod numbers;
 mod parts;
 mod paths;
 mod report;

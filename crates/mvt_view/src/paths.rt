@@ -3,10 +3,10 @@ ghost use Rattle.std.specs.Prelude.{◌≡◌, ◌++◌, OnOk, string_bytes};
 ghost use Rattle.std.specs.List.{flat_map};
 ghost use Rattle.mvt_view.specs.Svg.{dot_path, geometry_path, line_path, line_to, move_to, polygon_path, ring_path};
 
+use crate::numbers::push_pair;
 use mvt_base::Items;
 use mvt_geometry::{Geometry, Point, Polygon};
 use std::alloc::AllocError;
-use std::fmt::Write;
 
 /// Appends the path of a geometry; nothing for one of unknown type.
 pub(crate) fn push_geometry(text: &mut String, geometry: &Geometry) -> Result<(), AllocError>
@@ -112,14 +112,12 @@ fn push_ring(text: &mut String, points: &[Point]) -> Result<(), AllocError>
 fn push_move(text: &mut String, point: Point) -> Result<(), AllocError>
     ensures { OnOk result (string_bytes text.new ≡ string_bytes text.old ++ move_to point) }
 {
-    let Point { x, y } = point;
-    write!(text, "M{x} {y}")
+    push_pair(text, b'M', point.x, b' ', point.y)
 }
 
 #[tactic(auto, unfolding(crate::specs::Svg::line_to))]
 fn push_stroke(text: &mut String, point: Point) -> Result<(), AllocError>
     ensures { OnOk result (string_bytes text.new ≡ string_bytes text.old ++ line_to point) }
 {
-    let Point { x, y } = point;
-    write!(text, "L{x} {y}")
+    push_pair(text, b'L', point.x, b' ', point.y)
 }

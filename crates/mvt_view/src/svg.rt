@@ -123,8 +123,9 @@ fn push_feature(alloc: Global, text: &mut String, feature: &Feature) -> Result<(
     ensures { OnOk result (string_bytes text.new
         ≡ string_bytes text.old ++ feature_svg feature.now) }
 {
-    let class = class(&feature.geometry);
-    write!(text, "<path class=\"{class}\" d=\"")?;
+    text.push_str("<path class=\"")?;
+    text.push_str(class(&feature.geometry))?;
+    text.push_str("\" d=\"")?;
     push_geometry(text, &feature.geometry)?;
     text.push_str("\">")?;
     let title = title_text(alloc, feature)?;

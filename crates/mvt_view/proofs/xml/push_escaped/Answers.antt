@@ -1,4 +1,4 @@
-use Rattle.std.proofs.Common.{rules, ◌≡◌, ◌∙◌, true, sym, ap}
+use Rattle.std.proofs.Common.{rules, ◌∙◌, sym, ap}
 use Rattle.std.specs.List.{list_all}
 use Rattle.mvt_view.specs.Xml.{is_plain}
 use Rattle.mvt_view.proofs.XmlLemmas.{plain_stays}
