@@ -1,8 +1,7 @@
 pub mod ViewLaws
-mod EventLemmas
 mod FrontLemmas
 mod WalkLemmas
-mod WholeLemmas
+mod JsonTexts
 mod NumberLemmas
 mod SvgLemmas
 mod XmlLemmas

@@ -1,5 +1,5 @@
 -- The JSON of a tile and of its parts. The members of each object stand in byte order of their keys.
-use Rattle.std.specs.Prelude.{ℕ, List, length, map, Option, Some, None, codes}
+use Rattle.std.specs.Prelude.{ℕ, ◌==◌, ◌&&◌, Bool as Truth, not, nat_lt, List, length, map, Option, Some, None, codes}
 use Rattle.serde_json.specs.Data.{Data, null, boolean, number, string, array, object, unsigned, no_items, item, no_members, member}
 use Rattle.serde_json.specs.Find.{of_integer}
 use Rattle.serde_json.specs.View.{items_of}
@@ -84,3 +84,7 @@ item_json (Foreign version bytes) = alone (codes "foreign") (foreign_json versio
 
 abbrev pub json : Tile → Data
 json t = alone (codes "layers") (each item_json t.items)
+
+-- a byte that stands in a string of JSON as it is: not below 32, no quotation mark, no backslash
+abbrev pub is_clean : ℕ → Truth
+is_clean b = nat_lt 31 b && (not (b == 34) && not (b == 92))

@@ -7,6 +7,7 @@ pub mod laws;
 mod numbers;
 mod parts;
 mod paths;
+mod quoted;
 mod report;
 mod shown;
 mod svg;

@@ -1,12 +1,13 @@
 //! The JSON of a tile's parts.
 ghost use Rattle.mvt_view.specs.JsonForms.{attribute_json, feature_json, foreign_json, geometry_json, item_json, json, layer_json, point_json, polygon_json, value_json};
 
-use crate::shown::{Shown, alone, send_alone};
+use crate::numbers::push_pair;
+use crate::shown::{Shown, alone, push_alone};
+use crate::view_error::ViewError;
 use mvt_attrs::{Attribute, Value};
 use mvt_geometry::{Geometry, Point, Polygon};
 use mvt_message::{Feature, Item, Layer};
 use mvt_tile::Tile;
-use serde::Serializer;
 use serde_json::{Value as Json, json};
 use std::alloc::{AllocError, Global};
 
@@ -25,15 +26,15 @@ impl Shown for Value {
         }
     }
 
-    fn send<S: Serializer>(&self, out: &mut S) -> Result<(), S::Error> {
+    fn push(&self, alloc: Global, text: &mut String) -> Result<(), ViewError> {
         match self {
-            Value::Text(text) => send_alone("string", text, out),
-            Value::Float(bits) => send_alone("float_bits", bits, out),
-            Value::Double(bits) => send_alone("double_bits", bits, out),
-            Value::Int(number) => send_alone("int", number, out),
-            Value::Uint(number) => send_alone("uint", number, out),
-            Value::Sint(number) => send_alone("sint", number, out),
-            Value::Bool(truth) => send_alone("bool", truth, out),
+            Value::Text(string) => push_alone(alloc, text, "{\"string\":", string),
+            Value::Float(bits) => push_alone(alloc, text, "{\"float_bits\":", bits),
+            Value::Double(bits) => push_alone(alloc, text, "{\"double_bits\":", bits),
+            Value::Int(number) => push_alone(alloc, text, "{\"int\":", number),
+            Value::Uint(number) => push_alone(alloc, text, "{\"uint\":", number),
+            Value::Sint(number) => push_alone(alloc, text, "{\"sint\":", number),
+            Value::Bool(truth) => push_alone(alloc, text, "{\"bool\":", truth),
         }
     }
 }
@@ -47,11 +48,12 @@ impl Shown for Attribute {
         json!(in alloc; [key, value])
     }
 
-    fn send<S: Serializer>(&self, out: &mut S) -> Result<(), S::Error> {
-        out.begin_seq(Some(2))?;
-        self.key.send(out)?;
-        self.value.send(out)?;
-        out.end_seq()
+    fn push(&self, alloc: Global, text: &mut String) -> Result<(), ViewError> {
+        text.push_str("[")?;
+        self.key.push(alloc, text)?;
+        text.push_str(",")?;
+        self.value.push(alloc, text)?;
+        Ok(text.push_str("]")?)
     }
 }
 
@@ -62,11 +64,10 @@ impl Shown for Point {
         json!(in alloc; [self.x, self.y])
     }
 
-    fn send<S: Serializer>(&self, out: &mut S) -> Result<(), S::Error> {
-        out.begin_seq(Some(2))?;
-        self.x.send(out)?;
-        self.y.send(out)?;
-        out.end_seq()
+    #[tactic(auto, using(crate::proofs::JsonTexts::point_text))]
+    fn push(&self, _alloc: Global, text: &mut String) -> Result<(), ViewError> {
+        push_pair(text, b'[', self.x, b',', self.y)?;
+        Ok(text.push_str("]")?)
     }
 }
 
@@ -79,13 +80,12 @@ impl Shown for Polygon {
         json!(in alloc; {"outer": outer, "rest": rest})
     }
 
-    fn send<S: Serializer>(&self, out: &mut S) -> Result<(), S::Error> {
-        out.begin_map(Some(2))?;
-        out.key("outer")?;
-        self.outer.send(out)?;
-        out.key("rest")?;
-        self.rest.send(out)?;
-        out.end_map()
+    fn push(&self, alloc: Global, text: &mut String) -> Result<(), ViewError> {
+        text.push_str("{\"outer\":")?;
+        self.outer.push(alloc, text)?;
+        text.push_str(",\"rest\":")?;
+        self.rest.push(alloc, text)?;
+        Ok(text.push_str("}")?)
     }
 }
 
@@ -101,12 +101,12 @@ impl Shown for Geometry {
         }
     }
 
-    fn send<S: Serializer>(&self, out: &mut S) -> Result<(), S::Error> {
+    fn push(&self, alloc: Global, text: &mut String) -> Result<(), ViewError> {
         match self {
-            Geometry::Unknown(integers) => send_alone("unknown", integers, out),
-            Geometry::Points(points) => send_alone("points", points, out),
-            Geometry::Lines(lines) => send_alone("lines", lines, out),
-            Geometry::Polygons(polygons) => send_alone("polygons", polygons, out),
+            Geometry::Unknown(integers) => push_alone(alloc, text, "{\"unknown\":", integers),
+            Geometry::Points(points) => push_alone(alloc, text, "{\"points\":", points),
+            Geometry::Lines(lines) => push_alone(alloc, text, "{\"lines\":", lines),
+            Geometry::Polygons(polygons) => push_alone(alloc, text, "{\"polygons\":", polygons),
         }
     }
 }
@@ -121,15 +121,14 @@ impl Shown for Feature {
         json!(in alloc; {"attributes": attributes, "geometry": geometry, "id": id})
     }
 
-    fn send<S: Serializer>(&self, out: &mut S) -> Result<(), S::Error> {
-        out.begin_map(Some(3))?;
-        out.key("attributes")?;
-        self.attributes.send(out)?;
-        out.key("geometry")?;
-        self.geometry.send(out)?;
-        out.key("id")?;
-        self.id.send(out)?;
-        out.end_map()
+    fn push(&self, alloc: Global, text: &mut String) -> Result<(), ViewError> {
+        text.push_str("{\"attributes\":")?;
+        self.attributes.push(alloc, text)?;
+        text.push_str(",\"geometry\":")?;
+        self.geometry.push(alloc, text)?;
+        text.push_str(",\"id\":")?;
+        self.id.push(alloc, text)?;
+        Ok(text.push_str("}")?)
     }
 }
 
@@ -143,15 +142,14 @@ impl Shown for Layer {
         json!(in alloc; {"extent": extent, "features": features, "name": name})
     }
 
-    fn send<S: Serializer>(&self, out: &mut S) -> Result<(), S::Error> {
-        out.begin_map(Some(3))?;
-        out.key("extent")?;
-        self.extent.send(out)?;
-        out.key("features")?;
-        self.features.send(out)?;
-        out.key("name")?;
-        self.name.send(out)?;
-        out.end_map()
+    fn push(&self, alloc: Global, text: &mut String) -> Result<(), ViewError> {
+        text.push_str("{\"extent\":")?;
+        self.extent.push(alloc, text)?;
+        text.push_str(",\"features\":")?;
+        self.features.push(alloc, text)?;
+        text.push_str(",\"name\":")?;
+        self.name.push(alloc, text)?;
+        Ok(text.push_str("}")?)
     }
 }
 
@@ -169,13 +167,12 @@ impl Shown for Foreign {
         json!(in alloc; {"length": self.length, "version": self.version})
     }
 
-    fn send<S: Serializer>(&self, out: &mut S) -> Result<(), S::Error> {
-        out.begin_map(Some(2))?;
-        out.key("length")?;
-        self.length.send(out)?;
-        out.key("version")?;
-        self.version.send(out)?;
-        out.end_map()
+    fn push(&self, alloc: Global, text: &mut String) -> Result<(), ViewError> {
+        text.push_str("{\"length\":")?;
+        self.length.push(alloc, text)?;
+        text.push_str(",\"version\":")?;
+        self.version.push(alloc, text)?;
+        Ok(text.push_str("}")?)
     }
 }
 
@@ -195,15 +192,15 @@ impl Shown for Item {
         }
     }
 
-    fn send<S: Serializer>(&self, out: &mut S) -> Result<(), S::Error> {
+    fn push(&self, alloc: Global, text: &mut String) -> Result<(), ViewError> {
         match self {
-            Item::Layer(layer) => layer.send(out),
+            Item::Layer(layer) => layer.push(alloc, text),
             Item::Foreign { version, bytes } => {
                 let foreign = Foreign {
                     version: *version,
                     length: bytes.as_slice().len() as u64,
                 };
-                send_alone("foreign", &foreign, out)
+                push_alone(alloc, text, "{\"foreign\":", &foreign)
             }
         }
     }
@@ -216,7 +213,7 @@ impl Shown for Tile {
         alone(alloc, "layers", self.items.to_json(alloc)?)
     }
 
-    fn send<S: Serializer>(&self, out: &mut S) -> Result<(), S::Error> {
-        send_alone("layers", &self.items, out)
+    fn push(&self, alloc: Global, text: &mut String) -> Result<(), ViewError> {
+        push_alone(alloc, text, "{\"layers\":", &self.items)
     }
 }

@@ -1,13 +1,16 @@
-//! What has a form in JSON, as a value and as the events that serde's writers take.
-ghost use Rattle.std.specs.Prelude.{◌≡◌, IfOk, OnOk};
+//! What has a form in JSON, as a value and as a text.
+ghost use Rattle.std.specs.Prelude.{◌≡◌, ◌∷◌, ◌++◌, IfOk, OnOk, codes, string_bytes};
+ghost use Rattle.std.specs.List.{flat_map};
 ghost use Rattle.serde_json.specs.Data.{Data};
-ghost use Rattle.serde_json.specs.Events.{SendsValue};
 ghost use Rattle.serde_json.specs.View.{view};
+ghost use Rattle.serde_json.specs.Written.{compact_text};
 ghost use Rattle.mvt_view.specs.JsonForms.{alone as alone_json, each, id_json};
 
+use crate::quoted::push_quoted;
+use crate::view_error::ViewError;
+use itoa::Buffer;
 use mvt_base::{Items, Text};
-use serde::{Serialize, Serializer};
-use serde_json::{Number, Value as Json, json};
+use serde_json::{Value as Json, json};
 use std::alloc::{AllocError, Global};
 
 /// A part of a tile that has a form in JSON.
@@ -17,10 +20,10 @@ pub(crate) trait Shown {
     fn to_json(&self, alloc: Global) -> Result<Json, AllocError>
         ensures { IfOk result (λ v. view v ≡ shown self.now) };
 
-    /// Sends the events of that form.
-    fn send<S: Serializer>(&self, out: &mut S) -> Result<(), S::Error>
-        ensures { OnOk result (SendsValue (shown self.now) (S.written out.old)
-            (S.written out.new)) };
+    /// Appends the text of that form, with no space in it.
+    fn push(&self, alloc: Global, text: &mut String) -> Result<(), ViewError>
+        ensures { OnOk result (string_bytes text.new
+            ≡ string_bytes text.old ++ compact_text (shown self.now)) };
 }
 
 /// An object of one member.
@@ -30,20 +33,31 @@ pub(crate) fn alone(alloc: Global, key: &str, value: Json) -> Result<Json, Alloc
     json!(in alloc; {key: value})
 }
 
-/// Sends an object of one member.
-pub(crate) fn send_alone<T: Shown, S: Serializer>(
-    key: &str,
+/// Appends the text of an object of one member, which begins with this.
+pub(crate) fn push_alone<T: Shown>(
+    alloc: Global,
+    text: &mut String,
+    opening: &str,
     value: &T,
-    out: &mut S,
-) -> Result<(), S::Error>
-    ensures { OnOk result
-        (SendsValue (alone_json key.now (T.shown value.now)) (S.written out.old)
-        (S.written out.new)) }
+) -> Result<(), ViewError>
+    ensures { OnOk result (string_bytes text.new ≡ string_bytes text.old
+        ++ (opening.now ++ (compact_text (T.shown value.now) ++ codes "}"))) }
 {
-    out.begin_map(Some(1))?;
-    out.key(key)?;
-    value.send(out)?;
-    out.end_map()
+    text.push_str(opening)?;
+    value.push(alloc, text)?;
+    Ok(text.push_str("}")?)
+}
+
+/// Appends the texts of entries, each after a comma.
+fn push_more<T: Shown>(alloc: Global, text: &mut String, entries: &[T]) -> Result<(), ViewError>
+    ensures { OnOk result (string_bytes text.new ≡ string_bytes text.old
+        ++ flat_map (λ x. 44 ∷ compact_text (T.shown x)) entries.now) }
+{
+    for entry in entries {
+        text.push_str(",")?;
+        entry.push(alloc, text)?;
+    }
+    Ok(())
 }
 
 impl<T: Shown> Shown for Items<T> {
@@ -58,13 +72,16 @@ impl<T: Shown> Shown for Items<T> {
         Ok(Json::Array(list))
     }
 
-    fn send<S: Serializer>(&self, out: &mut S) -> Result<(), S::Error> {
-        let entries = self.as_slice();
-        out.begin_seq(Some(entries.len()))?;
-        for entry in entries {
-            entry.send(out)?;
+    fn push(&self, alloc: Global, text: &mut String) -> Result<(), ViewError> {
+        match self.as_slice() {
+            [] => Ok(text.push_str("[]")?),
+            [first, rest @ ..] => {
+                text.push_str("[")?;
+                first.push(alloc, text)?;
+                push_more(alloc, text, rest)?;
+                Ok(text.push_str("]")?)
+            }
         }
-        out.end_seq()
     }
 }
 
@@ -77,8 +94,8 @@ impl Shown for Text {
         Json::try_from_str(alloc, self.as_str())
     }
 
-    fn send<S: Serializer>(&self, out: &mut S) -> Result<(), S::Error> {
-        out.str(self.as_str())
+    fn push(&self, alloc: Global, text: &mut String) -> Result<(), ViewError> {
+        push_quoted(alloc, text, self.as_str())
     }
 }
 
@@ -91,8 +108,8 @@ impl Shown for bool {
         Ok(Json::Bool(*self))
     }
 
-    fn send<S: Serializer>(&self, out: &mut S) -> Result<(), S::Error> {
-        out.bool(*self)
+    fn push(&self, _alloc: Global, text: &mut String) -> Result<(), ViewError> {
+        Ok(text.push_str(if *self { "true" } else { "false" })?)
     }
 }
 
@@ -105,8 +122,8 @@ impl Shown for u32 {
         Ok(Json::from(*self))
     }
 
-    fn send<S: Serializer>(&self, out: &mut S) -> Result<(), S::Error> {
-        out.u64(u64::from(*self))
+    fn push(&self, _alloc: Global, text: &mut String) -> Result<(), ViewError> {
+        Ok(text.push_str(Buffer::new().format(*self))?)
     }
 }
 
@@ -119,8 +136,8 @@ impl Shown for u64 {
         Ok(Json::from(*self))
     }
 
-    fn send<S: Serializer>(&self, out: &mut S) -> Result<(), S::Error> {
-        out.u64(*self)
+    fn push(&self, _alloc: Global, text: &mut String) -> Result<(), ViewError> {
+        Ok(text.push_str(Buffer::new().format(*self))?)
     }
 }
 
@@ -134,8 +151,9 @@ impl Shown for i32 {
         Ok(Json::from(*self))
     }
 
-    fn send<S: Serializer>(&self, out: &mut S) -> Result<(), S::Error> {
-        Number::from(*self).serialize(out)
+    #[tactic(auto, using(crate::proofs::JsonTexts::integer_text))]
+    fn push(&self, _alloc: Global, text: &mut String) -> Result<(), ViewError> {
+        Ok(text.push_str(Buffer::new().format(*self))?)
     }
 }
 
@@ -149,8 +167,9 @@ impl Shown for i64 {
         Ok(Json::from(*self))
     }
 
-    fn send<S: Serializer>(&self, out: &mut S) -> Result<(), S::Error> {
-        Number::from(*self).serialize(out)
+    #[tactic(auto, using(crate::proofs::JsonTexts::integer_text))]
+    fn push(&self, _alloc: Global, text: &mut String) -> Result<(), ViewError> {
+        Ok(text.push_str(Buffer::new().format(*self))?)
     }
 }
 
@@ -164,10 +183,10 @@ impl Shown for Option<u64> {
         }
     }
 
-    fn send<S: Serializer>(&self, out: &mut S) -> Result<(), S::Error> {
+    fn push(&self, alloc: Global, text: &mut String) -> Result<(), ViewError> {
         match self {
-            Some(id) => id.send(out),
-            None => out.unit(),
+            Some(id) => id.push(alloc, text),
+            None => Ok(text.push_str("null")?),
         }
     }
 }

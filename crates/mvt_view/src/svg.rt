@@ -5,7 +5,6 @@
 //! feature's attributes and id as JSON.
 ghost use Rattle.std.specs.Prelude.{◌≡◌, ◌++◌, ◌%◌, IfOk, OnOk, string_bytes};
 ghost use Rattle.std.specs.List.{flat_map};
-ghost use Rattle.serde_json.specs.Events.{SendsValue};
 ghost use Rattle.serde_json.specs.Written.{compact_text};
 ghost use Rattle.mvt_view.specs.Svg.{class_of, colour_of, feature_svg, item_svg, items_svg, layer_svg, square_svg, svg, title_json, title_svg};
 
@@ -16,7 +15,6 @@ use crate::xml::push_escaped;
 use mvt_geometry::Geometry;
 use mvt_message::{Feature, Item, Layer};
 use mvt_tile::Tile;
-use serde::{Described, Serialize, Serializer};
 use std::alloc::{AllocError, Global};
 use std::fmt::Write;
 
@@ -36,26 +34,39 @@ pub fn svg_text(alloc: Global, tile: &Tile) -> Result<String, ViewError>
         stroke-linecap:round;stroke-linejoin:round}.points{stroke-width:1%}\
         .polygons{fill:currentColor;fill-opacity:.2;fill-rule:evenodd}</style>\n",
     )?;
-    push_items(alloc, &mut text, tile.items.as_slice())?;
+    let mut room = String::new(alloc);
+    push_items(alloc, &mut text, &mut room, tile.items.as_slice())?;
     text.push_str("</svg>")?;
     Ok(text)
 }
 
-fn push_items(alloc: Global, text: &mut String, items: &[Item]) -> Result<(), ViewError>
+/// Appends the pictures of items. The room is for the title of a feature, here and below.
+fn push_items(
+    alloc: Global,
+    text: &mut String,
+    room: &mut String,
+    items: &[Item],
+) -> Result<(), ViewError>
     ensures { OnOk result (string_bytes text.new ≡ string_bytes text.old ++ items_svg 0 items.now) }
 {
     for (index, item) in items.iter().enumerate() {
-        push_item(alloc, text, index, item)?;
+        push_item(alloc, text, room, index, item)?;
     }
     Ok(())
 }
 
-fn push_item(alloc: Global, text: &mut String, index: usize, item: &Item) -> Result<(), ViewError>
+fn push_item(
+    alloc: Global,
+    text: &mut String,
+    room: &mut String,
+    index: usize,
+    item: &Item,
+) -> Result<(), ViewError>
     ensures { OnOk result (string_bytes text.new
         ≡ string_bytes text.old ++ item_svg index item.now) }
 {
     match item {
-        Item::Layer(layer) => push_layer(alloc, text, index, layer),
+        Item::Layer(layer) => push_layer(alloc, text, room, index, layer),
         Item::Foreign { .. } => Ok(()),
     }
 }
@@ -64,6 +75,7 @@ fn push_item(alloc: Global, text: &mut String, index: usize, item: &Item) -> Res
 fn push_layer(
     alloc: Global,
     text: &mut String,
+    room: &mut String,
     index: usize,
     layer: &Layer,
 ) -> Result<(), ViewError>
@@ -73,7 +85,7 @@ fn push_layer(
     push_square(text, index, layer.extent)?;
     push_title(text, layer.name.as_str())?;
     text.push_str("\n")?;
-    push_features(alloc, text, layer.features.as_slice())?;
+    push_features(alloc, text, room, layer.features.as_slice())?;
     text.push_str("</svg>\n")?;
     Ok(())
 }
@@ -108,18 +120,28 @@ fn colour(index: usize) -> &'static str
     }
 }
 
-fn push_features(alloc: Global, text: &mut String, features: &[Feature]) -> Result<(), ViewError>
+fn push_features(
+    alloc: Global,
+    text: &mut String,
+    room: &mut String,
+    features: &[Feature],
+) -> Result<(), ViewError>
     ensures { OnOk result (string_bytes text.new
         ≡ string_bytes text.old ++ flat_map feature_svg features.now) }
 {
     for feature in features {
-        push_feature(alloc, text, feature)?;
+        push_feature(alloc, text, room, feature)?;
     }
     Ok(())
 }
 
 #[tactic(auto, unfolding(crate::specs::Svg::feature_svg))]
-fn push_feature(alloc: Global, text: &mut String, feature: &Feature) -> Result<(), ViewError>
+fn push_feature(
+    alloc: Global,
+    text: &mut String,
+    room: &mut String,
+    feature: &Feature,
+) -> Result<(), ViewError>
     ensures { OnOk result (string_bytes text.new
         ≡ string_bytes text.old ++ feature_svg feature.now) }
 {
@@ -128,8 +150,9 @@ fn push_feature(alloc: Global, text: &mut String, feature: &Feature) -> Result<(
     text.push_str("\" d=\"")?;
     push_geometry(text, &feature.geometry)?;
     text.push_str("\">")?;
-    let title = title_text(alloc, feature)?;
-    push_title(text, title.as_str())?;
+    room.clear();
+    push_titled(alloc, room, feature)?;
+    push_title(text, room.as_str())?;
     text.push_str("</path>\n")?;
     Ok(())
 }
@@ -155,30 +178,14 @@ fn push_title(text: &mut String, title: &str) -> Result<(), AllocError>
     text.push_str("</title>")
 }
 
-/// A feature's attributes and its id as one line of JSON.
-fn title_text(alloc: Global, feature: &Feature) -> Result<String, ViewError>
-    ensures { IfOk result (λ text. string_bytes text ≡ compact_text (title_json feature.now)) }
+/// Appends a feature's attributes and its id as one line of JSON.
+fn push_titled(alloc: Global, text: &mut String, feature: &Feature) -> Result<(), ViewError>
+    ensures { OnOk result (string_bytes text.new
+        ≡ string_bytes text.old ++ compact_text (title_json feature.now)) }
 {
-    Ok(serde_json::to_string(alloc, &Titled { feature })?)
-}
-
-/// What is told of a feature, as serde's writers take it.
-#[derive(Clone, Copy)]
-struct Titled<'a> {
-    feature: &'a Feature,
-}
-
-impl Described for Titled<'_> {
-    ghost writes = { λ titled. SendsValue (title_json titled.feature.now) };
-}
-
-impl Serialize for Titled<'_> {
-    fn serialize<S: Serializer>(&self, out: &mut S) -> Result<(), S::Error> {
-        out.begin_map(Some(2))?;
-        out.key("attributes")?;
-        self.feature.attributes.send(out)?;
-        out.key("id")?;
-        self.feature.id.send(out)?;
-        out.end_map()
-    }
+    text.push_str("{\"attributes\":")?;
+    feature.attributes.push(alloc, text)?;
+    text.push_str(",\"id\":")?;
+    feature.id.push(alloc, text)?;
+    Ok(text.push_str("}")?)
 }

@@ -6,7 +6,6 @@
 //! object stand in byte order. There are no floats: a float or a double is shown as its bit
 //! pattern.
 ghost use Rattle.std.specs.Prelude.{◌≡◌, IfOk, string_bytes};
-ghost use Rattle.serde_json.specs.Events.{SendsValue};
 ghost use Rattle.serde_json.specs.View.{view};
 ghost use Rattle.serde_json.specs.Written.{compact_text};
 ghost use Rattle.mvt_view.specs.JsonForms.{json};
@@ -14,7 +13,6 @@ ghost use Rattle.mvt_view.specs.JsonForms.{json};
 use crate::shown::Shown;
 use crate::view_error::ViewError;
 use mvt_tile::Tile;
-use serde::{Described, Serialize, Serializer};
 use serde_json::Value;
 use std::alloc::Global;
 
@@ -27,25 +25,14 @@ pub fn json_of(alloc: Global, tile: &Tile) -> Result<Value, ViewError>
     Ok(tile.to_json(alloc)?)
 }
 
+/// The bytes that a text has room for at first.
+const FIRST_ROOM: usize = 128;
+
 /// The JSON of a tile as one line, without a line end.
 pub fn json_text(alloc: Global, tile: &Tile) -> Result<String, ViewError>
     ensures { IfOk result (λ text. string_bytes text ≡ compact_text (json tile.now)) }
 {
-    Ok(serde_json::to_string(alloc, &Whole { tile })?)
-}
-
-/// A tile as serde's writers take it.
-#[derive(Clone, Copy)]
-struct Whole<'a> {
-    tile: &'a Tile,
-}
-
-impl Described for Whole<'_> {
-    ghost writes = { λ whole. SendsValue (json whole.tile.now) };
-}
-
-impl Serialize for Whole<'_> {
-    fn serialize<S: Serializer>(&self, out: &mut S) -> Result<(), S::Error> {
-        self.tile.send(out)
-    }
+    let mut text = String::with_capacity(alloc, FIRST_ROOM)?;
+    tile.push(alloc, &mut text)?;
+    Ok(text)
 }
