@@ -1,0 +1,132 @@
+//! Layers that are copied, beside the same made anew field by field.
+use crate::expect::expect;
+use mvt_feature::FeatureFields;
+use mvt_message::*;
+use std::alloc::{AllocError, Global};
+use std::process::Abort;
+
+// Layers whose fields are canonical, and whose version stands behind them: of more values than are
+// compared with one another, of each kind, and of few.
+const MANY_VALUES: [u8; 157] = [
+    0x0A, 0x05, 0x72, 0x6F, 0x61, 0x64, 0x73, 0x12, 0x0F, 0x08, 0x07, 0x12, 0x04, 0x00, 0x00, 0x01,
+    0x01, 0x18, 0x01, 0x22, 0x03, 0x09, 0x32, 0x22, 0x12, 0x11, 0x12, 0x04, 0x00, 0x02, 0x01, 0x03,
+    0x18, 0x02, 0x22, 0x07, 0x09, 0x00, 0x00, 0x0A, 0x04, 0xAC, 0x02, 0x12, 0x16, 0x08, 0xAC, 0x02,
+    0x12, 0x04, 0x00, 0x04, 0x01, 0x05, 0x18, 0x03, 0x22, 0x09, 0x09, 0x00, 0x00, 0x12, 0x04, 0x00,
+    0x03, 0x04, 0x0F, 0x12, 0x0D, 0x12, 0x04, 0x00, 0x06, 0x01, 0x07, 0x18, 0x01, 0x22, 0x03, 0x09,
+    0x32, 0x22, 0x12, 0x0B, 0x12, 0x02, 0x01, 0x08, 0x18, 0x01, 0x22, 0x03, 0x09, 0x01, 0x01, 0x1A,
+    0x01, 0x61, 0x1A, 0x02, 0x62, 0x63, 0x22, 0x03, 0x0A, 0x01, 0x78, 0x22, 0x05, 0x15, 0x00, 0x00,
+    0x80, 0x3F, 0x22, 0x09, 0x19, 0x00, 0x00, 0x00, 0x00, 0x00, 0x00, 0x00, 0x40, 0x22, 0x02, 0x20,
+    0x05, 0x22, 0x03, 0x28, 0xC8, 0x01, 0x22, 0x02, 0x30, 0x09, 0x22, 0x02, 0x38, 0x01, 0x22, 0x02,
+    0x38, 0x00, 0x22, 0x04, 0x0A, 0x02, 0x79, 0x79, 0x28, 0x80, 0x20, 0x78, 0x02,
+];
+
+const FEW_VALUES: [u8; 41] = [
+    0x0A, 0x01, 0x62, 0x12, 0x0F, 0x08, 0x07, 0x12, 0x04, 0x00, 0x00, 0x01, 0x01, 0x18, 0x01, 0x22,
+    0x03, 0x09, 0x32, 0x22, 0x1A, 0x01, 0x61, 0x1A, 0x02, 0x62, 0x63, 0x22, 0x03, 0x0A, 0x01, 0x78,
+    0x22, 0x02, 0x38, 0x01, 0x28, 0x80, 0x04, 0x78, 0x02,
+];
+
+#[derive(Drop)]
+struct Untold;
+
+impl RewriteVisitor for Untold {
+    ghost has_features = { λ _ _ _ _. Unit {0} };
+
+    fn visit_rewritten(
+        &mut self,
+        _: Global,
+        _: &FeatureFields,
+        _: &[u32],
+        _: &[u8],
+    ) -> Result<(), AllocError> {
+        Ok(())
+    }
+}
+
+// The canonical bytes of a short payload, made field by field.
+fn make_anew(alloc: Global, payload: &[u8], out: &mut Vec<u8>) -> Result<(), MessageError> {
+    if payload.len() > 1000 {
+        return Err(MessageError::Memory);
+    }
+    match rewrite_parts(alloc, Untold, payload, 2, 0) {
+        Ok(Rewritten::Layer(layer)) => {
+            layer.append_head(out)?;
+            out.extend_from_slice(layer.features())?;
+            layer.append_tail(out)?;
+            Ok(())
+        }
+        Ok(Rewritten::Foreign(_)) => {
+            out.extend_from_slice(payload)?;
+            Ok(())
+        }
+        Err(error) => Err(error),
+    }
+}
+
+fn rewrite_short(alloc: Global, payload: &[u8], out: &mut Vec<u8>) -> Result<(), MessageError> {
+    if payload.len() > 1000 {
+        return Err(MessageError::Memory);
+    }
+    match rewrite_item(alloc, payload, 2, 0, out) {
+        Ok(_) => Ok(()),
+        Err(error) => Err(error),
+    }
+}
+
+// Whether both ways answer the same.
+fn are_same(alloc: Global, payload: &[u8]) -> bool {
+    let mut anew = Vec::new(alloc);
+    let mut found = Vec::new(alloc);
+    let first = make_anew(alloc, payload, &mut anew);
+    let second = rewrite_short(alloc, payload, &mut found);
+    first == second && (first.is_err() || anew.as_slice() == found.as_slice())
+}
+
+// The payload with its byte at an index changed in one of four ways: by its lowest bit, by one, to
+// a number of a byte more, and left out.
+fn changed(alloc: Global, payload: &[u8], at: usize, way: u8) -> Result<Vec<u8>, AllocError> {
+    let mut bytes = Vec::new(alloc);
+    for (index, byte) in payload.iter().enumerate() {
+        if index != at {
+            bytes.push(*byte)?;
+        } else if way == 0 {
+            bytes.push(*byte ^ 1)?;
+        } else if way == 1 {
+            bytes.push(byte.wrapping_add(1))?;
+        } else if way == 2 {
+            bytes.push(*byte | 0x80)?;
+            bytes.push(0)?;
+        }
+    }
+    Ok(bytes)
+}
+
+fn expect_same(rt: &(impl Abort + AllocGlobal), payload: &[u8]) {
+    expect!(rt; are_same(rt.alloc(), payload));
+    for at in 0..payload.len() {
+        for way in 0..4u8 {
+            let bytes = changed(rt.alloc(), payload, at, way).expect(rt, "a payload");
+            expect!(rt; are_same(rt.alloc(), &bytes));
+            drop(bytes);
+        }
+    }
+}
+
+#[test]
+fn copies_as_it_rewrites_many(rt: HostRuntime) {
+    expect_same(&rt, &MANY_VALUES);
+}
+
+#[test]
+fn copies_as_it_rewrites_few(rt: HostRuntime) {
+    expect_same(&rt, &FEW_VALUES);
+}
+
+// The version in front, in the middle, and twice.
+#[test]
+fn copies_with_the_version_elsewhere(rt: HostRuntime) {
+    expect_same(&rt, b"\x78\x02\x0A\x01a\x28\x80\x20");
+    expect_same(&rt, b"\x0A\x01a\x78\x02\x28\x80\x20");
+    expect_same(&rt, b"\x0A\x01a\x28\x80\x20\x78\x02\x78\x02");
+    expect_same(&rt, b"\x78\x02\x0A\x01a\x28\x80\x20\x78\x02");
+}
