@@ -1,6 +1,9 @@
 //! The jobs, by the public calls that users wait for.
 
 use crate::digest::Digest;
+use crate::message::Message;
+use crate::random::Random;
+use crate::{awkward, cache, tiles};
 use mvt_io::Host;
 use mvt_rows::{read_rows, write_rows};
 use mvt_tasks::{Reply, Task, answer};
@@ -22,6 +25,8 @@ pub enum Job {
     Show,
     /// It is awkward, and is judged, read and written as a value, rewritten, and checked.
     Awkward,
+    /// It stands in a cache, and is checked and rewritten.
+    Cache,
 }
 
 impl Job {
@@ -33,12 +38,22 @@ impl Job {
             "rows" => Some(Job::Rows),
             "show" => Some(Job::Show),
             "awkward" => Some(Job::Awkward),
+            "cache" => Some(Job::Cache),
             _ => None,
         }
     }
 
-    pub fn takes_awkward_tiles(self) -> bool {
-        self == Job::Awkward
+    /// The tiles that it is done on.
+    pub fn make_tiles(
+        self,
+        alloc: Global,
+        random: &mut Random,
+    ) -> Result<Vec<Message>, AllocError> {
+        match self {
+            Job::Awkward => awkward::make_tiles(alloc, random),
+            Job::Cache => cache::make_tiles(alloc, random),
+            _ => tiles::make_tiles(alloc, random),
+        }
     }
 }
 
@@ -64,6 +79,10 @@ pub fn run_job(
             passed_by_rows(alloc, tile, digest);
             rewritten(alloc, tile, digest);
             replied(alloc, Task::Check, tile, digest);
+        }
+        Job::Cache => {
+            replied(alloc, Task::Check, tile, digest);
+            rewritten(alloc, tile, digest);
         }
     }
     Ok(())

@@ -152,7 +152,7 @@ impl LayerMaker {
         self.layer.put_message(2, &self.feature)
     }
 
-    /// Ends the layer with its keys and values, its extent and its version.
+    /// Ends the layer with its keys and values and its extent.
     fn finish(self) -> Result<Message, AllocError> {
         let LayerMaker {
             mut layer,
@@ -163,7 +163,6 @@ impl LayerMaker {
         layer.put_fields(&keys.fields)?;
         layer.put_fields(&values.fields)?;
         layer.put_uint(5, 4096)?;
-        layer.put_uint(15, 2)?;
         Ok(layer)
     }
 }
@@ -205,5 +204,48 @@ pub fn make_layer(alloc: Global, random: &mut Random, form: Form) -> Result<Mess
     for _ in 0..random.within(form.features / 2, form.features) {
         maker.add_feature(random, form)?;
     }
-    maker.finish()
+    let mut layer = maker.finish()?;
+    layer.put_uint(15, 2)?;
+    Ok(layer)
+}
+
+/// What a layer of a cache went through.
+#[derive(Clone, Copy)]
+pub enum Past {
+    /// It was rewritten, and is canonical.
+    Rewritten,
+    /// It has version 1.
+    Old,
+    /// It was filtered: its last value belongs to no feature any more.
+    Filtered,
+}
+
+/// A layer of this form, as a cache has it.
+pub fn make_cached_layer(
+    alloc: Global,
+    random: &mut Random,
+    form: Form,
+    past: Past,
+) -> Result<Message, AllocError> {
+    let mut maker = LayerMaker::new(alloc)?;
+    if let Past::Rewritten = past {
+        maker.layer.put_uint(15, 2)?;
+    }
+    maker.layer.put_bytes(1, form.name.as_bytes())?;
+    for _ in 0..random.within(form.features / 2, form.features) {
+        maker.add_feature(random, form)?;
+    }
+    if let Past::Filtered = past {
+        maker
+            .values
+            .fields
+            .put_bytes(FIELD_VALUES, b"\x0a\x06unused")?;
+    }
+    let mut layer = maker.finish()?;
+    match past {
+        Past::Rewritten => {}
+        Past::Old => layer.put_uint(15, 1)?,
+        Past::Filtered => layer.put_uint(15, 2)?,
+    }
+    Ok(layer)
 }

@@ -4,6 +4,7 @@
 #![tactic(auto)]
 
 mod awkward;
+mod cache;
 mod digest;
 mod features;
 mod jobs;
@@ -38,11 +39,7 @@ fn order_of(words: &[String]) -> Option<Order> {
 /// The digest of what the job gives for each tile of each round.
 fn digest_of(alloc: Global, order: Order) -> Result<u64, AllocError> {
     let mut random = Random::new(u64::from(order.seed));
-    let mut tiles = if order.job.takes_awkward_tiles() {
-        awkward::make_tiles(alloc, &mut random)?
-    } else {
-        tiles::make_tiles(alloc, &mut random)?
-    };
+    let mut tiles = order.job.make_tiles(alloc, &mut random)?;
     let mut digest = Digest::new();
     for _ in 0..order.rounds {
         run_round(alloc, order.job, &mut tiles, &mut random, &mut digest)?;
@@ -67,7 +64,9 @@ fn run_round(
 fn main(rt: HostRuntime) -> io::Result<()> {
     let words = env::args(&rt)?.collect::<Vec<_>>(rt.alloc())?;
     let Some(order) = order_of(&words) else {
-        println!(rt; "usage: mvt_workloads judge|check|rewrite|rows|show|awkward SEED ROUNDS")?;
+        println!(rt;
+            "usage: mvt_workloads judge|check|rewrite|rows|show|awkward|cache SEED ROUNDS"
+        )?;
         return Ok(());
     };
     match digest_of(rt.alloc(), order) {

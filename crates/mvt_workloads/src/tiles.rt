@@ -68,7 +68,7 @@ const OTHER_NAME: Key = Key {
     values: 0,
 };
 
-const COAST: Form = Form {
+pub const COAST: Form = Form {
     name: "coast",
     shape: Shape::Rings(0),
     features: 3,
@@ -76,7 +76,7 @@ const COAST: Form = Form {
     keys: &[ID, LEVEL, AREA],
 };
 
-const LAKES: Form = Form {
+pub const LAKES: Form = Form {
     name: "lakes",
     shape: Shape::Rings(1),
     features: 110,
@@ -84,7 +84,7 @@ const LAKES: Form = Form {
     keys: &[ID, LEVEL, AREA],
 };
 
-const CONTOURS: Form = Form {
+pub const CONTOURS: Form = Form {
     name: "contours",
     shape: Shape::Line,
     features: 120,
