@@ -1,9 +1,9 @@
 //! The known fields of a feature (Mapbox Vector Tile Specification 2.1, 4.1, message Feature).
-ghost use Rattle.std.specs.Prelude.{◌≡◌, ◌+◌, ◌^◌, ◌<◌, [], ◌++◌, length, Option, Some, None, IfOk, IfErr, OnOk};
+ghost use Rattle.std.specs.Prelude.{◌≡◌, ◌+◌, ◌^◌, ◌<◌, List, [], ◌++◌, length, Option, Some, None, Ok, IfOk, IfErr, OnOk};
 ghost use Rattle.std.specs.Option.{option_or, option_map};
 ghost use Rattle.mvt_base.specs.Reports.{Reports};
 ghost use Rattle.mvt_base.specs.Rules.{each, first};
-ghost use Rattle.mvt_wire.specs.Field.{content_of};
+ghost use Rattle.mvt_wire.specs.Field.{Entry, content_of};
 ghost use Rattle.mvt_wire.specs.Packed.{PackedCause, fault_of as packed_fault_of};
 ghost use Rattle.mvt_wire.specs.Split.{split};
 ghost use Rattle.mvt_feature.specs.declared.numbers.feature.TheConstants.{TAGS, GEOMETRY};
@@ -12,7 +12,8 @@ ghost use Rattle.mvt_feature.specs.Faults.{fault_of, fault_at as the_fault_at, r
 ghost use Rattle.mvt_feature.specs.Features.{number_of, kind_of_type};
 ghost use Rattle.mvt_feature.specs.FeatureRules.{numbers_of, list_rules, feature_form_rules, feature_field_rules};
 ghost use Rattle.mvt_feature.specs.Forms.{any_varint, geom_type, form_rules};
-ghost use Rattle.mvt_feature.specs.Inner.{id_after, kind_after, numbers_at, AreFeatureFields};
+ghost use Rattle.mvt_feature.specs.Inner.{id_after, kind_after, numbers_at, AreFeatureFields, AreFeatureFieldsSoFar};
+ghost use Rattle.mvt_feature.specs.Walks.{Walk};
 
 use crate::cause::Cause;
 use crate::message_error::MessageError;
@@ -22,6 +23,15 @@ use crate::value::varint_of;
 use crate::whole::{fault_at, rest_fault, rest_fault_or};
 use mvt_geometry::Kind;
 use mvt_wire::{Field, Fields, PackedError, Payload, append_packed};
+
+/// The tags of the fields as they mostly stand: each once, in this order.
+const ID_TAG: u8 = 8 * feature::ID as u8;
+
+const TAGS_TAG: u8 = 8 * feature::TAGS as u8 + 2;
+
+const TYPE_TAG: u8 = 8 * feature::TYPE as u8;
+
+const GEOMETRY_TAG: u8 = 8 * feature::GEOMETRY as u8 + 2;
 
 /// What the fields of a feature say besides its tags and integers.
 #[derive(Clone, Copy, Debug)]
@@ -52,7 +62,12 @@ pub(crate) fn read_fields(
         id: None,
         kind: Kind::Unknown,
     };
-    for field in Fields::new(payload) {
+    let mut fields = Fields::new(payload);
+    known = known.with_tagged(&mut fields, ID_TAG, payload, payload_at, scratch)?;
+    known = known.with_tagged(&mut fields, TAGS_TAG, payload, payload_at, scratch)?;
+    known = known.with_tagged(&mut fields, TYPE_TAG, payload, payload_at, scratch)?;
+    known = known.with_tagged(&mut fields, GEOMETRY_TAG, payload, payload_at, scratch)?;
+    for field in fields {
         match field {
             Ok(field) => match known.with(&field, payload_at + field.at as u64, scratch) {
                 Ok(more) => known = more,
@@ -65,6 +80,38 @@ pub(crate) fn read_fields(
 }
 
 impl FeatureFields {
+    /// What is known with the next field, where its tag is this byte.
+    #[inline(always)]
+    fn with_tagged(
+        self,
+        fields: &mut Fields<'_>,
+        tag: u8,
+        payload: &[u8],
+        payload_at: u64,
+        scratch: &mut Scratch,
+    ) -> Result<FeatureFields, MessageError>
+        requires fits { payload_at + length payload.now < 2 ^ 64 }
+        requires walk { (done : List Entry) × Walk payload.now fields.old.to_come done
+            × AreFeatureFieldsSoFar payload_at done (Ok self) scratch.old.tags.items
+            scratch.old.integers.items }
+        ensures known { IfOk result (λ known. (done : List Entry)
+            × Walk payload.now fields.new.to_come done
+            × AreFeatureFieldsSoFar payload_at done (Ok known) scratch.new.tags.items
+            scratch.new.integers.items) }
+        ensures err { IfErr result (λ error. Reports (fault_of error) (option_or
+            (first (rest_rules payload_at (split payload.now)))
+            (first (each (λ _. feature_field_rules payload_at) [] (split payload.now).fields)))) }
+    {
+        match fields.next_tagged(tag) {
+            None => Ok(self),
+            Some(Ok(field)) => match self.with(&field, payload_at + field.at as u64, scratch) {
+                Ok(more) => Ok(more),
+                Err(error) => Err(rest_fault_or(payload, payload_at, error)),
+            },
+            Some(Err(fault)) => Err(rest_fault(payload_at, fault)),
+        }
+    }
+
     /// What is known with one more field, which is told to stand at this place.
     #[inline(always)]
     fn with(

@@ -1,5 +1,6 @@
 //! The fields of a slice, one after the other.
-ghost use Rattle.std.specs.Prelude.{◌≡◌, ◌+◌, length};
+ghost use Rattle.std.specs.Prelude.{◌≡◌, ◌+◌, length, IfNone, OnSome};
+ghost use Rattle.mvt_wire.specs.Fields.{GivesField};
 ghost use Rattle.mvt_wire.specs.Split.{split};
 
 use crate::fault::WireFault;
@@ -47,6 +48,19 @@ impl<'a> Fields<'a> {
         ensures place { result.to_come.rest_at + length result.to_come.rest ≡ length source.now }
     {
         Fields { source, at: 0 }
+    }
+
+    /// The next field, where its tag is this byte. It is found sooner than by `next`, since the tag
+    /// says what stands behind it.
+    #[inline(always)]
+    pub fn next_tagged(&mut self, tag: u8) -> Option<Result<Field<'a>, WireFault>>
+        ensures none { IfNone result (self.new ≡ self.old) }
+        ensures some { OnSome result (GivesField self.old result self.new) }
+    {
+        match self.source.get(self.at) {
+            Some(byte) if *byte == tag => self.next(),
+            _ => None,
+        }
     }
 }
 

@@ -1,19 +1,14 @@
-use Rattle.std.proofs.Common.{[], ◌∷◌, ◌++◌, ◌∙◌, refl, ap, Ok, Err}
-use Rattle.mvt_wire.specs.Fields.{Ahead}
+use Rattle.std.proofs.Common.{[], ◌∷◌, ◌++◌, Ok, Err}
 use Rattle.mvt_base.proofs.RuleLemmas.{option_or-some}
 use Rattle.mvt_wire.specs.Field.{entry_of}
 use Rattle.mvt_feature.proofs.FeatureFieldsLemmas.{known_with}
-use Rattle.mvt_feature.proofs.WalkLemmas.{walk_start, walk_step, walk_fault}
+use Rattle.mvt_feature.proofs.WalkLemmas.{walk_step, walk_fault}
 use Rattle.mvt_feature.proofs.feature_fields.read_fields.Goals as goal
 
 pub loop-field-init : goal.loop-field-init
-loop-field-init c = (
-  [],
-  walk_start _ _
-      (ap (λ (a : Ahead). a.to_come) c.into_iter-field-iterator.ensures.into_iter_gives ∙ c.new-field-items.ensures.fields)
-      (rw c.into_iter-field-iterator.ensures.into_iter_gives c.new-field-items.ensures.place),
-  (refl, record { id = refl; kind = refl; tags_are = c.clear.ensures.items; integers_are = c.clear-2.ensures.items }),
-)
+loop-field-init c =
+    let known = c.in_ok-known-4.ensures.known in
+    (known.0, rw c.into_iter-field-iterator.ensures.into_iter_gives known.1, known.2)
 
 pub loop-field-preserved : goal.loop-field-preserved
 loop-field-preserved c =
