@@ -1,13 +1,14 @@
 -- Entries that are known by their places, and those of them that are used.
-use Rattle.std.proofs.Common.{◌≡◌, ◌≢◌, ◌⊎◌, ℕ, zero, suc, ◌+◌, ◌-◌, ◌<◌, ◌≤◌, Bool, List, [], ◌∷◌, ◌++◌, length, map, set, get_or, drop, Some, Contains, Decides, bytes_eq, slice_get, slice_index, inl, inr, refl, sym, ap, ap₂, subst, ◌∙◌, ⊎_elim, arith, append_assoc, append-nil}
+use Rattle.std.proofs.Common.{◌≡◌, ◌≢◌, ◌⊎◌, ℕ, zero, suc, ◌+◌, ◌-◌, ◌<◌, ◌≤◌, Bool, List, [], ◌∷◌, ◌++◌, length, map, set, get_or, drop, replicate, Some, Contains, Decides, bytes_eq, slice_get, slice_index, inl, inr, refl, sym, ap, ap₂, subst, ◌∙◌, ⊎_elim, arith, append_assoc, append-nil}
 use Rattle.std.proofs.lemmas.Bool.{cases_eq}
-use Rattle.std.proofs.lemmas.List.{get_or_default, get_or-set_same, get_or-set_other, get_or_append_left, length_push, length-set, map-append}
+use Rattle.std.proofs.lemmas.List.{get_or_default, get_or-set_same, get_or-set_other, get_or_append_left, length_push, length-set, length-replicate, get_or-replicate, map-append}
 use Rattle.std.proofs.lemmas.Option.{slice_get_within, get_or_from_slice_get, slice_get-get_or}
 use Rattle.std.proofs.Math.Seq.{get_or-append_seam}
 use Rattle.std.proofs.lemmas.Slice.Eq.{bytes_eq-Decides}
 use Rattle.mvt_attrs.specs.declared.value.Attribute.{Attribute}
 use Rattle.mvt_attrs.specs.declared.value.Value.{Value}
 use Rattle.mvt_attrs.specs.FirstUse.{AreDistinct, first_use}
+use Rattle.mvt_attrs.specs.Inner.Places.{AreIndices}
 use Rattle.mvt_attrs.specs.Pools.{key_pool, value_pool}
 use Rattle.mvt_attrs.specs.Tags.{Names}
 use Rattle.mvt_attrs.specs.TagPlaces.{tags_in}
@@ -36,6 +37,37 @@ uses_none distinct places marks used no_distinct no_places no_marks no_used = re
   once = subst AreDistinct (sym no_used) (λ i j d before within e. omega arith);
   recorded = λ i x at. let none = ap (λ us. slice_get us i) no_used in cc;
 }
+
+-- the first entries, each of which stands once
+module _ {A : Type 0} (distinct : List A) (places marks : List ℕ) (used before : List A) (uses : AreUses distinct places marks used before)
+    (none : distinct ≡ []) where
+  no_entries : (entries : List A) → ((i : ℕ) (x : A) → slice_get entries i ≡ Some x → (p : ℕ) × (slice_get distinct p ≡ Some x)) → entries ≡ []
+  no_entries [] known = refl
+  no_entries (x ∷ xs) known =
+      let (p, at) = known 0 x refl in
+      let nothing = ap (λ ds. slice_get ds p) none in
+      absurd cc
+
+  pub uses_apart : (after entries : List A) (indices zeros : List ℕ) → after ≡ entries → AreDistinct entries
+      → AreIndices indices (length entries) → zeros ≡ replicate (length entries) 0 → AreUses after indices zeros used (before ++ entries)
+  uses_apart after entries indices zeros is apart are_indices are_zeros =
+      let no_before : before ≡ [] = no_entries before (λ i x at. (slice_index places i, uses.placed i x at)) in
+      let no_used : used ≡ [] = no_entries used (λ i x at. (let (p, at_p, mark) = uses.recorded i x at in (p, at_p))) in
+      let all : before ++ entries ≡ after = ap (λ bs. bs ++ entries) no_before ∙ sym is in
+      let size : length entries ≡ length after = ap length (sym is) in
+      subst (AreUses after indices zeros used) (sym all) (record {
+        apart = subst AreDistinct (sym is) apart;
+        count = are_indices.count ∙ size;
+        placed = λ i x at.
+            ap (slice_get after) (are_indices.here i (omega (arith, size, slice_get_within after i x at))) ∙ at;
+        room = ap length are_zeros ∙ length-replicate (length entries) 0 ∙ size;
+        marked = λ p i within at.
+            let zero_there : slice_index zeros p ≡ 0 =
+            ap (λ ns. slice_index ns p) are_zeros ∙ get_or-replicate (length entries) p 0 0 (omega (arith, size, within)) in
+            absurd (omega (arith, zero_there, at));
+        once = subst AreDistinct (sym no_used) (λ i j d low within e. omega arith);
+        recorded = λ i x at. let nothing = ap (λ us. slice_get us i) no_used in cc;
+      })
 
 -- one of two entries at the places of a longer list
 push_cases : {A : Type 0} → (xs : List A) (x y : A) (i : ℕ) → slice_get (xs ++ x ∷ []) i ≡ Some y

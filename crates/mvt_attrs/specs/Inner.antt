@@ -4,3 +4,4 @@ pub mod Finding
 pub mod Found
 pub mod Marking
 pub mod Choosing
+pub mod Places

@@ -13,10 +13,10 @@ use indexmap::IndexSet;
 use std::alloc::{AllocError, Global};
 
 /// The most entries that are searched one by one.
-const MOST_PLAIN: usize = 32;
+pub(crate) const MOST_PLAIN: usize = 32;
 
 /// With fewer slots for an entry than these, slots are made anew.
-const LEAST_SLOTS_PER_ENTRY: usize = 4;
+pub(crate) const LEAST_SLOTS_PER_ENTRY: usize = 4;
 
 /// Where the entries of a pool stand.
 #[derive(Drop)]
@@ -44,7 +44,7 @@ pub(crate) fn find<T: Entry>(entry_index: &EntryIndex<T>, entries: &[T], entry: 
     }
 }
 
-fn search<T: Entry>(entries: &[T], entry: &T) -> Option<usize>
+pub(crate) fn search<T: Entry>(entries: &[T], entry: &T) -> Option<usize>
     ensures { IsPlaceOf entries.now entry.now result }
 {
     for index in 0..entries.len() {

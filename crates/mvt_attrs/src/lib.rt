@@ -2,6 +2,7 @@
 //! keys and values that a layer holds, and the tags that name entries of these pools.
 #![tactic(auto)]
 
+mod apart;
 mod distinct;
 mod entry;
 mod entry_index;

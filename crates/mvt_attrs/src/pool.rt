@@ -4,11 +4,12 @@ ghost use Rattle.mvt_attrs.specs.FirstUse.{AreDistinct};
 ghost use Rattle.mvt_attrs.specs.Inner.Finding.{Knows, IsRoomFor};
 ghost use Rattle.mvt_attrs.specs.Placed.{IsPlaced};
 
+use crate::apart::MOST_APART;
 use crate::entry::Entry;
-use crate::entry_index::{EntryIndex, find, record};
+use crate::entry_index::{EntryIndex, LEAST_SLOTS_PER_ENTRY, MOST_PLAIN, find, record};
 use crate::lookup::Lookup;
 use crate::pool_error::PoolError;
-use crate::two_choices::is_at;
+use crate::two_choices::{free_slots, is_at};
 use mvt_base::LIMIT;
 use std::alloc::{AllocError, Global};
 use std::marker::Model;
@@ -50,6 +51,31 @@ impl<T: Entry> Pool<T> {
             entries: Vec::new(alloc),
             entry_index: EntryIndex::Plain,
         }
+    }
+
+    /// An empty pool with slots for so many entries, where they are too many to be searched one by
+    /// one, and not too many to make slots for all.
+    pub(crate) fn with_slots(alloc: Global, entries: usize) -> Result<Self, AllocError>
+        ensures { IfOk result (λ pool. pool ≡ []) }
+    {
+        if entries <= MOST_PLAIN || entries > MOST_APART {
+            return Ok(Pool::new(alloc));
+        }
+        let slots = free_slots(alloc, entries * LEAST_SLOTS_PER_ENTRY)?;
+        Ok(Pool::of_apart(alloc, Vec::new(alloc), EntryIndex::TwoChoices(slots)))
+    }
+
+    /// The pool of entries that stand once each, and are found so.
+    pub(crate) fn of_apart(alloc: Global, entries: Vec<T>, entry_index: EntryIndex<T>) -> Self
+        requires few { length entries.items ≤ LIMIT }
+        requires apart { AreDistinct entries.items }
+        requires known { Knows T.cmp T.hash_input entry_index entries.items }
+        ensures { result ≡ entries.items }
+    {
+        let mut pool = Pool::new(alloc);
+        pool.entries = entries;
+        pool.entry_index = entry_index;
+        pool
     }
 
     /// How many entries it holds.

@@ -90,6 +90,18 @@ pub(crate) fn is_at<T: Entry>(entries: &[T], index: usize, entry: &T) -> bool
     }
 }
 
+/// So many free slots or a few more.
+pub(crate) fn free_slots<T: Entry>(alloc: Global, least: usize) -> Result<TwoChoices<T>, AllocError>
+    requires { least < 2 ^ 40 }
+    ensures { IfOk result (λ two_choices. IsTwoChoices T.cmp T.hash_input two_choices []) }
+{
+    let room = least.next_power_of_two();
+    Ok(TwoChoices {
+        slots: vec![in alloc; 0; room]?,
+        overflow: BTreeMap::new(alloc),
+    })
+}
+
 /// Slots for these entries.
 pub(crate) fn two_choices_all<T: Entry>(
     alloc: Global,
@@ -99,11 +111,7 @@ pub(crate) fn two_choices_all<T: Entry>(
     requires few { length entries.now + 1 < 2 ^ 32 }
     ensures { IfOk result (λ two_choices. IsTwoChoices T.cmp T.hash_input two_choices entries.now) }
 {
-    let room = (entries.len() * SLOTS_PER_ENTRY).next_power_of_two();
-    let mut two_choices = TwoChoices {
-        slots: vec![in alloc; 0; room]?,
-        overflow: BTreeMap::new(alloc),
-    };
+    let mut two_choices = free_slots(alloc, entries.len() * SLOTS_PER_ENTRY)?;
     for index in 0..entries.len() {
         add_two_choices(alloc, &mut two_choices, &entries[..index], &entries[index])?;
     }

@@ -4,10 +4,15 @@ ghost use Rattle.mvt_attrs.specs.declared.value.Attribute.{Attribute};
 ghost use Rattle.mvt_attrs.specs.declared.value.Value.{Value as AValue};
 ghost use Rattle.mvt_attrs.specs.Tags.{Names};
 ghost use Rattle.mvt_attrs.specs.TagPlaces.{tags_in};
+ghost use Rattle.mvt_attrs.specs.FirstUse.{AreDistinct};
+ghost use Rattle.mvt_attrs.specs.Inner.Finding.{Knows};
+ghost use Rattle.mvt_attrs.specs.Inner.Places.{AreIndices};
 ghost use Rattle.mvt_base.specs.Related.{Extends};
 ghost use Rattle.mvt_attrs.specs.Using.{AreUsesOf, HasUses, IsUsedBy};
 
+use crate::apart::index_apart;
 use crate::entry::Entry;
+use crate::entry_index::EntryIndex;
 use crate::placing::push_pair;
 use crate::pool::Pool;
 use crate::value::Value;
@@ -89,10 +94,78 @@ impl<T: Entry> Uses<T> {
             → OnOk result (AreUsesOf self.new (entries ++ more.now)) }
         ensures used { self.new.used.items ≡ self.old.used.items }
     {
+        if !self.distinct.is_empty() {
+            return self.add_each(more);
+        }
+        let alloc = *self.used.allocator();
+        match index_apart(alloc, more)? {
+            Some(entry_index) => { self.begin_apart(alloc, copied_all(alloc, more)?, entry_index) }
+            None => self.begin_each(alloc, more),
+        }
+    }
+
+    /// The same of entries that need no copies.
+    ///
+    /// # Errors
+    ///
+    /// As `add`.
+    pub fn take_all(&mut self, more: Vec<T>) -> Result<(), AllocError>
+        ensures uses { (entries : List T) → AreUsesOf self.old entries
+            → OnOk result (AreUsesOf self.new (entries ++ more.items)) }
+        ensures used { self.new.used.items ≡ self.old.used.items }
+    {
+        if !self.distinct.is_empty() {
+            return self.add_each(&more);
+        }
+        let alloc = *self.used.allocator();
+        match index_apart(alloc, &more)? {
+            Some(entry_index) => self.begin_apart(alloc, more, entry_index),
+            None => self.begin_each(alloc, &more),
+        }
+    }
+
+    fn add_each(&mut self, more: &[T]) -> Result<(), AllocError>
+        ensures uses { (entries : List T) → AreUsesOf self.old entries
+            → OnOk result (AreUsesOf self.new (entries ++ more.now)) }
+        ensures used { self.new.used.items ≡ self.old.used.items }
+    {
         for entry in more {
             self.add(entry)?;
         }
         Ok(())
+    }
+
+    /// Adds the first entries, which stand once each: the place of each is its index.
+    fn begin_apart(
+        &mut self,
+        alloc: Global,
+        entries: Vec<T>,
+        entry_index: EntryIndex<T>,
+    ) -> Result<(), AllocError>
+        requires none { self.old.distinct ≡ [] }
+        requires few { length entries.items < LIMIT }
+        requires apart { AreDistinct entries.items }
+        requires known { Knows T.cmp T.hash_input entry_index entries.items }
+        ensures uses { (before : List T) → AreUsesOf self.old before
+            → OnOk result (AreUsesOf self.new (before ++ entries.items)) }
+        ensures used { self.new.used.items ≡ self.old.used.items }
+    {
+        let places = indices(alloc, entries.len())?;
+        self.marks = vec![in alloc; 0u32; entries.len()]?;
+        self.places = places;
+        self.distinct = Pool::of_apart(alloc, entries, entry_index);
+        Ok(())
+    }
+
+    /// Adds the first entries, of which some may stand twice.
+    fn begin_each(&mut self, alloc: Global, entries: &[T]) -> Result<(), AllocError>
+        requires { self.old.distinct ≡ [] }
+        ensures uses { (before : List T) → AreUsesOf self.old before
+            → OnOk result (AreUsesOf self.new (before ++ entries.now)) }
+        ensures used { self.new.used.items ≡ self.old.used.items }
+    {
+        self.distinct = Pool::with_slots(alloc, entries.len())?;
+        self.add_each(entries)
     }
 
     /// The index of an entry among those that are used, where it goes last if it is new.
@@ -136,6 +209,28 @@ impl<T: Entry> Uses<T> {
         self.marks[place as usize] = index as u32 + 1;
         Ok(index as u32)
     }
+}
+
+fn copied_all<T: Entry>(alloc: Global, entries: &[T]) -> Result<Vec<T>, AllocError>
+    ensures { IfOk result (λ copies. copies.items ≡ entries.now) }
+{
+    let mut copies = Vec::with_capacity(alloc, entries.len())?;
+    for entry in entries {
+        copies.push(entry.copied(alloc)?)?;
+    }
+    Ok(copies)
+}
+
+/// The indices of so many entries, in order.
+fn indices(alloc: Global, count: usize) -> Result<Vec<u32>, AllocError>
+    requires { count < LIMIT }
+    ensures { IfOk result (λ indices. AreIndices indices.items count) }
+{
+    let mut indices = Vec::with_capacity(alloc, count)?;
+    for index in 0..count as u32 {
+        indices.push(index)?;
+    }
+    Ok(indices)
 }
 
 /// Adds an item after the others; the first takes room for those of a small layer.

@@ -1,6 +1,6 @@
 use Rattle.std.proofs.Common.{◌≡◌, ◌++◌, List, take}
 use Rattle.mvt_attrs.specs.Using.{AreUsesOf}
-use Rattle.mvt_attrs.proofs.uses.Uses.add_all.Given as goal
+use Rattle.mvt_attrs.proofs.uses.Uses.add_each.Given as goal
 
 abbrev pub invariant-loop-entry : goal.invariant-loop-entry
 invariant-loop-entry g l =

@@ -1,0 +1,16 @@
+use Rattle.std.proofs.Common.{rules, ◌≡◌, length, replicate, subst, ap, ◌∙◌, arith}
+use Rattle.mvt_attrs.specs.Inner.Places.{AreIndices}
+use Rattle.mvt_attrs.proofs.UsesLemmas.{uses_apart}
+use Rattle.mvt_attrs.proofs.uses.Uses.begin_apart.Goals as goal
+
+pub returns-clause-uses : goal.returns-clause-uses
+returns-clause-uses g c = λ before uses.
+    let d = c.args.self.now in
+    let entries = c.args.entries in
+    let size : c.len.result ≡ length entries.items = omega (arith, c.len.ensures, entries.ok.0) in
+    let same : c.len-2.result ≡ length entries.items = omega (arith, c.len-2.ensures, entries.ok.0) in
+    let zeros : c.in_ok-self.field-0.items ≡ replicate c.len-2.result 0 = search rules in
+    uses_apart d.distinct d.places.items d.marks.items d.used.items before uses c.requires.none c.of_apart.result entries.items
+    c.in_ok-places.places.items c.in_ok-self.field-0.items c.of_apart.ensures c.requires.apart
+    (subst (AreIndices c.in_ok-places.places.items) size c.in_ok-places.ensures)
+    (zeros ∙ ap (λ n. replicate n 0) same)
