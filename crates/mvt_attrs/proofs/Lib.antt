@@ -13,3 +13,4 @@ mod TwoChoicesLemmas
 mod OrderedLemmas
 mod JudgingLemmas
 mod UsesLemmas
+mod IndicesLemmas

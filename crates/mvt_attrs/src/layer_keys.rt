@@ -3,8 +3,10 @@ ghost use Rattle.std.specs.Prelude.{◌≡◌, ◌+◌, ◌<◌, ◌==◌, ℕ, 
 ghost use Rattle.std.specs.Bool.{OnTrue};
 ghost use Rattle.std.specs.Map.{update};
 ghost use Rattle.std.specs.Option.{unwrap_or};
+ghost use Rattle.mvt_attrs.specs.FirstUse.{AreDistinct};
 ghost use Rattle.mvt_attrs.specs.Inner.Marking.{IsGrouped, IsPlaceAfter, IsReady, AreBelow, place_in_map};
 
+use crate::apart::index_apart;
 use mvt_base::Text;
 use std::alloc::{AllocError, Global};
 use std::collections::BTreeMap;
@@ -90,9 +92,11 @@ fn group(alloc: Global, texts: &[Text]) -> Result<Vec<usize>, AllocError>
     ensures { IfOk result (λ places. IsGrouped texts.now places.items) }
 {
     if texts.len() <= MOST_COMPARED {
-        group_few(alloc, texts)
-    } else {
-        group_many(alloc, texts)
+        return group_few(alloc, texts);
+    }
+    match index_apart(alloc, texts)? {
+        Some(_) => group_apart(alloc, texts),
+        None => group_many(alloc, texts),
     }
 }
 
@@ -120,6 +124,18 @@ fn place_after(texts: &[Text], places: &[usize]) -> usize
         }
     }
     index
+}
+
+/// The same of texts that stand once each.
+fn group_apart(alloc: Global, texts: &[Text]) -> Result<Vec<usize>, AllocError>
+    requires { AreDistinct texts.now }
+    ensures { IfOk result (λ places. IsGrouped texts.now places.items) }
+{
+    let mut places = Vec::with_capacity(alloc, texts.len())?;
+    for index in 0..texts.len() {
+        places.push(index)?;
+    }
+    Ok(places)
 }
 
 /// The same by a map of the texts so far.

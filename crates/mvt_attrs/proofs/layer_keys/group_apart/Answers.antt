@@ -1,0 +1,7 @@
+use Rattle.std.proofs.Common.{subst, arith}
+use Rattle.mvt_attrs.specs.Inner.Places.{AreIndices}
+use Rattle.mvt_attrs.proofs.IndicesLemmas.{grouped_apart}
+use Rattle.mvt_attrs.proofs.layer_keys.group_apart.Goals as goal
+
+pub returns : goal.returns
+returns c = grouped_apart c.args.texts.now c.loop-index.places.items c.requires (subst (AreIndices c.loop-index.places.items) (omega arith) c.loop-index.invariant)
