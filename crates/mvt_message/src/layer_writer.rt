@@ -82,6 +82,18 @@ impl LayerWriter {
         self.uses.values.add_all(values)
     }
 
+    /// The same of values that need no copies.
+    ///
+    /// # Errors
+    ///
+    /// When memory runs out.
+    pub fn take_values(&mut self, values: Vec<Value>) -> Result<(), AllocError>
+        ensures { (held : List AValue) → HasGathered self.old held
+            → OnOk result (HasGathered self.new (held ++ values.items)) }
+    {
+        self.uses.values.take_all(values)
+    }
+
     /// Adds the keys of the layer, before its features.
     ///
     /// # Errors
@@ -91,6 +103,7 @@ impl LayerWriter {
         ensures { (held : List AValue) → HasGathered self.old held
             → OnOk result (HasWritten keys.now held self.new []) }
     {
+        self.payload.reserve(FEATURE_ROOM)?;
         self.uses.keys.add_all(keys)
     }
 
@@ -160,7 +173,7 @@ impl LayerWriter {
         if self.features.len() as u64 > LIMIT {
             return Ok(None);
         }
-        let mut payload = Vec::new(alloc);
+        let mut payload = Vec::with_capacity(alloc, self.features.len() + FEATURE_ROOM)?;
         self.append_layer(&mut payload, name, extent)?;
         Ok(Some(payload))
     }
