@@ -14,3 +14,5 @@ mod message;
 mod rewriting;
 #[cfg(test)]
 mod support;
+#[cfg(test)]
+mod writing;

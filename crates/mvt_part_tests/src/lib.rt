@@ -13,4 +13,6 @@ mod io;
 #[cfg(test)]
 mod pools;
 #[cfg(test)]
+mod uses;
+#[cfg(test)]
 mod wire;
