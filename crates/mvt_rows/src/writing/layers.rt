@@ -40,12 +40,16 @@ pub(crate) fn layer_payload(
         (FailsAs (IsNone (IsValidLayerOf (table_of rows.now) row.now))) }
 {
     let parts = layer_parts(alloc, rows, row, work)?;
-    let keys = parts.keys.as_slice();
-    let values = parts.values.as_slice();
+    let LayerParts {
+        keys,
+        values,
+        rows: of_layer,
+    } = parts;
+    let keys = keys.as_slice();
     let mut writer = LayerWriter::new(alloc);
-    writer.add_values(values)?;
+    writer.take_values(values)?;
     writer.add_keys(keys)?;
-    write_features(alloc, rows, keys, parts.rows, work, &mut writer)?;
+    write_features(alloc, rows, keys, of_layer, work, &mut writer)?;
     Ok(writer.payload(alloc, name, row.extent)?)
 }
 

@@ -16,14 +16,13 @@ returns-in_err-write_features-clause-refused c =
     let parts = c.in_ok-parts.parts in
     let are = c.in_ok-parts.ensures.parts in
     let keys = c.as_slice-keys.result.now in
-    let values = c.as_slice-values.result.now in
+    let values = parts.values.items in
     let keys_are = c.as_slice-keys.ensures.value in
-    let values_are = c.as_slice-values.ensures.value in
-    let range = parts_range t c.args.row.now parts keys values are keys_are values_are in
-    let written = c.in_ok-add_keys.ensures values (c.in_ok-add_values.ensures [] c.new-writer.ensures) in
+    let range = parts_range t c.args.row.now parts keys values are keys_are refl in
+    let written = c.in_ok-add_keys.ensures values (c.in_ok-take_values.ensures [] c.new-writer.ensures) in
     fails_in c.from_residual-in_err-write_features.result _ _ _ c.from_residual-in_err-write_features.ensures.1
     (c.in_err-write_features.ensures.refused values range (nothing_written LIMIT keys values _ written))
-    (no_layer_made t c.args.row.now parts keys values are keys_are values_are)
+    (no_layer_made t c.args.row.now parts keys values are keys_are refl)
 
 pub returns-clause-payload : goal.returns-clause-payload
 returns-clause-payload c =
@@ -31,15 +30,14 @@ returns-clause-payload c =
     let parts = c.in_ok-parts.parts in
     let are = c.in_ok-parts.ensures.parts in
     let keys = c.as_slice-keys.result.now in
-    let values = c.as_slice-values.result.now in
+    let values = parts.values.items in
     let keys_are = c.as_slice-keys.ensures.value in
-    let values_are = c.as_slice-values.ensures.value in
-    let range = parts_range t c.args.row.now parts keys values are keys_are values_are in
-    let written = c.in_ok-add_keys.ensures values (c.in_ok-add_values.ensures [] c.new-writer.ensures) in
+    let range = parts_range t c.args.row.now parts keys values are keys_are refl in
+    let written = c.in_ok-add_keys.ensures values (c.in_ok-take_values.ensures [] c.new-writer.ensures) in
     let (features, related, has) = c.in_ok-write_features.ensures.written values range (nothing_written LIMIT keys values _ written) in
     let layer : ALayer = record { name = c.args.name.now; extent = c.args.row.now.extent; features = features } in (
       layer,
       layer_made t c.args.row.now parts c.args.name.now features keys values c.requires
-          (utf8_there t.texts c.args.row.now.name c.args.name.now c.requires) (omega arith) are keys_are values_are related,
+          (utf8_there t.texts c.args.row.now.name c.args.name.now c.requires) (omega arith) are keys_are refl related,
       c.in_ok-payload.ensures keys values layer has refl refl,
     )
