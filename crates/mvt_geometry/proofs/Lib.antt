@@ -16,6 +16,8 @@ mod BuildLemmas
 mod DrawLemmas
 mod PartLemmas
 mod WritingLemmas
+mod PenLemmas
+mod PartsLemmas
 mod ValidLemmas
 mod OrderedLemmas
 mod LawLemmas

@@ -35,20 +35,20 @@ parts_of_path : (c : Point) (ps : List Point) → IsPath true c ps → AllByRecu
 parts_of_path c [] path = (tt, tt, tt)
 parts_of_path c (p ∷ ps) path = let more = parts_of_path p ps path.1 in ((path.0.1, more.0), (path.0.2, more.1), (path.0.0, more.2))
 
-points_path : (c : Point) (ps : List Point) → AllByRecursion IsPlace ps → AreSteps c ps → IsPath false c ps
+pub points_path : (c : Point) (ps : List Point) → AllByRecursion IsPlace ps → AreSteps c ps → IsPath false c ps
 points_path c [] places steps = tt
 points_path c (p ∷ ps) places steps = ((places.0, steps.0), points_path p ps places.1 steps.1)
 
-parts_of_points : (c : Point) (ps : List Point) → IsPath false c ps → AllByRecursion IsPlace ps × AreSteps c ps
+pub parts_of_points : (c : Point) (ps : List Point) → IsPath false c ps → AllByRecursion IsPlace ps × AreSteps c ps
 parts_of_points c [] path = (tt, tt)
 parts_of_points c (p ∷ ps) path = let more = parts_of_points p ps path.1 in ((path.0.0, more.0), (path.0.1, more.1))
 
 -- lines
-line_of : (least : ℕ) (c : Point) (l : List Point) → 0 < least → IsStroke least l → AreSteps c l → IsLineFrom least c l
+pub line_of : (least : ℕ) (c : Point) (l : List Point) → 0 < least → IsStroke least l → AreSteps c l → IsLineFrom least c l
 line_of least c [] some is steps = omega (arith, is.enough)
 line_of least c (p ∷ ps) some is steps = (is.enough, is.few, (is.places.0, steps.0), path_of p ps is.places.1 steps.1 is.apart)
 
-stroke_of : (least : ℕ) (c : Point) (l : List Point) → IsLineFrom least c l → IsStroke least l × AreSteps c l
+pub stroke_of : (least : ℕ) (c : Point) (l : List Point) → IsLineFrom least c l → IsStroke least l × AreSteps c l
 stroke_of least c [] h = absurd h
 stroke_of least c (p ∷ ps) h =
     let path = parts_of_path p ps h.3 in

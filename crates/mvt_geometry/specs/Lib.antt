@@ -2,6 +2,7 @@ pub mod Shape
 pub mod Area
 pub mod Valid
 pub mod Drawing
+pub mod Parts
 pub mod Visiting
 pub mod Bounds
 pub mod Commands

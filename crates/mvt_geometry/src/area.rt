@@ -1,8 +1,9 @@
 //! Twice the area of a ring (section 4.3.4.4).
-ghost use Rattle.std.specs.Prelude.{◌≡◌, ◌≤◌, ◌^◌, ◌*ℤ◌};
+ghost use Rattle.std.specs.Prelude.{◌≡◌, ◌≤◌, ◌^◌, ◌*ℤ◌, map};
 ghost use Rattle.std.specs.Int.RustNames.{unsigned_abs};
 ghost use Rattle.mvt_geometry.specs.Area.{area2, cross as the_cross};
 
+use crate::position::Position;
 use crate::shape::Point;
 
 /// Twice the area of a ring, its closing edge included, by the surveyor's formula: positive for an
@@ -10,15 +11,23 @@ use crate::shape::Point;
 pub fn twice_area(ring: &[Point]) -> i128
     ensures { result ≡ area2 ring.now }
 {
+    area_of(ring)
+}
+
+/// The same, of positions as they lie.
+pub(crate) fn area_of<P: Position>(ring: &[P]) -> i128
+    ensures { result ≡ area2 (map P.point_of ring.now) }
+{
     let count = ring.len();
     if count == 0 {
         return 0;
     }
     let mut sum = 0;
-    let mut before = ring[count - 1];
-    for point in ring {
-        sum += cross(before, *point);
-        before = *point;
+    let mut before = ring[count - 1].point();
+    for position in ring {
+        let point = position.point();
+        sum += cross(before, point);
+        before = point;
     }
     sum
 }

@@ -1,13 +1,15 @@
 //! Laws about the definitions alone: functions without effect, whose contract is the law.
-ghost use Rattle.std.specs.Prelude.{◌≡◌, ◌↔◌, ◌<◌, ◌≤◌, ◌^◌, ℕ, List, length, Some, None};
+ghost use Rattle.std.specs.Prelude.{◌≡◌, ◌↔◌, ◌<◌, ◌≤◌, ◌^◌, ℕ, List, [], ◌∷◌, ◌++◌, length, Some, None};
 ghost use Rattle.std.specs.List.{AllByRecursion};
 ghost use Rattle.mvt_base.specs.Rules.{AreOrdered, IsLeast};
 ghost use Rattle.mvt_wire.specs.Spelling.{short_numbers};
 ghost use Rattle.mvt_geometry.specs.declared.shape.Kind.{Kind};
 ghost use Rattle.mvt_geometry.specs.declared.shape.Geometry.{Geometry};
-ghost use Rattle.mvt_geometry.specs.Shape.{wide, narrow};
+ghost use Rattle.mvt_geometry.specs.declared.shape.Point.{Point};
+ghost use Rattle.mvt_geometry.specs.Parts.{AreStrokes, IsStrokeFrom, end_of};
+ghost use Rattle.mvt_geometry.specs.Shape.{wide, narrow, origin, last_of};
 ghost use Rattle.mvt_geometry.specs.Valid.{IsValid, IsValidNarrow};
-ghost use Rattle.mvt_geometry.specs.Drawing.{drawn, Draws, DrawsOf};
+ghost use Rattle.mvt_geometry.specs.Drawing.{drawn, Draws, DrawsOf, stroke, strokes};
 ghost use Rattle.mvt_geometry.specs.Bounds.{geometry_bound};
 ghost use Rattle.mvt_geometry.specs.Table.{IndexedCause, geometry_rules, geometry_fault};
 
@@ -59,4 +61,24 @@ pub fn old_geometries_stay()
 pub fn narrow_is_wide()
     ensures { (kind : Kind) (ints : List ℕ) (g : Geometry)
         → DrawsOf narrow kind ints g → DrawsOf wide kind ints g }
+{}
+
+/// Lines or rings can be drawn one after the other where each can from where the last one ends.
+pub fn stroke_follows()
+    ensures { (least : ℕ) (lines : List (List Point)) (line : List Point)
+        → AreStrokes least (lines ++ line ∷ [])
+        ↔ (AreStrokes least lines × IsStrokeFrom least (end_of lines) line) }
+{}
+
+/// Their integers are those of each, from where the last one ends.
+pub fn strokes_follow()
+    ensures { (end : List ℕ) (lines : List (List Point)) (line : List Point)
+        → strokes end origin (lines ++ line ∷ [])
+        ≡ strokes end origin lines ++ stroke end (end_of lines) line }
+{}
+
+/// The cursor then stands where the last one ends.
+pub fn end_follows()
+    ensures { (lines : List (List Point)) (line : List Point)
+        → end_of (lines ++ line ∷ []) ≡ last_of (end_of lines) line }
 {}

@@ -8,9 +8,11 @@
 mod area;
 mod bound;
 mod command;
+mod drawing;
 mod fault;
 mod judging;
 pub mod laws;
+mod position;
 mod reading;
 mod shape;
 mod validity;
@@ -19,8 +21,10 @@ mod writing;
 
 pub use area::twice_area;
 pub use bound::room_after_geometry;
+pub use drawing::{PartError, RingRole, append_integers, append_line, append_points, append_ring};
 pub use fault::{GeometryCause, GeometryError};
 pub use judging::judge_geometry;
+pub use position::Position;
 pub use reading::read_geometry;
 pub use shape::{Geometry, Kind, Point, Polygon, kind_of};
 pub use validity::is_valid_geometry;

@@ -13,7 +13,7 @@ use crate::shape::{Geometry, Point, Polygon};
 use mvt_base::Items;
 
 /// The most points of a line or a ring: 2^29.
-const MOST_POINTS: usize = 536_870_912;
+pub(crate) const MOST_POINTS: usize = 536_870_912;
 
 /// Whether some integers draw the geometry.
 pub fn is_valid_geometry(geometry: &Geometry) -> bool
@@ -154,7 +154,8 @@ fn path_end(from: Point, points: &[Point], is_line: bool) -> Option<Point>
 }
 
 /// Whether a pair can lead from one point to another.
-fn is_step(from: Point, to: Point, is_line: bool) -> bool
+#[inline]
+pub(crate) fn is_step(from: Point, to: Point, is_line: bool) -> bool
     ensures { IsTrue result ↔ IsStepTo is_line from to }
 {
     if is_line && from == to {

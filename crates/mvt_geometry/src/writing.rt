@@ -60,7 +60,7 @@ pub fn append_geometry<N: NumberList>(
 }
 
 /// Appends integers as they are.
-fn put_kept<N: NumberList>(integers: &mut N, kept: &[u32]) -> Result<(), AllocError>
+pub(crate) fn put_kept<N: NumberList>(integers: &mut N, kept: &[u32]) -> Result<(), AllocError>
     ensures integers { OnOk result (N.numbers integers.new ≡ N.numbers integers.old ++ kept.now) }
     ensures left { OnErr result (Extends (N.numbers integers.old) (N.numbers integers.new)) }
 {
