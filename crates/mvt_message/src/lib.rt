@@ -4,6 +4,7 @@
 
 mod bound;
 mod copying;
+mod drawn_feature;
 mod features;
 mod item;
 pub mod laws;
