@@ -1,5 +1,6 @@
 pub mod RowsLaws
 mod EachLemmas
+mod DrawingLemmas
 mod TileLemmas
 mod WritingLemmas
 mod FaultLemmas

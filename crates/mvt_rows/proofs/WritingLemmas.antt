@@ -17,7 +17,7 @@ use Rattle.mvt_base.proofs.ListLemmas.{around, related_once}
 use Rattle.mvt_attrs.specs.declared.value.Value.{Value}
 use Rattle.mvt_attrs.specs.Tags.{Names}
 use Rattle.mvt_attrs.proofs.AttrsLaws.{attributes_or_fault_there}
-use Rattle.mvt_geometry.specs.Valid.{IsValid}
+use Rattle.mvt_geometry.specs.Drawing.{Draws}
 use Rattle.mvt_feature.specs.declared.feature.Feature.{Feature}
 use Rattle.mvt_feature.specs.Valid.{ValidFeature}
 use Rattle.mvt_feature.proofs.FeatureLaws.{read_is_valid_attributes}
@@ -41,7 +41,7 @@ use Rattle.mvt_rows.specs.declared.rows.Span.{Span}
 use Rattle.mvt_rows.specs.declared.writing.RowsWriter.{RowsWriter}
 use Rattle.mvt_rows.specs.declared.rows_error.RowsError.{RowsError}
 use Rattle.mvt_rows.specs.declared.rows_error.RowsError.TheVariants.{Memory, TooLarge, NoTile}
-use Rattle.mvt_rows.specs.declared.tiles.features.FeatureParts.{FeatureParts}
+use Rattle.mvt_rows.specs.declared.writing.features.FeatureParts.{FeatureParts}
 use Rattle.mvt_rows.specs.declared.writing.layers.LayerParts.{LayerParts}
 use Rattle.mvt_rows.specs.Tables.{Table}
 use Rattle.mvt_rows.specs.TileRows.{part_of, text_of, utf8_of, IsFeature, IsItem, IsTileOf}
@@ -77,34 +77,28 @@ related_at R (z ∷ front) x back (y ∷ ys) h =
 
 -- ---- features
 
-pub feature_of_parts : (t : Table) (keys : List (List ℕ)) (values : List Value) (row : FeatureRow) (parts : FeatureParts)
-    → AreInRange keys values → AreFeatureParts t keys values row parts → IsValid parts.geometry
-    → (f : Feature) × (f.id ≡ parts.id) × (f.geometry ≡ parts.geometry) × Names keys values parts.tags.now f.attributes
+pub feature_of_parts : (t : Table) (keys : List (List ℕ)) (values : List Value) (row : FeatureRow) (integers : List ℕ) (parts : FeatureParts)
+    → AreInRange keys values → AreFeatureParts t keys values row integers parts
+    → (f : Feature) × (f.id ≡ parts.id) × Draws parts.kind integers f.geometry × Names keys values parts.tags.now f.attributes
     × IsValidFeatureOf t keys values row f
-feature_of_parts t keys values row parts range are drawn =
+feature_of_parts t keys values row integers parts range are =
+    let (geometry, geometry_is, draws) = are.geometry in
     let attributes = attributes_or_fault_there keys values parts.tags.now are.tags in
-    let f : Feature = record { id = parts.id; attributes = attributes.0; geometry = parts.geometry } in (
+    let f : Feature = record { id = parts.id; attributes = attributes.0; geometry = geometry } in (
       f,
       refl,
-      refl,
+      draws,
       attributes.1.named,
       (
-        record { id = are.id; tags = parts.tags.now; tagged = are.tagged; attributes = attributes.1; geometry = are.geometry },
+        record { id = are.id; tags = parts.tags.now; tagged = are.tagged; attributes = attributes.1; geometry = geometry_is },
         record {
           id = are.id_fits;
           attributes = read_is_valid_attributes keys values parts.tags.now attributes.0 range.keys_are range.values_are attributes.1.named;
           distinct = attributes.1.distinct;
-          drawn = drawn;
+          drawn = draws.valid;
         },
       ),
     )
-
--- what can't be drawn is none
-pub not_drawn : (t : Table) (keys : List (List ℕ)) (values : List Value) (row : FeatureRow) (parts : FeatureParts) (b : Bool)
-    → AreFeatureParts t keys values row parts → (IsTrue b ↔ IsValid parts.geometry) → b ≡ false → IsNone (IsValidFeatureOf t keys values row)
-not_drawn t keys values row parts b are drawn is f h =
-    let same = some_same _ _ _ h.0.geometry are.geometry in
-    false≢true (sym is ∙ drawn.1 (subst IsValid same h.1.drawn))
 
 pub no_features_left : (t : Table) (keys others : List (List ℕ)) (values : List Value) (rows : List FeatureRow) (i : ℕ) (d : FeatureRow)
     → others ≡ keys → i < length rows → IsNone (IsValidFeatureOf t others values (get_or rows i d))

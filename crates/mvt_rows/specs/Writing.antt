@@ -16,9 +16,10 @@ use Rattle.mvt_model.specs.Tiles.{HasDistinctNames}
 use Rattle.mvt_tile.specs.TileRules.{repeats}
 use Rattle.mvt_rows.specs.declared.rows.FeatureRow.{FeatureRow}
 use Rattle.mvt_rows.specs.declared.rows.LayerRow.{LayerRow}
-use Rattle.mvt_rows.specs.declared.tiles.features.FeatureParts.{FeatureParts}
+use Rattle.mvt_rows.specs.declared.writing.features.FeatureParts.{FeatureParts}
 use Rattle.mvt_rows.specs.declared.writing.layers.LayerParts.{LayerParts}
 use Rattle.mvt_rows.specs.declared.writing.RowsWriter.{RowsWriter}
+use Rattle.mvt_rows.specs.Drawing.{AreDrawn}
 use Rattle.mvt_rows.specs.Tables.{Table}
 use Rattle.mvt_rows.specs.TileRows.{part_of, id_of, geometry_of, keys_of, values_of, IsFeature, IsLayer, IsItem}
 
@@ -28,13 +29,13 @@ entry_count t =
     length t.layers + (length t.features + (length t.keys + (length t.values + (length t.tags
     + (length t.parts + (length t.points + (length t.integers + length t.texts)))))))
 
--- what a feature's row says, where its tags have no fault
-pub record AreFeatureParts (t : Table) (keys : List (List ℕ)) (values : List Value) (row : FeatureRow) (parts : FeatureParts) : Type 0 where
+-- what a feature's row says, where its tags have no fault, and the integers that draw its geometry
+pub record AreFeatureParts (t : Table) (keys : List (List ℕ)) (values : List Value) (row : FeatureRow) (integers : List ℕ) (parts : FeatureParts) : Type 0 where
   pub id : id_of row ≡ Some parts.id
   pub id_fits : IfSome parts.id (λ n. n < 2 ^ 64)
   pub tagged : part_of t.tags row.tags ≡ Some parts.tags.now
   pub tags : tag_fault keys values parts.tags.now ≡ None
-  pub geometry : geometry_of t row ≡ Some parts.geometry
+  pub geometry : AreDrawn (geometry_of t row) parts.kind integers
 
 -- the keys and the values of a layer are in the range of their types
 pub record AreInRange (keys : List (List ℕ)) (values : List Value) : Type 0 where

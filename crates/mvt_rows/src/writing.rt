@@ -11,6 +11,8 @@ ghost use Rattle.mvt_rows.specs.Lent.{table_of};
 ghost use Rattle.mvt_rows.specs.Writing.{HasAdded, HasAddedRow, IsRefused};
 ghost use Rattle.mvt_rows.specs.Written.{FailsAs, IsWritten, NotWritten};
 
+mod features;
+mod geometries;
 mod layers;
 
 use crate::rows::{LayerRow, Rows};

@@ -1,12 +1,10 @@
 //! Features of rows.
-ghost use Rattle.std.specs.Prelude.{◌≡◌, ◌<◌, ◌^◌, List, Some, None, length, IfOk, IfErr, IfSome, if◌then◌else◌};
-ghost use Rattle.mvt_attrs.specs.declared.value.Value.{Value as AValue};
+ghost use Rattle.std.specs.Prelude.{◌≡◌, ◌<◌, ◌^◌, Some, None, IfOk, IfErr, IfSome, if◌then◌else◌};
 ghost use Rattle.mvt_base.specs.Related.{AreRelated};
 ghost use Rattle.mvt_feature.specs.declared.feature.Feature.{Feature as AFeature};
 ghost use Rattle.mvt_rows.specs.Lent.{table_of};
 ghost use Rattle.mvt_rows.specs.Written.{FailsAs, IsNone};
 ghost use Rattle.mvt_rows.specs.TileRows.{geometry_of, id_of, IsFeature};
-ghost use Rattle.mvt_rows.specs.Writing.{AreFeatureParts};
 
 use super::geometries::drawn;
 use super::parts::part;
@@ -14,43 +12,11 @@ use super::values::truth;
 use crate::rows::{FeatureRow, Rows};
 use crate::rows_error::RowsError;
 use crate::work::Work;
-use mvt_attrs::{LayerKeys, Value, judge_tags, resolve_in};
+use mvt_attrs::{LayerKeys, Value, resolve_in};
 use mvt_base::{Items, Text};
 use mvt_geometry::Geometry;
 use mvt_message::Feature;
 use std::alloc::Global;
-
-/// What the row of a feature says: its tags name attributes.
-#[derive(Drop)]
-pub(crate) struct FeatureParts {
-    pub(crate) id: Option<u64>,
-    pub(crate) tags: &'static [u32],
-    pub(crate) geometry: Geometry,
-}
-
-/// What the row of a feature says, in a layer with these keys and this number of values.
-pub(crate) fn feature_parts(
-    alloc: Global,
-    rows: &Rows,
-    keys: &mut LayerKeys<'_>,
-    values: usize,
-    row: &FeatureRow,
-    work: &mut Work,
-) -> Result<FeatureParts, RowsError>
-    ensures parts { (held : List AValue) → length held ≡ values
-        → IfOk result (AreFeatureParts (table_of rows.now) keys.old held row.now) }
-    ensures none { (held : List AValue) → length held ≡ values
-        → IfErr result (FailsAs (IsNone (IsFeature (table_of rows.now) keys.old held row.now))) }
-    ensures same { keys.new ≡ keys.old }
-{
-    let Some(id) = id(row) else {
-        return Err(RowsError::NoTile);
-    };
-    let tags = part(rows.tags, row.tags, work)?;
-    judge_tags(alloc, keys, values, tags)?;
-    let geometry = geometry(alloc, rows, row, work)?;
-    Ok(FeatureParts { id, tags, geometry })
-}
 
 pub(crate) fn id(row: &FeatureRow) -> Option<Option<u64>>
     ensures id { result ≡ id_of row.now }

@@ -11,18 +11,18 @@ ghost use Rattle.mvt_rows.specs.TileRows.{IsLayer, text_of};
 ghost use Rattle.mvt_rows.specs.Writing.{AreInRange, AreLayerParts, IsValidFeatureOf, IsValidLayerOf};
 ghost use Rattle.mvt_rows.specs.Written.{FailsAs, IsNone};
 
+use super::features::feature_parts;
 use crate::rows::{FeatureRow, LayerRow, Rows};
 use crate::rows_error::RowsError;
-use crate::tiles::features::feature_parts;
 use crate::tiles::parts::{keys, part};
 use crate::tiles::values::values;
 use crate::work::Work;
 use mvt_attrs::{LayerKeys, Value};
 use mvt_base::Text;
 use mvt_feature::Scratch;
-use mvt_geometry::is_valid_geometry;
 use mvt_message::LayerWriter;
-use std::alloc::Global;
+use mvt_wire::PackedNumbers;
+use std::alloc::{AllocError, Global};
 
 /// The canonical payload of the layer of a row with this name; `None` where its features alone are
 /// more bytes than the limit.
@@ -77,6 +77,23 @@ fn layer_parts(
     Ok(LayerParts { keys, values, rows })
 }
 
+/// Lists that are used again from feature to feature.
+#[derive(Drop)]
+struct FeatureLists {
+    scratch: Scratch,
+    /// The integers that draw the feature's geometry.
+    integers: PackedNumbers,
+}
+
+impl FeatureLists {
+    fn with_room(alloc: Global) -> Result<Self, AllocError> {
+        Ok(FeatureLists {
+            scratch: Scratch::with_room(alloc)?,
+            integers: PackedNumbers::new(alloc),
+        })
+    }
+}
+
 /// Writes the features of a layer with these keys.
 fn write_features(
     alloc: Global,
@@ -97,17 +114,9 @@ fn write_features(
         (IsValidFeatureOf (table_of rows.now) keys.now values) of_layer.now))) }
 {
     let mut layer_keys = LayerKeys::new(alloc, keys);
-    let mut scratch = Scratch::with_room(alloc)?;
+    let mut lists = FeatureLists::with_room(alloc)?;
     for row in of_layer {
-        write_feature(
-            alloc,
-            rows,
-            row,
-            &mut layer_keys,
-            work,
-            &mut scratch,
-            writer,
-        )?;
+        write_feature(alloc, rows, row, &mut layer_keys, work, &mut lists, writer)?;
     }
     Ok(())
 }
@@ -119,7 +128,7 @@ fn write_feature(
     row: &FeatureRow,
     keys: &mut LayerKeys<'_>,
     work: &mut Work,
-    scratch: &mut Scratch,
+    lists: &mut FeatureLists,
     writer: &mut LayerWriter,
 ) -> Result<(), RowsError>
     ensures written { (values : List AValue) (features : List Feature)
@@ -135,9 +144,7 @@ fn write_feature(
     ensures same { keys.new ≡ keys.old }
 {
     let values = writer.value_count();
-    let parts = feature_parts(alloc, rows, keys, values, row, work)?;
-    if !is_valid_geometry(&parts.geometry) {
-        return Err(RowsError::NoTile);
-    }
-    Ok(writer.add_feature(parts.id, parts.tags, &parts.geometry, scratch)?)
+    let FeatureLists { scratch, integers } = lists;
+    let parts = feature_parts(alloc, rows, keys, values, row, work, integers)?;
+    Ok(writer.add_drawn_feature(parts.id, parts.tags, parts.kind, integers, scratch)?)
 }

@@ -1,0 +1,195 @@
+//! Geometries drawn straight from their rows.
+ghost use Rattle.std.specs.Prelude.{◌≡◌, ◌∷◌, ◌++◌, [], List, map, IfOk, IfErr, Some, option_map};
+ghost use Rattle.mvt_geometry.specs.declared.shape.Geometry.TheVariants.{Lines, Polygons};
+ghost use Rattle.mvt_geometry.specs.declared.shape.Point.{Point as APoint};
+ghost use Rattle.mvt_geometry.specs.declared.shape.Polygon.{Polygon};
+ghost use Rattle.mvt_rows.specs.Drawing.{AreDrawn, DrawnLines, DrawnPolygons, IsDrawable, IsFollowedBy, role_of as the_role_of};
+ghost use Rattle.mvt_rows.specs.Lent.{table_of};
+ghost use Rattle.mvt_rows.specs.TileRows.{each, geometry_of, line_of, point_of, points_of, steps, with_ring_row};
+ghost use Rattle.mvt_rows.specs.Written.{FailsAs, IsNone};
+
+use crate::rows::{FeatureRow, PartRow, PointRow, Rows};
+use crate::rows_error::RowsError;
+use crate::tiles::parts::part;
+use crate::tiles::values::truth;
+use crate::work::Work;
+use mvt_geometry::{
+    Kind, PartError, Point, Position, RingRole, append_integers, append_line, append_points,
+    append_ring,
+};
+use mvt_wire::PackedNumbers;
+use std::alloc::AllocError;
+
+/// The cursor before the first part.
+const ORIGIN: Point = Point { x: 0, y: 0 };
+
+impl Position for PointRow {
+    ghost use Rattle.mvt_rows.specs.TileRows.{point_of as the_point_of};
+
+    ghost point_of = { the_point_of };
+
+    #[inline(always)]
+    fn point(&self) -> Point {
+        Point {
+            x: self.x,
+            y: self.y,
+        }
+    }
+}
+
+/// Draws the geometry of a feature's row, and answers its type. The list then has its integers
+/// alone.
+///
+/// Parts that can't be drawn are told only after all parts have counted.
+pub(crate) fn draw_geometry(
+    rows: &Rows,
+    row: &FeatureRow,
+    work: &mut Work,
+    integers: &mut PackedNumbers,
+) -> Result<Kind, RowsError>
+    ensures drawn { IfOk result
+        (λ kind. AreDrawn (geometry_of (table_of rows.now) row.now) kind integers.new) }
+    ensures refused { IfErr result
+        (FailsAs (IsNone (IsDrawable (geometry_of (table_of rows.now) row.now)))) }
+{
+    integers.clear();
+    if row.kind == 0 {
+        append_integers(integers, part(rows.integers, row.integers, work)?)?;
+        return Ok(Kind::Unknown);
+    }
+    let parts = part(rows.parts, row.parts, work)?;
+    match row.kind {
+        1 => draw_points(rows.points, parts, work, integers),
+        2 => draw_lines(rows.points, parts, work, integers),
+        3 => draw_polygons(rows.points, parts, work, integers),
+        _ => Err(RowsError::NoTile),
+    }
+}
+
+/// Draws all points of a feature, which are one part.
+fn draw_points(
+    points: &[PointRow],
+    rows: &[PartRow],
+    work: &mut Work,
+    integers: &mut PackedNumbers,
+) -> Result<Kind, RowsError>
+    requires { integers.now ≡ [] }
+    ensures drawn { IfOk result
+        (λ kind. AreDrawn (points_of points.now rows.now) kind integers.new) }
+    ensures refused { IfErr result
+        (FailsAs (IsNone (IsDrawable (points_of points.now rows.now)))) }
+{
+    let [row] = rows else {
+        return Err(RowsError::NoTile);
+    };
+    match append_points(integers, part(points, row.points, work)?) {
+        Ok(()) => Ok(Kind::Point),
+        Err(PartError::Invalid) => Err(RowsError::NoTile),
+        Err(PartError::Memory) => Err(RowsError::Memory),
+    }
+}
+
+fn draw_lines(
+    points: &[PointRow],
+    rows: &[PartRow],
+    work: &mut Work,
+    integers: &mut PackedNumbers,
+) -> Result<Kind, RowsError>
+    requires { integers.now ≡ [] }
+    ensures drawn { IfOk result (λ kind. AreDrawn
+        (option_map Lines (each (line_of points.now) rows.now)) kind integers.new) }
+    ensures refused { IfErr result (FailsAs (IsNone (IsDrawable
+        (option_map Lines (each (line_of points.now) rows.now))))) }
+{
+    let mut cursor = Some(ORIGIN);
+    for row in rows {
+        let line = part(points, row.points, work)?;
+        cursor = draw_line(integers, cursor, line)?;
+    }
+    if rows.is_empty() || cursor.is_none() {
+        return Err(RowsError::NoTile);
+    }
+    Ok(Kind::LineString)
+}
+
+/// Draws one line more. The cursor is `None` from where a line can't be drawn.
+fn draw_line(
+    integers: &mut PackedNumbers,
+    cursor: Option<Point>,
+    line: &[PointRow],
+) -> Result<Option<Point>, AllocError>
+    ensures { (lines : List (List APoint)) → DrawnLines lines cursor integers.old
+        → IfOk result (λ next. DrawnLines (lines ++ map point_of line.now ∷ []) next
+        integers.new) }
+{
+    let Some(from) = cursor else {
+        return Ok(None);
+    };
+    match append_line(integers, from, line) {
+        Ok(last) => Ok(Some(last)),
+        Err(PartError::Invalid) => Ok(None),
+        Err(PartError::Memory) => Err(AllocError),
+    }
+}
+
+fn draw_polygons(
+    points: &[PointRow],
+    rows: &[PartRow],
+    work: &mut Work,
+    integers: &mut PackedNumbers,
+) -> Result<Kind, RowsError>
+    requires { integers.now ≡ [] }
+    ensures drawn { IfOk result (λ kind. AreDrawn
+        (option_map Polygons (steps (with_ring_row points.now) [] rows.now)) kind integers.new) }
+    ensures refused { IfErr result (FailsAs (IsNone (IsDrawable
+        (option_map Polygons (steps (with_ring_row points.now) [] rows.now))))) }
+{
+    let mut cursor = Some(ORIGIN);
+    let mut begun = false;
+    for row in rows {
+        let ring = part(points, row.points, work)?;
+        let Some(role) = role_of(row, begun) else {
+            return Err(RowsError::NoTile);
+        };
+        cursor = draw_ring(integers, cursor, ring, role)?;
+        begun = true;
+    }
+    if !begun || cursor.is_none() {
+        return Err(RowsError::NoTile);
+    }
+    Ok(Kind::Polygon)
+}
+
+/// What the ring of a row is, where a polygon was begun before it or none.
+fn role_of(row: &PartRow, begun: bool) -> Option<RingRole>
+    ensures { result ≡ the_role_of row.now begun }
+{
+    match (truth(u64::from(row.exterior)), begun) {
+        (Some(true), false) => Some(RingRole::First),
+        (Some(true), true) => Some(RingRole::Exterior),
+        (Some(false), true) => Some(RingRole::Interior),
+        _ => None,
+    }
+}
+
+/// Draws one ring more. The cursor is `None` from where a ring can't be drawn.
+fn draw_ring(
+    integers: &mut PackedNumbers,
+    cursor: Option<Point>,
+    ring: &[PointRow],
+    role: RingRole,
+) -> Result<Option<Point>, AllocError>
+    ensures { (polygons next : List Polygon)
+        → IsFollowedBy role polygons (map point_of ring.now) next
+        → DrawnPolygons polygons cursor integers.old
+        → IfOk result (λ cursor. DrawnPolygons next cursor integers.new) }
+{
+    let Some(from) = cursor else {
+        return Ok(None);
+    };
+    match append_ring(integers, from, ring, role) {
+        Ok(last) => Ok(Some(last)),
+        Err(PartError::Invalid) => Ok(None),
+        Err(PartError::Memory) => Err(AllocError),
+    }
+}
