@@ -4,6 +4,7 @@ use Rattle.std.specs.Prelude.{IsUtf8, Contains, unwrap_or, ⊤}
 use Rattle.std.specs.List.{AllByRecursion, last_or}
 use Rattle.std.specs.Option.{option_map}
 use Rattle.std.proofs.lemmas.Bool.{eq-eqb, eqb-true}
+use Rattle.std.proofs.lemmas.List.Elements.{Contains-append_left}
 use Rattle.mvt_base.specs.declared.TheConstants.{LIMIT}
 use Rattle.mvt_base.specs.Related.{AreRelated}
 use Rattle.mvt_base.proofs.ListLemmas.{all_weaker, all_joined, all_left, all_right, all_mapped, all_unmapped, all_true, mapped_one}
@@ -32,7 +33,7 @@ use Rattle.mvt_message.specs.declared.item.Item.TheVariants.{Layer, Foreign}
 use Rattle.mvt_message.specs.LayerFields.{bytes_of, version_in, keys_in}
 use Rattle.mvt_message.specs.Items.{HoldsFeature, IsLayer, IsItem}
 use Rattle.mvt_message.specs.CanonicalItems.{attributes_of, keys_of, values_of, head_fields, extent_fields, fields_with, layer_fields, canonical_item}
-use Rattle.mvt_message.specs.Copying.{body_fields}
+use Rattle.mvt_message.specs.Copying.{body_with}
 use Rattle.mvt_message.specs.ValidItems.{ValidLayer, AreOfVersion, ValidItem}
 
 -- the contents of the fields of a number
@@ -401,55 +402,102 @@ features_read keys values (f ∷ fs) few_keys few_values valid held small =
       features_read keys values fs few_keys few_values valid.1 held.1 small.1,
     )
 
-layer_fits : (layer : ALayer) → layer.extent < 2 ^ 32 → length (spelled (layer_fields layer)) < 2 ^ 32
-    → AllByRecursion IsFit (layer_fields layer)
-layer_fits layer small within =
-    all_fit (layer_fields layer) (layer_fine (keys_of layer.features) (values_of layer.features) layer small) (omega arith)
+layer_fits : (keys : List (List ℕ)) (values : List Value) (layer : ALayer) → layer.extent < 2 ^ 32
+    → length (spelled (fields_with keys values layer)) < 2 ^ 32 → AllByRecursion IsFit (fields_with keys values layer)
+layer_fits keys values layer small within = all_fit (fields_with keys values layer) (layer_fine keys values layer small) (omega arith)
 
--- fields with the contents of a valid layer are this layer
-layer_from : (layer : ALayer) (b : List ℕ) (xs : List Entry) → Whole b xs
-    → HasContents (keys_of layer.features) (values_of layer.features) layer xs → ValidLayer layer
-    → length (spelled (layer_fields layer)) < 2 ^ 32 → IsItem b (Layer layer)
-unfolding IsItem ValidLayer
-layer_from layer b xs whole at valid within =
-    let features = layer.features in
+-- entries of keys and of values, among which are those that the features use
+record AreEnough (keys : List (List ℕ)) (values : List Value) (features : List Feature) : Type 0 where
+  texts : AllByRecursion IsUtf8 keys
+  valid : AllByRecursion ValidValue values
+  held : AllByRecursion (λ (f : Feature). AllByRecursion (IsIn keys values) f.attributes) features
+
+used_enough : (features : List Feature) → AllByRecursion ValidFeature features → AreEnough (keys_of features) (values_of features) features
+used_enough features valid =
+    record { texts = keys_valid features valid; valid = values_valid features valid; held = features_held features }
+
+more_enough : (features : List Feature) (more_keys : List (List ℕ)) (more_values : List Value) → AllByRecursion ValidFeature features
+    → AllByRecursion IsUtf8 more_keys → AllByRecursion ValidValue more_values
+    → AreEnough (keys_of features ++ more_keys) (values_of features ++ more_values) features
+more_enough features more_keys more_values valid texts valid_values =
     let keys = keys_of features in
     let values = values_of features in
+    let all_keys = keys ++ more_keys in
+    let all_values = values ++ more_values in
+    record {
+      texts = all_joined IsUtf8 keys more_keys (keys_valid features valid) texts;
+      valid = all_joined ValidValue values more_values (values_valid features valid) valid_values;
+      held =
+          all_weaker (λ (f : Feature). AllByRecursion (IsIn keys values) f.attributes)
+          (λ (f : Feature). AllByRecursion (IsIn all_keys all_values) f.attributes)
+          (λ f held. all_weaker (IsIn keys values) (IsIn all_keys all_values)
+          (λ a is. (Contains-append_left keys more_keys a.key is.0, Contains-append_left values more_values a.value is.1)) f.attributes held)
+          features (features_held features);
+    }
+
+-- fields with the contents of a valid layer are this layer
+layer_from : (keys : List (List ℕ)) (values : List Value) (layer : ALayer) (b : List ℕ) (xs : List Entry) → Whole b xs
+    → HasContents keys values layer xs → ValidLayer layer → AreEnough keys values layer.features
+    → length (spelled (fields_with keys values layer)) < 2 ^ 32 → IsItem b (Layer layer)
+unfolding IsItem ValidLayer
+layer_from keys values layer b xs whole at valid enough within =
+    let features = layer.features in
     let feature_fields = all_of FEATURES (feature_bytes keys values) features in
     let key_fields = all_of KEYS same_bytes keys in
     let value_fields = all_of VALUES value_bytes values in
-    let fits = layer_fits layer valid.1 within in
+    let fits = layer_fits keys values layer valid.1 within in
     let pool_fits = all_right IsFit key_fields _ (all_right IsFit feature_fields _ fits.1.1) in
     let feature_sizes = sizes FEATURES (feature_bytes keys values) features (all_left IsFit feature_fields _ fits.1.1) in
     let value_sizes = sizes VALUES value_bytes values (all_left IsFit value_fields (extent_fields layer.extent) pool_fits) in
     let pools = pools_within keys values layer in
     let few_keys : length keys ≤ 2 ^ 32 = omega (arith, pools.0) in
     let few_values : length values ≤ 2 ^ 32 = omega (arith, pools.1) in
-    let hold_values = values_read values (values_valid features valid.2) value_sizes in
-    let hold_features = features_read keys values features few_keys few_values valid.2 (features_held features) feature_sizes in
-    let is = layer_is xs keys values layer at valid.0 valid.1 (keys_valid features valid.2) hold_values hold_features in
+    let hold_values = values_read values enough.valid value_sizes in
+    let hold_features = features_read keys values features few_keys few_values valid.2 enough.held feature_sizes in
+    let is = layer_is xs keys values layer at valid.0 valid.1 enough.texts hold_values hold_features in
     (xs, whole, is.0, (is.1, is.2))
 
-pub layer_canonical : (layer : ALayer) → ValidLayer layer → length (spelled (layer_fields layer)) < 2 ^ 32
+layer_in_place : (keys : List (List ℕ)) (values : List Value) (layer : ALayer) → ValidLayer layer → AreEnough keys values layer.features
+    → length (spelled (fields_with keys values layer)) < 2 ^ 32 → IsItem (spelled (fields_with keys values layer)) (Layer layer)
+unfolding ValidLayer
+layer_in_place keys values layer valid enough within =
+    let fields = fields_with keys values layer in
+    let whole = spelled_whole_whole fields (layer_fits keys values layer valid.1 within) in
+    layer_from keys values layer (spelled fields) whole.0 whole.1 (in_place keys values layer whole.0 whole.2) valid enough within
+
+layer_canonical : (layer : ALayer) → ValidLayer layer → length (spelled (layer_fields layer)) < 2 ^ 32
     → IsItem (spelled (layer_fields layer)) (Layer layer)
 unfolding ValidLayer
 layer_canonical layer valid within =
-    let whole = spelled_whole_whole (layer_fields layer) (layer_fits layer valid.1 within) in
-    layer_from layer (spelled (layer_fields layer)) whole.0 whole.1
-    (in_place (keys_of layer.features) (values_of layer.features) layer whole.0 whole.2) valid within
+    layer_in_place (keys_of layer.features) (values_of layer.features) layer valid (used_enough layer.features valid.2) within
+
+-- also with keys and values behind that no feature uses
+pub layer_longer : (layer : ALayer) (more_keys : List (List ℕ)) (more_values : List Value) → ValidLayer layer
+    → AllByRecursion IsUtf8 more_keys → AllByRecursion ValidValue more_values
+    → length (spelled (fields_with (keys_of layer.features ++ more_keys) (values_of layer.features ++ more_values) layer)) < 2 ^ 32
+    → IsItem (spelled (fields_with (keys_of layer.features ++ more_keys) (values_of layer.features ++ more_values) layer)) (Layer layer)
+unfolding ValidLayer
+layer_longer layer more_keys more_values valid texts valid_values within =
+    layer_in_place (keys_of layer.features ++ more_keys) (values_of layer.features ++ more_values) layer valid
+    (more_enough layer.features more_keys more_values valid.2 texts valid_values) within
 
 -- and its version may stand behind them
-pub layer_moved : (layer : ALayer) → ValidLayer layer → length (spelled (layer_fields layer)) < 2 ^ 32
-    → IsItem (spelled (body_fields layer) ++ short_field VERSION (varint 2)) (Layer layer)
+pub layer_moved : (layer : ALayer) (more_keys : List (List ℕ)) (more_values : List Value) → ValidLayer layer
+    → AllByRecursion IsUtf8 more_keys → AllByRecursion ValidValue more_values
+    → length (spelled (fields_with (keys_of layer.features ++ more_keys) (values_of layer.features ++ more_values) layer)) < 2 ^ 32
+    → IsItem (spelled (body_with (keys_of layer.features ++ more_keys) (values_of layer.features ++ more_values) layer)
+    ++ short_field VERSION (varint 2)) (Layer layer)
 unfolding ValidLayer
-layer_moved layer valid within =
-    let fits = layer_fits layer valid.1 within in
-    let rest = rest_with (keys_of layer.features) (values_of layer.features) layer in
+layer_moved layer more_keys more_values valid texts valid_values within =
+    let keys = keys_of layer.features ++ more_keys in
+    let values = values_of layer.features ++ more_values in
+    let fits = layer_fits keys values layer valid.1 within in
+    let rest = rest_with keys values layer in
     let whole = spelled_whole_whole (rest ++ version_alone) (all_joined IsFit rest version_alone fits.1 (fits.0, tt)) in
     subst (λ b. IsItem b (Layer layer))
     (spelled_parts rest version_alone ∙ ap (λ v. spelled rest ++ v) (append-nil (short_field VERSION (varint 2))))
-    (layer_from layer (spelled (rest ++ version_alone)) whole.0 whole.1
-    (moved (keys_of layer.features) (values_of layer.features) layer whole.0 whole.2) valid within)
+    (layer_from keys values layer (spelled (rest ++ version_alone)) whole.0 whole.1
+    (moved keys values layer whole.0 whole.2) valid (more_enough layer.features more_keys more_values valid.2 texts valid_values) within)
 
 foreign_canonical : (version : ℕ) (content : List ℕ) → AreOfVersion version content → IsItem content (Foreign version content)
 unfolding IsItem

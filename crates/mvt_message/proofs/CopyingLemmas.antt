@@ -1,32 +1,36 @@
 -- A layer that is canonical but for where its version stands.
-use Rattle.std.proofs.Common.{◌≡◌, ℕ, zero, suc, ◌<◌, ◌≤◌, ◌^◌, List, [], ◌∷◌, ◌++◌, length, map, take, drop, get_or, Bor, inl, inr, refl, sym, ap, ap₂, subst, ◌∙◌, arith, append_assoc, append-nil, length-append}
-use Rattle.std.proofs.lemmas.List.{map-append}
-use Rattle.std.proofs.Math.Seq.{take-length}
+use Rattle.std.proofs.Common.{◌≡◌, ℕ, zero, suc, ◌+◌, ◌-◌, ◌<◌, ◌≤◌, ◌^◌, List, [], ◌∷◌, ◌++◌, length, map, take, drop, get_or, Bor, inl, inr, zero-add, refl, sym, ap, ap₂, subst, ◌∙◌, arith, append_assoc, append-nil, length-append}
+use Rattle.std.proofs.lemmas.List.{drop-map, length-drop, map-append, take-append-drop}
+use Rattle.std.proofs.lemmas.Option.{slice_get-get_or}
+use Rattle.std.proofs.Math.Seq.{take-append_seam, take-length}
 use Rattle.std.specs.Prelude.{IsUtf8}
 use Rattle.std.specs.List.{AllByRecursion}
 use Rattle.mvt_base.specs.declared.TheConstants.{LIMIT}
-use Rattle.mvt_base.proofs.ListLemmas.{all_joined}
+use Rattle.mvt_base.proofs.ListLemmas.{all_joined, all_right}
 use Rattle.mvt_attrs.specs.declared.value.Value.{Value}
 use Rattle.mvt_attrs.specs.FirstUse.{AreDistinct}
 use Rattle.mvt_attrs.specs.FirstUses.{lent}
 use Rattle.mvt_attrs.specs.Pools.{key_pool, value_pool}
+use Rattle.mvt_attrs.specs.TagPlaces.{tags_in, IsIn}
+use Rattle.mvt_attrs.proofs.AttrsLaws.{places_name_names, tags_stay}
 use Rattle.mvt_wire.specs.Field.{bytes, varint}
 use Rattle.mvt_wire.specs.Spelling.{Plain, short_field, spelled}
 use Rattle.mvt_wire.specs.Varint.{short, short_within}
 use Rattle.mvt_feature.specs.declared.feature.Feature.{Feature}
-use Rattle.mvt_feature.specs.Canonical.{plain, value_fields}
+use Rattle.mvt_feature.specs.Canonical.{plain, value_fields, feature_fields}
 use Rattle.mvt_feature.specs.Copying.{AreReady, IsCanonicalFeature, IsCanonicalValue}
 use Rattle.mvt_feature.specs.Valid.{ValidFeature, ValidValue}
 use Rattle.mvt_wire.proofs.WireLaws.{spelled_parts}
 use Rattle.mvt_message.specs.declared.item.Layer.{Layer as ALayer}
 use Rattle.mvt_message.specs.declared.item.Item.TheVariants.{Layer}
 use Rattle.mvt_message.specs.declared.numbers.layer.TheConstants.{NAME, FEATURES, KEYS, VALUES, EXTENT, VERSION}
-use Rattle.mvt_message.specs.CanonicalItems.{canonical_item, feature_field, key_field, value_field, extent_fields, layer_fields}
-use Rattle.mvt_message.specs.Copying.{body_fields, IsBodyOf, IsCopied, HasBody, AreKeysFrom, AreValuesFrom, AreFeaturesFrom, AreAllFeatures}
+use Rattle.mvt_message.specs.CanonicalItems.{canonical_item, keys_of, values_of, feature_field, key_field, value_field, extent_fields, fields_with}
+use Rattle.mvt_message.specs.Copying.{body_with, body_fields, IsBodyOf, IsCopied, HasBody, AreKeysFrom, AreValuesFrom, AreFeaturesFrom, lent_field}
 use Rattle.mvt_message.specs.Items.{IsItem}
 use Rattle.mvt_message.specs.ValidItems.{ValidItem, ValidLayer}
-use Rattle.mvt_message.proofs.CanonicalLemmas.{layer_canonical, layer_moved}
-use Rattle.mvt_message.proofs.PoolLemmas.{keys_more, values_more}
+use Rattle.mvt_message.proofs.LenLemmas.{len_step}
+use Rattle.mvt_message.proofs.CanonicalLemmas.{features_held, layer_longer, layer_moved}
+use Rattle.mvt_message.proofs.PoolLemmas.{keys_distinct, keys_more, values_distinct, values_more}
 use Rattle.mvt_message.proofs.RewriteLemmas.{keys_none, values_none}
 
 -- one more field
@@ -107,17 +111,6 @@ features_from_more body start at after keys values used more payload from front 
       };
     }
 
-pub features_from_all : (body : List ℕ) (start at end : ℕ) (keys : List (List ℕ)) (values : List Value) (used : ℕ × ℕ)
-    → AreFeaturesFrom body start keys values at used → at ≡ end → used.0 ≡ length keys → used.1 ≡ length values
-    → AreAllFeatures body start keys values end
-features_from_all body start at end keys values used from there all_keys all_values = (
-  from.features,
-  from.fields ∙ ap (λ k. spelled (map (feature_field keys values) from.features) ++ drop k body) there,
-  from.valid,
-  from.keys_are ∙ ap (λ n. take n keys) all_keys ∙ take-length keys,
-  from.values_are ∙ ap (λ n. take n values) all_values ∙ take-length values,
-)
-
 -- values whose payloads are different are different
 get_or-mapped : {X Y : Type 0} → (f : X → Y) (xs : List X) (i : ℕ) (d : X) → get_or (map f xs) i (f d) ≡ f (get_or xs i d)
 get_or-mapped f [] i d = refl
@@ -134,44 +127,270 @@ values_apart payloads values are apart i j d before inside same =
     subst AreDistinct are apart i j (value_bytes d) before (omega (arith, length-mapped value_bytes values))
     (get_or-mapped value_bytes values i d ∙ ap value_bytes same ∙ sym (get_or-mapped value_bytes values j d))
 
+ready_values : (keys : List (List ℕ)) (payloads : List (Bor (List ℕ))) (values : List Value) → lent payloads ≡ map value_bytes values
+    → AreDistinct keys → AreDistinct (lent payloads) → AllByRecursion IsUtf8 keys → AllByRecursion ValidValue values
+    → (length values ≡ length payloads) × AreReady keys values (0, 0)
+ready_values keys payloads values are keys_apart payloads_apart texts valid = (
+  sym (length-mapped value_bytes values) ∙ ap length (sym are) ∙ length-mapped (λ (b : Bor (List ℕ)). b.now) payloads,
+  record {
+    keys_apart = keys_apart;
+    values_apart = values_apart payloads values are payloads_apart;
+    texts = texts;
+    valid = valid;
+    keys_within = omega arith;
+    values_within = omega arith;
+  },
+)
+
+-- fields of payloads that are lent
+lent_keys : (texts : List (Bor (List ℕ))) → map (lent_field KEYS) texts ≡ map key_field (lent texts)
+lent_keys [] = refl
+lent_keys (b ∷ bs) = ap (λ fs. key_field b.now ∷ fs) (lent_keys bs)
+
+keys_as_lent : (texts : List (Bor (List ℕ))) (keys : List (List ℕ)) → lent texts ≡ keys → map (lent_field KEYS) texts ≡ map key_field keys
+keys_as_lent texts keys are = lent_keys texts ∙ ap (map key_field) are
+
+lent_values : (payloads : List (Bor (List ℕ))) → map (lent_field VALUES) payloads ≡ map (λ d. plain VALUES (bytes d)) (lent payloads)
+lent_values [] = refl
+lent_values (b ∷ bs) = ap (λ fs. plain VALUES (bytes b.now) ∷ fs) (lent_values bs)
+
+spelled_values : (values : List Value) → map (λ d. plain VALUES (bytes d)) (map value_bytes values) ≡ map value_field values
+spelled_values [] = refl
+spelled_values (v ∷ vs) = ap (λ fs. value_field v ∷ fs) (spelled_values vs)
+
+values_as_lent : (payloads : List (Bor (List ℕ))) (values : List Value) → lent payloads ≡ map value_bytes values
+    → map (lent_field VALUES) payloads ≡ map value_field values
+values_as_lent payloads values are = lent_values payloads ∙ ap (map (λ d. plain VALUES (bytes d))) are ∙ spelled_values values
+
+-- where fields end
+fields_end : (body fields : List ℕ) (start at : ℕ) → drop start body ≡ fields ++ drop at body → start ≤ length body → at ≤ length body
+    → start + length fields ≡ at
+fields_end body fields start at is from within =
+    let size = ap length is ∙ length-append fields (drop at body) in
+    omega (arith, size, length-drop start body, length-drop at body)
+
+split_spelled : {Y : Type 0} → (f : Y → Plain) (n : ℕ) (ys : List Y)
+    → spelled (map f ys) ≡ spelled (map f (take n ys)) ++ spelled (map f (drop n ys))
+split_spelled f n ys =
+    ap (λ l. spelled (map f l)) (sym (take-append-drop n ys)) ∙ ap spelled (map-append f (take n ys) (drop n ys))
+    ∙ spelled_parts (map f (take n ys)) (map f (drop n ys))
+
+pub rest_of : {Y : Type 0} → (n : ℕ) (ys : List Y) → take (length ys - n) (drop n ys) ≡ drop n ys
+rest_of n ys = ap (λ m. take m (drop n ys)) (sym (length-drop n ys)) ∙ take-length (drop n ys)
+
+-- one more field of those that no feature uses
+pub unused_step : (number used : ℕ) (payloads : List (Bor (List ℕ))) (i at end size : ℕ) (rest : List (Bor (List ℕ))) (default : Bor (List ℕ))
+    → rest ≡ drop used payloads → i < length rest
+    → ((d : List ℕ) → length d ≡ length (get_or rest i default).now → size ≡ length (short_field number (bytes d)))
+    → length (spelled (map (lent_field number) payloads)) ≤ end → at + length (spelled (map (lent_field number) (take i rest))) ≡ end
+    → (size ≤ at) × ((at - size) + length (spelled (map (lent_field number) (take (i + 1) rest))) ≡ end)
+unused_step number used payloads i at end size rest default rest_is within field room so_far =
+    let done = length (spelled (map (lent_field number) (take i rest))) in
+    let step =
+    len_step (lent_field number) rest i 0 done (done + length (short_field number (bytes (get_or rest i default).now)))
+    (sym (slice_get-get_or rest i default within)) (sym (zero-add done)) refl in
+    let is = field (get_or rest i default).now refl in
+    let more = lent_length number (i + 1) rest in
+    let all = lent_length number used payloads in
+    let same = ap (λ l. length (spelled (map (lent_field number) l))) rest_is in
+    (omega (arith, step, is, more, all, same), omega (arith, step, is))
+  where
+    lent_length : (number n : ℕ) (bs : List (Bor (List ℕ)))
+        → length (spelled (map (lent_field number) bs))
+        ≡ length (spelled (map (lent_field number) (take n bs))) + length (spelled (map (lent_field number) (drop n bs)))
+    lent_length number n bs =
+        ap length (split_spelled (lent_field number) n bs)
+        ∙ length-append (spelled (map (lent_field number) (take n bs))) (spelled (map (lent_field number) (drop n bs)))
+
+-- a front and a part of a body
+cut : (body n f k more_k v more_v : List ℕ) (features_at keys_at values_at extent_at keys_end values_end : ℕ) → body ≡ n ++ drop features_at body
+    → drop features_at body ≡ f ++ drop keys_at body → drop keys_at body ≡ (k ++ more_k) ++ drop values_at body
+    → drop values_at body ≡ (v ++ more_v) ++ drop extent_at body → values_at ≤ length body → extent_at ≤ length body
+    → keys_end + length more_k ≡ values_at → values_end + length more_v ≡ extent_at
+    → take keys_end body ++ (take (values_end - values_at) (drop values_at body) ++ drop extent_at body)
+    ≡ (n ++ (f ++ k)) ++ (v ++ drop extent_at body)
+cut body n f k more_k v more_v features_at keys_at values_at extent_at keys_end values_end named features keys values keys_within within
+    keys_are values_are =
+    let front = n ++ (f ++ k) in
+    let rest = more_k ++ drop values_at body in
+    let whole : body ≡ front ++ rest =
+    named ∙ ap (λ d. n ++ d) (features ∙ ap (λ d. f ++ d) keys) ∙ regroup n f k more_k (drop values_at body) in
+    let last = more_v ++ drop extent_at body in
+    let part : drop values_at body ≡ v ++ last = values ∙ append_assoc v more_v (drop extent_at body) in
+    let size = ap length whole ∙ length-append front rest in
+    let rest_size = length-append more_k (drop values_at body) in
+    let front_end : keys_end ≡ length front = omega (arith, size, rest_size, length-drop values_at body, keys_are, keys_within) in
+    let part_size = ap length part ∙ length-append v last in
+    let last_size = length-append more_v (drop extent_at body) in
+    let part_end : values_end - values_at ≡ length v =
+    omega (arith, part_size, last_size, length-drop values_at body, length-drop extent_at body, values_are, within) in
+    ap₂ (λ a b. a ++ (b ++ drop extent_at body))
+    (ap (λ m. take m body) front_end ∙ ap (take (length front)) whole ∙ take-append_seam front rest)
+    (ap (λ m. take m (drop values_at body)) part_end ∙ ap (take (length v)) part ∙ take-append_seam v last)
+  where
+    regroup : (n f k m d : List ℕ) → n ++ (f ++ ((k ++ m) ++ d)) ≡ (n ++ (f ++ k)) ++ (m ++ d)
+    regroup n f k m d = simp append_assoc
+
+-- where the fields of keys and of values end
+pub keys_room : (body : List ℕ) (keys_at values_at : ℕ) (keys : List (List ℕ)) (texts : List (Bor (List ℕ))) → keys_at ≤ length body
+    → AreKeysFrom body keys_at keys values_at → lent texts ≡ keys → length (spelled (map (lent_field KEYS) texts)) ≤ values_at
+keys_room body keys_at values_at keys texts within (from, is, _) are =
+    let end = fields_end body (spelled (map key_field keys)) keys_at values_at is within from in
+    omega (arith, end, ap (λ fs. length (spelled fs)) (keys_as_lent texts keys are))
+
+pub values_room : (body : List ℕ) (values_at extent_at : ℕ) (payloads : List (Bor (List ℕ))) → values_at ≤ length body
+    → AreValuesFrom body values_at payloads extent_at → values_at + length (spelled (map (lent_field VALUES) payloads)) ≡ extent_at
+values_room body values_at extent_at payloads within (from, (values, is, _, are)) =
+    let end = fields_end body (spelled (map value_field values)) values_at extent_at is within from in
+    omega (arith, end, ap (λ fs. length (spelled fs)) (values_as_lent payloads values are))
+
+pub values_past : (values_at extent_at values_end n : ℕ) (payloads : List (Bor (List ℕ)))
+    → values_at + length (spelled (map (lent_field VALUES) payloads)) ≡ extent_at
+    → values_end + length (spelled (map (lent_field VALUES) (drop n payloads))) ≡ extent_at → values_at ≤ values_end
+values_past values_at extent_at values_end n payloads all unused =
+    let parts = ap length (split_spelled (lent_field VALUES) n payloads)
+    ∙ length-append (spelled (map (lent_field VALUES) (take n payloads))) (spelled (map (lent_field VALUES) (drop n payloads))) in
+    omega (arith, all, unused, parts)
+
+-- the keys, the values and the features of a body
+pub record IsRead (body : List ℕ) (features_at keys_at values_at extent_at : ℕ) (keys : List (List ℕ)) (payloads : List (Bor (List ℕ)))
+    (used : ℕ × ℕ) : Type 0 where
+  pub values : List Value
+  pub fields : drop values_at body ≡ spelled (map value_field values) ++ drop extent_at body
+  pub are : lent payloads ≡ map value_bytes values
+  pub count : length values ≡ length payloads
+  pub from : AreFeaturesFrom body features_at keys values keys_at used
+
+pub is_read : (body : List ℕ) (features_at keys_at values_at extent_at count : ℕ) (keys : List (List ℕ)) (payloads : List (Bor (List ℕ)))
+    (used : ℕ × ℕ) → AreKeysFrom body keys_at keys values_at → AreValuesFrom body values_at payloads extent_at → AreDistinct keys
+    → AreDistinct (lent payloads) → count ≡ length payloads
+    → ((held : List Value) → length held ≡ count → AreReady keys held (0, 0) → AreFeaturesFrom body features_at keys held keys_at used)
+    → IsRead body features_at keys_at values_at extent_at keys payloads used
+is_read body features_at keys_at values_at extent_at count keys payloads used (_, _, texts) (_, (values, is, valid, are)) keys_apart payloads_apart
+    counted from =
+    let ready = ready_values keys payloads values are keys_apart payloads_apart texts valid in
+    record { values = values; fields = is; are = are; count = ready.0; from = from values (ready.0 ∙ sym counted) ready.1 }
+
+pub uses_within : {body : List ℕ} {features_at keys_at values_at extent_at : ℕ} {keys : List (List ℕ)} {payloads : List (Bor (List ℕ))}
+    {used : ℕ × ℕ} (texts : List (Bor (List ℕ))) → IsRead body features_at keys_at values_at extent_at keys payloads used → lent texts ≡ keys
+    → (used.0 ≤ length texts) × (used.1 ≤ length payloads)
+uses_within {keys} texts read are =
+    let size : length keys ≡ length texts = ap length (sym are) ∙ length-mapped (λ (b : Bor (List ℕ)). b.now) texts in
+    (omega (arith, read.from.ready.keys_within, size), omega (arith, read.from.ready.values_within, read.count))
+
+-- the fields of features, where keys and values stand behind those that they use
+field_stays : (keys more_keys : List (List ℕ)) (values more_values : List Value) (f : Feature) → AreDistinct keys → AreDistinct values
+    → AllByRecursion (IsIn keys values) f.attributes
+    → feature_field (keys ++ more_keys) (values ++ more_values) f ≡ feature_field keys values f
+field_stays keys more_keys values more_values f keys_apart values_apart held =
+    ap (λ t. plain FEATURES (bytes (spelled (feature_fields t f))))
+    (sym (tags_stay keys more_keys values more_values (tags_in keys values f.attributes) f.attributes keys_apart values_apart
+    (places_name_names keys values f.attributes held)))
+
+fields_stay : (keys more_keys : List (List ℕ)) (values more_values : List Value) (features : List Feature) → AreDistinct keys → AreDistinct values
+    → AllByRecursion (λ (f : Feature). AllByRecursion (IsIn keys values) f.attributes) features
+    → map (feature_field (keys ++ more_keys) (values ++ more_values)) features ≡ map (feature_field keys values) features
+fields_stay keys more_keys values more_values [] keys_apart values_apart held = refl
+fields_stay keys more_keys values more_values (f ∷ fs) keys_apart values_apart held =
+    ap₂ (λ p ps. p ∷ ps) (field_stays keys more_keys values more_values f keys_apart values_apart held.0)
+    (fields_stay keys more_keys values more_values fs keys_apart values_apart held.1)
+
+features_stay : (features : List Feature) (more_keys : List (List ℕ)) (more_values : List Value)
+    → map (feature_field (keys_of features ++ more_keys) (values_of features ++ more_values)) features
+    ≡ map (feature_field (keys_of features) (values_of features)) features
+features_stay features more_keys more_values =
+    fields_stay (keys_of features) more_keys (values_of features) more_values features (keys_distinct features) (values_distinct features)
+    (features_held features)
+
 -- what stands in the body of a layer
-pub body_is : (body name : List ℕ) (features_at keys_at values_at extent_at extent : ℕ) (keys : List (List ℕ)) (payloads : List (Bor (List ℕ)))
-    → body ≡ short_field NAME (bytes name) ++ drop features_at body → IsUtf8 name → AreKeysFrom body keys_at keys values_at
-    → AreValuesFrom body values_at payloads extent_at → drop extent_at body ≡ short_field EXTENT (varint extent) → extent < 2 ^ 32
-    → AreDistinct keys → AreDistinct (lent payloads)
-    → ((held : List Value) → length held ≡ length payloads → AreReady keys held (0, 0) → AreAllFeatures body features_at keys held keys_at)
-    → IsBodyOf body name
+parts_spelled : (name : List ℕ) (features keys values : List Plain) (extent : ℕ)
+    → spelled (plain NAME (bytes name) ∷ (features ++ (keys ++ (values ++ extent_fields extent))))
+    ≡ short_field NAME (bytes name) ++ (spelled features ++ (spelled keys ++ (spelled values ++ spelled (extent_fields extent))))
+parts_spelled name features keys values extent =
+    ap (λ r. short_field NAME (bytes name) ++ r)
+    (spelled_parts features (keys ++ (values ++ extent_fields extent))
+    ∙ ap (λ r. spelled features ++ r) (spelled_parts keys (values ++ extent_fields extent)
+    ∙ ap (λ r. spelled keys ++ r) (spelled_parts values (extent_fields extent))))
+
+all_dropped : {Y : Type 0} → (P : Y → Type 0) (n : ℕ) (ys : List Y) → AllByRecursion P ys → AllByRecursion P (drop n ys)
+all_dropped P n ys all = all_right P (take n ys) (drop n ys) (subst (AllByRecursion P) (sym (take-append-drop n ys)) all)
+
+body_is : (body name : List ℕ) (features_at keys_at values_at extent_at keys_end values_end extent : ℕ) (keys : List (List ℕ))
+    (values : List Value) (used : ℕ × ℕ)
+    → body ≡ short_field NAME (bytes name) ++ drop features_at body → IsUtf8 name
+    → AreFeaturesFrom body features_at keys values keys_at used
+    → drop keys_at body ≡ spelled (map key_field keys) ++ drop values_at body → values_at ≤ length body
+    → drop values_at body ≡ spelled (map value_field values) ++ drop extent_at body → extent_at ≤ length body
+    → drop extent_at body ≡ short_field EXTENT (varint extent) → extent < 2 ^ 32
+    → keys_end + length (spelled (map key_field (drop used.0 keys))) ≡ values_at
+    → values_end + length (spelled (map value_field (drop used.1 values))) ≡ extent_at
+    → IsBodyOf body name (take keys_end body ++ (take (values_end - values_at) (drop values_at body) ++ drop extent_at body))
 unfolding ValidLayer
-body_is body name features_at keys_at values_at extent_at extent keys payloads named text (_, keys_are, texts) (_, (values, values_are, valid, are)) ends
-    small keys_apart payloads_apart all =
-    let count : length values ≡ length payloads =
-    sym (length-mapped value_bytes values) ∙ ap length (sym are) ∙ length-mapped (λ (b : Bor (List ℕ)). b.now) payloads in
-    let ready : AreReady keys values (0, 0) = record {
-      keys_apart = keys_apart;
-      values_apart = values_apart payloads values are payloads_apart;
-      texts = texts;
-      valid = valid;
-      keys_within = omega arith;
-      values_within = omega arith;
-    } in
-    let (features, features_are, ok, pool_keys, pool_values) = all values count ready in
+body_is body name features_at keys_at values_at extent_at keys_end values_end extent keys values used named text from keys_are keys_within values_are
+    within ends small keys_end_is values_end_is =
+    let features = from.features in
     let layer : ALayer = record { name = name; extent = extent; features = features } in
-    let own = map (feature_field keys values) features in
+    let own_keys = take used.0 keys in
+    let more_keys = drop used.0 keys in
+    let own_values = take used.1 values in
+    let more_values = drop used.1 values in
+    let all_keys : keys_of features ++ more_keys ≡ keys = ap (λ ks. ks ++ more_keys) from.keys_are ∙ take-append-drop used.0 keys in
+    let all_values : values_of features ++ more_values ≡ values = ap (λ vs. vs ++ more_values) from.values_are ∙ take-append-drop used.1 values in
+    let own = spelled (map (feature_field keys values) features) in
     let last : drop extent_at body ≡ spelled (extent_fields extent) = ends ∙ sym (append-nil (short_field EXTENT (varint extent))) in
-    let with_values : drop values_at body ≡ spelled (map value_field values ++ extent_fields extent) =
-    values_are ∙ ap (λ r. spelled (map value_field values) ++ r) last ∙ sym (spelled_parts (map value_field values) (extent_fields extent)) in
-    let with_keys : drop keys_at body ≡ spelled (map key_field keys ++ (map value_field values ++ extent_fields extent)) =
-    keys_are ∙ ap (λ r. spelled (map key_field keys) ++ r) with_values ∙ sym (spelled_parts (map key_field keys) _) in
-    let with_features : drop features_at body ≡ spelled (own ++ (map key_field keys ++ (map value_field values ++ extent_fields extent))) =
-    features_are ∙ ap (λ r. spelled own ++ r) with_keys ∙ sym (spelled_parts own _) in (
-      layer,
-      (text, small, ok),
-      refl,
-      named ∙ ap (λ r. short_field NAME (bytes name) ++ r) with_features
-          ∙ ap₂ (λ ks vs. spelled (plain NAME (bytes name)
-          ∷ (map (feature_field ks vs) features ++ (map key_field ks ++ (map value_field vs ++ extent_fields extent)))))
-          (sym pool_keys) (sym pool_values),
-    )
+    let head = short_field NAME (bytes name) in
+    let cuts =
+    cut body head own (spelled (map key_field own_keys)) (spelled (map key_field more_keys)) (spelled (map value_field own_values))
+    (spelled (map value_field more_values)) features_at keys_at values_at extent_at keys_end values_end named from.fields
+    (keys_are ∙ ap (λ k. k ++ drop values_at body) (split_spelled key_field used.0 keys))
+    (values_are ∙ ap (λ v. v ++ drop extent_at body) (split_spelled value_field used.1 values)) keys_within within keys_end_is values_end_is in
+    let stays : map (feature_field keys values) features ≡ map (feature_field (keys_of features) (values_of features)) features =
+    ap₂ (λ ks vs. map (feature_field ks vs) features) (sym all_keys) (sym all_values) ∙ features_stay features more_keys more_values in
+    let whole : body ≡ spelled (body_with keys values layer) =
+    named ∙ ap (λ r. head ++ r) (from.fields ∙ ap (λ r. own ++ r) (keys_are ∙ ap (λ r. spelled (map key_field keys) ++ r)
+    (values_are ∙ ap (λ r. spelled (map value_field values) ++ r) last)))
+    ∙ sym (parts_spelled name (map (feature_field keys values) features) (map key_field keys) (map value_field values) extent) in
+    record {
+      layer = layer;
+      more_keys = more_keys;
+      more_values = more_values;
+      valid = (text, small, from.valid);
+      texts = all_dropped IsUtf8 used.0 keys from.ready.texts;
+      valid_values = all_dropped ValidValue used.1 values from.ready.valid;
+      name_is = refl;
+      body_is = whole ∙ ap₂ (λ ks vs. spelled (body_with ks vs layer)) (sym all_keys) (sym all_values);
+      canonical_is =
+          cuts ∙ regroup head own (spelled (map key_field own_keys)) (spelled (map value_field own_values) ++ drop extent_at body)
+          ∙ ap (λ r. head ++ (own ++ (spelled (map key_field own_keys) ++ (spelled (map value_field own_values) ++ r)))) last
+          ∙ ap₂ (λ ks vs. head ++ (own ++ (spelled (map key_field ks) ++ (spelled (map value_field vs) ++ spelled (extent_fields extent)))))
+          (sym from.keys_are) (sym from.values_are)
+          ∙ ap (λ fs. head ++ (spelled fs ++ (spelled (map key_field (keys_of features))
+          ++ (spelled (map value_field (values_of features)) ++ spelled (extent_fields extent))))) stays
+          ∙ sym (parts_spelled name (map (feature_field (keys_of features) (values_of features)) features) (map key_field (keys_of features))
+          (map value_field (values_of features)) extent);
+    }
+  where
+    regroup : (n f k r : List ℕ) → (n ++ (f ++ k)) ++ r ≡ n ++ (f ++ (k ++ r))
+    regroup n f k r = simp append_assoc
+
+pub read_is : (body name : List ℕ) (features_at keys_at values_at extent_at keys_end values_end extent : ℕ) (keys : List (List ℕ))
+    (texts payloads : List (Bor (List ℕ))) (used : ℕ × ℕ) → IsRead body features_at keys_at values_at extent_at keys payloads used
+    → body ≡ short_field NAME (bytes name) ++ drop features_at body → IsUtf8 name → AreKeysFrom body keys_at keys values_at → lent texts ≡ keys
+    → extent_at ≤ length body → drop extent_at body ≡ short_field EXTENT (varint extent) → extent < 2 ^ 32
+    → keys_end + length (spelled (map (lent_field KEYS) (drop used.0 texts))) ≡ values_at
+    → values_end + length (spelled (map (lent_field VALUES) (drop used.1 payloads))) ≡ extent_at
+    → IsBodyOf body name (take keys_end body ++ (take (values_end - values_at) (drop values_at body) ++ drop extent_at body))
+read_is body name features_at keys_at values_at extent_at keys_end values_end extent keys texts payloads used read named text
+    (keys_within, keys_are, _) texts_are within ends small keys_end_is values_end_is =
+    let unused_keys : map (lent_field KEYS) (drop used.0 texts) ≡ map key_field (drop used.0 keys) =
+    keys_as_lent (drop used.0 texts) (drop used.0 keys) (sym (drop-map (λ (b : Bor (List ℕ)). b.now) used.0 texts) ∙ ap (drop used.0) texts_are) in
+    let unused_values : map (lent_field VALUES) (drop used.1 payloads) ≡ map value_field (drop used.1 read.values) =
+    values_as_lent (drop used.1 payloads) (drop used.1 read.values)
+    (sym (drop-map (λ (b : Bor (List ℕ)). b.now) used.1 payloads) ∙ ap (drop used.1) read.are ∙ drop-map value_bytes used.1 read.values) in
+    body_is body name features_at keys_at values_at extent_at keys_end values_end extent keys read.values used named text read.from keys_are
+    keys_within read.fields within ends small
+    (ap (λ fs. keys_end + length (spelled fs)) (sym unused_keys) ∙ keys_end_is)
+    (ap (λ fs. values_end + length (spelled fs)) (sym unused_values) ∙ values_end_is)
 
 -- the version
 version_field : short_field VERSION (varint 2) ≡ 120 ∷ (2 ∷ [])
@@ -185,26 +404,39 @@ canonical_from layer = refl
 canonical_body : (layer : ALayer) (body : List ℕ) → body ≡ spelled (body_fields layer) → canonical_item (Layer layer) ≡ 120 ∷ (2 ∷ body)
 canonical_body layer body is = canonical_from layer ∙ ap₂ (λ v b. v ++ b) version_field (sym is)
 
-pub copied_is : (payload name body : List ℕ) → length payload ≤ LIMIT → HasBody payload body → IsBodyOf body name → IsCopied payload name body
+with_version : (keys : List (List ℕ)) (values : List Value) (layer : ALayer)
+    → spelled (fields_with keys values layer) ≡ short_field VERSION (varint 2) ++ spelled (body_with keys values layer)
+with_version keys values layer = refl
+
+pub copied_is : (payload name body canonical : List ℕ) → length payload ≤ LIMIT → HasBody payload body → IsBodyOf body name canonical
+    → IsCopied payload name canonical
 unfolding ValidItem
-copied_is payload name body few (inl front) (layer, valid, named, is) =
-    let canonical = canonical_body layer body is in
-    let same : payload ≡ spelled (layer_fields layer) = front ∙ sym canonical ∙ canonical_from layer in (
+copied_is payload name body canonical few (inl front) is =
+    let layer = is.layer in
+    let keys = keys_of layer.features ++ is.more_keys in
+    let values = values_of layer.features ++ is.more_values in
+    let same : payload ≡ spelled (fields_with keys values layer) =
+    front ∙ ap₂ (λ v b. v ++ b) (sym version_field) is.body_is ∙ sym (with_version keys values layer) in (
       layer,
-      subst (λ b. IsItem b (Layer layer)) (sym same) (layer_canonical layer valid (omega (arith, ap length same))),
-      valid,
-      named,
-      canonical,
+      subst (λ b. IsItem b (Layer layer)) (sym same)
+          (layer_longer layer is.more_keys is.more_values is.valid is.texts is.valid_values (omega (arith, ap length same))),
+      is.valid,
+      is.name_is,
+      canonical_body layer canonical is.canonical_is,
     )
-copied_is payload name body few (inr behind) (layer, valid, named, is) =
-    let canonical = canonical_body layer body is in
-    let same : payload ≡ spelled (body_fields layer) ++ short_field VERSION (varint 2) = behind ∙ ap₂ (λ b v. b ++ v) is (sym version_field) in
-    let size : length (spelled (layer_fields layer)) ≡ length payload =
-    length-append (short_field VERSION (varint 2)) (spelled (body_fields layer)) ∙ omega arith ∙ sym (ap length same
-    ∙ length-append (spelled (body_fields layer)) (short_field VERSION (varint 2))) in (
+copied_is payload name body canonical few (inr behind) is =
+    let layer = is.layer in
+    let keys = keys_of layer.features ++ is.more_keys in
+    let values = values_of layer.features ++ is.more_values in
+    let same : payload ≡ spelled (body_with keys values layer) ++ short_field VERSION (varint 2) =
+    behind ∙ ap₂ (λ b v. b ++ v) is.body_is (sym version_field) in
+    let size : length (spelled (fields_with keys values layer)) ≡ length payload =
+    ap length (with_version keys values layer) ∙ length-append (short_field VERSION (varint 2)) (spelled (body_with keys values layer))
+    ∙ omega arith ∙ sym (ap length same ∙ length-append (spelled (body_with keys values layer)) (short_field VERSION (varint 2))) in (
       layer,
-      subst (λ b. IsItem b (Layer layer)) (sym same) (layer_moved layer valid (omega (arith, size))),
-      valid,
-      named,
-      canonical,
+      subst (λ b. IsItem b (Layer layer)) (sym same)
+          (layer_moved layer is.more_keys is.more_values is.valid is.texts is.valid_values (omega (arith, size))),
+      is.valid,
+      is.name_is,
+      canonical_body layer canonical is.canonical_is,
     )

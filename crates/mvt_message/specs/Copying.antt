@@ -10,6 +10,7 @@ use Rattle.mvt_feature.specs.declared.feature.Feature.{Feature}
 use Rattle.mvt_feature.specs.Canonical.{plain, value_fields}
 use Rattle.mvt_feature.specs.Copying.{AreReady}
 use Rattle.mvt_feature.specs.Valid.{ValidFeature, ValidValue}
+use Rattle.mvt_message.specs.declared.copying.CopiedLayer.{CopiedLayer}
 use Rattle.mvt_message.specs.declared.item.Layer.{Layer as ALayer}
 use Rattle.mvt_message.specs.declared.item.Item.TheVariants as items
 use Rattle.mvt_message.specs.declared.numbers.layer.TheConstants.{NAME}
@@ -17,22 +18,41 @@ use Rattle.mvt_message.specs.CanonicalItems.{canonical_item, keys_of, values_of,
 use Rattle.mvt_message.specs.Items.{IsItem}
 use Rattle.mvt_message.specs.ValidItems.{ValidItem, ValidLayer}
 
--- the fields of a layer besides its version
-abbrev pub body_fields : ALayer → List Plain
-body_fields layer =
+-- the fields of a layer with these keys and values, besides its version
+abbrev pub body_with : List (List ℕ) → List Value → ALayer → List Plain
+body_with keys values layer =
     plain NAME (bytes layer.name)
-    ∷ (map (feature_field (keys_of layer.features) (values_of layer.features)) layer.features
-    ++ (map key_field (keys_of layer.features) ++ (map value_field (values_of layer.features) ++ extent_fields layer.extent)))
+    ∷ (map (feature_field keys values) layer.features ++ (map key_field keys ++ (map value_field values ++ extent_fields layer.extent)))
 
--- these are the canonical fields of a layer of this name, but for its version
-abbrev pub IsBodyOf : List ℕ → List ℕ → Type 0
-IsBodyOf body name = (layer : ALayer) × ValidLayer layer × (name ≡ layer.name) × (body ≡ spelled (body_fields layer))
+abbrev pub body_fields : ALayer → List Plain
+body_fields layer = body_with (keys_of layer.features) (values_of layer.features) layer
+
+-- the fields of a layer of this name besides its version, canonical but for keys and values at the end of theirs that no feature
+-- uses; the canonical ones
+pub record IsBodyOf (body name canonical : List ℕ) : Type 0 where
+  pub layer : ALayer
+  pub more_keys : List (List ℕ)
+  pub more_values : List Value
+  pub valid : ValidLayer layer
+  pub texts : AllByRecursion IsUtf8 more_keys
+  pub valid_values : AllByRecursion ValidValue more_values
+  pub name_is : name ≡ layer.name
+  pub body_is : body ≡ spelled (body_with (keys_of layer.features ++ more_keys) (values_of layer.features ++ more_values) layer)
+  pub canonical_is : canonical ≡ spelled (body_fields layer)
 
 -- the payload of a layer of this name, whose canonical payload is the version and then these fields
 abbrev pub IsCopied : List ℕ → List ℕ → List ℕ → Type 0
 IsCopied payload name body =
     (layer : ALayer) × IsItem payload (items.Layer layer) × ValidItem (items.Layer layer) × (name ≡ layer.name)
     × (canonical_item (items.Layer layer) ≡ 120 ∷ (2 ∷ body))
+
+-- the fields of the parts that are copied
+abbrev pub copied_body : CopiedLayer → List ℕ
+copied_body layer = layer.front.now ++ (layer.values.now ++ layer.extent.now)
+
+-- a field of a payload that is lent
+abbrev pub lent_field : ℕ → Bor (List ℕ) → Plain
+lent_field number payload = plain number (bytes payload.now)
 
 -- a version of 2, and then these fields; or it stands behind them
 abbrev pub HasBody : List ℕ → List ℕ → Type 0
@@ -58,9 +78,3 @@ pub record AreFeaturesFrom (body : List ℕ) (start : ℕ) (keys : List (List �
   pub keys_are : keys_of features ≡ take used.0 keys
   pub values_are : values_of features ≡ take used.1 values
   pub ready : AreReady keys values used
-
--- all of them are used
-abbrev pub AreAllFeatures : List ℕ → ℕ → List (List ℕ) → List Value → ℕ → Type 0
-AreAllFeatures body start keys values at =
-    (features : List Feature) × (drop start body ≡ spelled (map (feature_field keys values) features) ++ drop at body)
-    × AllByRecursion ValidFeature features × (keys_of features ≡ keys) × (values_of features ≡ values)

@@ -1,48 +1,53 @@
 //! A layer that is canonical but for where its version stands (Mapbox Vector Tile Specification
 //! 2.1, 4.1).
-ghost use Rattle.std.specs.Prelude.{◌≡◌, ◌≤◌, ◌<◌, ◌+◌, ◌^◌, ℕ, List, ◌++◌, length, drop, IfOk, IfSome, IsTrue, IsUtf8, OnOk};
+ghost use Rattle.std.specs.Prelude.{◌≡◌, ◌≤◌, ◌<◌, ◌+◌, ◌^◌, ℕ, List, ◌++◌, length, map, drop, IfOk, IfSome, IsTrue, IsUtf8};
 ghost use Rattle.mvt_attrs.specs.declared.value.Value.{Value as AValue};
 ghost use Rattle.mvt_attrs.specs.FirstUse.{AreDistinct};
 ghost use Rattle.mvt_attrs.specs.FirstUses.{lent};
 ghost use Rattle.mvt_wire.specs.Field.{bytes, varint};
-ghost use Rattle.mvt_wire.specs.Spelling.{short_field};
+ghost use Rattle.mvt_wire.specs.Spelling.{short_field, spelled};
 ghost use Rattle.mvt_feature.specs.Copying.{AreReady, IsCanonicalValue};
 ghost use Rattle.mvt_message.specs.declared.numbers.layer.TheConstants.{NAME, KEYS, VALUES, EXTENT};
-ghost use Rattle.mvt_message.specs.Copying.{IsBodyOf, IsCopied, HasBody, AreKeysFrom, AreValuesFrom, AreFeaturesFrom, AreAllFeatures};
+ghost use Rattle.mvt_message.specs.Copying.{IsBodyOf, IsCopied, HasBody, AreKeysFrom, AreValuesFrom, AreFeaturesFrom, copied_body, lent_field};
 
 use crate::numbers::layer;
 use mvt_attrs::{LayerKeys, are_distinct};
 use mvt_base::{LIMIT, Text};
 use mvt_feature::{NotCanonical, Scratch, is_canonical_value, judge_canonical};
-use mvt_wire::{short_bytes_at, short_number_at};
+use mvt_wire::{field_len, short_bytes_at, short_number_at};
 use std::alloc::{AllocError, Global};
 use std::str;
 
 /// The field of version 2.
 pub(crate) const VERSION_FIELD: [u8; 2] = [0x78, 2];
 
-/// The parts of such a layer: its name, and its fields besides the version as they stand.
+/// The name of such a layer, and the canonical fields besides its version as they stand. The keys
+/// and the values that no feature uses are left out, which are the last of each.
 #[derive(Clone, Copy)]
 pub(crate) struct CopiedLayer<'a> {
     pub(crate) name: &'a str,
-    pub(crate) body: &'a [u8],
+    /// The fields of the name, the features and the keys.
+    pub(crate) front: &'a [u8],
+    /// The fields of the values.
+    pub(crate) values: &'a [u8],
+    pub(crate) extent: &'a [u8],
 }
 
-/// The parts of a layer of version 2 that can be copied: all its fields are canonical, and the
-/// version stands before or behind them.
+/// The parts of a layer of version 2 that can be copied: all its fields are canonical, but that its
+/// last keys and values may be unused, and the version stands before or behind them.
 ///
 /// # Errors
 ///
 /// Where it can't, or isn't known to; that says nothing of the payload.
 pub(crate) fn copied(alloc: Global, payload: &[u8]) -> Result<CopiedLayer<'_>, NotCanonical>
     requires { length payload.now ≤ LIMIT }
-    ensures { IfOk result (λ l. IsCopied payload.now l.name.now l.body.now) }
+    ensures copied { IfOk result (λ l. IsCopied payload.now l.name.now (copied_body l)) }
+    ensures within { IfOk result (λ l. length (copied_body l) ≤ LIMIT) }
 {
-    let Some(body) = body_of(payload) else {
-        return Err(NotCanonical::Other);
-    };
-    let name = name_of_body(alloc, body)?;
-    Ok(CopiedLayer { name, body })
+    match body_of(payload) {
+        Some(body) => layer_of_body(alloc, body),
+        None => Err(NotCanonical::Other),
+    }
 }
 
 /// What stands behind the version, or before it.
@@ -56,9 +61,11 @@ fn body_of(payload: &[u8]) -> Option<&[u8]>
     }
 }
 
-/// The name of a layer that has these fields besides the version, where they are canonical.
-fn name_of_body(alloc: Global, body: &[u8]) -> Result<&str, NotCanonical>
-    ensures { IfOk result (λ name. IsBodyOf body.now name.now) }
+/// The layer that has these fields besides the version, where they can be copied.
+fn layer_of_body(alloc: Global, body: &[u8]) -> Result<CopiedLayer<'_>, NotCanonical>
+    requires { length body.now ≤ LIMIT }
+    ensures body { IfOk result (λ l. IsBodyOf body.now l.name.now (copied_body l)) }
+    ensures within { IfOk result (λ l. length (copied_body l) ≤ length body.now) }
 {
     let Some((name, features_at)) = name_from(body) else {
         return Err(NotCanonical::Other);
@@ -69,11 +76,19 @@ fn name_of_body(alloc: Global, body: &[u8]) -> Result<&str, NotCanonical>
     if !ends_with_extent(body, extent_at) {
         return Err(NotCanonical::Other);
     }
-    if !are_apart(alloc, &keys, &values)? {
+    let texts = bytes_of_texts(alloc, &keys)?;
+    if !are_apart(alloc, &texts, &values)? {
         return Err(NotCanonical::Other);
     }
-    judge_features(alloc, body, features_at, keys_at, &keys, values.len())?;
-    Ok(name)
+    let used = judge_features(alloc, body, features_at, keys_at, &keys, values.len())?;
+    let keys_end = end_of_used(layer::KEYS, &texts, used.0, values_at);
+    let values_end = end_of_used(layer::VALUES, &values, used.1, extent_at);
+    Ok(CopiedLayer {
+        name,
+        front: &body[..keys_end],
+        values: &body[values_at..values_end],
+        extent: &body[extent_at..],
+    })
 }
 
 /// The name in front, and the offset after it.
@@ -177,12 +192,11 @@ fn ends_with_extent(body: &[u8], at: usize) -> bool
 }
 
 /// Whether no key and no value stands twice. It may also say no for want of time.
-fn are_apart(alloc: Global, keys: &[Text], values: &[&[u8]]) -> Result<bool, AllocError>
-    ensures keys { IfOk result (λ apart. IsTrue apart → AreDistinct keys.now) }
+fn are_apart(alloc: Global, keys: &[&[u8]], values: &[&[u8]]) -> Result<bool, AllocError>
+    ensures keys { IfOk result (λ apart. IsTrue apart → AreDistinct (lent keys.now)) }
     ensures values { IfOk result (λ apart. IsTrue apart → AreDistinct (lent values.now)) }
 {
-    let texts = bytes_of_texts(alloc, keys)?;
-    if !are_distinct(alloc, &texts)? {
+    if !are_distinct(alloc, keys)? {
         return Ok(false);
     }
     are_distinct(alloc, values)
@@ -198,8 +212,24 @@ fn bytes_of_texts(alloc: Global, texts: &[Text]) -> Result<Vec<&[u8]>, AllocErro
     Ok(found)
 }
 
+/// Where the used ones of some payloads end, so many, whose fields of this number end at an offset.
+fn end_of_used(number: u32, payloads: &[&[u8]], used: usize, end: usize) -> usize
+    requires number { number < 2 ^ 29 }
+    requires used { used ≤ length payloads.now }
+    requires room { length (spelled (map (lent_field number) payloads.now)) ≤ end }
+    requires small { end ≤ LIMIT }
+    ensures { result + length (spelled (map (lent_field number) (drop used payloads.now))) ≡ end }
+{
+    let unused = &payloads[used..];
+    let mut at = end;
+    for payload in unused {
+        at -= field_len(number, payload.len() as u64) as usize;
+    }
+    at
+}
+
 /// Judges whether canonical features stand from one offset to another, in a layer with these keys
-/// and this number of values, and use all of them in their order.
+/// and this number of values, and use them in their order. Answers how many of each they use.
 fn judge_features(
     alloc: Global,
     body: &[u8],
@@ -207,10 +237,10 @@ fn judge_features(
     end: usize,
     keys: &[Text],
     values: usize,
-) -> Result<(), NotCanonical>
+) -> Result<(usize, usize), NotCanonical>
     requires { start ≤ length body.now }
-    ensures { OnOk result ((held : List AValue) → length held ≡ values
-        → AreReady keys.now held (0, 0) → AreAllFeatures body.now start keys.now held end) }
+    ensures { IfOk result (λ used. (held : List AValue) → length held ≡ values
+        → AreReady keys.now held (0, 0) → AreFeaturesFrom body.now start keys.now held end used) }
 {
     let mut layer_keys = LayerKeys::new(alloc, keys);
     let mut scratch = Scratch::for_payload(alloc, body.len())?;
@@ -229,10 +259,10 @@ fn judge_features(
         at = after;
         used = more;
     }
-    if at != end || used.0 != keys.len() || used.1 != values {
+    if at != end {
         return Err(NotCanonical::Other);
     }
-    Ok(())
+    Ok(used)
 }
 
 /// The offset after the feature at one, and how many keys and values are used then.

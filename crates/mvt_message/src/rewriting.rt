@@ -7,11 +7,12 @@ ghost use Rattle.mvt_base.specs.Reports.{Reports};
 ghost use Rattle.mvt_feature.specs.Faults.{fault_of};
 ghost use Rattle.mvt_message.specs.declared.item.Item.{Item};
 ghost use Rattle.mvt_message.specs.CanonicalItems.{canonical_item};
+ghost use Rattle.mvt_message.specs.Copying.{copied_body};
 ghost use Rattle.mvt_message.specs.ItemRules.{item_fault};
 ghost use Rattle.mvt_message.specs.Items.{IsItem, names_in};
 ghost use Rattle.mvt_message.specs.ValidItems.{ValidItem};
 
-use crate::copying::{VERSION_FIELD, copied};
+use crate::copying::{CopiedLayer, VERSION_FIELD, copied};
 use crate::layer_rewriting::{RewriteVisitor, Rewritten, rewrite_parts};
 use crate::reading::judge_item;
 use mvt_base::LIMIT;
@@ -47,7 +48,7 @@ pub fn rewrite_item<'a>(
 {
     match copied(alloc, payload) {
         Ok(layer) => {
-            append_copied(out, layer.body)?;
+            append_copied(out, &layer)?;
             Ok(Some(layer.name))
         }
         Err(NotCanonical::Memory) => Err(MessageError::Memory),
@@ -61,13 +62,17 @@ pub fn rewrite_item<'a>(
 }
 
 /// Appends the version, and the other fields of a layer as they stand.
-fn append_copied(out: &mut Vec<u8>, body: &[u8]) -> Result<(), AllocError>
-    ensures ok { OnOk result (out.new.items ≡ out.old.items ++ 120 ∷ (2 ∷ body.now)) }
+fn append_copied(out: &mut Vec<u8>, layer: &CopiedLayer<'_>) -> Result<(), AllocError>
+    requires { length (copied_body layer.now) ≤ LIMIT }
+    ensures ok { OnOk result (out.new.items ≡ out.old.items ++ 120 ∷ (2 ∷ copied_body layer.now)) }
     ensures left { OnErr result (Extends out.old.items out.new.items) }
 {
-    out.reserve(body.len() + VERSION_FIELD.len())?;
+    let len = layer.front.len() + layer.values.len() + layer.extent.len();
+    out.reserve(VERSION_FIELD.len() + len)?;
     out.extend_from_slice(&VERSION_FIELD)?;
-    out.extend_from_slice(body)
+    out.extend_from_slice(layer.front)?;
+    out.extend_from_slice(layer.values)?;
+    out.extend_from_slice(layer.extent)
 }
 
 /// The same of any item, field by field.

@@ -1,5 +1,6 @@
-use Rattle.std.proofs.Common.{sym, ◌∙◌}
-use Rattle.mvt_message.proofs.CopyingLemmas.{features_from_none, features_from_all}
+use Rattle.std.proofs.Common.{subst}
+use Rattle.mvt_message.specs.Copying.{AreFeaturesFrom}
+use Rattle.mvt_message.proofs.CopyingLemmas.{features_from_none}
 use Rattle.mvt_message.proofs.copying.judge_features.Goals as goal
 
 pub loop-at-init : goal.loop-at-init
@@ -11,6 +12,5 @@ loop-at-init c = (
 
 pub returns : goal.returns
 returns c = λ held count ready.
-    features_from_all c.args.body.now c.args.start c.loop-at.at c.args.end c.args.keys.now held c.loop-at.used
-    (c.loop-at.invariant.2 held count ready) c.if-at-end.false c.if-used-keys.false
-    (c.if-used-values.false ∙ sym count)
+    subst (λ at. AreFeaturesFrom c.args.body.now c.args.start c.args.keys.now held at c.loop-at.used) c.if-at-end.false
+    (c.loop-at.invariant.2 held count ready)
