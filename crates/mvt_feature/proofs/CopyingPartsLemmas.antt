@@ -12,6 +12,7 @@ use Rattle.mvt_attrs.specs.FirstUses.{AreFirstUses}
 use Rattle.mvt_attrs.specs.Tags.{Names}
 use Rattle.mvt_attrs.specs.TagPlaces.{tags_in}
 use Rattle.mvt_attrs.specs.TagRules.{tag_fault}
+use Rattle.mvt_geometry.specs.Drawing.{Draws}
 use Rattle.mvt_geometry.specs.Shape.{kind_of}
 use Rattle.mvt_geometry.specs.Table.{geometry_fault}
 use Rattle.mvt_wire.specs.Field.{Content, varint, fixed64, bytes, fixed32}
@@ -76,7 +77,7 @@ pub feature_found : (p : Parts) (keys : List (List ℕ)) (held : List Value) (ta
     → AreReady keys held used → IfSome p.id (λ n. n < 2 ^ 64) → p.tags.now ≡ short_numbers tags → p.integers.now ≡ short_numbers ints
     → AllByRecursion (λ n. n < 2 ^ 32) ints → tag_fault keys held tags ≡ None → geometry_fault p.kind ints ≡ None
     → ((attributes : List Attribute) → Names keys held tags attributes → AreFirstUses keys held attributes used.0 used.1 after)
-    → (f : Feature) × IsCanonicalFeature (spelled (parts_fields p)) keys held used after f
+    → (f : Feature) × IsCanonicalFeature (spelled (parts_fields p)) keys held used after f × (f.id ≡ p.id) × Draws p.kind ints f.geometry
 feature_found p keys held tags ints used after ready id tags_are ints_are small no_tag_fault no_fault uses =
     let (attributes, resolved) = attributes_or_fault_there keys held tags no_tag_fault in
     let (geometry, draws) = faultless_draws p.kind ints small no_fault in
@@ -99,4 +100,6 @@ feature_found p keys held tags ints used after ready id tags_are ints_are small 
         uses = uses attributes resolved.named;
         spelled_as = ap spelled fields;
       },
+      refl,
+      draws,
     )

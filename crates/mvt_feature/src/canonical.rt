@@ -6,10 +6,12 @@ ghost use Rattle.mvt_attrs.specs.declared.value.Value.{Value as AValue};
 ghost use Rattle.mvt_wire.specs.Field.{content_of, varint, fixed32, fixed64};
 ghost use Rattle.mvt_wire.specs.Spelling.{short_numbers, spelled};
 ghost use Rattle.mvt_feature.specs.Canonical.{plain, field_of_value, id_fields, type_fields};
+ghost use Rattle.mvt_feature.specs.Drawn.{integers_of};
 ghost use Rattle.mvt_feature.specs.Copying.{IsCanonicalValue, IsCanonicalAfter, packed_tags, parts_fields};
 ghost use Rattle.mvt_feature.specs.Valid.{ValidValue};
 
 use crate::copying::are_shortest;
+use crate::feature_fields::FeatureFields;
 use crate::numbers::{feature, value};
 use crate::scratch::Scratch;
 use mvt_attrs::{LayerKeys, TagError, first_uses, judge_tags};
@@ -196,9 +198,17 @@ fn take_numbers(bytes: &[u8], numbers: &mut Vec<u32>) -> Result<(), NotCanonical
     }
 }
 
+/// What is known of a canonical feature, whose integers are left in the scratch.
+#[derive(Clone, Copy, Debug)]
+pub struct CanonicalFeature {
+    pub fields: FeatureFields,
+    /// How many keys and values are used behind it.
+    pub used: (usize, usize),
+}
+
 /// Judges whether a payload is the canonical one of a feature in a layer with these keys and this
 /// number of values, where so many of them are used by earlier features and each that is new is the
-/// next. Answers how many are used then.
+/// next.
 ///
 /// # Errors
 ///
@@ -210,9 +220,9 @@ pub fn judge_canonical(
     values: usize,
     used: (usize, usize),
     scratch: &mut Scratch,
-) -> Result<(usize, usize), NotCanonical>
-    ensures found { IfOk result (λ after. (held : List AValue) → length held ≡ values
-        → IsCanonicalAfter payload.now keys.old held used after) }
+) -> Result<CanonicalFeature, NotCanonical>
+    ensures found { IfOk result (λ known. (held : List AValue) → length held ≡ values
+        → IsCanonicalAfter payload.now keys.old held used (integers_of scratch.new) known) }
     ensures same { keys.new ≡ keys.old }
 {
     match parts_of(payload) {
@@ -229,10 +239,11 @@ fn judge_parts(
     values: usize,
     used: (usize, usize),
     scratch: &mut Scratch,
-) -> Result<(usize, usize), NotCanonical>
+) -> Result<CanonicalFeature, NotCanonical>
     requires { IfSome parts.now.id (λ n. n < 2 ^ 64) }
-    ensures found { IfOk result (λ after. (held : List AValue) → length held ≡ values
-        → IsCanonicalAfter (spelled (parts_fields parts.now)) keys.old held used after) }
+    ensures found { IfOk result (λ known. (held : List AValue) → length held ≡ values
+        → IsCanonicalAfter (spelled (parts_fields parts.now)) keys.old held used
+        (integers_of scratch.new) known) }
     ensures same { keys.new ≡ keys.old }
 {
     take_numbers(parts.tags, &mut scratch.tags)?;
@@ -247,7 +258,13 @@ fn judge_parts(
     }
     take_numbers(parts.integers, &mut scratch.integers)?;
     match judge_geometry(parts.kind, &scratch.integers) {
-        Ok(()) => Ok(after),
+        Ok(()) => Ok(CanonicalFeature {
+            fields: FeatureFields {
+                id: parts.id,
+                kind: parts.kind,
+            },
+            used: after,
+        }),
         Err(_) => Err(NotCanonical::Broken),
     }
 }

@@ -21,7 +21,7 @@ mod whole;
 mod writing;
 
 pub use bound::room_after_feature;
-pub use canonical::{NotCanonical, is_canonical_value, judge_canonical};
+pub use canonical::{CanonicalFeature, NotCanonical, is_canonical_value, judge_canonical};
 pub use cause::Cause;
 pub use drawn_feature::append_drawn_feature;
 pub use feature::Feature;
