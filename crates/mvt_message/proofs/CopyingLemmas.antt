@@ -1,4 +1,4 @@
--- A layer that is canonical but for where its version stands.
+-- A layer that is canonical but for where its version stands, and for last keys and values that no feature uses.
 use Rattle.std.proofs.Common.{◌≡◌, ℕ, zero, suc, ◌+◌, ◌-◌, ◌<◌, ◌≤◌, ◌^◌, List, [], ◌∷◌, ◌++◌, length, map, take, drop, get_or, Bor, inl, inr, zero-add, refl, sym, ap, ap₂, subst, ◌∙◌, arith, append_assoc, append-nil, length-append}
 use Rattle.std.proofs.lemmas.List.{drop-map, length-drop, map-append, take-append-drop}
 use Rattle.std.proofs.lemmas.Option.{slice_get-get_or}
@@ -25,7 +25,7 @@ use Rattle.mvt_message.specs.declared.item.Layer.{Layer as ALayer}
 use Rattle.mvt_message.specs.declared.item.Item.TheVariants.{Layer}
 use Rattle.mvt_message.specs.declared.numbers.layer.TheConstants.{NAME, FEATURES, KEYS, VALUES, EXTENT, VERSION}
 use Rattle.mvt_message.specs.CanonicalItems.{canonical_item, keys_of, values_of, feature_field, key_field, value_field, extent_fields, fields_with}
-use Rattle.mvt_message.specs.Copying.{body_with, body_fields, IsBodyOf, IsCopied, HasBody, AreKeysFrom, AreValuesFrom, AreFeaturesFrom, lent_field}
+use Rattle.mvt_message.specs.Copying.{body_with, body_fields, own_fields, IsBodyOf, IsCanonicalLayer, IsCopied, HasBody, AreKeysFrom, AreValuesFrom, AreFeaturesFrom, lent_field}
 use Rattle.mvt_message.specs.Items.{IsItem}
 use Rattle.mvt_message.specs.ValidItems.{ValidItem, ValidLayer}
 use Rattle.mvt_message.proofs.LenLemmas.{len_step}
@@ -78,25 +78,38 @@ values_from_more body start at after payloads longer payload (_, (values, is, va
       ),
     )
 
-pub features_from_none : (body : List ℕ) (start : ℕ) (keys : List (List ℕ)) (values : List Value) → AreReady keys values (0, 0)
-    → AreFeaturesFrom body start keys values start (0, 0)
-features_from_none body start keys values ready = record {
+pub features_from_none : (WereTold : List Feature → List ℕ → Type 0) (body : List ℕ) (start : ℕ) (keys : List (List ℕ)) (values : List Value)
+    → AreReady keys values (0, 0) → WereTold [] [] → AreFeaturesFrom WereTold body start keys values start (0, 0)
+features_from_none WereTold body start keys values ready told = record {
   features = [];
   fields = refl;
   valid = tt;
   keys_are = keys_none;
   values_are = values_none;
   ready = ready;
+  told = told;
 }
 
-pub features_from_more : (body : List ℕ) (start at after : ℕ) (keys : List (List ℕ)) (values : List Value) (used more : ℕ × ℕ)
-    (payload : List ℕ) → AreFeaturesFrom body start keys values at used → drop at body ≡ short_field FEATURES (bytes payload) ++ drop after body
-    → (f : Feature) × IsCanonicalFeature payload keys values used more f → AreFeaturesFrom body start keys values after more
-features_from_more body start at after keys values used more payload from front (f, is) =
+-- the fields of features with one more
+fields_with_one : (field_of : Feature → Plain) (features : List Feature) (f : Feature)
+    → spelled (map field_of features) ++ short_field (field_of f).number (field_of f).content ≡ spelled (map field_of (features ++ f ∷ []))
+fields_with_one field_of features f =
+    ap (λ l. spelled (map field_of features) ++ l) (sym (append-nil (short_field (field_of f).number (field_of f).content)))
+    ∙ sym (spelled_parts (map field_of features) (field_of f ∷ []))
+    ∙ ap spelled (sym (map-append field_of features (f ∷ [])))
+
+pub features_from_more : (WereTold AreTold : List Feature → List ℕ → Type 0) (body : List ℕ) (start at after : ℕ) (keys : List (List ℕ))
+    (values : List Value) (used more : ℕ × ℕ) (payload : List ℕ) (from : AreFeaturesFrom WereTold body start keys values at used)
+    → drop at body ≡ short_field FEATURES (bytes payload) ++ drop after body
+    → (f : Feature) → IsCanonicalFeature payload keys values used more f
+    → AreTold (from.features ++ f ∷ []) (spelled (map (feature_field keys values) from.features) ++ short_field FEATURES (bytes payload))
+    → AreFeaturesFrom AreTold body start keys values after more
+features_from_more WereTold AreTold body start at after keys values used more payload from front f is told =
     let uses = is.uses in
+    let own = feature_field keys values in
     record {
       features = from.features ++ f ∷ [];
-      fields = mapped_more (feature_field keys values) (drop start body) (drop at body) (drop after body) from.features f from.fields
+      fields = mapped_more own (drop start body) (drop at body) (drop after body) from.features f from.fields
           (front ∙ ap (λ d. short_field FEATURES (bytes d) ++ drop after body) is.spelled_as);
       valid = all_more ValidFeature from.features f from.valid is.valid;
       keys_are = sym (keys_more from.features f) ∙ ap (λ ks. key_pool ks f.attributes) from.keys_are ∙ uses.keys_are;
@@ -109,6 +122,8 @@ features_from_more body start at after keys values used more payload from front 
         keys_within = uses.keys_within;
         values_within = uses.values_within;
       };
+      told = subst (AreTold (from.features ++ f ∷ []))
+          (ap (λ d. spelled (map own from.features) ++ short_field FEATURES (bytes d)) is.spelled_as ∙ fields_with_one own from.features f) told;
     }
 
 -- values whose payloads are different are different
@@ -161,6 +176,9 @@ spelled_values (v ∷ vs) = ap (λ fs. value_field v ∷ fs) (spelled_values vs)
 values_as_lent : (payloads : List (Bor (List ℕ))) (values : List Value) → lent payloads ≡ map value_bytes values
     → map (lent_field VALUES) payloads ≡ map value_field values
 values_as_lent payloads values are = lent_values payloads ∙ ap (map (λ d. plain VALUES (bytes d))) are ∙ spelled_values values
+
+pub lent_count : (texts : List (Bor (List ℕ))) (keys : List (List ℕ)) → lent texts ≡ keys → length keys ≡ length texts
+lent_count texts keys are = ap length (sym are) ∙ length-mapped (λ (b : Bor (List ℕ)). b.now) texts
 
 -- where fields end
 fields_end : (body fields : List ℕ) (start at : ℕ) → drop start body ≡ fields ++ drop at body → start ≤ length body → at ≤ length body
@@ -253,30 +271,23 @@ values_past values_at extent_at values_end n payloads all unused =
     omega (arith, all, unused, parts)
 
 -- the keys, the values and the features of a body
-pub record IsRead (body : List ℕ) (features_at keys_at values_at extent_at : ℕ) (keys : List (List ℕ)) (payloads : List (Bor (List ℕ)))
+pub record IsRead (WereTold : List Feature → List ℕ → Type 0) (body : List ℕ) (features_at keys_at values_at extent_at : ℕ) (keys : List (List ℕ)) (payloads : List (Bor (List ℕ)))
     (used : ℕ × ℕ) : Type 0 where
   pub values : List Value
   pub fields : drop values_at body ≡ spelled (map value_field values) ++ drop extent_at body
   pub are : lent payloads ≡ map value_bytes values
   pub count : length values ≡ length payloads
-  pub from : AreFeaturesFrom body features_at keys values keys_at used
+  pub from : AreFeaturesFrom WereTold body features_at keys values keys_at used
 
-pub is_read : (body : List ℕ) (features_at keys_at values_at extent_at count : ℕ) (keys : List (List ℕ)) (payloads : List (Bor (List ℕ)))
+pub is_read : (WereTold : List Feature → List ℕ → Type 0) (body : List ℕ) (features_at keys_at values_at extent_at count : ℕ) (keys : List (List ℕ)) (payloads : List (Bor (List ℕ)))
     (used : ℕ × ℕ) → AreKeysFrom body keys_at keys values_at → AreValuesFrom body values_at payloads extent_at → AreDistinct keys
     → AreDistinct (lent payloads) → count ≡ length payloads
-    → ((held : List Value) → length held ≡ count → AreReady keys held (0, 0) → AreFeaturesFrom body features_at keys held keys_at used)
-    → IsRead body features_at keys_at values_at extent_at keys payloads used
-is_read body features_at keys_at values_at extent_at count keys payloads used (_, _, texts) (_, (values, is, valid, are)) keys_apart payloads_apart
+    → ((held : List Value) → length held ≡ count → AreReady keys held (0, 0) → AreFeaturesFrom WereTold body features_at keys held keys_at used)
+    → IsRead WereTold body features_at keys_at values_at extent_at keys payloads used
+is_read WereTold body features_at keys_at values_at extent_at count keys payloads used (_, _, texts) (_, (values, is, valid, are)) keys_apart payloads_apart
     counted from =
     let ready = ready_values keys payloads values are keys_apart payloads_apart texts valid in
     record { values = values; fields = is; are = are; count = ready.0; from = from values (ready.0 ∙ sym counted) ready.1 }
-
-pub uses_within : {body : List ℕ} {features_at keys_at values_at extent_at : ℕ} {keys : List (List ℕ)} {payloads : List (Bor (List ℕ))}
-    {used : ℕ × ℕ} (texts : List (Bor (List ℕ))) → IsRead body features_at keys_at values_at extent_at keys payloads used → lent texts ≡ keys
-    → (used.0 ≤ length texts) × (used.1 ≤ length payloads)
-uses_within {keys} texts read are =
-    let size : length keys ≡ length texts = ap length (sym are) ∙ length-mapped (λ (b : Bor (List ℕ)). b.now) texts in
-    (omega (arith, read.from.ready.keys_within, size), omega (arith, read.from.ready.values_within, read.count))
 
 -- the fields of features, where keys and values stand behind those that they use
 field_stays : (keys more_keys : List (List ℕ)) (values more_values : List Value) (f : Feature) → AreDistinct keys → AreDistinct values
@@ -315,18 +326,18 @@ parts_spelled name features keys values extent =
 all_dropped : {Y : Type 0} → (P : Y → Type 0) (n : ℕ) (ys : List Y) → AllByRecursion P ys → AllByRecursion P (drop n ys)
 all_dropped P n ys all = all_right P (take n ys) (drop n ys) (subst (AllByRecursion P) (sym (take-append-drop n ys)) all)
 
-body_is : (body name : List ℕ) (features_at keys_at values_at extent_at keys_end values_end extent : ℕ) (keys : List (List ℕ))
+body_is : (WereTold : List Feature → List ℕ → Type 0) (body name : List ℕ) (features_at keys_at values_at extent_at keys_end values_end extent : ℕ) (keys : List (List ℕ))
     (values : List Value) (used : ℕ × ℕ)
     → body ≡ short_field NAME (bytes name) ++ drop features_at body → IsUtf8 name
-    → AreFeaturesFrom body features_at keys values keys_at used
+    → AreFeaturesFrom WereTold body features_at keys values keys_at used
     → drop keys_at body ≡ spelled (map key_field keys) ++ drop values_at body → values_at ≤ length body
     → drop values_at body ≡ spelled (map value_field values) ++ drop extent_at body → extent_at ≤ length body
     → drop extent_at body ≡ short_field EXTENT (varint extent) → extent < 2 ^ 32
     → keys_end + length (spelled (map key_field (drop used.0 keys))) ≡ values_at
     → values_end + length (spelled (map value_field (drop used.1 values))) ≡ extent_at
-    → IsBodyOf body name (take keys_end body ++ (take (values_end - values_at) (drop values_at body) ++ drop extent_at body))
+    → IsBodyOf WereTold body name (take keys_end body ++ (take (values_end - values_at) (drop values_at body) ++ drop extent_at body))
 unfolding ValidLayer
-body_is body name features_at keys_at values_at extent_at keys_end values_end extent keys values used named text from keys_are keys_within values_are
+body_is WereTold body name features_at keys_at values_at extent_at keys_end values_end extent keys values used named text from keys_are keys_within values_are
     within ends small keys_end_is values_end_is =
     let features = from.features in
     let layer : ALayer = record { name = name; extent = extent; features = features } in
@@ -368,26 +379,27 @@ body_is body name features_at keys_at values_at extent_at keys_end values_end ex
           ++ (spelled (map value_field (values_of features)) ++ spelled (extent_fields extent))))) stays
           ∙ sym (parts_spelled name (map (feature_field (keys_of features) (values_of features)) features) (map key_field (keys_of features))
           (map value_field (values_of features)) extent);
+      told = subst (WereTold features) (ap spelled stays) from.told;
     }
   where
     regroup : (n f k r : List ℕ) → (n ++ (f ++ k)) ++ r ≡ n ++ (f ++ (k ++ r))
     regroup n f k r = simp append_assoc
 
-pub read_is : (body name : List ℕ) (features_at keys_at values_at extent_at keys_end values_end extent : ℕ) (keys : List (List ℕ))
-    (texts payloads : List (Bor (List ℕ))) (used : ℕ × ℕ) → IsRead body features_at keys_at values_at extent_at keys payloads used
+pub read_is : (WereTold : List Feature → List ℕ → Type 0) (body name : List ℕ) (features_at keys_at values_at extent_at keys_end values_end extent : ℕ) (keys : List (List ℕ))
+    (texts payloads : List (Bor (List ℕ))) (used : ℕ × ℕ) → IsRead WereTold body features_at keys_at values_at extent_at keys payloads used
     → body ≡ short_field NAME (bytes name) ++ drop features_at body → IsUtf8 name → AreKeysFrom body keys_at keys values_at → lent texts ≡ keys
     → extent_at ≤ length body → drop extent_at body ≡ short_field EXTENT (varint extent) → extent < 2 ^ 32
     → keys_end + length (spelled (map (lent_field KEYS) (drop used.0 texts))) ≡ values_at
     → values_end + length (spelled (map (lent_field VALUES) (drop used.1 payloads))) ≡ extent_at
-    → IsBodyOf body name (take keys_end body ++ (take (values_end - values_at) (drop values_at body) ++ drop extent_at body))
-read_is body name features_at keys_at values_at extent_at keys_end values_end extent keys texts payloads used read named text
+    → IsBodyOf WereTold body name (take keys_end body ++ (take (values_end - values_at) (drop values_at body) ++ drop extent_at body))
+read_is WereTold body name features_at keys_at values_at extent_at keys_end values_end extent keys texts payloads used read named text
     (keys_within, keys_are, _) texts_are within ends small keys_end_is values_end_is =
     let unused_keys : map (lent_field KEYS) (drop used.0 texts) ≡ map key_field (drop used.0 keys) =
     keys_as_lent (drop used.0 texts) (drop used.0 keys) (sym (drop-map (λ (b : Bor (List ℕ)). b.now) used.0 texts) ∙ ap (drop used.0) texts_are) in
     let unused_values : map (lent_field VALUES) (drop used.1 payloads) ≡ map value_field (drop used.1 read.values) =
     values_as_lent (drop used.1 payloads) (drop used.1 read.values)
     (sym (drop-map (λ (b : Bor (List ℕ)). b.now) used.1 payloads) ∙ ap (drop used.1) read.are ∙ drop-map value_bytes used.1 read.values) in
-    body_is body name features_at keys_at values_at extent_at keys_end values_end extent keys read.values used named text read.from keys_are
+    body_is WereTold body name features_at keys_at values_at extent_at keys_end values_end extent keys read.values used named text read.from keys_are
     keys_within read.fields within ends small
     (ap (λ fs. keys_end + length (spelled fs)) (sym unused_keys) ∙ keys_end_is)
     (ap (λ fs. values_end + length (spelled fs)) (sym unused_values) ∙ values_end_is)
@@ -408,23 +420,88 @@ with_version : (keys : List (List ℕ)) (values : List Value) (layer : ALayer)
     → spelled (fields_with keys values layer) ≡ short_field VERSION (varint 2) ++ spelled (body_with keys values layer)
 with_version keys values layer = refl
 
-pub copied_is : (payload name body canonical : List ℕ) → length payload ≤ LIMIT → HasBody payload body → IsBodyOf body name canonical
-    → IsCopied payload name canonical
-unfolding ValidItem
-copied_is payload name body canonical few (inl front) is =
+-- a body that has as many bytes as its canonical fields is these
+nothing : {X : Type 0} → (xs : List X) → length xs ≡ 0 → xs ≡ []
+nothing [] none = refl
+nothing (x ∷ xs) none = absurd (omega (arith, none))
+
+whole_body : (WereTold : List Feature → List ℕ → Type 0) (body name canonical : List ℕ) → IsBodyOf WereTold body name canonical
+    → length canonical ≡ length body → canonical ≡ body
+whole_body WereTold body name canonical is same =
+    let layer = is.layer in
+    let head = short_field NAME (bytes layer.name) in
+    let own = spelled (own_fields layer) in
+    let k = spelled (map key_field (keys_of layer.features)) in
+    let more_k = spelled (map key_field is.more_keys) in
+    let v = spelled (map value_field (values_of layer.features)) in
+    let more_v = spelled (map value_field is.more_values) in
+    let e = spelled (extent_fields layer.extent) in
+    let keys_are : spelled (map key_field (keys_of layer.features ++ is.more_keys)) ≡ k ++ more_k =
+    ap spelled (map-append key_field (keys_of layer.features) is.more_keys)
+    ∙ spelled_parts (map key_field (keys_of layer.features)) (map key_field is.more_keys) in
+    let values_are : spelled (map value_field (values_of layer.features ++ is.more_values)) ≡ v ++ more_v =
+    ap spelled (map-append value_field (values_of layer.features) is.more_values)
+    ∙ spelled_parts (map value_field (values_of layer.features)) (map value_field is.more_values) in
+    let whole : body ≡ head ++ (own ++ ((k ++ more_k) ++ ((v ++ more_v) ++ e))) =
+    is.body_is
+    ∙ parts_spelled layer.name (map (feature_field (keys_of layer.features ++ is.more_keys) (values_of layer.features ++ is.more_values)) layer.features)
+    (map key_field (keys_of layer.features ++ is.more_keys)) (map value_field (values_of layer.features ++ is.more_values)) layer.extent
+    ∙ ap (λ fs. head ++ (spelled fs ++ (spelled (map key_field (keys_of layer.features ++ is.more_keys))
+    ++ (spelled (map value_field (values_of layer.features ++ is.more_values)) ++ e)))) (features_stay layer.features is.more_keys is.more_values)
+    ∙ ap₂ (λ ks vs. head ++ (own ++ (ks ++ (vs ++ e)))) keys_are values_are in
+    let front : canonical ≡ head ++ (own ++ (k ++ (v ++ e))) =
+    is.canonical_is
+    ∙ parts_spelled layer.name (own_fields layer) (map key_field (keys_of layer.features)) (map value_field (values_of layer.features)) layer.extent in
+    let sizes = lengths head own k more_k v more_v e in
+    let none_k : more_k ≡ [] = nothing more_k (omega (arith, same, ap length whole, ap length front, sizes.0, sizes.1)) in
+    let none_v : more_v ≡ [] = nothing more_v (omega (arith, same, ap length whole, ap length front, sizes.0, sizes.1)) in
+    front
+    ∙ sym (whole ∙ ap₂ (λ ks vs. head ++ (own ++ ((k ++ ks) ++ ((v ++ vs) ++ e)))) none_k none_v
+    ∙ ap₂ (λ ks vs. head ++ (own ++ (ks ++ (vs ++ e)))) (append-nil k) (append-nil v))
+  where
+    lengths : (h o k mk v mv e : List ℕ)
+        → (length (h ++ (o ++ ((k ++ mk) ++ ((v ++ mv) ++ e))))
+        ≡ length h + (length o + ((length k + length mk) + ((length v + length mv) + length e))))
+        × (length (h ++ (o ++ (k ++ (v ++ e)))) ≡ length h + (length o + (length k + (length v + length e))))
+    lengths h o k mk v mv e = (simp length-append, simp length-append)
+
+-- a payload that the version begins
+item_in_front : (WereTold : List Feature → List ℕ → Type 0) (payload name body canonical : List ℕ) → length payload ≤ LIMIT
+    → payload ≡ 120 ∷ (2 ∷ body) → (is : IsBodyOf WereTold body name canonical) → IsItem payload (Layer is.layer)
+item_in_front WereTold payload name body canonical few front is =
     let layer = is.layer in
     let keys = keys_of layer.features ++ is.more_keys in
     let values = values_of layer.features ++ is.more_values in
     let same : payload ≡ spelled (fields_with keys values layer) =
-    front ∙ ap₂ (λ v b. v ++ b) (sym version_field) is.body_is ∙ sym (with_version keys values layer) in (
-      layer,
-      subst (λ b. IsItem b (Layer layer)) (sym same)
-          (layer_longer layer is.more_keys is.more_values is.valid is.texts is.valid_values (omega (arith, ap length same))),
-      is.valid,
-      is.name_is,
-      canonical_body layer canonical is.canonical_is,
-    )
-copied_is payload name body canonical few (inr behind) is =
+    front ∙ ap₂ (λ v b. v ++ b) (sym version_field) is.body_is ∙ sym (with_version keys values layer) in
+    subst (λ b. IsItem b (Layer layer)) (sym same)
+    (layer_longer layer is.more_keys is.more_values is.valid is.texts is.valid_values (omega (arith, ap length same)))
+
+pub canonical_is : (WereTold : List Feature → List ℕ → Type 0) (payload name body canonical : List ℕ) → length payload ≤ LIMIT
+    → payload ≡ 120 ∷ (2 ∷ body) → IsBodyOf WereTold body name canonical → length canonical ≡ length body
+    → IsCanonicalLayer WereTold payload name
+unfolding ValidItem
+canonical_is WereTold payload name body canonical few front is same = (
+  is.layer,
+  item_in_front WereTold payload name body canonical few front is,
+  is.valid,
+  is.name_is,
+  canonical_body is.layer canonical is.canonical_is
+      ∙ ap (λ b. 120 ∷ (2 ∷ b)) (whole_body WereTold body name canonical is same) ∙ sym front,
+  is.told,
+)
+
+pub copied_is : (WereTold : List Feature → List ℕ → Type 0) (payload name body canonical : List ℕ) → length payload ≤ LIMIT
+    → HasBody payload body → IsBodyOf WereTold body name canonical → IsCopied payload name canonical
+unfolding ValidItem
+copied_is WereTold payload name body canonical few (inl front) is = (
+  is.layer,
+  item_in_front WereTold payload name body canonical few front is,
+  is.valid,
+  is.name_is,
+  canonical_body is.layer canonical is.canonical_is,
+)
+copied_is WereTold payload name body canonical few (inr behind) is =
     let layer = is.layer in
     let keys = keys_of layer.features ++ is.more_keys in
     let values = values_of layer.features ++ is.more_values in

@@ -1,15 +1,17 @@
-//! A layer that is canonical but for where its version stands (Mapbox Vector Tile Specification
-//! 2.1, 4.1).
-ghost use Rattle.std.specs.Prelude.{◌≡◌, ◌≤◌, ◌<◌, ◌+◌, ◌^◌, ℕ, List, ◌++◌, length, map, drop, IfOk, IfSome, IsTrue, IsUtf8};
+//! A layer that is canonical but for where its version stands, and for last keys and values that no
+//! feature uses (Mapbox Vector Tile Specification 2.1, 4.1).
+ghost use Rattle.std.specs.Prelude.{◌≡◌, ◌≤◌, ◌<◌, ◌+◌, ◌^◌, ℕ, List, [], ◌++◌, length, map, drop, IfOk, IfSome, IsTrue, IsUtf8};
 ghost use Rattle.mvt_attrs.specs.declared.value.Value.{Value as AValue};
 ghost use Rattle.mvt_attrs.specs.FirstUse.{AreDistinct};
 ghost use Rattle.mvt_attrs.specs.FirstUses.{lent};
 ghost use Rattle.mvt_wire.specs.Field.{bytes, varint};
 ghost use Rattle.mvt_wire.specs.Spelling.{short_field, spelled};
 ghost use Rattle.mvt_feature.specs.Copying.{AreReady, IsCanonicalValue};
+ghost use Rattle.mvt_message.specs.declared.item.Item.{Item};
 ghost use Rattle.mvt_message.specs.declared.numbers.layer.TheConstants.{NAME, KEYS, VALUES, EXTENT};
 ghost use Rattle.mvt_message.specs.Copying.{IsBodyOf, IsCopied, HasBody, AreKeysFrom, AreValuesFrom, AreFeaturesFrom, copied_body, lent_field};
 
+use crate::layer_rewriting::{RewriteVisitor, Untold};
 use crate::numbers::layer;
 use mvt_attrs::{LayerKeys, are_distinct};
 use mvt_base::{LIMIT, Text};
@@ -45,7 +47,7 @@ pub(crate) fn copied(alloc: Global, payload: &[u8]) -> Result<CopiedLayer<'_>, N
     ensures within { IfOk result (λ l. length (copied_body l) ≤ LIMIT) }
 {
     match body_of(payload) {
-        Some(body) => layer_of_body(alloc, body),
+        Some(body) => layer_of_body(alloc, &mut Untold, body),
         None => Err(NotCanonical::Other),
     }
 }
@@ -61,10 +63,17 @@ fn body_of(payload: &[u8]) -> Option<&[u8]>
     }
 }
 
-/// The layer that has these fields besides the version, where they can be copied.
-fn layer_of_body(alloc: Global, body: &[u8]) -> Result<CopiedLayer<'_>, NotCanonical>
+/// The layer that has these fields besides the version, where they can be copied. A visitor is told
+/// its features.
+pub(crate) fn layer_of_body<'a, V: RewriteVisitor>(
+    alloc: Global,
+    visitor: &mut V,
+    body: &'a [u8],
+) -> Result<CopiedLayer<'a>, NotCanonical>
     requires { length body.now ≤ LIMIT }
-    ensures body { IfOk result (λ l. IsBodyOf body.now l.name.now (copied_body l)) }
+    ensures body { (items : List Item) → V.has_features items visitor.old [] []
+        → IfOk result (λ l. IsBodyOf (V.has_features items visitor.new) body.now l.name.now
+        (copied_body l)) }
     ensures within { IfOk result (λ l. length (copied_body l) ≤ length body.now) }
 {
     let Some((name, features_at)) = name_from(body) else {
@@ -80,7 +89,8 @@ fn layer_of_body(alloc: Global, body: &[u8]) -> Result<CopiedLayer<'_>, NotCanon
     if !are_apart(alloc, &texts, &values)? {
         return Err(NotCanonical::Other);
     }
-    let used = judge_features(alloc, body, features_at, keys_at, &keys, values.len())?;
+    let count = values.len();
+    let used = judge_features(alloc, visitor, body, features_at, keys_at, &keys, count)?;
     let keys_end = end_of_used(layer::KEYS, &texts, used.0, values_at);
     let values_end = end_of_used(layer::VALUES, &values, used.1, extent_at);
     Ok(CopiedLayer {
@@ -229,9 +239,11 @@ fn end_of_used(number: u32, payloads: &[&[u8]], used: usize, end: usize) -> usiz
 }
 
 /// Judges whether canonical features stand from one offset to another, in a layer with these keys
-/// and this number of values, and use them in their order. Answers how many of each they use.
-fn judge_features(
+/// and this number of values, and use them in their order. Answers how many of each they use. A
+/// visitor is told them.
+fn judge_features<V: RewriteVisitor>(
     alloc: Global,
+    visitor: &mut V,
     body: &[u8],
     start: usize,
     end: usize,
@@ -239,8 +251,11 @@ fn judge_features(
     values: usize,
 ) -> Result<(usize, usize), NotCanonical>
     requires { start ≤ length body.now }
-    ensures { IfOk result (λ used. (held : List AValue) → length held ≡ values
-        → AreReady keys.now held (0, 0) → AreFeaturesFrom body.now start keys.now held end used) }
+    ensures features { (items : List Item) → V.has_features items visitor.old [] [] → IfOk result
+        (λ used. (held : List AValue) → length held ≡ values → AreReady keys.now held (0, 0)
+        → AreFeaturesFrom (V.has_features items visitor.new) body.now start keys.now held end
+        used) }
+    ensures within { IfOk result (λ used. (used.0 ≤ length keys.now) × (used.1 ≤ values)) }
 {
     let mut layer_keys = LayerKeys::new(alloc, keys);
     let mut scratch = Scratch::for_payload(alloc, body.len())?;
@@ -249,6 +264,7 @@ fn judge_features(
     while at < end {
         let (after, more) = take_feature(
             alloc,
+            visitor,
             body,
             at,
             &mut layer_keys,
@@ -259,15 +275,17 @@ fn judge_features(
         at = after;
         used = more;
     }
-    if at != end {
+    if at != end || used.0 > keys.len() || used.1 > values {
         return Err(NotCanonical::Other);
     }
     Ok(used)
 }
 
-/// The offset after the feature at one, and how many keys and values are used then.
-fn take_feature(
+/// The offset after the feature at one, and how many keys and values are used then. A visitor is
+/// told the feature.
+fn take_feature<V: RewriteVisitor>(
     alloc: Global,
+    visitor: &mut V,
     body: &[u8],
     at: usize,
     keys: &mut LayerKeys<'_>,
@@ -276,15 +294,18 @@ fn take_feature(
     scratch: &mut Scratch,
 ) -> Result<(usize, (usize, usize)), NotCanonical>
     requires { at ≤ length body.now }
-    ensures feature { IfOk result (λ f. (start : ℕ) (held : List AValue)
-        → length held ≡ values → AreFeaturesFrom body.now start keys.old held at used
-        → AreFeaturesFrom body.now start keys.old held f.0 f.1) }
+    ensures feature { IfOk result (λ f. (items : List Item) (start : ℕ) (held : List AValue)
+        → length held ≡ values
+        → AreFeaturesFrom (V.has_features items visitor.old) body.now start keys.old held at used
+        → AreFeaturesFrom (V.has_features items visitor.new) body.now start keys.old held f.0
+        f.1) }
     ensures within { IfOk result (λ f. (at < f.0) × (f.0 ≤ length body.now)) }
     ensures same { keys.new ≡ keys.old }
 {
     let Some((payload, after)) = short_bytes_at(body, at, layer::FEATURES) else {
         return Err(NotCanonical::Other);
     };
-    let more = judge_canonical(alloc, payload, keys, values, used, scratch)?;
-    Ok((after, more))
+    let known = judge_canonical(alloc, payload, keys, values, used, scratch)?;
+    visitor.visit_rewritten(alloc, &known.fields, scratch.integers(), payload)?;
+    Ok((after, known.used))
 }

@@ -50,6 +50,24 @@ pub trait RewriteVisitor: Drop {
             (done ++ short_field FEATURES (in_bytes payload.now))) };
 }
 
+/// Keeps nothing of the features.
+#[derive(Drop)]
+pub(crate) struct Untold;
+
+impl RewriteVisitor for Untold {
+    ghost has_features = { λ _ _ _ _. Unit {0} };
+
+    fn visit_rewritten(
+        &mut self,
+        _: Global,
+        _: &FeatureFields,
+        _: &[u32],
+        _: &[u8],
+    ) -> Result<(), AllocError> {
+        Ok(())
+    }
+}
+
 /// An item that was made canonical.
 #[derive(Drop)]
 pub enum Rewritten<'a, V: RewriteVisitor> {

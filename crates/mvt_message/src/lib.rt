@@ -3,6 +3,7 @@
 #![tactic(auto)]
 
 mod bound;
+mod canonical;
 mod copying;
 mod drawn_feature;
 mod features;
@@ -26,11 +27,14 @@ mod visiting;
 mod writing;
 
 pub use bound::room_after_item;
+pub use canonical::visit_canonical;
 pub use item::{Item, Layer};
 pub use layer_rewriting::{RewriteVisitor, Rewritten, RewrittenLayer, rewrite_parts};
 pub use layer_writer::LayerWriter;
 pub use mvt_base::LIMIT;
-pub use mvt_feature::{Cause, Feature, FeatureFields, MessageError, read_feature, read_value};
+pub use mvt_feature::{
+    Cause, Feature, FeatureFields, MessageError, NotCanonical, read_feature, read_value,
+};
 pub use naming::{has_name, name_in};
 pub use reading::{judge_item, read_item};
 pub use rewriting::rewrite_item;

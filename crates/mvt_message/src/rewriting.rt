@@ -13,10 +13,10 @@ ghost use Rattle.mvt_message.specs.Items.{IsItem, names_in};
 ghost use Rattle.mvt_message.specs.ValidItems.{ValidItem};
 
 use crate::copying::{CopiedLayer, VERSION_FIELD, copied};
-use crate::layer_rewriting::{RewriteVisitor, Rewritten, rewrite_parts};
+use crate::layer_rewriting::{Rewritten, Untold, rewrite_parts};
 use crate::reading::judge_item;
 use mvt_base::LIMIT;
-use mvt_feature::{FeatureFields, MessageError, NotCanonical};
+use mvt_feature::{MessageError, NotCanonical};
 use std::alloc::{AllocError, Global};
 
 /// Appends the canonical payload of the item that a payload is, and answers the name of the layer.
@@ -104,23 +104,5 @@ fn rewrite_anew<'a>(
             Ok(None)
         }
         Err(error) => Err(error),
-    }
-}
-
-/// Keeps nothing of the features, which are written all the same.
-#[derive(Drop)]
-struct Untold;
-
-impl RewriteVisitor for Untold {
-    ghost has_features = { λ _ _ _ _. Unit {0} };
-
-    fn visit_rewritten(
-        &mut self,
-        _: Global,
-        _: &FeatureFields,
-        _: &[u32],
-        _: &[u8],
-    ) -> Result<(), AllocError> {
-        Ok(())
     }
 }

@@ -4,6 +4,11 @@ use Rattle.std.specs.List.{sum_by}
 use Rattle.mvt_feature.specs.declared.feature.Feature.{Feature}
 use Rattle.mvt_wire.specs.Spelling.{spelled}
 use Rattle.mvt_message.specs.declared.item.Item.{Item}
+use Rattle.mvt_message.specs.declared.item.Item.TheVariants as items
+use Rattle.mvt_message.specs.declared.item.Layer.{Layer as ALayer}
+use Rattle.mvt_message.specs.CanonicalItems.{canonical_item}
+use Rattle.mvt_message.specs.Items.{IsItem}
+use Rattle.mvt_message.specs.ValidItems.{ValidItem}
 use Rattle.mvt_model.specs.declared.findings.Findings.{Findings}
 use Rattle.mvt_model.specs.declared.layer_noting.LayerNotes.{LayerNotes}
 use Rattle.mvt_model.specs.CanonicalTiles.{item_field}
@@ -23,6 +28,12 @@ pub record AreNoted (layer : ℕ) (noted : LayerNotes) (features : List Feature)
 -- and nothing of the one that follows
 abbrev pub AreNotedSoFar : ℕ → LayerNotes → List Feature → Type 0
 AreNotedSoFar layer noted features = AreNoted layer noted features × HasBegun layer (length features) noted.rings
+
+-- the canonical payload of a layer of this name, the notes of whose features are these
+abbrev pub IsNotedLayer : ℕ → List ℕ → List ℕ → LayerNotes → Type 0
+IsNotedLayer index payload name noted =
+    (layer : ALayer) × IsItem payload (items.Layer layer) × ValidItem (items.Layer layer) × (name ≡ layer.name)
+    × (canonical_item (items.Layer layer) ≡ payload) × AreNotedSoFar index noted layer.features
 
 -- this was found of the items at the front of an input
 pub record AreFound (limit : ℕ) (input : List ℕ) (found : Findings) (items : List Item) : Type 0 where

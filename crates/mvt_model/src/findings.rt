@@ -16,7 +16,7 @@ ghost use Rattle.mvt_model.specs.declared.tile.Tile.{Tile};
 ghost use Rattle.mvt_model.specs.CanonicalTiles.{canonical};
 ghost use Rattle.mvt_model.specs.Beginning.{IsNoLayer};
 ghost use Rattle.mvt_model.specs.Comparing.{IsAfter};
-ghost use Rattle.mvt_model.specs.Findings.{AreFound, AreNotedSoFar};
+ghost use Rattle.mvt_model.specs.Findings.{AreFound, AreNotedSoFar, IsNotedLayer};
 ghost use Rattle.mvt_model.specs.Notes.{layer_notes};
 ghost use Rattle.mvt_model.specs.Survey.{feature_count as the_feature_count, survey_of};
 
@@ -28,7 +28,8 @@ use crate::noting::note_if;
 use crate::survey::Survey;
 use mvt_base::{Items, LIMIT};
 use mvt_message::{
-    Item, MessageError, Rewritten, RewrittenLayer, Visited, rewrite_parts, visit_layer,
+    Item, MessageError, NotCanonical, Rewritten, RewrittenLayer, Visited, judge_item,
+    rewrite_parts, visit_canonical, visit_layer,
 };
 use std::alloc::{AllocError, Global};
 
@@ -56,9 +57,9 @@ impl<'a> Findings<'a> {
     }
 
     /// Adds what is found of the item of a payload, after so many others, and answers the name of
-    /// the layer. No value of it is made. Where the input may go on with its canonical bytes, it
-    /// holds the layer's keys and values and the canonical fields of its features; else nothing is
-    /// written.
+    /// the layer. No value of it is made, and nothing is written for a layer that is canonical as it
+    /// stands, or that can't be where it stands. For another it holds the layer's keys and values
+    /// and the canonical fields of its features.
     ///
     /// # Errors
     ///
@@ -88,6 +89,46 @@ impl<'a> Findings<'a> {
         if !may_be_layer(self.behind) {
             return self.add_other(alloc, index, payload, payload_at, tag_at);
         }
+        match canonical_notes(alloc, index, payload) {
+            Ok((name, noted)) => {
+                self.add_canonical(alloc, index, payload, &noted)?;
+                Ok(Some(name))
+            }
+            Err(NotCanonical::Memory) => Err(MessageError::Memory),
+            Err(NotCanonical::Broken) => {
+                // Judging tells the fault in less time than rewriting up to it.
+                judge_item(alloc, payload, payload_at, tag_at)?;
+                self.add_rewritten(alloc, index, payload, payload_at, tag_at)
+            }
+            Err(NotCanonical::Other) => {
+                self.add_rewritten(alloc, index, payload, payload_at, tag_at)
+            }
+        }
+    }
+
+    /// The same of any item, by its canonical bytes.
+    fn add_rewritten<'b>(
+        &mut self,
+        alloc: Global,
+        index: usize,
+        payload: &'b [u8],
+        payload_at: u64,
+        tag_at: u64,
+    ) -> Result<Option<&'b str>, MessageError>
+        requires small { length payload.now ≤ LIMIT }
+        requires fits { payload_at + length payload.now < 2 ^ 64 }
+        requires few { index ≤ LIMIT }
+        requires found { (input : List ℕ) × (items : List Item)
+            × AreFound LIMIT input self.old items × (length items ≡ index) }
+        ensures ok { OnOk result (item_fault payload.now payload_at tag_at ≡ None) }
+        ensures found { (input : List ℕ) (items : List Item) → AreFound LIMIT input self.old items
+            → length items ≡ index
+            → IfOk result (λ name. (item : Item) × IsItem payload.now item × ValidItem item
+            × (option_to_list (option_copied name) ≡ names_in item)
+            × AreFound LIMIT input self.new (items ++ item ∷ [])) }
+        ensures fault { IfErr result (λ error. Reports (fault_of error)
+            (item_fault payload.now payload_at tag_at)) }
+    {
         let noted = LayerNotes::new(alloc, index);
         match rewrite_parts(alloc, noted, payload, payload_at, tag_at) {
             Ok(Rewritten::Layer(layer)) => {
@@ -141,7 +182,28 @@ impl<'a> Findings<'a> {
         }
     }
 
-    /// Adds what was found of a layer.
+    /// Adds what was found of a layer whose payload is canonical as it stands.
+    fn add_canonical(
+        &mut self,
+        alloc: Global,
+        index: usize,
+        payload: &[u8],
+        noted: &LayerNotes,
+    ) -> Result<(), AllocError>
+        requires few { index ≤ LIMIT }
+        requires found { (input : List ℕ) × (items : List Item)
+            × AreFound LIMIT input self.old items × (length items ≡ index) }
+        ensures { (input : List ℕ) (items : List Item) (l : ALayer)
+            → AreFound LIMIT input self.old items → length items ≡ index
+            → AreNotedSoFar index noted.now l.features
+            → canonical_item (an_item.Layer l) ≡ payload.now
+            → OnOk result (AreFound LIMIT input self.new (items ++ an_item.Layer l ∷ [])) }
+    {
+        self.behind = after_item(alloc, &[], payload, &[], self.behind)?;
+        self.add_notes(index, noted)
+    }
+
+    /// Adds what was found of a layer that was made canonical.
     fn add_layer(
         &mut self,
         alloc: Global,
@@ -220,6 +282,21 @@ impl<'a> Findings<'a> {
             notes: Items::new(notes),
         })
     }
+}
+
+/// The name of a layer whose payload is canonical as it stands, and the notes of its features.
+fn canonical_notes<'b>(
+    alloc: Global,
+    index: usize,
+    payload: &'b [u8],
+) -> Result<(&'b str, LayerNotes), NotCanonical>
+    requires { length payload.now ≤ LIMIT }
+    ensures { (items : List Item) → length items ≡ index
+        → IfOk result (λ found. IsNotedLayer index payload.now found.0.now found.1) }
+{
+    let mut notes = LayerNotes::new(alloc, index);
+    let name = visit_canonical(alloc, &mut notes, payload)?;
+    Ok((name, notes))
 }
 
 /// How many features an item has: those of a layer of version 2, and of other layers none are

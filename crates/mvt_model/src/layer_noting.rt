@@ -98,7 +98,7 @@ impl LayerVisitor for LayerNotes {
     }
 }
 
-/// Of a layer that is made canonical too.
+/// Of a layer that is made canonical too, or is so already.
 impl RewriteVisitor for LayerNotes {
     ghost use Rattle.std.specs.Prelude.{length};
     ghost use Rattle.mvt_model.specs.Findings.{AreNotedSoFar};

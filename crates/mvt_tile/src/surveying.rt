@@ -18,9 +18,9 @@ use mvt_base::LIMIT;
 use mvt_model::{Findings, Survey};
 use std::alloc::Global;
 
-/// Surveys a tile. One item is taken at a time, feature by feature. Where it may be canonical, it
-/// is made so, compared with the bytes where it stands, and let go; else it is judged alone. So
-/// what is kept are the names of the layers and the notes.
+/// Surveys a tile. One item is taken at a time, feature by feature. Where it may be canonical and
+/// isn't as it stands, it is made so, compared with the bytes where it stands, and let go; else it
+/// is judged alone. So what is kept are the names of the layers and the notes.
 ///
 /// # Errors
 ///

@@ -7,6 +7,7 @@ mod rows;
 mod sizes;
 mod streams;
 pub(crate) mod support;
+mod surveys;
 mod uses;
 mod validity;
 mod views;

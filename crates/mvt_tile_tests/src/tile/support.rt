@@ -6,8 +6,8 @@ use mvt_geometry::{Geometry, Point};
 use mvt_io::MemorySource;
 use mvt_message::{Cause, Feature, Item, Layer};
 use mvt_tile::{
-    DecodeError, Fault, Tile, TileDecoder, decode, encode, is_valid, judge, rewrite, rewrite_tile,
-    survey_tile, validate,
+    DecodeError, Fault, Note, Tile, TileDecoder, decode, encode, is_valid, judge, rewrite,
+    rewrite_tile, survey_tile, validate,
 };
 use std::alloc::{AllocError, Global};
 use std::process::Abort;
@@ -224,6 +224,22 @@ fn expect_surveyed(
     let survey = survey_tile(rt.alloc(), input).expect(rt, "a survey");
     expect_eq!(rt; survey.layers, layers);
     expect_eq!(rt; survey.is_canonical, is_canonical, "of {input:?}");
+    drop(survey);
+}
+
+// A survey of an input: its layers and features, whether it is canonical, and the notes.
+pub(crate) fn expect_survey(
+    rt: &(impl Abort + AllocGlobal),
+    input: &[u8],
+    counts: (usize, u128),
+    is_canonical: bool,
+    notes: &[Note],
+) {
+    let survey = survey_tile(rt.alloc(), input).expect(rt, "a survey");
+    expect_eq!(rt; survey.layers, counts.0);
+    expect_eq!(rt; survey.features, counts.1);
+    expect_eq!(rt; survey.is_canonical, is_canonical);
+    expect_eq!(rt; survey.notes.as_slice(), notes);
     drop(survey);
 }
 

@@ -1,8 +1,8 @@
 //! Extraction, notes and surveys.
 use super::rows::*;
-use super::support::{both_of, names, tile_of};
+use super::support::{both_of, expect_survey, names, tile_of};
 use crate::expect::{expect, expect_eq};
-use mvt_tile::{ExtractError, Note, Tile, encode, extract, is_valid, notes, survey_tile};
+use mvt_tile::{ExtractError, Note, Tile, encode, extract, is_valid, notes};
 use std::process::Abort;
 
 // The layers of these names are this tile.
@@ -78,21 +78,6 @@ fn reports_notes(rt: HostRuntime) {
     for (input, expected) in rows {
         expect_notes(&rt, input, expected);
     }
-}
-
-fn expect_survey(
-    rt: &(impl Abort + AllocGlobal),
-    input: &[u8],
-    counts: (usize, u128),
-    is_canonical: bool,
-    notes: &[Note],
-) {
-    let survey = survey_tile(rt.alloc(), input).expect(rt, "a survey");
-    expect_eq!(rt; survey.layers, counts.0);
-    expect_eq!(rt; survey.features, counts.1);
-    expect_eq!(rt; survey.is_canonical, is_canonical);
-    expect_eq!(rt; survey.notes.as_slice(), notes);
-    drop(survey);
 }
 
 fn canonical_of(rt: &(impl Abort + AllocGlobal), input: &[u8]) -> Vec<u8> {

@@ -4,13 +4,14 @@ use Rattle.mvt_message.proofs.CopyingLemmas.{features_from_none}
 use Rattle.mvt_message.proofs.copying.judge_features.Goals as goal
 
 pub loop-at-init : goal.loop-at-init
-loop-at-init c = (
+loop-at-init g c = (
   c.requires,
   c.new-layer_keys.ensures,
-  λ held count ready. features_from_none c.args.body.now c.args.start c.args.keys.now held ready,
+  λ items has held count ready.
+      features_from_none (g.V.RewriteVisitor.has_features items c.args.visitor.now) c.args.body.now c.args.start c.args.keys.now held ready has,
 )
 
-pub returns : goal.returns
-returns c = λ held count ready.
-    subst (λ at. AreFeaturesFrom c.args.body.now c.args.start c.args.keys.now held at c.loop-at.used) c.if-at-end.false
-    (c.loop-at.invariant.2 held count ready)
+pub returns-clause-features : goal.returns-clause-features
+returns-clause-features g c = λ items has held count ready.
+    subst (λ at. AreFeaturesFrom (g.V.RewriteVisitor.has_features items c.loop-at.visitor) c.args.body.now c.args.start c.args.keys.now held at
+    c.loop-at.used) c.if-at-end.false (c.loop-at.invariant.2 items has held count ready)

@@ -1,0 +1,142 @@
+//! Layers that are canonical as they stand, beside the same made canonical field by field.
+use crate::copying::{FEW_VALUES, MANY_VALUES, changed};
+use crate::expect::expect;
+use mvt_feature::FeatureFields;
+use mvt_geometry::Kind;
+use mvt_message::*;
+use std::alloc::{AllocError, Global};
+use std::process::Abort;
+
+// What was told of features.
+#[derive(Drop)]
+struct Told {
+    ids: Vec<Option<u64>>,
+    kinds: Vec<Kind>,
+    integers: Vec<u32>,
+    payloads: Vec<u8>,
+}
+
+impl Told {
+    fn new(alloc: Global) -> Self {
+        Told {
+            ids: Vec::new(alloc),
+            kinds: Vec::new(alloc),
+            integers: Vec::new(alloc),
+            payloads: Vec::new(alloc),
+        }
+    }
+
+    fn is(&self, other: &Told) -> bool {
+        self.ids.as_slice() == other.ids.as_slice()
+            && self.kinds.as_slice() == other.kinds.as_slice()
+            && self.integers.as_slice() == other.integers.as_slice()
+            && self.payloads.as_slice() == other.payloads.as_slice()
+    }
+}
+
+impl RewriteVisitor for Told {
+    ghost has_features = { λ _ _ _ _. Unit {0} };
+
+    fn visit_rewritten(
+        &mut self,
+        _: Global,
+        fields: &FeatureFields,
+        integers: &[u32],
+        payload: &[u8],
+    ) -> Result<(), AllocError> {
+        self.ids.push(fields.id)?;
+        self.kinds.push(fields.kind)?;
+        self.integers.extend_from_slice(integers)?;
+        self.payloads.extend_from_slice(payload)
+    }
+}
+
+// Whether a short payload is made canonical as it stands, by features that are told so.
+fn is_rewritten_as(alloc: Global, payload: &[u8], told: &Told) -> bool {
+    if payload.len() > 1000 {
+        return false;
+    }
+    let mut out = Vec::new(alloc);
+    match rewrite_parts(alloc, Told::new(alloc), payload, 2, 0) {
+        Ok(Rewritten::Layer(layer)) => {
+            layer.append_head(&mut out).is_ok()
+                && out.extend_from_slice(layer.features()).is_ok()
+                && layer.append_tail(&mut out).is_ok()
+                && out.as_slice() == payload
+                && layer.visitor.is(told)
+        }
+        Ok(Rewritten::Foreign(_)) => false,
+        Err(_) => false,
+    }
+}
+
+// The name of a layer that is canonical as it stands, and what was told of its features.
+fn told_of<'a>(alloc: Global, payload: &'a [u8]) -> (Result<&'a str, NotCanonical>, Told) {
+    let mut told = Told::new(alloc);
+    if payload.len() > 1000 {
+        return (Err(NotCanonical::Other), told);
+    }
+    let name = visit_canonical(alloc, &mut told, payload);
+    (name, told)
+}
+
+// A payload that is said to be canonical is made so as it stands.
+fn expect_said_rightly(rt: &(impl Abort + AllocGlobal), payload: &[u8]) {
+    let (name, told) = told_of(rt.alloc(), payload);
+    let is_right = name.is_err() || is_rewritten_as(rt.alloc(), payload, &told);
+    drop(told);
+    expect!(rt; is_right);
+}
+
+// The payload with the version, which stands last, in front.
+fn turned(alloc: Global, payload: &[u8]) -> Result<Vec<u8>, AllocError> {
+    let mut bytes = Vec::new(alloc);
+    let (fields, version) = payload.split_at(payload.len().saturating_sub(2));
+    bytes.extend_from_slice(version)?;
+    bytes.extend_from_slice(fields)?;
+    Ok(bytes)
+}
+
+// Whether a layer of this name was told to be canonical.
+fn is_told(alloc: Global, payload: &[u8], name: &str) -> bool {
+    let (found, told) = told_of(alloc, payload);
+    match found {
+        Ok(found) => found == name && is_rewritten_as(alloc, payload, &told),
+        Err(_) => false,
+    }
+}
+
+// Whether a payload isn't known to be canonical, though no rule is broken.
+fn is_left_alone(alloc: Global, payload: &[u8]) -> bool {
+    let (found, _) = told_of(alloc, payload);
+    match found {
+        Err(NotCanonical::Other) => true,
+        _ => false,
+    }
+}
+
+fn expect_canonical(rt: &(impl Abort + AllocGlobal), payload: &[u8], name: &str) {
+    let is_other = is_left_alone(rt.alloc(), payload);
+    expect!(rt; is_other);
+    let bytes = turned(rt.alloc(), payload).expect(rt, "a payload");
+    let is_right = is_told(rt.alloc(), &bytes, name);
+    expect!(rt; is_right);
+    for at in 0..bytes.len() {
+        for way in 0..4u8 {
+            let other = changed(rt.alloc(), &bytes, at, way).expect(rt, "a payload");
+            expect_said_rightly(rt, &other);
+            drop(other);
+        }
+    }
+    drop(bytes);
+}
+
+#[test]
+fn tells_canonical_layers_of_many_values(rt: HostRuntime) {
+    expect_canonical(&rt, &MANY_VALUES, "roads");
+}
+
+#[test]
+fn tells_canonical_layers_of_few_values(rt: HostRuntime) {
+    expect_canonical(&rt, &FEW_VALUES, "b");
+}
