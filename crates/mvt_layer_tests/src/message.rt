@@ -190,6 +190,15 @@ fn carries_foreign_items(rt: HostRuntime) {
     expect_item(&rt, &[0x78, 0x00], foreign_item(&rt, 0, &[0x78, 0x00]));
 }
 
+// The version is the last that stands, and only a field is one.
+#[test]
+fn tells_foreign_items_by_their_last_version(rt: HostRuntime) {
+    expect_name(&rt, b"\x0A\x01a\x28\x80\x20\x78\x01", None);
+    expect_name(&rt, b"\x78\x01\x0A\x01a\x28\x80\x20\x78\x02", Some("a"));
+    expect_name(&rt, b"\x0A\x01a\x78\x02\x22\x04\x0A\x02\x78\x01", Some("a"));
+    expect_name(&rt, b"\x0A\x01a\x78\x01\x22\x04\x0A\x02\x78\x02", None);
+}
+
 // Both calls say whether the item can be written.
 fn expect_valid(rt: &(impl Abort + AllocGlobal), item: Item, answer: bool) {
     expect_eq!(rt; is_valid_item(&item), answer);

@@ -17,14 +17,15 @@ ghost use Rattle.mvt_message.specs.Rewriting.{IsRewrittenAs, tail_of};
 use crate::layer_writer::LayerWriter;
 use crate::layer_writing::put_head;
 use crate::numbers::layer;
-use crate::visiting::{LayerVisitor, Visited, visit_layer};
+use crate::visiting::{LayerVisitor, Visited, visit_version_2};
 use mvt_attrs::LayerKeys;
 use mvt_base::{LIMIT, Text};
 use mvt_feature::{FeatureFields, MessageError, Scratch, read_value, rewrite_feature};
 use mvt_wire::{Payload, put_field};
 use std::alloc::{AllocError, Global};
 
-/// What is told the features of a layer while it is made canonical, one after the other.
+/// What is told the features of a layer, one after the other, while it is made canonical or found
+/// to be so.
 pub trait RewriteVisitor: Drop {
     // What it has of the items before this one and of these features, whose canonical fields are
     // these bytes.
@@ -149,7 +150,7 @@ pub fn rewrite_parts<'a, V: RewriteVisitor>(
         writer: LayerWriter::with_room(alloc, payload.len())?,
         visitor,
     };
-    match visit_layer(alloc, &mut rewriter, payload, payload_at, tag_at) {
+    match visit_version_2(alloc, &mut rewriter, payload, payload_at, tag_at) {
         Ok(Visited::Layer { name, extent }) => {
             let LayerRewriter { writer, visitor } = rewriter;
             Ok(Rewritten::Layer(RewrittenLayer {

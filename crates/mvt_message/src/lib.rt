@@ -39,5 +39,5 @@ pub use naming::{has_name, name_in};
 pub use reading::{judge_item, read_item};
 pub use rewriting::rewrite_item;
 pub use validity::{are_of_version, is_valid_item, is_valid_layer, validate_item};
-pub use visiting::{LayerVisitor, Visited, visit_layer};
+pub use visiting::{LayerVisitor, Visited, visit_layer, visit_version_2};
 pub use writing::{PutError, item_len, put_item};

@@ -8,7 +8,7 @@ ghost use Rattle.mvt_message.specs.Items.{IsItem};
 ghost use Rattle.mvt_message.specs.ValidItems.{ValidItem};
 
 use crate::item::{Item, Layer};
-use crate::visiting::{LayerVisitor, Visited, visit_layer};
+use crate::visiting::{LayerVisitor, Visited, visit_version_2};
 use mvt_attrs::{LayerKeys, Value};
 use mvt_base::{Items, LIMIT, Text};
 use mvt_feature::{
@@ -39,7 +39,7 @@ pub fn read_item(
         (item_fault payload.now payload_at tag_at)) }
 {
     let mut kept = Kept::new(alloc);
-    match visit_layer(alloc, &mut kept, payload, payload_at, tag_at) {
+    match visit_version_2(alloc, &mut kept, payload, payload_at, tag_at) {
         Ok(Visited::Layer { name, extent }) => Ok(Item::Layer(Layer {
             name: Text::from_str(alloc, name)?,
             extent,
@@ -73,7 +73,7 @@ pub fn judge_item<'a>(
     ensures fault { IfErr result (λ error. Reports (fault_of error)
         (item_fault payload.now payload_at tag_at)) }
 {
-    match visit_layer(alloc, &mut Judged, payload, payload_at, tag_at) {
+    match visit_version_2(alloc, &mut Judged, payload, payload_at, tag_at) {
         Ok(Visited::Layer { name, .. }) => Ok(Some(name)),
         Ok(Visited::Foreign { .. }) => Ok(None),
         Err(error) => Err(error),

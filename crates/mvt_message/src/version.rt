@@ -1,13 +1,16 @@
 //! The version of a layer (Mapbox Vector Tile Specification 2.1, 4.1).
-ghost use Rattle.std.specs.Prelude.{◌≡◌, ℕ, ◌+◌, ◌^◌, ◌<◌, List, [], ◌∷◌, ◌++◌, length, Some, None, IfOk, IfErr, OnOk};
+ghost use Rattle.std.specs.Prelude.{◌≡◌, ℕ, ◌+◌, ◌^◌, ◌<◌, List, [], ◌∷◌, ◌++◌, length, Some, None, IfOk, IfErr, IfSome, OnOk, OnSome};
 ghost use Rattle.mvt_base.specs.Reports.{Reports};
 ghost use Rattle.mvt_wire.specs.Field.{Entry, entry_of};
 ghost use Rattle.mvt_wire.specs.Split.{split};
 ghost use Rattle.mvt_feature.specs.Faults.{fault_of};
+ghost use Rattle.mvt_message.specs.declared.item.Item.TheVariants.{Foreign};
+ghost use Rattle.mvt_message.specs.ItemRules.{item_fault};
+ghost use Rattle.mvt_message.specs.Items.{IsItem};
 ghost use Rattle.mvt_message.specs.LayerFields.{version_in};
 ghost use Rattle.mvt_message.specs.Inner.{header_fault, IsFault, IsVersionSoFar};
 
-use crate::numbers::layer;
+use crate::numbers::{VERSION_2, layer};
 use crate::payload::uint32_of;
 use mvt_feature::{Cause, MessageError, fault_at, rest_fault};
 use mvt_wire::{Field, Fields};
@@ -34,6 +37,30 @@ pub(crate) fn read_version(
         }
     }
     version_of(version, tag_at)
+}
+
+/// The version of a foreign item, where the ends of its payload suggest one.
+pub(crate) fn early_version(payload: &[u8], payload_at: u64, tag_at: u64) -> Option<u32>
+    requires { payload_at + length payload.now < 2 ^ 64 }
+    ensures ok { OnSome result (item_fault payload.now payload_at tag_at ≡ None) }
+    ensures foreign { IfSome result (λ version. IsItem payload.now (Foreign version payload.now)) }
+{
+    if !seems_foreign(payload) {
+        return None;
+    }
+    match read_version(payload, payload_at, tag_at) {
+        Ok(version) if version != VERSION_2 => Some(version),
+        Ok(_) | Err(_) => None,
+    }
+}
+
+/// Whether a payload begins, or else ends, with bytes that may be the field of another version.
+/// Only a walk over its fields can tell.
+fn seems_foreign(payload: &[u8]) -> bool {
+    match payload {
+        [0x78, version, ..] | [.., 0x78, version] => *version != 2 && *version < 0x80,
+        _ => false,
+    }
 }
 
 /// The last version with one more field, unless a fault was met before it.

@@ -22,7 +22,7 @@ ghost use Rattle.mvt_message.specs.Visiting.{HasLayer, IsVisited};
 use crate::features::visit_features;
 use crate::layer_fields::{LayerFault, LayerFields, header_fault_or, read_layer_fields};
 use crate::numbers::VERSION_2;
-use crate::version::read_version;
+use crate::version::{early_version, read_version};
 use mvt_attrs::LayerKeys;
 use mvt_base::{LIMIT, Text};
 use mvt_feature::{Cause, MessageError, Scratch, fault_at};
@@ -158,6 +158,36 @@ pub fn visit_layer<'a, V: LayerVisitor>(
         return visit_parts(alloc, visitor, payload, payload_at, tag_at, front);
     }
     Ok(Visited::Foreign { version })
+}
+
+/// The same for a visitor that has no use for the values of a layer of another version: it is told
+/// none of these where the ends of the payload tell the version.
+///
+/// # Errors
+///
+/// As [`read_item`](crate::read_item).
+pub fn visit_version_2<'a, V: LayerVisitor>(
+    alloc: Global,
+    visitor: &mut V,
+    payload: &'a [u8],
+    payload_at: u64,
+    tag_at: u64,
+) -> Result<Visited<'a>, MessageError>
+    requires small { length payload.now ≤ LIMIT }
+    requires fits { payload_at + length payload.now < 2 ^ 64 }
+    requires start { (items : List Item) × V.has_values items visitor.old [] }
+    ensures ok { OnOk result (item_fault payload.now payload_at tag_at ≡ None) }
+    ensures item { (items : List Item) → V.has_values items visitor.old []
+        → V.has_items items visitor.old
+        → IfOk result (λ visited. (item : Item) × IsItem payload.now item × ValidItem item
+        × IsVisited (V.has_items items) (V.has_features items) visitor.new visited item) }
+    ensures fault { IfErr result (λ error. Reports (fault_of error)
+        (item_fault payload.now payload_at tag_at)) }
+{
+    if let Some(version) = early_version(payload, payload_at, tag_at) {
+        return Ok(Visited::Foreign { version });
+    }
+    visit_layer(alloc, visitor, payload, payload_at, tag_at)
 }
 
 /// The version of a foreign item, of whose fields a walk met this fault.

@@ -29,7 +29,7 @@ use crate::survey::Survey;
 use mvt_base::{Items, LIMIT};
 use mvt_message::{
     Item, MessageError, NotCanonical, Rewritten, RewrittenLayer, Visited, judge_item,
-    rewrite_parts, visit_canonical, visit_layer,
+    rewrite_parts, visit_canonical, visit_version_2,
 };
 use std::alloc::{AllocError, Global};
 
@@ -57,8 +57,8 @@ impl<'a> Findings<'a> {
     }
 
     /// Adds what is found of the item of a payload, after so many others, and answers the name of
-    /// the layer. No value of it is made, and nothing is written for a layer that is canonical as it
-    /// stands, or that can't be where it stands. For another it holds the layer's keys and values
+    /// the layer. No value of it is made, and nothing is written for a layer that is canonical as
+    /// it stands, or that can't be where it stands. For another it holds the layer's keys and values
     /// and the canonical fields of its features.
     ///
     /// # Errors
@@ -168,7 +168,7 @@ impl<'a> Findings<'a> {
             (item_fault payload.now payload_at tag_at)) }
     {
         let mut noted = LayerNotes::new(alloc, index);
-        match visit_layer(alloc, &mut noted, payload, payload_at, tag_at) {
+        match visit_version_2(alloc, &mut noted, payload, payload_at, tag_at) {
             Ok(Visited::Layer { name, .. }) => {
                 self.behind = None;
                 self.add_notes(index, &noted)?;

@@ -508,6 +508,26 @@ fn expect_read(rt: &(impl Abort + AllocGlobal), bytes: &[u8], rows: &Rows) {
     expect_rows(rt, &table.leak(), rows);
 }
 
+// A layer of version 1 with the value `y`, whose version stands last, and layer `a` with the value 7.
+const OLD_AND_NEW: [u8; 23] = [
+    0x1A, 0x0A, 0x0A, 0x01, 0x78, 0x22, 0x03, 0x0A, 0x01, 0x79, 0x78, 0x01, 0x1A, 0x09, 0x78, 0x02,
+    0x0A, 0x01, 0x61, 0x22, 0x02, 0x28, 0x07,
+];
+
+// The value of a layer of another version has a row too, which no layer names.
+#[test]
+fn reads_rows_behind_a_layer_of_another_version(rt: HostRuntime) {
+    let table = read_rows(rt.alloc(), &OLD_AND_NEW).expect(&rt, "rows");
+    let rows = table.leak();
+    expect_eq!(rt; rows.values.len(), 2);
+    let spans = rows.layers.iter().map(|layer| (layer.bytes, layer.values));
+    let spans = spans.collect::<Vec<_>>(rt.alloc()).expect(&rt, "spans");
+    let old = (Span { start: 1, len: 10 }, NOWHERE);
+    expect_eq!(rt; spans.first(), Some(&old));
+    let new = (NOWHERE, Span { start: 1, len: 1 });
+    expect_eq!(rt; spans.last(), Some(&new));
+}
+
 #[test]
 fn reads_rows(rt: HostRuntime) {
     expect_read(&rt, &READ_BYTES, &READ);

@@ -22,7 +22,7 @@ returns-in-Ok-Layer-clause-names c =
     let (item, is, valid, visited) = c.in-Ok-Layer.ensures.item [] tt tt in
     let reported = rw c.in-Ok-Layer.field-0-is at visited in
     let (layer, has, names) =
-    layer_visited HasItems HasFeatures c.visit_layer.new.visitor (Layer c.in-Ok-Layer.name c.in-Ok-Layer.field-0-1)
+    layer_visited HasItems HasFeatures c.visit_version_2.new.visitor (Layer c.in-Ok-Layer.name c.in-Ok-Layer.field-0-1)
     (λ i. names_in i ≡ payload_names payload) (λ number content none. none) item reported (names_same payload item is) in
     ap (λ name. name ∷ []) has.0 ∙ names
 
@@ -32,6 +32,6 @@ returns-in-Ok-Foreign-clause-names c =
     let (item, is, valid, visited) = c.in-Ok-Foreign.ensures.item [] tt tt in
     let reported = rw c.in-Ok-Foreign.field-0-is at visited in
     let (number, content, has, names) =
-    foreign_visited HasItems HasFeatures c.visit_layer.new.visitor (Foreign c.in-Ok-Foreign.field-0-0)
+    foreign_visited HasItems HasFeatures c.visit_version_2.new.visitor (Foreign c.in-Ok-Foreign.field-0-0)
     (λ i. names_in i ≡ payload_names payload) (λ layer none. none) item reported (names_same payload item is) in
     names

@@ -16,8 +16,8 @@ HasItems items noted = AreNotedSoFar (length items) noted []
 abbrev HasFeatures : List Item → List (List ℕ) → List Value → LayerNotes → List Feature → Type 0
 HasFeatures items keys values noted features = AreNotedSoFar (length items) noted features
 
-pub visit_layer-requires-clause-start : goal.visit_layer-requires-clause-start
-visit_layer-requires-clause-start c =
+pub visit_version_2-requires-clause-start : goal.visit_version_2-requires-clause-start
+visit_version_2-requires-clause-start c =
     let (input, items, found, count) = c.requires.found in
     (items, subst (λ n. AreNotedSoFar n c.new-noted.result []) (sym count) c.new-noted.ensures)
 
@@ -27,14 +27,14 @@ returns-in-Ok-Layer-clause-found c = λ input items found count.
     let (item, is, valid, visited) = c.in-Ok-Layer.ensures.item items start start in
     let reported = rw c.in-Ok-Layer.field-0-is at visited in
     let (layer, has, both) =
-    layer_told (HasItems items) (HasFeatures items) c.visit_layer.new.visitor c.in-Ok-Layer.name c.in-Ok-Layer.field-0-1
+    layer_told (HasItems items) (HasFeatures items) c.visit_version_2.new.visitor c.in-Ok-Layer.name c.in-Ok-Layer.field-0-1
     (λ i. IsItem c.args.payload.now i × ValidItem i) item reported (is, valid) in
-    let noted = subst (λ n. AreNotedSoFar n c.visit_layer.new.visitor layer.features) count has.2.2 in (
+    let noted = subst (λ n. AreNotedSoFar n c.visit_version_2.new.visitor layer.features) count has.2.2 in (
       Layer layer,
       both.0,
       both.1,
       ap (λ n. n ∷ []) has.0,
-      layer_other 67108864 input c.args.self.now c.add_notes.new.self items layer c.visit_layer.new.visitor.count c.args.index found count
+      layer_other 67108864 input c.args.self.now c.add_notes.new.self items layer c.visit_version_2.new.visitor.count c.args.index found count
           c.requires.other both.1 noted.0.count_is (omega (arith, c.in_ok-add_notes-in-Ok-Layer.ensures.few)) c.in_ok-add_notes-in-Ok-Layer.ensures.count
           c.in_ok-add_notes-in-Ok-Layer.ensures.behind (c.in_ok-add_notes-in-Ok-Layer.ensures.notes layer.features noted),
     )
@@ -45,7 +45,7 @@ returns-in-Ok-Foreign-clause-found c = λ input items found count.
     let (item, is, valid, visited) = c.in-Ok-Foreign.ensures.item items start start in
     let reported = rw c.in-Ok-Foreign.field-0-is at visited in
     let same =
-    foreign_told (HasItems items) (HasFeatures items) c.visit_layer.new.visitor c.in-Ok-Foreign.version c.args.payload.now item reported is in (
+    foreign_told (HasItems items) (HasFeatures items) c.visit_version_2.new.visitor c.in-Ok-Foreign.version c.args.payload.now item reported is in (
       Foreign c.in-Ok-Foreign.version c.args.payload.now,
       subst (IsItem c.args.payload.now) same is,
       subst ValidItem same valid,
