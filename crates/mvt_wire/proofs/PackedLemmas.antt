@@ -251,6 +251,26 @@ nil_from_test rest r is true_is = nil_from_length rest (eqb-true _ _ (sym is ∙
 pub some_from_test : (rest : List ℕ) (r : Bool) → r ≡ eqb (length rest) 0 → r ≡ false → rest ≢ []
 some_from_test rest r is false_is none = eqb-false (length rest) 0 (sym is ∙ false_is) (ap length none)
 
+-- ---- the number in front
+
+pub packed_more : (b ns : List ℕ) (n k : ℕ) → number_at b ≡ Ok (n, k) → IsSmall n
+    → ArePacked (take (length b - k) (drop k b)) ns → ArePacked b (n ∷ ns)
+packed_more b ns n k e small are =
+    (take k b, drop k b, sym (take-append-drop k b), (number_seen b n k e).2, small, subst (λ r. ArePacked r ns) (take_rest b k) are)
+
+pub packed_large : (b ns : List ℕ) (m k : ℕ) → number_at b ≡ Ok (m, k) → 2 ^ 32 ≤ m → ArePacked b ns → ns ≡ []
+packed_large b [] m k e large are = refl
+packed_large b (n ∷ ns) m k e large are =
+    let here = sym e ∙ ap number_at are.2 ∙ number_spelled are.0 are.1 n are.3 in
+    let found : (m, k) ≡ (n, length are.0) = cc in
+    let number : m ≡ n = ap (λ (p : ℕ × ℕ). p.0) found in
+    let small : n < 2 ^ 32 = are.4 in
+    absurd (omega (arith, large, number, small))
+
+pub packed_none : (b ns : List ℕ) (c : WireCause) → number_at b ≡ Err c → ArePacked b ns → ns ≡ []
+packed_none b [] c e are = refl
+packed_none b (n ∷ ns) c e are = let here = sym e ∙ ap number_at are.2 ∙ number_spelled are.0 are.1 n are.3 in cc
+
 -- ---- lengths
 
 pub short_most_small : (n : ℕ) → IsSmall n → length (short n) ≤ 5

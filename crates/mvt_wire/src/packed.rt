@@ -1,5 +1,5 @@
 //! Packed numbers (Protocol Buffers, Encoding, "Packed Repeated Fields").
-ghost use Rattle.std.specs.Prelude.{◌≡◌, ◌+◌, ◌^◌, ◌<◌, ◌≤◌, ◌++◌, None, length, IfOk, IfErr, IsOk, OnOk, OnErr, vec_len, vec_capacity};
+ghost use Rattle.std.specs.Prelude.{◌≡◌, ℕ, ◌+◌, ◌^◌, ◌<◌, ◌≤◌, List, [], ◌∷◌, ◌++◌, None, length, IfOk, IfErr, IfSome, IfNone, IsOk, OnOk, OnErr, vec_len, vec_capacity};
 ghost use Rattle.mvt_base.specs.Reports.{Reports};
 ghost use Rattle.mvt_base.specs.Rules.{first};
 ghost use Rattle.mvt_wire.specs.Field.{bytes};
@@ -108,6 +108,26 @@ fn append_numbers(bytes: &[u8], out: &mut Vec<u32>) -> Result<(), PackedError>
         }
     }
     Ok(())
+}
+
+/// The first of the numbers of a packed field, and the bytes behind it. `None` where no number below
+/// 2^32 is spelled in front.
+#[inline(always)]
+pub fn packed_front(bytes: &[u8]) -> Option<(u32, &[u8])>
+    ensures number { IfSome result (λ found. (ns : List ℕ) → ArePacked found.1.now ns
+        → ArePacked bytes.now (found.0 ∷ ns)) }
+    ensures shorter { IfSome result (λ found. length found.1.now < length bytes.now) }
+    ensures none { IfNone result ((ns : List ℕ) → ArePacked bytes.now ns → ns ≡ []) }
+{
+    match varint_at(bytes) {
+        Ok((number, size)) => {
+            if number >= 1 << 32 {
+                return None;
+            }
+            Some((number as u32, &bytes[size..]))
+        }
+        Err(_) => None,
+    }
 }
 
 /// Why a number can't be read, as an error of packed numbers.
