@@ -23,3 +23,5 @@ mod OrderedLemmas
 mod LawLemmas
 mod CountLemmas
 mod BoundLemmas
+mod TellingLemmas
+mod ToldLemmas

@@ -9,7 +9,7 @@ use Rattle.mvt_base.proofs.RuleLemmas.{option_or-nones, each_first}
 use Rattle.mvt_wire.proofs.WireLaws.{zigzag_function_number, zigzag_function_code}
 use Rattle.mvt_wire.specs.Zigzag.{zig, unzig}
 use Rattle.mvt_geometry.specs.declared.shape.Point.{Point}
-use Rattle.mvt_geometry.specs.Shape.{InRange, IsPlace, AreSteps, Apart, last_of}
+use Rattle.mvt_geometry.specs.Shape.{InRange, IsPlace, IsStep, AreSteps, Apart, last_of}
 use Rattle.mvt_geometry.specs.Drawing.{path_from}
 use Rattle.mvt_geometry.specs.Commands.{Pair, pairs_of, stepped, moved, positions}
 use Rattle.mvt_geometry.specs.Table.{step_rules, pair_rules}
@@ -158,6 +158,15 @@ moves_away line c d goes is same =
 abbrev pub SmallPair : Pair → Type 0
 SmallPair d = (d.dx < 2 ^ 32) × (d.dy < 2 ^ 32)
 
+-- a pair that breaks no rule leads to a place, by a step, and as a line away
+pub calm_step : (line : Bool) (at : ℕ) (c : Point) (d : Pair) → SmallPair d → first (step_rules line at d (stepped c d)) ≡ None
+    → IsPlace (stepped c d) × IsStep c (stepped c d) × (line ≡ true → c ≢ stepped c d)
+calm_step line at c d small none =
+    let step = step_gives line at d (stepped c d) none in
+    let in_x : InRange ((c.x +ℤ unzig d.dx) -ℤ c.x) = rw (forth c.x (unzig d.dx)) (moves_by d.dx small.0 step.0) in
+    let in_y : InRange ((c.y +ℤ unzig d.dy) -ℤ c.y) = rw (forth c.y (unzig d.dy)) (moves_by d.dy small.1 step.1) in
+    (step.3, (in_x, in_y), moves_away line c d step.2)
+
 -- pairs that break no rule lead over places, by steps, and as lines away from each point
 pub calm_path : (line : Bool) (at : ℕ) (from : Point) (front : List Pair) (c : Point) (ds : List Pair) → moved from front ≡ c
     → AllByRecursion SmallPair ds → first (each (pair_rules line at from) front ds) ≡ None
@@ -166,8 +175,6 @@ calm_path line at from front c [] e small none = (tt, tt, λ is. tt)
 calm_path line at from front c (d ∷ ds) e small none =
     let parts = option_or-nones _ _ (sym (each_first (pair_rules line at from) front d ds) ∙ none) in
     let rule = pair_rule line at from front d ∙ ap (step_rules line (at + 2 * length front) d) (ap (λ q. stepped q d) e) in
-    let step = step_gives line (at + 2 * length front) d (stepped c d) (sym (ap first rule) ∙ parts.0) in
+    let step = calm_step line (at + 2 * length front) c d small.0 (sym (ap first rule) ∙ parts.0) in
     let more = calm_path line at from (front ++ d ∷ []) (stepped c d) ds (moved-push from front c d e) small.1 parts.1 in
-    let in_x : InRange ((c.x +ℤ unzig d.dx) -ℤ c.x) = rw (forth c.x (unzig d.dx)) (moves_by d.dx small.0.0 step.0) in
-    let in_y : InRange ((c.y +ℤ unzig d.dy) -ℤ c.y) = rw (forth c.y (unzig d.dy)) (moves_by d.dy small.0.1 step.1) in
-    ((step.3, more.0), ((in_x, in_y), more.1), λ is. (moves_away line c d step.2 is, more.2 is))
+    ((step.0, more.0), (step.1, more.1), λ is. (step.2 is, more.2 is))

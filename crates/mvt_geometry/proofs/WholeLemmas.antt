@@ -112,31 +112,31 @@ lines_there g small none =
       },
     )
 
+-- rings are polygons where they can be
+pub rings_valid : (rings : List (List Point)) → AllByRecursion (IsStroke 3) rings → AreSteps origin (joined rings) → 0 < length rings
+    → HasFineFirst rings → (polygons : List Polygon) × (rings ≡ rings_of polygons) × IsValid (Polygons polygons)
+rings_valid [] are small some fine = absurd (omega (arith, some))
+rings_valid (ring ∷ rings) are small some fine =
+    let grouped = rings_grouped ring rings fine in
+    let whole = grouped.0 in
+    let polygons = polygons_of (ring ∷ rings) in (
+      polygons,
+      whole,
+      (
+        subst (λ rs. Grouped rs polygons) whole grouped,
+        subst (AllByRecursion (IsStroke 3)) whole are,
+        subst (λ rs. AreSteps origin (joined rs)) whole small,
+      ),
+    )
+
 polygons_there : (g : List ℕ) → AreSmall g → geometry_fault kinds.Polygon g ≡ None → (geometry : Geometry) × Draws kinds.Polygon g geometry
 polygons_there g small none =
     let found = rings_found g none small (length g) 0 0 origin (omega arith) (first_command kinds.Polygon g) refl in
-    by_rings found.rings found.are found.small_steps found.spelled (found.some (not_empty kinds.Polygon g (λ same. cc) none))
-    (found.fine refl refl)
-  where
-    by_rings : (rings : List (List Point)) → AllByRecursion (IsStroke 3) rings → AreSteps origin (joined rings)
-        → g ≡ strokes (15 ∷ []) origin rings → 0 < length rings → HasFineFirst rings
-        → (geometry : Geometry) × Draws kinds.Polygon g geometry
-    by_rings [] are small spelled some fine = absurd (omega (arith, some))
-    by_rings (ring ∷ rings) are small spelled some fine =
-        let grouped = rings_grouped ring rings fine in
-        let whole = grouped.0 in
-        let polygons = polygons_of (ring ∷ rings) in (
-          Polygons polygons,
-          record {
-            same_kind = refl;
-            valid = (
-              subst (λ rs. Grouped rs polygons) whole grouped,
-              subst (AllByRecursion (IsStroke 3)) whole are,
-              subst (λ rs. AreSteps origin (joined rs)) whole small,
-            );
-            spelled = spelled ∙ ap (strokes (15 ∷ []) origin) whole;
-          },
-        )
+    let made =
+    rings_valid found.rings found.are found.small_steps (found.some (not_empty kinds.Polygon g (λ same. cc) none)) (found.fine refl refl) in (
+      Polygons made.0,
+      record { same_kind = refl; valid = made.2; spelled = found.spelled ∙ ap (strokes (15 ∷ []) origin) made.1 },
+    )
 
 pub faultless_drawn : (kind : Kind) (g : List ℕ) → AreSmall g → geometry_fault kind g ≡ None → (geometry : Geometry) × Draws kind g geometry
 faultless_drawn kinds.Unknown g small none = (Unknown g, record { same_kind = refl; valid = small; spelled = refl })

@@ -5,3 +5,4 @@ pub mod Grouping
 pub mod Building
 pub mod Writing
 pub mod Validity
+pub mod Telling

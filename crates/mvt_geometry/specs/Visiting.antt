@@ -5,6 +5,9 @@ use Rattle.mvt_geometry.specs.declared.shape.Point.{Point}
 use Rattle.mvt_geometry.specs.declared.shape.Polygon.{Polygon}
 use Rattle.mvt_geometry.specs.declared.shape.Geometry.{Geometry}
 use Rattle.mvt_geometry.specs.declared.shape.Geometry.TheVariants.{Unknown, Points, Lines, Polygons}
+use Rattle.mvt_geometry.specs.declared.shape.Kind.{Kind}
+use Rattle.mvt_geometry.specs.Drawing.{Draws}
+use Rattle.mvt_wire.specs.Packed.{ArePacked}
 
 -- a line, a ring, or all points of a feature of points; an exterior ring begins a polygon
 pub record Part : Type 0 where
@@ -32,3 +35,8 @@ HasDrawn HasParts HasIntegers start now (Unknown integers) = HasIntegers start i
 HasDrawn HasParts HasIntegers start now (Points points) = HasParts start (parts_of (Points points)) [] now
 HasDrawn HasParts HasIntegers start now (Lines lines) = HasParts start (parts_of (Lines lines)) [] now
 HasDrawn HasParts HasIntegers start now (Polygons polygons) = HasParts start (parts_of (Polygons polygons)) [] now
+
+-- and the integers that draw it are those of these packed bytes
+abbrev pub HasDrawnPacked : {V : Type 0} → (V → List Part → List Point → V → Type 0) → (V → List ℕ → V → Type 0) → V → V → Kind → List ℕ → Type 0
+HasDrawnPacked HasParts HasIntegers start now kind bytes =
+    (ints : List ℕ) × ArePacked bytes ints × (g : Geometry) × Draws kind ints g × HasDrawn HasParts HasIntegers start now g

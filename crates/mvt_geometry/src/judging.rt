@@ -298,7 +298,7 @@ fn judge_edges(begin: usize, from: Point, parameters: &[u32]) -> Result<(Point, 
 
 /// The first rule that a pair breaks, whose dX is numbered `at`.
 #[inline(always)]
-fn step_fault(is_line: bool, at: usize, from: Point, dx: u32, dy: u32) -> Option<Fault>
+pub(crate) fn step_fault(is_line: bool, at: usize, from: Point, dx: u32, dy: u32) -> Option<Fault>
     requires { at + 1 < 2 ^ 64 }
     ensures none { let d : Pair = record { dx = dx; dy = dy } in
         IfNone result ((first (step_rules is_line at d (stepped from d)) ≡ None)

@@ -141,7 +141,7 @@ fn draw_polygons<V: GeometryVisitor>(visitor: &mut V, integers: &[u32]) -> Resul
 
 /// Whether a ring of this area, doubled, begins a polygon (4.3.4.4).
 #[inline(always)]
-fn begins_polygon(is_first: bool, area: i128) -> bool
+pub(crate) fn begins_polygon(is_first: bool, area: i128) -> bool
     ensures { result ≡ (is_first || lt_z (pos 0) area) }
 {
     is_first || area > 0

@@ -268,10 +268,20 @@ fn reports_faults(rt: HostRuntime) {
 
 // The points that were told, how many each part had and whether it was exterior, and integers.
 #[derive(Drop)]
-struct Told {
-    points: Vec<(i32, i32)>,
-    ends: Vec<(usize, bool)>,
+pub(crate) struct Told {
+    pub(crate) points: Vec<(i32, i32)>,
+    pub(crate) ends: Vec<(usize, bool)>,
     integers: Vec<u32>,
+}
+
+impl Told {
+    pub(crate) fn new(alloc: Global) -> Self {
+        Told {
+            points: Vec::new(alloc),
+            ends: Vec::new(alloc),
+            integers: Vec::new(alloc),
+        }
+    }
 }
 
 impl GeometryVisitor for Told {
@@ -305,11 +315,7 @@ fn expect_told(
     points: &[(i32, i32)],
     ends: &[(usize, bool)],
 ) {
-    let mut told = Told {
-        points: Vec::new(rt.alloc()),
-        ends: Vec::new(rt.alloc()),
-        integers: Vec::new(rt.alloc()),
-    };
+    let mut told = Told::new(rt.alloc());
     draw_geometry(&mut told, kind, integers).expect(rt, "a geometry");
     expect!(rt; told.points.as_slice() == points);
     expect!(rt; told.ends.as_slice() == ends);

@@ -11,6 +11,8 @@ mod geometry;
 #[cfg(test)]
 mod io;
 #[cfg(test)]
+mod packed;
+#[cfg(test)]
 mod pools;
 #[cfg(test)]
 mod uses;

@@ -1,0 +1,39 @@
+use Rattle.std.proofs.Common.{rules, arith, ◌≡◌, ◌<◌, [], length, refl, sym}
+use Rattle.mvt_geometry.specs.declared.shape.Geometry.TheVariants.{Points}
+use Rattle.mvt_geometry.specs.Drawing.{drawn}
+use Rattle.mvt_geometry.proofs.ToldLemmas.{points_told}
+use Rattle.mvt_geometry.proofs.packed.tell_points.Goals as goal
+
+pub returns-in_default-clause-told : goal.returns-in_default-clause-told
+returns-in_default-clause-told g c = ([], [], g.met.V.GeometryVisitor.begins c.args.visitor.now)
+
+pub returns-then-count-eq0-clause-told : goal.returns-then-count-eq0-clause-told
+returns-then-count-eq0-clause-told g c = ([], [], g.met.V.GeometryVisitor.begins c.args.visitor.now)
+
+pub returns-in_default-2-clause-told : goal.returns-in_default-2-clause-told
+returns-in_default-2-clause-told g c =
+    let start = c.args.visitor.now in
+    let path = c.in_ok-path.ensures.told in
+    ([], path.0, path.1.told start [] [] (g.met.V.GeometryVisitor.begins start))
+
+pub returns-then-not-is_empty-clause-told : goal.returns-then-not-is_empty-clause-told
+returns-then-not-is_empty-clause-told g c =
+    let start = c.args.visitor.now in
+    let path = c.in_ok-path.ensures.told in
+    ([], path.0, path.1.told start [] [] (g.met.V.GeometryVisitor.begins start))
+
+pub returns-clause-drawn : goal.returns-clause-drawn
+returns-clause-drawn g c = λ yes.
+    let start = c.args.visitor.now in
+    let path = rw c.in-Some-2.is at c.in_ok-path.ensures.path in
+    let points = path.0 in
+    let some : 0 < c.in-Some.count = omega (arith, c.if-count-eq0.false) in
+    let none : length c.in-Some-2.path.behind.now ≡ 0 = search rules in
+    let told = points_told some c.in-Some.ensures.few c.in-Some.ensures.spelled path.1 none in
+    let begun = path.2.told start [] [] (g.met.V.GeometryVisitor.begins start) in (
+      drawn (Points points),
+      told.0,
+      Points points,
+      record { same_kind = refl; valid = told.1; spelled = refl },
+      c.in_ok-end_part.ensures start [] points begun (sym path.1.long),
+    )

@@ -1,0 +1,61 @@
+-- What a walk over packed bytes has told a visitor.
+use Rattle.std.specs.Prelude.{◌≡◌, ℕ, ℤ, ◌+◌, ◌*◌, ◌^◌, ◌<◌, ◌≤◌, Bool, false, List, [], ◌∷◌, ◌++◌, length}
+use Rattle.std.specs.Int.RustNames.{unsigned_abs}
+use Rattle.mvt_wire.specs.Packed.{ArePacked}
+use Rattle.mvt_geometry.specs.declared.shape.Point.{Point}
+use Rattle.mvt_geometry.specs.Area.{area2}
+use Rattle.mvt_geometry.specs.Drawing.{path_from, stroke, strokes}
+use Rattle.mvt_geometry.specs.Parts.{AreStrokes, IsStrokeFrom, end_of}
+use Rattle.mvt_geometry.specs.Shape.{origin, last_of}
+use Rattle.mvt_geometry.specs.Visiting.{Part}
+use Rattle.mvt_geometry.specs.Inner.Judging.{edges}
+use Rattle.mvt_geometry.specs.Inner.Validity.{IsStepTo, IsPath}
+
+-- these integers are spelled in front, and then the bytes behind
+pub record SpellsFront (bytes ints behind : List ℕ) : Type 0 where
+  pub joins : (more : List ℕ) → ArePacked behind more → ArePacked bytes (ints ++ more)
+
+-- a visitor was told these points more of the part that was begun
+pub record WasTold {V : Type 0} (HasParts : V → List Part → List Point → V → Type 0) (old : V) (points : List Point) (new : V) : Type 0 where
+  pub told : (start : V) (parts : List Part) (begun : List Point) → HasParts start parts begun old → HasParts start parts (begun ++ points) new
+
+-- a pair in front leads to a point
+pub record IsPair (is_line : Bool) (from to : Point) (bytes behind : List ℕ) : Type 0 where
+  pub step : IsStepTo is_line from to
+  pub spelled : SpellsFront bytes (path_from from (to ∷ [])) behind
+
+-- the pairs in front lead over these points
+pub record ArePairs (is_line : Bool) (from : Point) (bytes behind : List ℕ) (count : ℕ) (end : Point) (area : ℤ) (points : List Point) : Type 0 where
+  pub is : IsPath is_line from points
+  pub spelled : SpellsFront bytes (path_from from points) behind
+  pub long : length points ≡ count
+  pub end_is : end ≡ last_of from points
+  pub area_is : area ≡ edges from points
+  pub small : unsigned_abs area ≤ count * 2 ^ 63
+
+-- a MoveTo in front leads to a point, and a LineTo has so many pairs
+pub record IsHead (least : ℕ) (from head : Point) (count : ℕ) (bytes behind : List ℕ) : Type 0 where
+  pub step : IsStepTo false from head
+  pub enough : least ≤ count + 1
+  pub few : count < 2 ^ 29
+  pub spelled : SpellsFront bytes (9 ∷ (path_from from (head ∷ []) ++ (2 + 8 * count) ∷ [])) behind
+
+-- a line or ring in front
+pub record IsLine (least : ℕ) (close : List ℕ) (from : Point) (bytes behind : List ℕ) (count : ℕ) (end : Point) (area : ℤ) (line : List Point) : Type 0 where
+  pub is : IsStrokeFrom least from line
+  pub spelled : SpellsFront bytes (stroke close from line) behind
+  pub long : count ≡ length line
+  pub end_is : end ≡ last_of from line
+  pub area_is : area ≡ area2 line
+
+-- the lines or rings in front of the rest, at least one of them if none is left
+pub record AreInFront (least : ℕ) (close bytes rest : List ℕ) (cursor : Point) (lines : List (List Point)) : Type 0 where
+  pub are : AreStrokes least lines
+  pub spelled : SpellsFront bytes (strokes close origin lines) rest
+  pub cursor_is : cursor ≡ end_of lines
+  pub some : 0 < length rest + length lines
+
+-- the next ring is the first one
+abbrev pub is_still_first : Bool → List (List Point) → Bool
+is_still_first is_first [] = is_first
+is_still_first is_first (ring ∷ rings) = false

@@ -1,0 +1,80 @@
+//! Geometries told from packed bytes, beside the same told from a list of their integers.
+use crate::expect::{expect, expect_eq};
+use crate::geometry::Told;
+use mvt_geometry::{Kind, draw_geometry, draw_packed};
+use mvt_wire::{PackedNumbers, read_packed};
+use std::process::Abort;
+
+const KINDS: [Kind; 3] = [Kind::Point, Kind::LineString, Kind::Polygon];
+
+/// Two points, a line of long steps, two lines, a polygon with a hole and one without an area.
+const DRAWINGS: [&[u32]; 5] = [
+    &[17, 10, 14, 3, 9],
+    &[9, 200, 70_000, 18, 3_000_000, 4_294_967_294, 1, 0],
+    &[9, 4, 4, 18, 0, 16, 16, 0, 9, 17, 17, 10, 4, 8],
+    &[
+        9, 0, 0, 26, 20, 0, 0, 20, 19, 0, 15, 9, 4, 15, 26, 0, 4, 4, 0, 0, 3, 15,
+    ],
+    &[9, 130, 2, 18, 2, 2, 2, 2, 15],
+];
+
+/// Bytes draw a geometry where their numbers, read into a list, do, and the same is told of both.
+fn expect_same(rt: &(impl Abort + AllocGlobal), kind: Kind, bytes: &[u8]) {
+    let mut told = Told::new(rt.alloc());
+    let is_drawn = draw_packed(&mut told, kind, bytes).expect(rt, "memory");
+    let mut listed = Told::new(rt.alloc());
+    let is_listed = match read_packed(rt.alloc(), bytes) {
+        Ok(integers) => draw_geometry(&mut listed, kind, &integers).is_ok(),
+        Err(_) => false,
+    };
+    expect_eq!(*rt; is_drawn, is_listed);
+    if is_drawn {
+        expect!(*rt; told.points.as_slice() == listed.points.as_slice());
+        expect!(*rt; told.ends.as_slice() == listed.ends.as_slice());
+    }
+    drop(told);
+    drop(listed);
+}
+
+/// The same of each front of the bytes, and of the bytes with each byte made another.
+fn expect_same_around(rt: &(impl Abort + AllocGlobal), kind: Kind, bytes: &[u8]) {
+    for len in 0..bytes.len() {
+        expect_same(rt, kind, &bytes[..len]);
+    }
+    let mut changed = Vec::from_slice(rt.alloc(), bytes).expect(rt, "bytes");
+    for (index, byte) in bytes.iter().enumerate() {
+        for other in 0..=u8::MAX {
+            if let Some(place) = changed.get_mut(index) {
+                *place = other;
+            }
+            expect_same(rt, kind, &changed);
+        }
+        if let Some(place) = changed.get_mut(index) {
+            *place = *byte;
+        }
+    }
+    drop(changed);
+}
+
+#[test]
+fn packed_bytes_are_told_as_their_integers(rt: HostRuntime) {
+    for drawing in DRAWINGS {
+        let mut numbers = PackedNumbers::new(rt.alloc());
+        for integer in drawing {
+            numbers.push(*integer).expect(&rt, "a number");
+        }
+        for kind in KINDS {
+            expect_same(&rt, kind, numbers.as_bytes());
+            expect_same_around(&rt, kind, numbers.as_bytes());
+        }
+        drop(numbers);
+    }
+}
+
+#[test]
+fn packed_bytes_of_unknown_type_are_not_told(rt: HostRuntime) {
+    let mut told = Told::new(rt.alloc());
+    expect_eq!(rt; draw_packed(&mut told, Kind::Unknown, &[9, 2, 2]), Ok(false));
+    expect!(rt; told.points.is_empty());
+    drop(told);
+}
