@@ -184,7 +184,7 @@ list_numbers (bytes d) h =
 list_numbers (fixed64 n) h = cc
 list_numbers (fixed32 n) h = cc
 
-numbers_list : (c : Content) (ns : List ℕ) → AreNumbers c ns → (first (list_rules c) ≡ None) × (ns ≡ numbers_of c)
+pub numbers_list : (c : Content) (ns : List ℕ) → AreNumbers c ns → (first (list_rules c) ≡ None) × (ns ≡ numbers_of c)
 numbers_list (varint n) ns h = (
   first-under 1 (under 0 (when (not (nat_lt n (2 ^ 32))) NumberRange))
       ∙ first-under 0 (when (not (nat_lt n (2 ^ 32))) NumberRange)

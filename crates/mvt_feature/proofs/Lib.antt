@@ -6,6 +6,7 @@ mod ValueLemmas
 mod SaidLemmas
 mod FeatureFieldsLemmas
 mod FeatureLemmas
+mod UsualLemmas
 mod OrFaultLemmas
 mod WritingLemmas
 mod RewritingLemmas

@@ -31,7 +31,7 @@ const TAGS_TAG: u8 = 8 * feature::TAGS as u8 + 2;
 
 const TYPE_TAG: u8 = 8 * feature::TYPE as u8;
 
-const GEOMETRY_TAG: u8 = 8 * feature::GEOMETRY as u8 + 2;
+pub(crate) const GEOMETRY_TAG: u8 = 8 * feature::GEOMETRY as u8 + 2;
 
 /// What the fields of a feature say besides its tags and integers.
 #[derive(Clone, Copy, Debug)]
@@ -56,17 +56,9 @@ pub(crate) fn read_fields(
         (first (rest_rules payload_at (split payload.now)))
         (first (each (λ _. feature_field_rules payload_at) [] (split payload.now).fields)))) }
 {
-    scratch.tags.clear();
-    scratch.integers.clear();
-    let mut known = FeatureFields {
-        id: None,
-        kind: Kind::Unknown,
-    };
     let mut fields = Fields::new(payload);
-    known = known.with_tagged(&mut fields, ID_TAG, payload, payload_at, scratch)?;
-    known = known.with_tagged(&mut fields, TAGS_TAG, payload, payload_at, scratch)?;
-    known = known.with_tagged(&mut fields, TYPE_TAG, payload, payload_at, scratch)?;
-    known = known.with_tagged(&mut fields, GEOMETRY_TAG, payload, payload_at, scratch)?;
+    let front = read_front(&mut fields, payload, payload_at, scratch)?;
+    let mut known = front.with_tagged(&mut fields, GEOMETRY_TAG, payload, payload_at, scratch)?;
     for field in fields {
         match field {
             Ok(field) => match known.with(&field, payload_at + field.at as u64, scratch) {
@@ -77,6 +69,37 @@ pub(crate) fn read_fields(
         }
     }
     Ok(known)
+}
+
+/// What the fields in front say, where they are the id, the tags and the type in this order. The
+/// lists of the scratch are begun anew.
+#[inline(always)]
+pub(crate) fn read_front(
+    fields: &mut Fields<'_>,
+    payload: &[u8],
+    payload_at: u64,
+    scratch: &mut Scratch,
+) -> Result<FeatureFields, MessageError>
+    requires fits { payload_at + length payload.now < 2 ^ 64 }
+    requires start { Walk payload.now fields.old.to_come [] }
+    ensures known { IfOk result (λ known. (done : List Entry)
+        × Walk payload.now fields.new.to_come done
+        × AreFeatureFieldsSoFar payload_at done (Ok known) scratch.new.tags.items
+        scratch.new.integers.items) }
+    ensures err { IfErr result (λ error. Reports (fault_of error) (option_or
+        (first (rest_rules payload_at (split payload.now)))
+        (first (each (λ _. feature_field_rules payload_at) [] (split payload.now).fields)))) }
+{
+    scratch.tags.clear();
+    scratch.integers.clear();
+    let nothing = FeatureFields {
+        id: None,
+        kind: Kind::Unknown,
+    };
+    nothing
+        .with_tagged(fields, ID_TAG, payload, payload_at, scratch)?
+        .with_tagged(fields, TAGS_TAG, payload, payload_at, scratch)?
+        .with_tagged(fields, TYPE_TAG, payload, payload_at, scratch)
 }
 
 impl FeatureFields {

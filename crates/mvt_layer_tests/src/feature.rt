@@ -15,12 +15,12 @@ fn value_of(alloc: Global, payload: &[u8]) -> Result<Value, MessageError> {
     read_value(alloc, payload, 16, 14)
 }
 
-fn key(rt: &(impl Abort + AllocGlobal)) -> Text {
+pub(crate) fn key(rt: &(impl Abort + AllocGlobal)) -> Text {
     Text::from_str(rt.alloc(), "k").expect(rt, "a key")
 }
 
 // What a feature's payload, which begins at 9, is refused for, with the key `k` and the value 5.
-fn refused_for(rt: &(impl Abort + AllocGlobal), payload: &[u8]) -> Option<(u64, u32)> {
+pub(crate) fn refused_for(rt: &(impl Abort + AllocGlobal), payload: &[u8]) -> Option<(u64, u32)> {
     let keys = [key(rt)];
     let error = read_feature(rt.alloc(), payload, 9, &keys, &[Value::Uint(5)]).err();
     drop(keys);
@@ -45,7 +45,7 @@ fn judged_for(rt: &(impl Abort + AllocGlobal), payload: &[u8]) -> Option<(u64, u
 }
 
 // No cause has the number 0.
-fn place_of(error: MessageError) -> (u64, u32) {
+pub(crate) fn place_of(error: MessageError) -> (u64, u32) {
     match error {
         MessageError::Memory => (0, 0),
         MessageError::Fault { at, cause, .. } => (at, cause.number()),

@@ -17,4 +17,6 @@ mod rewriting;
 #[cfg(test)]
 mod support;
 #[cfg(test)]
+mod usual;
+#[cfg(test)]
 mod writing;

@@ -12,7 +12,7 @@ use crate::visiting::{LayerVisitor, Visited, visit_version_2};
 use mvt_attrs::{LayerKeys, Value};
 use mvt_base::{Items, LIMIT, Text};
 use mvt_feature::{
-    Feature, MessageError, Scratch, judge_feature, judge_value, read_feature_in, read_value,
+    Feature, MessageError, Scratch, check_feature, judge_value, read_feature_in, read_value,
 };
 use std::alloc::{AllocError, Global};
 
@@ -175,6 +175,6 @@ impl LayerVisitor for Judged {
         values: usize,
         scratch: &mut Scratch,
     ) -> Result<(), MessageError> {
-        judge_feature(alloc, payload, payload_at, keys, values, scratch)
+        check_feature(alloc, payload, payload_at, keys, values, scratch)
     }
 }

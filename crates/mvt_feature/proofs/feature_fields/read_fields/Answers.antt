@@ -7,7 +7,7 @@ use Rattle.mvt_feature.proofs.feature_fields.read_fields.Goals as goal
 
 pub loop-field-init : goal.loop-field-init
 loop-field-init c =
-    let known = c.in_ok-known-4.ensures.known in
+    let known = c.in_ok-known.ensures.known in
     (known.0, rw c.into_iter-field-iterator.ensures.into_iter_gives known.1, known.2)
 
 pub loop-field-preserved : goal.loop-field-preserved

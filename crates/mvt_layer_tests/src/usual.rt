@@ -1,0 +1,68 @@
+//! Features that are judged straight from their bytes, beside the same read by their fields.
+use crate::expect::expect_eq;
+use crate::feature::{key, place_of, refused_for};
+use mvt_attrs::LayerKeys;
+use mvt_feature::{Scratch, check_feature};
+use std::process::Abort;
+
+/// A polygon with an id and tags, a line without, points of two packed pieces, a point whose type
+/// stands first, and integers of unknown type.
+const FEATURES: [&[u8]; 5] = [
+    &[
+        0x08, 0x81, 0x01, 0x12, 0x02, 0x00, 0x00, 0x18, 0x03, 0x22, 0x09, 0x09, 0x00, 0x00, 0x12,
+        0x14, 0x00, 0x00, 0x14, 0x0F,
+    ],
+    &[
+        0x18, 0x02, 0x22, 0x07, 0x09, 0x04, 0x04, 0x0A, 0x80, 0x01, 0x02,
+    ],
+    &[
+        0x18, 0x01, 0x22, 0x03, 0x11, 0x02, 0x02, 0x22, 0x02, 0x04, 0x04,
+    ],
+    &[
+        0x18, 0x01, 0x12, 0x02, 0x00, 0x00, 0x22, 0x03, 0x09, 0x02, 0x02,
+    ],
+    &[0x12, 0x02, 0x00, 0x00, 0x22, 0x02, 0x07, 0x07],
+];
+
+/// What a feature's payload, which begins at 9, is refused for where it is judged straight from its
+/// bytes, with the key `k` and one value.
+fn checked_for(rt: &(impl Abort + AllocGlobal), payload: &[u8]) -> Option<(u64, u32)> {
+    let texts = [key(rt)];
+    let mut keys = LayerKeys::new(rt.alloc(), &texts);
+    let mut scratch = Scratch::new(rt.alloc());
+    let checked = check_feature(rt.alloc(), payload, 9, &mut keys, 1, &mut scratch);
+    drop(scratch);
+    drop(keys);
+    drop(texts);
+    checked.err().map(place_of)
+}
+
+/// A payload is refused for the same where it is judged and where it is read; and so is each front
+/// of it, and it with each byte made another.
+fn expect_same_around(rt: &(impl Abort + AllocGlobal), payload: &[u8]) {
+    for len in 0..=payload.len() {
+        let front = &payload[..len];
+        expect_eq!(*rt; checked_for(rt, front), refused_for(rt, front));
+    }
+    let mut changed = Vec::from_slice(rt.alloc(), payload).expect(rt, "bytes");
+    for (index, byte) in payload.iter().enumerate() {
+        for other in 0..=u8::MAX {
+            if let Some(place) = changed.get_mut(index) {
+                *place = other;
+            }
+            expect_eq!(*rt; checked_for(rt, &changed), refused_for(rt, &changed));
+        }
+        if let Some(place) = changed.get_mut(index) {
+            *place = *byte;
+        }
+    }
+    drop(changed);
+}
+
+#[test]
+fn features_are_judged_as_they_are_read(rt: HostRuntime) {
+    for payload in FEATURES {
+        expect_eq!(rt; checked_for(&rt, payload), None);
+        expect_same_around(&rt, payload);
+    }
+}
