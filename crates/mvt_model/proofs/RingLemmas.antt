@@ -138,3 +138,16 @@ all_noted_of layer feature start now (Lines lines) begun drawn =
 all_noted_of layer feature start now (Polygons polygons) begun drawn =
     let noted = these_noted layer feature start now (flat_map ring_parts polygons) (rings_of polygons) (polygon_rings polygons) begun drawn in
     record { layer_is = noted.0; notes_are = noted.1 }
+
+-- whatever parts were told, the layer stays
+pub told_layer : (layer feature : ℕ) (start now : RingNotes) (parts : List Part) (points : List Point) → HasBegun layer feature start
+    → HasParts start parts points now → now.layer ≡ layer
+told_layer layer feature start now parts points begun have =
+    let own : HasBegun start.layer start.feature start = record {
+      layer_is = refl;
+      feature_is = refl;
+      count_is = begun.count_is;
+      notes_are = begun.notes_are;
+      path_is = begun.path_is;
+    } in
+    (have own).layer_is ∙ begun.layer_is

@@ -10,7 +10,7 @@ use crate::noting::note_id;
 use crate::ring_noting::RingNotes;
 use mvt_attrs::LayerKeys;
 use mvt_base::Text;
-use mvt_feature::{Scratch, draw_feature, judge_value};
+use mvt_feature::{Scratch, judge_value};
 use mvt_message::{FeatureFields, LayerVisitor, MessageError, RewriteVisitor};
 use std::alloc::{AllocError, Global};
 
@@ -93,7 +93,7 @@ impl LayerVisitor for LayerNotes {
         scratch: &mut Scratch,
     ) -> Result<(), MessageError> {
         let rings = &mut self.rings;
-        let known = draw_feature(alloc, rings, payload, payload_at, keys, values, scratch)?;
+        let known = rings.add_feature(alloc, payload, payload_at, keys, values, scratch)?;
         Ok(self.add(known.id)?)
     }
 }

@@ -1,13 +1,20 @@
 //! The notes of the rings of a feature, as they are drawn.
-ghost use Rattle.std.specs.Prelude.{◌≡◌, ◌^◌, ◌<◌, ◌∷◌, ◌++◌, ◌||◌, ℕ, List, [], length, nat_lt, OnOk};
+ghost use Rattle.std.specs.Prelude.{◌≡◌, ◌+◌, ◌^◌, ◌<◌, ◌∷◌, ◌++◌, ◌||◌, ℕ, List, [], length, nat_lt, None, IfOk, IfErr, OnOk};
+ghost use Rattle.mvt_base.specs.Reports.{Reports};
+ghost use Rattle.mvt_attrs.specs.declared.value.Value.{Value};
 ghost use Rattle.mvt_geometry.specs.declared.shape.Geometry.{Geometry as AGeometry};
 ghost use Rattle.mvt_geometry.specs.declared.shape.Point.{Point as APoint};
 ghost use Rattle.mvt_geometry.specs.Drawing.{Draws};
+ghost use Rattle.mvt_feature.specs.Drawn.{IsDrawnOf, tags_of};
+ghost use Rattle.mvt_feature.specs.Faults.{fault_of};
+ghost use Rattle.mvt_feature.specs.FeatureRules.{feature_fault};
 ghost use Rattle.mvt_model.specs.Rings.{HasBegun, HasNotedAll, HaveNoted};
 
 use crate::note::Note;
 use crate::noting::note_known_ring;
 use crate::path::Path;
+use mvt_attrs::LayerKeys;
+use mvt_feature::{FeatureFields, MessageError, Scratch, draw_feature, draw_usual_feature};
 use mvt_geometry::{GeometryVisitor, Kind, Point, draw_geometry};
 use std::alloc::{AllocError, Global};
 
@@ -59,6 +66,42 @@ impl RingNotes {
             Ok(()) => Ok(()),
             // The integers were judged, so memory ran out.
             Err(_) => Err(AllocError),
+        }
+    }
+
+    /// Notes the rings of the next feature, and answers what else its fields say.
+    ///
+    /// # Errors
+    ///
+    /// As [`draw_feature`].
+    pub(crate) fn add_feature(
+        &mut self,
+        alloc: Global,
+        payload: &[u8],
+        payload_at: u64,
+        keys: &mut LayerKeys<'_>,
+        values: usize,
+        scratch: &mut Scratch,
+    ) -> Result<FeatureFields, MessageError>
+        requires { payload_at + length payload.now < 2 ^ 64 }
+        ensures feature { (layer feature : ℕ) → HasBegun layer feature self.old
+            → IfOk result (λ known. (held : List Value) → length held ≡ values
+            → IsDrawnOf payload.now keys.old held (tags_of scratch.new)
+            (λ g. HasNotedAll layer feature g self.new) known) }
+        ensures ok { OnOk result ((held : List Value) → length held ≡ values
+            → feature_fault payload.now payload_at keys.old held ≡ None) }
+        ensures err { IfErr result (λ error. (held : List Value) → length held ≡ values
+            → Reports (fault_of error) (feature_fault payload.now payload_at keys.old held)) }
+        ensures same { keys.new ≡ keys.old }
+    {
+        let feature = self.feature;
+        match draw_usual_feature(alloc, self, payload, payload_at, keys, values, scratch)? {
+            Some(known) => Ok(known),
+            None => {
+                self.begin(feature);
+                let known = draw_feature(alloc, self, payload, payload_at, keys, values, scratch)?;
+                Ok(known)
+            }
         }
     }
 
