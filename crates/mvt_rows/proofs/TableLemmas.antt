@@ -1,12 +1,12 @@
 -- The rows that texts, values and geometries are given are those texts, values and geometries.
-use Rattle.std.proofs.Common.{arith, ◌≡◌, ℕ, ◌-◌, ◌^◌, Bool, true, false, List, [], ◌∷◌, ◌++◌, length, map, Option, Some, None, if◌then◌else◌, refl, sym, ap, ap₂, ◌∙◌, append-nil, append_assoc, length-append}
+use Rattle.std.proofs.Common.{arith, ◌≡◌, ℕ, ◌-◌, ◌^◌, Bool, true, false, List, [], ◌∷◌, ◌++◌, length, take, map, Option, Some, None, if◌then◌else◌, refl, sym, ap, ap₂, ◌∙◌, append-nil, append_assoc, length-append}
 use Rattle.std.specs.Prelude.{IsUtf8, unwrap_or, is_some, ⊤}
 use Rattle.std.specs.Int.{w64, cast_unsigned}
 use Rattle.std.specs.List.{fold, flat_map, AllByRecursion}
 use Rattle.std.specs.Option.{option_map, option_and_then}
 use Rattle.std.proofs.lemmas.Bool.{lt-ltb}
 use Rattle.std.proofs.lemmas.Int.{to_z-of_z}
-use Rattle.std.proofs.lemmas.List.{length-map, map-append}
+use Rattle.std.proofs.lemmas.List.{length-map, map-append, take_at}
 use Rattle.std.proofs.lemmas.Str.{is_utf8-from_IsUtf8}
 use Rattle.mvt_base.specs.Related.{AreRelated}
 use Rattle.mvt_base.proofs.ListLemmas.{all_true}
@@ -239,6 +239,27 @@ told start now (Unknown integers) is = is
 told start now (Points points) is = is ∙ no_points (with_part start (plain points))
 told start now (Lines lines) is = is ∙ no_points (fold with_part start (map plain lines))
 told start now (Polygons polygons) is = is ∙ no_points (fold with_part start (flat_map ring_parts polygons))
+
+-- parts that were told and dropped again
+outside : (start : Table) (parts : List Part) (rows : List PartRow) (points : List PointRow)
+    → record (fold with_part start parts) { parts = rows; points = points } ≡ record start { parts = rows; points = points }
+outside start [] rows points = refl
+outside start (part ∷ parts) rows points = outside (with_part start part) parts rows points
+
+pub dropped : (start : Table) (parts : List Part) (begun : List Point) (t : Table) → t ≡ with_parts start parts begun
+    → record t { parts = take (length start.parts) t.parts; points = take (length start.points) t.points } ≡ start
+dropped start parts begun t is =
+    let base = fold with_part start parts in
+    let grown = grown_fold with_part part_grows start parts in
+    let rows : take (length start.parts) base.parts ≡ start.parts =
+    ap (take (length start.parts)) grown.parts.is ∙ take_at start.parts grown.parts.more (length start.parts) refl in
+    let points : take (length start.points) (base.points ++ map point_row begun) ≡ start.points =
+    ap (λ ps. take (length start.points) (ps ++ map point_row begun)) grown.points.is
+    ∙ ap (take (length start.points)) (append_assoc start.points grown.points.more (map point_row begun))
+    ∙ take_at start.points (grown.points.more ++ map point_row begun) (length start.points) refl in
+    ap (λ (u : Table). let v : Table = record u { parts = take (length start.parts) u.parts; points = take (length start.points) u.points } in v) is
+    ∙ ap₂ (λ p q. let v : Table = record base { parts = p; points = q } in v) rows points
+    ∙ outside start parts start.parts start.points
 
 pub point_told : (start : Table) (parts : List Part) (begun : List Point) (point : Point) (t : Table) → t ≡ with_parts start parts begun
     → record t { points = t.points ++ point_row point ∷ [] } ≡ with_parts start parts (begun ++ point ∷ [])

@@ -6,6 +6,7 @@ ghost use Rattle.mvt_feature.specs.Meanings.{meant};
 ghost use Rattle.mvt_rows.specs.Lent.{table_of};
 ghost use Rattle.mvt_rows.specs.Tables.{no_rows, with_key, with_value, with_number, table_size};
 
+mod drawing;
 mod layers;
 mod visiting;
 

@@ -12,7 +12,7 @@ use super::Table;
 use crate::places::Places;
 use mvt_attrs::LayerKeys;
 use mvt_base::Text;
-use mvt_feature::{Scratch, draw_feature, read_meaning};
+use mvt_feature::{Scratch, read_meaning};
 use mvt_message::{LayerVisitor, MessageError, Visited, visit_layer};
 use mvt_tile::{DecodeError, TileVisitor, VisitingDecoder, visit_named, visit_tile};
 use std::alloc::{AllocError, Global};
@@ -196,7 +196,7 @@ impl LayerVisitor for RowsVisitor {
     ) -> Result<(), MessageError> {
         let opened = self.table.places();
         let table = &mut self.table;
-        let known = draw_feature(alloc, table, payload, payload_at, keys, values, scratch)?;
+        let known = table.add_drawing(alloc, payload, payload_at, keys, values, scratch)?;
         self.table.add_feature_row(scratch.tags(), known, opened)?;
         Ok(self.keep_within()?)
     }
