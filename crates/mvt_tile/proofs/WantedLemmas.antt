@@ -96,7 +96,7 @@ layers_encoded limit items names made are = are
 -- an item more that isn't wanted
 pub unwanted_more : (limit : ℕ) (wanted : AnItem → Bool) (items : List AnItem) (item : AnItem) (old new : Rewriter)
     → HasRewritten limit wanted old items → wanted item ≡ false → ValidItem item
-    → AreNamed new.names.count new.names.names.keys (items ++ item ∷ []) → new.out ≡ old.out → new.wanted ≡ old.wanted
+    → AreNamed new.names.count new.names.names (items ++ item ∷ []) → new.out ≡ old.out → new.wanted ≡ old.wanted
     → HasRewritten limit wanted new (items ++ item ∷ [])
 unwanted_more limit wanted items item old new has is valid named out wants = record {
   named = named;

@@ -14,14 +14,14 @@ ghost use Rattle.mvt_tile.specs.Streams.{ReportsAtEnd};
 ghost use Rattle.mvt_tile.specs.TileRules.{fault_within};
 
 use crate::fault::DecodeError;
-use crate::layers::{holds_name, set_of};
+use crate::layers::set_of;
+use crate::name_set::NameSet;
 use crate::reading::read_whole;
 use crate::rewriting::Rewriter;
 use crate::walking::walk_whole;
 use mvt_base::{LIMIT, Text};
 use mvt_io::Source;
 use std::alloc::{AllocError, Global};
-use std::collections::BTreeSet;
 
 /// What there is of the named layers of a tile.
 #[derive(Debug, Drop)]
@@ -101,15 +101,15 @@ fn rewritten(alloc: Global, rewriter: Rewriter, names: &[String]) -> Result<Name
 /// The position of the first name that a set doesn't hold.
 fn first_missing(
     alloc: Global,
-    there: &BTreeSet<Text>,
+    there: &NameSet,
     names: &[String],
 ) -> Result<Option<usize>, AllocError>
     ensures { IfOk result (λ found. found
-        ≡ position_from (λ name. not (list_any (bytes_eq name) there.now.keys)) 0
+        ≡ position_from (λ name. not (list_any (bytes_eq name) there.now)) 0
         (map string_bytes names.now)) }
 {
     for (index, name) in names.iter().enumerate() {
-        if !holds_name(there, &Text::from_str(alloc, name.as_str())?) {
+        if !there.contains(&Text::from_str(alloc, name.as_str())?) {
             return Ok(Some(index));
         }
     }

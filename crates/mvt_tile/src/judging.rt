@@ -33,7 +33,7 @@ impl ItemVisitor for Names {
 
     ghost Given = { Unit {0} };
 
-    ghost has_visited = { λ _ names items. AreNamed names.count names.names.keys items };
+    ghost has_visited = { λ _ names items. AreNamed names.count names.names items };
 
     /// Judges a layer's payload, and adds its name.
     fn visit_item(

@@ -12,6 +12,7 @@ ghost use Rattle.mvt_tile.specs.TileRules.{repeats};
 ghost use Rattle.mvt_model.specs.Tiles.{HasDistinctNames};
 
 use crate::fault::DecodeError;
+use crate::name_set::NameSet;
 use crate::walking::{ItemVisitor, in_layer, repeated_name};
 use mvt_base::{LIMIT, Text};
 use mvt_message::{Item, read_item};
@@ -36,7 +37,7 @@ impl Model for Layers {
 
     ghost view = { λ l. l.items.items };
 
-    ghost invariant = { λ l. AreKept l.names.names.keys l.items.items
+    ghost invariant = { λ l. AreKept l.names.names l.items.items
         × (l.names.count ≡ length l.items.items) };
 }
 
@@ -109,17 +110,17 @@ impl ItemVisitor for Layers {
 #[derive(Drop)]
 pub(crate) struct Names {
     pub(crate) count: u32,
-    pub(crate) names: BTreeSet<Text>,
+    pub(crate) names: NameSet,
 }
 
 impl Names {
     /// No names, without memory.
     pub(crate) fn new(alloc: Global) -> Self
-        ensures { AreNamed result.count result.names.keys [] }
+        ensures { AreNamed result.count result.names [] }
     {
         Names {
             count: 0,
-            names: BTreeSet::new(alloc),
+            names: NameSet::new(alloc),
         }
     }
 
@@ -127,18 +128,18 @@ impl Names {
     pub(crate) fn add(&mut self, name: Option<Text>, tag_at: u64) -> Result<(), DecodeError>
         requires { self.old.count ≤ LIMIT }
         ensures added { OnOk result ((items : List Item) (item : Item)
-            → AreNamed self.old.count self.old.names.keys items
+            → AreNamed self.old.count self.old.names items
             → names_in item ≡ option_to_list name
-            → AreNamed self.new.count self.new.names.keys (items ++ item ∷ [])
+            → AreNamed self.new.count self.new.names (items ++ item ∷ [])
             × (repeats (flat_map names_in items) (names_in item) ≡ false)) }
         ensures fault { IfErr result (λ error. (items : List Item)
-            → AreNamed self.old.count self.old.names.keys items
+            → AreNamed self.old.count self.old.names items
             → ReportsEarly error (name_fault (length items) (flat_map names_in items)
             (option_to_list name) tag_at)) }
         ensures same { OnErr result ((self.new.count ≡ self.old.count)
-            × (self.new.names.keys ≡ self.old.names.keys)) }
+            × (self.new.names ≡ self.old.names)) }
     {
-        if !add_name(&mut self.names, name)? {
+        if !self.names.add(name)? {
             return Err(repeated_name(self.count, tag_at));
         }
         self.count += 1;

@@ -12,6 +12,7 @@ mod finding;
 mod judging;
 pub mod laws;
 mod layers;
+mod name_set;
 mod partial_tile;
 mod reading;
 mod rewriting;

@@ -58,7 +58,7 @@ impl<'a> ItemVisitor for Surveyor<'a> {
 
     ghost Given = { List ℕ };
 
-    ghost has_visited = { λ input s items. AreNamed s.names.count s.names.names.keys items
+    ghost has_visited = { λ input s items. AreNamed s.names.count s.names.names items
         × AreFound LIMIT input s.found items × AllByRecursion ValidItem items };
 
     /// Keeps what is found of an item, and its name.

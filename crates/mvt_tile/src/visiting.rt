@@ -81,7 +81,7 @@ impl<V: TileVisitor> ItemVisitor for Named<V> {
     ghost Given = { Unit {0} };
 
     ghost has_visited = { λ _ named items. HasNamed (V.has_items named.visitor) named.names.count
-        named.names.names.keys items };
+        named.names.names items };
 
     /// Has the visitor take an item, and adds its name.
     fn visit_item(

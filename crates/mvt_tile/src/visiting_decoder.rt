@@ -37,7 +37,7 @@ impl<V: TileVisitor> Model for VisitingDecoder<V> {
       record {
         failure = d.failure;
         count = d.partial.visitor.names.count;
-        names = d.partial.visitor.names.names.keys;
+        names = d.partial.visitor.names.names;
         raw = d.partial.raw.items;
         offset = d.partial.offset;
       },
@@ -48,7 +48,7 @@ impl<V: TileVisitor> Model for VisitingDecoder<V> {
         × HasVisited LIMIT (V.has_items d.partial.visitor.visitor) (record {
           failure = d.failure;
           count = d.partial.visitor.names.count;
-          names = d.partial.visitor.names.names.keys;
+          names = d.partial.visitor.names.names;
           raw = d.partial.raw.items;
           offset = d.partial.offset;
         }) s) };

@@ -30,7 +30,7 @@ IsSetOf keys names = (n : List ℕ) → list_any (bytes_eq n) keys ≡ list_any 
 
 -- of these items, all of which are valid, the wanted ones are encoded
 pub record HasRewritten (limit : ℕ) (wanted : Item → Bool) (r : Rewriter) (items : List Item) : Type 0 where
-  pub named : AreNamed r.names.count r.names.names.keys items
+  pub named : AreNamed r.names.count r.names.names items
   pub encoded : AreEncoded limit (filter wanted items) r.out
   pub valid : AllByRecursion ValidItem items
   pub wants : (item : Item) → is_in (names_of r.wanted) item ≡ wanted item

@@ -4,4 +4,4 @@ use Rattle.mvt_tile.proofs.extracting.first_missing.Given as goal
 
 abbrev pub invariant-loop-index : goal.invariant-loop-index
 invariant-loop-index l =
-    position_from (λ name. not (list_any (bytes_eq name) l.there.keys)) 0 (map string_bytes (take l.index l.names)) ≡ None
+    position_from (λ name. not (list_any (bytes_eq name) l.there)) 0 (map string_bytes (take l.index l.names)) ≡ None

@@ -36,7 +36,7 @@ returns-then-not-branch-clause-item c = λ wanted items has.
       items ++ item ∷ [],
       unwanted_more 67108864 wanted items item c.args.self.now
           (record { names = c.visit_item.new.self; wanted = c.args.self.now.wanted; out = c.args.self.now.out }) has unwanted valid
-          (subst (AreNamed c.visit_item.new.self.count c.visit_item.new.self.names.keys) is named) refl refl,
+          (subst (AreNamed c.visit_item.new.self.count c.visit_item.new.self.names) is named) refl refl,
       (item, refl, of, apart),
     )) (c.visit_item.ensures.item tt items has.named)
 
