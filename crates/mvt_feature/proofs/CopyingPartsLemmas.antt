@@ -2,7 +2,6 @@
 use Rattle.std.proofs.Common.{◌≡◌, ℕ, zero, suc, ◌<◌, ◌^◌, true, false, List, [], ◌∷◌, ◌++◌, length, drop, None, refl, sym, ap, ap₂, subst, ◌∙◌, arith, append-nil}
 use Rattle.std.specs.Prelude.{IfSome}
 use Rattle.std.specs.Int.{w64, cast_signed}
-use Rattle.std.specs.List.{AllByRecursion}
 use Rattle.std.proofs.lemmas.Int.{of_z-to_z}
 use Rattle.std.proofs.Math.ListN.{drop_of_length-le}
 use Rattle.mvt_attrs.specs.declared.value.Value.{Value}
@@ -12,9 +11,9 @@ use Rattle.mvt_attrs.specs.FirstUses.{AreFirstUses}
 use Rattle.mvt_attrs.specs.Tags.{Names}
 use Rattle.mvt_attrs.specs.TagPlaces.{tags_in}
 use Rattle.mvt_attrs.specs.TagRules.{tag_fault}
+use Rattle.mvt_geometry.specs.declared.shape.Geometry.{Geometry}
 use Rattle.mvt_geometry.specs.Drawing.{Draws}
 use Rattle.mvt_geometry.specs.Shape.{kind_of}
-use Rattle.mvt_geometry.specs.Table.{geometry_fault}
 use Rattle.mvt_wire.specs.Field.{Content, varint, fixed64, bytes, fixed32}
 use Rattle.mvt_wire.specs.Spelling.{Plain, short_field, short_numbers, spelled}
 use Rattle.mvt_wire.specs.Zigzag.{unzig}
@@ -27,7 +26,6 @@ use Rattle.mvt_feature.specs.Copying.{AreReady, IsCanonicalFeature, IsCanonicalV
 use Rattle.mvt_feature.specs.Valid.{ValidValue}
 use Rattle.mvt_feature.proofs.RangeLemmas.{signed_range, code_range, attributes_valid}
 use Rattle.mvt_attrs.proofs.AttrsLaws.{attributes_or_fault_there, tags_stay}
-use Rattle.mvt_geometry.proofs.GeometryLaws.{faultless_draws}
 use Rattle.mvt_wire.proofs.WireLaws.{zigzag_function_code, short_lengths_numbers}
 
 -- a value that a field says in the canonical way
@@ -73,14 +71,14 @@ tags_packed (tag ∷ tags) [] is = absurd (omega (arith, ap length is, short_len
 tags_packed (tag ∷ tags) (x ∷ xs) is = ap (λ d. plain TAGS (bytes d) ∷ []) is
 
 -- a feature from its parts
-pub feature_found : (p : Parts) (keys : List (List ℕ)) (held : List Value) (tags ints : List ℕ) (used after : ℕ × ℕ)
-    → AreReady keys held used → IfSome p.id (λ n. n < 2 ^ 64) → p.tags.now ≡ short_numbers tags → p.integers.now ≡ short_numbers ints
-    → AllByRecursion (λ n. n < 2 ^ 32) ints → tag_fault keys held tags ≡ None → geometry_fault p.kind ints ≡ None
+pub feature_found : (Holds : Geometry → Type 0) (p : Parts) (keys : List (List ℕ)) (held : List Value) (tags ints : List ℕ) (geometry : Geometry)
+    (used after : ℕ × ℕ) → AreReady keys held used → IfSome p.id (λ n. n < 2 ^ 64) → p.tags.now ≡ short_numbers tags
+    → p.integers.now ≡ short_numbers ints → tag_fault keys held tags ≡ None → Draws p.kind ints geometry → Holds geometry
     → ((attributes : List Attribute) → Names keys held tags attributes → AreFirstUses keys held attributes used.0 used.1 after)
-    → (f : Feature) × IsCanonicalFeature (spelled (parts_fields p)) keys held used after f × (f.id ≡ p.id) × Draws p.kind ints f.geometry
-feature_found p keys held tags ints used after ready id tags_are ints_are small no_tag_fault no_fault uses =
+    → (f : Feature) × IsCanonicalFeature (spelled (parts_fields p)) keys held used after f × (f.id ≡ p.id) × (p.kind ≡ kind_of f.geometry)
+    × Holds f.geometry
+feature_found Holds p keys held tags ints geometry used after ready id tags_are ints_are no_tag_fault draws holds uses =
     let (attributes, resolved) = attributes_or_fault_there keys held tags no_tag_fault in
-    let (geometry, draws) = faultless_draws p.kind ints small no_fault in
     let f : Feature = record { id = p.id; attributes = attributes; geometry = geometry } in
     let places : tags ≡ tags_in keys held attributes =
     tags_stay keys [] held [] tags attributes ready.keys_apart ready.values_apart resolved.named
@@ -101,5 +99,6 @@ feature_found p keys held tags ints used after ready id tags_are ints_are small 
         spelled_as = ap spelled fields;
       },
       refl,
-      draws,
+      draws.same_kind,
+      holds,
     )

@@ -12,6 +12,7 @@ mod WritingLemmas
 mod RewritingLemmas
 mod CopyingLemmas
 mod CopyingPartsLemmas
+mod ShortLemmas
 mod CanonicalLemmas
 mod ValidLemmas
 mod RangeLemmas

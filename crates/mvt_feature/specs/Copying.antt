@@ -5,7 +5,8 @@ use Rattle.mvt_attrs.specs.declared.value.Value.{Value}
 use Rattle.mvt_attrs.specs.FirstUse.{AreDistinct}
 use Rattle.mvt_attrs.specs.FirstUses.{AreFirstUses}
 use Rattle.mvt_attrs.specs.TagPlaces.{tags_in}
-use Rattle.mvt_geometry.specs.Drawing.{Draws}
+use Rattle.mvt_geometry.specs.declared.shape.Geometry.{Geometry}
+use Rattle.mvt_geometry.specs.Shape.{kind_of}
 use Rattle.mvt_wire.specs.Field.{bytes}
 use Rattle.mvt_wire.specs.Spelling.{Plain, spelled}
 use Rattle.mvt_feature.specs.declared.canonical.CanonicalFeature.{CanonicalFeature}
@@ -34,11 +35,12 @@ pub record IsCanonicalFeature (payload : List ℕ) (keys : List (List ℕ)) (val
   pub uses : AreFirstUses keys values f.attributes used.0 used.1 after
   pub spelled_as : payload ≡ spelled (feature_fields (tags_in keys values f.attributes) f)
 
--- this is known of it, and these integers draw its geometry
-abbrev pub IsCanonicalAfter : List ℕ → List (List ℕ) → List Value → ℕ × ℕ → List ℕ → CanonicalFeature → Type 0
-IsCanonicalAfter payload keys values used integers known =
+-- this is known of it, and something holds of its geometry
+abbrev pub IsCanonicalAfter : List ℕ → List (List ℕ) → List Value → ℕ × ℕ → (Geometry → Type 0) → CanonicalFeature → Type 0
+IsCanonicalAfter payload keys values used Holds known =
     AreReady keys values used
-    → (f : Feature) × IsCanonicalFeature payload keys values used known.used f × (f.id ≡ known.fields.id) × Draws known.fields.kind integers f.geometry
+    → (f : Feature) × IsCanonicalFeature payload keys values used known.used f × (f.id ≡ known.fields.id)
+    × (known.fields.kind ≡ kind_of f.geometry) × Holds f.geometry
 
 -- tags that are packed in these bytes
 abbrev pub packed_tags : List ℕ → List Plain

@@ -1,5 +1,5 @@
 -- Definitions between private functions, which no public contract cites.
-use Rattle.std.specs.Prelude.{◌≡◌, ◌≢◌, ℕ, ◌==◌, true, false, List, [], Option, Some, None, Result, if◌then◌else◌}
+use Rattle.std.specs.Prelude.{◌≡◌, ◌≢◌, ℕ, ◌≤◌, ◌==◌, true, false, List, [], ◌∷◌, Option, Some, None, Result, if◌then◌else◌}
 use Rattle.std.specs.List.{last_or}
 use Rattle.mvt_attrs.specs.declared.value.Value.{Value}
 use Rattle.mvt_attrs.specs.Tags.{Resolved}
@@ -76,3 +76,8 @@ pub record AreOf (keys : List (List ℕ)) (values : List Value) (known : Feature
 
 abbrev pub IsJudged : List ℕ → List (List ℕ) → List Value → FeatureFields → Scratch → Type 0
 IsJudged payload keys values known scratch = (f : Feature) × IsFeatureOf payload keys values f × AreOf keys values known scratch f
+
+-- no byte of 0 follows one that doesn't end its number, the byte before included
+abbrev pub AreShortFrom : ℕ → List ℕ → Type 0
+AreShortFrom before [] = Unit {0}
+AreShortFrom before (b ∷ bs) = (128 ≤ before → 1 ≤ b) × AreShortFrom b bs

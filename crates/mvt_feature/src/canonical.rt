@@ -1,12 +1,13 @@
 //! Values and features whose payload is canonical as it stands (Mapbox Vector Tile Specification
 //! 2.1, 4.1).
-ghost use Rattle.std.specs.Prelude.{◌≡◌, ◌^◌, ◌<◌, ◌≤◌, ◌+◌, ◌*◌, ◌++◌, List, length, drop, IfOk, IfSome, IsTrue, IsUtf8, OnOk};
+ghost use Rattle.std.specs.Prelude.{◌≡◌, ◌^◌, ◌<◌, ◌≤◌, ◌+◌, ◌*◌, ◌++◌, ℕ, List, length, drop, IfOk, IfSome, IsTrue, IsUtf8, OnOk};
 ghost use Rattle.std.specs.List.{AllByRecursion};
 ghost use Rattle.mvt_attrs.specs.declared.value.Value.{Value as AValue};
+ghost use Rattle.mvt_geometry.specs.Visiting.{HasDrawn};
 ghost use Rattle.mvt_wire.specs.Field.{content_of, varint, fixed32, fixed64};
+ghost use Rattle.mvt_wire.specs.Packed.{ArePacked};
 ghost use Rattle.mvt_wire.specs.Spelling.{short_numbers, spelled};
 ghost use Rattle.mvt_feature.specs.Canonical.{plain, field_of_value, id_fields, type_fields};
-ghost use Rattle.mvt_feature.specs.Drawn.{integers_of};
 ghost use Rattle.mvt_feature.specs.Copying.{IsCanonicalValue, IsCanonicalAfter, packed_tags, parts_fields};
 ghost use Rattle.mvt_feature.specs.Valid.{ValidValue};
 
@@ -15,7 +16,7 @@ use crate::feature_fields::FeatureFields;
 use crate::numbers::{feature, value};
 use crate::scratch::Scratch;
 use mvt_attrs::{LayerKeys, TagError, first_uses, judge_tags};
-use mvt_geometry::{Kind, judge_geometry};
+use mvt_geometry::{GeometryVisitor, Kind, draw_packed};
 use mvt_wire::{
     PackedError, Payload, append_packed, short_bytes_at, short_field_at, short_number_at,
 };
@@ -198,7 +199,23 @@ fn take_numbers(bytes: &[u8], numbers: &mut Vec<u32>) -> Result<(), NotCanonical
     }
 }
 
-/// What is known of a canonical feature, whose integers are left in the scratch.
+/// Whether no spelling of a number among these bytes is longer than need be: no byte of 0 ends one
+/// of several bytes.
+fn are_short(bytes: &[u8]) -> bool
+    ensures { IsTrue result → (numbers : List ℕ) → ArePacked bytes.now numbers
+        → bytes.now ≡ short_numbers numbers }
+{
+    let mut before = 0;
+    for byte in bytes {
+        if *byte == 0 && before >= 128 {
+            return false;
+        }
+        before = *byte;
+    }
+    true
+}
+
+/// What is known of a canonical feature.
 #[derive(Clone, Copy, Debug)]
 pub struct CanonicalFeature {
     pub fields: FeatureFields,
@@ -208,13 +225,14 @@ pub struct CanonicalFeature {
 
 /// Judges whether a payload is the canonical one of a feature in a layer with these keys and this
 /// number of values, where so many of them are used by earlier features and each that is new is the
-/// next.
+/// next. A visitor is told its geometry on the way.
 ///
 /// # Errors
 ///
-/// Where it isn't, or isn't known to be.
-pub fn judge_canonical(
+/// Where it isn't, or isn't known to be. The visitor may then have been told some parts.
+pub fn judge_canonical<V: GeometryVisitor>(
     alloc: Global,
+    visitor: &mut V,
     payload: &[u8],
     keys: &mut LayerKeys<'_>,
     values: usize,
@@ -222,18 +240,20 @@ pub fn judge_canonical(
     scratch: &mut Scratch,
 ) -> Result<CanonicalFeature, NotCanonical>
     ensures found { IfOk result (λ known. (held : List AValue) → length held ≡ values
-        → IsCanonicalAfter payload.now keys.old held used (integers_of scratch.new) known) }
+        → IsCanonicalAfter payload.now keys.old held used
+        (HasDrawn V.has_parts V.has_integers visitor.old visitor.new) known) }
     ensures same { keys.new ≡ keys.old }
 {
     match parts_of(payload) {
-        Some(parts) => judge_parts(alloc, &parts, keys, values, used, scratch),
+        Some(parts) => judge_parts(alloc, visitor, &parts, keys, values, used, scratch),
         None => Err(NotCanonical::Other),
     }
 }
 
 /// The same of a payload that has these parts.
-fn judge_parts(
+fn judge_parts<V: GeometryVisitor>(
     alloc: Global,
+    visitor: &mut V,
     parts: &Parts<'_>,
     keys: &mut LayerKeys<'_>,
     values: usize,
@@ -243,7 +263,7 @@ fn judge_parts(
     requires { IfSome parts.now.id (λ n. n < 2 ^ 64) }
     ensures found { IfOk result (λ known. (held : List AValue) → length held ≡ values
         → IsCanonicalAfter (spelled (parts_fields parts.now)) keys.old held used
-        (integers_of scratch.new) known) }
+        (HasDrawn V.has_parts V.has_integers visitor.old visitor.new) known) }
     ensures same { keys.new ≡ keys.old }
 {
     take_numbers(parts.tags, &mut scratch.tags)?;
@@ -256,15 +276,18 @@ fn judge_parts(
         Err(TagError::Memory) => return Err(NotCanonical::Memory),
         Err(_) => return Err(NotCanonical::Broken),
     }
-    take_numbers(parts.integers, &mut scratch.integers)?;
-    match judge_geometry(parts.kind, &scratch.integers) {
-        Ok(()) => Ok(CanonicalFeature {
-            fields: FeatureFields {
-                id: parts.id,
-                kind: parts.kind,
-            },
-            used: after,
-        }),
-        Err(_) => Err(NotCanonical::Broken),
+    if !are_short(parts.integers) {
+        return Err(NotCanonical::Other);
     }
+    let is_drawn = draw_packed(visitor, parts.kind, parts.integers)?;
+    if !is_drawn {
+        return Err(NotCanonical::Broken);
+    }
+    Ok(CanonicalFeature {
+        fields: FeatureFields {
+            id: parts.id,
+            kind: parts.kind,
+        },
+        used: after,
+    })
 }

@@ -2,18 +2,20 @@
 use crate::copying::{FEW_VALUES, MANY_VALUES, changed};
 use crate::expect::expect;
 use mvt_feature::FeatureFields;
-use mvt_geometry::Kind;
+use mvt_geometry::{GeometryVisitor, Kind, Point, draw_geometry};
 use mvt_message::*;
 use std::alloc::{AllocError, Global};
 use std::process::Abort;
 
-// What was told of features.
+// What was told of features: the id and the type of each, the points of all, how many points each
+// part has, and whether it begins a polygon.
 #[derive(Drop)]
 struct Told {
     ids: Vec<Option<u64>>,
     kinds: Vec<Kind>,
-    integers: Vec<u32>,
-    payloads: Vec<u8>,
+    points: Vec<Point>,
+    counts: Vec<usize>,
+    exteriors: Vec<bool>,
 }
 
 impl Told {
@@ -21,16 +23,47 @@ impl Told {
         Told {
             ids: Vec::new(alloc),
             kinds: Vec::new(alloc),
-            integers: Vec::new(alloc),
-            payloads: Vec::new(alloc),
+            points: Vec::new(alloc),
+            counts: Vec::new(alloc),
+            exteriors: Vec::new(alloc),
         }
+    }
+
+    fn add(&mut self, fields: &FeatureFields) -> Result<(), AllocError> {
+        self.ids.push(fields.id)?;
+        self.kinds.push(fields.kind)?;
+        Ok(())
     }
 
     fn is(&self, other: &Told) -> bool {
         self.ids.as_slice() == other.ids.as_slice()
             && self.kinds.as_slice() == other.kinds.as_slice()
-            && self.integers.as_slice() == other.integers.as_slice()
-            && self.payloads.as_slice() == other.payloads.as_slice()
+            && self.points.as_slice() == other.points.as_slice()
+            && self.counts.as_slice() == other.counts.as_slice()
+            && self.exteriors.as_slice() == other.exteriors.as_slice()
+    }
+}
+
+impl GeometryVisitor for Told {
+    ghost has_parts = { λ _ _ _ _. Unit {0} };
+
+    ghost has_integers = { λ _ _ _. Unit {0} };
+
+    ghost begins = { λ _. tt };
+
+    fn visit_point(&mut self, point: Point) -> Result<(), AllocError> {
+        self.points.push(point)?;
+        Ok(())
+    }
+
+    fn end_part(&mut self, points: usize, exterior: bool) -> Result<(), AllocError> {
+        self.counts.push(points)?;
+        self.exteriors.push(exterior)?;
+        Ok(())
+    }
+
+    fn visit_integers(&mut self, _: &[u32]) -> Result<(), AllocError> {
+        Ok(())
     }
 }
 
@@ -42,12 +75,20 @@ impl RewriteVisitor for Told {
         _: Global,
         fields: &FeatureFields,
         integers: &[u32],
-        payload: &[u8],
+        _: &[u8],
     ) -> Result<(), AllocError> {
-        self.ids.push(fields.id)?;
-        self.kinds.push(fields.kind)?;
-        self.integers.extend_from_slice(integers)?;
-        self.payloads.extend_from_slice(payload)
+        match draw_geometry(self, fields.kind, integers) {
+            Ok(()) => self.add(fields),
+            Err(_) => Err(AllocError),
+        }
+    }
+}
+
+impl CanonicalVisitor for Told {
+    ghost has_read = { λ _ _ _. Unit {0} };
+
+    fn end_feature(&mut self, _: Global, known: &FeatureFields) -> Result<(), AllocError> {
+        self.add(known)
     }
 }
 

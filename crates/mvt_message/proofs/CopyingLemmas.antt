@@ -25,7 +25,7 @@ use Rattle.mvt_message.specs.declared.item.Layer.{Layer as ALayer}
 use Rattle.mvt_message.specs.declared.item.Item.TheVariants.{Layer}
 use Rattle.mvt_message.specs.declared.numbers.layer.TheConstants.{NAME, FEATURES, KEYS, VALUES, EXTENT, VERSION}
 use Rattle.mvt_message.specs.CanonicalItems.{canonical_item, keys_of, values_of, feature_field, key_field, value_field, extent_fields, fields_with}
-use Rattle.mvt_message.specs.Copying.{body_with, body_fields, own_fields, IsBodyOf, IsCanonicalLayer, IsCopied, HasBody, AreKeysFrom, AreValuesFrom, AreFeaturesFrom, lent_field}
+use Rattle.mvt_message.specs.Copying.{body_with, body_fields, IsBodyOf, IsCanonicalLayer, IsCopied, HasBody, AreKeysFrom, AreValuesFrom, AreFeaturesFrom, lent_field}
 use Rattle.mvt_message.specs.Items.{IsItem}
 use Rattle.mvt_message.specs.ValidItems.{ValidItem, ValidLayer}
 use Rattle.mvt_message.proofs.LenLemmas.{len_step}
@@ -78,8 +78,8 @@ values_from_more body start at after payloads longer payload (_, (values, is, va
       ),
     )
 
-pub features_from_none : (WereTold : List Feature → List ℕ → Type 0) (body : List ℕ) (start : ℕ) (keys : List (List ℕ)) (values : List Value)
-    → AreReady keys values (0, 0) → WereTold [] [] → AreFeaturesFrom WereTold body start keys values start (0, 0)
+pub features_from_none : (WereTold : List Feature → Type 0) (body : List ℕ) (start : ℕ) (keys : List (List ℕ)) (values : List Value)
+    → AreReady keys values (0, 0) → WereTold [] → AreFeaturesFrom WereTold body start keys values start (0, 0)
 features_from_none WereTold body start keys values ready told = record {
   features = [];
   fields = refl;
@@ -90,20 +90,11 @@ features_from_none WereTold body start keys values ready told = record {
   told = told;
 }
 
--- the fields of features with one more
-fields_with_one : (field_of : Feature → Plain) (features : List Feature) (f : Feature)
-    → spelled (map field_of features) ++ short_field (field_of f).number (field_of f).content ≡ spelled (map field_of (features ++ f ∷ []))
-fields_with_one field_of features f =
-    ap (λ l. spelled (map field_of features) ++ l) (sym (append-nil (short_field (field_of f).number (field_of f).content)))
-    ∙ sym (spelled_parts (map field_of features) (field_of f ∷ []))
-    ∙ ap spelled (sym (map-append field_of features (f ∷ [])))
-
-pub features_from_more : (WereTold AreTold : List Feature → List ℕ → Type 0) (body : List ℕ) (start at after : ℕ) (keys : List (List ℕ))
+pub features_from_more : (WereTold AreTold : List Feature → Type 0) (body : List ℕ) (start at after : ℕ) (keys : List (List ℕ))
     (values : List Value) (used more : ℕ × ℕ) (payload : List ℕ) (from : AreFeaturesFrom WereTold body start keys values at used)
     → drop at body ≡ short_field FEATURES (bytes payload) ++ drop after body
     → (f : Feature) → IsCanonicalFeature payload keys values used more f
-    → AreTold (from.features ++ f ∷ []) (spelled (map (feature_field keys values) from.features) ++ short_field FEATURES (bytes payload))
-    → AreFeaturesFrom AreTold body start keys values after more
+    → AreTold (from.features ++ f ∷ []) → AreFeaturesFrom AreTold body start keys values after more
 features_from_more WereTold AreTold body start at after keys values used more payload from front f is told =
     let uses = is.uses in
     let own = feature_field keys values in
@@ -122,8 +113,7 @@ features_from_more WereTold AreTold body start at after keys values used more pa
         keys_within = uses.keys_within;
         values_within = uses.values_within;
       };
-      told = subst (AreTold (from.features ++ f ∷ []))
-          (ap (λ d. spelled (map own from.features) ++ short_field FEATURES (bytes d)) is.spelled_as ∙ fields_with_one own from.features f) told;
+      told = told;
     }
 
 -- values whose payloads are different are different
@@ -271,7 +261,7 @@ values_past values_at extent_at values_end n payloads all unused =
     omega (arith, all, unused, parts)
 
 -- the keys, the values and the features of a body
-pub record IsRead (WereTold : List Feature → List ℕ → Type 0) (body : List ℕ) (features_at keys_at values_at extent_at : ℕ) (keys : List (List ℕ)) (payloads : List (Bor (List ℕ)))
+pub record IsRead (WereTold : List Feature → Type 0) (body : List ℕ) (features_at keys_at values_at extent_at : ℕ) (keys : List (List ℕ)) (payloads : List (Bor (List ℕ)))
     (used : ℕ × ℕ) : Type 0 where
   pub values : List Value
   pub fields : drop values_at body ≡ spelled (map value_field values) ++ drop extent_at body
@@ -279,7 +269,7 @@ pub record IsRead (WereTold : List Feature → List ℕ → Type 0) (body : List
   pub count : length values ≡ length payloads
   pub from : AreFeaturesFrom WereTold body features_at keys values keys_at used
 
-pub is_read : (WereTold : List Feature → List ℕ → Type 0) (body : List ℕ) (features_at keys_at values_at extent_at count : ℕ) (keys : List (List ℕ)) (payloads : List (Bor (List ℕ)))
+pub is_read : (WereTold : List Feature → Type 0) (body : List ℕ) (features_at keys_at values_at extent_at count : ℕ) (keys : List (List ℕ)) (payloads : List (Bor (List ℕ)))
     (used : ℕ × ℕ) → AreKeysFrom body keys_at keys values_at → AreValuesFrom body values_at payloads extent_at → AreDistinct keys
     → AreDistinct (lent payloads) → count ≡ length payloads
     → ((held : List Value) → length held ≡ count → AreReady keys held (0, 0) → AreFeaturesFrom WereTold body features_at keys held keys_at used)
@@ -313,6 +303,10 @@ features_stay features more_keys more_values =
     fields_stay (keys_of features) more_keys (values_of features) more_values features (keys_distinct features) (values_distinct features)
     (features_held features)
 
+-- the fields of a layer's features
+abbrev own_fields : ALayer → List Plain
+own_fields layer = map (feature_field (keys_of layer.features) (values_of layer.features)) layer.features
+
 -- what stands in the body of a layer
 parts_spelled : (name : List ℕ) (features keys values : List Plain) (extent : ℕ)
     → spelled (plain NAME (bytes name) ∷ (features ++ (keys ++ (values ++ extent_fields extent))))
@@ -326,7 +320,7 @@ parts_spelled name features keys values extent =
 all_dropped : {Y : Type 0} → (P : Y → Type 0) (n : ℕ) (ys : List Y) → AllByRecursion P ys → AllByRecursion P (drop n ys)
 all_dropped P n ys all = all_right P (take n ys) (drop n ys) (subst (AllByRecursion P) (sym (take-append-drop n ys)) all)
 
-body_is : (WereTold : List Feature → List ℕ → Type 0) (body name : List ℕ) (features_at keys_at values_at extent_at keys_end values_end extent : ℕ) (keys : List (List ℕ))
+body_is : (WereTold : List Feature → Type 0) (body name : List ℕ) (features_at keys_at values_at extent_at keys_end values_end extent : ℕ) (keys : List (List ℕ))
     (values : List Value) (used : ℕ × ℕ)
     → body ≡ short_field NAME (bytes name) ++ drop features_at body → IsUtf8 name
     → AreFeaturesFrom WereTold body features_at keys values keys_at used
@@ -379,13 +373,13 @@ body_is WereTold body name features_at keys_at values_at extent_at keys_end valu
           ++ (spelled (map value_field (values_of features)) ++ spelled (extent_fields extent))))) stays
           ∙ sym (parts_spelled name (map (feature_field (keys_of features) (values_of features)) features) (map key_field (keys_of features))
           (map value_field (values_of features)) extent);
-      told = subst (WereTold features) (ap spelled stays) from.told;
+      told = from.told;
     }
   where
     regroup : (n f k r : List ℕ) → (n ++ (f ++ k)) ++ r ≡ n ++ (f ++ (k ++ r))
     regroup n f k r = simp append_assoc
 
-pub read_is : (WereTold : List Feature → List ℕ → Type 0) (body name : List ℕ) (features_at keys_at values_at extent_at keys_end values_end extent : ℕ) (keys : List (List ℕ))
+pub read_is : (WereTold : List Feature → Type 0) (body name : List ℕ) (features_at keys_at values_at extent_at keys_end values_end extent : ℕ) (keys : List (List ℕ))
     (texts payloads : List (Bor (List ℕ))) (used : ℕ × ℕ) → IsRead WereTold body features_at keys_at values_at extent_at keys payloads used
     → body ≡ short_field NAME (bytes name) ++ drop features_at body → IsUtf8 name → AreKeysFrom body keys_at keys values_at → lent texts ≡ keys
     → extent_at ≤ length body → drop extent_at body ≡ short_field EXTENT (varint extent) → extent < 2 ^ 32
@@ -425,7 +419,7 @@ nothing : {X : Type 0} → (xs : List X) → length xs ≡ 0 → xs ≡ []
 nothing [] none = refl
 nothing (x ∷ xs) none = absurd (omega (arith, none))
 
-whole_body : (WereTold : List Feature → List ℕ → Type 0) (body name canonical : List ℕ) → IsBodyOf WereTold body name canonical
+whole_body : (WereTold : List Feature → Type 0) (body name canonical : List ℕ) → IsBodyOf WereTold body name canonical
     → length canonical ≡ length body → canonical ≡ body
 whole_body WereTold body name canonical is same =
     let layer = is.layer in
@@ -466,7 +460,7 @@ whole_body WereTold body name canonical is same =
     lengths h o k mk v mv e = (simp length-append, simp length-append)
 
 -- a payload that the version begins
-item_in_front : (WereTold : List Feature → List ℕ → Type 0) (payload name body canonical : List ℕ) → length payload ≤ LIMIT
+item_in_front : (WereTold : List Feature → Type 0) (payload name body canonical : List ℕ) → length payload ≤ LIMIT
     → payload ≡ 120 ∷ (2 ∷ body) → (is : IsBodyOf WereTold body name canonical) → IsItem payload (Layer is.layer)
 item_in_front WereTold payload name body canonical few front is =
     let layer = is.layer in
@@ -477,7 +471,7 @@ item_in_front WereTold payload name body canonical few front is =
     subst (λ b. IsItem b (Layer layer)) (sym same)
     (layer_longer layer is.more_keys is.more_values is.valid is.texts is.valid_values (omega (arith, ap length same)))
 
-pub canonical_is : (WereTold : List Feature → List ℕ → Type 0) (payload name body canonical : List ℕ) → length payload ≤ LIMIT
+pub canonical_is : (WereTold : List Feature → Type 0) (payload name body canonical : List ℕ) → length payload ≤ LIMIT
     → payload ≡ 120 ∷ (2 ∷ body) → IsBodyOf WereTold body name canonical → length canonical ≡ length body
     → IsCanonicalLayer WereTold payload name
 unfolding ValidItem
@@ -491,7 +485,7 @@ canonical_is WereTold payload name body canonical few front is same = (
   is.told,
 )
 
-pub copied_is : (WereTold : List Feature → List ℕ → Type 0) (payload name body canonical : List ℕ) → length payload ≤ LIMIT
+pub copied_is : (WereTold : List Feature → Type 0) (payload name body canonical : List ℕ) → length payload ≤ LIMIT
     → HasBody payload body → IsBodyOf WereTold body name canonical → IsCopied payload name canonical
 unfolding ValidItem
 copied_is WereTold payload name body canonical few (inl front) is = (

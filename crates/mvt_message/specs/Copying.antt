@@ -27,13 +27,9 @@ body_with keys values layer =
 abbrev pub body_fields : ALayer → List Plain
 body_fields layer = body_with (keys_of layer.features) (values_of layer.features) layer
 
--- the fields of a layer's features
-abbrev pub own_fields : ALayer → List Plain
-own_fields layer = map (feature_field (keys_of layer.features) (values_of layer.features)) layer.features
-
 -- the fields of a layer of this name besides its version, canonical but for keys and values at the end of theirs that no feature
--- uses; the canonical ones; its features and their fields were told
-pub record IsBodyOf (WereTold : List Feature → List ℕ → Type 0) (body name canonical : List ℕ) : Type 0 where
+-- uses; the canonical ones; its features were told
+pub record IsBodyOf (WereTold : List Feature → Type 0) (body name canonical : List ℕ) : Type 0 where
   pub layer : ALayer
   pub more_keys : List (List ℕ)
   pub more_values : List Value
@@ -43,13 +39,13 @@ pub record IsBodyOf (WereTold : List Feature → List ℕ → Type 0) (body name
   pub name_is : name ≡ layer.name
   pub body_is : body ≡ spelled (body_with (keys_of layer.features ++ more_keys) (values_of layer.features ++ more_values) layer)
   pub canonical_is : canonical ≡ spelled (body_fields layer)
-  pub told : WereTold layer.features (spelled (own_fields layer))
+  pub told : WereTold layer.features
 
--- the canonical payload of a layer of this name, whose features and their fields were told
-abbrev pub IsCanonicalLayer : (List Feature → List ℕ → Type 0) → List ℕ → List ℕ → Type 0
+-- the canonical payload of a layer of this name, whose features were told
+abbrev pub IsCanonicalLayer : (List Feature → Type 0) → List ℕ → List ℕ → Type 0
 IsCanonicalLayer WereTold payload name =
     (layer : ALayer) × IsItem payload (items.Layer layer) × ValidItem (items.Layer layer) × (name ≡ layer.name)
-    × (canonical_item (items.Layer layer) ≡ payload) × WereTold layer.features (spelled (own_fields layer))
+    × (canonical_item (items.Layer layer) ≡ payload) × WereTold layer.features
 
 -- the payload of a layer of this name, whose canonical payload is the version and then these fields
 abbrev pub IsCopied : List ℕ → List ℕ → List ℕ → Type 0
@@ -82,11 +78,11 @@ AreValuesFrom body start payloads at =
     × (lent payloads ≡ map (λ (v : Value). spelled (value_fields v)) values))
 
 -- features in their fields, which use the first of the keys and of the values, in their order, and were told
-pub record AreFeaturesFrom (WereTold : List Feature → List ℕ → Type 0) (body : List ℕ) (start : ℕ) (keys : List (List ℕ)) (values : List Value) (at : ℕ) (used : ℕ × ℕ) : Type 0 where
+pub record AreFeaturesFrom (WereTold : List Feature → Type 0) (body : List ℕ) (start : ℕ) (keys : List (List ℕ)) (values : List Value) (at : ℕ) (used : ℕ × ℕ) : Type 0 where
   pub features : List Feature
   pub fields : drop start body ≡ spelled (map (feature_field keys values) features) ++ drop at body
   pub valid : AllByRecursion ValidFeature features
   pub keys_are : keys_of features ≡ take used.0 keys
   pub values_are : values_of features ≡ take used.1 values
   pub ready : AreReady keys values used
-  pub told : WereTold features (spelled (map (feature_field keys values) features))
+  pub told : WereTold features

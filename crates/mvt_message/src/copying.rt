@@ -11,7 +11,8 @@ ghost use Rattle.mvt_message.specs.declared.item.Item.{Item};
 ghost use Rattle.mvt_message.specs.declared.numbers.layer.TheConstants.{NAME, KEYS, VALUES, EXTENT};
 ghost use Rattle.mvt_message.specs.Copying.{IsBodyOf, IsCopied, HasBody, AreKeysFrom, AreValuesFrom, AreFeaturesFrom, copied_body, lent_field};
 
-use crate::layer_rewriting::{RewriteVisitor, Untold};
+use crate::canonical::CanonicalVisitor;
+use crate::layer_rewriting::Untold;
 use crate::numbers::layer;
 use mvt_attrs::{LayerKeys, are_distinct};
 use mvt_base::{LIMIT, Text};
@@ -65,14 +66,14 @@ fn body_of(payload: &[u8]) -> Option<&[u8]>
 
 /// The layer that has these fields besides the version, where they can be copied. A visitor is told
 /// its features.
-pub(crate) fn layer_of_body<'a, V: RewriteVisitor>(
+pub(crate) fn layer_of_body<'a, V: CanonicalVisitor>(
     alloc: Global,
     visitor: &mut V,
     body: &'a [u8],
 ) -> Result<CopiedLayer<'a>, NotCanonical>
     requires { length body.now ≤ LIMIT }
-    ensures body { (items : List Item) → V.has_features items visitor.old [] []
-        → IfOk result (λ l. IsBodyOf (V.has_features items visitor.new) body.now l.name.now
+    ensures body { (items : List Item) → V.has_read items visitor.old []
+        → IfOk result (λ l. IsBodyOf (V.has_read items visitor.new) body.now l.name.now
         (copied_body l)) }
     ensures within { IfOk result (λ l. length (copied_body l) ≤ length body.now) }
 {
@@ -241,7 +242,7 @@ fn end_of_used(number: u32, payloads: &[&[u8]], used: usize, end: usize) -> usiz
 /// Judges whether canonical features stand from one offset to another, in a layer with these keys
 /// and this number of values, and use them in their order. Answers how many of each they use. A
 /// visitor is told them.
-fn judge_features<V: RewriteVisitor>(
+fn judge_features<V: CanonicalVisitor>(
     alloc: Global,
     visitor: &mut V,
     body: &[u8],
@@ -251,14 +252,13 @@ fn judge_features<V: RewriteVisitor>(
     values: usize,
 ) -> Result<(usize, usize), NotCanonical>
     requires { start ≤ length body.now }
-    ensures features { (items : List Item) → V.has_features items visitor.old [] [] → IfOk result
+    ensures features { (items : List Item) → V.has_read items visitor.old [] → IfOk result
         (λ used. (held : List AValue) → length held ≡ values → AreReady keys.now held (0, 0)
-        → AreFeaturesFrom (V.has_features items visitor.new) body.now start keys.now held end
-        used) }
+        → AreFeaturesFrom (V.has_read items visitor.new) body.now start keys.now held end used) }
     ensures within { IfOk result (λ used. (used.0 ≤ length keys.now) × (used.1 ≤ values)) }
 {
     let mut layer_keys = LayerKeys::new(alloc, keys);
-    let mut scratch = Scratch::for_payload(alloc, body.len())?;
+    let mut scratch = Scratch::new(alloc);
     let mut used = (0, 0);
     let mut at = start;
     while at < end {
@@ -283,7 +283,7 @@ fn judge_features<V: RewriteVisitor>(
 
 /// The offset after the feature at one, and how many keys and values are used then. A visitor is
 /// told the feature.
-fn take_feature<V: RewriteVisitor>(
+fn take_feature<V: CanonicalVisitor>(
     alloc: Global,
     visitor: &mut V,
     body: &[u8],
@@ -296,16 +296,15 @@ fn take_feature<V: RewriteVisitor>(
     requires { at ≤ length body.now }
     ensures feature { IfOk result (λ f. (items : List Item) (start : ℕ) (held : List AValue)
         → length held ≡ values
-        → AreFeaturesFrom (V.has_features items visitor.old) body.now start keys.old held at used
-        → AreFeaturesFrom (V.has_features items visitor.new) body.now start keys.old held f.0
-        f.1) }
+        → AreFeaturesFrom (V.has_read items visitor.old) body.now start keys.old held at used
+        → AreFeaturesFrom (V.has_read items visitor.new) body.now start keys.old held f.0 f.1) }
     ensures within { IfOk result (λ f. (at < f.0) × (f.0 ≤ length body.now)) }
     ensures same { keys.new ≡ keys.old }
 {
     let Some((payload, after)) = short_bytes_at(body, at, layer::FEATURES) else {
         return Err(NotCanonical::Other);
     };
-    let known = judge_canonical(alloc, payload, keys, values, used, scratch)?;
-    visitor.visit_rewritten(alloc, &known.fields, scratch.integers(), payload)?;
+    let known = judge_canonical(alloc, visitor, payload, keys, values, used, scratch)?;
+    visitor.end_feature(alloc, &known.fields)?;
     Ok((after, known.used))
 }

@@ -24,8 +24,7 @@ use mvt_feature::{FeatureFields, MessageError, Scratch, read_value, rewrite_feat
 use mvt_wire::{Payload, put_field};
 use std::alloc::{AllocError, Global};
 
-/// What is told the features of a layer, one after the other, while it is made canonical or found
-/// to be so.
+/// What is told the features of a layer, one after the other, while it is made canonical.
 pub trait RewriteVisitor: Drop {
     // What it has of the items before this one and of these features, whose canonical fields are
     // these bytes.

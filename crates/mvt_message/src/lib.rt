@@ -27,7 +27,7 @@ mod visiting;
 mod writing;
 
 pub use bound::room_after_item;
-pub use canonical::visit_canonical;
+pub use canonical::{CanonicalVisitor, visit_canonical};
 pub use item::{Item, Layer};
 pub use layer_rewriting::{RewriteVisitor, Rewritten, RewrittenLayer, rewrite_parts};
 pub use layer_writer::LayerWriter;

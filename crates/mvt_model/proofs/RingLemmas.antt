@@ -1,8 +1,9 @@
 -- The rings of a feature that were noted.
-use Rattle.std.proofs.Common.{◌≡◌, ℕ, ℤ, pos, ◌+◌, Bool, true, false, cond, ◌||◌, List, [], ◌∷◌, ◌++◌, length, map, nat_lt, Result, Ok, Err, OnOk, arith, refl, sym, ap, ap₂, ◌∙◌, append-nil, zero-add}
+use Rattle.std.proofs.Common.{◌≡◌, ℕ, ℤ, pos, ◌+◌, Bool, true, false, cond, ◌||◌, List, [], ◌∷◌, ◌++◌, length, map, nat_lt, Result, Ok, Err, OnOk, arith, refl, sym, ap, ap₂, subst, ◌∙◌, append-nil, zero-add}
 use Rattle.std.specs.List.{flat_map}
 use Rattle.std.specs.Ordering.{int_eq}
 use Rattle.std.proofs.lemmas.List.{map-append, nil_from_length}
+use Rattle.mvt_feature.specs.declared.feature.Feature.{Feature}
 use Rattle.mvt_geometry.specs.declared.shape.Geometry.{Geometry}
 use Rattle.mvt_geometry.specs.declared.shape.Geometry.TheVariants.{Unknown, Points, Lines, Polygons}
 use Rattle.mvt_geometry.specs.declared.shape.Point.{Point}
@@ -11,10 +12,13 @@ use Rattle.mvt_geometry.specs.Area.{area2}
 use Rattle.mvt_geometry.specs.Shape.{rings_of}
 use Rattle.mvt_geometry.specs.Visiting.{Part, plain, ring_parts, HasDrawn}
 use Rattle.mvt_model.specs.declared.note.Note.{Note}
+use Rattle.mvt_model.specs.declared.layer_noting.LayerNotes.{LayerNotes}
 use Rattle.mvt_model.specs.declared.ring_noting.RingNotes.{RingNotes}
 use Rattle.mvt_model.specs.declared.note.Note.TheVariants.{ClosedTwice, FlatRing}
-use Rattle.mvt_model.specs.Notes.{numbered, note_if, is_closed, ring_notes}
-use Rattle.mvt_model.specs.Rings.{points_of, rings_in, HasBegun, HasNotedAll, HaveNoted}
+use Rattle.mvt_model.specs.FirstIds.{AreFirst}
+use Rattle.mvt_model.specs.Notes.{first_of, numbered, note_if, is_closed, ring_notes}
+use Rattle.mvt_model.specs.Findings.{AreNoted, AreNotedSoFar, HaveNotedLayerParts, IsSameButRings}
+use Rattle.mvt_model.specs.Rings.{points_of, rings_in, HasBegun, HasNotedAll, HaveNoted, HaveNotedParts}
 use Rattle.mvt_model.proofs.NoteLemmas.{numbered-append}
 
 -- the rings among the parts of a geometry
@@ -119,12 +123,8 @@ these_noted layer feature start now parts rings are begun have =
           ∙ ap (numbered (ring_notes layer feature) 0) are,
     )
 
-abbrev HasParts : RingNotes → List Part → List Point → RingNotes → Type 0
-HasParts start parts begun now =
-    HasBegun start.layer start.feature start → HaveNoted start.layer start.feature (rings_in parts) begun now
-
 pub all_noted_of : (layer feature : ℕ) (start now : RingNotes) (g : Geometry) → HasBegun layer feature start
-    → HasDrawn HasParts (λ first integers last. last ≡ first) start now g → HasNotedAll layer feature g now
+    → HasDrawn HaveNotedParts (λ first integers last. last ≡ first) start now g → HasNotedAll layer feature g now
 all_noted_of layer feature start now (Unknown integers) begun drawn = record {
   layer_is = ap (λ (r : RingNotes). r.layer) drawn ∙ begun.layer_is;
   notes_are = ap (λ (r : RingNotes). r.notes.items) drawn ∙ begun.notes_are;
@@ -141,7 +141,7 @@ all_noted_of layer feature start now (Polygons polygons) begun drawn =
 
 -- whatever parts were told, the layer stays
 pub told_layer : (layer feature : ℕ) (start now : RingNotes) (parts : List Part) (points : List Point) → HasBegun layer feature start
-    → HasParts start parts points now → now.layer ≡ layer
+    → HaveNotedParts start parts points now → now.layer ≡ layer
 told_layer layer feature start now parts points begun have =
     let own : HasBegun start.layer start.feature start = record {
       layer_is = refl;
@@ -151,3 +151,34 @@ told_layer layer feature start now parts points begun have =
       path_is = begun.path_is;
     } in
     (have own).layer_is ∙ begun.layer_is
+
+-- the notes of a layer, which was told the geometry of its next feature
+
+still_noted : (layer : ℕ) (features : List Feature) (start now : LayerNotes) → IsSameButRings start now → AreNoted layer start features
+    → AreNoted layer now features
+still_noted layer features start now same noted = record {
+  layer_is = same.layer_is ∙ noted.layer_is;
+  count_is = same.count_is ∙ noted.count_is;
+  ids_are = subst (λ ids. AreFirst ids (λ q. first_of q features)) (sym same.ids_are) noted.ids_are;
+  notes_are = same.notes_are ∙ noted.notes_are;
+}
+
+pub told_noted : (layer : ℕ) (features : List Feature) (start now : LayerNotes) (g : Geometry) → AreNotedSoFar layer start features
+    → HasDrawn HaveNotedLayerParts (λ first integers last. last ≡ first) start now g
+    → AreNoted layer now features × HasNotedAll layer (length features) g now.rings
+told_noted layer features start now (Unknown integers) (noted, begun) drawn = (
+  subst (λ n. AreNoted layer n features) (sym drawn) noted,
+  all_noted_of layer (length features) start.rings now.rings (Unknown integers) begun (ap (λ (n : LayerNotes). n.rings) drawn),
+)
+told_noted layer features start now (Points points) (noted, begun) drawn = (
+  still_noted layer features start now drawn.0 noted,
+  all_noted_of layer (length features) start.rings now.rings (Points points) begun drawn.1,
+)
+told_noted layer features start now (Lines lines) (noted, begun) drawn = (
+  still_noted layer features start now drawn.0 noted,
+  all_noted_of layer (length features) start.rings now.rings (Lines lines) begun drawn.1,
+)
+told_noted layer features start now (Polygons polygons) (noted, begun) drawn = (
+  still_noted layer features start now drawn.0 noted,
+  all_noted_of layer (length features) start.rings now.rings (Polygons polygons) begun drawn.1,
+)

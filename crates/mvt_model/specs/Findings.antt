@@ -2,6 +2,8 @@
 use Rattle.std.specs.Prelude.{◌≡◌, ℕ, ◌*◌, ◌≤◌, List, length, map}
 use Rattle.std.specs.List.{sum_by}
 use Rattle.mvt_feature.specs.declared.feature.Feature.{Feature}
+use Rattle.mvt_geometry.specs.declared.shape.Point.{Point}
+use Rattle.mvt_geometry.specs.Visiting.{Part}
 use Rattle.mvt_wire.specs.Spelling.{spelled}
 use Rattle.mvt_message.specs.declared.item.Item.{Item}
 use Rattle.mvt_message.specs.declared.item.Item.TheVariants as items
@@ -15,7 +17,7 @@ use Rattle.mvt_model.specs.CanonicalTiles.{item_field}
 use Rattle.mvt_model.specs.Comparing.{IsAfter}
 use Rattle.mvt_model.specs.FirstIds.{AreFirst}
 use Rattle.mvt_model.specs.Notes.{numbered, item_notes, feature_notes, first_of}
-use Rattle.mvt_model.specs.Rings.{HasBegun}
+use Rattle.mvt_model.specs.Rings.{HasBegun, HaveNotedParts}
 use Rattle.mvt_model.specs.Survey.{feature_count}
 
 -- the notes of a layer's features so far
@@ -28,6 +30,17 @@ pub record AreNoted (layer : ℕ) (noted : LayerNotes) (features : List Feature)
 -- and nothing of the one that follows
 abbrev pub AreNotedSoFar : ℕ → LayerNotes → List Feature → Type 0
 AreNotedSoFar layer noted features = AreNoted layer noted features × HasBegun layer (length features) noted.rings
+
+-- nothing but the rings of the next feature was noted
+pub record IsSameButRings (start now : LayerNotes) : Type 0 where
+  pub layer_is : now.layer ≡ start.layer
+  pub count_is : now.count ≡ start.count
+  pub ids_are : now.ids ≡ start.ids
+  pub notes_are : now.notes.items ≡ start.notes.items
+
+-- and of these parts of its geometry
+abbrev pub HaveNotedLayerParts : LayerNotes → List Part → List Point → LayerNotes → Type 0
+HaveNotedLayerParts start parts begun now = IsSameButRings start now × HaveNotedParts start.rings parts begun now.rings
 
 -- the canonical payload of a layer of this name, the notes of whose features are these
 abbrev pub IsNotedLayer : ℕ → List ℕ → List ℕ → LayerNotes → Type 0

@@ -43,6 +43,11 @@ pub record HaveNoted (layer feature : ℕ) (rings : List (List Point)) (begun : 
 abbrev pub HasBegun : ℕ → ℕ → RingNotes → Type 0
 HasBegun layer feature now = HaveNoted layer feature [] [] now
 
+-- since the rings of a feature began to be noted, those among these parts were
+abbrev pub HaveNotedParts : RingNotes → List Part → List Point → RingNotes → Type 0
+HaveNotedParts start parts begun now =
+    HasBegun start.layer start.feature start → HaveNoted start.layer start.feature (rings_in parts) begun now
+
 -- the rings of this geometry were noted
 pub record HasNotedAll (layer feature : ℕ) (geometry : Geometry) (rings : RingNotes) : Type 0 where
   pub layer_is : rings.layer ≡ layer

@@ -11,7 +11,8 @@ use crate::ring_noting::RingNotes;
 use mvt_attrs::LayerKeys;
 use mvt_base::Text;
 use mvt_feature::{Scratch, judge_value};
-use mvt_message::{FeatureFields, LayerVisitor, MessageError, RewriteVisitor};
+use mvt_geometry::{GeometryVisitor, Point};
+use mvt_message::{CanonicalVisitor, FeatureFields, LayerVisitor, MessageError, RewriteVisitor};
 use std::alloc::{AllocError, Global};
 
 /// The notes of the features of a layer.
@@ -98,7 +99,7 @@ impl LayerVisitor for LayerNotes {
     }
 }
 
-/// Of a layer that is made canonical too, or is so already.
+/// Of a layer that is made canonical too.
 impl RewriteVisitor for LayerNotes {
     ghost use Rattle.std.specs.Prelude.{length};
     ghost use Rattle.mvt_model.specs.Findings.{AreNotedSoFar};
@@ -115,5 +116,52 @@ impl RewriteVisitor for LayerNotes {
     ) -> Result<(), AllocError> {
         self.rings.add_rings(fields.kind, integers)?;
         self.add(fields.id)
+    }
+}
+
+/// The rings of the next feature are noted as they are told.
+impl GeometryVisitor for LayerNotes {
+    ghost use Rattle.std.specs.Prelude.{◌≡◌};
+    ghost use Rattle.std.proofs.Common.{refl};
+    ghost use Rattle.mvt_model.specs.Findings.{HaveNotedLayerParts};
+
+    ghost has_parts = { HaveNotedLayerParts };
+
+    ghost has_integers = { λ start integers now. now ≡ start };
+
+    ghost begins = { λ start. (
+      record {
+        layer_is = refl;
+        count_is = refl;
+        ids_are = refl;
+        notes_are = refl;
+      },
+      λ begun. begun,
+    ) };
+
+    #[inline(always)]
+    fn visit_point(&mut self, point: Point) -> Result<(), AllocError> {
+        self.rings.visit_point(point)
+    }
+
+    #[inline(always)]
+    fn end_part(&mut self, points: usize, exterior: bool) -> Result<(), AllocError> {
+        self.rings.end_part(points, exterior)
+    }
+
+    fn visit_integers(&mut self, _: &[u32]) -> Result<(), AllocError> {
+        Ok(())
+    }
+}
+
+/// Of a layer that is canonical as it stands.
+impl CanonicalVisitor for LayerNotes {
+    ghost use Rattle.std.specs.Prelude.{length};
+    ghost use Rattle.mvt_model.specs.Findings.{AreNotedSoFar};
+
+    ghost has_read = { λ items noted features. AreNotedSoFar (length items) noted features };
+
+    fn end_feature(&mut self, _: Global, known: &FeatureFields) -> Result<(), AllocError> {
+        self.add(known.id)
     }
 }

@@ -134,10 +134,9 @@ impl RingNotes {
 
 impl GeometryVisitor for RingNotes {
     ghost use Rattle.std.specs.Prelude.{◌≡◌};
-    ghost use Rattle.mvt_model.specs.Rings.{HasBegun, HaveNoted, rings_in};
+    ghost use Rattle.mvt_model.specs.Rings.{HaveNotedParts};
 
-    ghost has_parts = { λ start parts begun now. HasBegun start.layer start.feature start
-        → HaveNoted start.layer start.feature (rings_in parts) begun now };
+    ghost has_parts = { HaveNotedParts };
 
     ghost has_integers = { λ start integers now. now ≡ start };
 

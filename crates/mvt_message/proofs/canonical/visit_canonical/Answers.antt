@@ -8,5 +8,5 @@ returns g c = λ items has.
     let layer = c.in_ok-layer.layer in
     let size = length-append layer.front.now (layer.values.now ++ layer.extent.now) ∙ ap (λ n. length layer.front.now + n)
     (length-append layer.values.now layer.extent.now) in
-    canonical_is (g.V.RewriteVisitor.has_features items c.layer_of_body.new.visitor) c.args.payload.now layer.name.now c.in-Some.body.now
+    canonical_is (g.V.CanonicalVisitor.has_read items c.layer_of_body.new.visitor) c.args.payload.now layer.name.now c.in-Some.body.now
     (copied_body layer) c.requires c.in-Some.ensures (c.in_ok-layer.ensures.body items has) (omega (arith, size, c.if-layer-body.false))

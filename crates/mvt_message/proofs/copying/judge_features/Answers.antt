@@ -8,10 +8,10 @@ loop-at-init g c = (
   c.requires,
   c.new-layer_keys.ensures,
   λ items has held count ready.
-      features_from_none (g.V.RewriteVisitor.has_features items c.args.visitor.now) c.args.body.now c.args.start c.args.keys.now held ready has,
+      features_from_none (g.V.CanonicalVisitor.has_read items c.args.visitor.now) c.args.body.now c.args.start c.args.keys.now held ready has,
 )
 
 pub returns-clause-features : goal.returns-clause-features
 returns-clause-features g c = λ items has held count ready.
-    subst (λ at. AreFeaturesFrom (g.V.RewriteVisitor.has_features items c.loop-at.visitor) c.args.body.now c.args.start c.args.keys.now held at
+    subst (λ at. AreFeaturesFrom (g.V.CanonicalVisitor.has_read items c.loop-at.visitor) c.args.body.now c.args.start c.args.keys.now held at
     c.loop-at.used) c.if-at-end.false (c.loop-at.invariant.2 items has held count ready)

@@ -43,7 +43,7 @@ slice_bounds-result-start g c =
 
 pub returns-clause-body : goal.returns-clause-body
 returns-clause-body g c = λ items has.
-    let WereTold = g.V.RewriteVisitor.has_features items c.judge_features.new.visitor in
+    let WereTold = g.V.CanonicalVisitor.has_read items c.judge_features.new.visitor in
     let body = c.args.body.now in
     let ends = c.ends_with_extent.ensures c.if-not-ends_with_extent.false in
     let texts_are = c.in_ok-texts.ensures ∙ c.deref.ensures.value in

@@ -5,8 +5,7 @@ use Rattle.mvt_model.proofs.layer_noting.LayerNotesLayerVisitor.visit_feature.Go
 pub returns-clause-feature : goal.returns-clause-feature
 returns-clause-feature c = λ items held features are has.
     let drawn = c.in_ok-known.ensures.feature (length items) (length features) has.1 held are in
-    let f : Feature = record { id = c.in_ok-known.known.id; attributes = drawn.attributes; geometry = drawn.geometry } in
-    (
+    let f : Feature = record { id = c.in_ok-known.known.id; attributes = drawn.attributes; geometry = drawn.geometry } in (
       f,
       drawn.is,
       c.in_ok-add.ensures (length items) features f (record {

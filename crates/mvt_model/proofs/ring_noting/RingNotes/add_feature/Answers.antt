@@ -1,4 +1,4 @@
-use Rattle.std.proofs.Common.{refl, sym, ap, ap₂, subst, ◌∙◌}
+use Rattle.std.proofs.Common.{subst}
 use Rattle.mvt_model.specs.Rings.{HasBegun}
 use Rattle.mvt_model.proofs.RingLemmas.{all_noted_of, told_layer}
 use Rattle.mvt_model.proofs.ring_noting.RingNotes.add_feature.Goals as goal
