@@ -20,8 +20,8 @@ use std::alloc::AllocError;
 /// they are told: no list of them is made.
 ///
 /// Answers whether they draw one. Where they don't, the visitor may have been told some of the
-/// parts, and [`draw_geometry`](crate::draw_geometry) says what is wrong. A geometry of unknown type
-/// isn't told, and the answer is no.
+/// parts, and [`draw_geometry`](crate::draw_geometry) says what is wrong. A geometry of unknown
+/// type isn't told, and the answer is no.
 ///
 /// # Errors
 ///

@@ -240,7 +240,8 @@ fn visit_parts<'a, V: LayerVisitor>(
     ensures ok { OnOk result (layer_fault payload_at tag_at (split payload.now).fields ≡ None) }
     ensures layer { (items : List Item)
         → IsLayerFields (V.has_values items visitor.old) payload_at (split payload.now).fields
-        front.entry → IfOk result (λ visited. (layer : ALayer) × IsLayer (split payload.now).fields layer
+        front.entry → IfOk result (λ visited. (layer : ALayer)
+        × IsLayer (split payload.now).fields layer
         × HasLayer (V.has_features items) visitor.new visited layer) }
     ensures fault { IfErr result (λ error. Reports (fault_of error)
         (layer_fault payload_at tag_at (split payload.now).fields)) }

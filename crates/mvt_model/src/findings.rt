@@ -58,8 +58,8 @@ impl<'a> Findings<'a> {
 
     /// Adds what is found of the item of a payload, after so many others, and answers the name of
     /// the layer. No value of it is made, and nothing is written for a layer that is canonical as
-    /// it stands, or that can't be where it stands. For another it holds the layer's keys and values
-    /// and the canonical fields of its features.
+    /// it stands, or that can't be where it stands. For another it holds the layer's keys and
+    /// values and the canonical fields of its features.
     ///
     /// # Errors
     ///

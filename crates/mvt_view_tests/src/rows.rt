@@ -508,7 +508,8 @@ fn expect_read(rt: &(impl Abort + AllocGlobal), bytes: &[u8], rows: &Rows) {
     expect_rows(rt, &table.leak(), rows);
 }
 
-// A layer of version 1 with the value `y`, whose version stands last, and layer `a` with the value 7.
+// A layer of version 1 with the value `y`, whose version stands last, and layer `a` with the
+// value 7.
 const OLD_AND_NEW: [u8; 23] = [
     0x1A, 0x0A, 0x0A, 0x01, 0x78, 0x22, 0x03, 0x0A, 0x01, 0x79, 0x78, 0x01, 0x1A, 0x09, 0x78, 0x02,
     0x0A, 0x01, 0x61, 0x22, 0x02, 0x28, 0x07,

@@ -110,8 +110,8 @@ fn append_numbers(bytes: &[u8], out: &mut Vec<u32>) -> Result<(), PackedError>
     Ok(())
 }
 
-/// The first of the numbers of a packed field, and the bytes behind it. `None` where no number below
-/// 2^32 is spelled in front.
+/// The first of the numbers of a packed field, and the bytes behind it. `None` where no number
+/// below 2^32 is spelled in front.
 #[inline(always)]
 pub fn packed_front(bytes: &[u8]) -> Option<(u32, &[u8])>
     ensures number { IfSome result (λ found. (ns : List ℕ) → ArePacked found.1.now ns

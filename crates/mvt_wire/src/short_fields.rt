@@ -53,8 +53,8 @@ pub fn short_number_at(source: &[u8], at: usize, number: u32) -> Option<(u64, us
     }
 }
 
-/// The field that begins at an offset, and the offset after it. `None` where there is none, or where
-/// it isn't in its shortest spelling.
+/// The field that begins at an offset, and the offset after it. `None` where there is none, or
+/// where it isn't in its shortest spelling.
 #[inline(always)]
 pub fn short_field_at(source: &[u8], at: usize) -> Option<(Field<'_>, usize)>
     requires { at ≤ length source.now }
