@@ -1,9 +1,10 @@
 //! Features whose fields stand as most programs write them: their geometry is told straight from
 //! its bytes, without a list of integers.
-ghost use Rattle.std.specs.Prelude.{◌≡◌, ◌+◌, ◌^◌, ◌<◌, ℕ, List, [], ◌∷◌, length, None, IfOk, IfErr, IfSome, IfNone, OnOk, OnSome};
+ghost use Rattle.std.specs.Prelude.{◌≡◌, ◌≢◌, ◌+◌, ◌^◌, ◌<◌, ℕ, List, [], ◌∷◌, length, None, IfOk, IfErr, IfSome, IfNone, OnOk, OnSome};
 ghost use Rattle.mvt_base.specs.Reports.{Reports};
 ghost use Rattle.mvt_base.specs.Rules.{each, first};
 ghost use Rattle.mvt_attrs.specs.declared.value.Value.{Value};
+ghost use Rattle.mvt_geometry.specs.declared.shape.Kind.TheVariants as kinds;
 ghost use Rattle.mvt_geometry.specs.declared.shape.Point.{Point as APoint};
 ghost use Rattle.mvt_geometry.specs.Visiting.{HasDrawn, Part};
 ghost use Rattle.mvt_wire.specs.Field.{Entry, bytes as the_bytes};
@@ -59,21 +60,20 @@ pub fn draw_usual_feature<V: GeometryVisitor>(
         Some(found) => found,
         None => return Ok(None),
     };
+    if !draw_packed(visitor, known.kind, integers)? {
+        return Ok(None);
+    }
     match judge_tags(alloc, keys, values, &scratch.tags) {
-        Ok(()) => {}
-        Err(TagError::Memory) => return Err(AllocError),
-        Err(TagError::Fault { .. }) => return Ok(None),
+        Ok(()) => Ok(Some(known)),
+        Err(TagError::Memory) => Err(AllocError),
+        Err(TagError::Fault { .. }) => Ok(None),
     }
-    if draw_packed(visitor, known.kind, integers)? {
-        return Ok(Some(known));
-    }
-    Ok(None)
 }
 
 /// Whether a payload is a feature, in a layer with these keys and this number of values.
 ///
-/// It is `judge_feature` for whom the scratch needs to say nothing of the feature afterwards: the
-/// integers of most features are judged where they lie.
+/// It answers what `judge_feature` does, but the scratch says nothing of the feature afterwards:
+/// the integers of most features are judged where they lie.
 ///
 /// # Errors
 ///
@@ -125,6 +125,7 @@ fn usual_fields<'a>(
     ensures known { IfOk result (λ found. IfSome found (λ f. (integers : List ℕ)
         → ArePacked f.1.now integers
         → AreFeatureFields (split payload.now).fields f.0 scratch.new.tags.items integers)) }
+    ensures kind { IfOk result (λ found. IfSome found (λ f. f.0.kind ≢ kinds.Unknown)) }
 {
     let mut fields = Fields::new(payload);
     let known = match read_front(&mut fields, payload, payload_at, scratch) {
