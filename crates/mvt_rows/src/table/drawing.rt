@@ -42,12 +42,18 @@ impl Table {
         ensures same { keys.new ≡ keys.old }
     {
         let (parts, points) = self.drawn();
+        let (parts_room, points_room) = self.room();
         match draw_usual_feature(alloc, self, payload, payload_at, keys, values, scratch)? {
             Some(known) => Ok(known),
             None => {
                 self.keep_parts(parts, points);
-                let known = draw_feature(alloc, self, payload, payload_at, keys, values, scratch)?;
-                Ok(known)
+                match draw_feature(alloc, self, payload, payload_at, keys, values, scratch) {
+                    Ok(known) => Ok(known),
+                    Err(error) => {
+                        self.keep_room(parts_room, points_room);
+                        Err(error)
+                    }
+                }
             }
         }
     }
@@ -69,5 +75,18 @@ impl Table {
     {
         self.parts.truncate(parts);
         self.points.truncate(points);
+    }
+
+    /// How many parts and how many points there is room for.
+    fn room(&self) -> (usize, usize) {
+        (self.parts.capacity(), self.points.capacity())
+    }
+
+    /// Gives back the memory of parts and points that goes beyond this room and isn't in use.
+    fn keep_room(&mut self, parts: usize, points: usize)
+        ensures { self.new ≡ self.old }
+    {
+        self.parts.shrink_to(parts);
+        self.points.shrink_to(points);
     }
 }

@@ -3,8 +3,8 @@ use Rattle.mvt_rows.specs.Tables.{Table}
 use Rattle.mvt_rows.proofs.TableLemmas.{dropped}
 use Rattle.mvt_rows.proofs.table.Table.add_drawing.Goals as goal
 
-pub returns-in_ok-known-in-None-clause-feature : goal.returns-in_ok-known-in-None-clause-feature
-returns-in_ok-known-in-None-clause-feature c = λ held are.
+pub returns-in-Ok-clause-feature : goal.returns-in-Ok-clause-feature
+returns-in-Ok-clause-feature c = λ held are.
     let start = c.args.self.now in
     let now = c.draw_usual_feature.new.visitor in
     let told = rw c.in-None.is at c.in_ok-known.ensures.told in
@@ -13,4 +13,4 @@ returns-in_ok-known-in-None-clause-feature c = λ held are.
     ∙ ap₂ (λ p q. let t : Table = record now { parts = take p now.parts; points = take q now.points } in t) c.drawn-parts.ensures.parts
     c.drawn-parts.ensures.points
     ∙ dropped start told.0 told.1 now told.2 in
-    rw (c.in_ok-known.ensures.same, same) at (c.in_ok-known-in-None.ensures.feature held are)
+    rw (c.in_ok-known.ensures.same, same) at (c.in-Ok.ensures.feature held are)
