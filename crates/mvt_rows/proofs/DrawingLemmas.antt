@@ -1,5 +1,5 @@
 -- Geometries that are drawn from their rows, part by part.
-use Rattle.std.proofs.Common.{arith, ◌≡◌, ℕ, suc, ◌+◌, ◌<◌, pos, ◌≤ℤ◌, ◌<ℤ◌, Bool, true, false, List, [], ◌∷◌, ◌++◌, length, get_or, map, take, Option, Some, None, refl, sym, ap, ap₂, ◌∙◌, subst, append_assoc, append-nil}
+use Rattle.std.proofs.Common.{arith, ◌≡◌, ℕ, suc, ◌<◌, pos, ◌≤ℤ◌, ◌<ℤ◌, Bool, true, false, List, [], ◌∷◌, ◌++◌, length, get_or, map, Option, Some, None, refl, sym, ap, ap₂, ◌∙◌, subst, append_assoc, append-nil}
 use Rattle.std.specs.List.{AllByRecursion}
 use Rattle.std.specs.Option.{is_some, option_map, option_and_then}
 use Rattle.std.specs.Prelude.{◌↔◌, ◌==◌, if◌then◌else◌}
@@ -14,7 +14,7 @@ use Rattle.mvt_geometry.specs.declared.shape.Kind.TheVariants as kinds
 use Rattle.mvt_geometry.specs.declared.shape.Point.{Point}
 use Rattle.mvt_geometry.specs.declared.shape.Polygon.{Polygon}
 use Rattle.mvt_geometry.specs.Area.{area2}
-use Rattle.mvt_geometry.specs.Drawing.{drawn, Draws, stroke, strokes}
+use Rattle.mvt_geometry.specs.Drawing.{drawn, stroke, strokes}
 use Rattle.mvt_geometry.specs.Parts.{AreStrokes, HasAreaOf, HaveAreas, IsStrokeFrom, end_of}
 use Rattle.mvt_geometry.specs.Shape.{kind_of, last_of, origin, rings_of}
 use Rattle.mvt_geometry.specs.Valid.{AreInner, Grouped, IsValid}
@@ -24,7 +24,7 @@ use Rattle.mvt_rows.specs.declared.rows.PartRow.{PartRow}
 use Rattle.mvt_rows.specs.declared.rows.PointRow.{PointRow}
 use Rattle.mvt_rows.specs.Drawing.{AreDrawn, DrawnLines, DrawnPolygons, HasBegun, IsDrawable, IsFollowedBy, ring_role, role_of}
 use Rattle.mvt_rows.specs.Tables.{Table}
-use Rattle.mvt_rows.specs.TileRows.{drawn_of, each, geometry_of, line_of, part_of, point_of, points_of, steps, truth_of, with_inner, with_ring, with_ring_row}
+use Rattle.mvt_rows.specs.TileRows.{drawn_of, each, geometry_of, line_of, part_of, point_of, points_of, truth_of, with_inner, with_ring, with_ring_row}
 use Rattle.mvt_rows.specs.Written.{IsNone}
 
 -- ---- one geometry

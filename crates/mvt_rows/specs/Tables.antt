@@ -1,6 +1,6 @@
 -- A tile as flat rows. Each row names the parts that belong to it by where they stand in the list of their kind; parts are
 -- appended in the order of the tile.
-use Rattle.std.specs.Prelude.{ℕ, ◌+◌, ◌*◌, ◌-◌, Bool, List, [], ◌∷◌, ◌++◌, length, map, Option, unwrap_or, is_some, if◌then◌else◌}
+use Rattle.std.specs.Prelude.{ℕ, ◌+◌, ◌*◌, ◌-◌, Bool, List, [], ◌∷◌, ◌++◌, length, map, unwrap_or, is_some, if◌then◌else◌}
 use Rattle.std.specs.Int.{w64, cast_unsigned}
 use Rattle.std.specs.List.{fold}
 use Rattle.mvt_attrs.specs.declared.value.Value.{Value}
