@@ -1,6 +1,7 @@
 //! A layer that is canonical but for where its version stands, and for last keys and values that no
 //! feature uses (Mapbox Vector Tile Specification 2.1, 4.1).
-ghost use Rattle.std.specs.Prelude.{◌≡◌, ◌≤◌, ◌<◌, ◌+◌, ◌^◌, ℕ, List, [], ◌++◌, length, map, drop, IfOk, IfSome, IsTrue, IsUtf8};
+ghost use Rattle.std.specs.Prelude.{◌≡◌, ◌≤◌, ◌<◌, ◌+◌, ◌-◌, ◌^◌, ◌==◌, ℕ, List, [], ◌++◌, length, map, drop, IfOk, IfSome, IsTrue, IsUtf8};
+ghost use Rattle.std.specs.List.{list_any};
 ghost use Rattle.mvt_attrs.specs.declared.value.Value.{Value as AValue};
 ghost use Rattle.mvt_attrs.specs.FirstUse.{AreDistinct};
 ghost use Rattle.mvt_attrs.specs.FirstUses.{lent};
@@ -20,6 +21,9 @@ use mvt_feature::{NotCanonical, Scratch, is_canonical_value, judge_canonical};
 use mvt_wire::{field_len, short_bytes_at, short_number_at};
 use std::alloc::{AllocError, Global};
 use std::str;
+
+/// The tag of an extent, a varint; its number has five bytes at most.
+const EXTENT_TAG: u8 = 0x28;
 
 /// The field of version 2.
 pub(crate) const VERSION_FIELD: [u8; 2] = [0x78, 2];
@@ -77,6 +81,9 @@ pub(crate) fn layer_of_body<'a, V: CanonicalVisitor>(
         (copied_body l)) }
     ensures within { IfOk result (λ l. length (copied_body l) ≤ length body.now) }
 {
+    if !may_end_with_extent(body) {
+        return Err(NotCanonical::Other);
+    }
     let Some((name, features_at)) = name_from(body) else {
         return Err(NotCanonical::Other);
     };
@@ -100,6 +107,15 @@ pub(crate) fn layer_of_body<'a, V: CanonicalVisitor>(
         values: &body[values_at..values_end],
         extent: &body[extent_at..],
     })
+}
+
+/// Whether the extent's tag stands among the last bytes, as it does where the extent is the last
+/// field. Programs that write no extent, or write it in front, are told by this before the keys and
+/// the values are read.
+fn may_end_with_extent(body: &[u8]) -> bool
+    ensures { result ≡ list_any (λ b. b == 40) (drop (length body.now - 6) body.now) }
+{
+    body[body.len().saturating_sub(6)..].contains(&EXTENT_TAG)
 }
 
 /// The name in front, and the offset after it.
