@@ -271,17 +271,17 @@ fn judge_parts<V: GeometryVisitor>(
     let Some(after) = first_uses(&scratch.tags, used_keys, used_values) else {
         return Err(NotCanonical::Other);
     };
-    match judge_tags(alloc, keys, values, &scratch.tags) {
-        Ok(()) => {}
-        Err(TagError::Memory) => return Err(NotCanonical::Memory),
-        Err(_) => return Err(NotCanonical::Broken),
-    }
     if !are_short(parts.integers) {
         return Err(NotCanonical::Other);
     }
     let is_drawn = draw_packed(visitor, parts.kind, parts.integers)?;
     if !is_drawn {
         return Err(NotCanonical::Broken);
+    }
+    match judge_tags(alloc, keys, values, &scratch.tags) {
+        Ok(()) => {}
+        Err(TagError::Memory) => return Err(NotCanonical::Memory),
+        Err(_) => return Err(NotCanonical::Broken),
     }
     Ok(CanonicalFeature {
         fields: FeatureFields {
