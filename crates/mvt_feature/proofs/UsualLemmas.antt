@@ -1,5 +1,6 @@
--- Features whose last field is that of their integers.
-use Rattle.std.proofs.Common.{◌≡◌, ◌≢◌, ℕ, List, [], ◌∷◌, ◌++◌, None, Ok, refl, sym, ap, subst, ◌∙◌, append-nil}
+-- Features whose integers are packed in one field.
+use Rattle.std.proofs.Common.{◌≡◌, ◌≢◌, ℕ, ◌==◌, false, Option, Some, Result, Err, IfOk, IsOk, Bor, List, [], ◌∷◌, ◌++◌, None, Ok, refl, sym, ◌∙◌, append-nil}
+use Rattle.std.proofs.lemmas.Bool.{false≢true, ne_eqb}
 use Rattle.mvt_base.specs.Rules.{first}
 use Rattle.mvt_geometry.specs.declared.shape.Geometry.{Geometry}
 use Rattle.mvt_geometry.specs.declared.shape.Geometry.TheVariants.{Unknown, Points, Lines, Polygons}
@@ -8,32 +9,56 @@ use Rattle.mvt_geometry.specs.declared.shape.Kind.TheVariants as kinds
 use Rattle.mvt_geometry.specs.declared.shape.Point.{Point}
 use Rattle.mvt_geometry.specs.Shape.{kind_of}
 use Rattle.mvt_geometry.specs.Visiting.{Part, parts_of, HasDrawn, HasDrawnPacked}
-use Rattle.mvt_wire.specs.Field.{Entry, bytes}
+use Rattle.mvt_wire.specs.declared.fault.WireFault.{WireFault}
+use Rattle.mvt_wire.specs.declared.field.Field.{Field}
+use Rattle.mvt_wire.specs.Field.{Entry, entry_of, bytes}
+use Rattle.mvt_wire.specs.Fields.{GivesEntry}
 use Rattle.mvt_wire.specs.Packed.{ArePacked}
-use Rattle.mvt_wire.specs.Split.{Parts, split}
+use Rattle.mvt_wire.specs.Split.{Parts}
 use Rattle.mvt_feature.specs.declared.feature_fields.FeatureFields.{FeatureFields}
 use Rattle.mvt_feature.specs.declared.numbers.feature.TheConstants.{TAGS, GEOMETRY}
 use Rattle.mvt_feature.specs.FeatureRules.{feature_form_rules}
-use Rattle.mvt_feature.specs.Inner.{id_after, kind_after, numbers_at, AreFeatureFieldsSoFar}
+use Rattle.mvt_feature.specs.Inner.{id_after, kind_after, numbers_at, AreFeatureFieldsSoFar, AreUsualSoFar}
 use Rattle.mvt_feature.specs.Walks.{Walk}
 use Rattle.mvt_feature.proofs.FeatureFieldsLemmas.{known_with}
 use Rattle.mvt_feature.proofs.FeatureLemmas.{numbers_list}
+use Rattle.mvt_feature.proofs.WalkLemmas.{walk_step}
 
-pub with_integers : (payload : List ℕ) (payload_at : ℕ) (to_come : Parts) (done : List Entry) (known : FeatureFields)
-    (tags before : List ℕ) → Walk payload to_come done → AreFeatureFieldsSoFar payload_at done (Ok known) tags before → before ≡ []
-    → (x : Entry) (d : List ℕ) → x.number ≡ GEOMETRY → x.content ≡ bytes d → to_come.fields ≡ x ∷ []
-    → (integers : List ℕ) → ArePacked d integers
-    → AreFeatureFieldsSoFar payload_at (split payload).fields (Ok known) tags integers
-with_integers payload payload_at to_come done known tags before walk so_far none x d number content last integers are =
+-- a field of integers, the first of them
+pub with_packed : (payload_at : ℕ) (done : List Entry) (known : FeatureFields) (tags : List ℕ) (packed : Option (Bor (List ℕ)))
+    → AreUsualSoFar payload_at done known tags packed → packed ≡ None
+    → (x : Entry) (d : List ℕ) → x.number ≡ GEOMETRY → x.content ≡ bytes d → (integers : List ℕ) → ArePacked d integers
+    → AreFeatureFieldsSoFar payload_at (done ++ x ∷ []) (Ok known) tags integers
+with_packed payload_at done known tags packed so_far none x d number content integers are =
     let list = numbers_list (bytes d) integers are in
     let clean : first (feature_form_rules x.number x.content) ≡ None = rw (number, content) list.0 in
     let id : known.id ≡ id_after known.id x.number x.content = rw number refl in
     let kind : known.kind ≡ kind_after known.kind x.number x.content = rw number refl in
     let same : tags ≡ tags ++ numbers_at TAGS x.number x.content = rw number (sym (append-nil tags)) in
-    let numbers : integers ≡ before ++ numbers_at GEOMETRY x.number x.content = rw (none, number, content) list.1 in
-    subst (λ fields. AreFeatureFieldsSoFar payload_at fields (Ok known) tags integers)
-    (sym (walk.fields ∙ ap (λ xs. done ++ xs) last))
-    (known_with payload_at done x known tags before tags integers (Ok known) so_far clean id kind same numbers tt)
+    let numbers : integers ≡ [] ++ numbers_at GEOMETRY x.number x.content = rw (number, content) list.1 in
+    known_with payload_at done x known tags [] tags integers (Ok known) ((rw none at so_far) [] refl) clean id kind same numbers tt
+
+-- any other field
+pub with_other : (payload_at : ℕ) (done : List Entry) (known more : FeatureFields) (tags new_tags : List ℕ)
+    (packed : Option (Bor (List ℕ))) (x : Entry) → AreUsualSoFar payload_at done known tags packed → x.number ≢ GEOMETRY
+    → first (feature_form_rules x.number x.content) ≡ None
+    → more.id ≡ id_after known.id x.number x.content → more.kind ≡ kind_after known.kind x.number x.content
+    → new_tags ≡ tags ++ numbers_at TAGS x.number x.content
+    → AreUsualSoFar payload_at (done ++ x ∷ []) more new_tags packed
+with_other payload_at done known more tags new_tags packed x so_far other clean id kind tags_are = λ integers are.
+    let none : (x.number == GEOMETRY) ≡ false = ne_eqb x.number GEOMETRY other in
+    let same : integers ≡ integers ++ numbers_at GEOMETRY x.number x.content = rw none (sym (append-nil integers)) in
+    known_with payload_at done x known tags integers new_tags integers (Ok more) (so_far integers are) clean id kind tags_are same tt
+
+-- the step of the walk
+pub usual_step : (payload : List ℕ) (payload_at : ℕ) (old new : Parts) (done : List Entry) (field : Result Field WireFault)
+    (more : FeatureFields) (tags : List ℕ) (packed : Option (Bor (List ℕ))) → Walk payload old done
+    → GivesEntry old (Some field) new → IsOk field
+    → IfOk field (λ (f : Field). AreUsualSoFar payload_at (done ++ entry_of f ∷ []) more tags packed)
+    → (all : List Entry) × Walk payload new all × AreUsualSoFar payload_at all more tags packed
+usual_step payload payload_at old new done (Ok field) more tags packed walk step ok so_far =
+    (done ++ entry_of field ∷ [], walk_step payload old new done field walk step, so_far)
+usual_step payload payload_at old new done (Err fault) more tags packed walk step ok so_far = absurd (false≢true ok)
 
 -- a geometry of known type was told as parts
 told_by : {V : Type 0} (HasParts : V → List Part → List Point → V → Type 0) (HasIntegers : V → List ℕ → V → Type 0)

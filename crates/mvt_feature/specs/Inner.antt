@@ -1,11 +1,13 @@
 -- Definitions between private functions, which no public contract cites.
-use Rattle.std.specs.Prelude.{◌≡◌, ◌≢◌, ℕ, ◌≤◌, ◌==◌, true, false, List, [], ◌∷◌, Option, Some, None, Result, if◌then◌else◌}
+use Rattle.std.specs.Prelude.{◌≡◌, ◌≢◌, ℕ, ◌≤◌, ◌==◌, true, false, List, [], ◌∷◌, Option, Some, None, Result, Ok, if◌then◌else◌}
+use Rattle.std.specs.Borrow.{Bor}
 use Rattle.std.specs.List.{last_or}
 use Rattle.mvt_attrs.specs.declared.value.Value.{Value}
 use Rattle.mvt_attrs.specs.Tags.{Resolved}
 use Rattle.mvt_geometry.specs.declared.shape.Kind.{Kind}
 use Rattle.mvt_geometry.specs.Drawing.{Draws}
 use Rattle.mvt_wire.specs.Field.{Content, Entry}
+use Rattle.mvt_wire.specs.Packed.{ArePacked}
 use Rattle.mvt_feature.specs.declared.numbers.feature.TheConstants.{ID, TAGS, TYPE, GEOMETRY}
 use Rattle.mvt_feature.specs.declared.message_error.MessageError.{MessageError}
 use Rattle.mvt_feature.specs.declared.feature.Feature.{Feature}
@@ -67,6 +69,16 @@ pub record AreFeatureFields (fields : List Entry) (known : FeatureFields) (tags 
 abbrev pub AreFeatureFieldsSoFar : ℕ → List Entry → Result FeatureFields MessageError → List ℕ → List ℕ → Type 0
 AreFeatureFieldsSoFar payload_at done known tags integers =
     IsSoFar (feature_field_rules payload_at) (λ fields k. AreFeatureFields fields k tags integers) done known
+
+-- integers are packed in these bytes; without bytes there are none
+abbrev pub ArePackedIn : Option (Bor (List ℕ)) → List ℕ → Type 0
+ArePackedIn None integers = integers ≡ []
+ArePackedIn (Some d) integers = ArePacked d.now integers
+
+-- what is known by the fields so far, whatever integers these bytes pack
+abbrev pub AreUsualSoFar : ℕ → List Entry → FeatureFields → List ℕ → Option (Bor (List ℕ)) → Type 0
+AreUsualSoFar payload_at done known tags packed =
+    (integers : List ℕ) → ArePackedIn packed integers → AreFeatureFieldsSoFar payload_at done (Ok known) tags integers
 
 -- the tags and the integers in a scratch, with what is known besides, are those of this feature
 pub record AreOf (keys : List (List ℕ)) (values : List Value) (known : FeatureFields) (scratch : Scratch) (f : Feature) : Type 0 where

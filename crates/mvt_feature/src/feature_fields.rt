@@ -137,7 +137,7 @@ impl FeatureFields {
 
     /// What is known with one more field, which is told to stand at this place.
     #[inline(always)]
-    fn with(
+    pub(crate) fn with(
         self,
         field: &Field<'_>,
         at: u64,

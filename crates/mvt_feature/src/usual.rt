@@ -1,20 +1,21 @@
-//! Features whose fields stand as most programs write them: their geometry is told straight from
-//! its bytes, without a list of integers.
-ghost use Rattle.std.specs.Prelude.{◌≡◌, ◌≢◌, ◌+◌, ◌^◌, ◌<◌, ℕ, List, [], ◌∷◌, length, None, IfOk, IfErr, IfSome, IfNone, OnOk, OnSome};
+//! Features whose integers are packed in one field, as all programs write them: their geometry is
+//! told straight from its bytes, without a list of integers.
+ghost use Rattle.std.specs.Prelude.{◌≡◌, ◌≢◌, ◌+◌, ◌^◌, ◌<◌, ℕ, List, [], ◌∷◌, ◌++◌, length, None, IfOk, IfErr, IfSome, IfNone, IsOk, OnOk, OnSome};
 ghost use Rattle.mvt_base.specs.Reports.{Reports};
 ghost use Rattle.mvt_base.specs.Rules.{each, first};
 ghost use Rattle.mvt_attrs.specs.declared.value.Value.{Value};
 ghost use Rattle.mvt_geometry.specs.declared.shape.Kind.TheVariants as kinds;
 ghost use Rattle.mvt_geometry.specs.declared.shape.Point.{Point as APoint};
 ghost use Rattle.mvt_geometry.specs.Visiting.{HasDrawn, Part};
-ghost use Rattle.mvt_wire.specs.Field.{Entry, bytes as the_bytes};
+ghost use Rattle.mvt_wire.specs.Field.{Entry, entry_of};
 ghost use Rattle.mvt_wire.specs.Packed.{ArePacked};
 ghost use Rattle.mvt_wire.specs.Split.{split};
 ghost use Rattle.mvt_feature.specs.declared.numbers.feature.TheConstants.{GEOMETRY};
 ghost use Rattle.mvt_feature.specs.Drawn.{tags_of, IsDrawnOf};
 ghost use Rattle.mvt_feature.specs.Faults.{fault_of};
 ghost use Rattle.mvt_feature.specs.FeatureRules.{feature_fault, feature_field_rules};
-ghost use Rattle.mvt_feature.specs.Inner.{AreFeatureFields};
+ghost use Rattle.mvt_feature.specs.Inner.{AreFeatureFields, AreUsualSoFar};
+ghost use Rattle.mvt_feature.specs.Walks.{Walk};
 
 use crate::feature_fields::{FeatureFields, GEOMETRY_TAG, read_front};
 use crate::message_error::MessageError;
@@ -23,15 +24,14 @@ use crate::reading::judge_feature;
 use crate::scratch::Scratch;
 use mvt_attrs::{LayerKeys, TagError, judge_tags};
 use mvt_geometry::{GeometryVisitor, Kind, Point, draw_packed};
-use mvt_wire::{Fields, Payload};
+use mvt_wire::{Field, Fields, Payload, WireFault};
 use std::alloc::{AllocError, Global};
 
-/// Tells a visitor the geometry of a feature whose fields stand as they mostly do: the id, the
-/// tags, the type and the geometry, each once at most, in this order, and nothing behind. It is
-/// judged as it is told; the tags are left in the scratch.
+/// Tells a visitor the geometry of a feature whose integers are packed in one field. It is judged
+/// as it is told; the tags are left in the scratch.
 ///
-/// `None` where the fields stand otherwise, where the type is unknown, or where a rule is broken:
-/// then the visitor may have been told some parts, the scratch says nothing, and
+/// `None` where they stand otherwise, where the type is unknown, or where a rule is broken: then
+/// the visitor may have been told some parts, the scratch says nothing, and
 /// [`draw_feature`](crate::draw_feature) reads the feature or says what is wrong.
 ///
 /// # Errors
@@ -108,8 +108,8 @@ pub fn check_feature(
     Ok(())
 }
 
-/// What the fields say besides the integers, and the bytes in which these are packed, where the
-/// fields stand as they mostly do.
+/// What the fields say besides the integers, and the bytes in which these are packed, where one
+/// field has them all and the type is known.
 #[inline(always)]
 fn usual_fields<'a>(
     payload: &'a [u8],
@@ -133,35 +133,106 @@ fn usual_fields<'a>(
         Err(MessageError::Memory) => return Err(AllocError),
         Err(MessageError::Fault { .. }) => return Ok(None),
     };
-    if known.kind == Kind::Unknown || !scratch.integers.is_empty() {
+    if !scratch.integers.is_empty() {
         return Ok(None);
     }
-    match last_integers(&mut fields) {
-        Some(integers) => Ok(Some((known, integers))),
-        None => Ok(None),
+    let front = Usual {
+        known,
+        integers: None,
+    };
+    let Some(usual) = front.with_fields(fields, payload, payload_at, scratch)? else {
+        return Ok(None);
+    };
+    match usual.integers {
+        Some(integers) if usual.known.kind != Kind::Unknown => Ok(Some((usual.known, integers))),
+        _ => Ok(None),
     }
 }
 
-/// The bytes of the next field, where that is the last one and holds packed integers.
-#[inline(always)]
-fn last_integers<'a>(fields: &mut Fields<'a>) -> Option<&'a [u8]>
-    ensures { IfSome result (λ found. (geometry : Entry) × (geometry.number ≡ GEOMETRY)
-        × (geometry.content ≡ the_bytes found.now)
-        × (fields.old.to_come.fields ≡ geometry ∷ []) × (fields.old.to_come.rest ≡ [])) }
-{
-    let field = match fields.next_tagged(GEOMETRY_TAG) {
-        Some(Ok(field)) => field,
-        _ => return None,
-    };
-    if field.number != feature::GEOMETRY {
-        return None;
+/// What the fields so far say, and the bytes of the one that has the integers.
+#[derive(Clone, Copy)]
+struct Usual<'a> {
+    known: FeatureFields,
+    integers: Option<&'a [u8]>,
+}
+
+impl<'a> Usual<'a> {
+    /// What all fields say: these come behind those so far. `None` where a rule is broken, or more
+    /// than one field has integers.
+    #[inline(always)]
+    fn with_fields(
+        self,
+        mut fields: Fields<'a>,
+        payload: &'a [u8],
+        payload_at: u64,
+        scratch: &mut Scratch,
+    ) -> Result<Option<Self>, AllocError>
+        requires { (done : List Entry) × Walk payload.now fields.to_come done
+            × AreUsualSoFar payload_at done self.known scratch.old.tags.items self.integers }
+        ensures whole { IfOk result (λ found. OnSome found ((split payload.now).rest ≡ [])) }
+        ensures known { IfOk result (λ found. IfSome found (λ usual.
+            AreUsualSoFar payload_at (split payload.now).fields usual.known
+            scratch.new.tags.items usual.integers)) }
+    {
+        let mut usual = self;
+        if let Some(field) = fields.next_tagged(GEOMETRY_TAG) {
+            match usual.with_field(field, scratch)? {
+                Some(more) => usual = more,
+                None => return Ok(None),
+            }
+        }
+        for field in fields {
+            match usual.with_field(field, scratch)? {
+                Some(more) => usual = more,
+                None => return Ok(None),
+            }
+        }
+        Ok(Some(usual))
     }
-    let Payload::Len(integers) = field.payload else {
-        return None;
-    };
-    match fields.next() {
-        None => Some(integers),
-        Some(_) => None,
+
+    /// What the next field says with these.
+    #[inline(always)]
+    fn with_field(
+        self,
+        field: Result<Field<'a>, WireFault>,
+        scratch: &mut Scratch,
+    ) -> Result<Option<Self>, AllocError>
+        ensures known { (payload_at : ℕ) (done : List Entry) → AreUsualSoFar payload_at done
+            self.entry.known scratch.old.tags.items self.entry.integers
+            → IfOk result (λ found. IfSome found (λ usual. IfOk field.entry (λ field.
+            AreUsualSoFar payload_at (done ++ entry_of field ∷ []) usual.known
+            scratch.new.tags.items usual.integers))) }
+        ensures read { IfOk result (λ found. OnSome found (IsOk field.entry)) }
+    {
+        let Ok(field) = field else {
+            return Ok(None);
+        };
+        if field.number == feature::GEOMETRY {
+            return Ok(self.with_integers(&field));
+        }
+        match self.known.with(&field, 0, scratch) {
+            Ok(known) => Ok(Some(Usual { known, ..self })),
+            Err(MessageError::Memory) => Err(AllocError),
+            Err(MessageError::Fault { .. }) => Ok(None),
+        }
+    }
+
+    /// What a field of integers says with these, where it is the first of them and packs them.
+    #[inline(always)]
+    fn with_integers(self, field: &Field<'a>) -> Option<Self>
+        requires { field.now.number ≡ GEOMETRY }
+        ensures { (payload_at : ℕ) (done : List Entry) (tags : List ℕ)
+            → AreUsualSoFar payload_at done self.entry.known tags self.entry.integers
+            → IfSome result (λ usual. AreUsualSoFar payload_at (done ++ entry_of field.now ∷ [])
+            usual.known tags usual.integers) }
+    {
+        match (self.integers, field.payload) {
+            (None, Payload::Len(integers)) => Some(Usual {
+                integers: Some(integers),
+                ..self
+            }),
+            _ => None,
+        }
     }
 }
 

@@ -1,0 +1,24 @@
+use Rattle.mvt_feature.proofs.UsualLemmas.{usual_step}
+use Rattle.mvt_feature.proofs.usual.Usual.with_fields.Goals as goal
+use Rattle.mvt_feature.proofs.usual.Usual.with_fields.Goals.{in-Some+in_ok-more+in-Some-2, in_default}
+
+pub loop-field-init : goal.loop-field-init
+loop-field-init c =
+    let begun = c.into_iter-field-iterator.ensures.into_iter_gives in
+    elim c.match-next_tagged.branch [
+      | in-Some+in_ok-more+in-Some-2 w ↦
+          let read = w.in_ok-more.ensures in
+          rw (begun, w.usual-is, w.scratch-is)
+          (usual_step c.args.payload.now c.args.payload_at c.args.fields.to_come c.next_tagged.new.self.to_come c.requires.0 w.in-Some.field
+          w.in-Some-2.more.known w.with_field.new.scratch.tags.items w.in-Some-2.more.integers c.requires.1 w.in-Some.ensures.some.0
+          (rw w.in-Some-2.is at read.read) (rw w.in-Some-2.is at (read.known c.args.payload_at c.requires.0 c.requires.2)))
+      | in_default w ↦ rw (begun, w.in_default.ensures.none, w.usual-is, w.scratch-is) c.requires
+    ]
+
+pub loop-field-preserved : goal.loop-field-preserved
+loop-field-preserved c =
+    let done = c.loop-field.invariant.0 in
+    let read = c.in_ok-more-2.ensures in
+    usual_step c.args.payload.now c.args.payload_at _ _ done c.in-Some-field.field c.in-Some-3.more.known _ _ c.loop-field.invariant.1
+    c.in-Some-field.ensures.steps.0 (rw c.in-Some-3.is at read.read)
+    (rw c.in-Some-3.is at (read.known c.args.payload_at done c.loop-field.invariant.2))
