@@ -1,5 +1,5 @@
 -- Features whose integers are packed in one field.
-use Rattle.std.proofs.Common.{◌≡◌, ◌≢◌, ap, ℕ, ◌==◌, false, Option, Some, Result, Err, IfOk, IsOk, Bor, List, [], ◌∷◌, ◌++◌, None, Ok, refl, sym, ◌∙◌, append-nil}
+use Rattle.std.proofs.Common.{◌≡◌, ◌≢◌, ap, ℕ, ◌==◌, false, Option, Some, Result, Err, IfOk, IfErr, IsOk, Bor, List, [], ◌∷◌, ◌++◌, None, Ok, refl, sym, ◌∙◌, append-nil}
 use Rattle.std.proofs.lemmas.Bool.{false≢true, ne_eqb}
 use Rattle.mvt_base.specs.Rules.{first}
 use Rattle.mvt_geometry.specs.declared.shape.Geometry.{Geometry}
@@ -99,3 +99,8 @@ pub told_parts : {V : Type 0} (HasParts : V → List Part → List Point → V �
     → (parts : List Part) × (begun : List Point) × HasParts start parts begun now
 told_parts HasParts HasIntegers start now kind d known drawn =
     told_by HasParts HasIntegers start now drawn.2 (λ e. known (drawn.3.same_kind ∙ e)) drawn.4
+
+-- what holds of each error holds of the one that there may be
+pub of_any_error : {A E : Type 0} (r : Result A E) (P : E → Type 0) → ((e : E) → P e) → IfErr r P
+of_any_error (Ok a) P holds = tt
+of_any_error (Err e) P holds = holds e

@@ -1,12 +1,15 @@
 //! Values and features whose payload is canonical as it stands (Mapbox Vector Tile Specification
 //! 2.1, 4.1).
-ghost use Rattle.std.specs.Prelude.{◌≡◌, ◌^◌, ◌<◌, ◌≤◌, ◌+◌, ◌*◌, ◌++◌, ℕ, List, length, drop, IfOk, IfSome, IsTrue, IsUtf8, OnOk};
+ghost use Rattle.std.specs.Prelude.{◌≡◌, ◌≢◌, ◌^◌, ◌<◌, ◌≤◌, ◌+◌, ◌*◌, ◌++◌, ℕ, List, length, drop, IfOk, IfErr, IfSome, IsTrue, IsUtf8, OnOk};
 ghost use Rattle.std.specs.List.{AllByRecursion};
 ghost use Rattle.mvt_attrs.specs.declared.value.Value.{Value as AValue};
-ghost use Rattle.mvt_geometry.specs.Visiting.{HasDrawn};
+ghost use Rattle.mvt_geometry.specs.declared.shape.Kind.TheVariants as kinds;
+ghost use Rattle.mvt_geometry.specs.declared.shape.Point.{Point as APoint};
+ghost use Rattle.mvt_geometry.specs.Visiting.{HasDrawn, Part};
 ghost use Rattle.mvt_wire.specs.Field.{content_of, varint, fixed32, fixed64};
 ghost use Rattle.mvt_wire.specs.Packed.{ArePacked};
 ghost use Rattle.mvt_wire.specs.Spelling.{short_numbers, spelled};
+ghost use Rattle.mvt_feature.specs.declared.canonical.NotCanonical.TheVariants as causes;
 ghost use Rattle.mvt_feature.specs.Canonical.{plain, field_of_value, id_fields, type_fields};
 ghost use Rattle.mvt_feature.specs.Copying.{IsCanonicalValue, IsCanonicalAfter, packed_tags, parts_fields};
 ghost use Rattle.mvt_feature.specs.Valid.{ValidValue};
@@ -28,7 +31,7 @@ use std::str;
 pub enum NotCanonical {
     /// Memory runs out.
     Memory,
-    /// A rule is broken.
+    /// A rule seems to be broken; what judges the payload tells.
     Broken,
     /// It stands in another way, or isn't looked at further.
     Other,
@@ -119,6 +122,7 @@ pub(crate) struct Parts<'a> {
 fn parts_of(payload: &[u8]) -> Option<Parts<'_>>
     ensures parts { IfSome result (λ parts. payload.now ≡ spelled (parts_fields parts)) }
     ensures id { IfSome result (λ parts. IfSome parts.id (λ n. n < 2 ^ 64)) }
+    ensures kind { IfSome result (λ parts. parts.kind ≢ kinds.Unknown) }
 {
     let (id, tags_at) = id_from(payload);
     let (tags, kind_at) = tags_from(payload, tags_at)?;
@@ -171,6 +175,7 @@ fn kind_from(payload: &[u8], at: usize) -> Option<(Kind, usize)>
     ensures front { IfSome result (λ found. drop at payload.now
         ≡ spelled (type_fields found.0) ++ drop found.1 payload.now) }
     ensures within { IfSome result (λ found. found.1 ≤ length payload.now) }
+    ensures known { IfSome result (λ found. found.0 ≢ kinds.Unknown) }
 {
     let (number, after) = short_number_at(payload, at, feature::TYPE)?;
     match number {
@@ -242,6 +247,8 @@ pub fn judge_canonical<V: GeometryVisitor>(
     ensures found { IfOk result (λ known. (held : List AValue) → length held ≡ values
         → IsCanonicalAfter payload.now keys.old held used
         (HasDrawn V.has_parts V.has_integers visitor.old visitor.new) known) }
+    ensures told { IfErr result (λ error. error ≢ causes.Memory → (parts : List Part)
+        × (begun : List APoint) × V.has_parts visitor.old parts begun visitor.new) }
     ensures same { keys.new ≡ keys.old }
 {
     match parts_of(payload) {
@@ -260,10 +267,13 @@ fn judge_parts<V: GeometryVisitor>(
     used: (usize, usize),
     scratch: &mut Scratch,
 ) -> Result<CanonicalFeature, NotCanonical>
-    requires { IfSome parts.now.id (λ n. n < 2 ^ 64) }
+    requires id { IfSome parts.now.id (λ n. n < 2 ^ 64) }
+    requires kind { parts.now.kind ≢ kinds.Unknown }
     ensures found { IfOk result (λ known. (held : List AValue) → length held ≡ values
         → IsCanonicalAfter (spelled (parts_fields parts.now)) keys.old held used
         (HasDrawn V.has_parts V.has_integers visitor.old visitor.new) known) }
+    ensures told { IfErr result (λ error. error ≢ causes.Memory → (parts : List Part)
+        × (begun : List APoint) × V.has_parts visitor.old parts begun visitor.new) }
     ensures same { keys.new ≡ keys.old }
 {
     take_numbers(parts.tags, &mut scratch.tags)?;
@@ -271,12 +281,12 @@ fn judge_parts<V: GeometryVisitor>(
     let Some(after) = first_uses(&scratch.tags, used_keys, used_values) else {
         return Err(NotCanonical::Other);
     };
-    if !are_short(parts.integers) {
-        return Err(NotCanonical::Other);
-    }
     let is_drawn = draw_packed(visitor, parts.kind, parts.integers)?;
     if !is_drawn {
         return Err(NotCanonical::Broken);
+    }
+    if !are_short(parts.integers) {
+        return Err(NotCanonical::Other);
     }
     match judge_tags(alloc, keys, values, &scratch.tags) {
         Ok(()) => {}
