@@ -7,10 +7,10 @@ use std::process::Abort;
 
 const KINDS: [Kind; 3] = [Kind::Point, Kind::LineString, Kind::Polygon];
 
-/// Two points, a line of long steps, two lines, a polygon with a hole and one without an area.
+/// Two points, a line of long steps that ends at the range's very end, two lines, a polygon with a hole and one without an area.
 const DRAWINGS: [&[u32]; 5] = [
     &[17, 10, 14, 3, 9],
-    &[9, 200, 70_000, 18, 3_000_000, 4_294_967_294, 1, 0],
+    &[9, 200, 70_000, 18, 3_000_000, 4_294_897_294, 1, 0],
     &[9, 4, 4, 18, 0, 16, 16, 0, 9, 17, 17, 10, 4, 8],
     &[
         9, 0, 0, 26, 20, 0, 0, 20, 19, 0, 15, 9, 4, 15, 26, 0, 4, 4, 0, 0, 3, 15,
@@ -69,6 +69,36 @@ fn packed_bytes_are_told_as_their_integers(rt: HostRuntime) {
         }
         drop(numbers);
     }
+}
+
+/// Whether integers draw a line, which bytes and a list of them say alike.
+fn is_line(rt: &(impl Abort + AllocGlobal), integers: &[u32]) -> bool {
+    let mut numbers = PackedNumbers::new(rt.alloc());
+    for integer in integers {
+        numbers.push(*integer).expect(rt, "a number");
+    }
+    expect_same(rt, Kind::LineString, numbers.as_bytes());
+    let mut told = Told::new(rt.alloc());
+    let drawn = draw_packed(&mut told, Kind::LineString, numbers.as_bytes());
+    drop(told);
+    drop(numbers);
+    drawn.expect(rt, "memory")
+}
+
+/// From y = 35,000 a step of 2,147,448,647 ends at 2,147,483,647, the last position there is.
+#[test]
+fn steps_end_within_the_range(rt: HostRuntime) {
+    expect!(rt; is_line(&rt, &[9, 200, 70_000, 10, 0, 4_294_897_294]));
+    expect!(rt; !is_line(&rt, &[9, 200, 70_000, 10, 0, 4_294_897_296]));
+}
+
+/// The largest counts, 2^29 - 1, of MoveTo and of LineTo, and one less, with nothing behind them.
+#[test]
+fn large_counts_without_parameters_draw_nothing(rt: HostRuntime) {
+    expect!(rt; !is_line(&rt, &[4_294_967_289]));
+    expect!(rt; !is_line(&rt, &[9, 0, 0, 4_294_967_290]));
+    expect!(rt; !is_line(&rt, &[9, 0, 0, 4_294_967_282]));
+    expect!(rt; !is_line(&rt, &[9, 0, 0, 4_294_967_290, 2, 2]));
 }
 
 #[test]

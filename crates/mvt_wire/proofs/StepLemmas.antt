@@ -1,6 +1,6 @@
 -- What `next_field`, a step of `Fields` and `field_span` give.
-use Rattle.std.proofs.Common.{◌≡◌, ◌≢◌, ℕ, Bor, suc, ◌+◌, ◌-◌, ◌<◌, ◌≤◌, List, [], ◌∷◌, ◌++◌, length, take, drop, None, Some, Ok, Err, refl, sym, ap, subst, ◌∙◌, arith, append_assoc}
-use Rattle.std.specs.Prelude.{slice_range}
+use Rattle.std.proofs.Common.{◌≡◌, ◌≢◌, ℕ, Bor, Option, Result, IfOk, IfSome, suc, ◌+◌, ◌-◌, ◌<◌, ◌≤◌, List, [], ◌∷◌, ◌++◌, length, take, drop, None, Some, Ok, Err, refl, sym, ap, subst, ◌∙◌, arith, append_assoc}
+use Rattle.std.specs.Prelude.{slice_get, slice_range}
 use Rattle.std.proofs.lemmas.List.{length-append, length-drop, length-take-le, take-append-drop, take_rest, drop-drop, drop_all}
 use Rattle.std.proofs.Math.Seq.{take-append_seam, drop-append_seam}
 use Rattle.mvt_wire.specs.declared.fault.WireCause.{WireCause}
@@ -12,9 +12,9 @@ use Rattle.mvt_wire.specs.Field.{Content, varint, fixed64, bytes, fixed32, IsPay
 use Rattle.mvt_wire.specs.Fields.{Ahead, bytes_size, EndsBy, GivesEntry}
 use Rattle.mvt_wire.specs.Fronts.{entry_at, rest_cause}
 use Rattle.mvt_wire.specs.Rest.{no_tag}
-use Rattle.mvt_wire.specs.Split.{Parts, behind, no_fields, split_from}
+use Rattle.mvt_wire.specs.Split.{Parts, SplitFrom, behind, no_fields, split_from}
 use Rattle.mvt_wire.proofs.FieldLemmas.{entry_found, entry_none, entry_why, rest_cause_is}
-use Rattle.mvt_wire.proofs.SplitLemmas.{split_front, split_none, split_ends, bytes_size-le}
+use Rattle.mvt_wire.proofs.SplitLemmas.{split_front, split_is, split_none, split_ends, bytes_size-le}
 
 pub nil_spells : SpellsNone []
 nil_spells front back n joined s =
@@ -175,3 +175,18 @@ nil_cause = sym (rest_cause_is [] Truncated (no_tag nil_spells refl))
 pub nil_span : (b : List ℕ) → 0 ≡ length b → StartsNoField b × (rest_cause b ≡ Truncated)
 nil_span [] is = (nil_none, nil_cause)
 nil_span (x ∷ xs) is = absurd (omega arith)
+
+-- the field that a step gives begins where the step does
+pub given_at : (at : ℕ) (b : List ℕ) (new : Parts) (e : Entry) → split_from at b ≡ behind e new → e.at ≡ at
+given_at at b new e is =
+    let fields : (split_from at b).fields ≡ e ∷ new.fields = ap (λ (p : Parts). p.fields) is in
+    let (front, back, joined, field, more) = subst (λ es. SplitFrom at b es (split_from at b).rest) fields (split_is at b) in
+    field.begins
+
+-- and so its first byte is the one that stands there
+pub given_tag : (source b : List ℕ) (at tag : ℕ) (given : Option (Result Field WireFault)) (new : Parts)
+    → GivesEntry (split_from at b) given new → slice_get source at ≡ Some tag
+    → IfSome given (λ r. IfOk r (λ (field : Field). slice_get source field.at ≡ Some tag))
+given_tag source b at tag None new step is = tt
+given_tag source b at tag (Some (Err fault)) new step is = tt
+given_tag source b at tag (Some (Ok field)) new step is = rw (given_at at b new (entry_of field) step.0) is

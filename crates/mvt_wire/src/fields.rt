@@ -1,5 +1,5 @@
 //! The fields of a slice, one after the other.
-ghost use Rattle.std.specs.Prelude.{◌≡◌, ◌+◌, length, IfNone, OnSome};
+ghost use Rattle.std.specs.Prelude.{◌≡◌, ◌+◌, length, slice_get, Some, IfOk, IfNone, IfSome, OnSome};
 ghost use Rattle.mvt_wire.specs.Fields.{GivesField};
 ghost use Rattle.mvt_wire.specs.Split.{split};
 
@@ -56,6 +56,8 @@ impl<'a> Fields<'a> {
     pub fn next_tagged(&mut self, tag: u8) -> Option<Result<Field<'a>, WireFault>>
         ensures none { IfNone result (self.new ≡ self.old) }
         ensures some { OnSome result (GivesField self.old result self.new) }
+        ensures tagged { IfSome result (λ given. IfOk given (λ field.
+            slice_get self.old.source.now field.at ≡ Some tag)) }
     {
         match self.source.get(self.at) {
             Some(byte) if *byte == tag => self.next(),
