@@ -1,6 +1,6 @@
 /* Loaded before the C library (LD_PRELOAD): refuses the allocation numbered $REFUSE, from 1, and
    writes how many there were to the file descriptor $REFUSE_COUNT when the process ends. It includes
-   no header, so that any C compiler builds it, the toolchain's own clang too. */
+   no header, so that any C compiler builds it. */
 typedef unsigned long size_t;
 extern char *getenv(const char *);
 extern void *dlsym(void *, const char *);
