@@ -119,5 +119,28 @@ Reads-once most old now new given more before then few reads once asked = record
   );
 }
 
+-- a front was read, and then the rest of what was asked for
+
+pub TakesAtMost-then : (most missing : ℕ) (a b c : Option (List ℕ)) (bytes : List ℕ) → Consumes a b bytes
+    → length bytes + missing ≡ most → TakesAtMost missing b c → TakesAtMost most a c
+TakesAtMost-then most missing a b c bytes before sum then = (
+  bytes ++ then.0,
+  omega (arith, sum, then.1, length-append bytes then.0),
+  Consumes-trans a b c bytes then.0 before then.2,
+)
+
+pub Reads-then : (most missing : ℕ) (old now new : Inflow) (bytes : List ℕ) → Consumes old.left now.left bytes
+    → length bytes + missing ≡ most → now.reads ≤ old.reads + length bytes → now.asked ≤ max old.asked 65536
+    → Reads missing now new → Reads most old new
+Reads-then most missing old now new bytes before sum reads asked then = record {
+  count = omega (arith, then.count);
+  asked = grind (arith, common_steps);
+  turns = (
+    bytes ++ then.turns.0,
+    Consumes-trans old.left now.left new.left bytes then.turns.0 before then.turns.1,
+    omega (arith, then.turns.2, length-append bytes then.turns.0),
+  );
+}
+
 pub Consumes-none : (a b : Option (List ℕ)) → Keeps a b → Consumes a b []
 Consumes-none a b kept = Consumes-kept a a b [] (Consumes-nil a) kept

@@ -1,5 +1,5 @@
 -- What reading a whole reader and writing a whole slice answer.
-use Rattle.std.specs.Prelude.{◌≡◌, ℕ, ◌+◌, ◌<◌, ◌≤◌, max, List, length, take, Option, Some, None, IfSome, Result, Ok, Err, codes}
+use Rattle.std.specs.Prelude.{◌≡◌, ℕ, ◌+◌, ◌<◌, ◌≤◌, max, List, length, ◌++◌, take, Option, Some, None, IfSome, Result, Ok, Err, codes}
 use Rattle.std.specs.Io.KnownBytes.{Appends, Consumes, IsAtEnd}
 use Rattle.std.specs.declared.io.ErrorKind.{ErrorKind}
 use Rattle.mvt_io.specs.declared.read_error.ReadError.{ReadError}
@@ -42,6 +42,10 @@ pub record ReadFront (most : ℕ) (old new : Inflow) (bytes : List ℕ) : Type 0
   pub short : length bytes < most → IsAtEnd new.left
   pub few : length bytes ≤ most
   pub turns : new.reads ≤ old.reads + length bytes + 1
+
+-- the next bytes were read so, and stand behind those that were there
+abbrev pub ReadOn : ℕ → Inflow → Inflow → List ℕ → List ℕ → Type 0
+ReadOn most old new before all = (given : List ℕ) × (all ≡ before ++ given) × ReadFront most old new given
 
 -- the bytes were taken, and no call failed
 pub record Wrote (old new : Outflow) (bytes : List ℕ) : Type 0 where

@@ -7,6 +7,7 @@ pub mod laws;
 mod memory_sink;
 mod memory_source;
 mod read_error;
+mod rest;
 mod sink;
 mod source;
 mod transfers;

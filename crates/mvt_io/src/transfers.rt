@@ -3,11 +3,13 @@ ghost use Rattle.std.specs.Prelude.{Some, IfOk, IfErr, OnOk};
 ghost use Rattle.mvt_io.specs.States.{EndedBy};
 ghost use Rattle.mvt_io.specs.Transfers.{ReadFront, Reads, TakesAtMost, Wrote, WroteFront, kind_read};
 
+use super::rest::read_rest;
 use super::{ReadError, Sink, Source};
 use std::alloc::Global;
 use std::io::ErrorKind;
 
-/// The most bytes that one read asks for.
+/// The most bytes that one of the first reads asks for. When so many are there, the others ask for
+/// more.
 const PIECE: usize = 16_384;
 
 /// All bytes that the reader has left, but at most so many.
@@ -31,6 +33,9 @@ pub fn read_up_to<R: Source>(
     let mut piece = [0; PIECE];
     let mut missing = most;
     while missing > 0 {
+        if bytes.len() >= PIECE {
+            return read_rest(reader, missing, bytes);
+        }
         let asked = missing.min(PIECE);
         let count = match reader.read(&mut piece[..asked]) {
             Ok(count) => count,

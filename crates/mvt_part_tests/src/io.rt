@@ -102,6 +102,65 @@ fn reads_whole(rt: HostRuntime) {
     expect_read(&rt, 7, 10, TILE.get(..10), 2);
 }
 
+// So many bytes, no two neighbours alike.
+fn some_bytes(rt: &(impl Abort + AllocGlobal), size: usize) -> Vec<u8> {
+    let mut bytes = Vec::new(rt.alloc());
+    for index in 0..size {
+        bytes.push((index % 251) as u8).expect(rt, "a byte");
+    }
+    bytes
+}
+
+// So many bytes are read up to a limit, by a reader that gives so many at a time and was asked so
+// often.
+fn expect_many_read(
+    rt: &(impl Abort + AllocGlobal),
+    size: usize,
+    step: usize,
+    limit: usize,
+    calls: u64,
+) {
+    let mut reader = MemorySource::new(some_bytes(rt, size), step.max(1), u64::MAX);
+    let bytes = read_up_to(rt.alloc(), &mut reader, limit).expect(rt, "bytes");
+    let wanted = some_bytes(rt, size.min(limit));
+    expect!(rt; bytes == wanted);
+    expect_eq!(rt; reader.calls(), calls);
+    drop(wanted);
+    drop(bytes);
+    drop(reader);
+}
+
+// The first 16,384 bytes are read in small pieces, the others in pieces of 65,536.
+#[test]
+fn reads_large_pieces_later(rt: HostRuntime) {
+    for (size, calls) in [
+        (16_383, 2),
+        (16_384, 2),
+        (16_385, 3),
+        (81_919, 3),
+        (81_920, 3),
+        (81_921, 4),
+    ] {
+        expect_many_read(&rt, size, usize::MAX, usize::MAX, calls);
+        expect_many_read(&rt, size, usize::MAX, size, calls.saturating_sub(1));
+        expect_many_read(&rt, 200_000, usize::MAX, size, calls.saturating_sub(1));
+    }
+    expect_many_read(&rt, 16_385, 10_000, usize::MAX, 3);
+    expect_many_read(&rt, 81_921, 10_000, usize::MAX, 10);
+}
+
+// A failure behind the first piece, and one behind a large one.
+#[test]
+fn reads_large_pieces_until_a_failure(rt: HostRuntime) {
+    for fails_from in 0..3 {
+        let mut reader = MemorySource::new(some_bytes(&rt, 100_000), usize::MAX, fails_from);
+        let error = read_up_to(rt.alloc(), &mut reader, usize::MAX).err();
+        expect_eq!(rt; error, Some(ReadError::Read(ErrorKind::Other)));
+        expect_eq!(rt; reader.calls(), fails_from + 1);
+        drop(reader);
+    }
+}
+
 #[test]
 fn reads_until_a_failure(rt: HostRuntime) {
     let mut reader = tile_source(rt.alloc(), 1, 5).expect(&rt, "a reader");

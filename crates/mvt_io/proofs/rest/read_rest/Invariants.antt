@@ -1,0 +1,18 @@
+use Rattle.std.proofs.Common.{ℕ, List, ◌+◌, ◌++◌, ◌≤◌, ◌≡◌, max, length}
+use Rattle.std.specs.Io.KnownBytes.{Consumes}
+use Rattle.mvt_io.specs.States.{NoneFailed}
+use Rattle.mvt_io.proofs.rest.read_rest.Given as goal
+
+abbrev pub invariant-loop-missing : goal.invariant-loop-missing
+invariant-loop-missing g l = record {
+  given : List ℕ;
+  grown : l.bytes.items ≡ l.initial.bytes.items ++ given;
+  consumed : Consumes (g.R.Source.state l.initial.reader).left (g.R.Source.state l.reader).left given;
+  missing : length given + l.missing ≡ l.fn.most;
+  reads : (g.R.Source.state l.reader).reads ≤ (g.R.Source.state l.initial.reader).reads + length given;
+  asked : (g.R.Source.state l.reader).asked ≤ max (g.R.Source.state l.initial.reader).asked 65536;
+  faults : NoneFailed (g.R.Source.state l.initial.reader).faults (g.R.Source.state l.reader).faults;
+}
+
+abbrev pub decreases-loop-missing : goal.decreases-loop-missing
+decreases-loop-missing g l = l.missing
