@@ -15,6 +15,10 @@ const MOST_COMPARED: usize = 8;
 /// How many slots are looked at for an entry, at most.
 const MOST_STEPS: usize = 32;
 
+/// At least so many slots are made for an entry. Then so few stand in a row that different hashes
+/// hardly ever take all steps, however many entries there are.
+const SLOTS_PER_ENTRY: usize = 4;
+
 /// Whether all entries are different. It may also say no where many of them have one hash, so that
 /// the time grows with their bytes alone, whatever they are.
 ///
@@ -70,7 +74,7 @@ fn are_many_distinct(alloc: Global, entries: &[&[u8]]) -> Result<bool, AllocErro
     requires { length entries.now < 2 ^ 31 }
     ensures { IfOk result (λ holds. IsTrue holds → AreDistinct (lent entries.now)) }
 {
-    let room = (entries.len() * 2).next_power_of_two();
+    let room = (entries.len() * SLOTS_PER_ENTRY).next_power_of_two();
     let mut slots = vec![in alloc; 0u32; room + MOST_STEPS]?;
     for index in 0..entries.len() {
         match free_slot(&slots, entries, index, room) {
