@@ -1,14 +1,14 @@
 -- Entries that are known by their places, and those of them that are used.
-use Rattle.std.proofs.Common.{◌≡◌, ◌≢◌, ◌⊎◌, ℕ, zero, suc, ◌+◌, ◌-◌, ◌<◌, ◌≤◌, Bool, List, [], ◌∷◌, ◌++◌, length, map, set, get_or, drop, replicate, Some, Contains, Decides, bytes_eq, slice_get, slice_index, inl, inr, refl, sym, ap, ap₂, subst, ◌∙◌, ⊎_elim, arith, append_assoc, append-nil}
-use Rattle.std.proofs.lemmas.Bool.{cases_eq}
-use Rattle.std.proofs.lemmas.List.{get_or_default, get_or-set_same, get_or-set_other, get_or_append_left, length_push, length-set, length-replicate, get_or-replicate, map-append}
+use Rattle.std.proofs.Common.{◌≡◌, ◌≢◌, ◌⊎◌, ℕ, zero, suc, ◌+◌, ◌-◌, ◌<◌, ◌≤◌, Bool, List, [], ◌∷◌, ◌++◌, length, map, set, get_or, take, drop, replicate, Some, Contains, Decides, bytes_eq, slice_get, slice_index, inl, inr, refl, sym, ap, ap₂, subst, ◌∙◌, ⊎_elim, arith, append_assoc, append-nil}
+use Rattle.std.proofs.lemmas.Bool.{cases_eq, cases_lt}
+use Rattle.std.proofs.lemmas.List.{get_or_default, get_or_past, get_or-set_same, get_or-set_other, get_or_append_left, length_push, length-set, length-take, get_or-take, length-replicate, get_or-replicate, map-append}
 use Rattle.std.proofs.lemmas.Option.{slice_get_within, get_or_from_slice_get, slice_get-get_or}
 use Rattle.std.proofs.Math.Seq.{get_or-append_seam}
 use Rattle.std.proofs.lemmas.Slice.Eq.{bytes_eq-Decides}
 use Rattle.mvt_attrs.specs.declared.value.Attribute.{Attribute}
 use Rattle.mvt_attrs.specs.declared.value.Value.{Value}
 use Rattle.mvt_attrs.specs.FirstUse.{AreDistinct, first_use}
-use Rattle.mvt_attrs.specs.Inner.Places.{AreIndices}
+use Rattle.mvt_attrs.specs.Inner.Places.{AreFirstMarks, AreIndices}
 use Rattle.mvt_attrs.specs.Pools.{key_pool, value_pool}
 use Rattle.mvt_attrs.specs.Tags.{Names}
 use Rattle.mvt_attrs.specs.TagPlaces.{tags_in}
@@ -68,6 +68,80 @@ module _ {A : Type 0} (distinct : List A) (places marks : List ℕ) (used before
         once = subst AreDistinct (sym no_used) (λ i j d low within e. omega arith);
         recorded = λ i x at. let nothing = ap (λ us. slice_get us i) no_used in cc;
       })
+
+-- entries that stand once each, of which the first are used
+slice_get_front : {A : Type 0} → (n : ℕ) (xs : List A) (i : ℕ) → i < n → slice_get (take n xs) i ≡ slice_get xs i
+slice_get_front zero xs i lt = absurd (omega arith)
+slice_get_front (suc n) [] i lt = refl
+slice_get_front (suc n) (x ∷ xs) zero lt = refl
+slice_get_front (suc n) (x ∷ xs) (suc i) lt = slice_get_front n xs i (omega arith)
+
+distinct_front : {A : Type 0} → (n : ℕ) (xs : List A) → AreDistinct xs → AreDistinct (take n xs)
+distinct_front n xs apart i j d before within same =
+    let size = length-take n xs in
+    let least : (j < n) × (j < length xs) = (omega (arith, size), omega (arith, size)) in
+    apart i j d before least.1
+    (sym (get_or-take n xs i d (omega (arith, least.0))) ∙ same ∙ get_or-take n xs j d least.0)
+
+pub uses_first : {A : Type 0} → (after entries : List A) (indices marks : List ℕ) (copies : List A) (used : ℕ) → after ≡ entries
+    → AreDistinct entries → AreIndices indices (length entries) → AreFirstMarks marks (length entries) used
+    → copies ≡ take used entries → AreUses after indices marks copies entries
+uses_first after entries indices marks copies used is apart are_indices are_marks first =
+    subst (λ ds. AreUses ds indices marks copies entries) (sym is) (subst (λ cs. AreUses entries indices marks cs entries) (sym first) (record {
+      apart = apart;
+      count = are_indices.count;
+      placed = λ i x at. ap (slice_get entries) (are_indices.here i (slice_get_within entries i x at)) ∙ at;
+      room = are_marks.count;
+      marked = λ p i within at.
+          elim (cases_lt p used) [
+            | inl lt ↦ (
+                let same : i ≡ p = omega (arith, are_marks.front p within lt, at) in
+                ap (slice_get (take used entries)) same ∙ slice_get_front used entries p lt)
+            | inr le ↦ absurd (omega (arith, are_marks.rest p le, at))
+          ];
+      once = distinct_front used entries apart;
+      recorded = λ i x at.
+          let size = length-take used entries in
+          let inside = slice_get_within (take used entries) i x at in
+          let lt : i < used = omega (arith, size, inside) in
+          let here : slice_get entries i ≡ Some x = sym (slice_get_front used entries i lt) ∙ at in
+          let mark = are_marks.front i (slice_get_within entries i x here) lt in
+          (i, here, λ none. omega (arith, mark, none));
+    }))
+
+pub marks_more : (marks longer : List ℕ) (n used mark : ℕ) → AreFirstMarks marks n used → (n < used → mark ≡ n + 1)
+    → (used ≤ n → mark ≡ 0) → longer ≡ marks ++ mark ∷ [] → AreFirstMarks longer (n + 1) used
+marks_more marks longer n used mark so_far is_used is_free grown =
+    subst (λ ms. AreFirstMarks ms (n + 1) used) (sym grown) (record {
+      count = omega (arith, length_push marks mark, so_far.count);
+      front = λ i within lt.
+          elim (cases_lt i n) [
+            | inl before ↦ (
+                get_or_append_left marks (mark ∷ []) 0 i (omega (arith, before, so_far.count)) ∙ so_far.front i before lt)
+            | inr le ↦ (
+                let last : i ≡ n = omega (arith, within, le) in
+                at_end i last ∙ is_used (omega (arith, last, lt)) ∙ omega (arith, last))
+          ];
+      rest = λ i le.
+          elim (cases_lt i n) [
+            | inl before ↦ (
+                get_or_append_left marks (mark ∷ []) 0 i (omega (arith, before, so_far.count)) ∙ so_far.rest i le)
+            | inr past ↦ (
+                elim (cases_lt n i) [
+                  | inl beyond ↦ get_or_past (marks ++ mark ∷ []) i 0 (omega (arith, beyond, length_push marks mark, so_far.count))
+                  | inr here ↦ (
+                      let last : i ≡ n = omega (arith, past, here) in
+                      at_end i last ∙ is_free (omega (arith, last, le)))
+                ])
+          ];
+    })
+  where
+    at_end : (i : ℕ) → i ≡ n → get_or (marks ++ mark ∷ []) i 0 ≡ mark
+    at_end i last =
+        ap (λ k. get_or (marks ++ mark ∷ []) k 0) (last ∙ sym so_far.count) ∙ get_or-append_seam marks mark [] 0
+
+pub marks_none : (used : ℕ) → AreFirstMarks [] 0 used
+marks_none used = record { count = refl; front = λ i within lt. absurd (omega arith); rest = λ i le. refl }
 
 -- one of two entries at the places of a longer list
 push_cases : {A : Type 0} → (xs : List A) (x y : A) (i : ℕ) → slice_get (xs ++ x ∷ []) i ≡ Some y

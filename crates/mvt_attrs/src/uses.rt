@@ -1,12 +1,12 @@
 //! The entries of a layer that its features use, each once, in order of first use.
-ghost use Rattle.std.specs.Prelude.{◌≡◌, ◌<◌, ◌≤◌, ◌++◌, ◌∷◌, [], List, ℕ, Some, Contains, length, slice_get, IfOk, OnErr, OnOk};
+ghost use Rattle.std.specs.Prelude.{◌≡◌, ◌<◌, ◌≤◌, ◌++◌, ◌∷◌, [], List, ℕ, Some, Contains, length, take, slice_get, IfOk, OnErr, OnOk};
 ghost use Rattle.mvt_attrs.specs.declared.value.Attribute.{Attribute};
 ghost use Rattle.mvt_attrs.specs.declared.value.Value.{Value as AValue};
 ghost use Rattle.mvt_attrs.specs.Tags.{Names};
 ghost use Rattle.mvt_attrs.specs.TagPlaces.{tags_in};
 ghost use Rattle.mvt_attrs.specs.FirstUse.{AreDistinct};
 ghost use Rattle.mvt_attrs.specs.Inner.Finding.{Knows};
-ghost use Rattle.mvt_attrs.specs.Inner.Places.{AreIndices};
+ghost use Rattle.mvt_attrs.specs.Inner.Places.{AreFirstMarks, AreIndices};
 ghost use Rattle.mvt_base.specs.Related.{Extends};
 ghost use Rattle.mvt_attrs.specs.Using.{AreUsesOf, HasUses, IsUsedBy};
 
@@ -49,6 +49,30 @@ impl<T: Entry> Uses<T> {
             marks: Vec::new(alloc),
             used: Vec::new(alloc),
         }
+    }
+
+    /// The uses of entries that stand once each, of which the first so many are used.
+    ///
+    /// # Errors
+    ///
+    /// When memory runs out.
+    pub fn of_apart(alloc: Global, entries: Vec<T>, used: usize) -> Result<Self, AllocError>
+        requires few { length entries.items < LIMIT }
+        requires apart { AreDistinct entries.items }
+        requires within { used ≤ length entries.items }
+        ensures uses { IfOk result (λ uses. AreUsesOf uses entries.items) }
+        ensures used { IfOk result (λ uses. uses.used.items ≡ take used entries.items) }
+    {
+        let count = entries.len();
+        let first = copied_all(alloc, &entries[..used])?;
+        let places = indices(alloc, count)?;
+        let marks = first_marks(alloc, count, used)?;
+        Ok(Uses {
+            distinct: Pool::of_apart(alloc, entries, EntryIndex::Plain),
+            places,
+            marks,
+            used: first,
+        })
     }
 
     /// How many entries there are.
@@ -231,6 +255,18 @@ fn indices(alloc: Global, count: usize) -> Result<Vec<u32>, AllocError>
         indices.push(index)?;
     }
     Ok(indices)
+}
+
+/// The marks of so many places, where the first entries are used, in order.
+fn first_marks(alloc: Global, count: usize, used: usize) -> Result<Vec<u32>, AllocError>
+    requires { count < LIMIT }
+    ensures { IfOk result (λ marks. AreFirstMarks marks.items count used) }
+{
+    let mut marks = Vec::with_capacity(alloc, count)?;
+    for index in 0..count as u32 {
+        marks.push(if (index as usize) < used { index + 1 } else { 0 })?;
+    }
+    Ok(marks)
 }
 
 /// Adds an item after the others; the first takes room for those of a small layer.
