@@ -196,7 +196,7 @@ impl<V: RewriteVisitor> LayerVisitor for LayerRewriter<V> {
     }
 
     fn visit_keys(&mut self, _: Global, keys: &[Text], _: usize) -> Result<(), AllocError> {
-        self.writer.add_keys(keys)
+        self.writer.place_keys(keys)
     }
 
     fn visit_feature(

@@ -104,6 +104,14 @@ impl LayerWriter {
             → OnOk result (HasWritten keys.now held self.new []) }
     {
         self.payload.reserve(FEATURE_ROOM)?;
+        self.place_keys(keys)
+    }
+
+    /// The same without room for a feature, where it was asked for before.
+    pub(crate) fn place_keys(&mut self, keys: &[Text]) -> Result<(), AllocError>
+        ensures { (held : List AValue) → HasGathered self.old held
+            → OnOk result (HasWritten keys.now held self.new []) }
+    {
         self.uses.keys.add_all(keys)
     }
 

@@ -4,8 +4,8 @@ use Rattle.mvt_message.proofs.layer_rewriting.LayerRewriterLayerVisitor.visit_ke
 
 pub returns : goal.returns
 returns g c = λ items values has.
-    on_ok_weaker c.add_keys.result
+    on_ok_weaker c.place_keys.result
     (λ written. (
       written,
       subst (g.V.RewriteVisitor.has_features items c.args.self.now.visitor []) (sym (written.written [])) has.1,
-    )) (c.add_keys.ensures values has.0)
+    )) (c.place_keys.ensures values has.0)

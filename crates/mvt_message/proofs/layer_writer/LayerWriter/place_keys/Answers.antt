@@ -1,7 +1,7 @@
 use Rattle.std.proofs.Common.{◌∙◌, sym}
 use Rattle.std.proofs.lemmas.Result.{on_ok_weaker}
 use Rattle.mvt_message.proofs.RewriteLemmas.{keys_none, values_none, written_none}
-use Rattle.mvt_message.proofs.layer_writer.LayerWriter.add_keys.Goals as goal
+use Rattle.mvt_message.proofs.layer_writer.LayerWriter.place_keys.Goals as goal
 
 pub returns : goal.returns
 returns c = λ values has.
