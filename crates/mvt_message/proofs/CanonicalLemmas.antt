@@ -90,28 +90,34 @@ value_bytes v = spelled (value_fields v)
 abbrev same_bytes : List ℕ → List ℕ
 same_bytes key = key
 
--- the fields after the name
-abbrev tail : List (List ℕ) → List Value → List Feature → ℕ → List Plain
-tail keys values features extent =
-    all_of FEATURES (feature_bytes keys values) features ++
-    (all_of KEYS same_bytes keys ++ (all_of VALUES value_bytes values ++ extent_fields extent))
+-- the fields of a layer whose features stand in these payloads, after its name
+abbrev tail_by : {Y : Type 0} → (Y → List ℕ) → List Y → List (List ℕ) → List Value → ℕ → List Plain
+tail_by g ys keys values extent =
+    all_of FEATURES g ys ++ (all_of KEYS same_bytes keys ++ (all_of VALUES value_bytes values ++ extent_fields extent))
 
-tail_contents : (k : ℕ) (keys : List (List ℕ)) (values : List Value) (features : List Feature) (extent : ℕ) (a b c : List Content)
-    → contents_at k (all_of FEATURES (feature_bytes keys values) features) ≡ a → contents_at k (all_of KEYS same_bytes keys) ≡ b
+-- and all but its version, and all
+abbrev pub rest_by : {Y : Type 0} → (Y → List ℕ) → List Y → List (List ℕ) → List Value → List ℕ → ℕ → List Plain
+rest_by g ys keys values name extent = plain NAME (bytes name) ∷ tail_by g ys keys values extent
+
+abbrev pub fields_by : {Y : Type 0} → (Y → List ℕ) → List Y → List (List ℕ) → List Value → List ℕ → ℕ → List Plain
+fields_by g ys keys values name extent = plain VERSION (varint 2) ∷ rest_by g ys keys values name extent
+
+tail_contents : {Y : Type 0} → (k : ℕ) (g : Y → List ℕ) (ys : List Y) (keys : List (List ℕ)) (values : List Value) (extent : ℕ) (a b c : List Content)
+    → contents_at k (all_of FEATURES g ys) ≡ a → contents_at k (all_of KEYS same_bytes keys) ≡ b
     → contents_at k (all_of VALUES value_bytes values) ≡ c
-    → contents_at k (tail keys values features extent) ≡ a ++ (b ++ (c ++ contents_at k (extent_fields extent)))
-tail_contents k keys values features extent a b c ea eb ec =
-    contents-append k (all_of FEATURES (feature_bytes keys values) features) _
+    → contents_at k (tail_by g ys keys values extent) ≡ a ++ (b ++ (c ++ contents_at k (extent_fields extent)))
+tail_contents k g ys keys values extent a b c ea eb ec =
+    contents-append k (all_of FEATURES g ys) _
     ∙ ap₂ (λ x y. x ++ y) ea (contents-append k (all_of KEYS same_bytes keys) _
     ∙ ap₂ (λ x y. x ++ y) eb (contents-append k (all_of VALUES value_bytes values) (extent_fields extent)
     ∙ ap (λ x. x ++ contents_at k (extent_fields extent)) ec))
 
 -- no field of another number stands after the name
-tail_none : (k : ℕ) (keys : List (List ℕ)) (values : List Value) (features : List Feature) (extent : ℕ) → (FEATURES == k) ≡ false
-    → (KEYS == k) ≡ false → (VALUES == k) ≡ false
-    → contents_at k (tail keys values features extent) ≡ contents_at k (extent_fields extent)
-tail_none k keys values features extent two three four =
-    tail_contents k keys values features extent [] [] [] (contents_other FEATURES k (feature_bytes keys values) features two)
+tail_none : {Y : Type 0} → (k : ℕ) (g : Y → List ℕ) (ys : List Y) (keys : List (List ℕ)) (values : List Value) (extent : ℕ)
+    → (FEATURES == k) ≡ false → (KEYS == k) ≡ false → (VALUES == k) ≡ false
+    → contents_at k (tail_by g ys keys values extent) ≡ contents_at k (extent_fields extent)
+tail_none k g ys keys values extent two three four =
+    tail_contents k g ys keys values extent [] [] [] (contents_other FEATURES k g ys two)
     (contents_other KEYS k same_bytes keys three) (contents_other VALUES k value_bytes values four)
 
 form_contents : (k : ℕ) (P : Content → Type 0) (xs : List Entry) (cs : List Content) → contents_of k xs ≡ cs
@@ -147,31 +153,30 @@ bytes_all : {Y : Type 0} → (P : Content → Type 0) (g : Y → List ℕ) (ys :
 bytes_all P g ys h = all_mapped (λ y. bytes (g y)) P ys h
 
 -- what stands in the fields of each number
-record AreContents (keys : List (List ℕ)) (values : List Value) (layer : ALayer) (xs : List Entry) : Type 0 where
+record AreContents {Y : Type 0} (g : Y → List ℕ) (ys : List Y) (keys : List (List ℕ)) (values : List Value) (own_name : List ℕ) (own_extent : ℕ)
+    (xs : List Entry) : Type 0 where
   version : contents_of VERSION xs ≡ varint 2 ∷ []
-  name : contents_of NAME xs ≡ bytes layer.name ∷ []
-  extent : contents_of EXTENT xs ≡ varint layer.extent ∷ []
-  features : contents_of FEATURES xs ≡ map (λ f. bytes (feature_bytes keys values f)) layer.features
+  name : contents_of NAME xs ≡ bytes own_name ∷ []
+  extent : contents_of EXTENT xs ≡ varint own_extent ∷ []
+  features : contents_of FEATURES xs ≡ map (λ y. bytes (g y)) ys
   keys_are : contents_of KEYS xs ≡ map (λ key. bytes (same_bytes key)) keys
   values_are : contents_of VALUES xs ≡ map (λ v. bytes (value_bytes v)) values
 
--- the contents of the fields of each number are those of a layer with these keys and values
-abbrev HasContents : List (List ℕ) → List Value → ALayer → List Entry → Type 0
-HasContents keys values layer xs = (k : ℕ) → contents_of k xs ≡ contents_at k (fields_with keys values layer)
+-- the contents of the fields of each number are those of a layer with these parts
+abbrev pub HasContents : {Y : Type 0} → (Y → List ℕ) → List Y → List (List ℕ) → List Value → List ℕ → ℕ → List Entry → Type 0
+HasContents g ys keys values name extent xs = (k : ℕ) → contents_of k xs ≡ contents_at k (fields_by g ys keys values name extent)
 
-in_place : (keys : List (List ℕ)) (values : List Value) (layer : ALayer) (xs : List Entry)
-    → map plain_of xs ≡ fields_with keys values layer → HasContents keys values layer xs
-in_place keys values layer xs is k = only_contents k xs ∙ ap (contents_at k) is
+in_place : {Y : Type 0} → (g : Y → List ℕ) (ys : List Y) (keys : List (List ℕ)) (values : List Value) (name : List ℕ) (extent : ℕ) (xs : List Entry)
+    → map plain_of xs ≡ fields_by g ys keys values name extent → HasContents g ys keys values name extent xs
+in_place g ys keys values name extent xs is k = only_contents k xs ∙ ap (contents_at k) is
 
 -- also where the version stands behind the others
-abbrev rest_with : List (List ℕ) → List Value → ALayer → List Plain
-rest_with keys values layer = plain NAME (bytes layer.name) ∷ tail keys values layer.features layer.extent
-
 abbrev version_alone : List Plain
 version_alone = plain VERSION (varint 2) ∷ []
 
-no_version : (keys : List (List ℕ)) (values : List Value) (layer : ALayer) → contents_at VERSION (rest_with keys values layer) ≡ []
-no_version keys values layer = tail_none VERSION keys values layer.features layer.extent refl refl refl
+no_version : {Y : Type 0} → (g : Y → List ℕ) (ys : List Y) (keys : List (List ℕ)) (values : List Value) (name : List ℕ) (extent : ℕ)
+    → contents_at VERSION (rest_by g ys keys values name extent) ≡ []
+no_version g ys keys values name extent = tail_none VERSION g ys keys values extent refl refl refl
 
 version_behind : (k : ℕ) (rest : List Content) (b : Bool) → (VERSION == k) ≡ b → (VERSION ≡ k → rest ≡ [])
     → rest ++ contents_at k version_alone ≡ (if VERSION == k then varint 2 ∷ rest else rest)
@@ -184,27 +189,28 @@ version_behind k rest false e none =
     ap (λ (t : Bool). rest ++ (if t then varint 2 ∷ [] else [])) e ∙ append-nil rest
     ∙ sym (ap (λ (t : Bool). if t then varint 2 ∷ rest else rest) e)
 
-moved : (keys : List (List ℕ)) (values : List Value) (layer : ALayer) (xs : List Entry)
-    → map plain_of xs ≡ rest_with keys values layer ++ version_alone → HasContents keys values layer xs
-moved keys values layer xs is k =
-    only_contents k xs ∙ ap (contents_at k) is ∙ contents-append k (rest_with keys values layer) version_alone
-    ∙ version_behind k (contents_at k (rest_with keys values layer)) (VERSION == k) refl
-    (λ number. subst (λ j. contents_at j (rest_with keys values layer) ≡ []) number (no_version keys values layer))
+moved : {Y : Type 0} → (g : Y → List ℕ) (ys : List Y) (keys : List (List ℕ)) (values : List Value) (name : List ℕ) (extent : ℕ) (xs : List Entry)
+    → map plain_of xs ≡ rest_by g ys keys values name extent ++ version_alone → HasContents g ys keys values name extent xs
+moved g ys keys values name extent xs is k =
+    let rest = rest_by g ys keys values name extent in
+    only_contents k xs ∙ ap (contents_at k) is ∙ contents-append k rest version_alone
+    ∙ version_behind k (contents_at k rest) (VERSION == k) refl
+    (λ number. subst (λ j. contents_at j rest ≡ []) number (no_version g ys keys values name extent))
 
-are_contents : (keys : List (List ℕ)) (values : List Value) (layer : ALayer) (xs : List Entry)
-    → HasContents keys values layer xs → AreContents keys values layer xs
-are_contents keys values layer xs at =
-    let none = λ (k : ℕ). tail_none k keys values layer.features layer.extent in
-    let parts = λ (k : ℕ). tail_contents k keys values layer.features layer.extent in
-    let features = contents_same FEATURES (feature_bytes keys values) layer.features in
-    let no_features = λ (k : ℕ). contents_other FEATURES k (feature_bytes keys values) layer.features in
+are_contents : {Y : Type 0} → (g : Y → List ℕ) (ys : List Y) (keys : List (List ℕ)) (values : List Value) (name : List ℕ) (extent : ℕ) (xs : List Entry)
+    → HasContents g ys keys values name extent xs → AreContents g ys keys values name extent xs
+are_contents g ys keys values own_name own_extent xs at =
+    let none = λ (k : ℕ). tail_none k g ys keys values own_extent in
+    let parts = λ (k : ℕ). tail_contents k g ys keys values own_extent in
+    let own = contents_same FEATURES g ys in
+    let no_features = λ (k : ℕ). contents_other FEATURES k g ys in
     let no_keys = λ (k : ℕ). contents_other KEYS k same_bytes keys in
     let no_values = λ (k : ℕ). contents_other VALUES k value_bytes values in
     record {
       version = at VERSION ∙ ap (λ l. varint 2 ∷ l) (none VERSION refl refl refl);
-      name = at NAME ∙ ap (λ l. bytes layer.name ∷ l) (none NAME refl refl refl);
+      name = at NAME ∙ ap (λ l. bytes own_name ∷ l) (none NAME refl refl refl);
       extent = at EXTENT ∙ none EXTENT refl refl refl;
-      features = at FEATURES ∙ parts FEATURES _ [] [] features (no_keys FEATURES refl) (no_values FEATURES refl) ∙ append-nil _;
+      features = at FEATURES ∙ parts FEATURES _ [] [] own (no_keys FEATURES refl) (no_values FEATURES refl) ∙ append-nil _;
       keys_are = at KEYS ∙ parts KEYS [] _ [] (no_features KEYS refl) (contents_same KEYS same_bytes keys) (no_values KEYS refl)
           ∙ append-nil _;
       values_are = at VALUES
@@ -213,22 +219,21 @@ are_contents keys values layer xs at =
     }
 
 -- the fields of a layer, wherever they stand, are the layer
-pub layer_is : (xs : List Entry) (keys : List (List ℕ)) (values : List Value) (layer : ALayer)
-    → HasContents keys values layer xs → IsUtf8 layer.name → layer.extent < 2 ^ 32 → AllByRecursion IsUtf8 keys
+pub layer_is : {Y : Type 0} → (g : Y → List ℕ) (ys : List Y) (xs : List Entry) (keys : List (List ℕ)) (values : List Value) (layer : ALayer)
+    → HasContents g ys keys values layer.name layer.extent xs → IsUtf8 layer.name → layer.extent < 2 ^ 32 → AllByRecursion IsUtf8 keys
     → AllByRecursion (λ v. IsValueOf (value_bytes v) v) values
-    → AllByRecursion (λ f. IsFeatureOf (feature_bytes keys values f) keys values f) layer.features
+    → ((zs : List Entry) → map (λ (z : Entry). z.content) zs ≡ map (λ y. bytes (g y)) ys → AreRelated (HoldsFeature keys values) zs layer.features)
     → HaveForm VERSION (HasForm uint32) xs × (version_in xs ≡ Some 2) × IsLayer xs layer
-layer_is xs keys values layer is name extent texts hold features =
-    let at = are_contents keys values layer xs is in
+layer_is g ys xs keys values layer is name extent texts hold features =
+    let at = are_contents g ys keys values layer.name layer.extent xs is in
     let content_of = λ (x : Entry). x.content in
     let version = mapped_one content_of (only VERSION xs) (varint 2) at.version in
     let the_name = mapped_one content_of (only NAME xs) (bytes layer.name) at.name in
     let the_extent = mapped_one content_of (only EXTENT xs) (varint layer.extent) at.extent in
-    let messages = bytes_all (HasForm message) (feature_bytes keys values) layer.features (all_true layer.features) in
+    let messages = bytes_all (HasForm message) g ys (all_true ys) in
     let values_form = bytes_all (HasForm message) value_bytes values (all_true values) in
     let same_keys : keys_in xs ≡ keys = keys_are (only KEYS xs) keys at.keys_are in
-    let is_feature : List ℕ → Feature → Type 0 = λ b f. IsFeatureOf b keys values f in
-    let are = related_contents (feature_bytes keys values) is_feature (only FEATURES xs) layer.features at.features features in (
+    let are = features (only FEATURES xs) at.features in (
       form_contents VERSION (HasForm uint32) xs (varint 2 ∷ []) at.version (lit< tt, tt),
       ap (λ l. number_in (last_or None l)) version.1 ∙ ap number_of version.2,
       record {
@@ -286,18 +291,18 @@ fine_bytes : {Y : Type 0} → (k : ℕ) (g : Y → List ℕ) (ys : List Y) → 1
 fine_bytes k g [] low high = tt
 fine_bytes k g (y ∷ ys) low high = (record { first = low; last = high; content = tt }, fine_bytes k g ys low high)
 
-layer_fine : (keys : List (List ℕ)) (values : List Value) (layer : ALayer) → layer.extent < 2 ^ 32
-    → AllByRecursion IsFine (fields_with keys values layer)
-layer_fine keys values layer small =
+layer_fine : {Y : Type 0} → (g : Y → List ℕ) (ys : List Y) (keys : List (List ℕ)) (values : List Value) (own_name : List ℕ) (own_extent : ℕ)
+    → own_extent < 2 ^ 32 → AllByRecursion IsFine (fields_by g ys keys values own_name own_extent)
+layer_fine g ys keys values own_name own_extent small =
     let version : IsFine (plain VERSION (varint 2)) = record { first = lit≤ tt; last = lit< tt; content = lit< tt } in
-    let name : IsFine (plain NAME (bytes layer.name)) = record { first = lit≤ tt; last = lit< tt; content = tt } in
-    let extent : IsFine (plain EXTENT (varint layer.extent)) = record { first = lit≤ tt; last = lit< tt; content = omega arith } in
-    let features = fine_bytes FEATURES (feature_bytes keys values) layer.features (lit≤ tt) (lit< tt) in
+    let name : IsFine (plain NAME (bytes own_name)) = record { first = lit≤ tt; last = lit< tt; content = tt } in
+    let extent : IsFine (plain EXTENT (varint own_extent)) = record { first = lit≤ tt; last = lit< tt; content = omega arith } in
+    let features = fine_bytes FEATURES g ys (lit≤ tt) (lit< tt) in
     let key_fields = fine_bytes KEYS same_bytes keys (lit≤ tt) (lit< tt) in
     let value_fields = fine_bytes VALUES value_bytes values (lit≤ tt) (lit< tt) in
-    let last = all_joined IsFine (all_of VALUES value_bytes values) (extent_fields layer.extent) value_fields (extent, tt) in
+    let last = all_joined IsFine (all_of VALUES value_bytes values) (extent_fields own_extent) value_fields (extent, tt) in
     let pools = all_joined IsFine (all_of KEYS same_bytes keys) _ key_fields last in
-    (version, (name, all_joined IsFine (all_of FEATURES (feature_bytes keys values) layer.features) _ features pools))
+    (version, (name, all_joined IsFine (all_of FEATURES g ys) _ features pools))
 
 -- the sizes of the payloads
 sizes : {Y : Type 0} → (k : ℕ) (g : Y → List ℕ) (ys : List Y) → AllByRecursion IsFit (all_of k g ys)
@@ -321,7 +326,7 @@ pub pools_within : (keys : List (List ℕ)) (values : List Value) (layer : ALaye
     → (2 * length keys ≤ length (spelled (fields_with keys values layer)))
     × (2 * length values ≤ length (spelled (fields_with keys values layer)))
 pools_within keys values layer =
-    let a = spelled_length (head_fields layer.name) (tail keys values layer.features layer.extent) in
+    let a = spelled_length (head_fields layer.name) (tail_by (feature_bytes keys values) layer.features keys values layer.extent) in
     let b = spelled_length (all_of FEATURES (feature_bytes keys values) layer.features)
     (all_of KEYS same_bytes keys ++ (all_of VALUES value_bytes values ++ extent_fields layer.extent)) in
     let c = spelled_length (all_of KEYS same_bytes keys) (all_of VALUES value_bytes values ++ extent_fields layer.extent) in
@@ -402,9 +407,11 @@ features_read keys values (f ∷ fs) few_keys few_values valid held small =
       features_read keys values fs few_keys few_values valid.1 held.1 small.1,
     )
 
-layer_fits : (keys : List (List ℕ)) (values : List Value) (layer : ALayer) → layer.extent < 2 ^ 32
-    → length (spelled (fields_with keys values layer)) < 2 ^ 32 → AllByRecursion IsFit (fields_with keys values layer)
-layer_fits keys values layer small within = all_fit (fields_with keys values layer) (layer_fine keys values layer small) (omega arith)
+layer_fits : {Y : Type 0} → (g : Y → List ℕ) (ys : List Y) (keys : List (List ℕ)) (values : List Value) (name : List ℕ) (extent : ℕ)
+    → extent < 2 ^ 32 → length (spelled (fields_by g ys keys values name extent)) < 2 ^ 32
+    → AllByRecursion IsFit (fields_by g ys keys values name extent)
+layer_fits g ys keys values name extent small within =
+    all_fit (fields_by g ys keys values name extent) (layer_fine g ys keys values name extent small) (omega arith)
 
 -- entries of keys and of values, among which are those that the features use
 record AreEnough (keys : List (List ℕ)) (values : List Value) (features : List Feature) : Type 0 where
@@ -435,35 +442,74 @@ more_enough features more_keys more_values valid texts valid_values =
           features (features_held features);
     }
 
--- fields with the contents of a valid layer are this layer
-layer_from : (keys : List (List ℕ)) (values : List Value) (layer : ALayer) (b : List ℕ) (xs : List Entry) → Whole b xs
-    → HasContents keys values layer xs → ValidLayer layer → AreEnough keys values layer.features
-    → length (spelled (fields_with keys values layer)) < 2 ^ 32 → IsItem b (Layer layer)
-unfolding IsItem ValidLayer
-layer_from keys values layer b xs whole at valid enough within =
-    let features = layer.features in
-    let feature_fields = all_of FEATURES (feature_bytes keys values) features in
-    let key_fields = all_of KEYS same_bytes keys in
-    let value_fields = all_of VALUES value_bytes values in
-    let fits = layer_fits keys values layer valid.1 within in
-    let pool_fits = all_right IsFit key_fields _ (all_right IsFit feature_fields _ fits.1.1) in
-    let feature_sizes = sizes FEATURES (feature_bytes keys values) features (all_left IsFit feature_fields _ fits.1.1) in
-    let value_sizes = sizes VALUES value_bytes values (all_left IsFit value_fields (extent_fields layer.extent) pool_fits) in
-    let pools = pools_within keys values layer in
-    let few_keys : length keys ≤ 2 ^ 32 = omega (arith, pools.0) in
-    let few_values : length values ≤ 2 ^ 32 = omega (arith, pools.1) in
-    let hold_values = values_read values enough.valid value_sizes in
-    let hold_features = features_read keys values features few_keys few_values valid.2 enough.held feature_sizes in
-    let is = layer_is xs keys values layer at valid.0 valid.1 enough.texts hold_values hold_features in
+-- fields with the contents of a layer are this layer
+pub item_from : {Y : Type 0} → (g : Y → List ℕ) (ys : List Y) (keys : List (List ℕ)) (values : List Value) (layer : ALayer) (b : List ℕ) (xs : List Entry)
+    → Whole b xs → HasContents g ys keys values layer.name layer.extent xs → IsUtf8 layer.name → layer.extent < 2 ^ 32
+    → AllByRecursion IsUtf8 keys → AllByRecursion ValidValue values
+    → ((zs : List Entry) → map (λ (z : Entry). z.content) zs ≡ map (λ y. bytes (g y)) ys → AreRelated (HoldsFeature keys values) zs layer.features)
+    → length (spelled (fields_by g ys keys values layer.name layer.extent)) < 2 ^ 32 → IsItem b (Layer layer)
+unfolding IsItem
+item_from g ys keys values layer b xs whole at name extent texts valid features within =
+    let fits = layer_fits g ys keys values layer.name layer.extent extent within in
+    let pool_fits = all_right IsFit (all_of KEYS same_bytes keys) _ (all_right IsFit (all_of FEATURES g ys) _ fits.1.1) in
+    let value_sizes = sizes VALUES value_bytes values (all_left IsFit (all_of VALUES value_bytes values) (extent_fields layer.extent) pool_fits) in
+    let is = layer_is g ys xs keys values layer at name extent texts (values_read values valid value_sizes) features in
     (xs, whole, is.0, (is.1, is.2))
+
+-- the version stands before the other fields of such a layer, or behind them
+pub item_in_place : {Y : Type 0} → (g : Y → List ℕ) (ys : List Y) (keys : List (List ℕ)) (values : List Value) (layer : ALayer)
+    → IsUtf8 layer.name → layer.extent < 2 ^ 32 → AllByRecursion IsUtf8 keys → AllByRecursion ValidValue values
+    → ((zs : List Entry) → map (λ (z : Entry). z.content) zs ≡ map (λ y. bytes (g y)) ys → AreRelated (HoldsFeature keys values) zs layer.features)
+    → length (spelled (fields_by g ys keys values layer.name layer.extent)) < 2 ^ 32
+    → IsItem (spelled (fields_by g ys keys values layer.name layer.extent)) (Layer layer)
+item_in_place g ys keys values layer name extent texts valid features within =
+    let fields = fields_by g ys keys values layer.name layer.extent in
+    let whole = spelled_whole_whole fields (layer_fits g ys keys values layer.name layer.extent extent within) in
+    item_from g ys keys values layer (spelled fields) whole.0 whole.1 (in_place g ys keys values layer.name layer.extent whole.0 whole.2) name extent
+    texts valid features within
+
+pub item_moved : {Y : Type 0} → (g : Y → List ℕ) (ys : List Y) (keys : List (List ℕ)) (values : List Value) (layer : ALayer)
+    → IsUtf8 layer.name → layer.extent < 2 ^ 32 → AllByRecursion IsUtf8 keys → AllByRecursion ValidValue values
+    → ((zs : List Entry) → map (λ (z : Entry). z.content) zs ≡ map (λ y. bytes (g y)) ys → AreRelated (HoldsFeature keys values) zs layer.features)
+    → length (spelled (fields_by g ys keys values layer.name layer.extent)) < 2 ^ 32
+    → IsItem (spelled (rest_by g ys keys values layer.name layer.extent) ++ short_field VERSION (varint 2)) (Layer layer)
+item_moved g ys keys values layer name extent texts valid features within =
+    let fits = layer_fits g ys keys values layer.name layer.extent extent within in
+    let rest = rest_by g ys keys values layer.name layer.extent in
+    let whole = spelled_whole_whole (rest ++ version_alone) (all_joined IsFit rest version_alone fits.1 (fits.0, tt)) in
+    subst (λ b. IsItem b (Layer layer))
+    (spelled_parts rest version_alone ∙ ap (λ v. spelled rest ++ v) (append-nil (short_field VERSION (varint 2))))
+    (item_from g ys keys values layer (spelled (rest ++ version_alone)) whole.0 whole.1
+    (moved g ys keys values layer.name layer.extent whole.0 whole.2) name extent texts valid features within)
+
+-- features in their canonical payloads
+pub features_are : (keys : List (List ℕ)) (values : List Value) (features : List Feature) → length keys ≤ 2 ^ 32 → length values ≤ 2 ^ 32
+    → AllByRecursion ValidFeature features → AllByRecursion (λ (f : Feature). AllByRecursion (IsIn keys values) f.attributes) features
+    → AllByRecursion (λ f. length (feature_bytes keys values f) < 2 ^ 64) features
+    → (zs : List Entry) → map (λ (z : Entry). z.content) zs ≡ map (λ f. bytes (feature_bytes keys values f)) features
+    → AreRelated (HoldsFeature keys values) zs features
+features_are keys values features few_keys few_values valid held small zs is =
+    related_contents (feature_bytes keys values) (λ b f. IsFeatureOf b keys values f) zs features is
+    (features_read keys values features few_keys few_values valid held small)
+
+own_features : (keys : List (List ℕ)) (values : List Value) (layer : ALayer) → ValidLayer layer → AreEnough keys values layer.features
+    → length (spelled (fields_with keys values layer)) < 2 ^ 32
+    → (zs : List Entry) → map (λ (z : Entry). z.content) zs ≡ map (λ f. bytes (feature_bytes keys values f)) layer.features
+    → AreRelated (HoldsFeature keys values) zs layer.features
+unfolding ValidLayer
+own_features keys values layer valid enough within =
+    let features = layer.features in
+    let fits = layer_fits (feature_bytes keys values) features keys values layer.name layer.extent valid.1 within in
+    let feature_sizes = sizes FEATURES (feature_bytes keys values) features (all_left IsFit (all_of FEATURES (feature_bytes keys values) features) _ fits.1.1) in
+    let pools = pools_within keys values layer in
+    features_are keys values features (omega (arith, pools.0)) (omega (arith, pools.1)) valid.2 enough.held feature_sizes
 
 layer_in_place : (keys : List (List ℕ)) (values : List Value) (layer : ALayer) → ValidLayer layer → AreEnough keys values layer.features
     → length (spelled (fields_with keys values layer)) < 2 ^ 32 → IsItem (spelled (fields_with keys values layer)) (Layer layer)
 unfolding ValidLayer
 layer_in_place keys values layer valid enough within =
-    let fields = fields_with keys values layer in
-    let whole = spelled_whole_whole fields (layer_fits keys values layer valid.1 within) in
-    layer_from keys values layer (spelled fields) whole.0 whole.1 (in_place keys values layer whole.0 whole.2) valid enough within
+    item_in_place (feature_bytes keys values) layer.features keys values layer valid.0 valid.1 enough.texts enough.valid
+    (own_features keys values layer valid enough within) within
 
 layer_canonical : (layer : ALayer) → ValidLayer layer → length (spelled (layer_fields layer)) < 2 ^ 32
     → IsItem (spelled (layer_fields layer)) (Layer layer)
@@ -491,13 +537,9 @@ unfolding ValidLayer
 layer_moved layer more_keys more_values valid texts valid_values within =
     let keys = keys_of layer.features ++ more_keys in
     let values = values_of layer.features ++ more_values in
-    let fits = layer_fits keys values layer valid.1 within in
-    let rest = rest_with keys values layer in
-    let whole = spelled_whole_whole (rest ++ version_alone) (all_joined IsFit rest version_alone fits.1 (fits.0, tt)) in
-    subst (λ b. IsItem b (Layer layer))
-    (spelled_parts rest version_alone ∙ ap (λ v. spelled rest ++ v) (append-nil (short_field VERSION (varint 2))))
-    (layer_from keys values layer (spelled (rest ++ version_alone)) whole.0 whole.1
-    (moved keys values layer whole.0 whole.2) valid (more_enough layer.features more_keys more_values valid.2 texts valid_values) within)
+    let enough = more_enough layer.features more_keys more_values valid.2 texts valid_values in
+    item_moved (feature_bytes keys values) layer.features keys values layer valid.0 valid.1 enough.texts enough.valid
+    (own_features keys values layer valid enough within) within
 
 foreign_canonical : (version : ℕ) (content : List ℕ) → AreOfVersion version content → IsItem content (Foreign version content)
 unfolding IsItem

@@ -1,6 +1,6 @@
 -- A layer that is canonical but for where its version stands, and for last keys and values that no feature uses.
 use Rattle.std.proofs.Common.{◌≡◌, ℕ, zero, suc, ◌+◌, ◌-◌, ◌<◌, ◌≤◌, ◌^◌, List, [], ◌∷◌, ◌++◌, length, map, take, drop, get_or, Bor, inl, inr, zero-add, refl, sym, ap, ap₂, subst, ◌∙◌, arith, append_assoc, append-nil, length-append}
-use Rattle.std.proofs.lemmas.List.{drop-map, length-drop, map-append, take-append-drop}
+use Rattle.std.proofs.lemmas.List.{drop-map, length-drop, map-append, take_more, take-append-drop}
 use Rattle.std.proofs.lemmas.Option.{slice_get-get_or}
 use Rattle.std.proofs.Math.Seq.{take-append_seam, take-length}
 use Rattle.std.specs.Prelude.{IsUtf8}
@@ -25,7 +25,7 @@ use Rattle.mvt_message.specs.declared.item.Layer.{Layer as ALayer}
 use Rattle.mvt_message.specs.declared.item.Item.TheVariants.{Layer}
 use Rattle.mvt_message.specs.declared.numbers.layer.TheConstants.{NAME, FEATURES, KEYS, VALUES, EXTENT, VERSION}
 use Rattle.mvt_message.specs.CanonicalItems.{canonical_item, keys_of, values_of, feature_field, key_field, value_field, extent_fields, fields_with}
-use Rattle.mvt_message.specs.Copying.{body_with, body_fields, IsBodyOf, IsCanonicalLayer, IsCopied, HasBody, AreKeysFrom, AreValuesFrom, AreFeaturesFrom, lent_field}
+use Rattle.mvt_message.specs.Copying.{body_with, body_fields, IsBodyOf, IsCanonicalLayer, IsCopied, HasBody, AreFieldsFrom, AreKeysFrom, ArePayloadsFrom, AreValuesFrom, IsFrontOf, AreFeaturesFrom, lent_field}
 use Rattle.mvt_message.specs.Items.{IsItem}
 use Rattle.mvt_message.specs.ValidItems.{ValidItem, ValidLayer}
 use Rattle.mvt_message.proofs.LenLemmas.{len_step}
@@ -48,15 +48,37 @@ mapped_more f start at after ys y is front =
 all_more : {Y : Type 0} → (P : Y → Type 0) (ys : List Y) (y : Y) → AllByRecursion P ys → P y → AllByRecursion P (ys ++ y ∷ [])
 all_more P ys y all here = all_joined P ys (y ∷ []) all (here, tt)
 
-pub keys_from_more : (body : List ℕ) (start at after : ℕ) (keys longer : List (List ℕ)) (key : List ℕ) → AreKeysFrom body start keys at
-    → drop at body ≡ short_field KEYS (bytes key) ++ drop after body → IsUtf8 key → after ≤ length body → longer ≡ keys ++ key ∷ []
-    → AreKeysFrom body start longer after
-keys_from_more body start at after keys longer key (_, is, texts) front text within grown =
-    subst (λ ks. AreKeysFrom body start ks after) (sym grown) (
+pub payloads_from_more : (body : List ℕ) (start number at after : ℕ) (payloads longer : List (Bor (List ℕ))) (payload : Bor (List ℕ))
+    → ArePayloadsFrom body start number payloads at → drop at body ≡ short_field number (bytes payload.now) ++ drop after body
+    → after ≤ length body → longer ≡ payloads ++ payload ∷ [] → ArePayloadsFrom body start number longer after
+payloads_from_more body start number at after payloads longer payload (_, is) front within grown =
+    subst (λ ps. ArePayloadsFrom body start number ps after) (sym grown) (
       within,
-      mapped_more key_field (drop start body) (drop at body) (drop after body) keys key is front,
-      all_more IsUtf8 keys key texts text,
+      mapped_more (lent_field number) (drop start body) (drop at body) (drop after body) payloads payload is front,
     )
+
+pub fields_from_none : (body : List ℕ) (start number : ℕ) → start ≤ length body → AreFieldsFrom body start number 0 start
+fields_from_none body start number within = ([], (within, refl), refl)
+
+pub fields_from_more : (body : List ℕ) (start number count at after : ℕ) (payload : Bor (List ℕ)) → AreFieldsFrom body start number count at
+    → drop at body ≡ short_field number (bytes payload.now) ++ drop after body → after ≤ length body
+    → AreFieldsFrom body start number (count + 1) after
+fields_from_more body start number count at after payload (payloads, from, counted) front within = (
+  payloads ++ payload ∷ [],
+  payloads_from_more body start number at after payloads (payloads ++ payload ∷ []) payload from front within refl,
+  length-append payloads (payload ∷ []) ∙ ap (λ n. n + 1) counted,
+)
+
+pub texts_more : (payloads : List (Bor (List ℕ))) (n : ℕ) (texts longer : List (List ℕ)) (default : Bor (List ℕ)) → n < length payloads
+    → (texts ≡ lent (take n payloads)) × AllByRecursion IsUtf8 texts → IsUtf8 (get_or payloads n default).now
+    → longer ≡ texts ++ (get_or payloads n default).now ∷ []
+    → (longer ≡ lent (take (n + 1) payloads)) × AllByRecursion IsUtf8 longer
+texts_more payloads n texts longer default inside (are, all) here grown = (
+  grown ∙ ap (λ ts. ts ++ (get_or payloads n default).now ∷ []) are
+      ∙ sym (map-append (λ (b : Bor (List ℕ)). b.now) (take n payloads) (get_or payloads n default ∷ []))
+      ∙ ap lent (sym (take_more payloads n default inside)),
+  subst (AllByRecursion IsUtf8) (sym grown) (all_more IsUtf8 texts (get_or payloads n default).now all here),
+)
 
 abbrev value_bytes : Value → List ℕ
 value_bytes v = spelled (value_fields v)
@@ -167,6 +189,11 @@ values_as_lent : (payloads : List (Bor (List ℕ))) (values : List Value) → le
     → map (lent_field VALUES) payloads ≡ map value_field values
 values_as_lent payloads values are = lent_values payloads ∙ ap (map (λ d. plain VALUES (bytes d))) are ∙ spelled_values values
 
+pub keys_are_from : (body : List ℕ) (start at : ℕ) (payloads : List (Bor (List ℕ))) (keys : List (List ℕ))
+    → ArePayloadsFrom body start KEYS payloads at → keys ≡ lent payloads → AllByRecursion IsUtf8 keys → AreKeysFrom body start keys at
+keys_are_from body start at payloads keys (within, is) are texts =
+    (within, is ∙ ap (λ fs. spelled fs ++ drop at body) (keys_as_lent payloads keys (sym are)), texts)
+
 pub lent_count : (texts : List (Bor (List ℕ))) (keys : List (List ℕ)) → lent texts ≡ keys → length keys ≡ length texts
 lent_count texts keys are = ap length (sym are) ∙ length-mapped (λ (b : Bor (List ℕ)). b.now) texts
 
@@ -240,11 +267,10 @@ cut body n f k more_k v more_v features_at keys_at values_at extent_at keys_end 
     regroup n f k m d = simp append_assoc
 
 -- where the fields of keys and of values end
-pub keys_room : (body : List ℕ) (keys_at values_at : ℕ) (keys : List (List ℕ)) (texts : List (Bor (List ℕ))) → keys_at ≤ length body
-    → AreKeysFrom body keys_at keys values_at → lent texts ≡ keys → length (spelled (map (lent_field KEYS) texts)) ≤ values_at
-keys_room body keys_at values_at keys texts within (from, is, _) are =
-    let end = fields_end body (spelled (map key_field keys)) keys_at values_at is within from in
-    omega (arith, end, ap (λ fs. length (spelled fs)) (keys_as_lent texts keys are))
+pub payloads_room : (body : List ℕ) (start number at : ℕ) (payloads : List (Bor (List ℕ))) → start ≤ length body
+    → ArePayloadsFrom body start number payloads at → start + length (spelled (map (lent_field number) payloads)) ≡ at
+payloads_room body start number at payloads within (from, is) =
+    fields_end body (spelled (map (lent_field number) payloads)) start at is within from
 
 pub values_room : (body : List ℕ) (values_at extent_at : ℕ) (payloads : List (Bor (List ℕ))) → values_at ≤ length body
     → AreValuesFrom body values_at payloads extent_at → values_at + length (spelled (map (lent_field VALUES) payloads)) ≡ extent_at

@@ -1,19 +1,21 @@
 -- A layer that is canonical but for where its version stands, and for last keys and values that no feature uses.
-use Rattle.std.specs.Prelude.{◌≡◌, ℕ, ◌≤◌, ◌⊎◌, List, [], ◌∷◌, ◌++◌, length, map, drop, take, IsUtf8}
+use Rattle.std.specs.Prelude.{◌≡◌, ℕ, ◌^◌, ◌<◌, ◌≤◌, ◌⊎◌, List, [], ◌∷◌, ◌++◌, length, map, drop, take, IsUtf8}
 use Rattle.std.specs.Borrow.{Bor}
 use Rattle.std.specs.List.{AllByRecursion}
 use Rattle.mvt_attrs.specs.declared.value.Value.{Value}
+use Rattle.mvt_attrs.specs.FirstUse.{AreDistinct}
 use Rattle.mvt_attrs.specs.FirstUses.{lent}
-use Rattle.mvt_wire.specs.Field.{bytes}
-use Rattle.mvt_wire.specs.Spelling.{Plain, spelled}
+use Rattle.mvt_wire.specs.Field.{bytes, varint}
+use Rattle.mvt_wire.specs.Spelling.{Plain, short_field, spelled}
 use Rattle.mvt_feature.specs.declared.feature.Feature.{Feature}
 use Rattle.mvt_feature.specs.Canonical.{plain, value_fields}
 use Rattle.mvt_feature.specs.Copying.{AreReady}
 use Rattle.mvt_feature.specs.Valid.{ValidFeature, ValidValue}
 use Rattle.mvt_message.specs.declared.copying.CopiedLayer.{CopiedLayer}
+use Rattle.mvt_message.specs.declared.copying.Front.{Front}
 use Rattle.mvt_message.specs.declared.item.Layer.{Layer as ALayer}
 use Rattle.mvt_message.specs.declared.item.Item.TheVariants as items
-use Rattle.mvt_message.specs.declared.numbers.layer.TheConstants.{NAME}
+use Rattle.mvt_message.specs.declared.numbers.layer.TheConstants.{NAME, KEYS, EXTENT}
 use Rattle.mvt_message.specs.CanonicalItems.{canonical_item, keys_of, values_of, feature_field, key_field, value_field, extent_fields}
 use Rattle.mvt_message.specs.Items.{IsItem}
 use Rattle.mvt_message.specs.ValidItems.{ValidItem, ValidLayer}
@@ -65,7 +67,17 @@ lent_field number payload = plain number (bytes payload.now)
 abbrev pub HasBody : List ℕ → List ℕ → Type 0
 HasBody payload body = (payload ≡ 120 ∷ (2 ∷ body)) ⊎ (payload ≡ body ++ 120 ∷ (2 ∷ []))
 
--- texts in the fields of keys, from one place to another
+-- payloads in fields of a number, from one place to another
+abbrev pub ArePayloadsFrom : List ℕ → ℕ → ℕ → List (Bor (List ℕ)) → ℕ → Type 0
+ArePayloadsFrom body start number payloads at =
+    (at ≤ length body) × (drop start body ≡ spelled (map (lent_field number) payloads) ++ drop at body)
+
+-- so many fields of a number
+abbrev pub AreFieldsFrom : List ℕ → ℕ → ℕ → ℕ → ℕ → Type 0
+AreFieldsFrom body start number count at =
+    (payloads : List (Bor (List ℕ))) × ArePayloadsFrom body start number payloads at × (length payloads ≡ count)
+
+-- texts in the fields of keys
 abbrev pub AreKeysFrom : List ℕ → ℕ → List (List ℕ) → ℕ → Type 0
 AreKeysFrom body start keys at =
     (at ≤ length body) × (drop start body ≡ spelled (map key_field keys) ++ drop at body) × AllByRecursion IsUtf8 keys
@@ -76,6 +88,17 @@ AreValuesFrom body start payloads at =
     (at ≤ length body)
     × ((values : List Value) × (drop start body ≡ spelled (map value_field values) ++ drop at body) × AllByRecursion ValidValue values
     × (lent payloads ≡ map (λ (v : Value). spelled (value_fields v)) values))
+
+-- the keys and the values of a layer, each once, and the extent that ends its fields
+pub record IsFrontOf (body : List ℕ) (front : Front) : Type 0 where
+  pub keys_within : front.keys_at ≤ length body
+  pub keys : ArePayloadsFrom body front.keys_at KEYS front.keys.items front.values_at
+  pub values : AreValuesFrom body front.values_at front.values.items front.extent_at
+  pub keys_apart : AreDistinct (lent front.keys.items)
+  pub values_apart : AreDistinct (lent front.values.items)
+  pub extent : ℕ
+  pub small : extent < 2 ^ 32
+  pub ends : drop front.extent_at body ≡ short_field EXTENT (varint extent)
 
 -- features in their fields, which use the first of the keys and of the values, in their order, and were told
 pub record AreFeaturesFrom (WereTold : List Feature → Type 0) (body : List ℕ) (start : ℕ) (keys : List (List ℕ)) (values : List Value) (at : ℕ) (used : ℕ × ℕ) : Type 0 where

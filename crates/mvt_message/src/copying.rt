@@ -1,7 +1,7 @@
 //! A layer that is canonical but for where its version stands, and for last keys and values that no
 //! feature uses (Mapbox Vector Tile Specification 2.1, 4.1).
 ghost use Rattle.std.specs.Prelude.{◌≡◌, ◌≤◌, ◌<◌, ◌+◌, ◌-◌, ◌^◌, ◌==◌, ℕ, List, [], ◌++◌, length, map, drop, IfOk, IfSome, IsTrue, IsUtf8};
-ghost use Rattle.std.specs.List.{list_any};
+ghost use Rattle.std.specs.List.{AllByRecursion, list_any};
 ghost use Rattle.mvt_attrs.specs.declared.value.Value.{Value as AValue};
 ghost use Rattle.mvt_attrs.specs.FirstUse.{AreDistinct};
 ghost use Rattle.mvt_attrs.specs.FirstUses.{lent};
@@ -10,10 +10,11 @@ ghost use Rattle.mvt_wire.specs.Spelling.{short_field, spelled};
 ghost use Rattle.mvt_feature.specs.Copying.{AreReady, IsCanonicalValue};
 ghost use Rattle.mvt_message.specs.declared.item.Item.{Item};
 ghost use Rattle.mvt_message.specs.declared.numbers.layer.TheConstants.{NAME, KEYS, VALUES, EXTENT};
-ghost use Rattle.mvt_message.specs.Copying.{IsBodyOf, IsCopied, HasBody, AreKeysFrom, AreValuesFrom, AreFeaturesFrom, copied_body, lent_field};
+ghost use Rattle.mvt_message.specs.Copying.{IsBodyOf, IsCopied, HasBody, AreFeaturesFrom, ArePayloadsFrom, AreValuesFrom, IsFrontOf, copied_body, lent_field};
 
 use crate::canonical::CanonicalVisitor;
 use crate::layer_rewriting::Untold;
+use crate::looking::{counts_from, is_first_in_order};
 use crate::numbers::layer;
 use mvt_attrs::{LayerKeys, are_distinct};
 use mvt_base::{LIMIT, Text};
@@ -87,25 +88,56 @@ pub(crate) fn layer_of_body<'a, V: CanonicalVisitor>(
     let Some((name, features_at)) = name_from(body) else {
         return Err(NotCanonical::Other);
     };
-    let keys_at = after_features(body, features_at);
-    let (keys, values_at) = keys_from(alloc, body, keys_at)?;
-    let (values, extent_at) = values_from(alloc, body, values_at)?;
-    if !ends_with_extent(body, extent_at) {
+    let front = front_of(alloc, body, features_at)?;
+    let Some(keys) = texts_of(alloc, &front.keys)? else {
         return Err(NotCanonical::Other);
-    }
-    let texts = bytes_of_texts(alloc, &keys)?;
-    if !are_apart(alloc, &texts, &values)? {
-        return Err(NotCanonical::Other);
-    }
-    let count = values.len();
-    let used = judge_features(alloc, visitor, body, features_at, keys_at, &keys, count)?;
-    let keys_end = end_of_used(layer::KEYS, &texts, used.0, values_at);
-    let values_end = end_of_used(layer::VALUES, &values, used.1, extent_at);
+    };
+    let count = front.values.len();
+    let used = judge_features(alloc, visitor, body, features_at, front.keys_at, &keys, count)?;
+    let keys_end = end_of_used(layer::KEYS, &front.keys, used.0, front.values_at);
+    let values_end = end_of_used(layer::VALUES, &front.values, used.1, front.extent_at);
     Ok(CopiedLayer {
         name,
         front: &body[..keys_end],
-        values: &body[values_at..values_end],
-        extent: &body[extent_at..],
+        values: &body[front.values_at..values_end],
+        extent: &body[front.extent_at..],
+    })
+}
+
+/// The keys and the values of a layer, each once, and where they stand. An extent ends its fields.
+#[derive(Drop)]
+struct Front<'a> {
+    keys_at: usize,
+    keys: Vec<&'a [u8]>,
+    values_at: usize,
+    values: Vec<&'a [u8]>,
+    extent_at: usize,
+}
+
+/// The front of a layer whose features begin at an offset. It costs little where the fields, or
+/// those of the first feature, stand in another order.
+fn front_of(alloc: Global, body: &[u8], features_at: usize) -> Result<Front<'_>, NotCanonical>
+    requires { features_at ≤ length body.now }
+    ensures { IfOk result (IsFrontOf body.now) }
+{
+    if !is_first_in_order(body, features_at) {
+        return Err(NotCanonical::Other);
+    }
+    let keys_at = after_features(body, features_at);
+    let Some(counts) = counts_from(alloc, body, keys_at)? else {
+        return Err(NotCanonical::Other);
+    };
+    let (keys, values_at) = keys_from(alloc, body, keys_at, counts.keys)?;
+    let (values, extent_at) = values_from(alloc, body, values_at, counts.values)?;
+    if !ends_with_extent(body, extent_at) || !are_apart(alloc, &keys, &values)? {
+        return Err(NotCanonical::Other);
+    }
+    Ok(Front {
+        keys_at,
+        keys,
+        values_at,
+        values,
+        extent_at,
     })
 }
 
@@ -144,46 +176,52 @@ fn after_features(body: &[u8], start: usize) -> usize
     at
 }
 
-/// The keys, and the offset after them.
-fn keys_from(alloc: Global, body: &[u8], start: usize) -> Result<(Vec<Text>, usize), AllocError>
+/// The payloads of the keys, and the offset after them. There is room for so many at first.
+fn keys_from(
+    alloc: Global,
+    body: &[u8],
+    start: usize,
+    room: usize,
+) -> Result<(Vec<&[u8]>, usize), AllocError>
     requires { start ≤ length body.now }
-    ensures { IfOk result (λ f. AreKeysFrom body.now start f.0.items f.1) }
+    ensures { IfOk result (λ f. ArePayloadsFrom body.now start KEYS f.0.items f.1) }
 {
-    let mut keys = Vec::with_capacity(alloc, FIRST_ROOM)?;
+    let mut keys = Vec::with_capacity(alloc, room)?;
     let mut at = start;
-    while let Some((key, after)) = key_from(alloc, body, at)? {
+    while let Some((key, after)) = short_bytes_at(body, at, layer::KEYS) {
         keys.push(key)?;
         at = after;
     }
     Ok((keys, at))
 }
 
-/// How many keys, and values, there is room for at first.
-const FIRST_ROOM: usize = 16;
-
-fn key_from(alloc: Global, body: &[u8], at: usize) -> Result<Option<(Text, usize)>, AllocError>
-    requires { at ≤ length body.now }
-    ensures field { IfOk result (λ found. IfSome found (λ f. drop at body.now
-        ≡ short_field KEYS (bytes f.0) ++ drop f.1 body.now)) }
-    ensures text { IfOk result (λ found. IfSome found (λ f. IsUtf8 f.0)) }
-    ensures within { IfOk result (λ found. IfSome found (λ f.
-        (at < f.1) × (f.1 ≤ length body.now))) }
+/// The texts that these bytes are, where they are texts.
+fn texts_of(alloc: Global, payloads: &[&[u8]]) -> Result<Option<Vec<Text>>, AllocError>
+    ensures are { IfOk result (λ found. IfSome found (λ texts. texts.items ≡ lent payloads.now)) }
+    ensures texts { IfOk result (λ found. IfSome found
+        (λ texts. AllByRecursion IsUtf8 texts.items)) }
 {
-    let Some((bytes, after)) = short_bytes_at(body, at, layer::KEYS) else {
-        return Ok(None);
-    };
-    match str::from_utf8(bytes) {
-        Ok(text) => Ok(Some((Text::from_str(alloc, text)?, after))),
-        Err(_) => Ok(None),
+    let mut texts = Vec::with_capacity(alloc, payloads.len())?;
+    for payload in payloads {
+        match str::from_utf8(payload) {
+            Ok(text) => texts.push(Text::from_str(alloc, text)?)?,
+            Err(_) => return Ok(None),
+        }
     }
+    Ok(Some(texts))
 }
 
-/// The payloads of the values, and the offset after them.
-fn values_from(alloc: Global, body: &[u8], start: usize) -> Result<(Vec<&[u8]>, usize), AllocError>
+/// The payloads of the values, and the offset after them. There is room for so many at first.
+fn values_from(
+    alloc: Global,
+    body: &[u8],
+    start: usize,
+    room: usize,
+) -> Result<(Vec<&[u8]>, usize), AllocError>
     requires { start ≤ length body.now }
     ensures { IfOk result (λ f. AreValuesFrom body.now start f.0.items f.1) }
 {
-    let mut values = Vec::with_capacity(alloc, FIRST_ROOM)?;
+    let mut values = Vec::with_capacity(alloc, room)?;
     let mut at = start;
     while let Some((value, after)) = value_from(body, at) {
         values.push(value)?;
@@ -227,16 +265,6 @@ fn are_apart(alloc: Global, keys: &[&[u8]], values: &[&[u8]]) -> Result<bool, Al
         return Ok(false);
     }
     are_distinct(alloc, values)
-}
-
-fn bytes_of_texts(alloc: Global, texts: &[Text]) -> Result<Vec<&[u8]>, AllocError>
-    ensures { IfOk result (λ found. lent found.items ≡ texts.now) }
-{
-    let mut found = Vec::with_capacity(alloc, texts.len())?;
-    for text in texts {
-        found.push(text.as_str().as_bytes())?;
-    }
-    Ok(found)
 }
 
 /// Where the used ones of some payloads end, so many, whose fields of this number end at an offset.

@@ -15,6 +15,7 @@ mod layer_len;
 mod layer_rewriting;
 mod layer_writer;
 mod layer_writing;
+mod looking;
 mod naming;
 pub mod numbers;
 mod payload;

@@ -1,9 +1,10 @@
 use Rattle.std.proofs.Common.{◌-◌, length}
-use Rattle.mvt_message.specs.Copying.{AreKeysFrom}
+use Rattle.mvt_message.specs.declared.numbers.layer.TheConstants.{KEYS}
+use Rattle.mvt_message.specs.Copying.{ArePayloadsFrom}
 use Rattle.mvt_message.proofs.copying.keys_from.Given as goal
 
-abbrev pub invariant-loop-keys : goal.invariant-loop-keys
-invariant-loop-keys l = AreKeysFrom l.body l.start l.keys.items l.at
+abbrev pub invariant-loop-key : goal.invariant-loop-key
+invariant-loop-key l = ArePayloadsFrom l.body l.start KEYS l.keys.items l.at
 
-abbrev pub decreases-loop-keys : goal.decreases-loop-keys
-decreases-loop-keys l = length l.body - l.at
+abbrev pub decreases-loop-key : goal.decreases-loop-key
+decreases-loop-key l = length l.body - l.at

@@ -1,6 +1,0 @@
-use Rattle.std.proofs.Common.{◌≡◌, take}
-use Rattle.mvt_attrs.specs.FirstUses.{lent}
-use Rattle.mvt_message.proofs.copying.bytes_of_texts.Given as goal
-
-abbrev pub invariant-loop-text : goal.invariant-loop-text
-invariant-loop-text l = lent l.found.items ≡ take l.text-index l.texts
