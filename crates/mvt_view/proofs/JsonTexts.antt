@@ -1,10 +1,8 @@
 -- The texts of the parts of a tile, piece by piece.
 use Rattle.std.proofs.Common.{◌≡◌, ◌∙◌, ℕ, ℤ, pos, negsuc, List, [], ◌∷◌, ◌++◌, true, map, codes, refl, sym, ap, ap₂, subst, OnOk, Result, ◌-◌, ◌≤◌, length, take, drop, get_or, take_all, append_assoc, arith}
-use Rattle.std.proofs.lemmas.Bool.{and_parts}
-use Rattle.std.proofs.lemmas.Grind.{common_steps}
 use Rattle.std.specs.Fmt.{signed_decimal}
-use Rattle.std.specs.List.{flat_map, list_all}
-use Rattle.json.specs.Print.{quoted, escape, escape_byte}
+use Rattle.std.specs.List.{flat_map}
+use Rattle.json.specs.Print.{escape_byte}
 use Rattle.serde_json.specs.Data.{Data, number, string}
 use Rattle.serde_json.specs.Find.{of_integer}
 use Rattle.serde_json.specs.View.{items_of}
@@ -14,7 +12,7 @@ use Rattle.mvt_geometry.specs.declared.shape.Polygon.{Polygon}
 use Rattle.mvt_feature.specs.declared.feature.Feature.{Feature}
 use Rattle.mvt_message.specs.declared.item.Layer.{Layer as ALayer}
 use Rattle.mvt_view.specs.Svg.{title_json}
-use Rattle.mvt_view.specs.JsonForms.{alone, each, number_json, id_json, attribute_json, point_json, line_json, polygon_json, geometry_json, feature_json, layer_json, foreign_json, is_clean}
+use Rattle.mvt_view.specs.JsonForms.{alone, each, number_json, id_json, attribute_json, point_json, line_json, polygon_json, geometry_json, feature_json, layer_json, foreign_json}
 
 pub integer_text : (z : ℤ) → compact_text (number (of_integer z)) ≡ signed_decimal z
 integer_text (pos n) = refl
@@ -37,19 +35,6 @@ none_text f = refl
 
 pub point_text : (p : Point) → compact_text (point_json p) ≡ 91 ∷ (signed_decimal p.x ++ (44 ∷ (signed_decimal p.y ++ codes "]")))
 point_text p = ap₂ (λ x y. 91 ∷ (x ++ (44 ∷ (y ++ codes "]")))) (integer_text p.x) (integer_text p.y)
-
-clean_byte : (b : ℕ) → is_clean b ≡ true → escape_byte b ≡ b ∷ []
-unfolding escape_byte
-clean_byte b clean = grind (arith, common_steps, clean)
-
-clean_escape : (text : List ℕ) → list_all is_clean text ≡ true → escape text ≡ text
-clean_escape [] clean = refl
-clean_escape (b ∷ bs) clean =
-    let both = and_parts _ _ clean in
-    ap₂ (λ xs ys. xs ++ ys) (clean_byte b both.0) (clean_escape bs both.1)
-
-pub clean_quoted : (text : List ℕ) → list_all is_clean text ≡ true → quoted text ≡ codes "\"" ++ (text ++ codes "\"")
-clean_quoted text clean = ap (λ t. 34 ∷ (t ++ 34 ∷ [])) (clean_escape text clean)
 
 pub polygon_text : (p : Polygon) → compact_text (polygon_json p)
     ≡ codes "{\"outer\":" ++ (compact_text (line_json p.outer) ++ (codes ",\"rest\":" ++ (compact_text (each line_json p.rest) ++ codes "}")))

@@ -2,5 +2,6 @@ pub mod FaultLines
 pub mod FieldLines
 pub mod JsonForms
 pub mod Reports
+pub mod Runs
 pub mod Xml
 pub mod Svg

@@ -94,8 +94,8 @@ impl Shown for Text {
         Json::try_from_str(alloc, self.as_str())
     }
 
-    fn push(&self, alloc: Global, text: &mut String) -> Result<(), ViewError> {
-        push_quoted(alloc, text, self.as_str())
+    fn push(&self, _alloc: Global, text: &mut String) -> Result<(), ViewError> {
+        Ok(push_quoted(text, self.as_str())?)
     }
 }
 
