@@ -44,14 +44,16 @@ impl Scratch {
         }
     }
 
-    /// The tags of the feature that was read last.
+    /// The tags of the feature that was read last, or told by
+    /// [`draw_usual_feature`](crate::draw_usual_feature).
     pub fn tags(&self) -> &[u32]
         ensures { result.now ≡ tags_of self.now }
     {
         &self.tags
     }
 
-    /// The integers of the feature that was read last.
+    /// The integers of the feature that was read last. One that is judged straight from its bytes
+    /// leaves none here.
     pub fn integers(&self) -> &[u32]
         ensures { result.now ≡ integers_of self.now }
     {

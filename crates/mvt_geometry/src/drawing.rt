@@ -69,7 +69,7 @@ pub fn append_integers<N: NumberList>(list: &mut N, integers: &[u32]) -> Result<
 ///
 /// # Errors
 ///
-/// Points that are no valid geometry; want of memory.
+/// Points that are no valid geometry; want of memory. The list may then have some of the integers.
 pub fn append_points<P: Position, N: NumberList>(
     list: &mut N,
     points: &[P],
@@ -93,7 +93,8 @@ pub fn append_points<P: Position, N: NumberList>(
 ///
 /// # Errors
 ///
-/// A line that can't be drawn from there; want of memory.
+/// A line that can't be drawn from there; want of memory. The list may then have some of the
+/// integers.
 pub fn append_line<P: Position, N: NumberList>(
     list: &mut N,
     from: Point,
@@ -113,7 +114,8 @@ pub fn append_line<P: Position, N: NumberList>(
 ///
 /// # Errors
 ///
-/// A ring that can't be drawn from there, or whose area its role doesn't allow; want of memory.
+/// A ring that can't be drawn from there, or whose area its role doesn't allow; want of memory. The
+/// list may then have some of the integers.
 pub fn append_ring<P: Position, N: NumberList>(
     list: &mut N,
     from: Point,

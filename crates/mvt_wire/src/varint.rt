@@ -46,7 +46,7 @@ pub(crate) fn varint_at(bytes: &[u8]) -> Result<(u64, usize), WireCause>
     }
 }
 
-/// The same, byte by byte; the size is 0 where the bytes begin with no varint. A pair is handed out
+/// The same of any spelling; the size is 0 where the bytes begin with no varint. A pair is handed out
 /// in registers, so that short spellings don't pay for a place in memory.
 #[inline(never)]
 fn long_varint_at(bytes: &[u8]) -> (u64, usize)
