@@ -264,7 +264,11 @@ fn first_marks(alloc: Global, count: usize, used: usize) -> Result<Vec<u32>, All
 {
     let mut marks = Vec::with_capacity(alloc, count)?;
     for index in 0..count as u32 {
-        marks.push(if (index as usize) < used { index + 1 } else { 0 })?;
+        marks.push(if (index as usize) < used {
+            index + 1
+        } else {
+            0
+        })?;
     }
     Ok(marks)
 }
