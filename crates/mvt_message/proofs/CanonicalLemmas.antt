@@ -81,7 +81,7 @@ contents_other j k g (y ∷ ys) other =
     ap (λ (b : Bool). if b then bytes (g y) ∷ contents_at k (all_of j g ys) else contents_at k (all_of j g ys)) other
     ∙ contents_other j k g ys other
 
-abbrev feature_bytes : List (List ℕ) → List Value → Feature → List ℕ
+abbrev pub feature_bytes : List (List ℕ) → List Value → Feature → List ℕ
 feature_bytes keys values f = spelled (feature_fields (tags_in keys values f.attributes) f)
 
 abbrev value_bytes : Value → List ℕ
@@ -395,7 +395,7 @@ values_read : (values : List Value) → AllByRecursion ValidValue values
 values_read [] valid small = tt
 values_read (v ∷ vs) valid small = (canonical_reads_value v valid.0 small.0, values_read vs valid.1 small.1)
 
-features_read : (keys : List (List ℕ)) (values : List Value) (features : List Feature) → length keys ≤ 2 ^ 32 → length values ≤ 2 ^ 32
+pub features_read : (keys : List (List ℕ)) (values : List Value) (features : List Feature) → length keys ≤ 2 ^ 32 → length values ≤ 2 ^ 32
     → AllByRecursion ValidFeature features → AllByRecursion (λ (f : Feature). AllByRecursion (IsIn keys values) f.attributes) features
     → AllByRecursion (λ f. length (feature_bytes keys values f) < 2 ^ 64) features
     → AllByRecursion (λ f. IsFeatureOf (feature_bytes keys values f) keys values f) features
@@ -414,16 +414,16 @@ layer_fits g ys keys values name extent small within =
     all_fit (fields_by g ys keys values name extent) (layer_fine g ys keys values name extent small) (omega arith)
 
 -- entries of keys and of values, among which are those that the features use
-record AreEnough (keys : List (List ℕ)) (values : List Value) (features : List Feature) : Type 0 where
-  texts : AllByRecursion IsUtf8 keys
-  valid : AllByRecursion ValidValue values
-  held : AllByRecursion (λ (f : Feature). AllByRecursion (IsIn keys values) f.attributes) features
+pub record AreEnough (keys : List (List ℕ)) (values : List Value) (features : List Feature) : Type 0 where
+  pub texts : AllByRecursion IsUtf8 keys
+  pub valid : AllByRecursion ValidValue values
+  pub held : AllByRecursion (λ (f : Feature). AllByRecursion (IsIn keys values) f.attributes) features
 
 used_enough : (features : List Feature) → AllByRecursion ValidFeature features → AreEnough (keys_of features) (values_of features) features
 used_enough features valid =
     record { texts = keys_valid features valid; valid = values_valid features valid; held = features_held features }
 
-more_enough : (features : List Feature) (more_keys : List (List ℕ)) (more_values : List Value) → AllByRecursion ValidFeature features
+pub more_enough : (features : List Feature) (more_keys : List (List ℕ)) (more_values : List Value) → AllByRecursion ValidFeature features
     → AllByRecursion IsUtf8 more_keys → AllByRecursion ValidValue more_values
     → AreEnough (keys_of features ++ more_keys) (values_of features ++ more_values) features
 more_enough features more_keys more_values valid texts valid_values =

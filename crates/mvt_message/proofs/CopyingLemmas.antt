@@ -40,7 +40,7 @@ fields_more start at after done p is front =
     is ∙ ap (λ r. spelled done ++ r) front ∙ sym (append_assoc (spelled done) (short_field p.number p.content) after)
     ∙ ap (λ l. l ++ after) (sym (spelled_parts done (p ∷ []) ∙ ap (λ l. spelled done ++ l) (append-nil (short_field p.number p.content))))
 
-mapped_more : {Y : Type 0} → (f : Y → Plain) (start at after : List ℕ) (ys : List Y) (y : Y) → start ≡ spelled (map f ys) ++ at
+pub mapped_more : {Y : Type 0} → (f : Y → Plain) (start at after : List ℕ) (ys : List Y) (y : Y) → start ≡ spelled (map f ys) ++ at
     → at ≡ short_field (f y).number (f y).content ++ after → start ≡ spelled (map f (ys ++ y ∷ [])) ++ after
 mapped_more f start at after ys y is front =
     fields_more start at after (map f ys) (f y) is front ∙ ap (λ fs. spelled fs ++ after) (sym (map-append f ys (y ∷ [])))
@@ -138,6 +138,27 @@ features_from_more WereTold AreTold body start at after keys values used more pa
       told = told;
     }
 
+pub told_weaker : (WereTold AreTold : List Feature → Type 0) (body : List ℕ) (start at : ℕ) (keys : List (List ℕ)) (values : List Value) (used : ℕ × ℕ)
+    → AreFeaturesFrom WereTold body start keys values at used → ((features : List Feature) → WereTold features → AreTold features)
+    → AreFeaturesFrom AreTold body start keys values at used
+told_weaker WereTold AreTold body start at keys values used from weaker = record {
+  features = from.features;
+  fields = from.fields;
+  valid = from.valid;
+  keys_are = from.keys_are;
+  values_are = from.values_are;
+  ready = from.ready;
+  told = weaker from.features from.told;
+}
+
+pub reached_from : (WereTold AreTold : List Feature → Type 0) (body : List ℕ) (start at other : ℕ) (keys : List (List ℕ)) (values : List Value)
+    (used same : ℕ × ℕ) → AreFeaturesFrom WereTold body start keys values at used → other ≡ at → same ≡ used
+    → ((features : List Feature) → WereTold features → AreTold features) → AreFeaturesFrom AreTold body start keys values other same
+reached_from WereTold AreTold body start at other keys values used same from here is weaker =
+    subst (λ a. AreFeaturesFrom AreTold body start keys values a same) (sym here)
+    (subst (λ u. AreFeaturesFrom AreTold body start keys values at u) (sym is)
+    (told_weaker WereTold AreTold body start at keys values used from weaker))
+
 -- values whose payloads are different are different
 get_or-mapped : {X Y : Type 0} → (f : X → Y) (xs : List X) (i : ℕ) (d : X) → get_or (map f xs) i (f d) ≡ f (get_or xs i d)
 get_or-mapped f [] i d = refl
@@ -148,13 +169,13 @@ length-mapped : {X Y : Type 0} → (f : X → Y) (xs : List X) → length (map f
 length-mapped f [] = refl
 length-mapped f (x ∷ xs) = ap suc (length-mapped f xs)
 
-values_apart : (payloads : List (Bor (List ℕ))) (values : List Value) → lent payloads ≡ map value_bytes values → AreDistinct (lent payloads)
+pub values_apart : (payloads : List (Bor (List ℕ))) (values : List Value) → lent payloads ≡ map value_bytes values → AreDistinct (lent payloads)
     → AreDistinct values
 values_apart payloads values are apart i j d before inside same =
     subst AreDistinct are apart i j (value_bytes d) before (omega (arith, length-mapped value_bytes values))
     (get_or-mapped value_bytes values i d ∙ ap value_bytes same ∙ sym (get_or-mapped value_bytes values j d))
 
-ready_values : (keys : List (List ℕ)) (payloads : List (Bor (List ℕ))) (values : List Value) → lent payloads ≡ map value_bytes values
+pub ready_values : (keys : List (List ℕ)) (payloads : List (Bor (List ℕ))) (values : List Value) → lent payloads ≡ map value_bytes values
     → AreDistinct keys → AreDistinct (lent payloads) → AllByRecursion IsUtf8 keys → AllByRecursion ValidValue values
     → (length values ≡ length payloads) × AreReady keys values (0, 0)
 ready_values keys payloads values are keys_apart payloads_apart texts valid = (
@@ -322,7 +343,7 @@ fields_stay keys more_keys values more_values (f ∷ fs) keys_apart values_apart
     ap₂ (λ p ps. p ∷ ps) (field_stays keys more_keys values more_values f keys_apart values_apart held.0)
     (fields_stay keys more_keys values more_values fs keys_apart values_apart held.1)
 
-features_stay : (features : List Feature) (more_keys : List (List ℕ)) (more_values : List Value)
+pub features_stay : (features : List Feature) (more_keys : List (List ℕ)) (more_values : List Value)
     → map (feature_field (keys_of features ++ more_keys) (values_of features ++ more_values)) features
     ≡ map (feature_field (keys_of features) (values_of features)) features
 features_stay features more_keys more_values =
@@ -334,7 +355,7 @@ abbrev own_fields : ALayer → List Plain
 own_fields layer = map (feature_field (keys_of layer.features) (values_of layer.features)) layer.features
 
 -- what stands in the body of a layer
-parts_spelled : (name : List ℕ) (features keys values : List Plain) (extent : ℕ)
+pub parts_spelled : (name : List ℕ) (features keys values : List Plain) (extent : ℕ)
     → spelled (plain NAME (bytes name) ∷ (features ++ (keys ++ (values ++ extent_fields extent))))
     ≡ short_field NAME (bytes name) ++ (spelled features ++ (spelled keys ++ (spelled values ++ spelled (extent_fields extent))))
 parts_spelled name features keys values extent =
@@ -343,7 +364,7 @@ parts_spelled name features keys values extent =
     ∙ ap (λ r. spelled features ++ r) (spelled_parts keys (values ++ extent_fields extent)
     ∙ ap (λ r. spelled keys ++ r) (spelled_parts values (extent_fields extent))))
 
-all_dropped : {Y : Type 0} → (P : Y → Type 0) (n : ℕ) (ys : List Y) → AllByRecursion P ys → AllByRecursion P (drop n ys)
+pub all_dropped : {Y : Type 0} → (P : Y → Type 0) (n : ℕ) (ys : List Y) → AllByRecursion P ys → AllByRecursion P (drop n ys)
 all_dropped P n ys all = all_right P (take n ys) (drop n ys) (subst (AllByRecursion P) (sym (take-append-drop n ys)) all)
 
 body_is : (WereTold : List Feature → Type 0) (body name : List ℕ) (features_at keys_at values_at extent_at keys_end values_end extent : ℕ) (keys : List (List ℕ))
@@ -425,7 +446,7 @@ read_is WereTold body name features_at keys_at values_at extent_at keys_end valu
     (ap (λ fs. values_end + length (spelled fs)) (sym unused_values) ∙ values_end_is)
 
 -- the version
-version_field : short_field VERSION (varint 2) ≡ 120 ∷ (2 ∷ [])
+pub version_field : short_field VERSION (varint 2) ≡ 120 ∷ (2 ∷ [])
 unfolding short_field short short_within
 version_field = refl
 

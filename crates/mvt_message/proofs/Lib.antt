@@ -13,5 +13,6 @@ mod LenLemmas
 mod HeldLemmas
 mod BoundLemmas
 mod VisitLemmas
+mod ResumeLemmas
 mod RewriteLemmas
 mod NamingLemmas

@@ -96,9 +96,8 @@ pub record IsFrontOf (body : List ℕ) (front : Front) : Type 0 where
   pub values : AreValuesFrom body front.values_at front.values.items front.extent_at
   pub keys_apart : AreDistinct (lent front.keys.items)
   pub values_apart : AreDistinct (lent front.values.items)
-  pub extent : ℕ
-  pub small : extent < 2 ^ 32
-  pub ends : drop front.extent_at body ≡ short_field EXTENT (varint extent)
+  pub small : front.extent < 2 ^ 32
+  pub ends : drop front.extent_at body ≡ short_field EXTENT (varint front.extent)
 
 -- features in their fields, which use the first of the keys and of the values, in their order, and were told
 pub record AreFeaturesFrom (WereTold : List Feature → Type 0) (body : List ℕ) (start : ℕ) (keys : List (List ℕ)) (values : List Value) (at : ℕ) (used : ℕ × ℕ) : Type 0 where

@@ -6,6 +6,7 @@ pub mod Bounds
 pub mod ValidItems
 pub mod PutErrors
 pub mod Visiting
+pub mod Resuming
 pub mod Rewriting
 pub mod Copying
 pub mod Inner

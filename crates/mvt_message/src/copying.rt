@@ -10,12 +10,14 @@ ghost use Rattle.mvt_wire.specs.Spelling.{short_field, spelled};
 ghost use Rattle.mvt_feature.specs.Copying.{AreReady, IsCanonicalValue};
 ghost use Rattle.mvt_message.specs.declared.item.Item.{Item};
 ghost use Rattle.mvt_message.specs.declared.numbers.layer.TheConstants.{NAME, KEYS, VALUES, EXTENT};
-ghost use Rattle.mvt_message.specs.Copying.{IsBodyOf, IsCopied, HasBody, AreFeaturesFrom, ArePayloadsFrom, AreValuesFrom, IsFrontOf, copied_body, lent_field};
+ghost use Rattle.mvt_message.specs.Copying.{IsBodyOf, HasBody, AreFeaturesFrom, ArePayloadsFrom, AreValuesFrom, IsFrontOf, copied_body, lent_field};
+ghost use Rattle.mvt_message.specs.Resuming.{IsKnown, IsKnownWithin, IsSeen, IsSeenWithin};
 
 use crate::canonical::CanonicalVisitor;
-use crate::layer_rewriting::Untold;
+use crate::layer_rewriting::{RewrittenLayer, Untold};
 use crate::looking::{counts_from, is_first_in_order};
 use crate::numbers::layer;
+use crate::resuming::write_behind;
 use mvt_attrs::{LayerKeys, are_distinct};
 use mvt_base::{LIMIT, Text};
 use mvt_feature::{NotCanonical, Scratch, is_canonical_value, judge_canonical};
@@ -41,20 +43,42 @@ pub(crate) struct CopiedLayer<'a> {
     pub(crate) extent: &'a [u8],
 }
 
-/// The parts of a layer of version 2 that can be copied: all its fields are canonical, but that its
-/// last keys and values may be unused, and the version stands before or behind them.
+/// A layer that is made canonical without another look at its first features.
+#[derive(Drop)]
+pub(crate) enum Known<'a> {
+    /// All its fields are canonical, but that its last keys and values may be unused, and the version
+    /// stands before or behind them.
+    Copied(CopiedLayer<'a>),
+    /// Its first features are: these were copied, and the others made anew.
+    Written(RewrittenLayer<'a, Untold>),
+}
+
+/// A layer of version 2 made canonical, where its fields stand in the canonical order, and its first
+/// features are canonical.
 ///
 /// # Errors
 ///
-/// Where it can't, or isn't known to; that says nothing of the payload.
-pub(crate) fn copied(alloc: Global, payload: &[u8]) -> Result<CopiedLayer<'_>, NotCanonical>
+/// Where it isn't such a layer, or isn't known to be; that says nothing of the payload.
+pub(crate) fn known_layer(alloc: Global, payload: &[u8]) -> Result<Known<'_>, NotCanonical>
     requires { length payload.now ≤ LIMIT }
-    ensures copied { IfOk result (λ l. IsCopied payload.now l.name.now (copied_body l)) }
-    ensures within { IfOk result (λ l. length (copied_body l) ≤ LIMIT) }
+    ensures made { IfOk result (IsKnown payload.now) }
+    ensures within { IfOk result (IsKnownWithin LIMIT) }
 {
-    match body_of(payload) {
-        Some(body) => layer_of_body(alloc, &mut Untold, body),
-        None => Err(NotCanonical::Other),
+    let Some(body) = body_of(payload) else {
+        return Err(NotCanonical::Other);
+    };
+    match seen_of(alloc, &mut Untold, body) {
+        Ok(Seen::All(layer)) => Ok(Known::Copied(layer)),
+        Ok(Seen::First(part)) => {
+            let writer = write_behind(alloc, body, &part)?;
+            Ok(Known::Written(RewrittenLayer {
+                name: part.name,
+                extent: part.front.extent,
+                writer,
+                visitor: Untold,
+            }))
+        }
+        Err(error) => Err(error),
     }
 }
 
@@ -82,6 +106,66 @@ pub(crate) fn layer_of_body<'a, V: CanonicalVisitor>(
         (copied_body l)) }
     ensures within { IfOk result (λ l. length (copied_body l) ≤ length body.now) }
 {
+    match seen_of(alloc, visitor, body) {
+        Ok(Seen::All(layer)) => Ok(layer),
+        Ok(Seen::First(_)) => Err(NotCanonical::Other),
+        Err(error) => Err(error),
+    }
+}
+
+/// What is seen of a layer whose fields stand in the canonical order.
+#[derive(Drop)]
+enum Seen<'a> {
+    /// Its features are canonical.
+    All(CopiedLayer<'a>),
+    /// The first of them are.
+    First(Part<'a>),
+}
+
+/// A layer whose first features are canonical.
+#[derive(Drop)]
+pub(crate) struct Part<'a> {
+    pub(crate) name: &'a str,
+    pub(crate) features_at: usize,
+    pub(crate) front: Front<'a>,
+    pub(crate) keys: Vec<Text>,
+    pub(crate) reached: Reached,
+}
+
+/// The keys and the values of a layer, each once, and where they stand. An extent ends its fields.
+#[derive(Drop)]
+pub(crate) struct Front<'a> {
+    pub(crate) keys_at: usize,
+    keys: Vec<&'a [u8]>,
+    values_at: usize,
+    pub(crate) values: Vec<&'a [u8]>,
+    extent_at: usize,
+    pub(crate) extent: u32,
+}
+
+/// How far the features of a layer are canonical.
+#[derive(Clone, Copy)]
+pub(crate) struct Reached {
+    /// The offset after them.
+    pub(crate) at: usize,
+    /// How many keys and values they use.
+    pub(crate) used: (usize, usize),
+    /// Whether there are no others.
+    is_whole: bool,
+}
+
+/// Looks at the fields of a layer besides its version. A visitor is told the features that are
+/// canonical, and may be told some parts of one more.
+fn seen_of<'a, V: CanonicalVisitor>(
+    alloc: Global,
+    visitor: &mut V,
+    body: &'a [u8],
+) -> Result<Seen<'a>, NotCanonical>
+    requires { length body.now ≤ LIMIT }
+    ensures seen { (items : List Item) → V.has_read items visitor.old []
+        → IfOk result (IsSeen (V.has_read items visitor.new) body.now) }
+    ensures within { IfOk result (IsSeenWithin (length body.now)) }
+{
     if !may_end_with_extent(body) {
         return Err(NotCanonical::Other);
     }
@@ -92,26 +176,29 @@ pub(crate) fn layer_of_body<'a, V: CanonicalVisitor>(
     let Some(keys) = texts_of(alloc, &front.keys)? else {
         return Err(NotCanonical::Other);
     };
-    let count = front.values.len();
-    let used = judge_features(alloc, visitor, body, features_at, front.keys_at, &keys, count)?;
-    let keys_end = end_of_used(layer::KEYS, &front.keys, used.0, front.values_at);
-    let values_end = end_of_used(layer::VALUES, &front.values, used.1, front.extent_at);
-    Ok(CopiedLayer {
+    let reached = judge_features(alloc, visitor, body, features_at, &front, &keys)?;
+    if !reached.is_whole {
+        return Ok(Seen::First(Part {
+            name,
+            features_at,
+            front,
+            keys,
+            reached,
+        }));
+    }
+    let keys_end = end_of_used(layer::KEYS, &front.keys, reached.used.0, front.values_at);
+    let values_end = end_of_used(
+        layer::VALUES,
+        &front.values,
+        reached.used.1,
+        front.extent_at,
+    );
+    Ok(Seen::All(CopiedLayer {
         name,
         front: &body[..keys_end],
         values: &body[front.values_at..values_end],
         extent: &body[front.extent_at..],
-    })
-}
-
-/// The keys and the values of a layer, each once, and where they stand. An extent ends its fields.
-#[derive(Drop)]
-struct Front<'a> {
-    keys_at: usize,
-    keys: Vec<&'a [u8]>,
-    values_at: usize,
-    values: Vec<&'a [u8]>,
-    extent_at: usize,
+    }))
 }
 
 /// The front of a layer whose features begin at an offset. It costs little where the fields, or
@@ -129,7 +216,10 @@ fn front_of(alloc: Global, body: &[u8], features_at: usize) -> Result<Front<'_>,
     };
     let (keys, values_at) = keys_from(alloc, body, keys_at, counts.keys)?;
     let (values, extent_at) = values_from(alloc, body, values_at, counts.values)?;
-    if !ends_with_extent(body, extent_at) || !are_apart(alloc, &keys, &values)? {
+    let Some(extent) = extent_at_end(body, extent_at) else {
+        return Err(NotCanonical::Other);
+    };
+    if !are_apart(alloc, &keys, &values)? {
         return Err(NotCanonical::Other);
     }
     Ok(Front {
@@ -138,6 +228,7 @@ fn front_of(alloc: Global, body: &[u8], features_at: usize) -> Result<Front<'_>,
         values_at,
         values,
         extent_at,
+        extent,
     })
 }
 
@@ -244,15 +335,15 @@ fn value_from(body: &[u8], at: usize) -> Option<(&[u8], usize)>
     Some((value, after))
 }
 
-/// Whether the extent stands at an offset, and nothing behind it.
-fn ends_with_extent(body: &[u8], at: usize) -> bool
+/// The extent that stands at an offset, and nothing behind it.
+fn extent_at_end(body: &[u8], at: usize) -> Option<u32>
     requires { at ≤ length body.now }
-    ensures { IsTrue result → (extent : ℕ) × (extent < 2 ^ 32)
-        × (drop at body.now ≡ short_field EXTENT (varint extent)) }
+    ensures { IfSome result (λ extent. drop at body.now ≡ short_field EXTENT (varint extent)) }
 {
     match short_number_at(body, at, layer::EXTENT) {
-        Some((extent, end)) => end == body.len() && extent < 1 << 32,
-        None => false,
+        Some((extent, end)) if end == body.len() && extent < 1 << 32 => Some(extent as u32),
+        Some(_) => None,
+        None => None,
     }
 }
 
@@ -283,30 +374,34 @@ fn end_of_used(number: u32, payloads: &[&[u8]], used: usize, end: usize) -> usiz
     at
 }
 
-/// Judges whether canonical features stand from one offset to another, in a layer with these keys
-/// and this number of values, and use them in their order. Answers how many of each they use. A
-/// visitor is told them.
+/// Judges how far canonical features stand from an offset on, in a layer with this front and these
+/// keys, and use its entries in their order. A visitor is told them.
 fn judge_features<V: CanonicalVisitor>(
     alloc: Global,
     visitor: &mut V,
     body: &[u8],
     start: usize,
-    end: usize,
+    front: &Front<'_>,
     keys: &[Text],
-    values: usize,
-) -> Result<(usize, usize), NotCanonical>
+) -> Result<Reached, NotCanonical>
     requires { start ≤ length body.now }
     ensures features { (items : List Item) → V.has_read items visitor.old [] → IfOk result
-        (λ used. (held : List AValue) → length held ≡ values → AreReady keys.now held (0, 0)
-        → AreFeaturesFrom (V.has_read items visitor.new) body.now start keys.now held end used) }
-    ensures within { IfOk result (λ used. (used.0 ≤ length keys.now) × (used.1 ≤ values)) }
+        (λ reached. (held : List AValue) → length held ≡ length front.now.values.items
+        → AreReady keys.now held (0, 0)
+        → AreFeaturesFrom (λ fs. IsTrue reached.is_whole → V.has_read items visitor.new fs) body.now
+        start keys.now held reached.at reached.used) }
+    ensures within { IfOk result (λ reached. (reached.used.0 ≤ length keys.now)
+        × (reached.used.1 ≤ length front.now.values.items) × (reached.at ≤ length body.now)) }
+    ensures whole { IfOk result
+        (λ reached. IsTrue reached.is_whole → reached.at ≡ front.now.keys_at) }
 {
+    let values = front.values.len();
     let mut layer_keys = LayerKeys::new(alloc, keys);
     let mut scratch = Scratch::new(alloc);
     let mut used = (0, 0);
     let mut at = start;
-    while at < end {
-        let (after, more) = take_feature(
+    while at < front.keys_at {
+        match take_feature(
             alloc,
             visitor,
             body,
@@ -315,14 +410,34 @@ fn judge_features<V: CanonicalVisitor>(
             values,
             used,
             &mut scratch,
-        )?;
-        at = after;
-        used = more;
+        ) {
+            Ok((after, more)) => {
+                at = after;
+                used = more;
+            }
+            Err(NotCanonical::Other) => return reached_at(at, used, false, keys.len(), values),
+            Err(error) => return Err(error),
+        }
     }
-    if at != end || used.0 > keys.len() || used.1 > values {
+    reached_at(at, used, at == front.keys_at, keys.len(), values)
+}
+
+/// What was reached, where there are as many keys and values.
+fn reached_at(
+    at: usize,
+    used: (usize, usize),
+    is_whole: bool,
+    keys: usize,
+    values: usize,
+) -> Result<Reached, NotCanonical>
+    ensures same { IfOk result (λ reached. (reached.at ≡ at) × (reached.used ≡ used)
+        × (reached.is_whole ≡ is_whole)) }
+    ensures within { IfOk result (λ _. (used.0 ≤ keys) × (used.1 ≤ values)) }
+{
+    if used.0 > keys || used.1 > values {
         return Err(NotCanonical::Other);
     }
-    Ok(used)
+    Ok(Reached { at, used, is_whole })
 }
 
 /// The offset after the feature at one, and how many keys and values are used then. A visitor is

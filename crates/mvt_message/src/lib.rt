@@ -20,6 +20,7 @@ mod naming;
 pub mod numbers;
 mod payload;
 mod reading;
+mod resuming;
 mod rewriting;
 mod validity;
 mod values;

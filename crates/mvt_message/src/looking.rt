@@ -73,7 +73,8 @@ pub(crate) fn counts_from(
         return Ok(None);
     }
     if are_first_apart(alloc, body, keys_at, layer::KEYS)?
-        && are_first_apart(alloc, body, values_at, layer::VALUES)? {
+        && are_first_apart(alloc, body, values_at, layer::VALUES)?
+    {
         return Ok(Some(Counts { keys, values }));
     }
     Ok(None)

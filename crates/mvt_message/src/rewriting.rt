@@ -6,14 +6,16 @@ ghost use Rattle.std.specs.Option.{option_copied, option_to_list};
 ghost use Rattle.mvt_base.specs.Reports.{Reports};
 ghost use Rattle.mvt_feature.specs.Faults.{fault_of};
 ghost use Rattle.mvt_message.specs.declared.item.Item.{Item};
-ghost use Rattle.mvt_message.specs.CanonicalItems.{canonical_item};
+ghost use Rattle.mvt_wire.specs.Spelling.{spelled};
+ghost use Rattle.mvt_message.specs.CanonicalItems.{canonical_item, head_fields};
 ghost use Rattle.mvt_message.specs.Copying.{copied_body};
 ghost use Rattle.mvt_message.specs.ItemRules.{item_fault};
 ghost use Rattle.mvt_message.specs.Items.{IsItem, names_in};
+ghost use Rattle.mvt_message.specs.Rewriting.{tail_of};
 ghost use Rattle.mvt_message.specs.ValidItems.{ValidItem};
 
-use crate::copying::{CopiedLayer, VERSION_FIELD, copied};
-use crate::layer_rewriting::{Rewritten, Untold, rewrite_parts};
+use crate::copying::{CopiedLayer, Known, VERSION_FIELD, known_layer};
+use crate::layer_rewriting::{Rewritten, RewrittenLayer, Untold, rewrite_parts};
 use crate::reading::judge_item;
 use mvt_base::LIMIT;
 use mvt_feature::{MessageError, NotCanonical};
@@ -22,7 +24,9 @@ use std::alloc::{AllocError, Global};
 /// Appends the canonical payload of the item that a payload is, and answers the name of the layer.
 /// It may be longer than the limit.
 ///
-/// A key or a value is compared with others once, so the time grows as sorting the payload,
+/// A layer whose fields stand in the canonical order is looked at first, and what is canonical of it
+/// is copied; so its keys and values may be compared with others twice. They are looked for by their
+/// hashes, and where others have these too, in order: the time grows as sorting the payload,
 /// whatever its texts are. What it holds are the layer's keys and values and the fields of its
 /// features.
 ///
@@ -46,9 +50,13 @@ pub fn rewrite_item<'a>(
         (item_fault payload.now payload_at tag_at)) }
     ensures left { OnErr result (Extends out.old.items out.new.items) }
 {
-    match copied(alloc, payload) {
-        Ok(layer) => {
+    match known_layer(alloc, payload) {
+        Ok(Known::Copied(layer)) => {
             append_copied(out, &layer)?;
+            Ok(Some(layer.name))
+        }
+        Ok(Known::Written(layer)) => {
+            append_written(out, &layer, payload.len())?;
             Ok(Some(layer.name))
         }
         Err(NotCanonical::Memory) => Err(MessageError::Memory),
@@ -75,6 +83,21 @@ fn append_copied(out: &mut Vec<u8>, layer: &CopiedLayer<'_>) -> Result<(), Alloc
     out.extend_from_slice(layer.extent)
 }
 
+/// Appends the canonical parts of a layer, which rarely are more bytes than its payload has.
+fn append_written(
+    out: &mut Vec<u8>,
+    layer: &RewrittenLayer<'_, Untold>,
+    bytes: usize,
+) -> Result<(), AllocError>
+    ensures ok { OnOk result (out.new.items ≡ out.old.items
+        ++ (spelled (head_fields layer.now.name.now) ++ (layer.now.writer.features.items
+        ++ tail_of layer.now.writer.uses layer.now.extent))) }
+    ensures left { OnErr result (Extends out.old.items out.new.items) }
+{
+    out.reserve(bytes)?;
+    layer.writer.append_layer(out, layer.name, layer.extent)
+}
+
 /// The same of any item, field by field.
 fn rewrite_anew<'a>(
     alloc: Global,
@@ -95,8 +118,7 @@ fn rewrite_anew<'a>(
 {
     match rewrite_parts(alloc, Untold, payload, payload_at, tag_at) {
         Ok(Rewritten::Layer(layer)) => {
-            out.reserve(payload.len())?;
-            layer.writer.append_layer(out, layer.name, layer.extent)?;
+            append_written(out, &layer, payload.len())?;
             Ok(Some(layer.name))
         }
         Ok(Rewritten::Foreign(_)) => {

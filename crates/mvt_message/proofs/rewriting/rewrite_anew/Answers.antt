@@ -1,16 +1,16 @@
-use Rattle.std.proofs.Common.{◌++◌, ◌∷◌, [], refl, ap, ap₂, sym, ◌∙◌}
+use Rattle.std.proofs.Common.{◌++◌, ◌∷◌, [], refl, ap, sym, ◌∙◌}
 use Rattle.mvt_message.specs.declared.item.Item.TheVariants as items
 use Rattle.mvt_message.proofs.RewriteLemmas.{canonical_foreign}
 use Rattle.mvt_message.proofs.rewriting.rewrite_anew.Goals as goal
 
-pub returns-in_ok-append_layer-in-Ok-Layer-clause-item : goal.returns-in_ok-append_layer-in-Ok-Layer-clause-item
-returns-in_ok-append_layer-in-Ok-Layer-clause-item c =
+pub returns-in_ok-append_written-in-Ok-Layer-clause-item : goal.returns-in_ok-append_written-in-Ok-Layer-clause-item
+returns-in_ok-append_written-in-Ok-Layer-clause-item c =
     let (layer, is, valid, name, told, canonical) = rw c.in-Ok-Layer.field-0-is at c.in-Ok-Layer.ensures.item [] tt in (
       items.Layer layer,
       is,
       valid,
       ap (λ n. n ∷ []) name,
-      c.in_ok-append_layer-in-Ok-Layer.ensures.ok ∙ ap₂ (λ o b. o ++ b) c.reserve.ensures.items (sym canonical),
+      c.in_ok-append_written-in-Ok-Layer.ensures.ok ∙ ap (λ b. c.args.out.now.items ++ b) (sym canonical),
     )
 
 pub returns-in_ok-extend_from_slice-in-Ok-Foreign-clause-item : goal.returns-in_ok-extend_from_slice-in-Ok-Foreign-clause-item

@@ -1,0 +1,295 @@
+-- A layer of which the first features are canonical, and the others are made so one after the other.
+use Rattle.std.proofs.Common.{◌≡◌, ℕ, ◌+◌, ◌-◌, ◌*◌, ◌^◌, ◌<◌, ◌≤◌, List, [], ◌∷◌, ◌++◌, length, map, take, drop, get_or, Bor, inl, inr, refl, sym, ap, ap₂, subst, ◌∙◌, arith, append-nil, length-append}
+use Rattle.std.proofs.lemmas.List.{length-drop, map-append, take_more, take-append-drop}
+use Rattle.std.proofs.Math.Seq.{take-append_seam}
+use Rattle.std.specs.Prelude.{IsUtf8}
+use Rattle.std.specs.List.{AllByRecursion}
+use Rattle.mvt_base.specs.declared.TheConstants.{LIMIT}
+use Rattle.mvt_base.specs.Related.{AreRelated}
+use Rattle.mvt_base.proofs.ListLemmas.{related-append}
+use Rattle.mvt_attrs.specs.declared.value.Value.{Value}
+use Rattle.mvt_attrs.specs.FirstUse.{AreDistinct}
+use Rattle.mvt_attrs.specs.FirstUses.{lent}
+use Rattle.mvt_attrs.specs.TagPlaces.{IsIn}
+use Rattle.mvt_attrs.specs.Using.{HasUses}
+use Rattle.mvt_wire.specs.Field.{bytes, varint, Entry}
+use Rattle.mvt_wire.specs.Spelling.{Plain, short_field, spelled}
+use Rattle.mvt_feature.specs.declared.feature.Feature.{Feature}
+use Rattle.mvt_feature.specs.Canonical.{plain, value_fields}
+use Rattle.mvt_feature.specs.Copying.{AreReady}
+use Rattle.mvt_feature.specs.Features.{IsFeatureOf}
+use Rattle.mvt_feature.specs.Ranges.{AreBytes}
+use Rattle.mvt_feature.specs.Valid.{ValidFeature, ValidValue}
+use Rattle.mvt_feature.specs.Values.{IsValueOf}
+use Rattle.mvt_wire.proofs.WireLaws.{short_lengths_bytes}
+use Rattle.mvt_feature.proofs.FeatureLaws.{canonical_reads_value, value_or_fault_once}
+use Rattle.mvt_message.specs.declared.copying.Front.{Front}
+use Rattle.mvt_message.specs.declared.copying.Part.{Part}
+use Rattle.mvt_message.specs.declared.item.Layer.{Layer as ALayer}
+use Rattle.mvt_message.specs.declared.item.Item.TheVariants.{Layer}
+use Rattle.mvt_message.specs.declared.layer_writer.LayerWriter.{LayerWriter}
+use Rattle.mvt_message.specs.declared.numbers.layer.TheConstants.{NAME, FEATURES, KEYS, VALUES, EXTENT, VERSION}
+use Rattle.mvt_message.specs.CanonicalItems.{keys_of, values_of, canonical_item, head_fields, feature_field, key_field, value_field, extent_fields}
+use Rattle.mvt_message.specs.Copying.{AreFeaturesFrom, HasBody, IsFrontOf}
+use Rattle.mvt_message.specs.Items.{IsItem}
+use Rattle.mvt_message.specs.LayerFields.{bytes_of}
+use Rattle.mvt_message.specs.Resuming.{payload_field, AreFeaturesRead, AreHeld, IsPartOf, IsWrittenUpTo}
+use Rattle.mvt_message.specs.Rewriting.{AreWritten, HasWritten, tail_of}
+use Rattle.mvt_message.specs.ValidItems.{ValidItem}
+use Rattle.mvt_message.proofs.CanonicalLemmas.{feature_bytes, count_bytes, features_read, more_enough, rest_by, fields_by, item_in_place, item_moved}
+use Rattle.mvt_message.proofs.CopyingLemmas.{all_dropped, features_stay, keys_are_from, mapped_more, parts_spelled, ready_values, told_weaker, values_apart, version_field}
+use Rattle.mvt_message.proofs.PoolLemmas.{keys_front, values_front}
+use Rattle.mvt_message.proofs.RewriteLemmas.{layer_rewritten}
+use Rattle.mvt_message.proofs.ValidLemmas.{item_valid}
+
+abbrev value_bytes : Value → List ℕ
+value_bytes v = spelled (value_fields v)
+
+-- payloads are shorter than their fields
+small_by : {Y : Type 0} → (k : ℕ) (g : Y → List ℕ) (ys : List Y) → length (spelled (map (λ y. plain k (bytes (g y))) ys)) < 2 ^ 64
+    → AllByRecursion (λ y. length (g y) < 2 ^ 64) ys
+small_by k g [] small = tt
+small_by k g (y ∷ ys) small =
+    let size = length-append (short_field k (bytes (g y))) (spelled (map (λ y. plain k (bytes (g y))) ys)) in
+    let more = short_lengths_bytes k (g y) in
+    (omega (arith, size, more), small_by k g ys (omega (arith, size)))
+
+-- canonical payloads are read as what they are
+same_values : (held read : List Value) → AllByRecursion ValidValue held → AllByRecursion (λ v. length (value_bytes v) < 2 ^ 64) held
+    → AreRelated IsValueOf (map value_bytes held) read → read ≡ held
+same_values [] [] valid small are = refl
+same_values [] (r ∷ rs) valid small are = absurd are
+same_values (v ∷ vs) [] valid small are = absurd are
+same_values (v ∷ vs) (r ∷ rs) valid small are =
+    ap₂ (λ x xs. x ∷ xs) (value_or_fault_once (value_bytes v) r v are.0 (canonical_reads_value v valid.0 small.0))
+    (same_values vs rs valid.1 small.1 are.1)
+
+-- what stands in a part of a body is no longer than it
+part_within : (body fields rest : List ℕ) (start : ℕ) → drop start body ≡ fields ++ rest → length fields ≤ length body
+part_within body fields rest start is =
+    let size = ap length is ∙ length-append fields rest in
+    omega (arith, size, length-drop start body)
+
+module _ (body : List ℕ) (front : Front) (held : List Value) (small : length body ≤ LIMIT) (are : AreHeld body front held) where
+  held_within : length (spelled (map value_field held)) ≤ LIMIT
+  held_within =
+      let within = part_within body (spelled (map value_field held)) (drop front.extent_at body) front.values_at are.fields in
+      omega (arith, within, small)
+
+  pub values_are_held : (read : List Value) → AreRelated IsValueOf (lent front.values.items) read → read ≡ held
+  values_are_held read values =
+      same_values held read are.valid (small_by VALUES value_bytes held (omega (arith, held_within)))
+      (subst (λ ps. AreRelated IsValueOf ps read) are.are values)
+
+  pub few_values : length held < LIMIT
+  few_values = let count = count_bytes VALUES value_bytes held in omega (arith, held_within, count)
+
+  pub held_apart : AreDistinct (lent front.values.items) → AreDistinct held
+  held_apart apart = values_apart front.values.items held are.are apart
+
+-- the keys of a front are few
+pub few_keys : (body : List ℕ) (front : Front) (keys : List (List ℕ)) → length body ≤ LIMIT → IsFrontOf body front
+    → keys ≡ lent front.keys.items → AllByRecursion IsUtf8 keys → length keys < LIMIT
+few_keys body front keys small is are texts =
+    let from = keys_are_from body front.keys_at front.values_at front.keys.items keys is.keys are texts in
+    let within = part_within body (spelled (map key_field keys)) (drop front.values_at body) front.keys_at from.1 in
+    let count = count_bytes KEYS (λ key. key) keys in
+    omega (arith, within, small, count)
+
+-- related payloads and features
+related_mapped : {X Y : Type 0} → (g : Y → X) (R : X → Y → Type 0) (ys : List Y) → AllByRecursion (λ y. R (g y) y) ys → AreRelated R (map g ys) ys
+related_mapped g R [] all = tt
+related_mapped g R (y ∷ ys) all = (all.0, related_mapped g R ys all.1)
+
+fields_mapped : (keys : List (List ℕ)) (values : List Value) (features : List Feature)
+    → map payload_field (map (feature_bytes keys values) features) ≡ map (feature_field keys values) features
+fields_mapped keys values [] = refl
+fields_mapped keys values (f ∷ fs) = ap (λ ps. feature_field keys values f ∷ ps) (fields_mapped keys values fs)
+
+held_features : (R : List ℕ → Feature → Type 0) (zs : List Entry) (payloads : List (List ℕ)) (features : List Feature)
+    → map (λ (z : Entry). z.content) zs ≡ map (λ p. bytes p) payloads → AreRelated R payloads features
+    → AreRelated (λ (z : Entry) f. R (bytes_of z.content) f) zs features
+held_features R [] [] [] is are = tt
+held_features R [] [] (f ∷ fs) is are = absurd are
+held_features R [] (p ∷ ps) features is are = cc
+held_features R (z ∷ zs) [] features is are = cc
+held_features R (z ∷ zs) (p ∷ ps) [] is are = absurd are
+held_features R (z ∷ zs) (p ∷ ps) (f ∷ fs) is are =
+    let here : z.content ≡ bytes p = cc in
+    let later : map (λ (y : Entry). y.content) zs ≡ map (λ p. bytes p) ps = cc in
+    (subst (λ c. R (bytes_of c) f) (sym here) are.0, held_features R zs ps fs later are.1)
+
+-- canonical features have the fields that they have whatever features follow
+module _ (keys : List (List ℕ)) (values : List Value) (features : List Feature) (used : ℕ × ℕ) (keys_are : keys_of features ≡ take used.0 keys)
+    (values_are : values_of features ≡ take used.1 values) where
+  all_keys : keys_of features ++ drop used.0 keys ≡ keys
+  all_keys = ap (λ ks. ks ++ drop used.0 keys) keys_are ∙ take-append-drop used.0 keys
+
+  all_values : values_of features ++ drop used.1 values ≡ values
+  all_values = ap (λ vs. vs ++ drop used.1 values) values_are ∙ take-append-drop used.1 values
+
+  own : map (feature_field keys values) features ≡ map (feature_field (keys_of features) (values_of features)) features
+  own =
+      ap₂ (λ ks vs. map (feature_field ks vs) features) (sym all_keys) (sym all_values)
+      ∙ features_stay features (drop used.0 keys) (drop used.1 values)
+
+  pub stay_written : AreWritten features (spelled (map (feature_field keys values) features))
+  stay_written more =
+      let more_keys = keys_front features more in
+      let more_values = values_front features more in
+      ap spelled (own ∙ sym (features_stay features more_keys.0 more_values.0)
+      ∙ ap₂ (λ ks vs. map (feature_field ks vs) features) (sym more_keys.1) (sym more_values.1))
+
+  pub stay_in : AllByRecursion ValidFeature features → AllByRecursion IsUtf8 keys → AllByRecursion ValidValue values
+      → AllByRecursion (λ (f : Feature). AllByRecursion (IsIn keys values) f.attributes) features
+  stay_in valid texts valid_values =
+      subst (λ ks. AllByRecursion (λ (f : Feature). AllByRecursion (IsIn ks values) f.attributes) features) all_keys
+      (subst (λ vs. AllByRecursion (λ (f : Feature). AllByRecursion (IsIn (keys_of features ++ drop used.0 keys) vs) f.attributes) features) all_values
+      (more_enough features (drop used.0 keys) (drop used.1 values) valid (all_dropped IsUtf8 used.0 keys texts)
+      (all_dropped ValidValue used.1 values valid_values)).held)
+
+-- the canonical features are written as they stand
+pub written_start : (body : List ℕ) (part : Part) (w : LayerWriter) → length body ≤ LIMIT → (is : IsPartOf body part)
+    → HasUses w.uses part.keys.items is.held → w.uses.keys.used.items ≡ take part.reached.used.0 part.keys.items
+    → w.uses.values.used.items ≡ take part.reached.used.1 is.held
+    → w.features.items ≡ take (part.reached.at - part.features_at) (drop part.features_at body)
+    → IsWrittenUpTo body part part.reached.at w
+written_start body part w small is uses used_keys used_values copied =
+    let keys = part.keys.items in
+    let held = is.held in
+    let from = is.from in
+    let features = from.features in
+    let start = part.features_at in
+    let at = part.reached.at in
+    let own = spelled (map (feature_field keys held) features) in
+    let size = ap length from.fields ∙ length-append own (drop at body) in
+    let long : at - start ≡ length own =
+    omega (arith, size, length-drop start body, length-drop at body, is.start_within, is.at_within) in
+    let whole : w.features.items ≡ own =
+    copied ∙ ap₂ (λ n b. take n b) long from.fields ∙ take-append_seam own (drop at body) in
+    let within = part_within body own (drop at body) start from.fields in
+    let keys_few = few_keys body part.front keys small is.is_front is.keys_are is.texts in
+    let values_few = few_values body part.front held small is.held_are in
+    record {
+      held = held;
+      held_are = is.held_are;
+      read = record {
+        payloads = map (feature_bytes keys held) features;
+        features = features;
+        fields = from.fields ∙ ap (λ fs. spelled fs ++ drop at body) (sym (fields_mapped keys held features));
+        are = related_mapped (feature_bytes keys held) (λ p f. IsFeatureOf p keys held f) features
+            (features_read keys held features (omega (arith, keys_few)) (omega (arith, values_few)) from.valid
+            (stay_in keys held features part.reached.used from.keys_are from.values_are from.valid is.texts is.held_are.valid)
+            (small_by FEATURES (feature_bytes keys held) features (omega (arith, within, small))));
+        written = record {
+          uses = uses;
+          keys_are = used_keys ∙ sym from.keys_are;
+          values_are = used_values ∙ sym from.values_are;
+          written = subst (AreWritten features) (sym whole) (stay_written keys held features part.reached.used from.keys_are from.values_are);
+        };
+      };
+    }
+
+-- one feature more
+pub read_more : (keys : List (List ℕ)) (held : List Value) (body : List ℕ) (start at after : ℕ) (old new : LayerWriter) (payload : List ℕ)
+    → (read : AreFeaturesRead keys held body start at old) → drop at body ≡ short_field FEATURES (bytes payload) ++ drop after body
+    → (f : Feature) → IsFeatureOf payload keys held f → HasWritten keys held new (read.features ++ f ∷ [])
+    → AreFeaturesRead keys held body start after new
+read_more keys held body start at after old new payload read front f is written = record {
+  payloads = read.payloads ++ payload ∷ [];
+  features = read.features ++ f ∷ [];
+  fields = mapped_more payload_field (drop start body) (drop at body) (drop after body) read.payloads payload read.fields front;
+  are = related-append (λ p f. IsFeatureOf p keys held f) read.payloads read.features (payload ∷ []) (f ∷ []) read.are (is, tt);
+  written = written;
+}
+
+-- the layer whose features were all written
+module _ (payload body : List ℕ) (part : Part) (w : LayerWriter) (few : length payload ≤ LIMIT) (is : IsPartOf body part)
+    (written : IsWrittenUpTo body part part.front.keys_at w) where
+  abbrev rest : List Plain
+  rest = rest_by (λ p. p) written.read.payloads part.keys.items written.held part.name.now part.front.extent
+
+  abbrev made : ALayer
+  made = record { name = part.name.now; extent = part.front.extent; features = written.read.features }
+
+  whole : body ≡ spelled rest
+  whole =
+      let front = part.front in
+      let keys = part.keys.items in
+      let name = part.name.now in
+      let key_fields = keys_are_from body front.keys_at front.values_at front.keys.items keys is.is_front.keys is.keys_are is.texts in
+      let last : drop front.extent_at body ≡ spelled (extent_fields front.extent) =
+      is.is_front.ends ∙ sym (append-nil (short_field EXTENT (varint front.extent))) in
+      is.named ∙ ap (λ r. short_field NAME (bytes name) ++ r) (written.read.fields ∙ ap (λ r. spelled (map payload_field written.read.payloads) ++ r)
+      (key_fields.1 ∙ ap (λ r. spelled (map key_field keys) ++ r)
+      (written.held_are.fields ∙ ap (λ r. spelled (map value_field written.held) ++ r) last)))
+      ∙ sym (parts_spelled name (map payload_field written.read.payloads) (map key_field keys) (map value_field written.held) front.extent)
+
+  features_held : (zs : List Entry) → map (λ (z : Entry). z.content) zs ≡ map (λ p. bytes p) written.read.payloads
+      → AreRelated (λ (z : Entry) f. IsFeatureOf (bytes_of z.content) part.keys.items written.held f) zs written.read.features
+  features_held zs same =
+      held_features (λ p f. IsFeatureOf p part.keys.items written.held f) zs written.read.payloads written.read.features same written.read.are
+
+  item : HasBody payload body → IsItem payload (Layer made)
+  item (inl front) =
+      let same : payload ≡ spelled (fields_by (λ p. p) written.read.payloads part.keys.items written.held part.name.now part.front.extent) =
+      front ∙ ap₂ (λ v b. v ++ b) (sym version_field) whole in
+      subst (λ b. IsItem b (Layer made)) (sym same)
+      (item_in_place (λ p. p) written.read.payloads part.keys.items written.held made is.text is.is_front.small is.texts written.held_are.valid
+      features_held (omega (arith, ap length same)))
+  item (inr behind) =
+      let same : payload ≡ spelled rest ++ short_field VERSION (varint 2) = behind ∙ ap₂ (λ b v. b ++ v) whole (sym version_field) in
+      let size = ap length same ∙ length-append (spelled rest) (short_field VERSION (varint 2)) in
+      let other = length-append (short_field VERSION (varint 2)) (spelled rest) in
+      subst (λ b. IsItem b (Layer made)) (sym same)
+      (item_moved (λ p. p) written.read.payloads part.keys.items written.held made is.text is.is_front.small is.texts written.held_are.valid
+      features_held (omega (arith, size, other)))
+
+  pub layer_written : HasBody payload body → AreBytes payload
+      → (layer : ALayer) × IsItem payload (Layer layer) × ValidItem (Layer layer) × (part.name.now ≡ layer.name) × Unit {0}
+      × (canonical_item (Layer layer) ≡ spelled (head_fields part.name.now) ++ (w.features.items ++ tail_of w.uses part.front.extent))
+  layer_written has are_bytes = (
+    made,
+    item has,
+    item_valid payload (Layer made) are_bytes (item has),
+    refl,
+    tt,
+    layer_rewritten made part.name.now part.front.extent w.uses w.features.items refl refl written.read.written.keys_are
+        written.read.written.values_are written.read.written.written,
+  )
+
+-- a layer of which features were reached
+pub part_is : (WereTold : List Feature → Type 0) (body : List ℕ) (part : Part) → body ≡ short_field NAME (bytes part.name.now) ++ drop part.features_at body
+    → IsUtf8 part.name.now → IsFrontOf body part.front → part.features_at ≤ length body → part.reached.at ≤ length body
+    → part.keys.items ≡ lent part.front.keys.items → AllByRecursion IsUtf8 part.keys.items
+    → ((held : List Value) → length held ≡ length part.front.values.items → AreReady part.keys.items held (0, 0)
+    → AreFeaturesFrom WereTold body part.features_at part.keys.items held part.reached.at part.reached.used)
+    → IsPartOf body part
+part_is WereTold body part named text is_front start_within at_within keys_are texts from =
+    let (within, (held, fields, valid, are)) = is_front.values in
+    let ready =
+    ready_values part.keys.items part.front.values.items held are (subst AreDistinct (sym keys_are) is_front.keys_apart) is_front.values_apart texts valid in
+    record {
+      named = named;
+      text = text;
+      is_front = is_front;
+      start_within = start_within;
+      at_within = at_within;
+      keys_are = keys_are;
+      texts = texts;
+      held = held;
+      held_are = record { fields = fields; valid = valid; are = are };
+      from = told_weaker WereTold (λ _. Unit {0}) body part.features_at part.reached.at part.keys.items held part.reached.used
+          (from held ready.0 ready.1) (λ fs told. tt);
+    }
+
+-- one value more that is read
+pub held_more : (payloads : List (Bor (List ℕ))) (n : ℕ) (read longer : List Value) (value : Value) (default : Bor (List ℕ)) → n < length payloads
+    → AreRelated IsValueOf (lent (take n payloads)) read → IsValueOf (get_or payloads n default).now value → longer ≡ read ++ value ∷ []
+    → AreRelated IsValueOf (lent (take (n + 1) payloads)) longer
+held_more payloads n read longer value default inside are is grown =
+    subst (λ ps. AreRelated IsValueOf (lent ps) longer) (sym (take_more payloads n default inside))
+    (subst (λ vs. AreRelated IsValueOf (lent (take n payloads ++ get_or payloads n default ∷ [])) vs) (sym grown)
+    (subst (λ ps. AreRelated IsValueOf ps (read ++ value ∷ []))
+    (sym (map-append (λ (b : Bor (List ℕ)). b.now) (take n payloads) (get_or payloads n default ∷ [])))
+    (related-append IsValueOf (lent (take n payloads)) read ((get_or payloads n default).now ∷ []) (value ∷ []) are (is, tt))))

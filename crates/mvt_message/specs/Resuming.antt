@@ -1,0 +1,80 @@
+-- A layer of which the first features are canonical, while the others are made so.
+use Rattle.std.specs.Prelude.{◌≡◌, ℕ, ◌≤◌, List, ◌++◌, length, map, drop, IsUtf8}
+use Rattle.std.specs.List.{AllByRecursion}
+use Rattle.mvt_base.specs.Related.{AreRelated}
+use Rattle.mvt_attrs.specs.declared.value.Value.{Value}
+use Rattle.mvt_attrs.specs.FirstUses.{lent}
+use Rattle.mvt_wire.specs.Field.{bytes}
+use Rattle.mvt_wire.specs.Spelling.{Plain, short_field, spelled}
+use Rattle.mvt_feature.specs.declared.feature.Feature.{Feature}
+use Rattle.mvt_feature.specs.Canonical.{plain, value_fields}
+use Rattle.mvt_feature.specs.Features.{IsFeatureOf}
+use Rattle.mvt_feature.specs.Valid.{ValidValue}
+use Rattle.mvt_message.specs.declared.copying.Front.{Front}
+use Rattle.mvt_message.specs.declared.copying.Part.{Part}
+use Rattle.mvt_message.specs.declared.copying.Seen.{Seen}
+use Rattle.mvt_message.specs.declared.copying.Seen.TheVariants.{All, First}
+use Rattle.mvt_message.specs.declared.copying.Known.{Known}
+use Rattle.mvt_message.specs.declared.copying.Known.TheVariants.{Copied, Written}
+use Rattle.mvt_message.specs.declared.layer_rewriting.Rewritten.TheVariants.{Layer}
+use Rattle.mvt_message.specs.declared.layer_writer.LayerWriter.{LayerWriter}
+use Rattle.mvt_message.specs.declared.numbers.layer.TheConstants.{FEATURES, NAME}
+use Rattle.mvt_message.specs.CanonicalItems.{value_field}
+use Rattle.mvt_message.specs.Copying.{AreFeaturesFrom, IsBodyOf, IsCopied, IsFrontOf, copied_body}
+use Rattle.mvt_message.specs.Rewriting.{HasWritten, IsRewrittenAs}
+
+-- the field of a feature, of any payload
+abbrev pub payload_field : List ℕ → Plain
+payload_field payload = plain FEATURES (bytes payload)
+
+-- features, in whatever way they are spelled, that were written
+pub record AreFeaturesRead (keys : List (List ℕ)) (values : List Value) (body : List ℕ) (start at : ℕ) (w : LayerWriter) : Type 0 where
+  pub payloads : List (List ℕ)
+  pub features : List Feature
+  pub fields : drop start body ≡ spelled (map payload_field payloads) ++ drop at body
+  pub are : AreRelated (λ p f. IsFeatureOf p keys values f) payloads features
+  pub written : HasWritten keys values w features
+
+-- the values of a front
+pub record AreHeld (body : List ℕ) (front : Front) (held : List Value) : Type 0 where
+  pub fields : drop front.values_at body ≡ spelled (map value_field held) ++ drop front.extent_at body
+  pub valid : AllByRecursion ValidValue held
+  pub are : lent front.values.items ≡ map (λ (v : Value). spelled (value_fields v)) held
+
+-- a layer whose first features are canonical
+pub record IsPartOf (body : List ℕ) (part : Part) : Type 0 where
+  pub named : body ≡ short_field NAME (bytes part.name.now) ++ drop part.features_at body
+  pub text : IsUtf8 part.name.now
+  pub is_front : IsFrontOf body part.front
+  pub start_within : part.features_at ≤ length body
+  pub at_within : part.reached.at ≤ length body
+  pub keys_are : part.keys.items ≡ lent part.front.keys.items
+  pub texts : AllByRecursion IsUtf8 part.keys.items
+  pub held : List Value
+  pub held_are : AreHeld body part.front held
+  pub from : AreFeaturesFrom (λ _. Unit {0}) body part.features_at part.keys.items held part.reached.at part.reached.used
+
+-- its features up to a place were written
+pub record IsWrittenUpTo (body : List ℕ) (part : Part) (at : ℕ) (w : LayerWriter) : Type 0 where
+  pub held : List Value
+  pub held_are : AreHeld body part.front held
+  pub read : AreFeaturesRead part.keys.items held body part.features_at at w
+
+-- what is seen of a body, whose canonical features were told
+abbrev pub IsSeen : (List Feature → Type 0) → List ℕ → Seen → Type 0
+IsSeen WereTold body (All layer) = IsBodyOf WereTold body layer.name.now (copied_body layer)
+IsSeen WereTold body (First part) = IsPartOf body part
+
+-- what is copied is no longer than this
+abbrev pub IsSeenWithin : ℕ → Seen → Type 0
+IsSeenWithin most (All layer) = length (copied_body layer) ≤ most
+IsSeenWithin most (First part) = Unit {0}
+
+-- the layer of a payload, made canonical
+abbrev pub IsKnown : List ℕ → Known → Type 0
+IsKnown payload (Copied layer) = IsCopied payload layer.name.now (copied_body layer)
+IsKnown payload (Written layer) = IsRewrittenAs (λ _ _ _. Unit {0}) payload (Layer layer)
+
+abbrev pub IsKnownWithin : ℕ → Known → Type 0
+IsKnownWithin most (Copied layer) = length (copied_body layer) ≤ most
+IsKnownWithin most (Written layer) = Unit {0}

@@ -1,0 +1,141 @@
+//! A layer of which the first features are canonical: these are copied, and the others made anew
+//! (Mapbox Vector Tile Specification 2.1, 4.1).
+ghost use Rattle.std.specs.Prelude.{◌≡◌, ◌≤◌, ◌<◌, ◌++◌, ◌∷◌, [], ℕ, List, length, IfOk, OnOk};
+ghost use Rattle.mvt_base.specs.Related.{AreRelated};
+ghost use Rattle.mvt_attrs.specs.declared.value.Value.{Value as AValue};
+ghost use Rattle.mvt_attrs.specs.FirstUses.{lent};
+ghost use Rattle.mvt_feature.specs.Values.{IsValueOf};
+ghost use Rattle.mvt_message.specs.Resuming.{AreFeaturesRead, IsPartOf, IsWrittenUpTo};
+
+use crate::copying::Part;
+use crate::layer_writer::LayerWriter;
+use crate::layer_writing::FEATURE_ROOM;
+use crate::numbers::layer;
+use mvt_attrs::{LayerKeys, LayerUses, Uses, Value};
+use mvt_base::{LIMIT, Text};
+use mvt_feature::{MessageError, NotCanonical, Scratch, read_value, rewrite_feature};
+use mvt_wire::{Payload, put_field, short_bytes_at};
+use std::alloc::{AllocError, Global};
+
+/// Writes the features of a layer of which the first are canonical: these aren't judged again.
+///
+/// # Errors
+///
+/// Where another isn't a feature; which rule it breaks isn't told.
+#[inline(never)]
+pub(crate) fn write_behind(
+    alloc: Global,
+    body: &[u8],
+    part: &Part<'_>,
+) -> Result<LayerWriter, NotCanonical>
+    requires small { length body.now ≤ LIMIT }
+    requires part { IsPartOf body.now part.now }
+    ensures { IfOk result (IsWrittenUpTo body.now part.now part.now.front.keys_at) }
+{
+    let mut writer = copied_writer(alloc, body, part)?;
+    let mut keys = LayerKeys::new(alloc, &part.keys);
+    let mut scratch = Scratch::for_payload(alloc, body.len())?;
+    let mut at = part.reached.at;
+    while at < part.front.keys_at {
+        at = write_next(alloc, body, at, &mut keys, &mut writer, &mut scratch)?;
+    }
+    if at != part.front.keys_at {
+        return Err(NotCanonical::Other);
+    }
+    Ok(writer)
+}
+
+/// A writer that has the features that are canonical, as they stand.
+fn copied_writer(alloc: Global, body: &[u8], part: &Part<'_>) -> Result<LayerWriter, NotCanonical>
+    requires small { length body.now ≤ LIMIT }
+    requires part { IsPartOf body.now part.now }
+    ensures { IfOk result (IsWrittenUpTo body.now part.now part.now.reached.at) }
+{
+    let reached = &part.reached;
+    let texts = copies_of(alloc, &part.keys)?;
+    let held = values_of(alloc, &part.front.values)?;
+    let keys = Uses::of_apart(alloc, texts, reached.used.0)?;
+    let values = Uses::of_apart(alloc, held, reached.used.1)?;
+    let mut payload = Vec::new(alloc);
+    payload.reserve(body.len().min(FEATURE_ROOM))?;
+    let mut features = Vec::with_capacity(alloc, body.len())?;
+    features.extend_from_slice(&body[part.features_at..reached.at])?;
+    Ok(LayerWriter {
+        uses: LayerUses { keys, values },
+        payload,
+        features,
+    })
+}
+
+/// The values of these payloads.
+fn values_of(alloc: Global, payloads: &[&[u8]]) -> Result<Vec<Value>, NotCanonical>
+    ensures { IfOk result (λ values. AreRelated IsValueOf (lent payloads.now) values.items) }
+{
+    let mut values = Vec::with_capacity(alloc, payloads.len())?;
+    for payload in payloads {
+        let value = value_of(alloc, payload)?;
+        push_value(&mut values, value)?;
+    }
+    Ok(values)
+}
+
+fn value_of(alloc: Global, payload: &[u8]) -> Result<Value, NotCanonical>
+    ensures { IfOk result (IsValueOf payload.now) }
+{
+    match read_value(alloc, payload, 0, 0) {
+        Ok(value) => Ok(value),
+        Err(MessageError::Memory) => Err(NotCanonical::Memory),
+        Err(_) => Err(NotCanonical::Broken),
+    }
+}
+
+fn push_value(values: &mut Vec<Value>, value: Value) -> Result<(), AllocError>
+    ensures { OnOk result (values.new.items ≡ values.old.items ++ value ∷ []) }
+{
+    values.push(value)?;
+    Ok(())
+}
+
+fn copies_of(alloc: Global, texts: &[Text]) -> Result<Vec<Text>, AllocError>
+    ensures { IfOk result (λ copies. copies.items ≡ texts.now) }
+{
+    let mut copies = Vec::with_capacity(alloc, texts.len())?;
+    for text in texts {
+        copies.push(text.copy(alloc)?)?;
+    }
+    Ok(copies)
+}
+
+/// Writes the feature at an offset, and answers the offset after it.
+fn write_next(
+    alloc: Global,
+    body: &[u8],
+    at: usize,
+    keys: &mut LayerKeys<'_>,
+    writer: &mut LayerWriter,
+    scratch: &mut Scratch,
+) -> Result<usize, NotCanonical>
+    requires { at ≤ length body.now }
+    ensures feature { (held : List AValue) (start : ℕ)
+        → AreFeaturesRead keys.old held body.now start at writer.old
+        → IfOk result (λ after. AreFeaturesRead keys.old held body.now start after writer.new) }
+    ensures within { IfOk result (λ after. (at < after) × (after ≤ length body.now)) }
+    ensures same { keys.new ≡ keys.old }
+{
+    let Some((payload, after)) = short_bytes_at(body, at, layer::FEATURES) else {
+        return Err(NotCanonical::Other);
+    };
+    let LayerWriter {
+        uses,
+        payload: canonical,
+        features,
+    } = writer;
+    canonical.clear();
+    match rewrite_feature(alloc, payload, 0, keys, uses, scratch, canonical) {
+        Ok(_) => {}
+        Err(MessageError::Memory) => return Err(NotCanonical::Memory),
+        Err(_) => return Err(NotCanonical::Broken),
+    }
+    put_field(features, layer::FEATURES, &Payload::Len(canonical))?;
+    Ok(after)
+}
