@@ -196,3 +196,60 @@ fn copies_nothing_else_that_is_unused(rt: HostRuntime) {
           \x1A\x01a\x22\x02\x38\x01\x22\x01\x38\x28\x80\x04\x78\x02",
     );
 }
+
+// What stands behind canonical features: an unused value in the middle, a value twice, and a last
+// feature whose id is spelled too long.
+#[test]
+fn goes_on_behind_canonical_features(rt: HostRuntime) {
+    expect_same(
+        &rt,
+        b"\x0A\x01b\x12\x0B\x12\x02\x00\x00\x18\x01\x22\x03\x09\x32\x22\
+          \x12\x0B\x12\x02\x00\x02\x18\x01\x22\x03\x09\x32\x22\
+          \x1A\x01a\x22\x02\x38\x01\x22\x02\x20\x05\x22\x02\x30\x05\x28\x80\x04\x78\x02",
+    );
+    expect_same(
+        &rt,
+        b"\x0A\x01b\x12\x0B\x12\x02\x00\x00\x18\x01\x22\x03\x09\x32\x22\
+          \x12\x0B\x12\x02\x00\x01\x18\x01\x22\x03\x09\x32\x22\
+          \x1A\x01a\x22\x02\x38\x01\x22\x02\x38\x01\x28\x80\x04\x78\x02",
+    );
+    expect_same(
+        &rt,
+        b"\x78\x02\x0A\x01b\x12\x0B\x12\x02\x00\x00\x18\x01\x22\x03\x09\x32\x22\
+          \x12\x0E\x08\x81\x00\x12\x02\x00\x01\x18\x01\x22\x03\x09\x32\x22\
+          \x1A\x01a\x22\x02\x38\x01\x22\x02\x20\x05\x28\x80\x04",
+    );
+}
+
+// A layer that is copied asks for memory less often than one that is made canonical behind its first
+// features, and than the same made anew (tests/refusals).
+fn expect_rewritten(rt: &(impl Abort + AllocGlobal), payload: &[u8]) {
+    let mut out = Vec::new(rt.alloc());
+    expect!(rt; rewrite_short(rt.alloc(), payload, &mut out).is_ok());
+    expect!(rt; out.len() < 200);
+    drop(out);
+}
+
+#[test]
+fn asks_least_to_copy(rt: HostRuntime) {
+    expect_rewritten(&rt, &MANY_VALUES);
+}
+
+// The last feature has an id of 0 that takes two bytes.
+#[test]
+fn asks_more_to_go_on(rt: HostRuntime) {
+    let mut payload = Vec::new(rt.alloc());
+    expect!(rt; payload.extend_from_slice(&MANY_VALUES[..82]).is_ok());
+    expect!(rt; payload.extend_from_slice(b"\x12\x0E\x08\x80\x00").is_ok());
+    expect!(rt; payload.extend_from_slice(&MANY_VALUES[84..]).is_ok());
+    expect_rewritten(&rt, &payload);
+    drop(payload);
+}
+
+#[test]
+fn asks_more_to_make_anew(rt: HostRuntime) {
+    let mut out = Vec::new(rt.alloc());
+    expect!(rt; make_anew(rt.alloc(), &MANY_VALUES, &mut out).is_ok());
+    expect!(rt; out.len() < 200);
+    drop(out);
+}

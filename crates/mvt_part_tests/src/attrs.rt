@@ -138,6 +138,24 @@ fn resolves_many_tags(rt: HostRuntime) {
     drop(keys);
 }
 
+// So many keys, of which the last is the first again: a feature may name one of these.
+fn expect_last_is_first(rt: &(impl Abort + AllocGlobal), count: u32) {
+    let last = count.saturating_sub(1);
+    let mut keys = numbered_keys(rt.alloc(), last).expect(rt, "keys");
+    keys.push(text(rt, "0")).expect(rt, "keys");
+    expect_count(rt, &keys, &[1, 0, last, 0], 2);
+    expect_eq!(rt; judged_over(rt, &keys, &[0, 0, last, 0]), fault(2, TagCause::RepeatedKey));
+    drop(keys);
+}
+
+// Around the numbers up to which keys are compared one by one, and grouped by slots.
+#[test]
+fn resolves_any_number_of_keys(rt: HostRuntime) {
+    for count in [8, 9, 32, 33, 65_536, 65_537] {
+        expect_last_is_first(&rt, count);
+    }
+}
+
 // Where a key is placed.
 fn place_key(
     rt: &(impl Abort + AllocGlobal),

@@ -213,3 +213,49 @@ fn refused_forms_of_values(rt: HostRuntime) {
     expect!(rt; refused < 2);
     drop(values);
 }
+
+// So many values, of which the last is the first again.
+fn values_of(alloc: Global, count: u32) -> Result<Vec<Value>, AllocError> {
+    let mut values = Vec::new(alloc);
+    for number in 1..count {
+        values.push(Value::Uint(u64::from(number)))?;
+    }
+    values.push(Value::Uint(1))?;
+    Ok(values)
+}
+
+// The uses of so many values, which are added as they stand or taken.
+fn uses_of(alloc: Global, count: u32, is_taken: bool) -> Result<LayerUses, AllocError> {
+    let values = values_of(alloc, count)?;
+    let mut uses = LayerUses::new(alloc);
+    uses.keys.add(&Text::from_str(alloc, "key")?)?;
+    if is_taken {
+        uses.values.take_all(values)?;
+    } else {
+        uses.values.add_all(&values)?;
+    }
+    Ok(uses)
+}
+
+// The last, the first and the second are used: two values.
+fn expect_two_used(rt: &(impl Abort + AllocGlobal), mut uses: LayerUses, count: u32) {
+    let mut tags = Vec::new(rt.alloc());
+    let done = uses.append_used(&[0, count.saturating_sub(1), 0, 0, 0, 1], &mut tags);
+    expect!(rt; done.is_ok());
+    expect_eq!(rt; tags.as_slice(), [0, 0, 0, 0, 0, 1].as_slice());
+    expect_eq!(rt; uses.values.len(), count as usize);
+    expect!(rt; uses.values.used() == [Value::Uint(1), Value::Uint(2)].as_slice());
+    drop(tags);
+    drop(uses);
+}
+
+// Around the numbers up to which values are compared one by one, hashed, and found apart at once.
+#[test]
+fn uses_any_number_of_values(rt: HostRuntime) {
+    for count in [8, 9, 32, 33, 65_536, 65_537] {
+        for is_taken in [false, true] {
+            let uses = uses_of(rt.alloc(), count, is_taken).expect(&rt, "uses");
+            expect_two_used(&rt, uses, count);
+        }
+    }
+}
