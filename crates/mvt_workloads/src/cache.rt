@@ -1,6 +1,6 @@
 //! Tiles of a cache that is audited and mended: mostly small ones, of the sea and of coasts. A
-//! third was rewritten before and is canonical, a third has layers of version 1, and of a third the
-//! last value of each layer belongs to no feature any more.
+//! third was rewritten before and is canonical, a third has layers of version 1, and of a third
+//! each layer has lost a feature, whose keys and values it still has.
 
 use crate::features::Shape;
 use crate::layers::{Content, Form, Key, Past, make_cached_layer};

@@ -136,20 +136,61 @@ impl LayerMaker {
         Ok(tags)
     }
 
-    fn add_feature(&mut self, random: &mut Random, form: Form) -> Result<(), AllocError> {
+    /// Begins a feature. Half of them have an id.
+    fn begin_feature(&mut self, random: &mut Random) -> Result<(), AllocError> {
         self.feature.clear();
         if random.one_in(2) {
             let id = random.within(1 << 14, 1 << 20);
             self.feature.put_uint(1, u64::from(id))?;
         }
+        Ok(())
+    }
+
+    /// Begins a feature whose id changes from round to round.
+    fn begin_changing_feature(&mut self, random: &mut Random) -> Result<(), AllocError> {
+        self.feature.clear();
+        let id = random.within(1 << 28, u32::MAX);
+        self.feature.put_changing(1, u64::from(id))
+    }
+
+    /// Ends a feature with its tags, its type and its geometry.
+    fn end_feature(&mut self, random: &mut Random, form: Form) -> Result<(), AllocError> {
         let tags = self.put_tags(random, form.keys)?;
         self.feature.put_message(2, &tags)?;
         self.feature.put_uint(3, form.shape.number())?;
         self.part.clear();
         let points = random.within(form.points / 2, form.points);
         put_geometry(&mut self.part, random, form.shape, points)?;
-        self.feature.put_message(4, &self.part)?;
+        self.feature.put_message(4, &self.part)
+    }
+
+    fn add_feature(&mut self, random: &mut Random, form: Form) -> Result<(), AllocError> {
+        self.begin_feature(random)?;
+        self.end_feature(random, form)?;
         self.layer.put_message(2, &self.feature)
+    }
+
+    /// Adds so many features, of which the first two have ids that change. Of one that is lost the
+    /// keys and values alone are added.
+    fn add_cached_features(
+        &mut self,
+        random: &mut Random,
+        form: Form,
+        count: u32,
+        lost: Option<u32>,
+    ) -> Result<(), AllocError> {
+        for number in 0..count {
+            if number < 2 {
+                self.begin_changing_feature(random)?;
+            } else {
+                self.begin_feature(random)?;
+            }
+            self.end_feature(random, form)?;
+            if lost != Some(number) {
+                self.layer.put_message(2, &self.feature)?;
+            }
+        }
+        Ok(())
     }
 
     /// Ends the layer with its keys and values and its extent.
@@ -216,11 +257,11 @@ pub enum Past {
     Rewritten,
     /// It has version 1.
     Old,
-    /// It was filtered: its last value belongs to no feature any more.
+    /// It was filtered: one of its features is gone, but for the keys and values that it used.
     Filtered,
 }
 
-/// A layer of this form, as a cache has it.
+/// A layer of this form, as a cache has it, with a feature at least.
 pub fn make_cached_layer(
     alloc: Global,
     random: &mut Random,
@@ -232,14 +273,13 @@ pub fn make_cached_layer(
         maker.layer.put_uint(15, 2)?;
     }
     maker.layer.put_bytes(1, form.name.as_bytes())?;
-    for _ in 0..random.within(form.features / 2, form.features) {
-        maker.add_feature(random, form)?;
-    }
+    let count = random.within(form.features / 2, form.features);
     if let Past::Filtered = past {
-        maker
-            .values
-            .fields
-            .put_bytes(FIELD_VALUES, b"\x0a\x06unused")?;
+        let count = count.max(2);
+        let lost = random.within(0, count.saturating_sub(1));
+        maker.add_cached_features(random, form, count, Some(lost))?;
+    } else {
+        maker.add_cached_features(random, form, count.max(1), None)?;
     }
     let mut layer = maker.finish()?;
     match past {

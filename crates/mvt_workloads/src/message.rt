@@ -78,6 +78,17 @@ impl Message {
         self.put(field, &Payload::Varint(number))
     }
 
+    /// Appends a number that is spelled in five bytes, of which the lower 28 bits may change.
+    pub fn put_changing(&mut self, field: u32, number: u64) -> Result<(), AllocError> {
+        self.put_uint(field, number)?;
+        let end = self.bytes.len();
+        for back in 2..6 {
+            let at = end.wrapping_sub(back);
+            self.places.push(Place { at, bits: 0x7f })?;
+        }
+        Ok(())
+    }
+
     pub fn put_double(&mut self, field: u32, bits: u64) -> Result<(), AllocError> {
         self.put(field, &Payload::I64(bits))
     }
