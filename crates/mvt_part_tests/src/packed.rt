@@ -7,7 +7,8 @@ use std::process::Abort;
 
 const KINDS: [Kind; 3] = [Kind::Point, Kind::LineString, Kind::Polygon];
 
-/// Two points, a line of long steps that ends at the range's very end, two lines, a polygon with a hole and one without an area.
+/// Two points, a line of long steps that comes to the range's very end, two lines, a polygon with a
+/// hole and one without an area.
 const DRAWINGS: [&[u32]; 5] = [
     &[17, 10, 14, 3, 9],
     &[9, 200, 70_000, 18, 3_000_000, 4_294_897_294, 1, 0],
