@@ -87,11 +87,18 @@ fn odd_features_are_judged_as_they_are_read(rt: HostRuntime) {
     }
 }
 
-/// The integers, at 11, are cut off; tags stand behind them.
+/// The integers, at 11, are cut off; tags stand behind them, which ask for no memory.
 #[test]
-fn integers_are_judged_before_tags_behind_them(rt: HostRuntime) {
+fn tags_behind_broken_integers(rt: HostRuntime) {
     let payload = [0x18, 0x03, 0x22, 0x01, 0x80, 0x12, 0x02, 0x00, 0x00];
     expect_eq!(rt; checked_for(&rt, &payload), Some((11, 1)));
+}
+
+/// The integers, at 15, are cut off; tags stand in front of them.
+#[test]
+fn tags_in_front_of_broken_integers(rt: HostRuntime) {
+    let payload = [0x18, 0x03, 0x12, 0x02, 0x00, 0x00, 0x22, 0x01, 0x80];
+    expect_eq!(rt; checked_for(&rt, &payload), Some((15, 1)));
 }
 
 /// The field at 15 runs past the end, whatever memory there is for the tags in front of it.
