@@ -21,8 +21,8 @@ impl From<AllocError> for ViewError {
     }
 }
 
-// A tile has no floats and no keys but texts, so serde_json's writer fails for want of memory
-// alone.
+// For a caller who has serde_json write what `json_of` made: it has no floats and no keys but
+// texts, so that fails for want of memory alone.
 impl From<serde_json::Error> for ViewError {
     ghost use Rattle.std.specs.Prelude.{◌≡◌};
     ghost use Rattle.mvt_view.specs.declared.view_error.ViewError.TheVariants.{Memory};

@@ -167,7 +167,7 @@ fn expect_text(rt: &impl Abort, found: Result<String, ViewError>, expected: &str
     drop(text);
 }
 
-// The JSON of a tile, which is let go, is this text, by events and by the tree.
+// The JSON of a tile, which is let go, is this text, piece by piece and by the tree.
 fn expect_json(rt: &(impl Abort + AllocGlobal), tile: Tile, expected: &str) {
     expect_text(rt, json_text(rt.alloc(), &tile), expected);
     expect_text(rt, tree_text(rt.alloc(), &tile), expected);
@@ -235,6 +235,44 @@ fn shows_texts(rt: HostRuntime) {
         "}]}"
     );
     expect_json(&rt, tile, expected);
+}
+
+// A text of so many bytes, of which one is a mark.
+fn marked(rt: &(impl Abort + AllocGlobal), len: usize, at: usize, mark: &str) -> String {
+    let mut text = String::new(rt.alloc());
+    for index in 0..len {
+        let piece = if index == at { mark } else { "x" };
+        text.push_str(piece).expect(rt, "a text");
+    }
+    text
+}
+
+// A layer whose name has a quotation mark there.
+fn expect_marked(rt: &(impl Abort + AllocGlobal), len: usize, at: usize) {
+    let name = marked(rt, len, at, "\"");
+    let escaped = marked(rt, len, at, "\\\"");
+    let expected = format!(in rt.alloc();
+        "{{\"layers\":[{{\"extent\":4096,\"features\":[],\"name\":\"{}\"}}]}}",
+        escaped.as_str()
+    )
+    .expect(rt, "a text");
+    let tile = one_layer(rt, name.as_str(), Vec::new(rt.alloc()));
+    expect_json(rt, tile, expected.as_str());
+    drop(name);
+    drop(escaped);
+    drop(expected);
+}
+
+// 32 bytes are looked at together in a text of 256 and more.
+#[test]
+fn escapes_in_texts_of_any_length(rt: HostRuntime) {
+    let places = [0, 1, 30, 31, 32, 33, 63, 64, 254, 255, 256, 286, 287, 288, 319];
+    for at in places {
+        expect_marked(&rt, at + 1, at);
+        expect_marked(&rt, 255, at);
+        expect_marked(&rt, 256, at);
+        expect_marked(&rt, 320, at);
+    }
 }
 
 const fn fault(layer: Option<u32>, feature: Option<u32>, at: u64, cause: Cause) -> Fault {
