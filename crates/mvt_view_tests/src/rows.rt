@@ -1,12 +1,12 @@
 //! Rows that are tiles, and rows that are none.
 use crate::expect::{expect, expect_eq};
-use mvt_message::Cause;
+use mvt_message::{Cause, MessageError};
 use mvt_rows::{
     FeatureRow, LayerRow, PartRow, PointRow, Rows, RowsCause, RowsDecoder, RowsError, RowsFault,
     RowsVisitor, Span, ValueRow, read_layer, read_rows, read_rows_within, rows_fault, tile_of,
     write_rows,
 };
-use mvt_tile::{DecodeError, Fault, Tile, encode, validate};
+use mvt_tile::{DecodeError, Fault, Tile, TileVisitor, encode, validate};
 use std::process::Abort;
 
 const NOWHERE: Span = Span { start: 0, len: 0 };
@@ -680,4 +680,107 @@ fn judging_rows_refused_memory(rt: HostRuntime) {
         refused = refused.saturating_add(u32::from(is_judging_refused(&rt, &rows)));
     }
     expect!(rt; refused <= 1);
+}
+
+// The rows that a visitor has behind the fault of its first layer.
+fn rows_behind_a_fault(rt: &(impl Abort + AllocGlobal), layer: &[u8]) -> Rows {
+    let mut visitor = RowsVisitor::new(rt.alloc(), u64::MAX);
+    let done = visitor.visit_item(rt.alloc(), layer, 2, 0);
+    expect!(rt; matches!(done, Err(MessageError::Fault { .. })));
+    drop(done);
+    visitor.into_table().leak()
+}
+
+// The ring is closed twice, the tags of the first feature name a fourth key.
+#[test]
+fn keeps_no_part_of_a_broken_feature(rt: HostRuntime) {
+    let mut bytes = READ_BYTES;
+    bytes[38] = 0x17;
+    let rows = rows_behind_a_fault(&rt, &bytes[2..63]);
+    expect_eq!(rt; rows.features, &READ.features[..1]);
+    expect_eq!(rt; rows.parts, &READ.parts[..1]);
+    expect_eq!(rt; rows.points, &READ.points[..1]);
+    bytes[13] = 3;
+    let rows = rows_behind_a_fault(&rt, &bytes[2..63]);
+    expect_eq!(rt; rows.parts, NONE.parts);
+    expect_eq!(rt; rows.points, NONE.points);
+}
+
+// Each part of the rows is one feature's, and each point one part's.
+fn are_parts_of_features(rows: &Rows) -> bool {
+    let points: u64 = rows.parts.iter().map(|part| part.points.len).sum();
+    rows.parts.len() == rows.features.len() && rows.points.len() as u64 == points
+}
+
+fn is_visiting_refused(rt: &(impl Abort + AllocGlobal)) -> bool {
+    let mut visitor = RowsVisitor::new(rt.alloc(), u64::MAX);
+    let done = visitor.visit_item(rt.alloc(), &READ_BYTES[2..63], 2, 0);
+    let rows = visitor.into_table().leak();
+    expect!(rt; are_parts_of_features(&rows));
+    match done {
+        Ok(name) => {
+            expect_eq!(rt; rows.points, READ.points);
+            drop(name);
+            false
+        }
+        Err(error) => {
+            expect_eq!(rt; error, MessageError::Memory);
+            true
+        }
+    }
+}
+
+#[test]
+fn visiting_rows_refused_memory(rt: HostRuntime) {
+    let mut refused: u32 = 0;
+    for _ in 0..2 {
+        refused = refused.saturating_add(u32::from(is_visiting_refused(&rt)));
+    }
+    expect!(rt; refused <= 1);
+}
+
+// A first line of one point, which can't be drawn, and 1,099 that name 65,536 points each.
+fn lines_that_overlap(rt: &(impl Abort + AllocGlobal), parts: &mut Vec<PartRow>) {
+    for index in 0..1100 {
+        let len = if index == 0 { 1 } else { 65_536 };
+        let points = Span { start: 0, len };
+        let line = PartRow { exterior: 0, points };
+        parts.push(line).expect(rt, "a line");
+    }
+}
+
+// Spans that overlap too often are told before a line that can't be drawn.
+#[test]
+fn counts_all_parts_before_it_draws(rt: HostRuntime) {
+    let mut parts = Vec::new(rt.alloc());
+    lines_that_overlap(&rt, &mut parts);
+    let zeros = vec![in rt.alloc(); PointRow { x: 0, y: 0 }; 65_536];
+    let rows = Rows {
+        features: &[FeatureRow {
+            kind: 2,
+            parts: Span {
+                start: 0,
+                len: 1100,
+            },
+            ..FEATURE
+        }],
+        parts: parts.leak(),
+        points: zeros.expect(&rt, "points").leak(),
+        ..ONE_POINT
+    };
+    let error = write_rows(rt.alloc(), &rows).err();
+    expect_eq!(rt; error, Some(RowsError::Memory));
+    let fewer = Rows {
+        parts: &rows.parts[..1024],
+        features: &[FeatureRow {
+            kind: 2,
+            parts: Span {
+                start: 0,
+                len: 1024,
+            },
+            ..FEATURE
+        }],
+        ..rows
+    };
+    expect_refused(&rt, &fewer);
 }

@@ -1,5 +1,5 @@
 //! The parts of a feature, told while its geometry is judged.
-ghost use Rattle.std.specs.Prelude.{◌≡◌, ◌+◌, ◌^◌, ◌<◌, List, length, take, None, IfOk, IfErr, OnOk};
+ghost use Rattle.std.specs.Prelude.{◌≡◌, ◌+◌, ◌^◌, ◌<◌, ◌≤◌, List, length, take, None, IfOk, IfErr, OnOk, OnErr};
 ghost use Rattle.mvt_base.specs.Reports.{Reports};
 ghost use Rattle.mvt_attrs.specs.declared.value.Value.{Value};
 ghost use Rattle.mvt_geometry.specs.Visiting.{HasDrawn};
@@ -13,9 +13,19 @@ use mvt_attrs::LayerKeys;
 use mvt_feature::{FeatureFields, MessageError, Scratch, draw_feature, draw_usual_feature};
 use std::alloc::Global;
 
+/// How many parts and how many points there are, and how many there is room for.
+#[derive(Clone, Copy)]
+pub(super) struct Drawn {
+    parts: usize,
+    points: usize,
+    parts_room: usize,
+    points_room: usize,
+}
+
 impl Table {
     /// Adds the parts of a feature's geometry, and answers what else its fields say; its tags are
-    /// left in the scratch.
+    /// left in the scratch. Behind an error there are no more parts and points than before, and the
+    /// memory that they took is given back.
     ///
     /// # Errors
     ///
@@ -39,31 +49,51 @@ impl Table {
             → feature_fault payload.now payload_at keys.old held ≡ None) }
         ensures err { IfErr result (λ error. (held : List Value) → length held ≡ values
             → Reports (fault_of error) (feature_fault payload.now payload_at keys.old held)) }
+        ensures parts { OnErr result (length self.new.parts ≤ length self.old.parts) }
+        ensures points { OnErr result (length self.new.points ≤ length self.old.points) }
         ensures same { keys.new ≡ keys.old }
     {
-        let (parts, points) = self.drawn();
-        let (parts_room, points_room) = self.room();
-        match draw_usual_feature(alloc, self, payload, payload_at, keys, values, scratch)? {
-            Some(known) => Ok(known),
-            None => {
-                self.keep_parts(parts, points);
-                match draw_feature(alloc, self, payload, payload_at, keys, values, scratch) {
-                    Ok(known) => Ok(known),
-                    Err(error) => {
-                        self.keep_room(parts_room, points_room);
-                        Err(error)
-                    }
-                }
+        let before = self.drawn();
+        match draw_usual_feature(alloc, self, payload, payload_at, keys, values, scratch) {
+            Ok(Some(known)) => return Ok(known),
+            Ok(None) => self.forget_behind(before),
+            Err(refused) => {
+                self.forget_behind(before);
+                return Err(refused.into());
+            }
+        }
+        match draw_feature(alloc, self, payload, payload_at, keys, values, scratch) {
+            Ok(known) => Ok(known),
+            Err(error) => {
+                self.forget_behind(before);
+                Err(error)
             }
         }
     }
 
-    /// How many parts and how many points there are.
-    fn drawn(&self) -> (usize, usize)
-        ensures parts { result.0 ≡ length self.now.parts }
-        ensures points { result.1 ≡ length self.now.points }
+    /// What there is before a feature.
+    pub(super) fn drawn(&self) -> Drawn
+        ensures parts { result.parts ≡ length self.now.parts }
+        ensures points { result.points ≡ length self.now.points }
     {
-        (self.parts.len(), self.points.len())
+        Drawn {
+            parts: self.parts.len(),
+            points: self.points.len(),
+            parts_room: self.parts.capacity(),
+            points_room: self.points.capacity(),
+        }
+    }
+
+    /// Drops the parts and the points that were added since, and gives back the memory that they
+    /// took.
+    pub(super) fn forget_behind(&mut self, before: Drawn)
+        ensures { self.new ≡ record self.old {
+          parts = take before.parts self.old.parts;
+          points = take before.points self.old.points;
+        } }
+    {
+        self.keep_parts(before.parts, before.points);
+        self.keep_room(before.parts_room, before.points_room);
     }
 
     /// Drops what stands behind so many parts and so many points.
@@ -75,11 +105,6 @@ impl Table {
     {
         self.parts.truncate(parts);
         self.points.truncate(points);
-    }
-
-    /// How many parts and how many points there is room for.
-    fn room(&self) -> (usize, usize) {
-        (self.parts.capacity(), self.points.capacity())
     }
 
     /// Gives back the memory of parts and points that goes beyond this room and isn't in use.

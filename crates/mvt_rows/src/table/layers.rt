@@ -1,5 +1,5 @@
 //! The rows of features and layers.
-ghost use Rattle.std.specs.Prelude.{◌≡◌, ◌-◌, OnOk};
+ghost use Rattle.std.specs.Prelude.{◌≡◌, ◌-◌, OnErr, OnOk};
 ghost use Rattle.mvt_feature.specs.Canonical.{type_number};
 ghost use Rattle.mvt_rows.specs.Tables.{with_feature_row, with_foreign, with_layer_row};
 
@@ -31,24 +31,28 @@ fn type_of(kind: Kind) -> u32
 
 impl Table {
     /// Adds the row of a feature whose parts and integers stand after these places, and its tags as
-    /// they stand.
+    /// they stand; nothing where memory runs out.
     pub(super) fn add_feature_row(
         &mut self,
         tags: &[u32],
         known: FeatureFields,
         opened: Places,
     ) -> Result<(), AllocError>
-        ensures { OnOk result (self.new ≡ with_feature_row tags.now self.old known opened) }
+        ensures ok { OnOk result (self.new ≡ with_feature_row tags.now self.old known opened) }
+        ensures err { OnErr result (self.new ≡ self.old) }
     {
-        self.features.push(FeatureRow {
+        let row = FeatureRow {
             id: known.id.unwrap_or(0),
             has_id: u32::from(known.id.is_some()),
             kind: type_of(known.kind),
             tags: after_list(self.tags.len(), tags.len()),
             parts: added(opened.parts, self.parts.len()),
             integers: added(opened.integers, self.integers.len()),
-        })?;
-        self.tags.extend_from_slice(tags)
+        };
+        self.features.reserve(1)?;
+        self.tags.extend_from_slice(tags)?;
+        self.features.push(row).unwrap();
+        Ok(())
     }
 
     /// Adds the row of a layer whose features, keys and values stand after these places, and its

@@ -195,9 +195,15 @@ impl LayerVisitor for RowsVisitor {
         scratch: &mut Scratch,
     ) -> Result<(), MessageError> {
         let opened = self.table.places();
+        let before = self.table.drawn();
         let table = &mut self.table;
         let known = table.add_drawing(alloc, payload, payload_at, keys, values, scratch)?;
-        self.table.add_feature_row(scratch.tags(), known, opened)?;
-        Ok(self.keep_within()?)
+        match self.table.add_feature_row(scratch.tags(), known, opened) {
+            Ok(()) => Ok(self.keep_within()?),
+            Err(refused) => {
+                self.table.forget_behind(before);
+                Err(refused.into())
+            }
+        }
     }
 }

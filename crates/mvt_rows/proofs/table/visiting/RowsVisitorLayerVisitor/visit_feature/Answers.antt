@@ -7,8 +7,8 @@ use Rattle.mvt_rows.proofs.TableLemmas.{told}
 use Rattle.mvt_rows.proofs.VisitLemmas.{feature_visited}
 use Rattle.mvt_rows.proofs.table.visiting.RowsVisitorLayerVisitor.visit_feature.Goals as goal
 
-pub returns-clause-feature : goal.returns-clause-feature
-returns-clause-feature c = λ items held features are has.
+pub returns-in_ok-keep_within-in-Ok-clause-feature : goal.returns-in_ok-keep_within-in-Ok-clause-feature
+returns-in_ok-keep_within-in-Ok-clause-feature c = λ items held features are has.
     let drawn = c.in_ok-known.ensures.feature held are in
     let known = c.in_ok-known.known in
     let opened = c.places-opened.result in
@@ -18,7 +18,7 @@ returns-clause-feature c = λ items held features are has.
     let named : Resolved c.args.keys.now held tags drawn.attributes =
     subst (λ tags. Resolved c.args.keys.now held tags drawn.attributes) (sym c.tags.ensures) drawn.resolved in
     let made =
-    c.in_ok-add_feature_row.ensures ∙ ap (λ t. with_feature_row tags t known opened) (told c.args.self.now.table _ drawn.geometry drawn.holds) in (
+    c.in-Ok.ensures.ok ∙ ap (λ t. with_feature_row tags t known opened) (told c.args.self.now.table _ drawn.geometry drawn.holds) in (
       f,
       drawn.is,
       subst (λ t. AreLayerRows t open_at items c.args.keys.now held (features ++ f ∷ [])) (sym made)
