@@ -1,0 +1,105 @@
+/* A decoder that failed behind the points of a feature keeps no memory for them: it has no more than one that failed
+ * before the first of them, whatever it failed for. Link it with --wrap for malloc, realloc and free. */
+#include "mvt.h"
+
+#include <malloc.h>
+#include <stdio.h>
+#include <stdlib.h>
+#include <string.h>
+
+enum { STEPS = 50000, LEN = 28 + 2 * STEPS, SLACK = 1024 };
+
+void *__real_malloc(size_t size);
+void *__real_realloc(void *block, size_t size);
+void __real_free(void *block);
+
+static unsigned long count, refused; /* allocations so far, and the one that is refused, from 1 */
+static size_t live;                  /* bytes of the blocks that weren't given back */
+
+static int refuses(void) { return ++count == refused; }
+
+void *__wrap_malloc(size_t size) {
+    void *block = refuses() ? NULL : __real_malloc(size);
+    live += malloc_usable_size(block);
+    return block;
+}
+
+void *__wrap_realloc(void *old, size_t size) {
+    const size_t before = malloc_usable_size(old);
+    void *block = refuses() ? NULL : __real_realloc(old, size);
+    if (block != NULL) live += malloc_usable_size(block) - before;
+    return block;
+}
+
+void __wrap_free(void *block) {
+    live -= malloc_usable_size(block);
+    __real_free(block);
+}
+
+static void require(int holds, const char *what) {
+    if (holds) return;
+    fprintf(stderr, "broken: %s, allocation %lu refused\n", what, refused);
+    exit(1);
+}
+
+static uint8_t *put(uint8_t *at, uint32_t number) {
+    for (; number >= 128; number >>= 7) *at++ = (uint8_t)(number | 128);
+    *at++ = (uint8_t)number;
+    return at;
+}
+
+/* Layer `a` with a line of so many steps of one byte each way; answers where the steps begin. */
+static size_t line(uint8_t *tile, size_t *len) {
+    uint8_t integers[16], feature[16], *end = integers, *front = feature;
+    memcpy(end, "\x09\x00\x00", 3);
+    end = put(end + 3, (STEPS << 3) | 2);
+    const uint32_t drawn = (uint32_t)(end - integers) + 2 * STEPS;
+    memcpy(front, "\x18\x02\x22", 3);
+    front = put(front + 3, drawn);
+    const uint32_t whole = (uint32_t)(front - feature) + drawn;
+    uint8_t size[8], *after = put(size, whole), *at = tile;
+    *at++ = 0x1A;
+    at = put(at, 6 + (uint32_t)(after - size) + whole);
+    memcpy(at, "\x78\x02\x0A\x01\x61\x12", 6);
+    at = put(at + 6, whole);
+    memcpy(at, feature, (size_t)(front - feature));
+    at += front - feature;
+    memcpy(at, integers, (size_t)(end - integers));
+    at += end - integers;
+    memset(at, 2, 2 * STEPS);
+    *len = (size_t)(at - tile) + 2 * STEPS;
+    return (size_t)(at - tile);
+}
+
+/* The bytes that a decoder has when it was fed, which has to answer this. */
+static size_t held(const uint8_t *tile, size_t len, uint32_t wanted) {
+    mvt_decoder decoder = {0};
+    mvt_fault fault = {0};
+    count = 0, live = 0;
+    uint32_t status = mvt_decoder_new(&decoder);
+    if (status == MVT_OK) status = mvt_decoder_feed(&decoder, tile, len, &fault);
+    const size_t bytes = live;
+    require(status == wanted || (status == MVT_OK && count < refused), "the status");
+    mvt_decoder_free(&decoder);
+    require(live == 0, "a block is left");
+    return bytes;
+}
+
+int main(void) {
+    static uint8_t tile[LEN];
+    size_t len;
+    const size_t steps = line(tile, &len);
+    tile[steps] = tile[steps + 1] = 0;
+    const size_t least = held(tile, len, MVT_REFUSED);
+    memset(tile + steps, 2, 2);
+    tile[len - 1] = tile[len - 2] = 0;
+    require(held(tile, len, MVT_REFUSED) <= least + SLACK, "behind a fault points are kept");
+    memset(tile + len - 2, 2, 2);
+    do {
+        ++refused;
+        const size_t bytes = held(tile, len, MVT_NO_MEMORY);
+        if (count >= refused) require(bytes <= least + SLACK, "behind a refusal points are kept");
+    } while (count >= refused);
+    printf("%lu runs, at most %zu bytes\n", refused, least);
+    return 0;
+}
