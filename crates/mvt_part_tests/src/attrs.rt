@@ -143,8 +143,11 @@ fn expect_last_is_first(rt: &(impl Abort + AllocGlobal), count: u32) {
     let last = count.saturating_sub(1);
     let mut keys = numbered_keys(rt.alloc(), last).expect(rt, "keys");
     keys.push(text(rt, "0")).expect(rt, "keys");
-    expect_count(rt, &keys, &[1, 0, last, 0], 2);
-    expect_eq!(rt; judged_over(rt, &keys, &[0, 0, last, 0]), fault(2, TagCause::RepeatedKey));
+    let mut layer = LayerKeys::new(rt.alloc(), &keys);
+    expect!(rt; judge_tags(rt.alloc(), &mut layer, 1, &[1, 0, last, 0]).is_ok());
+    let twice = judge_tags(rt.alloc(), &mut layer, 1, &[0, 0, last, 0]).err();
+    expect_eq!(rt; twice, fault(2, TagCause::RepeatedKey));
+    drop(layer);
     drop(keys);
 }
 

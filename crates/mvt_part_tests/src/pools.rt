@@ -252,10 +252,17 @@ fn expect_two_used(rt: &(impl Abort + AllocGlobal), mut uses: LayerUses, count: 
 // Around the numbers up to which values are compared one by one, hashed, and found apart at once.
 #[test]
 fn uses_any_number_of_values(rt: HostRuntime) {
-    for count in [8, 9, 32, 33, 65_536, 65_537] {
-        for is_taken in [false, true] {
-            let uses = uses_of(rt.alloc(), count, is_taken).expect(&rt, "uses");
-            expect_two_used(&rt, uses, count);
-        }
+    for (count, is_taken) in [
+        (8, false),
+        (8, true),
+        (9, false),
+        (9, true),
+        (32, false),
+        (33, true),
+        (65_536, true),
+        (65_537, false),
+    ] {
+        let uses = uses_of(rt.alloc(), count, is_taken).expect(&rt, "uses");
+        expect_two_used(&rt, uses, count);
     }
 }

@@ -744,7 +744,10 @@ fn lines_that_overlap(rt: &(impl Abort + AllocGlobal), parts: &mut Vec<PartRow>)
     for index in 0..1100 {
         let len = if index == 0 { 1 } else { 65_536 };
         let points = Span { start: 0, len };
-        let line = PartRow { exterior: 0, points };
+        let line = PartRow {
+            exterior: 0,
+            points,
+        };
         parts.push(line).expect(rt, "a line");
     }
 }

@@ -266,7 +266,9 @@ fn expect_marked(rt: &(impl Abort + AllocGlobal), len: usize, at: usize) {
 // 32 bytes are looked at together in a text of 256 and more.
 #[test]
 fn escapes_in_texts_of_any_length(rt: HostRuntime) {
-    let places = [0, 1, 30, 31, 32, 33, 63, 64, 254, 255, 256, 286, 287, 288, 319];
+    let places = [
+        0, 1, 30, 31, 32, 33, 63, 64, 254, 255, 256, 286, 287, 288, 319,
+    ];
     for at in places {
         expect_marked(&rt, at + 1, at);
         expect_marked(&rt, 255, at);
