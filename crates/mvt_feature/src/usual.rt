@@ -7,8 +7,7 @@ ghost use Rattle.mvt_geometry.specs.declared.shape.Kind.TheVariants as kinds;
 ghost use Rattle.mvt_geometry.specs.declared.shape.Point.{Point as APoint};
 ghost use Rattle.mvt_geometry.specs.Visiting.{HasDrawn, Part};
 ghost use Rattle.mvt_wire.specs.Field.{Entry, entry_of};
-ghost use Rattle.mvt_wire.specs.Fields.{GivesEntry};
-ghost use Rattle.mvt_wire.specs.Split.{Parts, split};
+ghost use Rattle.mvt_wire.specs.Split.{split};
 ghost use Rattle.mvt_feature.specs.declared.numbers.feature.TheConstants.{TAGS, GEOMETRY};
 ghost use Rattle.mvt_feature.specs.Drawn.{tags_of, IsDrawnOf};
 ghost use Rattle.mvt_feature.specs.Faults.{fault_of};
@@ -196,31 +195,6 @@ impl<'a> Usual<'a> {
                 None => return None,
             }
         }
-        match fields.next() {
-            Some(field) => usual.with_others(field, fields, payload, payload_at, scratch),
-            None => Some(usual),
-        }
-    }
-
-    /// The same of the next field, and of those behind it.
-    #[inline(never)]
-    fn with_others(
-        self,
-        next: Result<Field<'a>, WireFault>,
-        fields: Fields<'a>,
-        payload: &'a [u8],
-        payload_at: u64,
-        scratch: &mut Scratch,
-    ) -> Option<Self>
-        requires { (before : Parts) × (done : List Entry) × Walk payload.now before done
-            × GivesEntry before (Some next) fields.to_come
-            × AreUsualSoFar payload_at done self.known scratch.old.tags.items self.tags
-            self.integers }
-        ensures whole { OnSome result ((split payload.now).rest ≡ []) }
-        ensures known { IfSome result (λ usual. AreUsualSoFar payload_at (split payload.now).fields
-            usual.known scratch.new.tags.items usual.tags usual.integers) }
-    {
-        let mut usual = self.with_field(next, scratch)?;
         for field in fields {
             match usual.with_field(field, scratch) {
                 Some(more) => usual = more,
@@ -246,8 +220,7 @@ impl<'a> Usual<'a> {
         match field.number {
             feature::GEOMETRY => self.with_integers(&field),
             feature::TAGS => self.with_tags(&field, scratch),
-            feature::ID => self.with_scalar(&field, scratch),
-            feature::TYPE => self.with_scalar(&field, scratch),
+            feature::ID | feature::TYPE => self.with_scalar(&field, scratch),
             _ => None,
         }
     }

@@ -8,6 +8,3 @@ returns-in-2-clause-known c = λ payload_at done so_far. rw c.in-Ok.is (c.with_t
 
 pub returns-in-1-clause-known : goal.returns-in-1-clause-known
 returns-in-1-clause-known c = λ payload_at done so_far. rw c.in-Ok.is (c.with_scalar.ensures payload_at done so_far)
-
-pub returns-in-3-clause-known : goal.returns-in-3-clause-known
-returns-in-3-clause-known c = λ payload_at done so_far. rw c.in-Ok.is (c.with_scalar-in-3.ensures payload_at done so_far)

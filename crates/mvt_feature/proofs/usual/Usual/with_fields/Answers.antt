@@ -3,33 +3,27 @@ use Rattle.mvt_feature.proofs.WalkLemmas.{walk_end}
 use Rattle.mvt_feature.proofs.usual.Usual.with_fields.Goals as goal
 use Rattle.mvt_feature.proofs.usual.Usual.with_fields.Goals.{in-Some+in-Some-with_field, in_default}
 
-pub with_others-requires : goal.with_others-requires
-with_others-requires c =
+pub loop-field-init : goal.loop-field-init
+loop-field-init c =
+    let begun = c.into_iter-field-iterator.ensures.into_iter_gives in
     elim c.match-next_tagged.branch [
       | in-Some+in-Some-with_field w ↦
           let read = w.in-Some-with_field.ensures in
-          let step =
-          usual_step c.args.payload.now c.args.payload_at c.args.fields.to_come c.next_tagged.new.self.to_come c.requires.0 w.in-Some.field
+          rw (begun, w.usual-is, w.scratch-is)
+          (usual_step c.args.payload.now c.args.payload_at c.args.fields.to_come c.next_tagged.new.self.to_come c.requires.0 w.in-Some.field
           w.in-Some-with_field.more.known _ _ _ c.requires.1 w.in-Some.ensures.some.0 read.read
-          (read.known c.args.payload_at c.requires.0 c.requires.2) in
-          rw (w.usual-is, w.scratch-is) (c.next_tagged.new.self.to_come, step.0, step.1, c.in-Some-next.ensures.steps.0, step.2)
-      | in_default w ↦
-          rw (w.usual-is, w.scratch-is)
-          (c.next_tagged.new.self.to_come, c.requires.0, rw w.in_default.ensures.none c.requires.1, c.in-Some-next.ensures.steps.0, c.requires.2)
+          (read.known c.args.payload_at c.requires.0 c.requires.2))
+      | in_default w ↦ rw (begun, w.in_default.ensures.none, w.usual-is, w.scratch-is) c.requires
     ]
 
-pub returns-in-None-next-clause-known : goal.returns-in-None-next-clause-known
-returns-in-None-next-clause-known c =
-    elim c.match-next_tagged.branch [
-      | in-Some+in-Some-with_field w ↦
-          let read = w.in-Some-with_field.ensures in
-          let step =
-          usual_step c.args.payload.now c.args.payload_at c.args.fields.to_come c.next_tagged.new.self.to_come c.requires.0 w.in-Some.field
-          w.in-Some-with_field.more.known _ _ _ c.requires.1 w.in-Some.ensures.some.0 read.read
-          (read.known c.args.payload_at c.requires.0 c.requires.2) in
-          let ended = walk_end c.args.payload.now c.next_tagged.new.self.to_come c.next.new.self.to_come step.0 step.1 c.in-None-next.ensures.steps.0 in
-          rw (w.usual-is, w.scratch-is, ended.0) step.2
-      | in_default w ↦
-          let ended = walk_end c.args.payload.now c.next_tagged.new.self.to_come c.next.new.self.to_come c.requires.0 (rw w.in_default.ensures.none c.requires.1) c.in-None-next.ensures.steps.0 in
-          rw (w.usual-is, w.scratch-is, ended.0) c.requires.2
-    ]
+pub loop-field-preserved : goal.loop-field-preserved
+loop-field-preserved c =
+    let done = c.loop-field.invariant.0 in
+    let read = c.in-Some-with_field-2.ensures in
+    usual_step c.args.payload.now c.args.payload_at _ _ done c.in-Some-field.field c.in-Some-with_field-2.more.known _ _ _
+    c.loop-field.invariant.1 c.in-Some-field.ensures.steps.0 read.read (read.known c.args.payload_at done c.loop-field.invariant.2)
+
+pub returns-clause-known : goal.returns-clause-known
+returns-clause-known c =
+    let ended = walk_end _ _ _ _ c.loop-field.invariant.1 c.in-None-field.ensures.steps.0 in
+    rw ended.0 c.loop-field.invariant.2

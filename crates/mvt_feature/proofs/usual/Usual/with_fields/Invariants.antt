@@ -2,7 +2,7 @@ use Rattle.std.proofs.Common.{List}
 use Rattle.mvt_wire.specs.Field.{Entry}
 use Rattle.mvt_feature.specs.Inner.{AreUsualSoFar}
 use Rattle.mvt_feature.specs.Walks.{Walk}
-use Rattle.mvt_feature.proofs.usual.Usual.with_others.Given as goal
+use Rattle.mvt_feature.proofs.usual.Usual.with_fields.Given as goal
 
 abbrev pub invariant-loop-field : goal.invariant-loop-field
 invariant-loop-field l =
