@@ -15,7 +15,9 @@ use crate::payload::uint32_of;
 use mvt_feature::{Cause, MessageError, fault_at, rest_fault};
 use mvt_wire::{Field, Fields};
 
-/// The version of a payload, which is one item's where this is `Ok`.
+/// The version of a payload, which is one item's where this is `Ok`. It is inlined, so that who has
+/// no use for the fault doesn't pay for one on the way.
+#[inline(always)]
 pub(crate) fn read_version(
     payload: &[u8],
     payload_at: u64,
@@ -84,6 +86,7 @@ fn take_version(version: &mut Result<Option<u32>, MessageError>, field: &Field<'
 }
 
 /// The version of a payload that splits into fields, by its last version or the first fault of one.
+#[inline(always)]
 fn version_of(version: Result<Option<u32>, MessageError>, tag_at: u64) -> Result<u32, MessageError>
     ensures version { (payload_at : ℕ) (fields : List Entry)
         → IsVersionSoFar payload_at fields version
