@@ -683,9 +683,9 @@ fn judging_rows_refused_memory(rt: HostRuntime) {
 }
 
 // The rows that a visitor has behind the fault of its first layer.
-fn rows_behind_a_fault(rt: &(impl Abort + AllocGlobal), layer: &[u8]) -> Rows {
+fn rows_behind_a_fault(rt: &(impl Abort + AllocGlobal), bytes: &[u8; 67]) -> Rows {
     let mut visitor = RowsVisitor::new(rt.alloc(), u64::MAX);
-    let done = visitor.visit_item(rt.alloc(), layer, 2, 0);
+    let done = visitor.visit_item(rt.alloc(), &bytes[2..63], 2, 0);
     expect!(rt; matches!(done, Err(MessageError::Fault { .. })));
     drop(done);
     visitor.into_table().leak()
@@ -696,20 +696,23 @@ fn rows_behind_a_fault(rt: &(impl Abort + AllocGlobal), layer: &[u8]) -> Rows {
 fn keeps_no_part_of_a_broken_feature(rt: HostRuntime) {
     let mut bytes = READ_BYTES;
     bytes[38] = 0x17;
-    let rows = rows_behind_a_fault(&rt, &bytes[2..63]);
+    let rows = rows_behind_a_fault(&rt, &bytes);
     expect_eq!(rt; rows.features, &READ.features[..1]);
     expect_eq!(rt; rows.parts, &READ.parts[..1]);
     expect_eq!(rt; rows.points, &READ.points[..1]);
     bytes[13] = 3;
-    let rows = rows_behind_a_fault(&rt, &bytes[2..63]);
+    let rows = rows_behind_a_fault(&rt, &bytes);
     expect_eq!(rt; rows.parts, NONE.parts);
     expect_eq!(rt; rows.points, NONE.points);
 }
 
-// Each part of the rows is one feature's, and each point one part's.
+// Each part of the rows is one feature's, and the points end with the last part.
 fn are_parts_of_features(rows: &Rows) -> bool {
-    let points: u64 = rows.parts.iter().map(|part| part.points.len).sum();
-    rows.parts.len() == rows.features.len() && rows.points.len() as u64 == points
+    let end = match rows.parts.last() {
+        Some(part) => part.points.start.checked_add(part.points.len),
+        None => Some(0),
+    };
+    rows.parts.len() == rows.features.len() && end == Some(rows.points.len() as u64)
 }
 
 fn is_visiting_refused(rt: &(impl Abort + AllocGlobal)) -> bool {
@@ -774,7 +777,6 @@ fn counts_all_parts_before_it_draws(rt: HostRuntime) {
     let error = write_rows(rt.alloc(), &rows).err();
     expect_eq!(rt; error, Some(RowsError::Memory));
     let fewer = Rows {
-        parts: &rows.parts[..1024],
         features: &[FeatureRow {
             kind: 2,
             parts: Span {
