@@ -1,5 +1,5 @@
 -- Features whose integers are packed in one field.
-use Rattle.std.proofs.Common.{◌≡◌, ◌≢◌, ap, ℕ, ◌==◌, false, Option, Some, Result, Err, IfOk, IfErr, IsOk, Bor, List, [], ◌∷◌, ◌++◌, None, Ok, refl, sym, ◌∙◌, append-nil}
+use Rattle.std.proofs.Common.{◌≡◌, ◌≢◌, ℕ, ◌==◌, false, Option, Some, Result, Err, IfOk, IfErr, IsOk, Bor, List, [], ◌∷◌, ◌++◌, None, Ok, refl, sym, ◌∙◌, append-nil}
 use Rattle.std.proofs.lemmas.Bool.{false≢true, ne_eqb}
 use Rattle.mvt_base.specs.Rules.{first}
 use Rattle.mvt_geometry.specs.declared.shape.Geometry.{Geometry}
@@ -18,72 +18,47 @@ use Rattle.mvt_wire.specs.Split.{Parts}
 use Rattle.mvt_feature.specs.declared.feature_fields.FeatureFields.{FeatureFields}
 use Rattle.mvt_feature.specs.declared.numbers.feature.TheConstants.{TAGS, GEOMETRY}
 use Rattle.mvt_feature.specs.FeatureRules.{feature_form_rules}
-use Rattle.mvt_feature.specs.Inner.{id_after, kind_after, numbers_at, AreFeatureFieldsSoFar, ArePackedIn, AreUsualSoFar}
+use Rattle.mvt_feature.specs.Inner.{id_after, kind_after, numbers_at, AreFeatureFieldsSoFar, AreUsualSoFar}
 use Rattle.mvt_feature.specs.Walks.{Walk}
 use Rattle.mvt_feature.proofs.FeatureFieldsLemmas.{known_with}
 use Rattle.mvt_feature.proofs.FeatureLemmas.{numbers_list}
 use Rattle.mvt_feature.proofs.WalkLemmas.{walk_step}
 
 -- a field of integers, the first of them
-pub with_packed : (payload_at : ℕ) (done : List Entry) (known : FeatureFields) (front : List ℕ) (late packed : Option (Bor (List ℕ)))
-    → AreUsualSoFar payload_at done known front late packed → packed ≡ None
-    → (x : Entry) (d : List ℕ) → x.number ≡ GEOMETRY → x.content ≡ bytes d
-    → (tags : List ℕ) → ArePackedIn late tags → (integers : List ℕ) → ArePacked d integers
-    → AreFeatureFieldsSoFar payload_at (done ++ x ∷ []) (Ok known) (front ++ tags) integers
-with_packed payload_at done known front late packed so_far none x d number content tags packs integers are =
+pub with_packed : (payload_at : ℕ) (done : List Entry) (known : FeatureFields) (tags : List ℕ) (packed : Option (Bor (List ℕ)))
+    → AreUsualSoFar payload_at done known tags packed → packed ≡ None
+    → (x : Entry) (d : List ℕ) → x.number ≡ GEOMETRY → x.content ≡ bytes d → (integers : List ℕ) → ArePacked d integers
+    → AreFeatureFieldsSoFar payload_at (done ++ x ∷ []) (Ok known) tags integers
+with_packed payload_at done known tags packed so_far none x d number content integers are =
     let list = numbers_list (bytes d) integers are in
     let clean : first (feature_form_rules x.number x.content) ≡ None = rw (number, content) list.0 in
     let id : known.id ≡ id_after known.id x.number x.content = rw number refl in
     let kind : known.kind ≡ kind_after known.kind x.number x.content = rw number refl in
-    let same : front ++ tags ≡ (front ++ tags) ++ numbers_at TAGS x.number x.content = rw number (sym (append-nil (front ++ tags))) in
+    let same : tags ≡ tags ++ numbers_at TAGS x.number x.content = rw number (sym (append-nil tags)) in
     let numbers : integers ≡ [] ++ numbers_at GEOMETRY x.number x.content = rw (number, content) list.1 in
-    known_with payload_at done x known (front ++ tags) [] (front ++ tags) integers (Ok known) ((rw none at so_far) tags packs [] refl)
-    clean id kind same numbers tt
-
--- a field of tags, the first of them behind those in front
-pub with_late : (payload_at : ℕ) (done : List Entry) (known : FeatureFields) (front : List ℕ) (late packed : Option (Bor (List ℕ)))
-    → AreUsualSoFar payload_at done known front late packed → late ≡ None
-    → (x : Entry) (d : List ℕ) → x.number ≡ TAGS → x.content ≡ bytes d
-    → (tags : List ℕ) → ArePacked d tags → (integers : List ℕ) → ArePackedIn packed integers
-    → AreFeatureFieldsSoFar payload_at (done ++ x ∷ []) (Ok known) (front ++ tags) integers
-with_late payload_at done known front late packed so_far none x d number content tags are integers packs =
-    let list = numbers_list (bytes d) tags are in
-    let clean : first (feature_form_rules x.number x.content) ≡ None = rw (number, content) list.0 in
-    let id : known.id ≡ id_after known.id x.number x.content = rw number refl in
-    let kind : known.kind ≡ kind_after known.kind x.number x.content = rw number refl in
-    let more : front ++ tags ≡ (front ++ []) ++ numbers_at TAGS x.number x.content =
-    rw (number, content, append-nil front) (ap (λ ts. front ++ ts) list.1) in
-    let same : integers ≡ integers ++ numbers_at GEOMETRY x.number x.content = rw number (sym (append-nil integers)) in
-    known_with payload_at done x known (front ++ []) integers (front ++ tags) integers (Ok known) ((rw none at so_far) [] refl integers packs)
-    clean id kind more same tt
+    known_with payload_at done x known tags [] tags integers (Ok known) ((rw none at so_far) [] refl) clean id kind same numbers tt
 
 -- any other field
-pub with_other : (payload_at : ℕ) (done : List Entry) (known more : FeatureFields) (front new_front : List ℕ)
-    (late packed : Option (Bor (List ℕ))) (x : Entry) → AreUsualSoFar payload_at done known front late packed
-    → x.number ≢ TAGS → x.number ≢ GEOMETRY → first (feature_form_rules x.number x.content) ≡ None
+pub with_other : (payload_at : ℕ) (done : List Entry) (known more : FeatureFields) (tags new_tags : List ℕ)
+    (packed : Option (Bor (List ℕ))) (x : Entry) → AreUsualSoFar payload_at done known tags packed → x.number ≢ GEOMETRY
+    → first (feature_form_rules x.number x.content) ≡ None
     → more.id ≡ id_after known.id x.number x.content → more.kind ≡ kind_after known.kind x.number x.content
-    → new_front ≡ front ++ numbers_at TAGS x.number x.content
-    → AreUsualSoFar payload_at (done ++ x ∷ []) more new_front late packed
-with_other payload_at done known more front new_front late packed x so_far no_tags no_integers clean id kind front_is =
-    λ tags packs integers are.
-    let not_tags : (x.number == TAGS) ≡ false = ne_eqb x.number TAGS no_tags in
-    let not_integers : (x.number == GEOMETRY) ≡ false = ne_eqb x.number GEOMETRY no_integers in
-    let stays : new_front ≡ front = (rw not_tags at front_is) ∙ append-nil front in
-    let same_tags : new_front ++ tags ≡ (front ++ tags) ++ numbers_at TAGS x.number x.content =
-    rw (not_tags, stays) (sym (append-nil (front ++ tags))) in
-    let same : integers ≡ integers ++ numbers_at GEOMETRY x.number x.content = rw not_integers (sym (append-nil integers)) in
-    known_with payload_at done x known (front ++ tags) integers (new_front ++ tags) integers (Ok more) (so_far tags packs integers are)
-    clean id kind same_tags same tt
+    → new_tags ≡ tags ++ numbers_at TAGS x.number x.content
+    → AreUsualSoFar payload_at (done ++ x ∷ []) more new_tags packed
+with_other payload_at done known more tags new_tags packed x so_far other clean id kind tags_are = λ integers are.
+    let none : (x.number == GEOMETRY) ≡ false = ne_eqb x.number GEOMETRY other in
+    let same : integers ≡ integers ++ numbers_at GEOMETRY x.number x.content = rw none (sym (append-nil integers)) in
+    known_with payload_at done x known tags integers new_tags integers (Ok more) (so_far integers are) clean id kind tags_are same tt
 
 -- the step of the walk
 pub usual_step : (payload : List ℕ) (payload_at : ℕ) (old new : Parts) (done : List Entry) (field : Result Field WireFault)
-    (more : FeatureFields) (front : List ℕ) (late packed : Option (Bor (List ℕ))) → Walk payload old done
+    (more : FeatureFields) (tags : List ℕ) (packed : Option (Bor (List ℕ))) → Walk payload old done
     → GivesEntry old (Some field) new → IsOk field
-    → IfOk field (λ (f : Field). AreUsualSoFar payload_at (done ++ entry_of f ∷ []) more front late packed)
-    → (all : List Entry) × Walk payload new all × AreUsualSoFar payload_at all more front late packed
-usual_step payload payload_at old new done (Ok field) more front late packed walk step ok so_far =
+    → IfOk field (λ (f : Field). AreUsualSoFar payload_at (done ++ entry_of f ∷ []) more tags packed)
+    → (all : List Entry) × Walk payload new all × AreUsualSoFar payload_at all more tags packed
+usual_step payload payload_at old new done (Ok field) more tags packed walk step ok so_far =
     (done ++ entry_of field ∷ [], walk_step payload old new done field walk step, so_far)
-usual_step payload payload_at old new done (Err fault) more front late packed walk step ok so_far = absurd (false≢true ok)
+usual_step payload payload_at old new done (Err fault) more tags packed walk step ok so_far = absurd (false≢true ok)
 
 -- a geometry of known type was told as parts
 told_by : {V : Type 0} (HasParts : V → List Part → List Point → V → Type 0) (HasIntegers : V → List ℕ → V → Type 0)

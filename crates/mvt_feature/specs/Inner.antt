@@ -1,5 +1,5 @@
 -- Definitions between private functions, which no public contract cites.
-use Rattle.std.specs.Prelude.{◌≡◌, ◌≢◌, ℕ, ◌≤◌, ◌==◌, true, false, List, [], ◌∷◌, ◌++◌, Option, Some, None, Result, Ok, if◌then◌else◌}
+use Rattle.std.specs.Prelude.{◌≡◌, ◌≢◌, ℕ, ◌≤◌, ◌==◌, true, false, List, [], ◌∷◌, Option, Some, None, Result, Ok, if◌then◌else◌}
 use Rattle.std.specs.Borrow.{Bor}
 use Rattle.std.specs.List.{last_or}
 use Rattle.mvt_attrs.specs.declared.value.Value.{Value}
@@ -70,16 +70,15 @@ abbrev pub AreFeatureFieldsSoFar : ℕ → List Entry → Result FeatureFields M
 AreFeatureFieldsSoFar payload_at done known tags integers =
     IsSoFar (feature_field_rules payload_at) (λ fields k. AreFeatureFields fields k tags integers) done known
 
--- numbers are packed in these bytes; without bytes there are none
+-- integers are packed in these bytes; without bytes there are none
 abbrev pub ArePackedIn : Option (Bor (List ℕ)) → List ℕ → Type 0
-ArePackedIn None numbers = numbers ≡ []
-ArePackedIn (Some d) numbers = ArePacked d.now numbers
+ArePackedIn None integers = integers ≡ []
+ArePackedIn (Some d) integers = ArePacked d.now integers
 
--- what is known by the fields so far, whatever tags and integers these bytes pack; the tags stand behind others
-abbrev pub AreUsualSoFar : ℕ → List Entry → FeatureFields → List ℕ → Option (Bor (List ℕ)) → Option (Bor (List ℕ)) → Type 0
-AreUsualSoFar payload_at done known front late packed =
-    (tags : List ℕ) → ArePackedIn late tags → (integers : List ℕ) → ArePackedIn packed integers
-    → AreFeatureFieldsSoFar payload_at done (Ok known) (front ++ tags) integers
+-- what is known by the fields so far, whatever integers these bytes pack
+abbrev pub AreUsualSoFar : ℕ → List Entry → FeatureFields → List ℕ → Option (Bor (List ℕ)) → Type 0
+AreUsualSoFar payload_at done known tags packed =
+    (integers : List ℕ) → ArePackedIn packed integers → AreFeatureFieldsSoFar payload_at done (Ok known) tags integers
 
 -- the tags and the integers in a scratch, with what is known besides, are those of this feature
 pub record AreOf (keys : List (List ℕ)) (values : List Value) (known : FeatureFields) (scratch : Scratch) (f : Feature) : Type 0 where

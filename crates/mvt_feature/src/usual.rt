@@ -1,18 +1,20 @@
 //! Features whose integers are packed in one field, as most programs write them: their geometry is
 //! told straight from its bytes, without a list of integers.
-ghost use Rattle.std.specs.Prelude.{◌≡◌, ◌≢◌, ◌+◌, ◌^◌, ◌<◌, ℕ, List, [], ◌∷◌, ◌++◌, length, None, Some, IsTrue, IfOk, IfErr, IfSome, IfNone, IsOk, OnOk, OnSome};
+ghost use Rattle.std.specs.Prelude.{◌≡◌, ◌≢◌, ◌+◌, ◌^◌, ◌<◌, ℕ, List, [], ◌∷◌, ◌++◌, length, None, IfOk, IfErr, IfSome, IfNone, IsOk, OnOk, OnSome};
 ghost use Rattle.mvt_base.specs.Reports.{Reports};
+ghost use Rattle.mvt_base.specs.Rules.{each, first};
 ghost use Rattle.mvt_attrs.specs.declared.value.Value.{Value};
 ghost use Rattle.mvt_geometry.specs.declared.shape.Kind.TheVariants as kinds;
 ghost use Rattle.mvt_geometry.specs.declared.shape.Point.{Point as APoint};
 ghost use Rattle.mvt_geometry.specs.Visiting.{HasDrawn, Part};
 ghost use Rattle.mvt_wire.specs.Field.{Entry, entry_of};
+ghost use Rattle.mvt_wire.specs.Packed.{ArePacked};
 ghost use Rattle.mvt_wire.specs.Split.{split};
-ghost use Rattle.mvt_feature.specs.declared.numbers.feature.TheConstants.{TAGS, GEOMETRY};
+ghost use Rattle.mvt_feature.specs.declared.numbers.feature.TheConstants.{GEOMETRY};
 ghost use Rattle.mvt_feature.specs.Drawn.{tags_of, IsDrawnOf};
 ghost use Rattle.mvt_feature.specs.Faults.{fault_of};
-ghost use Rattle.mvt_feature.specs.FeatureRules.{feature_fault};
-ghost use Rattle.mvt_feature.specs.Inner.{ArePackedIn, AreUsualSoFar};
+ghost use Rattle.mvt_feature.specs.FeatureRules.{feature_fault, feature_field_rules};
+ghost use Rattle.mvt_feature.specs.Inner.{AreFeatureFields, AreUsualSoFar};
 ghost use Rattle.mvt_feature.specs.Walks.{Walk};
 
 use crate::feature_fields::{FeatureFields, GEOMETRY_TAG, read_front};
@@ -22,7 +24,7 @@ use crate::reading::judge_feature;
 use crate::scratch::Scratch;
 use mvt_attrs::{LayerKeys, TagError, judge_tags};
 use mvt_geometry::{GeometryVisitor, Kind, Point, draw_packed};
-use mvt_wire::{Field, Fields, PackedError, Payload, WireFault, append_packed};
+use mvt_wire::{Field, Fields, Payload, WireFault};
 use std::alloc::{AllocError, Global};
 
 /// Tells a visitor the geometry of a feature whose integers are packed in one field. It is judged
@@ -54,20 +56,15 @@ pub fn draw_usual_feature<V: GeometryVisitor>(
         × (begun : List APoint) × V.has_parts visitor.old parts begun visitor.new)) }
     ensures same { keys.new ≡ keys.old }
 {
-    let Some(usual) = usual_fields(payload, payload_at, scratch)? else {
-        return Ok(None);
+    let (known, integers) = match usual_fields(payload, payload_at, scratch)? {
+        Some(found) => found,
+        None => return Ok(None),
     };
-    let Some(integers) = usual.integers else {
-        return Ok(None);
-    };
-    if !draw_packed(visitor, usual.known.kind, integers)? {
-        return Ok(None);
-    }
-    if !take_late(usual.tags, scratch)? {
+    if !draw_packed(visitor, known.kind, integers)? {
         return Ok(None);
     }
     match judge_tags(alloc, keys, values, &scratch.tags) {
-        Ok(()) => Ok(Some(usual.known)),
+        Ok(()) => Ok(Some(known)),
         Err(TagError::Memory) => Err(AllocError),
         Err(TagError::Fault { .. }) => Ok(None),
     }
@@ -111,19 +108,24 @@ pub fn check_feature(
     Ok(())
 }
 
-/// What the fields say, where each stands once at most and has a known number, lists are packed,
-/// and the type is known.
+/// What the fields say besides the integers, and the bytes in which these are packed, where one
+/// field has them all and the type is known.
 #[inline(always)]
 fn usual_fields<'a>(
     payload: &'a [u8],
     payload_at: u64,
     scratch: &mut Scratch,
-) -> Result<Option<Usual<'a>>, AllocError>
+) -> Result<Option<(FeatureFields, &'a [u8])>, AllocError>
     requires { payload_at + length payload.now < 2 ^ 64 }
     ensures whole { IfOk result (λ found. OnSome found ((split payload.now).rest ≡ [])) }
-    ensures known { IfOk result (λ found. IfSome found (λ usual. AreUsualSoFar payload_at
-        (split payload.now).fields usual.known scratch.new.tags.items usual.tags usual.integers)) }
-    ensures kind { IfOk result (λ found. IfSome found (λ usual. usual.known.kind ≢ kinds.Unknown)) }
+    ensures ok { IfOk result (λ found. IfSome found (λ f. (integers : List ℕ)
+        → ArePacked f.1.now integers
+        → first (each (λ _. feature_field_rules payload_at) [] (split payload.now).fields)
+        ≡ None)) }
+    ensures known { IfOk result (λ found. IfSome found (λ f. (integers : List ℕ)
+        → ArePacked f.1.now integers
+        → AreFeatureFields (split payload.now).fields f.0 scratch.new.tags.items integers)) }
+    ensures kind { IfOk result (λ found. IfSome found (λ f. f.0.kind ≢ kinds.Unknown)) }
 {
     let mut fields = Fields::new(payload);
     let known = match read_front(&mut fields, payload, payload_at, scratch) {
@@ -136,43 +138,27 @@ fn usual_fields<'a>(
     }
     let front = Usual {
         known,
-        tags: None,
         integers: None,
     };
-    match front.with_fields(fields, payload, payload_at, scratch) {
-        Some(usual) if usual.known.kind != Kind::Unknown => Ok(Some(usual)),
+    let Some(usual) = front.with_fields(fields, payload, payload_at, scratch) else {
+        return Ok(None);
+    };
+    match usual.integers {
+        Some(integers) if usual.known.kind != Kind::Unknown => Ok(Some((usual.known, integers))),
         _ => Ok(None),
     }
 }
 
-/// Adds the tags that are packed in these bytes, if there are any, to those of the scratch. Answers
-/// whether they are packed numbers.
-fn take_late(tags: Option<&[u8]>, scratch: &mut Scratch) -> Result<bool, AllocError>
-    ensures { IfOk result (λ taken. IsTrue taken → (late : List ℕ) × ArePackedIn tags.entry late
-        × (scratch.new.tags.items ≡ scratch.old.tags.items ++ late)) }
-{
-    let Some(bytes) = tags else {
-        return Ok(true);
-    };
-    match append_packed(bytes, &mut scratch.tags) {
-        Ok(()) => Ok(true),
-        Err(PackedError::Memory) => Err(AllocError),
-        Err(_) => Ok(false),
-    }
-}
-
-/// What the fields so far say, with the bytes of the one that has the integers, and of one that has
-/// tags behind those in front.
+/// What the fields so far say, and the bytes of the one that has the integers.
 #[derive(Clone, Copy)]
 struct Usual<'a> {
     known: FeatureFields,
-    tags: Option<&'a [u8]>,
     integers: Option<&'a [u8]>,
 }
 
 impl<'a> Usual<'a> {
-    /// What all fields say: these come behind those in front. `None` where a rule is broken, a
-    /// field stands twice or its number isn't known, or a list isn't packed.
+    /// What all fields say: these come behind those so far. `None` where a rule is broken or seems
+    /// to be, memory runs out, or more than one field has integers.
     #[inline(always)]
     fn with_fields(
         self,
@@ -182,11 +168,10 @@ impl<'a> Usual<'a> {
         scratch: &mut Scratch,
     ) -> Option<Self>
         requires { (done : List Entry) × Walk payload.now fields.to_come done
-            × AreUsualSoFar payload_at done self.known scratch.old.tags.items self.tags
-            self.integers }
+            × AreUsualSoFar payload_at done self.known scratch.old.tags.items self.integers }
         ensures whole { OnSome result ((split payload.now).rest ≡ []) }
         ensures known { IfSome result (λ usual. AreUsualSoFar payload_at (split payload.now).fields
-            usual.known scratch.new.tags.items usual.tags usual.integers) }
+            usual.known scratch.new.tags.items usual.integers) }
     {
         let mut usual = self;
         if let Some(field) = fields.next_tagged(GEOMETRY_TAG) {
@@ -208,20 +193,23 @@ impl<'a> Usual<'a> {
     #[inline(always)]
     fn with_field(self, field: Result<Field<'a>, WireFault>, scratch: &mut Scratch) -> Option<Self>
         ensures known { (payload_at : ℕ) (done : List Entry) → AreUsualSoFar payload_at done
-            self.entry.known scratch.old.tags.items self.entry.tags self.entry.integers
+            self.entry.known scratch.old.tags.items self.entry.integers
             → IfSome result (λ usual. IfOk field.entry (λ field. AreUsualSoFar payload_at
-            (done ++ entry_of field ∷ []) usual.known scratch.new.tags.items usual.tags
-            usual.integers)) }
+            (done ++ entry_of field ∷ []) usual.known scratch.new.tags.items usual.integers)) }
         ensures read { OnSome result (IsOk field.entry) }
     {
         let Ok(field) = field else {
             return None;
         };
-        match field.number {
-            feature::GEOMETRY => self.with_integers(&field),
-            feature::TAGS => self.with_tags(&field, scratch),
-            feature::ID | feature::TYPE => self.with_scalar(&field, scratch),
-            _ => None,
+        if field.number == feature::GEOMETRY {
+            return self.with_integers(&field);
+        }
+        if self.integers.is_some() && is_long(&field.payload) {
+            return None;
+        }
+        match self.known.with(&field, 0, scratch) {
+            Ok(known) => Some(Usual { known, ..self }),
+            Err(_) => None,
         }
     }
 
@@ -229,10 +217,10 @@ impl<'a> Usual<'a> {
     #[inline(always)]
     fn with_integers(self, field: &Field<'a>) -> Option<Self>
         requires { field.now.number ≡ GEOMETRY }
-        ensures { (payload_at : ℕ) (done : List Entry) (front : List ℕ)
-            → AreUsualSoFar payload_at done self.entry.known front self.entry.tags
-            self.entry.integers → IfSome result (λ usual. AreUsualSoFar payload_at
-            (done ++ entry_of field.now ∷ []) usual.known front usual.tags usual.integers) }
+        ensures { (payload_at : ℕ) (done : List Entry) (tags : List ℕ)
+            → AreUsualSoFar payload_at done self.entry.known tags self.entry.integers
+            → IfSome result (λ usual. AreUsualSoFar payload_at (done ++ entry_of field.now ∷ [])
+            usual.known tags usual.integers) }
     {
         match (self.integers, field.payload) {
             (None, Payload::Len(integers)) => Some(Usual {
@@ -242,44 +230,17 @@ impl<'a> Usual<'a> {
             _ => None,
         }
     }
+}
 
-    /// What a field of tags says with these, where no other tags came before and it packs them.
-    #[inline(always)]
-    fn with_tags(self, field: &Field<'a>, scratch: &Scratch) -> Option<Self>
-        requires { field.now.number ≡ TAGS }
-        ensures { (payload_at : ℕ) (done : List Entry)
-            → AreUsualSoFar payload_at done self.entry.known scratch.now.tags.items self.entry.tags
-            self.entry.integers → IfSome result (λ usual. AreUsualSoFar payload_at
-            (done ++ entry_of field.now ∷ []) usual.known scratch.now.tags.items usual.tags
-            usual.integers) }
-    {
-        if !scratch.tags.is_empty() {
-            return None;
-        }
-        match (self.tags, field.payload) {
-            (None, Payload::Len(tags)) => Some(Usual {
-                tags: Some(tags),
-                ..self
-            }),
-            _ => None,
-        }
-    }
+/// The most bytes of a field that is read behind the integers before these are judged: so broken
+/// ones are told before work grows with what stands behind them.
+const MOST_BEHIND: usize = 1024;
 
-    /// What a field of another known number says with these.
-    #[inline(always)]
-    fn with_scalar(self, field: &Field<'a>, scratch: &mut Scratch) -> Option<Self>
-        requires tags { field.now.number ≢ TAGS }
-        requires integers { field.now.number ≢ GEOMETRY }
-        ensures { (payload_at : ℕ) (done : List Entry)
-            → AreUsualSoFar payload_at done self.entry.known scratch.old.tags.items self.entry.tags
-            self.entry.integers → IfSome result (λ usual. AreUsualSoFar payload_at
-            (done ++ entry_of field.now ∷ []) usual.known scratch.new.tags.items usual.tags
-            usual.integers) }
-    {
-        match self.known.with(field, 0, scratch) {
-            Ok(known) => Some(Usual { known, ..self }),
-            Err(_) => None,
-        }
+#[inline(always)]
+fn is_long(payload: &Payload<'_>) -> bool {
+    match payload {
+        Payload::Len(bytes) => bytes.len() > MOST_BEHIND,
+        _ => false,
     }
 }
 

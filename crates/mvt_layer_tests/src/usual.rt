@@ -87,18 +87,33 @@ fn odd_features_are_judged_as_they_are_read(rt: HostRuntime) {
     }
 }
 
-/// The integers, at 11, are cut off; tags stand behind them, which ask for no memory.
-#[test]
-fn tags_behind_broken_integers(rt: HostRuntime) {
-    let payload = [0x18, 0x03, 0x22, 0x01, 0x80, 0x12, 0x02, 0x00, 0x00];
-    expect_eq!(rt; checked_for(&rt, &payload), Some((11, 1)));
+/// These bytes, then 1,100 zeros, and those behind them.
+fn round_zeros(rt: &(impl Abort + AllocGlobal), front: &[u8], back: &[u8]) -> Vec<u8> {
+    let mut bytes = Vec::with_capacity(rt.alloc(), 1200).expect(rt, "room");
+    bytes.extend_from_slice(front).expect(rt, "the front");
+    for _ in 0..1100 {
+        bytes.push(0).expect(rt, "a zero");
+    }
+    bytes.extend_from_slice(back).expect(rt, "the back");
+    bytes
 }
 
-/// The integers, at 15, are cut off; tags stand in front of them.
+/// The integers, at 11, are cut off; many tags stand behind them, which ask for no memory.
+#[test]
+fn tags_behind_broken_integers(rt: HostRuntime) {
+    let front = [0x18, 0x03, 0x22, 0x01, 0x80, 0x12, 0xCC, 0x08];
+    let payload = round_zeros(&rt, &front, &[]);
+    expect_eq!(rt; checked_for(&rt, &payload), Some((11, 1)));
+    drop(payload);
+}
+
+/// The integers, at 1,114, are cut off; as many tags stand in front of them.
 #[test]
 fn tags_in_front_of_broken_integers(rt: HostRuntime) {
-    let payload = [0x18, 0x03, 0x12, 0x02, 0x00, 0x00, 0x22, 0x01, 0x80];
-    expect_eq!(rt; checked_for(&rt, &payload), Some((15, 1)));
+    let front = [0x18, 0x03, 0x12, 0xCC, 0x08];
+    let payload = round_zeros(&rt, &front, &[0x22, 0x01, 0x80]);
+    expect_eq!(rt; checked_for(&rt, &payload), Some((1114, 1)));
+    drop(payload);
 }
 
 /// The field at 15 runs past the end, whatever memory there is for the tags in front of it.

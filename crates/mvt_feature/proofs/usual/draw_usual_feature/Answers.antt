@@ -5,31 +5,21 @@ use Rattle.mvt_feature.proofs.FeatureLemmas.{Says, feature_clean, feature_from}
 use Rattle.mvt_feature.proofs.UsualLemmas.{told_parts}
 use Rattle.mvt_feature.proofs.usual.draw_usual_feature.Goals as goal
 
-pub returns-in_default-clause-told : goal.returns-in_default-clause-told
-returns-in_default-clause-told g c = ([], [], g.met.V.GeometryVisitor.begins c.args.visitor.now)
-
-pub returns-in_default-integers-clause-told : goal.returns-in_default-integers-clause-told
-returns-in_default-integers-clause-told g c = ([], [], g.met.V.GeometryVisitor.begins c.args.visitor.now)
-
-pub returns-then-not-branch-2-clause-told : goal.returns-then-not-branch-2-clause-told
-returns-then-not-branch-2-clause-told g c =
-    told_parts g.V.GeometryVisitor.has_parts g.V.GeometryVisitor.has_integers c.args.visitor.now c.draw_packed.new.visitor _ _
-    (rw c.in-Some.is at c.in_ok-usual.ensures.kind) (c.in_ok-draw_packed.ensures.drawn c.if-not-branch.false)
+pub returns-in-None-clause-told : goal.returns-in-None-clause-told
+returns-in-None-clause-told g c = ([], [], g.met.V.GeometryVisitor.begins c.args.visitor.now)
 
 pub returns-in-Err-Fault-clause-told : goal.returns-in-Err-Fault-clause-told
 returns-in-Err-Fault-clause-told g c =
     told_parts g.V.GeometryVisitor.has_parts g.V.GeometryVisitor.has_integers c.args.visitor.now c.draw_packed.new.visitor _ _
-    (rw c.in-Some.is at c.in_ok-usual.ensures.kind) (c.in_ok-draw_packed.ensures.drawn c.if-not-branch.false)
+    (rw c.in-Some.is at c.in_ok-found.ensures.kind) (c.in_ok-draw_packed.ensures.drawn c.if-not-branch.false)
 
 pub returns-in-Ok-clause-feature : goal.returns-in-Ok-clause-feature
 returns-in-Ok-clause-feature g c =
     let drawn = c.in_ok-draw_packed.ensures.drawn c.if-not-branch.false in
-    let taken = c.in_ok-take_late.ensures c.if-not-branch-2.false in
-    let known = (rw c.in-Some.is at c.in_ok-usual.ensures.known) taken.0 taken.1 drawn.0 (rw c.in-Some-integers.is drawn.1) in
-    let says : Says c.args.payload.now c.args.payload_at c.in-Some.usual.known c.take_late.new.scratch.tags.items drawn.0 = record {
-      whole = rw c.in-Some.is at c.in_ok-usual.ensures.whole;
-      clean = known.0;
-      known_is = rw taken.2 known.1;
+    let says : Says c.args.payload.now c.args.payload_at _ _ _ = record {
+      whole = rw c.in-Some.is at c.in_ok-found.ensures.whole;
+      clean = (rw c.in-Some.is at c.in_ok-found.ensures.ok) drawn.0 drawn.1;
+      known_is = (rw c.in-Some.is at c.in_ok-found.ensures.known) drawn.0 drawn.1;
     } in
     λ held e.
     let there = attributes_or_fault_there c.args.keys.now held _ (rw c.deref.ensures.value at (c.in-Ok.ensures.ok held e)) in
@@ -45,12 +35,10 @@ returns-in-Ok-clause-feature g c =
 pub returns-in-Ok-clause-ok : goal.returns-in-Ok-clause-ok
 returns-in-Ok-clause-ok g c =
     let drawn = c.in_ok-draw_packed.ensures.drawn c.if-not-branch.false in
-    let taken = c.in_ok-take_late.ensures c.if-not-branch-2.false in
-    let known = (rw c.in-Some.is at c.in_ok-usual.ensures.known) taken.0 taken.1 drawn.0 (rw c.in-Some-integers.is drawn.1) in
-    let says : Says c.args.payload.now c.args.payload_at c.in-Some.usual.known c.take_late.new.scratch.tags.items drawn.0 = record {
-      whole = rw c.in-Some.is at c.in_ok-usual.ensures.whole;
-      clean = known.0;
-      known_is = rw taken.2 known.1;
+    let says : Says c.args.payload.now c.args.payload_at _ _ _ = record {
+      whole = rw c.in-Some.is at c.in_ok-found.ensures.whole;
+      clean = (rw c.in-Some.is at c.in_ok-found.ensures.ok) drawn.0 drawn.1;
+      known_is = (rw c.in-Some.is at c.in_ok-found.ensures.known) drawn.0 drawn.1;
     } in
     λ held e. feature_clean says c.args.keys.now held
     (rw c.deref.ensures.value at (c.in-Ok.ensures.ok held e)) (drawn_is_faultless _ drawn.0 drawn.2 drawn.3)

@@ -1,10 +1,14 @@
+use Rattle.mvt_wire.specs.Field.{entry_of}
+use Rattle.mvt_feature.proofs.UsualLemmas.{with_other}
 use Rattle.mvt_feature.proofs.usual.Usual.with_field.Goals as goal
 
-pub returns-in-4-clause-known : goal.returns-in-4-clause-known
-returns-in-4-clause-known c = λ payload_at done so_far. rw c.in-Ok.is (c.with_integers.ensures payload_at done _ so_far)
+pub returns-then-field-eq-GEOMETRY-clause-known : goal.returns-then-field-eq-GEOMETRY-clause-known
+returns-then-field-eq-GEOMETRY-clause-known c = λ payload_at done so_far.
+    rw c.in-Ok.is (c.with_integers.ensures payload_at done c.args.scratch.now.tags.items so_far)
 
-pub returns-in-2-clause-known : goal.returns-in-2-clause-known
-returns-in-2-clause-known c = λ payload_at done so_far. rw c.in-Ok.is (c.with_tags.ensures payload_at done so_far)
-
-pub returns-in-1-clause-known : goal.returns-in-1-clause-known
-returns-in-1-clause-known c = λ payload_at done so_far. rw c.in-Ok.is (c.with_scalar.ensures payload_at done so_far)
+pub returns-in-Ok-with-clause-known : goal.returns-in-Ok-with-clause-known
+returns-in-Ok-with-clause-known c = λ payload_at done so_far.
+    let step = c.in-Ok-with.ensures in
+    rw c.in-Ok.is
+    (with_other payload_at done c.args.self.known c.in-Ok-with.known _ _ c.args.self.integers (entry_of c.in-Ok.field) so_far
+    c.if-field-eq-GEOMETRY.false step.ok step.id step.kind step.tags)

@@ -1,5 +1,4 @@
 use Rattle.mvt_feature.proofs.UsualLemmas.{usual_step}
-use Rattle.mvt_feature.proofs.WalkLemmas.{walk_end}
 use Rattle.mvt_feature.proofs.usual.Usual.with_fields.Goals as goal
 use Rattle.mvt_feature.proofs.usual.Usual.with_fields.Goals.{in-Some+in-Some-with_field, in_default}
 
@@ -11,8 +10,8 @@ loop-field-init c =
           let read = w.in-Some-with_field.ensures in
           rw (begun, w.usual-is, w.scratch-is)
           (usual_step c.args.payload.now c.args.payload_at c.args.fields.to_come c.next_tagged.new.self.to_come c.requires.0 w.in-Some.field
-          w.in-Some-with_field.more.known _ _ _ c.requires.1 w.in-Some.ensures.some.0 read.read
-          (read.known c.args.payload_at c.requires.0 c.requires.2))
+          w.in-Some-with_field.more.known w.with_field.new.scratch.tags.items w.in-Some-with_field.more.integers c.requires.1
+          w.in-Some.ensures.some.0 read.read (read.known c.args.payload_at c.requires.0 c.requires.2))
       | in_default w ↦ rw (begun, w.in_default.ensures.none, w.usual-is, w.scratch-is) c.requires
     ]
 
@@ -20,10 +19,5 @@ pub loop-field-preserved : goal.loop-field-preserved
 loop-field-preserved c =
     let done = c.loop-field.invariant.0 in
     let read = c.in-Some-with_field-2.ensures in
-    usual_step c.args.payload.now c.args.payload_at _ _ done c.in-Some-field.field c.in-Some-with_field-2.more.known _ _ _
+    usual_step c.args.payload.now c.args.payload_at _ _ done c.in-Some-field.field c.in-Some-with_field-2.more.known _ _
     c.loop-field.invariant.1 c.in-Some-field.ensures.steps.0 read.read (read.known c.args.payload_at done c.loop-field.invariant.2)
-
-pub returns-clause-known : goal.returns-clause-known
-returns-clause-known c =
-    let ended = walk_end _ _ _ _ c.loop-field.invariant.1 c.in-None-field.ensures.steps.0 in
-    rw ended.0 c.loop-field.invariant.2

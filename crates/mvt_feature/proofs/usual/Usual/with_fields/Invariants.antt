@@ -7,4 +7,4 @@ use Rattle.mvt_feature.proofs.usual.Usual.with_fields.Given as goal
 abbrev pub invariant-loop-field : goal.invariant-loop-field
 invariant-loop-field l =
     (done : List Entry) × Walk l.payload l.field-iterator.to_come done
-    × AreUsualSoFar l.payload_at done l.usual.known l.scratch.tags.items l.usual.tags l.usual.integers
+    × AreUsualSoFar l.payload_at done l.usual.known l.scratch.tags.items l.usual.integers

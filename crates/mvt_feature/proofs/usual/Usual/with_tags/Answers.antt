@@ -1,9 +1,0 @@
-use Rattle.std.proofs.Common.{ap}
-use Rattle.mvt_wire.specs.Field.{content_of, entry_of}
-use Rattle.mvt_feature.proofs.UsualLemmas.{with_late}
-use Rattle.mvt_feature.proofs.usual.Usual.with_tags.Goals as goal
-
-pub returns-in-None-Len : goal.returns-in-None-Len
-returns-in-None-Len c = λ payload_at done so_far tags are integers packs.
-    with_late payload_at done c.args.self.known _ c.args.self.tags c.args.self.integers so_far c.in-None-Len.is-0 (entry_of c.args.field.now)
-    c.in-None-Len.tags.now c.requires (ap content_of c.in-None-Len.is-1) tags are integers packs
