@@ -15,7 +15,8 @@ use std::alloc::{AllocError, Global};
 /// small, whatever they are.
 const MOST_LISTED: usize = 1 << 16;
 
-/// How many of the first keys, and values, are compared with one another before all are listed.
+/// How many of the first keys, and values, are compared with one another before all are listed,
+/// where there are more.
 const FIRST_COMPARED: usize = 8;
 
 /// How many keys and values a layer has.
@@ -59,7 +60,7 @@ fn is_in_order(payload: &[u8]) -> bool
 }
 
 /// How many keys and values stand from an offset on, with the extent behind them. `None` where
-/// anything else does, there are many, or the first few aren't different.
+/// anything else does, there are many, or the first few of more aren't different.
 pub(crate) fn counts_from(
     alloc: Global,
     body: &[u8],
@@ -71,6 +72,9 @@ pub(crate) fn counts_from(
     let (values, extent_at) = fields_from(body, values_at, layer::VALUES);
     if short_number_at(body, extent_at, layer::EXTENT).is_none() {
         return Ok(None);
+    }
+    if keys.max(values) <= FIRST_COMPARED {
+        return Ok(Some(Counts { keys, values }));
     }
     if are_first_apart(alloc, body, keys_at, layer::KEYS)?
         && are_first_apart(alloc, body, values_at, layer::VALUES)?
