@@ -25,7 +25,7 @@ use Rattle.mvt_message.specs.declared.item.Layer.{Layer as ALayer}
 use Rattle.mvt_message.specs.declared.item.Item.TheVariants.{Layer}
 use Rattle.mvt_message.specs.declared.numbers.layer.TheConstants.{NAME, FEATURES, KEYS, VALUES, EXTENT, VERSION}
 use Rattle.mvt_message.specs.CanonicalItems.{canonical_item, keys_of, values_of, feature_field, key_field, value_field, extent_fields, fields_with}
-use Rattle.mvt_message.specs.Copying.{body_with, body_fields, IsBodyOf, IsCanonicalLayer, IsCopied, HasBody, AreFieldsFrom, AreKeysFrom, ArePayloadsFrom, AreValuesFrom, IsFrontOf, AreFeaturesFrom, lent_field}
+use Rattle.mvt_message.specs.Copying.{body_with, body_fields, IsBodyOf, IsCanonicalLayer, IsCopied, HasBody, AreFieldsFrom, AreKeysFrom, ArePayloadsFrom, AreValuesFrom, AreFeaturesFrom, lent_field}
 use Rattle.mvt_message.specs.Items.{IsItem}
 use Rattle.mvt_message.specs.ValidItems.{ValidItem, ValidLayer}
 use Rattle.mvt_message.proofs.LenLemmas.{len_step}
