@@ -3,6 +3,5 @@ mod FrontLemmas
 mod WalkLemmas
 mod JsonTexts
 mod QuotedLemmas
-mod NumberLemmas
 mod SvgLemmas
 mod XmlLemmas

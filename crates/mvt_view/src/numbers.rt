@@ -1,58 +1,23 @@
 //! Numbers in decimal.
-ghost use Rattle.std.specs.Prelude.{◌≡◌, ◌+◌, ◌≤◌, ◌<◌, ◌∷◌, ◌++◌, OnOk, length, drop, string_bytes};
+ghost use Rattle.std.specs.Prelude.{◌≡◌, ◌++◌, OnOk, string_bytes};
 ghost use Rattle.std.specs.Fmt.{signed_decimal};
 
-use itoa::write_digits;
+use itoa::Buffer;
 use std::alloc::AllocError;
 
-/// The most bytes of two numbers of 32 bits with a sign, and of a byte before each.
-const MOST: usize = 24;
-
-/// Appends two numbers, each after an ASCII byte, by one growth of the text.
+/// Appends two numbers, each after a text.
 pub(crate) fn push_pair(
     text: &mut String,
-    before_x: u8,
+    before_x: &str,
     x: i32,
-    before_y: u8,
+    before_y: &str,
     y: i32,
 ) -> Result<(), AllocError>
-    requires { (before_x < 128) × (before_y < 128) }
     ensures { OnOk result (string_bytes text.new ≡ string_bytes text.old
-        ++ (before_x ∷ (signed_decimal x ++ (before_y ∷ signed_decimal y)))) }
+        ++ (before_x.now ++ (signed_decimal x ++ (before_y.now ++ signed_decimal y)))) }
 {
-    let mut buffer = [0; MOST];
-    let y_at = put_after(&mut buffer, MOST, before_y, y);
-    let x_at = put_after(&mut buffer, y_at, before_x, x);
-    let spelled = &buffer[x_at..];
-    text.push_str(unsafe { std::str::from_utf8_unchecked(spelled) })
-}
-
-/// Writes a byte and a number so that they end at `end`, and returns where they start.
-#[inline(always)]
-fn put_after(buffer: &mut [u8], end: usize, before: u8, number: i32) -> usize
-    requires { (12 ≤ end) × (end ≤ length buffer.old) }
-    ensures written { drop result buffer.new
-        ≡ before ∷ (signed_decimal number ++ drop end buffer.old) }
-    ensures most { end ≤ result + 12 }
-    ensures within { result ≤ end }
-{
-    let start = put_signed(buffer, end, number);
-    buffer[start - 1] = before;
-    start - 1
-}
-
-/// Writes a number so that it ends at `end`, and returns where it starts.
-#[inline(always)]
-fn put_signed(buffer: &mut [u8], end: usize, number: i32) -> usize
-    requires { (12 ≤ end) × (end ≤ length buffer.old) }
-    ensures written { drop result buffer.new ≡ signed_decimal number ++ drop end buffer.old }
-    ensures most { end ≤ result + 11 }
-    ensures within { result ≤ end }
-{
-    let start = write_digits(u64::from(number.unsigned_abs()), buffer, end);
-    if number >= 0 {
-        return start;
-    }
-    buffer[start - 1] = b'-';
-    start - 1
+    text.push_str(before_x)?;
+    text.push_str(Buffer::new().format(x))?;
+    text.push_str(before_y)?;
+    text.push_str(Buffer::new().format(y))
 }
