@@ -51,7 +51,8 @@ impl<T: Entry> Uses<T> {
         }
     }
 
-    /// The uses of entries that stand once each, of which the first so many are used.
+    /// The uses of entries that stand once each, of which the first so many are used. An entry that
+    /// is added to them is compared with all.
     ///
     /// # Errors
     ///

@@ -52,8 +52,8 @@ impl Scratch {
         &self.tags
     }
 
-    /// The integers of the feature that was read last. One that is judged straight from its bytes
-    /// leaves none here.
+    /// The integers of the feature that was read last. Of one that is judged straight from its
+    /// bytes nothing is here.
     pub fn integers(&self) -> &[u32]
         ensures { result.now ≡ integers_of self.now }
     {

@@ -30,9 +30,10 @@ use std::alloc::{AllocError, Global};
 /// Tells a visitor the geometry of a feature whose integers are packed in one field. It is judged
 /// as it is told; the tags are left in the scratch.
 ///
-/// `None` where they stand otherwise, where the type is unknown, or where a rule is broken: then
-/// the visitor may have been told some parts, the scratch says nothing, and
-/// [`draw_feature`](crate::draw_feature) reads the feature or says what is wrong.
+/// `None` where they stand otherwise, where many tags stand behind them or find no memory there,
+/// where the type is unknown, or where a rule seems to be broken: then the visitor may have been
+/// told some parts, the scratch says nothing, and [`draw_feature`](crate::draw_feature) reads the
+/// feature or says what is wrong.
 ///
 /// # Errors
 ///
@@ -204,7 +205,7 @@ impl<'a> Usual<'a> {
         if field.number == feature::GEOMETRY {
             return self.with_integers(&field);
         }
-        if self.integers.is_some() && is_long(&field.payload) {
+        if self.integers.is_some() && is_much(&field, scratch.tags.len()) {
             return None;
         }
         match self.known.with(&field, 0, scratch) {
@@ -232,15 +233,19 @@ impl<'a> Usual<'a> {
     }
 }
 
-/// The most bytes of a field that is read behind the integers before these are judged: so broken
-/// ones are told before work grows with what stands behind them.
+/// The most tags that a feature has where some are read behind the integers before these are
+/// judged: so broken ones are told before work grows with what stands behind them.
 const MOST_BEHIND: usize = 1024;
 
+/// Whether a field behind the integers may have more tags than these, where there are so many.
 #[inline(always)]
-fn is_long(payload: &Payload<'_>) -> bool {
-    match payload {
-        Payload::Len(bytes) => bytes.len() > MOST_BEHIND,
-        _ => false,
+fn is_much(field: &Field<'_>, tags: usize) -> bool {
+    if field.number != feature::TAGS {
+        return false;
+    }
+    match field.payload {
+        Payload::Len(bytes) => bytes.len().saturating_add(tags) > MOST_BEHIND,
+        _ => tags >= MOST_BEHIND,
     }
 }
 

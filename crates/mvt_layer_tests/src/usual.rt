@@ -130,3 +130,33 @@ fn features_are_judged_as_they_are_read(rt: HostRuntime) {
         expect_same_around(&rt, payload);
     }
 }
+
+/// These bytes, then 60 fields of 600 tags each, and those behind them.
+fn round_pieces(rt: &(impl Abort + AllocGlobal), front: &[u8], back: &[u8]) -> Vec<u8> {
+    let mut bytes = Vec::with_capacity(rt.alloc(), 40_000).expect(rt, "room");
+    bytes.extend_from_slice(front).expect(rt, "the front");
+    for _ in 0..60 {
+        bytes
+            .extend_from_slice(&[0x12, 0xD8, 0x04])
+            .expect(rt, "a field of tags");
+        bytes.extend_from_slice(&[0; 600]).expect(rt, "its tags");
+    }
+    bytes.extend_from_slice(back).expect(rt, "the back");
+    bytes
+}
+
+/// The integers, at 11, are cut off; of the tags behind them few are read.
+#[test]
+fn tags_in_pieces_behind_broken_integers(rt: HostRuntime) {
+    let payload = round_pieces(&rt, &[0x18, 0x03, 0x22, 0x01, 0x80], &[]);
+    expect_eq!(rt; checked_for(&rt, &payload), Some((11, 1)));
+    drop(payload);
+}
+
+/// The same tags in front of the integers, which are at 36,191.
+#[test]
+fn tags_in_pieces_in_front_of_broken_integers(rt: HostRuntime) {
+    let payload = round_pieces(&rt, &[0x18, 0x03], &[0x22, 0x01, 0x80]);
+    expect_eq!(rt; checked_for(&rt, &payload), Some((36_191, 1)));
+    drop(payload);
+}
