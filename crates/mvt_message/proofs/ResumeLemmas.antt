@@ -1,5 +1,5 @@
 -- A layer of which the first features are canonical, and the others are made so one after the other.
-use Rattle.std.proofs.Common.{◌≡◌, ℕ, ◌+◌, ◌-◌, ◌^◌, ◌<◌, ◌≤◌, List, [], ◌∷◌, ◌++◌, length, map, take, drop, get_or, Bor, inl, inr, refl, sym, ap, ap₂, subst, ◌∙◌, arith, append-nil, length-append}
+use Rattle.std.proofs.Common.{◌≡◌, ℕ, ◌+◌, ◌-◌, ◌^◌, ◌<◌, ◌≤◌, List, [], ◌∷◌, ◌++◌, length, map, take, drop, get_or, Bor, inl, inr, refl, sym, ap, ap₂, subst, ◌∙◌, arith, append-nil, length-append, IsTrue, false}
 use Rattle.std.proofs.lemmas.List.{length-drop, map-append, take_more, take-append-drop}
 use Rattle.std.proofs.Math.Seq.{take-append_seam}
 use Rattle.std.specs.Prelude.{IsUtf8}
@@ -149,15 +149,15 @@ module _ (keys : List (List ℕ)) (values : List Value) (features : List Feature
       (all_dropped ValidValue used.1 values valid_values)).held)
 
 -- the canonical features are written as they stand
-pub written_start : (body : List ℕ) (part : Part) (w : LayerWriter) → length body ≤ LIMIT → (is : IsPartOf body part)
+pub written_start : (body : List ℕ) (part : Part) (w : LayerWriter) → length body ≤ LIMIT → (is : IsPartOf body part) → IsTrue part.front.is_apart
     → HasUses w.uses part.keys.items is.held → w.uses.keys.used.items ≡ take part.reached.used.0 part.keys.items
     → w.uses.values.used.items ≡ take part.reached.used.1 is.held
     → w.features.items ≡ take (part.reached.at - part.features_at) (drop part.features_at body)
     → IsWrittenUpTo body part part.reached.at w
-written_start body part w small is uses used_keys used_values copied =
+written_start body part w small is apart uses used_keys used_values copied =
     let keys = part.keys.items in
     let held = is.held in
-    let from = is.from in
+    let from = is.from apart in
     let features = from.features in
     let start = part.features_at in
     let at = part.reached.at in
@@ -189,6 +189,21 @@ written_start body part w small is uses used_keys used_values copied =
         };
       };
     }
+
+-- no feature is written yet
+pub written_none : (body : List ℕ) (part : Part) (w : LayerWriter) (is : IsPartOf body part) → part.front.is_apart ≡ false
+    → HasWritten part.keys.items is.held w [] → IsWrittenUpTo body part part.reached.at w
+written_none body part w is twice written = record {
+  held = is.held;
+  held_are = is.held_are;
+  read = record {
+    payloads = [];
+    features = [];
+    fields = ap (λ n. drop n body) (sym (is.none twice));
+    are = tt;
+    written = written;
+  };
+}
 
 -- one feature more
 pub read_more : (keys : List (List ℕ)) (held : List Value) (body : List ℕ) (start at after : ℕ) (old new : LayerWriter) (payload : List ℕ)
@@ -264,11 +279,12 @@ pub part_is : (WereTold : List Feature → Type 0) (body : List ℕ) (part : Par
     → part.keys.items ≡ lent part.front.keys.items → AllByRecursion IsUtf8 part.keys.items
     → ((held : List Value) → length held ≡ length part.front.values.items → AreReady part.keys.items held (0, 0)
     → AreFeaturesFrom WereTold body part.features_at part.keys.items held part.reached.at part.reached.used)
+    → (part.front.is_apart ≡ false → part.reached.at ≡ part.features_at)
     → IsPartOf body part
-part_is WereTold body part named text is_front start_within at_within keys_are texts from =
+part_is WereTold body part named text is_front start_within at_within keys_are texts from none =
     let (within, (held, fields, valid, are)) = is_front.values in
-    let ready =
-    ready_values part.keys.items part.front.values.items held are (subst AreDistinct (sym keys_are) is_front.keys_apart) is_front.values_apart texts valid in
+    let ready = λ (apart : IsTrue part.front.is_apart).
+    ready_values part.keys.items part.front.values.items held are (subst AreDistinct (sym keys_are) (is_front.keys_apart apart)) (is_front.values_apart apart) texts valid in
     record {
       named = named;
       text = text;
@@ -279,8 +295,9 @@ part_is WereTold body part named text is_front start_within at_within keys_are t
       texts = texts;
       held = held;
       held_are = record { fields = fields; valid = valid; are = are };
-      from = told_weaker WereTold (λ _. Unit {0}) body part.features_at part.reached.at part.keys.items held part.reached.used
-          (from held ready.0 ready.1) (λ fs told. tt);
+      from = λ apart. told_weaker WereTold (λ _. Unit {0}) body part.features_at part.reached.at part.keys.items held part.reached.used
+          (from held (ready apart).0 (ready apart).1) (λ fs told. tt);
+      none = none;
     }
 
 -- one value more that is read

@@ -1,5 +1,5 @@
 -- A layer that is canonical but for where its version stands, and for last keys and values that no feature uses.
-use Rattle.std.specs.Prelude.{◌≡◌, ℕ, ◌^◌, ◌<◌, ◌≤◌, ◌⊎◌, List, [], ◌∷◌, ◌++◌, length, map, drop, take, IsUtf8}
+use Rattle.std.specs.Prelude.{◌≡◌, ℕ, ◌^◌, ◌<◌, ◌≤◌, ◌⊎◌, List, [], ◌∷◌, ◌++◌, length, map, drop, take, IsTrue, IsUtf8}
 use Rattle.std.specs.Borrow.{Bor}
 use Rattle.std.specs.List.{AllByRecursion}
 use Rattle.mvt_attrs.specs.declared.value.Value.{Value}
@@ -89,13 +89,13 @@ AreValuesFrom body start payloads at =
     × ((values : List Value) × (drop start body ≡ spelled (map value_field values) ++ drop at body) × AllByRecursion ValidValue values
     × (lent payloads ≡ map (λ (v : Value). spelled (value_fields v)) values))
 
--- the keys and the values of a layer, each once, and the extent that ends its fields
+-- the keys and the values of a layer, which are known to stand once each or aren't, and the extent that ends its fields
 pub record IsFrontOf (body : List ℕ) (front : Front) : Type 0 where
   pub keys_within : front.keys_at ≤ length body
   pub keys : ArePayloadsFrom body front.keys_at KEYS front.keys.items front.values_at
   pub values : AreValuesFrom body front.values_at front.values.items front.extent_at
-  pub keys_apart : AreDistinct (lent front.keys.items)
-  pub values_apart : AreDistinct (lent front.values.items)
+  pub keys_apart : IsTrue front.is_apart → AreDistinct (lent front.keys.items)
+  pub values_apart : IsTrue front.is_apart → AreDistinct (lent front.values.items)
   pub small : front.extent < 2 ^ 32
   pub ends : drop front.extent_at body ≡ short_field EXTENT (varint front.extent)
 

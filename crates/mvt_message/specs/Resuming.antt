@@ -1,5 +1,5 @@
 -- A layer of which the first features are canonical, while the others are made so.
-use Rattle.std.specs.Prelude.{◌≡◌, ℕ, ◌≤◌, List, ◌++◌, length, map, drop, IsUtf8}
+use Rattle.std.specs.Prelude.{◌≡◌, ℕ, ◌≤◌, List, ◌++◌, length, map, drop, IsTrue, IsUtf8, false}
 use Rattle.std.specs.List.{AllByRecursion}
 use Rattle.mvt_base.specs.Related.{AreRelated}
 use Rattle.mvt_attrs.specs.declared.value.Value.{Value}
@@ -41,7 +41,7 @@ pub record AreHeld (body : List ℕ) (front : Front) (held : List Value) : Type 
   pub valid : AllByRecursion ValidValue held
   pub are : lent front.values.items ≡ map (λ (v : Value). spelled (value_fields v)) held
 
--- a layer whose first features are canonical
+-- a layer whose first features are canonical; none is taken where a key or a value may stand twice
 pub record IsPartOf (body : List ℕ) (part : Part) : Type 0 where
   pub named : body ≡ short_field NAME (bytes part.name.now) ++ drop part.features_at body
   pub text : IsUtf8 part.name.now
@@ -52,7 +52,9 @@ pub record IsPartOf (body : List ℕ) (part : Part) : Type 0 where
   pub texts : AllByRecursion IsUtf8 part.keys.items
   pub held : List Value
   pub held_are : AreHeld body part.front held
-  pub from : AreFeaturesFrom (λ _. Unit {0}) body part.features_at part.keys.items held part.reached.at part.reached.used
+  pub from : IsTrue part.front.is_apart
+      → AreFeaturesFrom (λ _. Unit {0}) body part.features_at part.keys.items held part.reached.at part.reached.used
+  pub none : part.front.is_apart ≡ false → part.reached.at ≡ part.features_at
 
 -- its features up to a place were written
 pub record IsWrittenUpTo (body : List ℕ) (part : Part) (at : ℕ) (w : LayerWriter) : Type 0 where

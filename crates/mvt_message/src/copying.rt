@@ -1,6 +1,6 @@
 //! A layer that is canonical but for where its version stands, and for last keys and values that no
 //! feature uses (Mapbox Vector Tile Specification 2.1, 4.1).
-ghost use Rattle.std.specs.Prelude.{◌≡◌, ◌≤◌, ◌<◌, ◌+◌, ◌-◌, ◌^◌, ◌==◌, ℕ, List, [], ◌++◌, length, map, drop, IfOk, IfSome, IsTrue, IsUtf8};
+ghost use Rattle.std.specs.Prelude.{◌≡◌, ◌≤◌, ◌<◌, ◌+◌, ◌-◌, ◌^◌, ◌==◌, ℕ, List, [], ◌++◌, length, map, drop, IfOk, IfSome, IsTrue, IsUtf8, false};
 ghost use Rattle.std.specs.List.{AllByRecursion, list_any};
 ghost use Rattle.mvt_attrs.specs.declared.value.Value.{Value as AValue};
 ghost use Rattle.mvt_attrs.specs.FirstUse.{AreDistinct};
@@ -15,7 +15,7 @@ ghost use Rattle.mvt_message.specs.Resuming.{IsKnown, IsKnownWithin, IsSeen, IsS
 
 use crate::canonical::CanonicalVisitor;
 use crate::layer_rewriting::{RewrittenLayer, Untold};
-use crate::looking::{counts_from, is_first_in_order};
+use crate::looking::{counts_from, may_be_texts, may_begin_in_order};
 use crate::numbers::layer;
 use crate::resuming::write_behind;
 use mvt_attrs::{LayerKeys, are_distinct};
@@ -46,15 +46,15 @@ pub(crate) struct CopiedLayer<'a> {
 /// A layer that is made canonical without another look at its first features.
 #[derive(Drop)]
 pub(crate) enum Known<'a> {
-    /// All its fields are canonical, but that its last keys and values may be unused, and the version
-    /// stands before or behind them.
+    /// All its fields are canonical, but that its last keys and values may be unused, and the
+    /// version stands before or behind them.
     Copied(CopiedLayer<'a>),
     /// Its first features are: these were copied, and the others made anew.
     Written(RewrittenLayer<'a, Untold>),
 }
 
-/// A layer of version 2 made canonical, where its fields stand in the canonical order, and its first
-/// features are canonical.
+/// A layer of version 2 made canonical, where its fields stand in the canonical order, and its
+/// first features are canonical.
 ///
 /// # Errors
 ///
@@ -132,9 +132,11 @@ pub(crate) struct Part<'a> {
     pub(crate) reached: Reached,
 }
 
-/// The keys and the values of a layer, each once, and where they stand. An extent ends its fields.
+/// The keys and the values of a layer, and where they stand. An extent ends its fields.
 #[derive(Drop)]
 pub(crate) struct Front<'a> {
+    /// Whether no key and no value stands twice, as far as is known.
+    pub(crate) is_apart: bool,
     pub(crate) keys_at: usize,
     keys: Vec<&'a [u8]>,
     values_at: usize,
@@ -207,7 +209,7 @@ fn front_of(alloc: Global, body: &[u8], features_at: usize) -> Result<Front<'_>,
     requires { features_at ≤ length body.now }
     ensures { IfOk result (IsFrontOf body.now) }
 {
-    if !is_first_in_order(body, features_at) {
+    if !may_begin_in_order(body, features_at) {
         return Err(NotCanonical::Other);
     }
     let keys_at = after_features(body, features_at);
@@ -215,14 +217,15 @@ fn front_of(alloc: Global, body: &[u8], features_at: usize) -> Result<Front<'_>,
         return Err(NotCanonical::Other);
     };
     let (keys, values_at) = keys_from(alloc, body, keys_at, counts.keys)?;
+    if !may_be_texts(&keys, body.len() - values_at) {
+        return Err(NotCanonical::Other);
+    }
     let (values, extent_at) = values_from(alloc, body, values_at, counts.values)?;
     let Some(extent) = extent_at_end(body, extent_at) else {
         return Err(NotCanonical::Other);
     };
-    if !are_apart(alloc, &keys, &values)? {
-        return Err(NotCanonical::Other);
-    }
     Ok(Front {
+        is_apart: are_apart(alloc, &keys, &values)?,
         keys_at,
         keys,
         values_at,
@@ -375,7 +378,8 @@ fn end_of_used(number: u32, payloads: &[&[u8]], used: usize, end: usize) -> usiz
 }
 
 /// Judges how far canonical features stand from an offset on, in a layer with this front and these
-/// keys, and use its entries in their order. A visitor is told them.
+/// keys, and use its entries in their order. A visitor is told them. Where an entry stands twice,
+/// none is judged.
 fn judge_features<V: CanonicalVisitor>(
     alloc: Global,
     visitor: &mut V,
@@ -392,15 +396,17 @@ fn judge_features<V: CanonicalVisitor>(
         start keys.now held reached.at reached.used) }
     ensures within { IfOk result (λ reached. (reached.used.0 ≤ length keys.now)
         × (reached.used.1 ≤ length front.now.values.items) × (reached.at ≤ length body.now)) }
-    ensures whole { IfOk result
-        (λ reached. IsTrue reached.is_whole → reached.at ≡ front.now.keys_at) }
+    ensures whole { IfOk result (λ reached. IsTrue reached.is_whole
+        → IsTrue front.now.is_apart × (reached.at ≡ front.now.keys_at)) }
+    ensures none { IfOk result (λ reached. front.now.is_apart ≡ false → reached.at ≡ start) }
 {
     let values = front.values.len();
     let mut layer_keys = LayerKeys::new(alloc, keys);
     let mut scratch = Scratch::new(alloc);
     let mut used = (0, 0);
     let mut at = start;
-    while at < front.keys_at {
+    let end = copies_end(front, start);
+    while at < end {
         match take_feature(
             alloc,
             visitor,
@@ -419,7 +425,22 @@ fn judge_features<V: CanonicalVisitor>(
             Err(error) => return Err(error),
         }
     }
-    reached_at(at, used, at == front.keys_at, keys.len(), values)
+    reached_at(at, used, is_whole(front, at), keys.len(), values)
+}
+
+/// Where the features that are looked at end: none is where an entry stands twice.
+fn copies_end(front: &Front<'_>, start: usize) -> usize
+    ensures apart { IsTrue front.now.is_apart → result ≡ front.now.keys_at }
+    ensures none { front.now.is_apart ≡ false → result ≡ start }
+{
+    if front.is_apart { front.keys_at } else { start }
+}
+
+/// Whether the features that end at an offset are all, and may be copied.
+fn is_whole(front: &Front<'_>, at: usize) -> bool
+    ensures { IsTrue result → IsTrue front.now.is_apart × (at ≡ front.now.keys_at) }
+{
+    front.is_apart && at == front.keys_at
 }
 
 /// What was reached, where there are as many keys and values.

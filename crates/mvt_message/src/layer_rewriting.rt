@@ -123,8 +123,8 @@ impl<'a, V: RewriteVisitor> RewrittenLayer<'a, V> {
 /// Makes the item of a payload canonical, and has a visitor be told the features.
 ///
 /// A key or a value is looked for by its hashes, and where others have these too, in order. So the
-/// time grows as sorting the payload, whatever its texts are. What it holds are the layer's keys and
-/// values and the fields of its features.
+/// time grows as sorting the payload, whatever its texts are. What it holds are the layer's keys
+/// and values and the fields of its features.
 ///
 /// # Errors
 ///

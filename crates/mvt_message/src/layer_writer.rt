@@ -33,8 +33,9 @@ use std::alloc::{AllocError, Global};
 /// let payload = writer.payload(alloc, name, extent)?;
 /// ```
 ///
-/// A key or a value is compared with others when it is added, once. What it holds are the layer's
-/// keys and values and the fields of its features. After an error it says nothing.
+/// A key or a value is looked for by its hashes when it is added, and where others have these too,
+/// in order. What it holds are the layer's keys and values and the fields of its features. After an
+/// error it says nothing.
 #[derive(Drop)]
 pub struct LayerWriter {
     pub(crate) uses: LayerUses,

@@ -1,6 +1,6 @@
 //! What is seen of a layer's fields at little cost, before they are judged (Mapbox Vector Tile
 //! Specification 2.1, 4.1).
-ghost use Rattle.std.specs.Prelude.{◌≡◌, ◌≤◌, ◌++◌, ℕ, List, length, drop, IfSome, IsTrue};
+ghost use Rattle.std.specs.Prelude.{◌≡◌, ◌≤◌, ◌∷◌, ℕ, List, length, IsTrue};
 ghost use Rattle.mvt_wire.specs.Field.{bytes};
 ghost use Rattle.mvt_wire.specs.Spelling.{short_field};
 ghost use Rattle.mvt_feature.specs.declared.numbers.feature.TheConstants.{GEOMETRY};
@@ -10,57 +10,61 @@ use crate::numbers::{feature, layer};
 use mvt_attrs::are_distinct;
 use mvt_wire::{short_bytes_at, short_number_at};
 use std::alloc::{AllocError, Global};
+use std::str;
 
-/// The most keys, and values, of a layer that is looked at further: what is kept of them stays
-/// small, whatever they are.
+/// The most keys, and values, of a layer that is looked at further: the lists of them stay small.
 const MOST_LISTED: usize = 1 << 16;
 
 /// How many of the first keys, and values, are compared with one another before all are listed,
 /// where there are more.
 const FIRST_COMPARED: usize = 8;
 
-/// How many keys and values a layer has.
+/// Up to so many bytes of keys and values are listed before they are looked at.
+const FEW_BYTES: usize = 256;
+
+/// The tags of a feature's id, of its list of tags, and of its type.
+const ID_TAG: u8 = 0x08;
+
+const TAGS_TAG: u8 = 0x12;
+
+const TYPE_TAG: u8 = 0x18;
+
+/// How many keys and values a layer has, or there is room for at first.
 #[derive(Clone, Copy)]
 pub(crate) struct Counts {
     pub(crate) keys: usize,
     pub(crate) values: usize,
 }
 
-/// Whether the fields of the first feature stand in the canonical order. It may not be there.
-pub(crate) fn is_first_in_order(body: &[u8], features_at: usize) -> bool
+/// Whether the fields of the first feature may stand in the canonical order, by its first bytes. It
+/// may not be there.
+pub(crate) fn may_begin_in_order(body: &[u8], features_at: usize) -> bool
     requires { features_at ≤ length body.now }
 {
     match short_bytes_at(body, features_at, layer::FEATURES) {
-        Some((feature, _)) => is_in_order(feature),
+        Some((feature, _)) => may_be_in_order(feature),
         None => true,
     }
 }
 
-/// Whether these are the fields of a feature in the canonical order, of which the integers are the
-/// last.
-fn is_in_order(payload: &[u8]) -> bool
-    ensures { IsTrue result → (integers : List ℕ) × (at : ℕ)
-        × (drop at payload.now ≡ short_field GEOMETRY (bytes integers)) }
+/// Whether a feature begins with an id or with tags, or is a type and integers alone.
+fn may_be_in_order(payload: &[u8]) -> bool
+    ensures typed { (kind : ℕ) (rest : List ℕ) → payload.now ≡ 24 ∷ (kind ∷ rest)
+        → IsTrue result → (integers : List ℕ) × (rest ≡ short_field GEOMETRY (bytes integers)) }
 {
-    let tags_at = match short_number_at(payload, 0, feature::ID) {
-        Some((_, after)) => after,
-        None => 0,
-    };
-    let kind_at = match short_bytes_at(payload, tags_at, feature::TAGS) {
-        Some((_, after)) => after,
-        None => tags_at,
-    };
-    let Some((_, integers_at)) = short_number_at(payload, kind_at, feature::TYPE) else {
-        return false;
-    };
-    match short_bytes_at(payload, integers_at, feature::GEOMETRY) {
-        Some((_, end)) => end == payload.len(),
-        None => false,
+    match payload {
+        [TYPE_TAG, _, rest @ ..] => match short_bytes_at(rest, 0, feature::GEOMETRY) {
+            Some((_, end)) => end == rest.len(),
+            None => false,
+        },
+        [first, ..] => *first == ID_TAG || *first == TAGS_TAG,
+        [] => false,
     }
 }
 
 /// How many keys and values stand from an offset on, with the extent behind them. `None` where
-/// anything else does, there are many, or the first few of more aren't different.
+/// anything else does, there are many, or the first few of more aren't different. Where few bytes
+/// are left, they aren't looked at.
 pub(crate) fn counts_from(
     alloc: Global,
     body: &[u8],
@@ -68,6 +72,12 @@ pub(crate) fn counts_from(
 ) -> Result<Option<Counts>, AllocError>
     requires { keys_at ≤ length body.now }
 {
+    if body.len() - keys_at <= FEW_BYTES {
+        return Ok(Some(Counts {
+            keys: FIRST_COMPARED,
+            values: FIRST_COMPARED,
+        }));
+    }
     let (keys, values_at) = fields_from(body, keys_at, layer::KEYS);
     let (values, extent_at) = fields_from(body, values_at, layer::VALUES);
     if short_number_at(body, extent_at, layer::EXTENT).is_none() {
@@ -128,4 +138,17 @@ fn are_first_apart(
         }
     }
     are_distinct(alloc, &first[..count])
+}
+
+/// Whether keys are texts, where more than a few bytes stand behind them, which cost time too.
+pub(crate) fn may_be_texts(keys: &[&[u8]], bytes_behind: usize) -> bool {
+    if bytes_behind <= FEW_BYTES {
+        return true;
+    }
+    for key in keys {
+        if str::from_utf8(key).is_err() {
+            return false;
+        }
+    }
+    true
 }

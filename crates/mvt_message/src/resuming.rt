@@ -1,6 +1,6 @@
 //! A layer of which the first features are canonical: these are copied, and the others made anew
-//! (Mapbox Vector Tile Specification 2.1, 4.1).
-ghost use Rattle.std.specs.Prelude.{◌≡◌, ◌≤◌, ◌<◌, ◌++◌, ◌∷◌, [], ℕ, List, length, IfOk, OnOk};
+//! (Mapbox Vector Tile Specification 2.1, 4.1). None is copied where a key or a value stands twice.
+ghost use Rattle.std.specs.Prelude.{◌≡◌, ◌≤◌, ◌<◌, ◌++◌, ◌∷◌, [], ℕ, List, length, IfOk, IsTrue, OnOk, false};
 ghost use Rattle.mvt_base.specs.Related.{AreRelated};
 ghost use Rattle.mvt_attrs.specs.declared.value.Value.{Value as AValue};
 ghost use Rattle.mvt_attrs.specs.FirstUses.{lent};
@@ -21,7 +21,7 @@ use std::alloc::{AllocError, Global};
 ///
 /// # Errors
 ///
-/// Where another isn't a feature; which rule it breaks isn't told.
+/// When memory runs out, or where another isn't a feature; which rule it breaks isn't told.
 #[inline(never)]
 pub(crate) fn write_behind(
     alloc: Global,
@@ -32,7 +32,7 @@ pub(crate) fn write_behind(
     requires part { IsPartOf body.now part.now }
     ensures { IfOk result (IsWrittenUpTo body.now part.now part.now.front.keys_at) }
 {
-    let mut writer = copied_writer(alloc, body, part)?;
+    let mut writer = first_writer(alloc, body, part)?;
     let mut keys = LayerKeys::new(alloc, &part.keys);
     let mut scratch = Scratch::for_payload(alloc, body.len())?;
     let mut at = part.reached.at;
@@ -45,10 +45,37 @@ pub(crate) fn write_behind(
     Ok(writer)
 }
 
+/// A writer that has the features that are canonical.
+fn first_writer(alloc: Global, body: &[u8], part: &Part<'_>) -> Result<LayerWriter, NotCanonical>
+    requires small { length body.now ≤ LIMIT }
+    requires part { IsPartOf body.now part.now }
+    ensures { IfOk result (IsWrittenUpTo body.now part.now part.now.reached.at) }
+{
+    if part.front.is_apart {
+        return copied_writer(alloc, body, part);
+    }
+    listed_writer(alloc, body, part)
+}
+
+/// A writer that has the keys and the values of a layer in which one stands twice, and no feature.
+fn listed_writer(alloc: Global, body: &[u8], part: &Part<'_>) -> Result<LayerWriter, NotCanonical>
+    requires small { length body.now ≤ LIMIT }
+    requires part { IsPartOf body.now part.now }
+    requires twice { part.now.front.is_apart ≡ false }
+    ensures { IfOk result (IsWrittenUpTo body.now part.now part.now.reached.at) }
+{
+    let mut writer = LayerWriter::with_room(alloc, body.len())?;
+    let held = values_of(alloc, &part.front.values)?;
+    writer.take_values(held)?;
+    writer.place_keys(&part.keys)?;
+    Ok(writer)
+}
+
 /// A writer that has the features that are canonical, as they stand.
 fn copied_writer(alloc: Global, body: &[u8], part: &Part<'_>) -> Result<LayerWriter, NotCanonical>
     requires small { length body.now ≤ LIMIT }
     requires part { IsPartOf body.now part.now }
+    requires apart { IsTrue part.now.front.is_apart }
     ensures { IfOk result (IsWrittenUpTo body.now part.now part.now.reached.at) }
 {
     let reached = &part.reached;

@@ -24,8 +24,8 @@ use std::alloc::{AllocError, Global};
 /// Appends the canonical payload of the item that a payload is, and answers the name of the layer.
 /// It may be longer than the limit.
 ///
-/// A layer whose fields stand in the canonical order is looked at first, and what is canonical of it
-/// is copied; so its keys and values may be compared with others twice. They are looked for by their
+/// A layer whose fields stand in the canonical order is looked at first, and what is canonical of
+/// it is copied; so its keys and values may be looked for twice. They are looked for by their
 /// hashes, and where others have these too, in order: the time grows as sorting the payload,
 /// whatever its texts are. What it holds are the layer's keys and values and the fields of its
 /// features.

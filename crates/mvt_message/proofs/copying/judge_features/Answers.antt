@@ -1,4 +1,4 @@
-use Rattle.std.proofs.Common.{length, arith, ◌≡◌}
+use Rattle.std.proofs.Common.{length, arith, refl, ◌≡◌}
 use Rattle.std.proofs.lemmas.Result.{IfOk-weaker}
 use Rattle.mvt_message.proofs.CopyingLemmas.{features_from_none, reached_from}
 use Rattle.mvt_message.proofs.copying.judge_features.Goals as goal
@@ -9,6 +9,7 @@ loop-at-init g c = (
   c.new-layer_keys.ensures,
   λ items has held count ready.
       features_from_none (g.V.CanonicalVisitor.has_read items c.args.visitor.now) c.args.body.now c.args.start c.args.keys.now held ready has,
+  λ none. refl,
 )
 
 pub returns-in-Err-Other-clause-features : goal.returns-in-Err-Other-clause-features

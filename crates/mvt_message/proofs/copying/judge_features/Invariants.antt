@@ -11,6 +11,7 @@ invariant-loop-at g l =
     × ((items : List Item) → g.V.CanonicalVisitor.has_read items l.initial.visitor [] → (held : List Value) → length held ≡ l.values
     → AreReady l.keys held (0, 0)
     → AreFeaturesFrom (g.V.CanonicalVisitor.has_read items l.visitor) l.body l.start l.keys held l.at l.used)
+    × (l.end ≡ l.start → l.at ≡ l.start)
 
 abbrev pub decreases-loop-at : goal.decreases-loop-at
 decreases-loop-at g l = length l.body - l.at

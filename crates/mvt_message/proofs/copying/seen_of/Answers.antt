@@ -56,7 +56,7 @@ returns-then-not-reached-clause-seen g c = λ items has.
     c.in_ok-reached.ensures.within.2 texts_are texts
     (subst (λ ks. (held : List Value) → length held ≡ length front.values.items → AreReady ks held (0, 0)
     → AreFeaturesFrom WereTold body start ks held reached.at reached.used)
-    c.deref-2.ensures.value (c.in_ok-reached.ensures.features items has))
+    c.deref-2.ensures.value (c.in_ok-reached.ensures.features items has)) c.in_ok-reached.ensures.none
 
 was_whole : (is_whole : Bool) → not is_whole ≡ false → IsTrue is_whole
 was_whole true e = refl
@@ -76,15 +76,16 @@ returns-clause-seen g c = λ items has.
     let texts : AllByRecursion IsUtf8 keys = rw c.in-Some-2.is at c.in_ok-keys.ensures.texts in
     let from = keys_are_from body front.keys_at front.values_at front.keys.items keys is.keys texts_are texts in
     let whole : IsTrue reached.is_whole = was_whole reached.is_whole c.if-not-reached.false in
+    let apart = (c.in_ok-reached.ensures.whole whole).0 in
     let told = λ (ks : List (List ℕ)) (are : c.deref-2.result.now ≡ ks) (held : List Value) (count : length held ≡ length front.values.items)
     (ready : AreReady ks held (0, 0)).
     reached_from (λ fs. IsTrue reached.is_whole → AreTold fs) AreTold body start reached.at front.keys_at ks held used used
     (subst (λ k. AreReady k held (0, 0) → AreFeaturesFrom (λ fs. IsTrue reached.is_whole → AreTold fs) body start k held reached.at used) are
     (c.in_ok-reached.ensures.features items has held count) ready)
-    (sym (c.in_ok-reached.ensures.whole whole)) refl (λ fs t. t whole) in
+    (sym (c.in_ok-reached.ensures.whole whole).1) refl (λ fs t. t whole) in
     let read =
     is_read AreTold body start front.keys_at front.values_at front.extent_at (length front.values.items) keys front.values.items used from is.values
-    (subst AreDistinct (sym texts_are) is.keys_apart) is.values_apart refl (told keys c.deref-2.ensures.value) in
+    (subst AreDistinct (sym texts_are) (is.keys_apart apart)) (is.values_apart apart) refl (told keys c.deref-2.ensures.value) in
     subst (λ e. IsBodyOf AreTold body c.in-Some.name.now (take c.end_of_used-keys_end.result body
     ++ (take (c.end_of_used-values_end.result - front.values_at) (drop front.values_at body) ++ e)))
     (sym (rest_of front.extent_at body))

@@ -30,7 +30,7 @@ of_apart-requires-2-clause-apart c =
     let read = c.in_ok-held.held.items in
     let same = values_are_held c.args.body.now front is.held c.requires.small is.held_are read
     (subst (λ ps. AreRelated IsValueOf (lent ps) read) c.deref-2.ensures.value c.in_ok-held.ensures) in
-    subst AreDistinct (sym same) (held_apart c.args.body.now front is.held c.requires.small is.held_are is.is_front.values_apart)
+    subst AreDistinct (sym same) (held_apart c.args.body.now front is.held c.requires.small is.held_are (is.is_front.values_apart c.requires.apart))
 
 pub of_apart-requires-2-clause-within : goal.of_apart-requires-2-clause-within
 of_apart-requires-2-clause-within c =
@@ -39,7 +39,7 @@ of_apart-requires-2-clause-within c =
     let read = c.in_ok-held.held.items in
     let same = values_are_held c.args.body.now front is.held c.requires.small is.held_are read
     (subst (λ ps. AreRelated IsValueOf (lent ps) read) c.deref-2.ensures.value c.in_ok-held.ensures) in
-    omega (arith, ap length same, is.from.ready.values_within)
+    omega (arith, ap length same, (is.from c.requires.apart).ready.values_within)
 
 pub returns : goal.returns
 returns c =
@@ -50,7 +50,7 @@ returns c =
     let texts_are : c.in_ok-texts.texts.items ≡ part.keys.items = c.in_ok-texts.ensures ∙ c.deref.ensures.value in
     let same = values_are_held c.args.body.now part.front is.held c.requires.small is.held_are read
     (subst (λ ps. AreRelated IsValueOf (lent ps) read) c.deref-2.ensures.value c.in_ok-held.ensures) in
-    written_start c.args.body.now part _ c.requires.small is
+    written_start c.args.body.now part _ c.requires.small is c.requires.apart
     (subst (AreUsesOf c.in_ok-keys.keys) texts_are c.in_ok-keys.ensures.uses, subst (AreUsesOf c.in_ok-values.values) same c.in_ok-values.ensures.uses)
     (c.in_ok-keys.ensures.used ∙ ap (take used.0) texts_are) (c.in_ok-values.ensures.used ∙ ap (take used.1) same)
     (c.in_ok-extend_from_slice.ensures.items
