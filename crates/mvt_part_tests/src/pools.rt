@@ -214,19 +214,19 @@ fn refused_forms_of_values(rt: HostRuntime) {
     drop(values);
 }
 
-// So many values, of which the last is the first again.
-fn values_of(alloc: Global, count: u32) -> Result<Vec<Value>, AllocError> {
+// So many values, of which the last is this number and the others rise from 1.
+fn values_of(alloc: Global, count: u32, last: u64) -> Result<Vec<Value>, AllocError> {
     let mut values = Vec::new(alloc);
     for number in 1..count {
         values.push(Value::Uint(u64::from(number)))?;
     }
-    values.push(Value::Uint(1))?;
+    values.push(Value::Uint(last))?;
     Ok(values)
 }
 
-// The uses of so many values, which are added as they stand or taken.
-fn uses_of(alloc: Global, count: u32, is_taken: bool) -> Result<LayerUses, AllocError> {
-    let values = values_of(alloc, count)?;
+// The uses of such values, which are added as they stand or taken.
+fn uses_of(alloc: Global, count: u32, last: u64, is_taken: bool) -> Result<LayerUses, AllocError> {
+    let values = values_of(alloc, count, last)?;
     let mut uses = LayerUses::new(alloc);
     uses.keys.add(&Text::from_str(alloc, "key")?)?;
     if is_taken {
@@ -237,8 +237,10 @@ fn uses_of(alloc: Global, count: u32, is_taken: bool) -> Result<LayerUses, Alloc
     Ok(uses)
 }
 
-// The last, the first and the second are used: two values.
-fn expect_two_used(rt: &(impl Abort + AllocGlobal), mut uses: LayerUses, count: u32) {
+// Of so many values, of which the last is the first again, the last, the first and the second are
+// used: two values.
+fn expect_two_used(rt: &(impl Abort + AllocGlobal), count: u32, is_taken: bool) {
+    let mut uses = uses_of(rt.alloc(), count, 1, is_taken).expect(rt, "uses");
     let mut tags = Vec::new(rt.alloc());
     let done = uses.append_used(&[0, count.saturating_sub(1), 0, 0, 0, 1], &mut tags);
     expect!(rt; done.is_ok());
@@ -249,20 +251,28 @@ fn expect_two_used(rt: &(impl Abort + AllocGlobal), mut uses: LayerUses, count: 
     drop(uses);
 }
 
+// Of as many that differ: three values.
+fn expect_three_used(rt: &(impl Abort + AllocGlobal), count: u32, is_taken: bool) {
+    let last = u64::from(count);
+    let mut uses = uses_of(rt.alloc(), count, last, is_taken).expect(rt, "uses");
+    let mut tags = Vec::new(rt.alloc());
+    let done = uses.append_used(&[0, count.saturating_sub(1), 0, 0, 0, 1], &mut tags);
+    expect!(rt; done.is_ok());
+    expect_eq!(rt; tags.as_slice(), [0, 0, 0, 1, 0, 2].as_slice());
+    expect_eq!(rt; uses.values.len(), count as usize);
+    let used = [Value::Uint(last), Value::Uint(1), Value::Uint(2)];
+    expect!(rt; uses.values.used() == used.as_slice());
+    drop(tags);
+    drop(uses);
+}
+
 // Around the numbers up to which values are compared one by one, hashed, and found apart at once.
 #[test]
 fn uses_any_number_of_values(rt: HostRuntime) {
-    for (count, is_taken) in [
-        (8, false),
-        (8, true),
-        (9, false),
-        (9, true),
-        (32, false),
-        (33, true),
-        (65_536, true),
-        (65_537, false),
-    ] {
-        let uses = uses_of(rt.alloc(), count, is_taken).expect(&rt, "uses");
-        expect_two_used(&rt, uses, count);
+    for count in [8, 9, 32, 33, 65_536, 65_537] {
+        expect_two_used(&rt, count, false);
+        expect_two_used(&rt, count, true);
+        expect_three_used(&rt, count, false);
+        expect_three_used(&rt, count, true);
     }
 }
