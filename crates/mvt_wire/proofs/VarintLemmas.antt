@@ -364,31 +364,6 @@ two_bytes b some large small =
     number_ends b 1 _ (omega arith) some small (omega (arith, more)) (omega (arith, first, second, mask, whole, set))
     (omega (arith, mask, below, set))
 
-pub three_bytes : (b : List ℕ) → 2 < length b → 128 ≤ get_or b 0 0 → 128 ≤ get_or b 1 0 → get_or b 2 0 < 128
-    → number_at b
-    ≡ Ok
-    (bit_or (bit_or (bit_and (get_or b 0 0) 127) (bit_and (get_or b 1 0) 127 * 2 ^ 7 % 2 ^ 64)) (get_or b 2 0 * 2 ^ 14 % 2 ^ 64), 3)
-three_bytes b some large more_large small =
-    let x = bit_and (get_or b 0 0) 127 in
-    let y = bit_and (get_or b 1 0) 127 in
-    let z = get_or b 2 0 in
-    let first : groups_from 0 (take 1 b) ≡ 0 + (get_or b 0 0 % 128) * 128 ^ 0 = group_step b 0 (omega arith) in
-    let second : groups_from 0 (take 2 b) ≡ groups_from 0 (take 1 b) + (get_or b 1 0 % 128) * 128 ^ 1 = group_step b 1 (omega arith) in
-    let third : groups_from 0 (take 3 b) ≡ groups_from 0 (take 2 b) + (get_or b 2 0 % 128) * 128 ^ 2 = group_step b 2 some in
-    let mask : x ≡ get_or b 0 0 % 128 = and_mask (get_or b 0 0) 7 in
-    let mask_more : y ≡ get_or b 1 0 % 128 = and_mask (get_or b 1 0) 7 in
-    let below : get_or b 0 0 % 128 < 128 = mod_below (get_or b 0 0) 128 (omega arith) in
-    let below_more : get_or b 1 0 % 128 < 128 = mod_below (get_or b 1 0) 128 (omega arith) in
-    let whole : get_or b 2 0 % 128 ≡ get_or b 2 0 = mod-eq_of_lt small in
-    let low : bit_or x (y * 2 ^ 7 % 2 ^ 64) ≡ x + y * 128 ^ 1 = or_group x y 1 7 (omega arith) (omega arith) (omega arith) in
-    let set : bit_or (bit_or x (y * 2 ^ 7 % 2 ^ 64)) (z * 2 ^ 14 % 2 ^ 64) ≡ bit_or x (y * 2 ^ 7 % 2 ^ 64) + z * 128 ^ 2 =
-    or_group (bit_or x (y * 2 ^ 7 % 2 ^ 64)) z 2 7 (omega arith) small (omega arith) in
-    let more : going_on (drop 0 b) ≡ suc (going_on (drop 1 b)) = going_on-more b 0 (omega arith) large in
-    let more_after : going_on (drop 1 b) ≡ suc (going_on (drop 2 b)) = going_on-more b 1 (omega arith) more_large in
-    number_ends b 2 _ (omega arith) some small (omega (arith, more, more_after))
-    (omega (arith, first, second, third, mask, mask_more, whole, low, set))
-    (omega (arith, mask, mask_more, below, below_more, low, set))
-
 -- what the public call answers
 pub same_found : (b front back : List ℕ) (found : ℕ × ℕ) (n : ℕ) → number_at b ≡ Ok found → b ≡ front ++ back
     → Spells front n → found ≡ pair_of n (length front)

@@ -1,5 +1,5 @@
 //! Varints (Protocol Buffers, Encoding, "Base 128 Varints").
-ghost use Rattle.std.specs.Prelude.{◌≡◌, ◌≢◌, ℕ, ◌+◌, ◌≤◌, ◌<◌, List, [], ◌∷◌, ◌++◌, length, take, Ok, Err, IfOk, IfErr, IfSome, IsOk, OnOk, OnErr, vec_len, vec_capacity};
+ghost use Rattle.std.specs.Prelude.{◌≡◌, ◌≢◌, ℕ, ◌+◌, ◌≤◌, List, [], ◌∷◌, ◌++◌, length, take, Ok, Err, IfOk, IfErr, IsOk, OnOk, OnErr, vec_len, vec_capacity};
 ghost use Rattle.mvt_wire.specs.Varint.{Spells, SpellsNone, spell_cause, short};
 ghost use Rattle.mvt_wire.specs.Fronts.{number_at};
 
@@ -54,9 +54,6 @@ fn long_varint_at(bytes: &[u8]) -> (u64, usize)
     ensures none { result.1 ≡ 0 → number_at bytes.now ≡ Err (spell_cause bytes.now) }
     ensures within { result.1 ≤ length bytes.now }
 {
-    if let Some(found) = three_bytes_at(bytes) {
-        return found;
-    }
     let mut value = 0u64;
     for (i, byte) in bytes.iter().enumerate() {
         if i == 9 && *byte > 1 {
@@ -68,21 +65,6 @@ fn long_varint_at(bytes: &[u8]) -> (u64, usize)
         }
     }
     (0, 0)
-}
-
-/// The number that three bytes at the front spell, read at once.
-#[inline(always)]
-fn three_bytes_at(bytes: &[u8]) -> Option<(u64, usize)>
-    ensures number { IfSome result (λ found. number_at bytes.now ≡ Ok found) }
-    ensures within { IfSome result (λ found. (0 < found.1) × (found.1 ≤ length bytes.now)) }
-{
-    match bytes {
-        [a, b, c, ..] if *a >= 128 && *b >= 128 && *c < 128 => {
-            let low = u64::from(*a & 0x7f) | (u64::from(*b & 0x7f) << 7);
-            Some((low | (u64::from(*c) << 14), 3))
-        }
-        _ => None,
-    }
 }
 
 /// Why bytes begin with no varint.
