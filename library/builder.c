@@ -369,6 +369,7 @@ mvt_status mvt_builder_finish(mvt_builder *of, mvt_bytes *out) {
 }
 
 void mvt_builder_free(mvt_builder *of) {
+    if (of == NULL) return;
     builder *b = of->held;
     of->held = NULL;
     if (b == NULL || b == &WITHOUT_MEMORY) return;

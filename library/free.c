@@ -10,11 +10,13 @@ static void give_back(const void *list, size_t count) {
 }
 
 void mvt_bytes_free(mvt_bytes *bytes) {
+    if (bytes == NULL) return;
     give_back(bytes->data, bytes->len);
     memset(bytes, 0, sizeof *bytes);
 }
 
 void mvt_tile_free(mvt_tile *tile) {
+    if (tile == NULL) return;
     give_back(tile->layers, tile->layer_count);
     give_back(tile->features, tile->feature_count);
     give_back(tile->keys, tile->key_count);
@@ -70,6 +72,7 @@ mvt_status mvt_decoder_finish(mvt_decoder *decoder, mvt_tile *out, mvt_fault *fa
 }
 
 void mvt_decoder_free(mvt_decoder *decoder) {
+    if (decoder == NULL) return;
     const held last = {decoder->held};
     decoder->held = NULL;
     if (last.decoder != NULL) mvt_held_free(last);

@@ -6,8 +6,8 @@
  * number of threads may call at a time.
  *
  * The parameters `bytes` and `len` are the bytes of one tile, uncompressed. A pointer beside a length or a count of 0
- * may be NULL, and where the library hands one out it isn't to be followed. No other pointer may be NULL. The library
- * wants a processor of x86-64-v2.
+ * may be NULL, and where the library hands one out it isn't to be followed. No other pointer may be NULL, but for that of
+ * the calls that give back. The library wants a processor of x86-64-v2.
  */
 #ifndef MVT_H
 #define MVT_H
@@ -340,7 +340,8 @@ typedef struct {
 } mvt_place;
 void mvt_locate(const uint8_t *bytes, size_t len, const mvt_fault *fault, mvt_place *out);
 
-/* Give back what a call put into `out`, and leave zeros there, for which a further call does nothing. */
+/* Give back what a call put into `out`, and leave zeros there, for which a further call does nothing. For NULL nothing
+ * happens, and so it is with mvt_decoder_free and mvt_builder_free. */
 void mvt_bytes_free(mvt_bytes *bytes);
 void mvt_tile_free(mvt_tile *tile);
 

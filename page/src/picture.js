@@ -178,8 +178,7 @@ export class Picture {
   async #hover(x, y) {
     if (this.#isHovering) return;
     this.#isHovering = true;
-    const { count, features } = await this.#near(x, y);
-    this.#isHovering = false;
+    const { count, features } = await this.#near(x, y).finally(() => { this.#isHovering = false; });
     this.paper.classList.toggle('near', count > 0);
     this.tip.hidden = count === 0;
     const lines = features.slice(0, TIPS).map((feature) => element('div', {}, tipOf(feature)));

@@ -332,6 +332,10 @@ static void write_point(void) {
 }
 
 int main(int argc, char **argv) {
+    mvt_bytes_free(NULL);
+    mvt_tile_free(NULL);
+    mvt_decoder_free(NULL);
+    mvt_builder_free(NULL);
     write_point();
     for (int i = 1; i < argc; ++i) call(argv[i]);
     return 0;

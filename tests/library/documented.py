@@ -40,6 +40,8 @@ PROGRAMS = {
     "bound.py": (BOUND, "In Python:\n", ""),
     "list.py": ("From Python", "", ""),
     "make.py": ("From Python", BUILD, ""),
+    "list.rs": ("From Rust", "", ""),
+    "list.go": ("From Go", "", ""),
 }
 
 

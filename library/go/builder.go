@@ -1,0 +1,203 @@
+package mvt
+
+/*
+#include <mvt.h>
+*/
+import "C"
+
+import (
+	"fmt"
+	"math"
+	"reflect"
+	"runtime"
+	"unsafe"
+)
+
+// Builder makes a tile step by step: begin a layer, begin a feature, add its tags and points, and finish.
+//
+//	builder := mvt.NewBuilder()
+//	builder.Layer("places", 4096)
+//	builder.Feature(mvt.Points).ID(7).Tag("name", "Mill Pond").Tag("depth", 3.5).Point(25, 17)
+//	bytes, err := builder.Finish()
+//
+// After a call that isn't due, and after want of memory, each further call does nothing, and Finish says why. One goroutine
+// at a time may use it.
+type Builder struct {
+	builder C.mvt_builder
+	err     error
+}
+
+// NewBuilder is a builder of a tile without layers.
+func NewBuilder() *Builder {
+	held := &Builder{}
+	runtime.SetFinalizer(held, (*Builder).Close)
+	return held
+}
+
+// Close gives the builder back; what it has is let go.
+func (b *Builder) Close() error {
+	C.mvt_builder_free(&b.builder)
+	return nil
+}
+
+// Layer begins a layer, which ends the one before. The extent is how many units the tile is wide and high, mostly 4096.
+func (b *Builder) Layer(name string, extent uint32) *Builder {
+	C.mvt_builder_layer(&b.builder, lent(name), C.uint32_t(extent))
+	return b
+}
+
+// Foreign adds a layer of another version than 2, of which these are the bytes.
+func (b *Builder) Foreign(version uint32, bytes []byte) *Builder {
+	C.mvt_builder_foreign(&b.builder, C.uint32_t(version), C.mvt_bytes{start(bytes), C.size_t(len(bytes))})
+	return b
+}
+
+// Key is the index of a key in the layer. One that isn't there yet is added. The error is ErrOutOfTurn where no layer is begun.
+func (b *Builder) Key(key string) (uint32, error) {
+	var index C.uint32_t
+	err := errorOf(C.mvt_builder_key(&b.builder, lent(key), &index), nil, nil)
+	return uint32(index), err
+}
+
+// Value is the index of a value in the layer, as Tag takes it. One that isn't there yet is added.
+func (b *Builder) Value(value any) (uint32, error) {
+	given, ok := valueOf(value)
+	if !ok {
+		return 0, noKind(value)
+	}
+	var index C.uint32_t
+	err := errorOf(C.mvt_builder_value(&b.builder, given, &index), nil, nil)
+	return uint32(index), err
+}
+
+// Feature begins a feature of the layer, which ends the one before.
+func (b *Builder) Feature(kind Kind) *Builder {
+	C.mvt_builder_feature(&b.builder, C.mvt_kind(kind))
+	return b
+}
+
+// ID gives the feature an id.
+func (b *Builder) ID(id uint64) *Builder {
+	C.mvt_builder_id(&b.builder, C.uint64_t(id))
+	return b
+}
+
+// Tag adds an attribute to the feature. The value is a string, a bool, a float32, a float64 or an integer. An integer of a
+// type with a sign is written as an int_value, one of a type without a sign as a uint_value, and a Sint as a sint_value. For
+// any other value Finish says that it has no kind.
+func (b *Builder) Tag(key string, value any) *Builder {
+	given, ok := valueOf(value)
+	if !ok {
+		if b.err == nil {
+			b.err = noKind(value)
+		}
+		return b
+	}
+	C.mvt_builder_tag(&b.builder, lent(key), given)
+	return b
+}
+
+func noKind(value any) error {
+	return fmt.Errorf("a value of type %T has no kind in a tile", value)
+}
+
+// TagAt adds an attribute by the indices that Key and Value gave.
+func (b *Builder) TagAt(key, value uint32) *Builder {
+	C.mvt_builder_tag_at(&b.builder, C.uint32_t(key), C.uint32_t(value))
+	return b
+}
+
+// Line begins a line of a feature of lines.
+func (b *Builder) Line() *Builder {
+	C.mvt_builder_line(&b.builder)
+	return b
+}
+
+// Ring begins a ring of a feature of polygons. An exterior ring begins a polygon, and the rings after it are its holes.
+func (b *Builder) Ring(exterior bool) *Builder {
+	number := C.int(0)
+	if exterior {
+		number = 1
+	}
+	C.mvt_builder_ring(&b.builder, number)
+	return b
+}
+
+// Point adds a point to the line or ring that was begun last, or to a feature of points.
+func (b *Builder) Point(x, y int32) *Builder {
+	C.mvt_builder_point(&b.builder, C.int32_t(x), C.int32_t(y))
+	return b
+}
+
+// Points adds points to the line or ring that was begun last, or to a feature of points. The last point of a ring is joined to
+// its first.
+func (b *Builder) Points(points ...Point) *Builder {
+	if len(points) > 0 {
+		C.mvt_builder_points(&b.builder, (*C.mvt_point)(unsafe.Pointer(&points[0])), C.size_t(len(points)))
+	}
+	return b
+}
+
+// Integers adds integers to a feature of unknown geometry.
+func (b *Builder) Integers(integers ...uint32) *Builder {
+	if len(integers) > 0 {
+		C.mvt_builder_integers(&b.builder, (*C.uint32_t)(&integers[0]), C.size_t(len(integers)))
+	}
+	return b
+}
+
+// Drop takes the feature back that was begun last, as one whose geometry came to nothing.
+func (b *Builder) Drop() *Builder {
+	C.mvt_builder_drop(&b.builder)
+	return b
+}
+
+// Finish gives the canonical bytes of the tile. The builder begins anew. The error is a *NoTile where the tile isn't valid,
+// such as a line of one point or a ring that winds the wrong way round; ErrOutOfTurn where a call wasn't due; ErrTooLarge or
+// ErrMemory.
+func (b *Builder) Finish() ([]byte, error) {
+	defer runtime.KeepAlive(b)
+	defer C.mvt_builder_free(&b.builder)
+	if err := b.err; err != nil {
+		b.err = nil
+		return nil, err
+	}
+	var rows C.mvt_tile
+	if err := errorOf(C.mvt_builder_rows(&b.builder, &rows), nil, nil); err != nil {
+		return nil, err
+	}
+	return written(&rows)
+}
+
+// valueOf is a value as C takes it, and whether a tile has a kind for it. Its text is lent.
+func valueOf(value any) (C.mvt_any, bool) {
+	switch given := value.(type) {
+	case Sint:
+		return number(C.MVT_SINT, uint64(given)), true
+	case float32:
+		return number(C.MVT_FLOAT, uint64(math.Float32bits(given))), true
+	}
+	switch given := reflect.ValueOf(value); given.Kind() {
+	case reflect.String:
+		return C.mvt_any{kind: C.MVT_TEXT, text: lent(given.String())}, true
+	case reflect.Bool:
+		if given.Bool() {
+			return number(C.MVT_BOOL, 1), true
+		}
+		return number(C.MVT_BOOL, 0), true
+	case reflect.Float32:
+		return number(C.MVT_FLOAT, uint64(math.Float32bits(float32(given.Float())))), true
+	case reflect.Float64:
+		return number(C.MVT_DOUBLE, math.Float64bits(given.Float())), true
+	case reflect.Int, reflect.Int8, reflect.Int16, reflect.Int32, reflect.Int64:
+		return number(C.MVT_INT, uint64(given.Int())), true
+	case reflect.Uint, reflect.Uint8, reflect.Uint16, reflect.Uint32, reflect.Uint64:
+		return number(C.MVT_UINT, given.Uint()), true
+	}
+	return C.mvt_any{}, false
+}
+
+// number is a value of 64 bits, as mvt_value has them.
+func number(kind C.uint32_t, bits uint64) C.mvt_any {
+	return C.mvt_any{kind: kind, bits: C.uint64_t(bits)}
+}

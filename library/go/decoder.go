@@ -1,0 +1,104 @@
+package mvt
+
+/*
+#include <mvt.h>
+*/
+import "C"
+
+import (
+	"io"
+	"math"
+	"runtime"
+)
+
+// Decoder reads a tile that comes in pieces, cut anywhere. It is an io.Writer and an io.ReaderFrom, so that io.Copy fills it:
+//
+//	decoder, err := mvt.NewDecoder()
+//	defer decoder.Close()
+//	_, err = decoder.ReadFrom(response.Body)
+//	tile, err := decoder.Finish()
+//
+// One goroutine at a time may use it.
+type Decoder struct {
+	decoder C.mvt_decoder
+	// The first bytes, which tell whether what was refused looks compressed.
+	head []byte
+}
+
+const (
+	// So many bytes of the head are kept.
+	headLen = 64
+	// So many bytes are read at a time.
+	pieceLen = 65_536
+)
+
+var (
+	_ io.WriteCloser = (*Decoder)(nil)
+	_ io.ReaderFrom  = (*Decoder)(nil)
+)
+
+// NewDecoder is a decoder of no bytes yet.
+func NewDecoder() (*Decoder, error) {
+	return NewDecoderWithin(math.MaxUint64)
+}
+
+// NewDecoderWithin is the same, of a tile whose rows have at most so many bytes: else the error of a call is ErrMemory.
+func NewDecoderWithin(most uint64) (*Decoder, error) {
+	held := &Decoder{}
+	if err := errorOf(C.mvt_decoder_new_within(&held.decoder, C.uint64_t(most)), nil, nil); err != nil {
+		return nil, err
+	}
+	runtime.SetFinalizer(held, (*Decoder).Close)
+	return held, nil
+}
+
+// Write takes a piece. A fault is told as soon as no further byte can change it, as a *Refused that mostly has no name of the
+// layer and no id of the feature, since the bytes aren't kept. After an error each further call answers the same.
+func (d *Decoder) Write(piece []byte) (int, error) {
+	defer runtime.KeepAlive(d)
+	if room := headLen - len(d.head); room > 0 {
+		if room > len(piece) {
+			room = len(piece)
+		}
+		d.head = append(d.head, piece[:room]...)
+	}
+	var fault C.mvt_fault
+	status := C.mvt_decoder_feed(&d.decoder, start(piece), C.size_t(len(piece)), &fault)
+	if err := errorOf(status, d.head, &fault); err != nil {
+		return 0, err
+	}
+	return len(piece), nil
+}
+
+// ReadFrom takes all that a reader has, as Write does, up to its end or the first fault. It says how many bytes it read.
+func (d *Decoder) ReadFrom(reader io.Reader) (int64, error) {
+	piece, all := make([]byte, pieceLen), int64(0)
+	for {
+		count, ended := reader.Read(piece)
+		all += int64(count)
+		if _, err := d.Write(piece[:count]); err != nil {
+			return all, err
+		}
+		if ended == io.EOF {
+			return all, nil
+		}
+		if ended != nil {
+			return all, ended
+		}
+	}
+}
+
+// Finish gives the tile, after the last piece. The decoder is closed, whatever the answer.
+func (d *Decoder) Finish() (*Tile, error) {
+	defer runtime.KeepAlive(d)
+	var rows C.mvt_tile
+	var fault C.mvt_fault
+	return adopted(C.mvt_decoder_finish(&d.decoder, &rows, &fault), d.head, &rows, &fault)
+}
+
+// Close gives the decoder back.
+func (d *Decoder) Close() error {
+	C.mvt_decoder_free(&d.decoder)
+	runtime.SetFinalizer(d, nil)
+	return nil
+}

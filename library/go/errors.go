@@ -1,0 +1,129 @@
+package mvt
+
+/*
+#include <mvt.h>
+*/
+import "C"
+
+import (
+	"errors"
+	"fmt"
+	"strconv"
+)
+
+var (
+	// ErrMemory says that memory ran out, or that the bound of the rows is reached.
+	ErrMemory = errors.New("out of memory")
+	// ErrTooLarge says that the result would be larger than 67,108,864 bytes.
+	ErrTooLarge = errors.New("the result is larger than 67108864 bytes")
+	// ErrOutOfTurn says that a builder's call isn't due, such as a point before the first feature.
+	ErrOutOfTurn = errors.New("a builder's call that isn't due")
+	// ErrClosed says that a decoder is finished or closed.
+	ErrClosed = errors.New("this decoder is finished or closed")
+)
+
+// Refused is the first rule that a tile breaks. Its text is the line that the program mvt prints.
+type Refused struct {
+	// Layer and Feature are indices; -1 for a fault outside a layer, or outside its features.
+	Layer, Feature int64
+	// At is an offset in the tile, or an index in the feature's tags or the integers of its geometry, as the cause has it.
+	At uint64
+	// Cause is the cause's number, and Name its name.
+	Cause uint32
+	Name  string
+	// LayerName and FeatureID are what the bytes tell of these, where they tell it.
+	LayerName *string
+	FeatureID *uint64
+	// Explanation is the fault in plain words.
+	Explanation string
+}
+
+func (r *Refused) Error() string {
+	return fmt.Sprintf("layer %s feature %s at %d: %d %s", index(r.Layer), index(r.Feature), r.At, r.Cause, r.Name)
+}
+
+func index(number int64) string {
+	if number < 0 {
+		return "-"
+	}
+	return strconv.FormatInt(number, 10)
+}
+
+// NoLayer is a name that no layer of version 2 has.
+type NoLayer struct {
+	Name string
+}
+
+func (n *NoLayer) Error() string {
+	return fmt.Sprintf("no layer of version 2 has the name %q", n.Name)
+}
+
+// NoTile is what is wrong with rows that are no valid tile.
+type NoTile struct {
+	// Layer and Feature are indices; Feature is -1 where no feature is to blame.
+	Layer, Feature int64
+	// Cause is an mvt_rows_cause of mvt.h, and Sentence says it in plain words.
+	Cause    uint32
+	Sentence string
+}
+
+func (n *NoTile) Error() string {
+	if n.Feature < 0 {
+		return fmt.Sprintf("layer %d: %s", n.Layer, n.Sentence)
+	}
+	return fmt.Sprintf("layer %d feature %d: %s", n.Layer, n.Feature, n.Sentence)
+}
+
+// errorOf says what a status means. The bytes are those that the call took, and the fault is what it told.
+func errorOf(status C.mvt_status, tile []byte, fault *C.mvt_fault) error {
+	switch status {
+	case C.MVT_OK:
+		return nil
+	case C.MVT_REFUSED:
+		return refusedOf(tile, fault)
+	case C.MVT_TOO_LARGE:
+		return ErrTooLarge
+	case C.MVT_OUT_OF_TURN:
+		return ErrOutOfTurn
+	case C.MVT_NO_DECODER:
+		return ErrClosed
+	default:
+		return ErrMemory
+	}
+}
+
+func refusedOf(tile []byte, fault *C.mvt_fault) *Refused {
+	var place C.mvt_place
+	C.mvt_locate(start(tile), C.size_t(len(tile)), fault, &place)
+	told := &Refused{
+		Layer:       int64(fault.layer),
+		Feature:     int64(fault.feature),
+		At:          uint64(fault.at),
+		Cause:       uint32(fault.cause),
+		Name:        string(view(fault.name.data, fault.name.len)),
+		Explanation: C.GoString(C.mvt_explain(start(tile), C.size_t(len(tile)), fault)),
+	}
+	if place.has_layer_name == 1 {
+		name := string(view(place.layer_name.data, place.layer_name.len))
+		told.LayerName = &name
+	}
+	if place.has_feature_id == 1 {
+		id := uint64(place.feature_id)
+		told.FeatureID = &id
+	}
+	return told
+}
+
+// noTile says what is wrong with rows that are no valid tile.
+func noTile(rows *C.mvt_tile) error {
+	var fault C.mvt_rows_fault
+	if C.mvt_judge_rows(rows, &fault) != C.MVT_NO_TILE {
+		return ErrMemory
+	}
+	told := &NoTile{Layer: int64(fault.layer), Feature: -1, Cause: uint32(fault.cause)}
+	if fault.has_feature == 1 {
+		told.Feature = int64(fault.feature)
+	}
+	told.Sentence = C.GoString(C.mvt_rows_cause_text(fault.cause))
+	return told
+}

@@ -1,0 +1,3 @@
+module huranvi.example/mvt
+
+go 1.19

@@ -1,0 +1,170 @@
+package guard
+
+import (
+	"bytes"
+	"compress/gzip"
+	"io"
+	"net/http"
+	"net/http/httptest"
+	"net/url"
+	"strings"
+	"testing"
+)
+
+var (
+	good   = []byte{0x1a, 7, 0x78, 2, 0x0a, 1, 'a', 0x28, 1}
+	broken = []byte{0x1a, 2, 0x78, 2}
+	fault  = "layer 0 feature - at 0: 10 NoName\n"
+)
+
+func packed(tile []byte) []byte {
+	var out bytes.Buffer
+	writer := gzip.NewWriter(&out)
+	writer.Write(tile)
+	writer.Close()
+	return out.Bytes()
+}
+
+// answers are what a tile server gives: a body, and how it says that it is packed.
+var answers = map[string]struct {
+	body     []byte
+	encoding string
+}{
+	"/good":           {good, ""},
+	"/packed":         {packed(good), "gzip"},
+	"/unnamed":        {packed(good), ""},
+	"/broken":         {broken, ""},
+	"/packed-broken":  {packed(broken), "gzip"},
+	"/unnamed-broken": {packed(broken), ""},
+	"/cut":            {packed(good)[:20], ""},
+	"/no-gzip":        {good, "gzip"},
+	"/brotli":         {good, "br"},
+	// An unknown field with so many bytes.
+	"/large": {packed(append([]byte{0x7a, 0x80, 0x80, 0x80, 0x20}, make([]byte, limit)...)), ""},
+}
+
+func serve(w http.ResponseWriter, r *http.Request) {
+	if answer, ok := answers[r.URL.Path]; ok {
+		if answer.encoding != "" {
+			w.Header().Set("Content-Encoding", answer.encoding)
+		}
+		w.Write(answer.body)
+		return
+	}
+	switch r.URL.Path {
+	case "/early":
+		w.Header().Set("Content-Length", "100")
+		w.Write(good)
+	case "/none":
+		w.WriteHeader(http.StatusNoContent)
+	case "/asked":
+		w.WriteHeader(http.StatusAccepted)
+		io.WriteString(w, r.Header.Get("Accept-Encoding")+r.Header.Get("Range")+" "+r.Host+" "+r.Header.Get("X-Forwarded-Host"))
+	default:
+		http.NotFound(w, r)
+	}
+}
+
+// guarded is the address of a guard, and of the server behind it.
+func guarded(t *testing.T) (string, *url.URL) {
+	upstream := httptest.NewServer(http.HandlerFunc(serve))
+	t.Cleanup(upstream.Close)
+	address, err := url.Parse(upstream.URL)
+	if err != nil {
+		t.Fatal(err)
+	}
+	server := httptest.NewServer(New(address))
+	t.Cleanup(server.Close)
+	return server.URL, address
+}
+
+// ask gives the status, the header and the body of an answer.
+func ask(t *testing.T, method, address string, header http.Header) (int, http.Header, string) {
+	t.Helper()
+	request, err := http.NewRequest(method, address, nil)
+	if err != nil {
+		t.Fatal(err)
+	}
+	for name, values := range header {
+		request.Header[name] = values
+	}
+	client := &http.Client{Transport: &http.Transport{DisableCompression: true}}
+	response, err := client.Do(request)
+	if err != nil {
+		t.Fatal(err)
+	}
+	defer response.Body.Close()
+	body, err := io.ReadAll(response.Body)
+	if err != nil {
+		t.Fatal(err)
+	}
+	return response.StatusCode, response.Header, string(body)
+}
+
+func TestGuard(t *testing.T) {
+	server, _ := guarded(t)
+	for path, wanted := range map[string]struct {
+		status int
+		body   string
+	}{
+		"/good":           {200, string(good)},
+		"/packed":         {200, string(packed(good))},
+		"/unnamed":        {200, string(packed(good))},
+		"/broken":         {502, fault},
+		"/packed-broken":  {502, fault},
+		"/unnamed-broken": {502, fault},
+		"/cut":            {502, "the tile server's gzip doesn't unpack: unexpected EOF\n"},
+		"/no-gzip":        {502, "the tile server's gzip doesn't unpack: "},
+		"/brotli":         {502, "the tile server's answer is packed by \"br\"\n"},
+		"/early":          {502, "the tile server's answer ends early\n"},
+		"/large":          {502, "layer - feature - at 0: 25 TooLarge\n"},
+		"/none":           {204, ""},
+		"/other":          {404, "404 page not found\n"},
+	} {
+		path, wanted := path, wanted
+		t.Run(path, func(t *testing.T) {
+			t.Parallel()
+			status, header, body := ask(t, "GET", server+path, nil)
+			if status != wanted.status || !strings.HasPrefix(body, wanted.body) {
+				t.Errorf("%d %q", status, body)
+			}
+			if named := header.Get("Content-Encoding"); (path == "/packed") != (named == "gzip") {
+				t.Errorf("packed by %q", named)
+			}
+		})
+	}
+}
+
+func TestAnswersWithoutABody(t *testing.T) {
+	server, _ := guarded(t)
+	for _, path := range []string{"/packed", "/good"} {
+		if status, _, body := ask(t, "HEAD", server+path, nil); status != 200 || body != "" {
+			t.Errorf("%s: %d %q", path, status, body)
+		}
+	}
+}
+
+func TestWhatTheServerIsAsked(t *testing.T) {
+	server, upstream := guarded(t)
+	for accepted, wanted := range map[string]string{
+		"":                      "identity",
+		"gzip, deflate, br":     "gzip",
+		"br;q=1.0, GZIP;q=0.05": "gzip",
+		"gzip;q=0":              "identity",
+		"gzip; q=0.0, br":       "identity",
+	} {
+		header := http.Header{"Range": {"bytes=0-3"}, "Accept-Encoding": {accepted}}
+		wanted += " " + upstream.Host + " " + strings.TrimPrefix(server, "http://")
+		if _, _, body := ask(t, "GET", server+"/asked", header); body != wanted {
+			t.Errorf("%q: the server is asked for %q", accepted, body)
+		}
+	}
+}
+
+func TestAServerThatIsNotThere(t *testing.T) {
+	server := httptest.NewServer(New(&url.URL{Scheme: "http", Host: "127.0.0.1:1"}))
+	defer server.Close()
+	if status, _, body := ask(t, "GET", server.URL, nil); status != 502 || body != "the tile server gives no answer\n" {
+		t.Errorf("%d %q", status, body)
+	}
+}

@@ -1,0 +1,141 @@
+// Package mvt reads, judges and writes Mapbox Vector Tiles, by the proved library libmvt.
+//
+//	tile, err := mvt.Read(bytes)
+//	var refused *mvt.Refused
+//	if errors.As(err, &refused) {
+//		log.Fatal(refused.Explanation)
+//	}
+//	defer tile.Close()
+//	for _, layer := range tile.Layers() {
+//		fmt.Println(layer.Name(), len(layer.Features()))
+//	}
+//
+// Each call takes the bytes of one uncompressed tile. Where they break a rule the error is a *Refused, and where memory runs
+// out ErrMemory; others are told with the call. Layers of another version than 2 are carried as their bytes. Any number of
+// goroutines may call at a time, and may look at one tile.
+package mvt
+
+/*
+#cgo pkg-config: mvt
+#include <mvt.h>
+#include <stdlib.h>
+*/
+import "C"
+
+import "unsafe"
+
+// Judge says whether the bytes are a tile: nil where they are. Nothing is made of them, so it is the fastest way to know.
+func Judge(tile []byte) error {
+	var fault C.mvt_fault
+	return errorOf(C.mvt_judge(start(tile), C.size_t(len(tile)), &fault), tile, &fault)
+}
+
+// Rewrite gives the canonical bytes of a tile: equal tiles have equal bytes. The error may be ErrTooLarge.
+func Rewrite(tile []byte) ([]byte, error) {
+	var out C.mvt_bytes
+	var fault C.mvt_fault
+	return made(C.mvt_rewrite(start(tile), C.size_t(len(tile)), &out, &fault), tile, &out, &fault)
+}
+
+// Extract gives the canonical bytes of the named layers of version 2, in the order of the tile. A name that stands twice
+// counts once, and no name at all gives a tile without layers. The error is a *NoLayer with the first name that no layer has,
+// such as one that isn't UTF-8, and may be ErrTooLarge.
+func Extract(tile []byte, names ...string) ([]byte, error) {
+	var out C.mvt_bytes
+	var fault C.mvt_fault
+	wanted := make([]C.mvt_bytes, len(names)+1)
+	for i, name := range names {
+		// C may not be lent a list of Go that has pointers of Go in it.
+		held := C.CBytes([]byte(name))
+		defer C.free(held)
+		wanted[i] = C.mvt_bytes{(*C.uint8_t)(held), C.size_t(len(name))}
+	}
+	status := C.mvt_extract(start(tile), C.size_t(len(tile)), &wanted[0], C.size_t(len(names)), &out, &fault)
+	if status == C.MVT_NO_LAYER || status == C.MVT_BAD_NAME {
+		return nil, missing(tile, names)
+	}
+	return made(status, tile, &out, &fault)
+}
+
+// missing is the first of the names that no layer of a tile has, as an error. The library says that there is one, and not
+// which.
+func missing(tile []byte, names []string) error {
+	read, err := Read(tile)
+	if err != nil {
+		return err
+	}
+	defer read.Close()
+	there := map[string]bool{}
+	for _, layer := range read.Layers() {
+		if layer.Version() == 2 {
+			there[layer.Name()] = true
+		}
+	}
+	for _, name := range names {
+		if !there[name] {
+			return &NoLayer{name}
+		}
+	}
+	return ErrMemory
+}
+
+// ToJSON shows a tile as JSON, in one line without a line end, as `mvt show` does. A text that many features share stands in it
+// for each.
+func ToJSON(tile []byte) (string, error) {
+	var out C.mvt_bytes
+	var fault C.mvt_fault
+	text, err := made(C.mvt_json(start(tile), C.size_t(len(tile)), &out, &fault), tile, &out, &fault)
+	return string(text), err
+}
+
+// ToSVG draws a tile as a picture in SVG, as `mvt draw` does.
+func ToSVG(tile []byte) (string, error) {
+	var out C.mvt_bytes
+	var fault C.mvt_fault
+	text, err := made(C.mvt_svg(start(tile), C.size_t(len(tile)), &out, &fault), tile, &out, &fault)
+	return string(text), err
+}
+
+// Report says what `mvt check` says of a tile: a line with the counts of its layers and features and whether its bytes are
+// canonical, and a line for each note.
+func Report(tile []byte) (string, error) {
+	var out C.mvt_bytes
+	var fault C.mvt_fault
+	text, err := made(C.mvt_report(start(tile), C.size_t(len(tile)), &out, &fault), tile, &out, &fault)
+	return string(text), err
+}
+
+// Version is the version of the library.
+func Version() string {
+	return C.GoString(C.mvt_version())
+}
+
+// made copies what a call put into out, and gives that back, or says what its status means.
+func made(status C.mvt_status, tile []byte, out *C.mvt_bytes, fault *C.mvt_fault) ([]byte, error) {
+	if err := errorOf(status, tile, fault); err != nil {
+		return nil, err
+	}
+	defer C.mvt_bytes_free(out)
+	return append(make([]byte, 0, out.len), view(out.data, out.len)...), nil
+}
+
+// start is where bytes begin; of none there is no such place.
+func start(bytes []byte) *C.uint8_t {
+	if len(bytes) == 0 {
+		return nil
+	}
+	return (*C.uint8_t)(&bytes[0])
+}
+
+// lent is a text for the time of a call.
+func lent(text string) C.mvt_bytes {
+	return C.mvt_bytes{start([]byte(text)), C.size_t(len(text))}
+}
+
+// view is bytes of C, which stay there. Where there are none the pointer isn't followed.
+func view(data *C.uint8_t, len C.size_t) []byte {
+	if len == 0 {
+		return nil
+	}
+	return unsafe.Slice((*byte)(data), len)
+}

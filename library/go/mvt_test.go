@@ -1,0 +1,328 @@
+package mvt_test
+
+import (
+	"bytes"
+	"errors"
+	"fmt"
+	"io"
+	"os"
+	"os/exec"
+	"path/filepath"
+	"reflect"
+	"runtime"
+	"strconv"
+	"strings"
+	"sync"
+	"testing"
+	"testing/iotest"
+	"time"
+
+	"huranvi.example/mvt"
+)
+
+// The environment names the program (MVT) and the folder of the example tiles, broken ones included (MVT_TILES).
+func tiles(t *testing.T) map[string][]byte {
+	t.Helper()
+	paths, err := filepath.Glob(filepath.Join(os.Getenv("MVT_TILES"), "*.mvt"))
+	if err != nil || len(paths) < 30 {
+		t.Fatalf("MVT_TILES names the folder of the example tiles: %d found, %v", len(paths), err)
+	}
+	found := map[string][]byte{}
+	for _, path := range paths {
+		if found[path], err = os.ReadFile(path); err != nil {
+			t.Fatal(err)
+		}
+	}
+	return found
+}
+
+// told is what the program says of a tile: its output, its errors and its status.
+func told(t *testing.T, tile []byte, words ...string) (string, string, int) {
+	t.Helper()
+	var out, why strings.Builder
+	run := exec.Command(os.Getenv("MVT"), words...)
+	run.Stdin, run.Stdout, run.Stderr = bytes.NewReader(tile), &out, &why
+	err := run.Run()
+	var ended *exec.ExitError
+	if err != nil && !errors.As(err, &ended) {
+		t.Fatal(err)
+	}
+	return out.String(), why.String(), run.ProcessState.ExitCode()
+}
+
+func must[T any](t *testing.T, err error, value T) T {
+	t.Helper()
+	if err != nil {
+		t.Fatal(err)
+	}
+	return value
+}
+
+func same(t *testing.T, name string, got, wanted any) {
+	t.Helper()
+	if !reflect.DeepEqual(got, wanted) {
+		t.Fatalf("%s: %v, and not %v", name, got, wanted)
+	}
+}
+
+func TestEachTileIsAsTheProgramHasIt(t *testing.T) {
+	for path, tile := range tiles(t) {
+		if err := mvt.Judge(tile); err != nil {
+			refused(t, path, tile, err)
+		} else {
+			good(t, path, tile)
+		}
+	}
+}
+
+func good(t *testing.T, path string, tile []byte) {
+	t.Helper()
+	for command, call := range map[string]func([]byte) (string, error){"check": mvt.Report, "show": mvt.ToJSON, "draw": mvt.ToSVG} {
+		out, _, status := told(t, tile, command)
+		text, err := call(tile)
+		if command != "check" {
+			text += "\n"
+		}
+		same(t, path+" "+command, must(t, err, text), out)
+		same(t, path+" "+command, status, 0)
+	}
+	out, _, _ := told(t, tile, "rewrite")
+	canonical, err := mvt.Rewrite(tile)
+	same(t, path, string(must(t, err, canonical)), out)
+	read, err := mvt.Read(tile)
+	written, wrong := must(t, err, read).Write()
+	same(t, path, string(must(t, wrong, written)), out)
+	decoder, err := mvt.NewDecoder()
+	must(t, err, decoder)
+	for rest := tile; len(rest) > 0; {
+		count, err := decoder.Write(rest[:1+(len(rest)-1)%7])
+		rest = rest[must(t, err, count):]
+	}
+	decoded, err := decoder.Finish()
+	same(t, path, shown(must(t, err, decoded)), shown(read))
+	for _, layer := range read.Layers() {
+		if layer.Version() != 2 {
+			continue
+		}
+		alone, err := mvt.ReadLayer(tile, layer.Name())
+		written, wrong := must(t, err, alone).Write()
+		extracted, err := mvt.Extract(tile, layer.Name())
+		same(t, path, must(t, err, extracted), must(t, wrong, written))
+		out, _, _ := told(t, tile, "extract", layer.Name())
+		same(t, path, string(extracted), out)
+	}
+	read.Close()
+}
+
+func refused(t *testing.T, path string, tile []byte, err error) {
+	t.Helper()
+	_, why, status := told(t, tile, "check")
+	same(t, path, err.Error()+"\n", why)
+	same(t, path, status, 1)
+	var fault *mvt.Refused
+	if !errors.As(err, &fault) || fault.Explanation == "" {
+		t.Fatalf("%s: %v", path, err)
+	}
+	for _, call := range []func([]byte) (string, error){mvt.Report, mvt.ToJSON, mvt.ToSVG} {
+		_, other := call(tile)
+		same(t, path, other, err)
+	}
+	_, other := mvt.Read(tile)
+	same(t, path, other, err)
+	decoder, wrong := mvt.NewDecoder()
+	if _, told := io.Copy(must(t, wrong, decoder), iotest.HalfReader(bytes.NewReader(tile))); told != nil {
+		same(t, path, told.Error(), err.Error())
+	}
+	_, other = decoder.Finish()
+	same(t, path, other.Error(), err.Error())
+}
+
+// shown is all of a tile, in words.
+func shown(tile *mvt.Tile) string {
+	var out strings.Builder
+	for _, layer := range tile.Layers() {
+		fmt.Fprintln(&out, layer.Version(), layer.Name(), layer.Extent(), layer.Bytes())
+		for _, feature := range layer.Features() {
+			id, has := feature.ID()
+			fmt.Fprintln(&out, id, has, feature.Kind(), feature.Attributes(), feature.Parts(), feature.Integers())
+		}
+	}
+	return out.String()
+}
+
+func TestThePartsOfATile(t *testing.T) {
+	builder := mvt.NewBuilder()
+	builder.Layer("places", 512).Feature(mvt.Points).ID(7).Tag("name", "Mill Pond").Tag("depth", 3.5).Tag("deep", true)
+	builder.Tag("n", uint64(5)).Tag("i", -5).Tag("f", float32(0.5)).Tag("s", mvt.Sint(-1))
+	builder.Points(mvt.Point{25, 17}, mvt.Point{-1, 2})
+	builder.Layer("water", 4096).Feature(mvt.Polygons).Ring(true).Points(mvt.Point{0, 0}, mvt.Point{10, 0}, mvt.Point{0, 10})
+	builder.Feature(mvt.Unknown).Integers(7, 9)
+	builder.Foreign(1, []byte{0x78, 0x01})
+	made, err := builder.Finish()
+	tile, wrong := mvt.Read(must(t, err, made))
+	layers := must(t, wrong, tile).Layers()
+	same(t, "layers", len(layers), 3)
+	same(t, "extent", layers[0].Extent(), uint32(512))
+	place := layers[0].Features()[0]
+	id, has := place.ID()
+	same(t, "id", []any{id, has, place.Kind()}, []any{uint64(7), true, mvt.Points})
+	wanted := []mvt.Attribute{{"name", "Mill Pond"}, {"depth", 3.5}, {"deep", true}, {"n", uint64(5)}, {"i", int64(-5)}}
+	wanted = append(wanted, mvt.Attribute{"f", float32(0.5)}, mvt.Attribute{"s", mvt.Sint(-1)})
+	same(t, "attributes", place.Attributes(), wanted)
+	same(t, "parts", place.Parts(), []mvt.Part{{Points: []mvt.Point{{25, 17}, {-1, 2}}}})
+	water, there := tile.Layer("water")
+	same(t, "water", there, true)
+	same(t, "ring", water.Features()[0].Parts()[0].Exterior, true)
+	same(t, "integers", water.Features()[1].Integers(), []uint32{7, 9})
+	same(t, "bytes", layers[2].Bytes(), []byte{0x78, 0x01})
+}
+
+func TestWhatGoesWrongIsTold(t *testing.T) {
+	builder := mvt.NewBuilder()
+	builder.Layer("a", 4096).Feature(mvt.Lines).Line().Points(mvt.Point{1, 1})
+	_, err := builder.Finish()
+	var told *mvt.NoTile
+	if !errors.As(err, &told) || told.Layer != 0 || told.Feature != 0 || told.Cause != 17 {
+		t.Fatal(err)
+	}
+	_, err = builder.Points(mvt.Point{}).Finish()
+	same(t, "turn", err, mvt.ErrOutOfTurn)
+	_, err = builder.Layer("a", 1).Feature(mvt.Points).Tag("a", []int{}).Finish()
+	same(t, "type", err.Error(), "a value of type []int has no kind in a tile")
+	empty := []byte{0x1a, 7, 0x78, 2, 0x0a, 1, 'a', 0x28, 1}
+	made, err := builder.Layer("a", 1).Finish()
+	same(t, "empty", must(t, err, made), empty)
+	_, err = mvt.Extract(empty, "a", "b", "c")
+	same(t, "layer", err, error(&mvt.NoLayer{"b"}))
+	_, err = mvt.Extract(empty, "a", "\xff")
+	same(t, "no text", err, error(&mvt.NoLayer{"\xff"}))
+	_, err = mvt.ReadWithin(empty, 3)
+	same(t, "memory", err, mvt.ErrMemory)
+	decoder, err := mvt.NewDecoder()
+	must(t, err, decoder).Close()
+	_, err = decoder.Finish()
+	same(t, "closed", err, mvt.ErrClosed)
+	count, err := decoder.ReadFrom(strings.NewReader("abc"))
+	same(t, "closed", []any{count, err}, []any{int64(3), mvt.ErrClosed})
+}
+
+func TestKeysAndValuesByTheirIndices(t *testing.T) {
+	builder := mvt.NewBuilder()
+	_, err := builder.Key("early")
+	same(t, "turn", err, mvt.ErrOutOfTurn)
+	builder.Finish()
+	builder.Layer("a", 4096)
+	indices := []uint32{}
+	for _, key := range []string{"one", "two", "one"} {
+		index, err := builder.Key(key)
+		indices = append(indices, must(t, err, index))
+	}
+	same(t, "keys", indices, []uint32{0, 1, 0})
+	index, err := builder.Value(true)
+	same(t, "value", must(t, err, index), uint32(0))
+	_, err = builder.Value(nil)
+	same(t, "no kind", err.Error(), "a value of type <nil> has no kind in a tile")
+	builder.Feature(mvt.Lines).TagAt(1, 0).Line().Point(1, 2).Point(3, 4)
+	made, err := builder.Finish()
+	tile, wrong := mvt.Read(must(t, err, made))
+	layer := must(t, wrong, tile).Layers()[0]
+	same(t, "keys", layer.Keys(), []string{"two"})
+	same(t, "values", layer.Values(), []any{true})
+	same(t, "tags", layer.Features()[0].Tags(), []uint32{0, 0})
+	same(t, "line", layer.Features()[0].Parts(), []mvt.Part{{Points: []mvt.Point{{1, 2}, {3, 4}}}})
+}
+
+type name string
+
+func TestValuesOfOtherTypes(t *testing.T) {
+	builder := mvt.NewBuilder()
+	builder.Layer("a", 1).Feature(mvt.Points).Points(mvt.Point{})
+	builder.Tag("text", name("x")).Tag("small", int8(-1)).Tag("byte", byte(255)).Tag("time", time.Second)
+	made, err := builder.Finish()
+	tile, wrong := mvt.Read(must(t, err, made))
+	layer, _ := must(t, wrong, tile).Layer("a")
+	wanted := []mvt.Attribute{{"text", "x"}, {"small", int64(-1)}, {"byte", uint64(255)}, {"time", int64(1e9)}}
+	same(t, "attributes", layer.Features()[0].Attributes(), wanted)
+	for _, value := range []any{nil, []byte("x"), complex(1, 2), &made} {
+		_, err = builder.Layer("a", 1).Feature(mvt.Points).Points(mvt.Point{}).Tag("k", value).Finish()
+		same(t, "no kind", err.Error(), fmt.Sprintf("a value of type %T has no kind in a tile", value))
+	}
+}
+
+func TestADecoderKnowsWhatLooksCompressed(t *testing.T) {
+	decoder, err := mvt.NewDecoder()
+	must(t, err, decoder).ReadFrom(strings.NewReader("\x1f\x8b\x08\x00"))
+	_, err = decoder.Finish()
+	var fault *mvt.Refused
+	if !errors.As(err, &fault) || !strings.Contains(fault.Explanation, "gzip") {
+		t.Fatal(err)
+	}
+}
+
+func TestAReaderThatFails(t *testing.T) {
+	decoder, err := mvt.NewDecoder()
+	defer must(t, err, decoder).Close()
+	count, err := decoder.ReadFrom(iotest.TimeoutReader(iotest.OneByteReader(strings.NewReader("\x1a\x05"))))
+	same(t, "reading", []any{count, err}, []any{int64(1), iotest.ErrTimeout})
+}
+
+// Tiles that nobody closes are given back by the collector, while others are looked at.
+func TestTilesThatAreNotClosed(t *testing.T) {
+	made, err := mvt.NewBuilder().Layer("a", 4096).Finish()
+	must(t, err, made)
+	for round := 0; round < 50; round++ {
+		for count := 0; count < 100; count++ {
+			tile, err := mvt.Read(made)
+			same(t, "name", must(t, err, tile).Layers()[0].Name(), "a")
+		}
+		runtime.GC()
+	}
+}
+
+// Tiles with changed bytes, read by several goroutines. MVT_CHANGED says how many there are.
+func TestChangedTilesFromSeveralGoroutines(t *testing.T) {
+	count, err := strconv.Atoi(os.Getenv("MVT_CHANGED"))
+	if err != nil {
+		count = 1000
+	}
+	var small [][]byte
+	for _, tile := range tiles(t) {
+		if len(tile) > 0 && len(tile) < 100_000 {
+			small = append(small, tile)
+		}
+	}
+	var all sync.WaitGroup
+	for first := 0; first < 4; first++ {
+		all.Add(1)
+		go func(first int) {
+			defer all.Done()
+			for number := first; number < count; number += 4 {
+				changed(t, small[number%len(small)], uint64(number))
+			}
+		}(first)
+	}
+	all.Wait()
+}
+
+func changed(t *testing.T, tile []byte, number uint64) {
+	broken := append([]byte(nil), tile...)
+	chance := number * 0x9e3779b97f4a7c15
+	broken[(chance>>16)%uint64(len(broken))] ^= byte(chance >> 8)
+	read, err := mvt.Read(broken)
+	if err != nil {
+		var fault *mvt.Refused
+		if !errors.As(err, &fault) {
+			t.Error(err)
+		}
+		return
+	}
+	written, err := read.Write()
+	if err != nil {
+		t.Error(err)
+		return
+	}
+	again, err := mvt.Read(written)
+	if err != nil || shown(again) != shown(read) {
+		t.Errorf("tile %d isn't read again as it was: %v", number, err)
+	}
+}

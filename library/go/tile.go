@@ -1,0 +1,133 @@
+package mvt
+
+/*
+#include <mvt.h>
+*/
+import "C"
+
+import (
+	"math"
+	"runtime"
+	"unsafe"
+)
+
+// Tile is a tile that was read. Its layers, features and points are read from rows that it owns. They are given back by
+// Close, or when the collector finds that nothing leads to the tile any more. That may be late, since it doesn't count what the
+// rows take: who reads many tiles closes each.
+type Tile struct {
+	rows C.mvt_tile
+}
+
+// Read reads a tile.
+func Read(tile []byte) (*Tile, error) {
+	return ReadWithin(tile, math.MaxUint64)
+}
+
+// ReadWithin reads a tile, unless its rows would have more than so many bytes: then the error is ErrMemory.
+func ReadWithin(tile []byte, most uint64) (*Tile, error) {
+	var rows C.mvt_tile
+	var fault C.mvt_fault
+	status := C.mvt_read_within(start(tile), C.size_t(len(tile)), C.uint64_t(most), &rows, &fault)
+	return adopted(status, tile, &rows, &fault)
+}
+
+// ReadLayer reads the first layer of version 2 of a name, as a tile that has it alone. It reads only as far as this layer:
+// later bytes may be broken. The error is a *NoLayer where there is none.
+func ReadLayer(tile []byte, name string) (*Tile, error) {
+	var rows C.mvt_tile
+	var fault C.mvt_fault
+	status := C.mvt_read_layer(start(tile), C.size_t(len(tile)), lent(name), &rows, &fault)
+	if status == C.MVT_NO_LAYER {
+		return nil, &NoLayer{name}
+	}
+	return adopted(status, tile, &rows, &fault)
+}
+
+func adopted(status C.mvt_status, tile []byte, rows *C.mvt_tile, fault *C.mvt_fault) (*Tile, error) {
+	if err := errorOf(status, tile, fault); err != nil {
+		return nil, err
+	}
+	held := &Tile{*rows}
+	runtime.SetFinalizer(held, (*Tile).Close)
+	return held, nil
+}
+
+// Close gives the rows back. The tile has no layers afterwards, and those that it handed out may not be asked any more.
+func (t *Tile) Close() error {
+	C.mvt_tile_free(&t.rows)
+	runtime.SetFinalizer(t, nil)
+	return nil
+}
+
+// Write gives the canonical bytes of a tile that was read. The error may be ErrTooLarge.
+func (t *Tile) Write() ([]byte, error) {
+	defer runtime.KeepAlive(t)
+	return written(&t.rows)
+}
+
+func written(rows *C.mvt_tile) ([]byte, error) {
+	var out C.mvt_bytes
+	status := C.mvt_write(rows, &out)
+	if status == C.MVT_NO_TILE {
+		return nil, noTile(rows)
+	}
+	return made(status, nil, &out, nil)
+}
+
+// Layers lists the layers, in order, those of other versions among them.
+func (t *Tile) Layers() []Layer {
+	defer runtime.KeepAlive(t)
+	layers := make([]Layer, 0, int(t.rows.layer_count))
+	for _, row := range rowsOf(t.rows.layers, t.rows.layer_count) {
+		layers = append(layers, Layer{t, row})
+	}
+	return layers
+}
+
+// Layer is the layer of version 2 of a name, and whether there is one.
+func (t *Tile) Layer(name string) (Layer, bool) {
+	for _, layer := range t.Layers() {
+		if layer.Version() == 2 && layer.Name() == name {
+			return layer, true
+		}
+	}
+	return Layer{}, false
+}
+
+func (t *Tile) text(span C.mvt_span) string {
+	defer runtime.KeepAlive(t)
+	return string(within(rowsOf((*byte)(t.rows.texts), t.rows.text_len), span))
+}
+
+func (t *Tile) value(row C.mvt_value) any {
+	bits := uint64(row.bits)
+	switch row.kind {
+	case C.MVT_FLOAT:
+		return math.Float32frombits(uint32(bits))
+	case C.MVT_DOUBLE:
+		return math.Float64frombits(bits)
+	case C.MVT_INT:
+		return int64(bits)
+	case C.MVT_UINT:
+		return bits
+	case C.MVT_SINT:
+		return Sint(bits)
+	case C.MVT_BOOL:
+		return bits == 1
+	default:
+		return t.text(row.text)
+	}
+}
+
+// rowsOf is a list of C, which stays there. Where it is empty the pointer isn't followed.
+func rowsOf[T any](data *T, count C.size_t) []T {
+	if count == 0 {
+		return nil
+	}
+	return unsafe.Slice(data, count)
+}
+
+// within is the part of a list that a span names.
+func within[T any](list []T, span C.mvt_span) []T {
+	return list[span.start : span.start+span.len]
+}

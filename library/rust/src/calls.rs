@@ -1,0 +1,277 @@
+//! The calls of one tile.
+
+use crate::error::error_of;
+use crate::output::lent;
+use crate::{sys, Bytes, Error, RowsFault, Tile};
+use std::collections::HashSet;
+use std::ffi::CStr;
+
+/// A fault that nothing was told of.
+pub(crate) fn no_fault() -> sys::Fault {
+    sys::Fault {
+        layer: -1,
+        feature: -1,
+        at: 0,
+        cause: 0,
+        name: no_bytes(),
+    }
+}
+
+pub(crate) fn no_bytes() -> sys::Bytes {
+    sys::Bytes {
+        data: std::ptr::null(),
+        len: 0,
+    }
+}
+
+/// What a call puts into `out`, or what its status means.
+fn made(
+    bytes: &[u8],
+    call: impl FnOnce(*mut sys::Bytes, *mut sys::Fault) -> u32,
+) -> Result<Bytes, Error> {
+    let (mut out, mut fault) = (no_bytes(), no_fault());
+    match call(&mut out, &mut fault) {
+        // SAFETY: the call filled the bytes, which nothing else gives back.
+        sys::OK => Ok(unsafe { Bytes::adopt(out) }),
+        // SAFETY: the fault is filled where the bytes are refused.
+        status => Err(unsafe { error_of(status, bytes, &fault) }),
+    }
+}
+
+/// Whether the bytes are a tile. Nothing is made of them, so this is the fastest way to know.
+///
+/// ```
+/// match mvt::judge(&[0x1a, 2, 0x78, 2]) {
+///     Err(mvt::Error::Refused(fault)) => {
+///         assert_eq!(fault.to_string(), "layer 0 feature - at 0: 10 NoName");
+///     }
+///     other => panic!("{other:?}"),
+/// }
+/// ```
+///
+/// # Errors
+///
+/// [`Error::Refused`], [`Error::OutOfMemory`].
+pub fn judge(bytes: &[u8]) -> Result<(), Error> {
+    let mut fault = no_fault();
+    // SAFETY: the bytes are lent for the call, and the fault has room.
+    match unsafe { sys::mvt_judge(bytes.as_ptr(), bytes.len(), &mut fault) } {
+        sys::OK => Ok(()),
+        // SAFETY: the fault is filled where the bytes are refused.
+        status => Err(unsafe { error_of(status, bytes, &fault) }),
+    }
+}
+
+/// A tile as rows, whose layers and features are views of them.
+///
+/// ```
+/// let bytes = [0x1a, 5, 0x78, 2, 0x0a, 1, b'a'];
+/// let tile = mvt::read(&bytes)?;
+/// assert_eq!(tile.layers().map(|layer| layer.name()).collect::<Vec<_>>(), ["a"]);
+/// # Ok::<(), mvt::Error>(())
+/// ```
+///
+/// # Errors
+///
+/// [`Error::Refused`], [`Error::OutOfMemory`].
+pub fn read(bytes: &[u8]) -> Result<Tile, Error> {
+    // SAFETY: the bytes are lent for the call, and the outputs have room.
+    Tile::made(bytes, |out, fault| unsafe {
+        sys::mvt_read(bytes.as_ptr(), bytes.len(), out, fault)
+    })
+}
+
+/// The same, unless its rows would have more than so many bytes.
+///
+/// # Errors
+///
+/// [`Error::Refused`], and [`Error::OutOfMemory`], also where the bound is reached.
+pub fn read_within(bytes: &[u8], most: u64) -> Result<Tile, Error> {
+    // SAFETY: as in `read`.
+    Tile::made(bytes, |out, fault| unsafe {
+        sys::mvt_read_within(bytes.as_ptr(), bytes.len(), most, out, fault)
+    })
+}
+
+/// The first layer of version 2 of this name, as a tile that has it alone. It reads only as far as this layer: later bytes
+/// may be broken.
+///
+/// # Errors
+///
+/// [`Error::Refused`], [`Error::NoLayer`], [`Error::OutOfMemory`].
+pub fn read_layer(bytes: &[u8], name: &str) -> Result<Tile, Error> {
+    let mut missed = false;
+    let told = Tile::made(bytes, |out, fault| {
+        // SAFETY: as in `read`; the name is lent for the call.
+        let status = unsafe {
+            sys::mvt_read_layer(
+                bytes.as_ptr(),
+                bytes.len(),
+                lent(name.as_bytes()),
+                out,
+                fault,
+            )
+        };
+        missed = status == sys::NO_LAYER;
+        status
+    });
+    if missed {
+        return Err(Error::NoLayer(name.into()));
+    }
+    told
+}
+
+/// The canonical bytes of a tile: equal tiles have equal bytes.
+///
+/// # Errors
+///
+/// [`Error::Refused`], [`Error::TooLarge`], [`Error::OutOfMemory`].
+pub fn rewrite(bytes: &[u8]) -> Result<Bytes, Error> {
+    // SAFETY: as in `read`.
+    made(bytes, |out, fault| unsafe {
+        sys::mvt_rewrite(bytes.as_ptr(), bytes.len(), out, fault)
+    })
+}
+
+/// The canonical bytes of the named layers of version 2, in the order of the tile. A name that stands twice counts once, and
+/// no name at all gives a tile without layers.
+///
+/// ```
+/// use mvt::Error;
+///
+/// let bytes = mvt::Builder::new().layer("a", 4096).layer("b", 4096).finish()?;
+/// assert_eq!(mvt::read(&mvt::extract(&bytes, &["b"])?)?.layers().len(), 1);
+/// assert_eq!(mvt::extract(&bytes, &["b", "c"]), Err(Error::NoLayer("c".into())));
+/// # Ok::<(), Error>(())
+/// ```
+///
+/// # Errors
+///
+/// [`Error::Refused`], [`Error::NoLayer`] with the first name that no layer has, [`Error::TooLarge`],
+/// [`Error::OutOfMemory`].
+pub fn extract(bytes: &[u8], names: &[&str]) -> Result<Bytes, Error> {
+    let wanted: Vec<sys::Bytes> = names.iter().map(|name| lent(name.as_bytes())).collect();
+    let mut is_missing = false;
+    let told = made(bytes, |out, fault| {
+        let (start, count) = (wanted.as_ptr(), wanted.len());
+        // SAFETY: as in `read`; the names are lent for the call.
+        let status =
+            unsafe { sys::mvt_extract(bytes.as_ptr(), bytes.len(), start, count, out, fault) };
+        is_missing = status == sys::NO_LAYER;
+        status
+    });
+    if is_missing {
+        return Err(missing(bytes, names));
+    }
+    told
+}
+
+/// The first of the names that no layer of a tile has. The library says that there is one, and not which.
+fn missing(bytes: &[u8], names: &[&str]) -> Error {
+    let tile = match read(bytes) {
+        Ok(tile) => tile,
+        Err(error) => return error,
+    };
+    let layers = tile.layers().filter(|layer| layer.version() == 2);
+    let there: HashSet<&str> = layers.map(|layer| layer.name()).collect();
+    match names.iter().find(|name| !there.contains(*name)) {
+        Some(name) => Error::NoLayer((*name).into()),
+        None => Error::OutOfMemory,
+    }
+}
+
+/// A tile as JSON, in one line without a line end, as `mvt show` has it. A text that many features share stands in it for each.
+///
+/// # Errors
+///
+/// [`Error::Refused`], [`Error::OutOfMemory`].
+pub fn to_json(bytes: &[u8]) -> Result<String, Error> {
+    // SAFETY: as in `read`.
+    let text = made(bytes, |out, fault| unsafe {
+        sys::mvt_json(bytes.as_ptr(), bytes.len(), out, fault)
+    })?;
+    Ok(text.into_text())
+}
+
+/// A picture of a tile in SVG, as `mvt draw` has it.
+///
+/// # Errors
+///
+/// [`Error::Refused`], [`Error::OutOfMemory`].
+pub fn to_svg(bytes: &[u8]) -> Result<String, Error> {
+    // SAFETY: as in `read`.
+    let text = made(bytes, |out, fault| unsafe {
+        sys::mvt_svg(bytes.as_ptr(), bytes.len(), out, fault)
+    })?;
+    Ok(text.into_text())
+}
+
+/// What `mvt check` says of a tile: a line with the counts of its layers and features and whether its bytes are canonical,
+/// and a line for each note.
+///
+/// # Errors
+///
+/// [`Error::Refused`], [`Error::OutOfMemory`].
+pub fn report(bytes: &[u8]) -> Result<String, Error> {
+    // SAFETY: as in `read`.
+    let text = made(bytes, |out, fault| unsafe {
+        sys::mvt_report(bytes.as_ptr(), bytes.len(), out, fault)
+    })?;
+    Ok(text.into_text())
+}
+
+/// The canonical bytes of a tile that was read.
+///
+/// # Errors
+///
+/// [`Error::TooLarge`], [`Error::OutOfMemory`].
+pub fn write(tile: &Tile) -> Result<Bytes, Error> {
+    // SAFETY: the rows live as long as the tile.
+    unsafe { written(tile.rows()) }
+}
+
+/// The canonical bytes of the tile that rows are.
+///
+/// # Safety
+/// The lists of the rows can be read.
+pub(crate) unsafe fn written(rows: &sys::Tile) -> Result<Bytes, Error> {
+    let mut out = no_bytes();
+    // SAFETY: by the condition of this function; the output has room.
+    match unsafe { sys::mvt_write(rows, &mut out) } {
+        // SAFETY: the call filled the bytes, which nothing else gives back.
+        sys::OK => Ok(unsafe { Bytes::adopt(out) }),
+        // SAFETY: by the condition of this function.
+        sys::NO_TILE => Err(unsafe { why_no_tile(rows) }),
+        // SAFETY: the status isn't that of a fault.
+        status => Err(unsafe { error_of(status, &[], &no_fault()) }),
+    }
+}
+
+/// What is wrong with rows that are no valid tile.
+///
+/// # Safety
+/// The lists of the rows can be read.
+unsafe fn why_no_tile(rows: &sys::Tile) -> Error {
+    let mut fault = sys::RowsFault {
+        layer: 0,
+        feature: 0,
+        has_feature: 0,
+        cause: 0,
+    };
+    // SAFETY: by the condition of this function; the fault has room.
+    match unsafe { sys::mvt_judge_rows(rows, &mut fault) } {
+        sys::NO_TILE => Error::NoTile(RowsFault {
+            layer: fault.layer,
+            feature: (fault.has_feature == 1).then_some(fault.feature),
+            cause: fault.cause,
+        }),
+        _ => Error::OutOfMemory,
+    }
+}
+
+/// The version of the library.
+pub fn version() -> &'static str {
+    // SAFETY: the text lasts for good and ends with a zero.
+    let text = unsafe { CStr::from_ptr(sys::mvt_version()) };
+    text.to_str().unwrap_or_default()
+}

@@ -1,0 +1,68 @@
+//! What an attribute has.
+
+use crate::{sys, Tile};
+use std::fmt;
+
+/// A value of an attribute.
+#[derive(Clone, Copy, Debug, PartialEq)]
+pub enum Value<'t> {
+    /// A text.
+    Text(&'t str),
+    /// A number of single precision.
+    Float(f32),
+    /// A number of double precision.
+    Double(f64),
+    /// An integer, as `int_value`.
+    Int(i64),
+    /// An integer without a sign.
+    Uint(u64),
+    /// An integer, as `sint_value`.
+    Sint(i64),
+    /// True or false.
+    Bool(bool),
+}
+
+impl<'t> Value<'t> {
+    pub(crate) fn of(tile: &'t Tile, row: &sys::Value) -> Self {
+        match row.kind {
+            sys::FLOAT => Value::Float(f32::from_bits(row.bits as u32)),
+            sys::DOUBLE => Value::Double(f64::from_bits(row.bits)),
+            sys::INT => Value::Int(row.bits as i64),
+            sys::UINT => Value::Uint(row.bits),
+            sys::SINT => Value::Sint(row.bits as i64),
+            sys::BOOL => Value::Bool(row.bits == 1),
+            _ => Value::Text(tile.text(row.text)),
+        }
+    }
+}
+
+impl fmt::Display for Value<'_> {
+    fn fmt(&self, f: &mut fmt::Formatter<'_>) -> fmt::Result {
+        match self {
+            Value::Text(text) => f.write_str(text),
+            Value::Float(number) => number.fmt(f),
+            Value::Double(number) => number.fmt(f),
+            Value::Int(number) | Value::Sint(number) => number.fmt(f),
+            Value::Uint(number) => number.fmt(f),
+            Value::Bool(truth) => truth.fmt(f),
+        }
+    }
+}
+
+macro_rules! value_from {
+    ($($kind:ident: $given:ty),*) => {$(
+        impl From<$given> for Value<'_> {
+            fn from(given: $given) -> Self {
+                Value::$kind(given.into())
+            }
+        }
+    )*};
+}
+
+value_from!(Float: f32, Double: f64, Int: i64, Int: i32, Uint: u64, Uint: u32, Bool: bool);
+
+impl<'t> From<&'t str> for Value<'t> {
+    fn from(text: &'t str) -> Self {
+        Value::Text(text)
+    }
+}

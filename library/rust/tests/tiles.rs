@@ -1,0 +1,271 @@
+//! Each example tile, whole or broken, has what the program `mvt` says of it. The environment names the program (MVT) and
+//! the folder of the tiles (MVT_TILES).
+
+use mvt::{Builder, Error, Kind, Point, Value};
+use std::ffi::OsStr;
+use std::path::PathBuf;
+use std::process::{Command, Output, Stdio};
+use std::{env, fs, io, thread};
+
+fn tiles() -> Vec<(String, Vec<u8>)> {
+    let folder = env::var("MVT_TILES").expect("MVT_TILES names the folder of the example tiles");
+    let mut paths: Vec<PathBuf> = fs::read_dir(folder)
+        .unwrap()
+        .map(|entry| entry.unwrap().path())
+        .filter(|path| path.extension() == Some(OsStr::new("mvt")))
+        .collect();
+    paths.sort();
+    assert!(paths.len() > 30, "the example tiles, broken ones included");
+    paths
+        .into_iter()
+        .map(|path| (path.display().to_string(), fs::read(path).unwrap()))
+        .collect()
+}
+
+/// What the program says of a file.
+fn told(words: &[&str], path: &str) -> Output {
+    let program = env::var("MVT").expect("MVT names the program");
+    let input = Stdio::from(fs::File::open(path).unwrap());
+    Command::new(program)
+        .args(words)
+        .stdin(input)
+        .output()
+        .unwrap()
+}
+
+#[test]
+fn each_tile_is_as_the_program_has_it() {
+    for (path, bytes) in tiles() {
+        let check = told(&["check"], &path);
+        match mvt::judge(&bytes) {
+            Ok(()) => good(&path, &bytes, &check),
+            Err(error) => refused(&path, &bytes, &check, &error),
+        }
+    }
+}
+
+fn good(path: &str, bytes: &[u8], check: &Output) {
+    assert_eq!(check.status.code(), Some(0), "{path}");
+    assert_eq!(
+        mvt::report(bytes).unwrap().as_bytes(),
+        check.stdout,
+        "{path}"
+    );
+    let json = mvt::to_json(bytes).unwrap() + "\n";
+    assert_eq!(json.as_bytes(), told(&["show"], path).stdout, "{path}");
+    let svg = mvt::to_svg(bytes).unwrap() + "\n";
+    assert_eq!(svg.as_bytes(), told(&["draw"], path).stdout, "{path}");
+    let canonical = told(&["rewrite"], path).stdout;
+    assert_eq!(*mvt::rewrite(bytes).unwrap(), canonical, "{path}");
+    let tile = mvt::read(bytes).unwrap();
+    assert_eq!(*mvt::write(&tile).unwrap(), canonical, "{path}");
+    let mut decoder = mvt::Decoder::new().unwrap();
+    for piece in bytes.chunks(7) {
+        decoder.feed(piece).unwrap();
+    }
+    assert_eq!(
+        *mvt::write(&decoder.finish().unwrap()).unwrap(),
+        canonical,
+        "{path}"
+    );
+    for layer in tile.layers().filter(|layer| layer.version() == 2) {
+        let alone = mvt::read_layer(bytes, layer.name()).unwrap();
+        assert_eq!(
+            format!("{:?}", alone.layers().next().unwrap()),
+            format!("{layer:?}"),
+            "{path}"
+        );
+        let extracted = mvt::extract(bytes, &[layer.name()]).unwrap();
+        assert_eq!(extracted, mvt::write(&alone).unwrap(), "{path}");
+        let words = ["extract", layer.name()];
+        assert_eq!(*extracted, told(&words, path).stdout, "{path}");
+    }
+}
+
+fn refused(path: &str, bytes: &[u8], check: &Output, error: &Error) {
+    assert_eq!(check.status.code(), Some(1), "{path}");
+    assert_eq!(format!("{error}\n").as_bytes(), check.stderr, "{path}");
+    match error {
+        Error::Refused(fault) => assert!(!fault.explanation.is_empty(), "{path}"),
+        other => panic!("{path}: {other}"),
+    }
+    for other in [
+        mvt::read(bytes).map(drop),
+        mvt::rewrite(bytes).map(drop),
+        mvt::to_json(bytes).map(drop),
+        mvt::extract(bytes, &[]).map(drop),
+    ] {
+        assert_eq!(other.unwrap_err(), *error, "{path}");
+    }
+    let mut decoder = mvt::Decoder::new().unwrap();
+    let told = io::copy(&mut &bytes[..], &mut decoder).map_err(|error| error.to_string());
+    let last = decoder.finish().unwrap_err();
+    assert_eq!(last.to_string(), error.to_string(), "{path}");
+    assert!(told.is_ok() || told == Err(error.to_string()), "{path}");
+}
+
+/// A tile of three layers: a feature with each kind of value, a ring and integers, and bytes of version 1.
+fn made() -> mvt::Bytes {
+    let mut builder = Builder::new();
+    builder.layer("places", 512).feature(Kind::Points).id(7);
+    builder.tag("name", "Mill Pond").tag("depth", 3.5);
+    builder.tag("deep", true).tag("n", 5_u64).tag("i", -5_i64);
+    builder.tag("f", 0.5_f32).tag("s", Value::Sint(-1));
+    builder.points(&[Point::new(25, 17), Point::new(-1, 2)]);
+    builder.layer("water", 4096);
+    builder.feature(Kind::Polygons).ring(true);
+    builder.points(&[Point::new(0, 0), Point::new(10, 0), Point::new(0, 10)]);
+    builder.feature(Kind::Unknown).integers(&[7, 9]);
+    builder.foreign(1, &[0x78, 0x01]);
+    builder.finish().unwrap()
+}
+
+#[test]
+fn layers_and_attributes() {
+    let bytes = made();
+    let tile = mvt::read(&bytes).unwrap();
+    let told = tile.layers();
+    let names: Vec<_> = told
+        .map(|layer| (layer.version(), layer.name(), layer.extent()))
+        .collect();
+    assert_eq!(names, [(2, "places", 512), (2, "water", 4096), (1, "", 0)]);
+    assert_eq!(tile.layers().last().unwrap().bytes(), [0x78, 0x01]);
+    let place = tile.layer("places").unwrap().features().next().unwrap();
+    assert_eq!((place.id(), place.kind()), (Some(7), Kind::Points));
+    let wanted = [
+        ("name", Value::Text("Mill Pond")),
+        ("depth", Value::Double(3.5)),
+        ("deep", Value::Bool(true)),
+        ("n", Value::Uint(5)),
+        ("i", Value::Int(-5)),
+        ("f", Value::Float(0.5)),
+        ("s", Value::Sint(-1)),
+    ];
+    assert_eq!(place.attributes().collect::<Vec<_>>(), wanted);
+    assert_eq!(place.attribute("n"), Some(Value::Uint(5)));
+    assert_eq!(place.attribute("none"), None);
+    assert_eq!(mvt::write(&tile).unwrap(), bytes);
+}
+
+#[test]
+fn geometries() {
+    let tile = mvt::read(&made()).unwrap();
+    let place = tile.layer("places").unwrap().features().next().unwrap();
+    let points = place.parts().next().unwrap().points;
+    assert_eq!(points, [Point::new(25, 17), Point::new(-1, 2)]);
+    let water: Vec<_> = tile.layer("water").unwrap().features().collect();
+    assert!(water[0].parts().next().unwrap().is_exterior);
+    assert_eq!(water[1].kind(), Kind::Unknown);
+    assert_eq!(water[1].integers(), [7, 9]);
+}
+
+#[test]
+fn keys_and_values_by_their_indices() {
+    let mut builder = Builder::new();
+    assert_eq!(builder.key("early"), Err(Error::OutOfTurn));
+    builder.finish().unwrap_err();
+    builder.layer("a", 4096);
+    let keys = ["one", "two", "one"].map(|key| builder.key(key).unwrap());
+    assert_eq!(keys, [0, 1, 0]);
+    assert_eq!(builder.value(true), Ok(0));
+    builder.feature(Kind::Lines).tag_at(1, 0).line();
+    builder.point(1, 2).point(3, 4);
+    let tile = mvt::read(&builder.finish().unwrap()).unwrap();
+    let layer = tile.layers().next().unwrap();
+    assert_eq!(layer.keys().collect::<Vec<_>>(), ["two"]);
+    assert_eq!(layer.values().collect::<Vec<_>>(), [Value::Bool(true)]);
+    assert_eq!(layer.features().next().unwrap().tags(), [0, 0]);
+}
+
+#[test]
+fn what_goes_wrong_is_told() {
+    let mut builder = Builder::new();
+    builder
+        .layer("a", 4096)
+        .feature(Kind::Lines)
+        .line()
+        .point(1, 1);
+    let told = builder.finish().unwrap_err();
+    match told {
+        Error::NoTile(fault) => {
+            assert_eq!((fault.layer, fault.feature, fault.cause), (0, Some(0), 17))
+        }
+        ref other => panic!("{other}"),
+    }
+    assert!(
+        told.to_string().starts_with("layer 0 feature 0: "),
+        "{told}"
+    );
+    builder.point(1, 1);
+    assert_eq!(builder.finish(), Err(Error::OutOfTurn));
+    assert_eq!(builder.layer("a", 1).key("k"), Ok(0));
+    let empty = [0x1a, 7, 0x78, 2, 0x0a, 1, b'a', 0x28, 1];
+    assert_eq!(*builder.finish().unwrap(), empty);
+    assert_eq!(
+        mvt::extract(&empty, &["a", "b", "c"]),
+        Err(Error::NoLayer("b".into()))
+    );
+    assert_eq!(
+        mvt::read_layer(&empty, "b").unwrap_err(),
+        Error::NoLayer("b".into())
+    );
+    assert_eq!(mvt::read_within(&empty, 3).unwrap_err(), Error::OutOfMemory);
+    assert_eq!(Error::OutOfMemory.to_string(), "out of memory");
+}
+
+#[test]
+fn all_can_go_to_other_threads() {
+    fn can<T: Send + Sync>() {}
+    can::<mvt::Tile>();
+    can::<mvt::Layer>();
+    can::<mvt::Feature>();
+    can::<mvt::Bytes>();
+    can::<mvt::Decoder>();
+    can::<mvt::Builder>();
+    can::<mvt::Error>();
+}
+
+#[test]
+fn a_decoder_knows_what_looks_compressed() {
+    let mut decoder = mvt::Decoder::new().unwrap();
+    let told = decoder.feed(&[0x1f, 0x8b, 8, 0]);
+    match told.and(decoder.finish().map(drop)) {
+        Err(Error::Refused(fault)) => assert!(fault.explanation.contains("gzip"), "{fault:?}"),
+        other => panic!("{other:?}"),
+    }
+}
+
+/// Tiles with changed bytes, read by several threads. MVT_CHANGED says how many there are.
+#[test]
+fn changed_tiles_from_several_threads() {
+    let count: u64 = env::var("MVT_CHANGED").map_or(1_000, |count| count.parse().unwrap());
+    let tiles: Vec<_> = tiles()
+        .into_iter()
+        .filter(|(_, tile)| !tile.is_empty() && tile.len() < 100_000)
+        .collect();
+    thread::scope(|scope| {
+        for first in 0..4 {
+            let tiles = &tiles;
+            scope.spawn(move || {
+                for number in (first..count).step_by(4) {
+                    changed(&tiles[number as usize % tiles.len()].1, number);
+                }
+            });
+        }
+    });
+}
+
+fn changed(tile: &[u8], number: u64) {
+    let mut bytes = tile.to_vec();
+    let chance = number.wrapping_mul(0x9e37_79b9_7f4a_7c15);
+    let at = (chance >> 16) as usize % bytes.len();
+    bytes[at] ^= (chance >> 8) as u8;
+    if let Ok(tile) = mvt::read(&bytes) {
+        let shown = format!("{tile:?}");
+        let canonical = mvt::write(&tile).unwrap();
+        assert_eq!(format!("{:?}", mvt::read(&canonical).unwrap()), shown);
+        assert_eq!(canonical, mvt::rewrite(&bytes).unwrap());
+    } else {
+        assert!(matches!(mvt::judge(&bytes), Err(Error::Refused(_))));
+    }
+}
