@@ -4,25 +4,9 @@ from typing import Any
 
 import numpy
 
+from ._layout import LISTS
 
-def _row(*fields: Any) -> "numpy.dtype[Any]":
-    return numpy.dtype(list(fields), align=True)
-
-
-_SPAN = _row(("start", "<u8"), ("len", "<u8"))
-_SPANS_OF_LAYER = ((name, _SPAN) for name in ("name", "features", "keys", "values", "bytes"))
-_SPANS_OF_FEATURE = ((name, _SPAN) for name in ("tags", "parts", "integers"))
-_DTYPES = {
-    "layers": _row(("version", "<u4"), ("extent", "<u4"), *_SPANS_OF_LAYER),
-    "features": _row(("id", "<u8"), ("has_id", "<u4"), ("kind", "<u4"), *_SPANS_OF_FEATURE),
-    "keys": _SPAN,
-    "values": _row(("kind", "<u4"), ("bits", "<u8"), ("text", _SPAN)),
-    "tags": numpy.dtype("<u4"),
-    "parts": _row(("exterior", "<u4"), ("points", _SPAN)),
-    "points": _row(("x", "<i4"), ("y", "<i4")),
-    "integers": numpy.dtype("<u4"),
-    "texts": numpy.dtype("u1"),
-}
+_DTYPES = {name: numpy.dtype(row) for name, row in LISTS.items()}
 
 
 def dtype(name: str) -> "numpy.dtype[Any]":
