@@ -1,0 +1,250 @@
+"""One connection: its requests one after another, each looked at before anything of it is done."""
+
+import json
+import re
+import secrets
+import select
+import socket
+import traceback
+from http.server import BaseHTTPRequestHandler
+from typing import TYPE_CHECKING, Any, Dict, List, NamedTuple, Optional, Sequence
+from urllib.parse import parse_qsl
+
+from ..audit.unpacking import LIMIT
+from . import calls, frames
+from .frames import Part
+from .guard import denial
+
+if TYPE_CHECKING:
+    from .server import Server
+
+# So long, in seconds, a head may take, and each piece of a body or an answer.
+PATIENCE = 30
+# The library has to see one byte more than a tile may have. Frames have room for lengths and names.
+MOST = LIMIT + 1
+MOST_FRAMED = MOST + (4 << 20)
+_PIECE = 1 << 20
+# So many bytes of a body are passed over behind an answer that doesn't want it.
+_PASSED_OVER = 1 << 20
+
+_PAGE, _BYTES, _JSON, _TEXT = "text/html; charset=utf-8", "application/octet-stream", "application/json", "text/plain; charset=utf-8"
+_ALWAYS = {
+    "Cache-Control": "no-store",
+    "Cross-Origin-Opener-Policy": "same-origin",
+    "Cross-Origin-Resource-Policy": "same-origin",
+    "Referrer-Policy": "no-referrer",
+    "X-Content-Type-Options": "nosniff",
+}
+# The page says its own policy; what isn't the page may do nothing at all.
+_OF_PAGE = "frame-ancestors 'none'"
+_OF_OTHERS = "default-src 'none'; frame-ancestors 'none'; sandbox"
+
+
+class Fault(Exception):
+    """A request that isn't done, with HTTP's status and a sentence."""
+
+    def __init__(self, status: int, told: str) -> None:
+        super().__init__(status, told)
+        self.status, self.told = status, told
+
+
+class Asked(NamedTuple):
+    """What stands behind the token: the path's words, and the words of the query."""
+
+    path: List[str]
+    query: Dict[str, str]
+
+
+class Handler(BaseHTTPRequestHandler):
+    protocol_version = "HTTP/1.1"
+    default_request_version = "HTTP/1.0"
+    timeout = PATIENCE
+    server: "Server"
+
+    def version_string(self) -> str:
+        return "mvt-page"
+
+    def log_message(self, format: str, *args: Any) -> None:
+        """Nothing is told of a request."""
+
+    def handle_one_request(self) -> None:
+        self.server.waits_for(self.connection)
+        super().handle_one_request()
+
+    def do_GET(self) -> None:
+        self._do(self._get)
+
+    do_HEAD = do_GET
+
+    def do_POST(self) -> None:
+        self._do(self._post)
+
+    def _do(self, method: Any) -> None:
+        self.server.has_asked(self.connection)
+        try:
+            method(self._asked())
+        except Fault as why:
+            self.send_error(why.status, why.told)
+        except (ConnectionError, socket.timeout, TimeoutError):
+            self.close_connection = True
+        except Exception:
+            traceback.print_exc()
+            self._fail()
+
+    def _fail(self) -> None:
+        """Tells of a defect, unless an answer is on its way already."""
+        if self._has_answered:
+            self.close_connection = True
+        else:
+            self.send_error(500, "The command mvt-page failed, which is a defect of it.")
+
+    # ---- what is asked, and by whom
+
+    def _asked(self) -> Asked:
+        """Raises Fault where it isn't this page that asks."""
+        path, _, query = self.path.partition("?")
+        head, token, *words = path.split("/") if path.count("/") > 1 else ["", "", ""]
+        is_page = self.command in ("GET", "HEAD") and words == [""]
+        why = denial(self.headers, self.server.server_port, is_page)
+        if why:
+            raise Fault(403, why)
+        if head or not _is_same(token, self.server.token):
+            raise Fault(404, "Nothing is here.")
+        return Asked(words, dict(parse_qsl(query)))
+
+    # ---- questions without a body
+
+    def _get(self, asked: Asked) -> None:
+        if self.headers.get("Transfer-Encoding") or self.headers.get("Content-Length", "0") != "0":
+            raise Fault(400, "This question has no body.")
+        if asked.path == [""]:
+            self._answer(_PAGE, [self.server.page], _OF_PAGE)
+        elif asked.path == ["given"]:
+            self._answer(_JSON, [json.dumps(self.server.given.told()).encode()])
+        elif asked.path[0] == "files":
+            self._answer(_BYTES, [self._file(asked.path[1:])])
+        else:
+            raise Fault(404, "Nothing is here.")
+
+    def _file(self, path: Sequence[str]) -> bytes:
+        numbers = _numbers(path, 1)
+        try:
+            return self.server.given.file(numbers[0])
+        except (IndexError, OSError) as why:
+            raise Fault(404, _reason(why)) from why
+
+    # ---- calls
+
+    def _post(self, asked: Asked) -> None:
+        name = asked.path[0]
+        if len(asked.path) != 1 or name not in calls.CALLS:
+            raise Fault(404, "There is no such call.")
+        length = self._length(MOST_FRAMED if name in calls.FRAMED else MOST)
+        with self.server.turn(self.connection):
+            try:
+                with calls.CALLS[name](self._body(length)) as pieces:
+                    self._answer(_BYTES, pieces)
+            except frames.FrameError as why:
+                raise Fault(400, f"The body isn't framed: {why}.") from why
+            except MemoryError as why:
+                self._without_memory(why)
+
+    def _length(self, most: int) -> int:
+        lengths: List[str] = self.headers.get_all("Content-Length", [])
+        if self.headers.get("Transfer-Encoding") is not None or len(lengths) != 1:
+            raise Fault(411, "A body has one Content-Length, and comes in one piece.")
+        if re.fullmatch("[0-9]{1,18}", lengths[0]) is None:
+            raise Fault(400, "This Content-Length is no number.")
+        if int(lengths[0]) > most:
+            raise Fault(413, f"A body has at most {most} bytes.")
+        return int(lengths[0])
+
+    def _body(self, length: int) -> bytearray:
+        """The whole body. Raises ConnectionAbortedError where it ends early, or nobody waits for the answer any more."""
+        body, at = bytearray(length), 0
+        with memoryview(body) as view:
+            while at < length:
+                count = self.rfile.readinto(view[at : at + _PIECE])  # type: ignore[attr-defined]
+                if not count:
+                    raise ConnectionAbortedError("the body ended early")
+                at += count
+        self._is_read = True
+        leave_if_gone(self.connection)
+        return body
+
+    def _without_memory(self, why: MemoryError) -> None:
+        """Tells that this process has no memory, unless an answer is on its way already."""
+        self.close_connection = True
+        if not self._has_answered:
+            raise Fault(503, "There is no memory for it.") from why
+
+    # ---- answers
+
+    _has_answered = False
+    _is_read = False
+
+    def parse_request(self) -> bool:
+        self._has_answered = self._is_read = False
+        return super().parse_request()
+
+    def _answer(self, kind: str, pieces: Sequence[Part], policy: str = _OF_OTHERS, status: int = 200) -> None:
+        self._has_answered = True
+        self.send_response(status)
+        for name, value in _ALWAYS.items():
+            self.send_header(name, value)
+        self.send_header("Content-Security-Policy", policy)
+        self.send_header("Content-Type", kind)
+        self.send_header("Content-Length", str(sum(map(len, pieces))))
+        if self.close_connection:
+            self.send_header("Connection", "close")
+        self.end_headers()
+        if self.command == "HEAD":
+            return
+        for piece in pieces:
+            for at in range(0, len(piece), _PIECE):
+                self.wfile.write(memoryview(piece)[at : at + _PIECE])
+
+    def send_error(self, code: int, message: Optional[str] = None, explain: Optional[str] = None) -> None:
+        """A fault in plain text. The connection ends, since a body may stand unread in it."""
+        status, told = (405, "There are GET, HEAD and POST.") if code == 501 else (code, message or self.responses[code][0])
+        self.close_connection = True
+        try:
+            self._answer(_TEXT, [f"{told}\n".encode("utf-8", "backslashreplace")], status=status)
+            self._pass_over()
+        except OSError:
+            pass  # nobody is there to be told
+
+    def _pass_over(self) -> None:
+        """Reads what is still on its way, so that the answer isn't lost with the connection."""
+        if self._is_read:
+            return
+        self.connection.shutdown(socket.SHUT_WR)
+        self.connection.settimeout(1)
+        passed = 0
+        while passed < _PASSED_OVER:
+            piece = self.connection.recv(65536)
+            if not piece:
+                return
+            passed += len(piece)
+
+
+def leave_if_gone(connection: Any) -> None:
+    """Raises ConnectionAbortedError where nobody waits for the answer any more."""
+    readable = select.select([connection], [], [], 0)[0]
+    if readable and connection.recv(1, socket.MSG_PEEK) == b"":
+        raise ConnectionAbortedError("the question was given up")
+
+
+def _is_same(told: str, token: str) -> bool:
+    return secrets.compare_digest(told.encode("utf-8", "surrogatepass"), token.encode())
+
+
+def _numbers(words: Sequence[str], count: int) -> List[int]:
+    """So many numbers of a path. Raises Fault where it has others, or fewer or more."""
+    if len(words) != count or not all(re.fullmatch("0|[1-9][0-9]{0,9}", word) for word in words):
+        raise Fault(404, "Nothing is here.")
+    return [int(word) for word in words]
+
+
+def _reason(why: Exception) -> str:
+    return (why.strerror if isinstance(why, OSError) else None) or "Nothing is here."

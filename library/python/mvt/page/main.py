@@ -1,0 +1,108 @@
+"""The command `mvt-page`."""
+
+import argparse
+import os
+import resource
+import signal
+import sys
+import threading
+from contextlib import ExitStack
+from pathlib import Path
+from typing import Optional, Sequence
+
+from . import launch
+from .given import Given, GivenError
+from .server import Server
+
+ENDED, USAGE, UNREAD = 0, 2, 3
+_PAGE = Path(__file__).with_name("page.html")
+
+
+def _parser() -> argparse.ArgumentParser:
+    words = argparse.ArgumentParser(
+        prog="mvt-page",
+        description="Shows tiles in the browser: a page that this machine alone can see, over the proved library.",
+        epilog="It runs until Ctrl-C. Status: 0 it was ended, 2 the words are no good or the port is taken, 3 something can't"
+        " be read.",
+    )
+    words.add_argument("what", nargs="*", metavar="WHAT", help="a file with a tile")
+    words.add_argument("--port", type=_port, default=0, metavar="N", help="the port; where nothing is said, one that is free")
+    words.add_argument("--no-browser", action="store_true", help="don't open a browser, and only say the address")
+    return words
+
+
+def _port(word: str) -> int:
+    if not word.isdecimal() or not 0 <= int(word) <= 65535:
+        raise argparse.ArgumentTypeError(f"{word!r} is no port, which is a number up to 65535")
+    return int(word)
+
+
+def _fail(line: str, status: int) -> int:
+    print(f"mvt-page: {line}", file=sys.stderr)
+    return status
+
+
+def _bound_memory() -> None:
+    """Takes half of the machine's memory at most: what wants more is told so, and the machine lives on. What threads only
+    reserve isn't counted."""
+    half = os.sysconf("SC_PAGE_SIZE") * os.sysconf("SC_PHYS_PAGES") // 2
+    soft, hard = resource.getrlimit(resource.RLIMIT_DATA)
+    if soft == resource.RLIM_INFINITY or soft > half:
+        resource.setrlimit(resource.RLIMIT_DATA, (half, hard))
+
+
+def _ended() -> threading.Event:
+    """What is set when somebody ends the command. A signal that was ignored before, as by nohup, still is."""
+    done = threading.Event()
+    for number in (signal.SIGINT, signal.SIGTERM, signal.SIGHUP):
+        if signal.getsignal(number) is not signal.SIG_IGN:
+            signal.signal(number, lambda *_: done.set())
+    return done
+
+
+def _say(server: Server) -> None:
+    print(f"The page is at {server.address}")
+    print("Only this machine can see it, and only who knows this address. It is there until Ctrl-C ends it.", flush=True)
+
+
+def _say_way(port: int) -> None:
+    """How to reach the page from a machine with a screen."""
+    host = os.environ.get("SSH_CONNECTION", "").split(" ")[2:3] or ["THIS-MACHINE"]
+    print("No browser was opened. From a machine that has one, go this way, and open the address there:")
+    print(f"    ssh -L {port}:127.0.0.1:{port} {os.environ.get('USER', 'YOU')}@{host[0]}", flush=True)
+
+
+def _serve(server: Server, wants_browser: bool) -> int:
+    done = _ended()
+    threading.Thread(target=server.serve_forever, args=(0.2,), daemon=True).start()
+    with ExitStack() as held:
+        _say(server)
+        is_open = False
+        if wants_browser and launch.has_screen():
+            is_open = launch.opened(held.enter_context(launch.leading_file(server.address)))
+        if wants_browser and not is_open:
+            _say_way(server.server_port)
+        done.wait()
+        server.shutdown()
+        server.server_close()
+    return ENDED
+
+
+def main(words: Optional[Sequence[str]] = None) -> int:
+    given = _parser().parse_args(words)
+    try:
+        page, what = _PAGE.read_bytes(), Given(given.what)
+    except GivenError as why:
+        return _fail(str(why), UNREAD)
+    except OSError as why:
+        return _fail(f"{_PAGE}: {why.strerror}; page/bundle.py makes it", UNREAD)
+    _bound_memory()
+    try:
+        server = Server(given.port, page, what)
+    except OSError as why:
+        return _fail(f"port {given.port}: {why.strerror}", USAGE)
+    return _serve(server, not given.no_browser)
+
+
+if __name__ == "__main__":
+    sys.exit(main())

@@ -1,0 +1,332 @@
+"""What the server answers to whom: its calls' spelling, requests that are no good, and how the command ends."""
+
+import os
+import random
+import signal
+import socket
+import stat
+import struct
+import subprocess
+import tempfile
+import time
+import unittest
+from pathlib import Path
+
+import mvt
+from serving import COMMAND, TILES, Serving, frames, parts_of
+
+GDAL = (TILES / "gdal.mvt").read_bytes()
+BROKEN = (TILES / "broken" / "22-FirstRing.mvt").read_bytes()
+
+
+class Served(unittest.TestCase):
+    """Tests that share a server."""
+
+    @classmethod
+    def setUpClass(cls):
+        cls.serving = Serving()
+        cls.serving.__enter__()
+
+    @classmethod
+    def tearDownClass(cls):
+        cls.serving.end()
+
+    def head(self, method="GET", path=None, **headers):
+        """The head of a request as a browser writes it, with some headers changed; None leaves one out."""
+        told = {"Host": f"127.0.0.1:{self.serving.port}", "Connection": "close", **{name.replace("_", "-"): value for name, value in headers.items()}}
+        lines = [f"{method} {self.serving.path if path is None else path} HTTP/1.1"]
+        lines += [f"{name}: {each}" for name, value in told.items() if value is not None for each in (value if isinstance(value, list) else [value])]
+        return ("\r\n".join(lines) + "\r\n\r\n").encode()
+
+    def status(self, sent):
+        """The status of the answer; 0 where there is none."""
+        got = self.serving.raw(sent, ends=False)
+        return int(got.split(b" ")[1]) if got.startswith(b"HTTP/1.") else 0
+
+    def is_there(self):
+        self.assertEqual(self.serving.call("judge", GDAL), struct.pack("<II", 0, 0))
+
+
+class Calls(Served):
+    def test_texts_and_bytes(self):
+        for name, wanted in [("report", mvt.report(GDAL).encode()), ("json", mvt.to_json(GDAL).encode()), ("svg", mvt.to_svg(GDAL).encode()),
+                             ("rewrite", mvt.rewrite(GDAL)), ("judge", b"")]:
+            self.assertEqual(self.serving.call(name, GDAL), struct.pack("<II", 0, 0) + wanted, name)
+
+    def test_layers_that_are_named(self):
+        call = lambda *names: self.serving.call("extract", frames(*names, GDAL))
+        self.assertEqual(call(b"water", b"roads"), struct.pack("<II", 0, 0) + mvt.extract(GDAL, ["water", "roads"]))
+        self.assertEqual(call(), struct.pack("<II", 0, 0))
+        self.assertEqual(call(b"rivers"), struct.pack("<II", 4, 0))
+        self.assertEqual(call(b"\xff"), struct.pack("<II", 5, 0))
+        self.assertEqual(call(b""), struct.pack("<II", 4, 0))
+
+    def test_a_fault(self):
+        wanted = struct.pack("<IIqqQII", 1, 0, 0, 0, 8, 22, 9) + b"FirstRing"
+        for name in ("judge", "read", "report", "rewrite", "json", "svg"):
+            self.assertEqual(self.serving.call(name, BROKEN), wanted, name)
+        self.assertEqual(self.serving.call("extract", frames(b"a", BROKEN)), wanted)
+        self.assertEqual(self.serving.call("judge", b"\0"), struct.pack("<IIqqQII", 1, 0, -1, -1, 0, 3, 11) + b"FieldNumber")
+
+    def test_rows(self):
+        rows, told = mvt.rows(GDAL), self.serving.call("read", GDAL)
+        names = ("layers", "features", "keys", "values", "tags", "parts", "points", "integers", "texts")
+        self.assertEqual(struct.unpack_from("<II9Q", told), (0, 0, *(len(getattr(rows, name)) for name in names)))
+        at = 80
+        for name in names:
+            content = bytes(memoryview(getattr(rows, name)))
+            self.assertEqual(told[at : at + len(content)], content, name)
+            at += -(-len(content) // 8) * 8
+        self.assertEqual(at, len(told))
+
+    def test_several_tiles(self):
+        told = parts_of(self.serving.call("reports", frames(GDAL, BROKEN, b"")))
+        self.assertEqual(told, [self.serving.call("report", tile) for tile in (GDAL, BROKEN, b"")])
+        self.assertEqual(parts_of(self.serving.call("reports", frames())), [])
+
+    def test_the_longest_body(self):
+        longest = bytes([0x22, 0xFC, 0xFF, 0xFF, 0x1F]) + bytes((1 << 26) - 4)
+        self.assertEqual(self.serving.call("judge", longest), struct.pack("<IIqqQII", 1, 0, -1, -1, 1 << 26, 25, 8) + b"TooLarge")
+        self.assertEqual(self.status(self.head("POST", self.serving.path + "judge", Content_Length=str(len(longest) + 1))), 413)
+
+    def test_one_connection_has_many_calls(self):
+        with socket.create_connection(("127.0.0.1", self.serving.port)) as connection, connection.makefile("rb") as answers:
+            for _ in range(3):
+                connection.sendall(self.head("POST", self.serving.path + "judge", Content_Length=str(len(GDAL)), Connection=None) + GDAL)
+                self.assertEqual(answers.readline(), b"HTTP/1.1 200 OK\r\n")
+                while answers.readline() != b"\r\n":
+                    pass
+                self.assertEqual(answers.read(8), bytes(8))
+
+
+class Denied(Served):
+    def test_what_each_answer_says(self):
+        for path in ("", "given", "nothing"):
+            status, headers, _ = self.serving.ask("GET", path)
+            self.assertIn("frame-ancestors 'none'", headers["Content-Security-Policy"])
+            wanted = {"Cross-Origin-Opener-Policy": "same-origin", "Cross-Origin-Resource-Policy": "same-origin", "Referrer-Policy": "no-referrer",
+                      "X-Content-Type-Options": "nosniff", "Cache-Control": "no-store"}
+            self.assertEqual({name: headers[name] for name in wanted}, wanted)
+            self.assertNotIn("Access-Control-Allow-Origin", headers)
+            self.assertNotIn("Set-Cookie", headers)
+            self.assertEqual(status, 404 if path == "nothing" else 200)
+
+    def test_the_policy_of_the_page(self):
+        _, _, page = self.serving.ask("GET", "")
+        self.assertIn(b"connect-src 'self'; ", page)
+        for word in (b"wasm", b"unsafe-eval"):
+            self.assertNotIn(word, page.split(b"</head>")[0])
+
+    def test_hosts(self):
+        port = self.serving.port
+        for host, status in [(f"127.0.0.1:{port}", 200), (f"localhost:{port}", 200), (f"LOCALHOST:{port}", 200), ("127.0.0.1", 403), ("localhost", 403),
+                             (f"evil.example:{port}", 403), (f"127.0.0.1.evil.example:{port}", 403), (f"127.0.0.1:{port + 1}", 403), ("", 403), (None, 403),
+                             (f"[::1]:{port}", 403), (f"0.0.0.0:{port}", 403), (f"127.1:{port}", 403), ([f"127.0.0.1:{port}"] * 2, 403)]:
+            self.assertEqual(self.status(self.head(Host=host)), status, host)
+
+    def test_origins(self):
+        port, path = self.serving.port, self.serving.path + "judge"
+        for origin, status in [(None, 200), (f"http://127.0.0.1:{port}", 200), ("null", 403), ("http://evil.example", 403), (f"https://127.0.0.1:{port}", 403),
+                               (f"http://127.0.0.1:{port + 1}", 403), (f"http://localhost:{port}", 403), ("", 403), ("file://", 403)]:
+            sent = self.head("POST", path, Origin=origin, Content_Length=str(len(GDAL))) + GDAL
+            self.assertEqual(self.status(sent), status, origin)
+
+    def test_sites(self):
+        for site, status in [("none", 200), ("same-origin", 200), ("same-site", 403), ("cross-site", 403), ("", 403), (["none", "cross-site"], 403)]:
+            self.assertEqual(self.status(self.head(path=self.serving.path + "given", Sec_Fetch_Site=site)), status, site)
+        link = {"Sec_Fetch_Site": "cross-site", "Sec_Fetch_Mode": "navigate", "Sec_Fetch_Dest": "document"}
+        self.assertEqual(self.status(self.head(**link)), 200)
+        self.assertEqual(self.status(self.head(path=self.serving.path + "given", **link)), 403)
+        for change in ({"Sec_Fetch_Dest": "iframe"}, {"Sec_Fetch_Mode": "no-cors"}, {"Sec_Fetch_Dest": "script"}, {"Sec_Fetch_Mode": None}):
+            self.assertEqual(self.status(self.head(**{**link, **change})), 403, change)
+
+    def test_tokens(self):
+        token = self.serving.path.strip("/")
+        self.assertEqual(len(token), 32)
+        for path in ("/", "/given", f"/{token[:-1]}/", f"/{token}a/", f"/{token.swapcase()}/", f"/x/{token}/", f"/{token}", "/é/", f"/{token}/../{token}/",
+                     f"http://127.0.0.1:{self.serving.port}/{token}/", f"/%{ord(token[0]):02x}{token[1:]}/", f"/{token}\0/"):
+            self.assertIn(self.status(self.head(path=path)), (400, 404), path)
+        with Serving() as other:
+            self.assertNotEqual(other.path, self.serving.path)
+
+    def test_methods(self):
+        for method in ("PUT", "DELETE", "OPTIONS", "TRACE", "CONNECT", "PATCH", "get", "X"):
+            self.assertEqual(self.status(self.head(method)), 405, method)
+        self.assertEqual(self.status(self.head("GET", self.serving.path + "judge")), 404)
+        self.assertEqual(self.status(self.head("POST", Content_Length="0")), 404)
+        self.assertTrue(self.serving.raw(self.head("HEAD")).endswith(b"\r\n\r\n"))
+
+    def test_no_path_leads_to_a_file(self):
+        with tempfile.TemporaryDirectory() as folder:
+            Path(folder, "a.mvt").write_bytes(GDAL)
+            with Serving(f"{folder}/a.mvt") as serving:
+                self.assertEqual(serving.ask("GET", "files/0")[::2], (200, GDAL))
+                for path in ("files/1", "files/-1", "files/00", "files/", "files", "files/0/", "files/a.mvt", "files/../files/0", "files/%30", "files/..%2f0", "/etc/passwd",
+                             "../../../etc/passwd", "page.html", "main.py", "files/99999999999999999999"):
+                    self.assertEqual(serving.ask("GET", path)[0], 404, path)
+
+    def test_lengths(self):
+        path = self.serving.path + "judge"
+        for length, status in [(None, 411), ("x", 400), ("-1", 400), ("+1", 400), ("1_0", 400), ("0x1", 400), ("", 400), ("1 1", 400), ("١", 400), (["1", "1"], 411),
+                               (["1", "2"], 411), ("67108866", 413), ("9" * 30, 400), ("99999999999999999", 413)]:
+            self.assertEqual(self.status(self.head("POST", path, Content_Length=length) + b"\0"), status, length)
+        self.assertEqual(self.status(self.head("POST", path, Transfer_Encoding="chunked") + b"1\r\n\0\r\n0\r\n\r\n"), 411)
+        self.assertEqual(self.status(self.head("POST", path, Transfer_Encoding="chunked", Content_Length="1") + b"\0"), 411)
+        self.assertEqual(self.status(self.head(Content_Length="3") + b"abc"), 400)
+        self.assertEqual(self.status(self.head(Transfer_Encoding="chunked") + b"0\r\n\r\n"), 400)
+
+    def test_frames(self):
+        for body in (b"", b"\1\0\0", struct.pack("<I", 1), struct.pack("<II", 1, 2) + b"a", struct.pack("<II", 1, 0) + b"a", struct.pack("<I", 2**32 - 1), b"\xff" * 12):
+            self.assertEqual(self.serving.ask("POST", "reports", body)[0], 400, body)
+            self.assertEqual(self.serving.ask("POST", "extract", body)[0], 400, body)
+        self.assertEqual(self.serving.ask("POST", "extract", frames())[0], 400)
+
+
+class Malformed(Served):
+    def requests(self):
+        """Two hundred requests that are no good, and how many statuses they may be answered by."""
+        chance, good = random.Random(64), self.head("POST", self.serving.path + "judge", Content_Length=str(len(GDAL))) + GDAL
+        yield [b"GET /" + b"a" * (1 << 20) + b" HTTP/1.1\r\n\r\n"]
+        yield [b"GET / HTTP/1.1\r\nA: ", *[b"a" * (1 << 20)] * 100, b"\r\n\r\n"]
+        yield [b"GET / HTTP/1.1\r\n", *[b"A: b\r\n" * 1000] * 100]
+        yield from ([line] for line in (b"", b"\r\n", b"\n\n\n", b"GET\r\n\r\n", b"GET /\r\n\r\n", b"GET / HTTP/9.9\r\n\r\n", b"GET / FTP/1.0\r\n\r\n", b"GET / HTTP/1.1",
+                                        b"POST / HTTP/1.1\r\n\r\n", b"\0" * 1000, b"\xff" * 1000, b"\x16\x03\x01\x02\x00\x01\x00", b"PRI * HTTP/2.0\r\n\r\nSM\r\n\r\n",
+                                        b"GET  /  HTTP/1.1\r\n\r\n", b" GET / HTTP/1.1\r\n\r\n", b"GET / HTTP/1.1\r\nno colon\r\n\r\n", b"GET / HTTP/1.1\r\n: a\r\n\r\n"))
+        yield [good[:-1]]
+        yield [good.replace(b"Content-Length: 499", b"Content-Length: 5000")]
+        yield [good.replace(b"Content-Length: 499", b"Content-Length: 499\r\nContent-Length: 3")]
+        yield [good.replace(b"Content-Length: 499", b"Transfer-Encoding: chunked") + b"zz\r\n"]
+        yield [good.replace(b"/judge", b"/../judge")]
+        while True:
+            cut = bytearray(good[: chance.randrange(len(good))])
+            for _ in range(chance.randrange(1, 20)):
+                cut.insert(chance.randrange(len(cut) + 1), chance.choice(b"\0\r\n: /.%\xff\x7fGH1"))
+            yield [bytes(cut)]
+
+    def test_two_hundred_leave_it_serving(self):
+        for number, sent in zip(range(200), self.requests()):
+            got = self.serving.raw(sent)
+            with self.subTest(number=number, sent=sent[0][:100]):
+                self.assertNotIn(b"Traceback", got)
+                self.assertTrue(not got or got.startswith((b"HTTP/1.1 4", b"HTTP/1.1 505")), got[:100])
+            if number % 20 == 0:
+                self.is_there()
+        self.is_there()
+        self.assertLess(self.serving.memory("VmHWM"), 400)
+
+    def test_connections_have_a_bound(self):
+        held = []
+        try:
+            for _ in range(100):
+                held.append(socket.create_connection(("127.0.0.1", self.serving.port)))
+            time.sleep(0.5)
+            self.assertLess(len(list(Path(f"/proc/{self.serving.process.pid}/task").iterdir())), 70)
+        finally:
+            for connection in held:
+                connection.close()
+        time.sleep(0.5)
+        self.is_there()
+
+    def test_a_body_that_ends_early_is_given_up(self):
+        for _ in range(80):
+            with socket.create_connection(("127.0.0.1", self.serving.port)) as connection:
+                connection.sendall(self.head("POST", self.serving.path + "judge", Content_Length="67108864") + b"\x1a")
+        self.is_there()
+        self.assertLess(self.serving.memory("VmHWM"), 400)
+
+
+class Patience(Served):
+    def test_a_head_that_drips_is_ended(self):
+        """Also where a byte comes now and then."""
+        began = time.monotonic()
+        with socket.create_connection(("127.0.0.1", self.serving.port), timeout=60) as connection:
+            try:
+                for byte in self.head():
+                    connection.sendall(bytes([byte]))
+                    time.sleep(0.5)
+                self.fail("it waited")
+            except ConnectionError:
+                pass
+        self.assertTrue(29 < time.monotonic() - began < 40)
+        self.is_there()
+
+
+class Command(unittest.TestCase):
+    def run_it(self, *words, env=None):
+        run = subprocess.run([*COMMAND, *map(str, words)], capture_output=True, text=True, timeout=30, env={**os.environ, **(env or {})})
+        return run.returncode, run.stdout, run.stderr
+
+    def test_signals_end_it(self):
+        for number in (signal.SIGINT, signal.SIGTERM, signal.SIGHUP):
+            with Serving() as serving:
+                status, _, error = serving.end(number)
+                self.assertEqual((status, error), (0, ""))
+
+    def test_it_says_what_it_is(self):
+        with Serving() as serving:
+            self.assertRegex(serving.end()[1], r"^The page is at http://127\.0\.0\.1:\d+/\S{32}/\nOnly this machine can see it.*Ctrl-C.*\n$")
+
+    def test_words_that_are_no_good(self):
+        for words, why in [(("--port", "x"), "no port"), (("--port", "65536"), "no port"), (("--port", "-1"), "no port"), (("--nothing",), "unrecognized")]:
+            status, out, error = self.run_it(*words)
+            self.assertEqual((status, out), (2, ""))
+            self.assertIn(why, error.splitlines()[-1])
+
+    def test_a_port_that_is_taken(self):
+        with Serving() as serving:
+            status, out, error = self.run_it("--port", serving.port, "--no-browser")
+            self.assertEqual((status, out, error), (2, "", f"mvt-page: port {serving.port}: Address already in use\n"))
+
+    def test_what_cannot_be_read(self):
+        with tempfile.TemporaryDirectory() as folder:
+            for name, why in [("absent.mvt", "No such file"), ("absent.mbtiles", "No such file")]:
+                status, out, error = self.run_it("--no-browser", f"{folder}/{name}")
+                self.assertEqual((status, out), (3, ""))
+                self.assertRegex(error, rf"^mvt-page: {folder}/{name}: {why}.*\n$")
+
+    def test_a_port_that_is_named(self):
+        with socket.create_server(("127.0.0.1", 0)) as free:
+            port = free.getsockname()[1]
+        with Serving("--port", port) as serving:
+            self.assertEqual(serving.port, port)
+
+    def test_it_listens_here_alone(self):
+        with Serving() as serving:
+            listening = Path("/proc/net/tcp").read_text() + Path("/proc/net/tcp6").read_text()
+            addresses = [line.split()[1] for line in listening.splitlines() if f":{serving.port:04X} " in line and line.split()[3] == "0A"]
+            self.assertEqual(addresses, [f"0100007F:{serving.port:04X}"])
+
+    def test_ssh_is_told_where_no_browser_is(self):
+        none = {"DISPLAY": "", "WAYLAND_DISPLAY": "", "BROWSER": "", "SSH_CONNECTION": "10.0.0.1 5 10.0.0.2 22", "USER": "ann"}
+        with Serving(browser=True, env=none) as serving:
+            time.sleep(0.5)
+            self.assertIn(f"ssh -L {serving.port}:127.0.0.1:{serving.port} ann@10.0.0.2\n", serving.end()[1])
+
+    def test_a_browser_is_opened_by_a_file(self):
+        with tempfile.TemporaryDirectory() as folder:
+            browser = Path(folder, "browser")
+            browser.write_text(f'#!/bin/sh\necho "$1" >{folder}/told.new\nmv {folder}/told.new {folder}/told\n')
+            browser.chmod(0o755)
+            with Serving(browser=True, env={"BROWSER": f"{browser} %s", "XDG_RUNTIME_DIR": folder}) as serving:
+                told = Path(folder, "told")
+                for _ in range(100):
+                    if told.exists():
+                        break
+                    time.sleep(0.1)
+                url = told.read_text().strip()
+                file = Path(url.replace("file://", ""))
+                self.assertNotIn(serving.path.strip("/"), url)
+                self.assertEqual(stat.S_IMODE(file.stat().st_mode), 0o600)
+                self.assertIn(f'content="0;url={serving.address}"', file.read_text())
+                self.assertEqual(serving.end()[0], 0)
+                self.assertFalse(file.exists())
+
+    def test_words_of_help(self):
+        status, out, error = self.run_it("--help")
+        self.assertEqual((status, error), (0, ""))
+        for word in ("--port", "--no-browser", "WHAT", "Status"):
+            self.assertIn(word, out)
+
+
+if __name__ == "__main__":
+    unittest.main()
