@@ -1,9 +1,9 @@
 #!/usr/bin/env python3
 """Puts the page into one file: its style, its scripts, the rules of docs/REFUSALS.md and the
-notes of docs/PROGRAM.md, two example tiles and the codec.
-bundle.py CODEC.wasm PAGE.html"""
+notes of docs/PROGRAM.md, and two example tiles.
+bundle.py [PAGE.html], which is the package's own where none is named"""
 import base64
-import gzip
+import collections
 import hashlib
 import json
 import pathlib
@@ -30,13 +30,17 @@ def scripts(root):
 
 
 def script(root):
-    """A module and those below it as one: they share a scope, so no two may declare one name, and the browser refuses
-    it if they do."""
+    """A module and those below it as one: they share a scope, so no two may declare one name."""
     parts = []
     for name in scripts(root):
         text = re.sub(r"^import .*\n", "", (source / name).read_text(), flags=re.M)
         parts.append(f"// ---- {name}\n" + re.sub(r"^export ", "", text, flags=re.M))
-    return "\n".join(parts)
+    whole = "\n".join(parts)
+    declared = collections.Counter(re.findall(r"^(?:async )?(?:const|let|class|function\*?) (\w+)", whole, re.M))
+    twice = [name for name, count in declared.items() if count > 1]
+    if twice:
+        sys.exit(f"bundle.py: below {root} two modules declare {', '.join(twice)}")
+    return whole
 
 
 def rules():
@@ -63,10 +67,9 @@ def examples():
 
 
 def main():
-    codec, page = pathlib.Path(sys.argv[1]), pathlib.Path(sys.argv[2])
-    packed = base64.b64encode(gzip.compress(codec.read_bytes(), 9, mtime=0)).decode()
+    page = pathlib.Path(sys.argv[1]) if sys.argv[1:] else top / "library/python/mvt/page/page.html"
     worker = f'"use strict";\n{script("worker.js")}'
-    parts = {"rules": rules(), "notes": notes(), "examples": examples(), "worker": worker, "codec": packed}
+    parts = {"rules": rules(), "notes": notes(), "examples": examples(), "worker": worker}
     data = json.dumps(parts).replace("<", "\\u003c")
     code = f"\n{script('main.js')}"
     mark = base64.b64encode(hashlib.sha256(code.encode()).digest()).decode()

@@ -3,16 +3,18 @@
 
 export class Client {
   #make;
-  #module;
+  #address;
   #worker = null;
   #waiting = new Map();
   #last = 0;
   #isStopped = false;
+  #gone;
 
-  /** `make` makes a worker; `module` is the compiled library. */
-  constructor(make, module) {
+  /** `make` makes a worker; `address` is the server's; `gone` is told when that has ended. */
+  constructor(make, address, gone) {
     this.#make = make;
-    this.#module = module;
+    this.#address = address;
+    this.#gone = gone;
   }
 
   /** Asks the worker to do something; `told` gets what it says before it is done. */
@@ -25,7 +27,7 @@ export class Client {
     return new Promise((resolve, reject) => this.#waiting.set(id, { resolve, reject, told }));
   }
 
-  /** Ends whatever the worker does, and gives back its memory. */
+  /** Ends whatever the worker does, which gives up what it asks of the server, and gives back its memory. */
   stop() {
     this.#worker?.terminate();
     this.#waiting.clear();
@@ -36,7 +38,7 @@ export class Client {
     const worker = this.#make();
     worker.addEventListener('message', ({ data }) => this.#hear(data));
     worker.addEventListener('error', ({ message }) => this.#fail(new Error(`the worker failed: ${message}`)));
-    worker.postMessage({ call: 'begin', words: { module: this.#module } });
+    worker.postMessage({ call: 'begin', words: { address: this.#address } });
     return worker;
   }
 
@@ -47,6 +49,7 @@ export class Client {
       return;
     }
     this.#waiting.delete(id);
+    if (error?.name === 'Gone') this.#gone();
     if (error === undefined) waiting?.resolve(value);
     else waiting?.reject(Object.assign(new Error(error.message), { name: error.name }));
   }

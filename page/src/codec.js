@@ -1,158 +1,151 @@
-// The proved library, compiled to WebAssembly. Each tile gets an instance of its own, and so a fresh memory, whose
-// pointers have 64 bits and cross as BigInts. The names are those of library/mvt.h.
-
-import { text } from './text.js';
+// The proved library, asked of the server that served the page. Its calls are those of library/mvt.h; how they are spelled
+// is told in library/python/mvt/page/calls.py.
+import { answerOf, framesOf, partsOf, rowsOf } from './spelling.js';
 
 /** A tile has at most so many bytes. Of a longer input the library reads no more. */
 export const LIMIT = 67_108_864;
 
 export const OK = 0;
-export const REFUSED = 1;
 export const NO_MEMORY = 2;
 export const TOO_LARGE = 3;
 export const NO_LAYER = 4;
 
-/** Compiles the module; rejects where the browser has no memories of 64 bits. */
-export async function loadCodec(wasm) {
-  return new Codec(await WebAssembly.compile(wasm));
+/** What is thrown once the server has ended. */
+export class Gone extends Error {
+  name = 'Gone';
+
+  constructor() {
+    super('the command mvt-page has ended');
+  }
 }
 
 export class Codec {
-  constructor(module) {
-    this.module = module;
+  #address;
+
+  /** `address` is that of the page, and ends with a slash. */
+  constructor(address) {
+    this.#address = address;
   }
 
-  /** Copies bytes into a fresh memory. */
   open(bytes) {
-    return new OpenTile(new WebAssembly.Instance(this.module, {}).exports, bytes);
+    return new OpenTile(this, bytes);
+  }
+
+  /** What `mvt check` says of several tiles: an answer for each. */
+  async reports(tiles) {
+    const answer = await this.call('reports', framesOf(tiles));
+    return answer === null ? tiles.map(() => ({ status: NO_MEMORY })) : partsOf(answer).map(answerOf);
+  }
+
+  /** The answer to a call, in one block; null where the server has no memory for it. */
+  async call(name, body) {
+    const response = await this.#fetch(name, { method: 'POST', body });
+    if (response.status === 503) return null;
+    return blockOf(await good(response));
+  }
+
+  /** What stands at a path: bytes. */
+  async bytes(path) {
+    return blockOf(await good(await this.#fetch(path)));
+  }
+
+  /** What stands at a path: JSON. */
+  async told(path) {
+    return (await good(await this.#fetch(path))).json();
+  }
+
+  /** Whether the server is there. */
+  async isThere() {
+    return this.#once('given').then(() => true, () => false);
+  }
+
+  /** Asks once more where no answer comes. Throws Gone where then nothing is answered at all. */
+  async #fetch(path, how) {
+    try {
+      return await this.#once(path, how);
+    } catch {
+      if (!(await this.isThere())) throw new Gone();
+      return this.#once(path, how);
+    }
+  }
+
+  #once(path, how = {}) {
+    return fetch(`${this.#address}${path}`, { credentials: 'omit', cache: 'no-store', redirect: 'error', ...how });
   }
 }
 
-const FAULT_SIZE = 48;
-const BYTES_SIZE = 16;
-const ROWS_SIZE = 144;
+/** A response that is no fault of the protocol; else its words are thrown. */
+async function good(response) {
+  if (response.ok) return response;
+  throw Object.assign(new Error((await response.text()).trim()), { status: response.status });
+}
 
+/** The whole body, which is read into one block. */
+async function blockOf(response) {
+  const reader = response.body.getReader();
+  try {
+    const block = new Uint8Array(Number(response.headers.get('Content-Length')));
+    for (let at = 0; ;) {
+      const { done, value } = await reader.read();
+      if (done && at < block.length) throw new TypeError('the answer ended early');
+      if (done) return block;
+      block.set(value, at);
+      at += value.length;
+    }
+  } catch (error) {
+    reader.cancel().catch(() => {});
+    throw error;
+  }
+}
+
+/** The calls of one tile: each answers `{status}`, with `bytes` or `rows` where it is OK and `fault` where it is refused. */
 class OpenTile {
-  #exports;
-  #at;
-  #len;
-  #lastView = null;
+  #codec;
+  #bytes;
 
-  constructor(exports, bytes) {
-    this.#exports = exports;
-    this.#len = BigInt(bytes.length);
-    this.#at = this.#take(bytes.length);
-    this.#bytes(this.#at, bytes.length).set(bytes);
+  constructor(codec, bytes) {
+    this.#codec = codec;
+    this.#bytes = bytes;
   }
 
-  /** `{status}`, with `fault` where it is REFUSED. */
   judge() {
-    return this.#call('mvt_judge', []);
+    return this.#call('judge');
   }
 
-  /** `{status, bytes}`: the canonical bytes. */
+  /** The canonical bytes. */
   rewrite() {
-    return this.#made('mvt_rewrite', []);
+    return this.#call('rewrite');
   }
 
-  /** `{status, bytes}`: the canonical bytes of the named layers. */
+  /** The canonical bytes of the named layers. */
   extract(names) {
-    const list = this.#take(BYTES_SIZE * names.length);
-    names.forEach((name, index) => {
-      const text = new TextEncoder().encode(name);
-      const at = this.#take(text.length);
-      this.#bytes(at, text.length).set(text);
-      const entry = Number(list) + BYTES_SIZE * index;
-      this.#view().setBigUint64(entry, at, true);
-      this.#view().setBigUint64(entry + 8, BigInt(text.length), true);
-    });
-    return this.#made('mvt_extract', [list, BigInt(names.length)]);
+    const texts = names.map((name) => new TextEncoder().encode(name));
+    return this.#call('extract', framesOf([...texts, this.#bytes]));
   }
 
-  /** `{status, bytes}`: the tile as JSON. */
+  /** The tile as JSON. */
   json() {
-    return this.#made('mvt_json', []);
+    return this.#call('json');
   }
 
-  /** `{status, bytes}`: the picture. */
+  /** The picture. */
   svg() {
-    return this.#made('mvt_svg', []);
+    return this.#call('svg');
   }
 
-  /** `{status, bytes}`: what `mvt check` says. */
+  /** What `mvt check` says. */
   report() {
-    return this.#made('mvt_report', []);
+    return this.#call('report');
   }
 
-  /** `{status, rows}`: the lists of rows by name, each with its place in the memory and its count; and the memory. */
-  read() {
-    const out = this.#take(ROWS_SIZE);
-    const answer = this.#call('mvt_read', [out]);
-    if (answer.status !== OK) return answer;
-    const names = ['layers', 'features', 'keys', 'values', 'tags', 'parts', 'points', 'integers', 'texts'];
-    const lists = names.map((name, index) => {
-      const [at, count] = this.#slice(out, 16 * index);
-      return [name, { at, count }];
-    });
-    return { status: OK, rows: { ...Object.fromEntries(lists), memory: () => this.#view() } };
+  /** The lists of rows by name, each with its place in the memory and its count; and the memory. */
+  async read() {
+    const answer = await this.#call('read');
+    return answer.status === OK ? { status: OK, rows: rowsOf(answer.bytes) } : answer;
   }
 
-  #made(call, more) {
-    const out = this.#take(BYTES_SIZE);
-    const answer = this.#call(call, [...more, out]);
-    if (answer.status !== OK) return answer;
-    const [at, count] = this.#slice(out, 0);
-    const bytes = this.#bytes(BigInt(at), count).slice();
-    if (count > 0) this.#exports.give(BigInt(at));
-    return { status: OK, bytes };
-  }
-
-  #call(call, more) {
-    const fault = this.#take(FAULT_SIZE);
-    const status = this.#exports[call](this.#at, this.#len, ...more, fault);
-    return status === REFUSED ? { status, fault: this.#fault(fault) } : { status };
-  }
-
-  #fault(at) {
-    const view = this.#view();
-    const base = Number(at);
-    const index = (offset) => {
-      const value = Number(view.getBigInt64(base + offset, true));
-      return value < 0 ? null : value;
-    };
-    const [name, len] = this.#slice(at, 32);
-    return {
-      layer: index(0),
-      feature: index(8),
-      at: Number(view.getBigUint64(base + 16, true)),
-      cause: view.getUint32(base + 24, true),
-      name: text(this.#bytes(BigInt(name), len)),
-    };
-  }
-
-  /** A pointer and a length that stand in the memory. */
-  #slice(at, offset) {
-    const view = this.#view();
-    const base = Number(at) + offset;
-    return [Number(view.getBigUint64(base, true)), Number(view.getBigUint64(base + 8, true))];
-  }
-
-  /** A block of zeros. */
-  #take(size) {
-    const at = this.#exports.take(BigInt(Math.max(size, 1)));
-    if (at === 0n) throw new RangeError('out of memory');
-    this.#bytes(at, size).fill(0);
-    return at;
-  }
-
-  #bytes(at, len) {
-    return new Uint8Array(this.#exports.memory.buffer, Number(at), len);
-  }
-
-  // The memory may have grown since the last time, and then has another buffer.
-  #view() {
-    const { buffer } = this.#exports.memory;
-    if (this.#lastView?.buffer !== buffer) this.#lastView = new DataView(buffer);
-    return this.#lastView;
+  async #call(name, body = this.#bytes) {
+    const answer = await this.#codec.call(name, body);
+    return answer === null ? { status: NO_MEMORY } : answerOf(answer);
   }
 }

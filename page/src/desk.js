@@ -1,16 +1,20 @@
 // The tile that is open, and what the page may ask of it. It lives in the worker, so that nothing here makes the page wait.
-import { NO_LAYER, OK } from './codec.js';
+import { Gone, NO_LAYER, OK } from './codec.js';
 import { firstDifference } from './differ.js';
 import { faultyShape } from './faulty.js';
 import { FeatureTable } from './features.js';
 import { prepared, readFile } from './files.js';
 import { JsonIndex } from './json-index.js';
-import { judged, readRows } from './judging.js';
+import { allJudged, judged, readRows } from './judging.js';
 import { locate } from './locate.js';
 import { Finder } from './near.js';
 import { Painter } from './painter.js';
 import { SHAPES } from './rows.js';
 import { text } from './text.js';
+
+/** So many bytes, or so many files, are judged by one question. */
+const ASKED_BYTES = 1 << 20;
+const ASKED_FILES = 100;
 
 export class Desk {
   #codec;
@@ -28,25 +32,32 @@ export class Desk {
   }
 
   /**
-   * Reads and judges a file or bytes. `facts` are the counts of an accepted tile, and `why` the reason where it can't be
-   * drawn; `place` is that of a fault, and `shape` what can be drawn of its feature.
+   * Reads and judges a file, bytes, or what stands at a path of the server. `facts` are the counts of an accepted tile, and
+   * `why` the reason where it can't be drawn; `place` is that of a fault, and `shape` what can be drawn of its feature.
    */
   async open({ source, name }) {
-    const size = source.size ?? source.length;
-    const read = source instanceof Uint8Array ? await prepared(source) : await readFile(source);
+    const { size, read } = await this.#take(source);
     this.#bytes = read.bytes;
-    const { verdict, facts = null, why = null } = this.#read(read, name);
+    this.#tile = this.#codec.open(read.bytes);
+    const { verdict, facts = null, why = null } = await this.#read(read, name);
     const { fault } = verdict;
     const place = fault && locate(read.bytes, fault);
     const shape = fault && faultyShape(read.bytes, fault);
     return { size, length: read.bytes.length, note: read.note, verdict, facts, why, place, shape };
   }
 
+  /** The bytes of a source that are to be judged, `read`, and the size of all of it. */
+  async #take(source) {
+    const held = typeof source === 'string' ? await this.#codec.bytes(source) : source;
+    const read = held instanceof Uint8Array ? await prepared(held) : await readFile(held);
+    return { size: held.size ?? held.length, read };
+  }
+
   /** Reads the rows; where there is no memory for them, only judges. */
-  #read(read, name) {
-    const { verdict, rows } = readRows(this.#codec, read, name);
+  async #read(read, name) {
+    const { verdict, rows } = await readRows(this.#codec, read, name);
     if (verdict.kind === 'unjudged') {
-      const { report = null, ...told } = this.#judge(read, name);
+      const { report = null, ...told } = await this.#judge(read, name);
       return { ...told, facts: report?.counts, why: verdict.why };
     }
     if (rows === undefined) return { verdict };
@@ -56,38 +67,44 @@ export class Desk {
     return { verdict, facts: { layers: rows.layerCount, features: rows.featureCount, points: rows.pointCount } };
   }
 
-  #judge(read, name) {
-    const told = judged(this.#codec, read, name);
+  async #judge(read, name) {
+    const told = await judged(this.#codec, read, name);
     this.#report = told.report ?? null;
-    this.#tile = told.tile ?? null;
     return told;
   }
 
   /**
-   * Judges files or bytes in order and tells of several at a time: their index, size and verdict. `from` is the index of the
-   * first.
+   * Judges sources in order and tells of several at a time: their index, size and verdict. `from` is the index of the first.
    */
   async judgeAll({ sources, from }, told) {
     let some = [];
-    let last = performance.now();
+    let size = 0;
     for (const [place, { source, name }] of sources.entries()) {
-      some.push({ index: from + place, ...(await this.#judgeOne(source, name)) });
-      if (performance.now() - last < 100) continue;
-      told(some);
+      some.push({ index: from + place, name, ...(await this.#takeOrWhy(source)) });
+      size += some.at(-1).read?.bytes.length ?? 0;
+      if (size < ASKED_BYTES && some.length < ASKED_FILES) continue;
+      told(await this.#judgeSome(some));
       some = [];
-      last = performance.now();
+      size = 0;
     }
-    return some;
+    return this.#judgeSome(some);
   }
 
-  async #judgeOne(source, name) {
-    const size = source.size ?? source.length;
+  /** What `#take` gives; or the verdict on what can't be read. */
+  async #takeOrWhy(source) {
     try {
-      const read = source instanceof Uint8Array ? await prepared(source) : await readFile(source);
-      return { size, note: read.note, verdict: judged(this.#codec, read, name).verdict };
+      return await this.#take(source);
     } catch (error) {
-      return { size, note: null, verdict: { kind: 'unread', fault: null, why: error.message, notes: [], foreign: 0 } };
+      if (error instanceof Gone) throw error;
+      return { size: source.size ?? 0, verdict: { kind: 'unread', fault: null, why: error.message, notes: [], foreign: 0 } };
     }
+  }
+
+  async #judgeSome(some) {
+    const files = some.filter(({ read }) => read !== undefined);
+    const verdicts = files.length === 0 ? [] : await allJudged(this.#codec, files);
+    files.forEach((file, index) => Object.assign(file, { verdict: verdicts[index] }));
+    return some.map(({ index, size, read, verdict }) => ({ index, size, note: read?.note ?? null, verdict }));
   }
 
   /** A copy of the bytes that were judged. */
@@ -96,8 +113,8 @@ export class Desk {
   }
 
   /** The notes by kind; or `why` they can't be told. */
-  report() {
-    const { why = null } = this.#report === null ? this.#judge({ bytes: this.#bytes, damaged: null }, '').verdict : {};
+  async report() {
+    const { why = null } = this.#report === null ? (await this.#judge({ bytes: this.#bytes, damaged: null }, '')).verdict : {};
     return { notes: this.#report?.kinds() ?? [], why };
   }
 
@@ -113,16 +130,10 @@ export class Desk {
 
   // ---- the canonical bytes, and other forms
 
-  /** The tile in a memory of its own, beside that of its rows. */
-  #opened() {
-    this.#tile ??= this.#codec.open(this.#bytes);
-    return this.#tile;
-  }
-
   /** Whether the bytes are the canonical ones; if not, the length of those, and what differs first. */
-  canonical() {
+  async canonical() {
     if (this.#report?.isCanonical) return { isSame: true };
-    const { status, bytes } = this.#opened().rewrite();
+    const { status, bytes } = await this.#tile.rewrite();
     if (status !== OK) return { isSame: false, status };
     const difference = firstDifference(this.#bytes, bytes);
     return { isSame: false, length: bytes.length, said: difference?.said ?? null, at: difference?.at ?? 0, trail: difference?.trail ?? [] };
@@ -132,7 +143,7 @@ export class Desk {
   made({ what, hidden = null, colours = [], chosen = {} }) {
     if (what === 'svg') return this.#svg(hidden ?? [], (index) => chosen[index] ?? colours[index % colours.length]);
     if (what === 'extract') return this.#extract(hidden);
-    return what === 'json' ? this.#opened().json() : this.#opened().rewrite();
+    return what === 'json' ? this.#tile.json() : this.#tile.rewrite();
   }
 
   #extract(hidden) {
@@ -141,12 +152,12 @@ export class Desk {
       const layer = this.#rows.layer(index);
       if (layer.version === 2 && hidden[index] !== 1) names.push(layer.name);
     }
-    return names.length === 0 ? { status: NO_LAYER } : this.#opened().extract(names);
+    return names.length === 0 ? { status: NO_LAYER } : this.#tile.extract(names);
   }
 
   /** The library's picture, with the page's colours and without the layers that are off; rings are filled as on the page. */
-  #svg(hidden, colourOf) {
-    const answer = this.#opened().svg();
+  async #svg(hidden, colourOf) {
+    const answer = await this.#tile.svg();
     if (answer.status !== OK) return answer;
     const drawn = Array.from({ length: this.#rows.layerCount }, (_, index) => index).filter((index) => this.#rows.layerBox(index).version === 2);
     let next = 0;
@@ -159,9 +170,9 @@ export class Desk {
   }
 
   /** Makes the JSON: how many bytes and layers it has. */
-  json() {
-    const { status, bytes } = this.#opened().json();
-    if (status !== OK) throw new RangeError('the browser gave no memory for it');
+  async json() {
+    const { status, bytes } = await this.#tile.json();
+    if (status !== OK) throw new RangeError('there is no memory for it');
     this.#json = new JsonIndex(bytes);
     return { length: bytes.length, layers: this.#json.layerCount };
   }

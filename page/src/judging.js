@@ -1,44 +1,58 @@
 // What the library says of bytes, in the form in which the worker hands it to the page.
-import { NO_MEMORY, OK, REFUSED } from './codec.js';
+import { Gone, NO_MEMORY, OK } from './codec.js';
 import { kindOfFile } from './kinds.js';
 import { Report } from './report.js';
 import { Rows } from './rows.js';
+import { REFUSED } from './spelling.js';
 import { text } from './text.js';
 
 /**
- * Judges what was read, `{bytes, damaged}`: `{verdict, report, tile}`. The verdict's kind is
+ * Judges what was read, `{bytes, damaged}`: `{verdict, report}`. The verdict's kind is
  * - accepted; or partly, where a layer wasn't looked into since its version isn't 2;
  * - refused, with the fault; or other, where the bytes are no tile but what `other` says;
  * - unjudged, with the reason.
  */
 export function judged(codec, read, name) {
-  return answered(codec, read, name, (tile) => tile.report(), ({ bytes }, tile) => {
-    const report = new Report(text(bytes));
-    return { verdict: acceptance(report.foreign, report.kinds()), report, tile };
-  });
+  return asked(() => codec.open(read.bytes).report(), (answer) => reported(answer, read, name));
+}
+
+/** Judges what was read of several files, `{read, name}`, at once. */
+export function allJudged(codec, files) {
+  const tell = (answers) => answers.map((answer, index) => reported(answer, files[index].read, files[index].name).verdict);
+  return asked(() => codec.reports(files.map(({ read }) => read.bytes)), tell, (failed) => files.map(() => failed.verdict));
 }
 
 /** Reads the rows of what is to be shown, which judges it too: `{verdict, rows}`. The notes are left to the report. */
 export function readRows(codec, read, name) {
-  return answered(codec, read, name, (tile) => tile.read(), (answer) => {
+  const accept = (answer) => {
     const rows = new Rows(answer.rows);
     return { verdict: acceptance(rows.foreignCount, []), rows };
-  });
+  };
+  return asked(() => codec.open(read.bytes).read(), (answer) => told(answer, read, name, accept));
 }
 
-function answered(codec, { bytes, damaged }, name, call, accept) {
+/** What is made of an answer; of an error too, unless it is that nobody answers any more. */
+async function asked(ask, tell, fail = (failed) => failed) {
   try {
-    const tile = codec.open(bytes);
-    const answer = call(tile);
-    if (answer.status === OK) return accept(answer, tile);
-    if (answer.status === REFUSED) return { verdict: refusal(answer.fault, bytes, damaged, name) };
-    return { verdict: unjudged(answer.status === NO_MEMORY ? NO_ROOM : `the library answers ${answer.status}`) };
+    return tell(await ask());
   } catch (error) {
-    return { verdict: unjudged(reasonOf(error)) };
+    if (error instanceof Gone) throw error;
+    return fail({ verdict: unjudged(reasonOf(error)) });
   }
 }
 
-const NO_ROOM = 'the browser gave no memory for it';
+function reported(answer, read, name) {
+  return told(answer, read, name, ({ bytes }) => {
+    const report = new Report(text(bytes));
+    return { verdict: acceptance(report.foreign, report.kinds()), report };
+  });
+}
+
+function told(answer, { bytes, damaged }, name, accept) {
+  if (answer.status === OK) return accept(answer);
+  if (answer.status === REFUSED) return { verdict: refusal(answer.fault, bytes, damaged, name) };
+  return { verdict: unjudged(answer.status === NO_MEMORY ? 'there is no memory for it' : `the library answers ${answer.status}`) };
+}
 
 function acceptance(foreign, notes) {
   return { kind: foreign > 0 ? 'partly' : 'accepted', fault: null, foreign, notes };
@@ -54,9 +68,10 @@ function unjudged(why) {
   return { kind: 'unjudged', fault: null, why, notes: [], foreign: 0 };
 }
 
-/** Why a call of the library ended by an error: want of memory, or a defect, which nobody should take for one. */
+/** Why a call ended by an error: want of memory, the server's own words, or a defect, which nobody should take for one. */
 function reasonOf(error) {
   const isStack = /call stack/i.test(error.message);
-  if (error instanceof RangeError && !isStack) return NO_ROOM;
+  if (error instanceof RangeError && !isStack) return 'the browser gave no memory for it';
+  if (error.status !== undefined) return `mvt-page says: ${error.message}`;
   return `the page failed (${error.name}: ${error.message}), which is a defect of the page and not of the tile`;
 }

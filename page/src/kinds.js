@@ -1,6 +1,7 @@
 // What a file is that no tile is: told by how its bytes begin. It is asked only where the library refuses the bytes.
 
 const AUDIT = 'It holds many tiles: `mvt-audit` with the file’s name judges each of them.';
+const OPENED = 'It holds many tiles: `mvt-page` with the file’s name opens it here, and `mvt-audit` judges each of them.';
 
 /** Each kind: its name, its first bytes (in Latin 1), and what it is. */
 const BEGINNINGS = [
@@ -38,8 +39,8 @@ function named(name, what, more = '') {
 
 function databaseOf(bytes) {
   const isStore = startOf(bytes.subarray(0, 65_536), 65_536).includes('tile_column');
-  return isStore ? named('MBTiles', 'an MBTiles store (an SQLite database)', AUDIT)
-    : named('SQLite', 'an SQLite database', 'If it is an MBTiles store, `mvt-audit` with the file’s name judges each tile in it.');
+  return isStore ? named('MBTiles', 'an MBTiles store (an SQLite database)', OPENED)
+    : named('SQLite', 'an SQLite database', 'If it is an MBTiles store, `mvt-page` with the file’s name opens it here, and `mvt-audit` judges each tile in it.');
 }
 
 /** Texts: HTML, XML, JSON, or plain. */

@@ -1,5 +1,5 @@
 // The page: takes tiles in, has the worker judge them, and shows what it says.
-import { loadCodec } from './codec.js';
+import { Codec } from './codec.js';
 import { Page } from './page.js';
 import { spelledBytes } from './spelled.js';
 
@@ -13,18 +13,13 @@ function bytesOf(base64) {
   return Uint8Array.from(atob(base64), (letter) => letter.charCodeAt(0));
 }
 
-async function codecOf(base64) {
-  const stream = new Blob([bytesOf(base64)]).stream().pipeThrough(new DecompressionStream('gzip'));
-  return loadCodec(new Uint8Array(await new Response(stream).arrayBuffer()));
-}
-
 /** Makes workers, from the script that the page carries. */
 function workerMaker(script) {
   const url = URL.createObjectURL(new Blob([script], { type: 'text/javascript' }));
   return () => new Worker(url);
 }
 
-/** Whether a drop has a folder, whose files a page that was opened as a file may not read. */
+/** Whether a drop has a folder. */
 function hasFolder(transfer) {
   return [...transfer.items].some((item) => item.webkitGetAsEntry?.()?.isDirectory);
 }
@@ -60,12 +55,17 @@ function listen(page) {
 }
 
 async function start() {
-  const codec = await codecOf(data.codec).catch(() => null);
-  if (codec === null) at('unsupported').hidden = false;
-  else {
-    listen(new Page(workerMaker(data.worker), codec.module, data));
-    globalThis.mvt = { codec };    // for the console, and for tests
-    at('start').hidden = false;
+  const address = new URL('.', location.href).href;
+  const codec = new Codec(address);
+  const page = new Page(workerMaker(data.worker), codec, address, data);
+  globalThis.mvt = { codec };    // for the console, and for tests
+  listen(page);
+  at('start').hidden = false;
+  try {
+    const { files } = await codec.told('given');
+    page.open(files.map((name, index) => ({ name, source: `files/${index}` })));
+  } catch {
+    page.sayGone();
   }
   document.body.dataset.ready = 'yes';
 }

@@ -14,6 +14,7 @@ const part = (id) => document.getElementById(id);
 
 export class Page {
   #data;
+  #codec;
   #newClient;
   #tiles = null;
   #lists = null;
@@ -23,15 +24,33 @@ export class Page {
   #working = new Map();
   #scrolled = 0;
 
-  /** `make` makes a worker, `module` is the compiled library, `data` are the rules and what notes mean. */
-  constructor(make, module, data) {
+  /** `make` makes a worker, `codec` asks the server at an address, `data` are the rules and what notes mean. */
+  constructor(make, codec, address, data) {
     this.#data = data;
-    this.#newClient = () => new Client(make, module);
+    this.#codec = codec;
+    this.#newClient = () => new Client(make, address, () => this.sayGone());
   }
 
-  /** Opens inputs, `{name, source, note}`: one is shown, several become a list. What was open is stopped. */
+  /** Tells that the server has ended. */
+  sayGone() {
+    part('gone').textContent = 'The command mvt-page has ended, so nothing more can be judged. What is shown stays. Start it again, and it says where the page is then.';
+  }
+
+  /** Whether the server is there: if it has ended, that is told, and what is shown stays. */
+  async #isServed() {
+    document.body.classList.add('busy');
+    const isThere = await this.#codec.isThere();
+    document.body.classList.toggle('busy', this.#working.size > 0);
+    if (!isThere) this.sayGone();
+    return isThere;
+  }
+
+  /**
+   * Opens inputs, `{name, source, note}`, whose source is a file, bytes or a path of the server: one is shown, several become
+   * a list. What was open is stopped.
+   */
   async open(inputs) {
-    if (inputs.length === 0) return;
+    if (inputs.length === 0 || !(await this.#isServed())) return;
     this.#lists?.stop();
     this.#list = null;
     this.#inputs = inputs;
@@ -40,6 +59,11 @@ export class Page {
     this.#done('list');
     document.body.classList.add('opened');
     await (inputs.length === 1 ? this.#show(0) : this.#listAll());
+  }
+
+  /** Shows a tile of the list. */
+  async #choose(index) {
+    if (await this.#isServed()) await this.#show(index);
   }
 
   #clearTile() {
@@ -68,7 +92,7 @@ export class Page {
       this.#stay(view);
       if (view.told !== told) this.#say(view.told);
     } catch (error) {
-      console.error(error);
+      if (error.name !== 'Gone') console.error(error);
       part('tile').append(element('p', { class: 'verdict unjudged' }, [foreign(name), ` can’t be shown: ${error.message}`]));
     }
     this.#done('tile');
@@ -97,7 +121,7 @@ export class Page {
   #ways(index) {
     if (this.#list === null) return [];
     const list = this.#list;
-    const to = (title, step) => element('button', { type: 'button', onclick: () => this.#show(list.beside(index, step)) }, [title]);
+    const to = (title, step) => element('button', { type: 'button', onclick: () => this.#choose(list.beside(index, step)) }, [title]);
     const back = element('button', { type: 'button', onclick: () => this.#back(index) }, ['Back to the list']);
     const [previous, next] = [to('Previous', -1), to('Next', 1)];
     this.#waysNow = () => {
@@ -117,7 +141,7 @@ export class Page {
 
   async #listAll() {
     const inputs = this.#inputs;
-    const list = new TileList(inputs, { open: (index) => this.#show(index), turned: () => this.#waysNow() });
+    const list = new TileList(inputs, { open: (index) => this.#choose(index), turned: () => this.#waysNow() });
     const judging = this.#newClient();
     this.#list = list;
     this.#lists = judging;
@@ -137,7 +161,7 @@ export class Page {
       list.end(true);
       this.#say(list.title.textContent);
     } catch (error) {
-      console.error(error);
+      if (error.name !== 'Gone') console.error(error);
       list.end(false);
     }
     judging.stop();

@@ -50,7 +50,7 @@ export class Saving {
     try {
       const { status, bytes } = await this.#client.ask('made', asked);
       if (status === OK) save(`${this.#stem}${ending}`, type, bytes);
-      this.told.textContent = status === OK ? '' : (WHY[status] ?? 'The browser gave no memory for it.');
+      this.told.textContent = status === OK ? '' : (WHY[status] ?? 'There is no memory for it.');
     } catch (error) {
       this.told.textContent = `It can’t be made: ${error.message}`;
     }

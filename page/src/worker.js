@@ -13,7 +13,7 @@ function handedOver(value) {
 
 self.addEventListener('message', async ({ data: { id, call, words } }) => {
   if (call === 'begin') {
-    desk = new Desk(new Codec(words.module));
+    desk = new Desk(new Codec(words.address));
     return;
   }
   const told = (part) => self.postMessage({ id, part }, handedOver(part));

@@ -1,30 +1,29 @@
-// Native and WebAssembly agree: agree.mjs node|CHROMIUM CODEC-OR-PAGE ANSWERS FILE..
-// ANSWERS is what answers.c wrote of the files.
+// The page's calls through the server answer what the library answers, byte for byte: agree.mjs node|CHROMIUM ADDRESS ANSWERS
+// FILE.. ANSWERS is what answers.c wrote of the files.
 import { readFileSync } from 'node:fs';
 import { basename } from 'node:path';
-import { pathToFileURL } from 'node:url';
-import { loadCodec } from '../../page/src/codec.js';
+import { Codec } from '../../page/src/codec.js';
 import { answersOf, recordsOf } from './answers.mjs';
 import { Browser } from './browser.mjs';
 import { Counts } from './counts.mjs';
 
 const AT_ONCE = 100;
-const [where, module, answers, ...files] = process.argv.slice(2);
+const [where, address, answers, ...files] = process.argv.slice(2);
 const counts = new Counts();
 const wanted = [...recordsOf(readFileSync(answers))];
 
 /** Compares what one tile gave with what it should. */
 const compare = (file, index, got) =>
-  counts.check(basename(file), () => Buffer.compare(wanted[index], got) === 0 || 'native and WebAssembly differ');
+  counts.check(basename(file), () => Buffer.compare(wanted[index], got) === 0 || 'the page and the library differ');
 
 async function inNode() {
-  const codec = await loadCodec(readFileSync(module));
-  for (const [index, file] of files.entries()) await compare(file, index, answersOf(codec, readFileSync(file)));
+  const codec = new Codec(address);
+  for (const [index, file] of files.entries()) await compare(file, index, await answersOf(codec, readFileSync(file)));
 }
 
 async function inBrowser() {
-  const browser = new Browser(where, ['--allow-file-access-from-files']);
-  const page = await browser.page(pathToFileURL(module).href);
+  const browser = new Browser(where);
+  const page = await browser.page(address);
   await page.value(`globalThis.answersOf = ${answersOf}; 0`);
   await page.value(`globalThis.answersIn64 = ${answersIn64}; 0`);
   for (let from = 0; from < files.length; from += AT_ONCE) {
@@ -45,7 +44,7 @@ async function answersIn64(tiles) {
     reader.readAsDataURL(new Blob([bytes]));
   });
   const told = [];
-  for (const tile of tiles) told.push(await in64(answersOf(mvt.codec, bytesOf(tile))));
+  for (const tile of tiles) told.push(await in64(await answersOf(mvt.codec, bytesOf(tile))));
   return told;
 }
 

@@ -1,5 +1,5 @@
-/* Writes what the library answers of each file that is named, to be compared with what it answers in WebAssembly: for
- * each file the length of what follows, and then each call's status, with what it hands out or with its fault. */
+/* Writes what the library answers of each file that is named, to be compared with what the page's calls answer: for each
+ * file the length of what follows, and then each call's status, with what it hands out or with its fault. */
 #include "mvt.h"
 
 #include <stdio.h>

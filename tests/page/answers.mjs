@@ -1,7 +1,7 @@
-// What the library answers of a tile in WebAssembly, spelled as answers.c spells it.
+// What the page's calls answer of a tile, spelled as answers.c spells what the library answers.
 
 /** The answers over one tile. It stands alone, so that it can be sent into a browser. */
-export function answersOf(codec, bytes) {
+export async function answersOf(codec, bytes) {
   const parts = [];
   const put = (part) => parts.push(part);
   const number = (value, size) => {
@@ -34,13 +34,13 @@ export function answersOf(codec, bytes) {
     }
   };
   const tile = codec.open(bytes);
-  status(tile.judge());
-  made(tile.rewrite());
-  made(tile.extract(['water', 'roads']));
-  made(tile.json());
-  made(tile.svg());
-  made(tile.report());
-  const read = tile.read();
+  status(await tile.judge());
+  made(await tile.rewrite());
+  made(await tile.extract(['water', 'roads']));
+  made(await tile.json());
+  made(await tile.svg());
+  made(await tile.report());
+  const read = await tile.read();
   status(read);
   if (read.status === 0) {
     const { memory, ...lists } = read.rows;

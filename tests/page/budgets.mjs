@@ -1,14 +1,17 @@
-// How much the page does with large tiles and long lists before a person waits: budgets.mjs CHROMIUM PAGE FOLDER. It is told
-// as counts: tasks that keep the page for more than 100 ms, elements, memory. Times are bounded too, and generously.
+// How much the page does with large tiles and long lists before a person waits: budgets.mjs CHROMIUM FOLDER. It is told as
+// counts: tasks that keep the page for more than 100 ms, elements, memory. Times are bounded too, and generously.
 import { readFileSync, readdirSync } from 'node:fs';
 import { OnPage, drawn, look, same, textOf, texts, tiles } from './onpage.mjs';
 import { largeTile, layeredTile, pointTile } from './large.mjs';
+import { Serving } from './serving.mjs';
 
-const words = process.argv.slice(2);
+const [chromium, folder] = process.argv.slice(2);
 const WIDE = { width: 1400, height: 900 };
 const ELEMENTS = 1500;
 /** Milliseconds of a processor. */
 const LONGEST = 100;
+/** MB of the server's memory. */
+const SERVER = 500;
 /** Machines that do other work are slower. */
 const SLOWER = Number(process.env.SLOWER ?? 10);
 
@@ -32,9 +35,10 @@ async function workedOf(browser) {
   return ticks.reduce((sum, each) => sum + each, 0) / 100;
 }
 
-/** A check in a browser of its own, so that its memory can be told; the page's start is counted too. */
+/** A check in a browser and with a server of its own, so that their memory can be told; the page's start is counted too. */
 async function budget(name, holds) {
-  const on = new OnPage(words);
+  const serving = await Serving.start();
+  const on = new OnPage([chromium, serving.address, folder]);
   const recorded = await on.browser.record();
   await on.check(name, WIDE, async (page) => {
     const told = await holds(page, on);
@@ -42,10 +46,11 @@ async function budget(name, holds) {
     const elements = await page.value("document.querySelectorAll('*').length");
     const tasks = await recorded(page);
     const long = tasks.filter((each) => each > LONGEST).map(Math.round);
-    if (process.env.TELL) console.log(`${name}: the longest of ${tasks.length} tasks ${Math.round(Math.max(...tasks))} ms, ${elements} elements, ${await memoryOf(on.browser)} MB`);
-    return same([tasks.length > 10, long, elements < ELEMENTS || elements], [true, [], true]);
+    if (process.env.TELL) console.log(`${name}: the longest of ${tasks.length} tasks ${Math.round(Math.max(...tasks))} ms, ${elements} elements, ${await memoryOf(on.browser)} MB, the server ${serving.memory} MB`);
+    return same([tasks.length > 10, long, elements < ELEMENTS || elements, serving.memory < SERVER || serving.memory], [true, [], true, true]);
   });
   await on.browser.close();
+  await serving.end();
   all.passed += on.counts.passed;
   all.failed += on.counts.failed;
 }
@@ -70,7 +75,7 @@ await budget('20 MB of 1,000,000 points', async (page, on) => {
   const { told, worked, time } = await drawnFirst(page, on, on.made('points.mvt', tile.bytes));
   const memory = await memoryOf(on.browser);
   const facts = await page.value(textOf('.facts'));
-  return same([facts, told, memory < 1000 || memory, worked < 6 || worked, time < 3 * SLOWER || time],
+  return same([facts, told, memory < 600 || memory, worked < 6 || worked, time < 3 * SLOWER || time],
     ['20 MB, 1 layer, 1,000,000 features, 1,000,000 positions.', '…', true, true, true]);
 });
 
@@ -89,7 +94,7 @@ await budget('60 MB judged and drawn', async (page, on) => {
   const { told } = await drawnFirst(page, on, on.made('sixty.mvt', tile.bytes));
   const memory = await memoryOf(on.browser);
   const facts = await page.value(textOf('.facts'));
-  return same([facts.startsWith(`60 MB, 1 layer, ${tile.features.toLocaleString('en')} features`) || facts, told, memory < 2000 || memory], [true, '…', true]);
+  return same([facts.startsWith(`60 MB, 1 layer, ${tile.features.toLocaleString('en')} features`) || facts, told, memory < 1000 || memory], [true, '…', true]);
 });
 
 await budget('10,000 tiles of 1 kB', async (page, on) => {

@@ -1,11 +1,10 @@
-// The page in headless Firefox: firefox.mjs FIREFOX PAGE FOLDER. What it shows of tiles is compared in Chromium; here it is
+// The page in headless Firefox: firefox.mjs FIREFOX ADDRESS FOLDER. What it shows of tiles is compared in Chromium; here it is
 // seen to work in a second browser. The folder is for what is made.
 import { spawn } from 'node:child_process';
 import { existsSync, mkdtempSync, readFileSync, rmSync, writeFileSync } from 'node:fs';
 import { connect } from 'node:net';
 import { tmpdir } from 'node:os';
 import { join } from 'node:path';
-import { pathToFileURL } from 'node:url';
 import { Counts } from './counts.mjs';
 import { colourAt, same, textOf, texts, tiles } from './onpage.mjs';
 
@@ -95,7 +94,7 @@ class Firefox {
   }
 }
 
-const [program, page, folder] = process.argv.slice(2);
+const [program, address, folder] = process.argv.slice(2);
 const counts = new Counts();
 const firefox = new Firefox();
 await firefox.start(program, { width: 1400, height: 900 });
@@ -103,7 +102,7 @@ await firefox.start(program, { width: 1400, height: 900 });
 /** One check in a page that was opened anew, of which the folder gets a picture. */
 async function check(name, files, holds) {
   await counts.check(name, async () => {
-    await firefox.open(pathToFileURL(page).href);
+    await firefox.open(address);
     await firefox.choose(files);
     await firefox.until("document.querySelector('#tile article, #list tbody tr') && !document.body.classList.contains('busy')");
     const told = await holds();

@@ -1,7 +1,6 @@
 // What the tests of the page in headless Chromium have in common.
 import { existsSync, readFileSync, writeFileSync } from 'node:fs';
 import { join } from 'node:path';
-import { pathToFileURL } from 'node:url';
 import { Browser } from './browser.mjs';
 import { Counts } from './counts.mjs';
 
@@ -10,9 +9,10 @@ export const tiles = new URL('../../examples/tiles', import.meta.url).pathname;
 export class OnPage {
   counts = new Counts();
 
-  constructor([chromium, file, folder]) {
+  /** `address` is where the page is served, and the folder is for what is made. */
+  constructor([chromium, address, folder]) {
     this.browser = new Browser(chromium);
-    this.url = pathToFileURL(file).href;
+    this.url = address;
     this.folder = folder;
   }
 

@@ -1,4 +1,4 @@
-// The page in headless Chromium: pages.mjs CHROMIUM PAGE FOLDER. The folder is for what it makes.
+// The page in headless Chromium: pages.mjs CHROMIUM ADDRESS FOLDER. The folder is for what it makes.
 import { existsSync, readFileSync } from 'node:fs';
 import { join } from 'node:path';
 import { deflateSync, gzipSync } from 'node:zlib';
@@ -288,20 +288,14 @@ await onPage('dark where the person has it so', { dark: true }, async (page) => 
   return same(colour, 'rgb(23, 25, 27)');
 });
 
-await onPage('nothing is asked of a network', {}, async (page) => {
+await onPage('nothing is asked but of its own server', {}, async (page) => {
   const asked = [];
   browser.listen(({ method, params }) => method === 'Network.requestWillBeSent' && asked.push(params.request.url));
   await page.send('Network.enable');
   await page.send('Page.reload');
   await page.until("document.body?.dataset.ready === 'yes'");
   await look(page, [`${tiles}/gdal.mvt`]);
-  return same(asked.filter((each) => !/^(file|data|blob):/.test(each)), []);
-});
-
-const refuses = "WebAssembly.compile = () => Promise.reject(new WebAssembly.CompileError('invalid memory limits flags'))";
-await onPage('a browser without 64-bit memories is told so', { before: refuses }, async (page) => {
-  const isShown = await page.value("!document.getElementById('unsupported').hidden && document.getElementById('start').hidden");
-  return isShown && (await page.value(textOf('#unsupported'))).includes('64-bit memories');
+  return same(asked.filter((each) => !/^(data|blob):/.test(each) && !each.startsWith(on.url)), []);
 });
 
 await on.end();

@@ -1,4 +1,4 @@
-// The pictures of the page for the documents: pictures.mjs CHROMIUM PAGE FOLDER
+// The pictures of the page for the documents: pictures.mjs CHROMIUM ADDRESS FOLDER
 import { OnPage, click, clickLabelled, drawn, look, tiles } from './onpage.mjs';
 
 const on = new OnPage(process.argv.slice(2));

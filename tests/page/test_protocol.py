@@ -13,7 +13,7 @@ import unittest
 from pathlib import Path
 
 import mvt
-from serving import COMMAND, TILES, Serving, frames, parts_of
+from serving import COMMAND, TILES, Serving, frames, main, parts_of
 
 GDAL = (TILES / "gdal.mvt").read_bytes()
 BROKEN = (TILES / "broken" / "22-FirstRing.mvt").read_bytes()
@@ -329,4 +329,4 @@ class Command(unittest.TestCase):
 
 
 if __name__ == "__main__":
-    unittest.main()
+    main()

@@ -1,8 +1,8 @@
-// What the page finds in the bytes of refused tiles, and the heap: units.mjs CODEC FILE.. What the library says of tiles is
-// compared elsewhere (agree.mjs).
+// What the page finds in the bytes of refused tiles: units.mjs ADDRESS FILE.. What the library says of tiles is compared
+// elsewhere (agree.mjs).
 import { readFileSync } from 'node:fs';
 import { basename } from 'node:path';
-import { loadCodec } from '../../page/src/codec.js';
+import { Codec } from '../../page/src/codec.js';
 import { CAUSE } from '../../page/src/causes.js';
 import { locate } from '../../page/src/locate.js';
 import { BRIEF, sayPlace, sayTrail, sentence } from '../../page/src/words.js';
@@ -25,18 +25,18 @@ const MARKS = {
   '19-Parameters': [13, 14], '20-ZeroSegment': [17, 18], '21-CoordinateRange': [20, 21], '22-FirstRing': [21, 22],
   '23-EndsEarly': [11, 16], '24-RepeatedName': [19, 21], '26-ParameterRange': [14, 19],
 };
-const [module, ...files] = process.argv.slice(2);
-const codec = await loadCodec(readFileSync(module));
+const [address, ...files] = process.argv.slice(2);
+const codec = new Codec(address);
 for (const [name, [start, end]] of Object.entries(MARKS)) {
   const bytes = readFileSync(`${top}examples/tiles/broken/${name}.mvt`);
-  const place = locate(bytes, codec.open(bytes).rewrite().fault);
+  const place = locate(bytes, (await codec.open(bytes).rewrite()).fault);
   await is(`the mark of ${name}`, place.mark, { start, end });
 }
 
 // What is found in the bytes of any refused tile fits what the library says of its fault.
 for (const file of files) {
   const bytes = readFileSync(file);
-  const { fault } = codec.open(bytes).judge();
+  const { fault } = await codec.open(bytes).judge();
   if (fault) await counts.check(`the place in ${basename(file)}`, () => fits(bytes, fault, locate(bytes, fault)) || JSON.stringify(fault));
 }
 
@@ -50,28 +50,6 @@ function fits(bytes, fault, place) {
   const said = [...sentence(fault, place), sayPlace(place), ...trail.map(sayTrail)].join(' ');
   return isInside && isThere && isLayer && isFeature && !/undefined|null|NaN/.test(said);
 }
-
-// The heap: blocks stand apart, at multiples of 16, and keep their bytes while others come and go.
-await counts.check('the heap', () => {
-  const { take, give, memory } = new WebAssembly.Instance(codec.module, {}).exports;
-  const held = [];
-  for (let step = 0, seed = 1; step < 20_000; step += 1) {
-    seed = (seed * 48271) % 2147483647;
-    const block = seed % 3 === 0 ? held.splice(seed % held.length, 1)[0] : undefined;
-    if (block) {
-      const bytes = new Uint8Array(memory.buffer, block.at, block.size);
-      if (!bytes.every((byte) => byte === block.mark)) return `a block of ${block.size} bytes was changed`;
-      give(BigInt(block.at));
-    }
-    const size = seed % 100 === 7 ? seed % 200_000 : seed % 600;
-    const at = Number(take(BigInt(size)));
-    if (at === 0 || at % 16 !== 0) return `a block at ${at}`;
-    new Uint8Array(memory.buffer, at, size).fill(step % 256);
-    held.push({ at, size, mark: step % 256 });
-  }
-  const last = held.sort((a, b) => a.at - b.at).find((block, index) => index > 0 && held[index - 1].at + held[index - 1].size > block.at);
-  return last === undefined && memory.buffer.byteLength < 50_000_000 || 'blocks overlap, or memory is not used again';
-});
 
 const rules = readFileSync(`${top}docs/REFUSALS.md`, 'utf8').matchAll(/^\| (\d+) \| (\w+) \|/gm);
 const place = { trail: [], field: null, mark: { start: 0, end: 1 }, integers: { list: 'tags', index: 0, count: 1, value: 0, rows: [] } };

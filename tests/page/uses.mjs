@@ -1,4 +1,4 @@
-// How a person uses the page in headless Chromium, by mouse, fingers and keys: uses.mjs CHROMIUM PAGE FOLDER
+// How a person uses the page in headless Chromium, by mouse, fingers and keys: uses.mjs CHROMIUM ADDRESS FOLDER
 import { readFileSync } from 'node:fs';
 import { brotliCompressSync, gzipSync } from 'node:zlib';
 import { pointTile } from './large.mjs';
