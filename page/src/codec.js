@@ -38,34 +38,47 @@ export class Codec {
   }
 
   /** The answer to a call, in one block; null where the server has no memory for it. */
-  async call(name, body) {
-    const response = await this.#fetch(name, { method: 'POST', body });
-    if (response.status === 503) return null;
-    return blockOf(await good(response));
+  call(name, body) {
+    return this.#patiently(async () => {
+      const response = await this.#once(name, { method: 'POST', body });
+      return response.status === 503 ? null : blockOf(await good(response));
+    });
   }
 
   /** What stands at a path: bytes. */
-  async bytes(path) {
-    return blockOf(await good(await this.#fetch(path)));
+  bytes(path) {
+    return this.#patiently(async () => blockOf(await good(await this.#once(path))));
   }
 
   /** What stands at a path: JSON. */
-  async told(path) {
-    return (await good(await this.#fetch(path))).json();
+  told(path) {
+    return this.#patiently(async () => (await good(await this.#once(path))).json());
+  }
+
+  /** Whether something stands at a path. */
+  has(path) {
+    return this.#patiently(async () => {
+      const response = await this.#once(path, { method: 'HEAD' });
+      return response.status !== 404 && (await good(response)).ok;
+    });
   }
 
   /** Whether the server is there. */
-  async isThere() {
+  isThere() {
     return this.#once('given').then(() => true, () => false);
   }
 
-  /** Asks once more where no answer comes. Throws Gone where then nothing is answered at all. */
-  async #fetch(path, how) {
+  /** Asks, and once more where no answer comes, or not all of it. Throws Gone where nobody is there then. */
+  async #patiently(ask) {
     try {
-      return await this.#once(path, how);
-    } catch {
-      if (!(await this.isThere())) throw new Gone();
-      return this.#once(path, how);
+      return await ask();
+    } catch (error) {
+      if (!(error instanceof TypeError)) throw error;
+    }
+    try {
+      return await ask();
+    } catch (error) {
+      throw error instanceof TypeError && !(await this.isThere()) ? new Gone() : error;
     }
   }
 

@@ -43,6 +43,7 @@ function listen(page) {
     at('undropped').textContent = hasFolder(event.dataTransfer) ? 'A folder can’t be dropped. “Choose a folder” reads all its files.' : '';
     if (at('undropped').textContent === '') page.open([...event.dataTransfer.files].map(fileInput));
   });
+  document.addEventListener('keydown', (event) => page.press(event));
   at('paste').addEventListener('submit', (event) => {
     event.preventDefault();
     const spelled = spelledBytes(at('pasted').value);
@@ -62,8 +63,7 @@ async function start() {
   listen(page);
   at('start').hidden = false;
   try {
-    const { files } = await codec.told('given');
-    page.open(files.map((name, index) => ({ name, source: `files/${index}` })));
+    page.take(await codec.told('given'));
   } catch {
     page.sayGone();
   }

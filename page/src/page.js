@@ -4,6 +4,8 @@ import { Client } from './client.js';
 import { element } from './dom.js';
 import { foreign, plain } from './foreign.js';
 import { TileList } from './list.js';
+import { StoreList } from './store.js';
+import { WAYS, placeOf, spelledPlace, wayFrom, wayOfKey } from './stored.js';
 import { counted } from './text.js';
 import { TileView } from './tile.js';
 
@@ -19,6 +21,9 @@ export class Page {
   #tiles = null;
   #lists = null;
   #list = null;
+  #store = null;
+  #place = null;
+  #given = null;
   #inputs = [];
   #waysNow = () => {};
   #working = new Map();
@@ -51,13 +56,8 @@ export class Page {
    */
   async open(inputs) {
     if (inputs.length === 0 || !(await this.#isServed())) return;
-    this.#lists?.stop();
-    this.#list = null;
+    this.#clear();
     this.#inputs = inputs;
-    part('list').replaceChildren();
-    this.#clearTile();
-    this.#done('list');
-    document.body.classList.add('opened');
     await (inputs.length === 1 ? this.#show(0) : this.#listAll());
   }
 
@@ -66,8 +66,19 @@ export class Page {
     if (await this.#isServed()) await this.#show(index);
   }
 
+  #clear() {
+    this.#lists?.stop();
+    this.#store?.stop();
+    [this.#list, this.#store, this.#inputs] = [null, null, []];
+    part('list').replaceChildren();
+    this.#clearTile();
+    this.#done('list');
+    document.body.classList.add('opened');
+  }
+
   #clearTile() {
     this.#tiles?.stop();
+    this.#place = null;
     this.#tiles = this.#newClient();
     this.#done('tile');
     this.#waysNow = () => {};
@@ -77,14 +88,18 @@ export class Page {
   // ---- one tile
 
   async #show(index) {
-    const { name, source, note = null } = this.#inputs[index];
+    await this.#showInput(this.#inputs[index], () => this.#ways(index), () => this.#list?.choose(index));
+  }
+
+  /** Shows an input, with ways from it; `chosen` tells its list. */
+  async #showInput({ name, source, note = null }, ways, chosen) {
     this.#clearTile();
-    this.#list?.choose(index);
+    chosen();
     this.#begin('tile', [`Reading ${plain(name)} …`], () => this.#stopTile(name));
     try {
       const opened = await this.#tiles.ask('open', { source, name });
       opened.note = [note, opened.note].filter(Boolean).join(' ') || null;
-      const view = new TileView(this.#tiles, name, opened, { ways: this.#ways(index), data: this.#data });
+      const view = new TileView(this.#tiles, name, opened, { ways: ways(), data: this.#data });
       this.#put(view);
       const { told } = view;
       this.#say(told);
@@ -166,6 +181,89 @@ export class Page {
     }
     judging.stop();
     this.#done('list');
+  }
+
+  // ---- a store
+
+  /** Shows what the command was given: one thing at once, and buttons for more. */
+  async take({ files, stores, first }) {
+    this.#given = stores;
+    const inputs = files.map((name, index) => ({ name, source: `files/${index}` }));
+    const button = (words, act) => element('button', { type: 'button', onclick: act }, words);
+    const buttons = stores.map(({ name }, number) => button([foreign(name)], () => this.openStore(number)));
+    if (inputs.length > 0) buttons.push(button(inputs.length === 1 ? [foreign(inputs[0].name)] : [counted(inputs.length, 'file')], () => this.open(inputs)));
+    if (stores.length > 0 || inputs.length > 1) part('given').replaceChildren(element('div', { class: 'buttons' }, ['Given to mvt-page: ', ...buttons]));
+    if (first !== null) await this.openStore(first.store, first.place);
+    else if (stores.length > 0) await this.openStore(0);
+    else await this.open(inputs);
+  }
+
+  /** Opens a store of a number, and perhaps a tile of it by its place. */
+  async openStore(number, place = null) {
+    if (!(await this.#isServed())) return;
+    this.#clear();
+    const store = new StoreList(this.#codec, number, this.#given[number], {
+      open: (tile) => this.#openTile(tile),
+      busy: (words, stop) => this.#begin('list', words, stop),
+      done: () => this.#done('list'),
+      failed: (error) => this.#failed(error),
+    });
+    this.#store = store;
+    part('list').append(store.root);
+    store.title.focus();
+    const isLoaded = store.load(place === null ? '' : `at=${place}`);
+    if (place !== null) await this.#openTile(store.tileAt(placeOf(place)));
+    await isLoaded;
+  }
+
+  /** Opens a tile of the store, if it is there: what is shown stays where it isn't. */
+  async #openTile(tile) {
+    const store = this.#store;
+    try {
+      const isThere = await this.#codec.has(tile.source);
+      if (store !== this.#store) return;
+      this.#say(isThere ? '' : `The store has no tile ${tile.name}.`);
+      store.problem.textContent = part('told').textContent;
+      if (!isThere) return;
+      await this.#showInput(tile, () => this.#waysRound(tile.place), () => store.choose(tile));
+    } catch (error) {
+      this.#failed(error);
+    }
+  }
+
+  #failed(error) {
+    if (error.name === 'Gone') this.sayGone();
+    else this.#store.problem.textContent = error.message;
+  }
+
+  /** Ways to the list, to the next broken tile, and to those round a tile. */
+  #waysRound(place) {
+    const act = (words, label, to) => element('button', { type: 'button', 'aria-label': label, title: label, onclick: to }, [words]);
+    const back = act('Back to the list', 'Back to the list', () => this.#backToStore());
+    const next = act('Next broken', 'The next broken tile (N)', () => this.#store.searchOn());
+    this.#place = place;
+    const round = place === null ? [] : WAYS.map((way) => [way, wayFrom(place, way)]).map(([way, to]) => {
+      const button = act(way.sign, to === null ? way.name : `${way.name}, ${spelledPlace(to)} (${way.key})`, () => this.#openTile(this.#store.tileAt(to)));
+      button.disabled = to === null;
+      return button;
+    });
+    return [element('div', { class: 'buttons ways' }, [back, next]), element('div', { class: 'buttons ways', role: 'group', 'aria-label': 'Tiles round it' }, round)];
+  }
+
+  #backToStore() {
+    part('list').scrollIntoView({ block: 'start' });
+    this.#store.reveal();
+  }
+
+  /** Goes where a key leads from the tile of a store that is open. */
+  press(event) {
+    if (this.#store === null || event.defaultPrevented || event.target.closest('input, select, textarea, .paper, .rows, .hex, pre')) return;
+    const way = wayOfKey(event);
+    const to = way && this.#place && wayFrom(this.#place, way);
+    if (to) this.#openTile(this.#store.tileAt(to));
+    else if (event.key === 'n' && !event.ctrlKey && !event.altKey && !event.metaKey) this.#store.searchOn();
+    else return;
+    event.preventDefault();
   }
 
   // ---- what is going on

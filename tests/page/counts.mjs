@@ -13,6 +13,12 @@ export class Counts {
     }
   }
 
+  /** Adds what others counted. */
+  add({ passed, failed }) {
+    this.passed += passed;
+    this.failed += failed;
+  }
+
   #fail(name, told) {
     this.failed += 1;
     console.log(`failed: ${name}: ${told}`);

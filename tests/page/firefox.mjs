@@ -1,5 +1,5 @@
-// The page in headless Firefox: firefox.mjs FIREFOX ADDRESS FOLDER. What it shows of tiles is compared in Chromium; here it is
-// seen to work in a second browser. The folder is for what is made.
+// The page in headless Firefox: firefox.mjs FIREFOX ADDRESS FOLDER STORES. What it shows of tiles is compared in Chromium; here
+// it is seen to work in a second browser. The folder is for what is made; the last has what make_stores.py made.
 import { spawn } from 'node:child_process';
 import { existsSync, mkdtempSync, readFileSync, rmSync, writeFileSync } from 'node:fs';
 import { connect } from 'node:net';
@@ -7,6 +7,7 @@ import { tmpdir } from 'node:os';
 import { join } from 'node:path';
 import { Counts } from './counts.mjs';
 import { colourAt, same, textOf, texts, tiles } from './onpage.mjs';
+import { Serving } from './serving.mjs';
 
 const DEADLINE = 120_000;
 const pause = (milliseconds) => new Promise((resolve) => setTimeout(resolve, milliseconds));
@@ -81,6 +82,13 @@ class Firefox {
     await this.send('WebDriver:ElementSendKeys', { id: Object.values(value)[0], text: paths.join('\n') });
   }
 
+  /** Presses a key, perhaps with Shift. */
+  async press(key, isShifted = false) {
+    const keys = isShifted ? ['\uE008', key] : [key];
+    const actions = [...keys.map((value) => ({ type: 'keyDown', value })), ...[...keys].reverse().map((value) => ({ type: 'keyUp', value }))];
+    await this.send('WebDriver:PerformActions', { actions: [{ type: 'key', id: 'keys', actions }] });
+  }
+
   async screenshot() {
     return Buffer.from((await this.send('WebDriver:TakeScreenshot', { full: false, hash: false })).value, 'base64');
   }
@@ -94,7 +102,7 @@ class Firefox {
   }
 }
 
-const [program, address, folder] = process.argv.slice(2);
+const [program, address, folder, stores] = process.argv.slice(2);
 const counts = new Counts();
 const firefox = new Firefox();
 await firefox.start(program, { width: 1400, height: 900 });
@@ -133,6 +141,38 @@ await check('several tiles', [`${tiles}/gdal.mvt`, `${tiles}/broken/22-FirstRing
   await firefox.value("document.querySelectorAll('#list tbody button')[2].click()");
   await firefox.until("document.querySelector('.paper')?.dataset.state === 'drawn' && !document.body.classList.contains('busy')");
   return same([title, await firefox.value(textOf('#tile h2'))], ['3 files: 2 accepted, 1 refused', 'postgis.mvt']);
+});
+
+await counts.check('a store', async () => {
+  const given = await Serving.start([`${stores}/town.mbtiles`, '5/17/11']);
+  await firefox.open(given.address);
+  const shown = (name) => firefox.until(`${textOf('#tile h2')} === '${name}' && document.querySelector('#tile .paper, #tile .hex') && !document.body.classList.contains('busy')`);
+  await shown('5/17/11');
+  const seen = [await firefox.value(textOf('.fault code'))];
+  for (const [key, isShifted, name] of [['\uE014', true, '5/18/11'], ['0', false, '4/9/5'], ['n', false, '4/9/6']]) {
+    await firefox.press(key, isShifted);
+    await shown(name);
+    seen.push(name);
+  }
+  writeFileSync(join(folder, 'firefox-store.png'), await firefox.screenshot());
+  await given.end();
+  return same(seen, ['layer 0 feature 0 at 8: 22 FirstRing', '5/18/11', '4/9/5', '4/9/6']);
+});
+
+await counts.check('the page and its workers reach its own server alone', async () => {
+  const other = await Serving.start();
+  await firefox.open(address);
+  const reaches = (url) => `fetch('${url}given', { mode: 'no-cors' }).then(() => 'reached', () => 'nothing')`;
+  const told = async (expression) => (await firefox.send('WebDriver:ExecuteAsyncScript', { script: `(${expression}).then(arguments[0])`, args: [] })).value;
+  const inWorker = (script) => `new Promise((resolve) => {
+    const worker = new Worker(URL.createObjectURL(new Blob([\`\${${JSON.stringify(script)}}.then((told) => postMessage(told))\`])));
+    worker.onmessage = ({ data }) => resolve(data);
+    worker.onerror = () => resolve('failed');
+  })`;
+  const got = [];
+  for (const url of [address, other.address]) got.push(await told(inWorker(reaches(url))));
+  await other.end();
+  return same(got, ['reached', 'nothing']);
 });
 
 await firefox.close();

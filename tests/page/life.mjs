@@ -13,17 +13,12 @@ const gone = textOf('#gone');
 
 /** A check with a server of its own, which may end. */
 async function served(name, holds, before = []) {
-  await counts.check(name, async () => {
-    const serving = await Serving.start([], before);
-    const on = new OnPage([chromium, serving.address, folder]);
-    try {
-      await on.check(name, {}, (page) => holds(page, serving, on));
-      return on.counts.failed === 0;
-    } finally {
-      await on.browser.close();
-      await serving.end();
-    }
-  });
+  const serving = await Serving.start([], before);
+  const on = new OnPage([chromium, serving.address, folder]);
+  await on.check(name, {}, (page) => holds(page, serving, on));
+  await on.browser.close();
+  await serving.end();
+  counts.add(on.counts);
 }
 
 await served('the server ends: it is told, and what is drawn stays', async (page, serving) => {

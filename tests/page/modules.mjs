@@ -15,6 +15,8 @@ import { Finder } from '../../page/src/near.js';
 import { Report } from '../../page/src/report.js';
 import { Rows } from '../../page/src/rows.js';
 import { spelledBytes, spelledOffset } from '../../page/src/spelled.js';
+import { answerOf, framesOf, partsOf, rowsOf } from '../../page/src/spelling.js';
+import { WAYS, placeOf, verdictOfRow, wayFrom, wayOfKey } from '../../page/src/stored.js';
 import { grouped } from '../../page/src/text.js';
 import { WHOLE, moved, transformOf, viewOf, zoomed } from '../../page/src/view.js';
 import { Counts } from './counts.mjs';
@@ -196,4 +198,30 @@ for (const [name, { paper, layers }] of Object.entries({ LIGHT, DARK })) {
   const pairs = labs.flatMap((a, index) => labs.slice(index + 1).map((b) => Math.hypot(...a.map((part, axis) => part - b[axis]))));
   await counts.check(`${name}: told apart`, () => Math.min(...pairs) > 0.15 || String(Math.min(...pairs)));
 }
+// ---- questions and answers: bytes by hand, as library/python/mvt/page/calls.py says
+
+const FAULT = [1, 0, 0, 0, 0, 0, 0, 0, ...Array(8).fill(255), 2, 0, 0, 0, 0, 0, 0, 0, 8, 1, 0, 0, 0, 0, 0, 0, 22, 0, 0, 0, 2, 0, 0, 0, 0x61, 0x62];
+await is('an answer of bytes', { ...answerOf(Uint8Array.of(0, 0, 0, 0, 0, 0, 0, 0, 7, 8)), bytes: undefined }, { status: 0 });
+await is('its bytes', [...answerOf(Uint8Array.of(0, 0, 0, 0, 0, 0, 0, 0, 7, 8)).bytes], [7, 8]);
+await is('an answer with a fault', answerOf(Uint8Array.from(FAULT)), { status: 1, fault: { layer: null, feature: 2, at: 264, cause: 22, name: 'ab' } });
+await is('an answer that stands within others', answerOf(Uint8Array.from([9, 9, 9, ...FAULT]).subarray(3)).fault.at, 264);
+await is('frames', [...framesOf([Uint8Array.of(1, 2), Uint8Array.of(), Uint8Array.of(3)])], [3, 0, 0, 0, 2, 0, 0, 0, 0, 0, 0, 0, 1, 0, 0, 0, 1, 2, 3]);
+await is('parts of frames', partsOf(framesOf([Uint8Array.of(1, 2), Uint8Array.of(), Uint8Array.of(3)])).map((part) => [...part]), [[1, 2], [], [3]]);
+const counted = (...numbers) => numbers.flatMap((number) => [number, 0, 0, 0, 0, 0, 0, 0]);
+const lists = rowsOf(answerOf(Uint8Array.from([...counted(0), ...counted(1, 1, 1, 1, 3, 1, 1, 1, 5), ...Array(300)])).bytes);
+await is('where rows lie', Object.entries(lists).slice(0, 9).map(([name, { at, count }]) => `${name} ${at} ${count}`),
+  ['layers 80 1', 'features 168 1', 'keys 232 1', 'values 248 1', 'tags 280 3', 'parts 296 1', 'points 320 1', 'integers 328 1', 'texts 336 5']);
+
+// ---- tiles of a store
+
+await is('places', ['5/17/11', ' 0/0/0 ', '1/2/0', '5/17', '31/0/0', '1/0/0.mvt', ''].map(placeOf), [{ z: 5, x: 17, y: 11 }, { z: 0, x: 0, y: 0 }, null, null, null, null, null]);
+const ways = (place) => WAYS.map((way) => wayFrom(place, way)).map((to) => to && `${to.z}/${to.x}/${to.y}`);
+await is('ways from a tile', ways({ z: 2, x: 3, y: 1 }), ['2/2/1', '2/3/0', '2/3/2', '2/0/1', '1/1/0', '3/6/2', '3/7/2', '3/6/3', '3/7/3']);
+await is('ways from the whole world', ways({ z: 0, x: 0, y: 0 }), ['0/0/0', null, null, '0/0/0', null, '1/0/0', '1/1/0', '1/0/1', '1/1/1']);
+await is('keys', [{ key: 'ArrowLeft', shiftKey: true }, { key: 'ArrowLeft' }, { key: '0' }, { key: '3', ctrlKey: true }, { key: 'x' }].map((event) => wayOfKey(event)?.name ?? null), ['West', null, 'Parent', null, null]);
+const row = { verdict: 'accepted', cause: null, cause_name: null, layer: null, feature: null, place: null, notes: '' };
+await is('verdicts of rows', [row, { ...row, notes: 'NoFeatures layer 0; FlatRing layer 0 feature 1; FlatRing layer 0 feature 2; and 7 more' }, { ...row, notes: 'Foreign layer 0 version 1' },
+  { ...row, verdict: 'empty', notes: 'NoLayers' }, { ...row, verdict: 'not unpacked', notes: 'cut off' }, { ...row, verdict: 'unread', notes: 'gone' }].map(verdictOfRow).map(({ kind, notes, foreign: old }) => [kind, notes.map((note) => note.kind + note.count).join(), old]),
+[['accepted', '', 0], ['accepted', 'NoFeatures1,FlatRing2', 0], ['partly', 'Foreign1', 1], ['accepted', 'NoLayers1', 0], ['other', '', 0], ['unread', '', 0]]);
+await is('the fault of a row', verdictOfRow({ ...row, verdict: 'refused', cause: 22, cause_name: 'FirstRing', layer: 0, feature: 3, place: 8 }).fault, { layer: 0, feature: 3, at: 8, cause: 22, name: 'FirstRing' });
 counts.end();

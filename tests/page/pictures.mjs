@@ -1,13 +1,16 @@
-// The pictures of the page for the documents: pictures.mjs CHROMIUM ADDRESS FOLDER
+// The pictures of the page for the documents: pictures.mjs CHROMIUM FOLDER STORES. The last has what make_stores.py made.
 import { OnPage, click, clickLabelled, drawn, look, tiles } from './onpage.mjs';
+import { Serving } from './serving.mjs';
 
-const on = new OnPage(process.argv.slice(2));
+const [chromium, folder, stores] = process.argv.slice(2);
+const serving = await Serving.start();
+const on = new OnPage([chromium, serving.address, folder]);
 const WIDE = { width: 1400, height: 900 };
 const PHONE = { width: 390, height: 844, dark: true };
 
 /** The picture of a page in which a person has done something. */
-async function picture(name, how, does) {
-  const page = await on.browser.page(on.url, how);
+async function picture(name, how, does, url = on.url) {
+  const page = await on.browser.page(url, how);
   await does(page);
   await new Promise((resolve) => setTimeout(resolve, 500));
   on.made(`${name}.png`, await page.screenshot());
@@ -37,4 +40,14 @@ await picture('page-several', PHONE, async (page) => {
   await page.until("document.querySelector('.shape')");
 });
 
+const given = await Serving.start([`${stores}/town.mbtiles`, '5/17/11']);
+await picture('page-store', WIDE, async (page) => {
+  await page.until("document.querySelector('.shape') && document.querySelectorAll('#list tbody .link').length > 10");
+  await page.value("document.querySelector('#list select').value = 'broken'");
+  await page.value("document.querySelector('#list select').dispatchEvent(new Event('change'))");
+  await page.until("document.querySelector('#list [role=status]').textContent.includes('which are all')");
+}, given.address);
+
 await on.browser.close();
+await given.end();
+await serving.end();

@@ -1,5 +1,6 @@
 """What the server answers to whom: its calls' spelling, requests that are no good, and how the command ends."""
 
+import http.client
 import os
 import random
 import signal
@@ -8,6 +9,7 @@ import stat
 import struct
 import subprocess
 import tempfile
+import threading
 import time
 import unittest
 from pathlib import Path
@@ -29,7 +31,7 @@ class Served(unittest.TestCase):
 
     @classmethod
     def tearDownClass(cls):
-        cls.serving.end()
+        cls.serving.__exit__()
 
     def head(self, method="GET", path=None, **headers):
         """The head of a request as a browser writes it, with some headers changed; None leaves one out."""
@@ -85,7 +87,7 @@ class Calls(Served):
         self.assertEqual(parts_of(self.serving.call("reports", frames())), [])
 
     def test_the_longest_body(self):
-        longest = bytes([0x22, 0xFC, 0xFF, 0xFF, 0x1F]) + bytes((1 << 26) - 4)
+        longest = bytes([0x20, 0]) * (1 << 25) + bytes([0x20])
         self.assertEqual(self.serving.call("judge", longest), struct.pack("<IIqqQII", 1, 0, -1, -1, 1 << 26, 25, 8) + b"TooLarge")
         self.assertEqual(self.status(self.head("POST", self.serving.path + "judge", Content_Length=str(len(longest) + 1))), 413)
 
@@ -261,6 +263,25 @@ class Command(unittest.TestCase):
             with Serving() as serving:
                 status, _, error = serving.end(number)
                 self.assertEqual((status, error), (0, ""))
+
+    def test_it_ends_while_calls_run(self):
+        """Where some run and others wait."""
+        tile = bytes([0x1A, 0xFB, 0xFF, 0xFF, 0x1F, 0x78, 2, 0x0A, 1, 0x61]) + bytes([0x12, 0]) * 33_554_427
+        for _ in range(3):
+            with Serving() as serving:
+                asked = [threading.Thread(target=self.ask_quietly, args=(serving, tile)) for _ in range(6)]
+                for each in asked:
+                    each.start()
+                time.sleep(1)
+                self.assertEqual(serving.end()[::2], (0, ""))
+                for each in asked:
+                    each.join()
+
+    def ask_quietly(self, serving, tile):
+        try:
+            serving.call("json", tile)
+        except (OSError, http.client.HTTPException):
+            pass  # it has ended
 
     def test_it_says_what_it_is(self):
         with Serving() as serving:

@@ -46,6 +46,9 @@ is('texts of tiles stay texts', same(await page.value('document.title'), 'Audit 
 is('no script', same(await page.value('document.scripts.length'), 0));
 const causes = await page.value("[...document.querySelectorAll('h3')].map((each) => each.id)");
 is('each kind of broken tile', causes.length === 26 || causes);
+const commands = await page.value("[...document.querySelectorAll('article code')].map((code) => code.textContent).filter((told) => told.startsWith('mvt-page '))");
+const isCommand = (told) => /^mvt-page '\/.*\/town & <b>country\.mbtiles' \d+\/\d+\/\d+$/.test(told);
+is('each tile has the command that opens it', (commands.length === (await page.value("document.querySelectorAll('article').length")) && commands.every(isCommand)) || commands);
 const dangling = await page.value("[...document.querySelectorAll('a')].filter((a) => !document.querySelector(a.getAttribute('href'))).length");
 is('each link leads somewhere', same(dangling, 0));
 is('bytes are marked', (await page.value("document.querySelectorAll('mark').length")) > 20);

@@ -1,6 +1,7 @@
 """Stores and unpacking, without a cluster."""
 
 import gzip
+import itertools
 import pickle
 import resource
 import sqlite3
@@ -35,7 +36,21 @@ class Stores(Case):
         self.assertLessEqual(max(map(len, parts)), size)
         for address, content in parts[3]:
             self.assertEqual(store.tile(address), content)
+        self.by_keys(store, [each for part in parts for each in part])
         return [each for part in parts for each in part]
+
+    def by_keys(self, store, tiles):
+        """A store that was only looked at has the same tiles, each by its key and its place."""
+        store = stores.opened(store.path)
+        store.check()
+        since = list(store.since(None))
+        self.assertCountEqual([(address, content) for _, address, content in since], tiles)
+        for number, (key, address, content) in list(enumerate(since))[::25]:
+            self.assertEqual(list(itertools.islice(store.since(key), 2)), since[number : number + 2])
+            self.assertEqual(store.held(key), content)
+            if address.z is not None:
+                self.assertEqual(store.find(address.z, address.x, address.y), key)
+        self.assertIsNone(store.find(20, 1, 1))
 
     def test_mbtiles_are_counted_from_the_south(self):
         for kind in ("table", "keys", "view"):

@@ -1,33 +1,92 @@
-"""What the command was given: files of one tile each."""
+"""What the command was given: stores, and files of one tile each."""
 
 import os
+import re
 import stat
-from typing import Any, Dict, List, Sequence
+from typing import Any, Dict, List, NamedTuple, Optional, Sequence, Tuple
 
 from ..audit import files
+from ..audit.stores import Key, Store, StoreError, found
+
+# A zoom beyond this is none.
+_MOST_ZOOM = 30
 
 
 class GivenError(Exception):
     """Why something that was given can't be read, in a sentence."""
 
 
+class Place(NamedTuple):
+    """A tile of a store, which is opened first."""
+
+    store: int
+    z: int
+    x: int
+    y: int
+
+
 class Given:
     def __init__(self, words: Sequence[str]) -> None:
-        """Raises GivenError where one of the words names nothing that can be read."""
-        self.files: List[str] = [_readable(word) for word in words]
+        """Words are files, stores, and behind a store perhaps the place Z/X/Y of a tile. Raises GivenError where one of them
+        names nothing that can be read."""
+        self.files: List[str] = []
+        self.stores: List[Store] = []
+        self.place: Optional[Place] = None
+        is_behind_store = False
+        for word in words:
+            place = place_of(word.split("/")) if is_behind_store else None
+            if place is not None:
+                self.place = Place(len(self.stores) - 1, *place)
+                self._key(self.place)
+            store = None if place else _store(word)
+            if store is not None:
+                self.stores.append(store)
+            elif place is None:
+                self.files.append(_readable(word))
+            is_behind_store = store is not None
+
+    def _key(self, place: Place) -> Key:
+        store = self.stores[place.store]
+        try:
+            key = store.find(*place[1:])
+        except (OSError, StoreError) as why:
+            raise GivenError(str(why)) from why
+        if key is None:
+            raise GivenError(f"{shown(store.path)}: it has no tile {place.z}/{place.x}/{place.y}")
+        return key
 
     def told(self) -> Dict[str, Any]:
-        """The names, for the page."""
-        return {"files": [shown(os.path.basename(path)) for path in self.files]}
+        """The names, for the page, and what it opens first."""
+        stores = [{"name": shown(os.path.basename(store.path) or store.path), "kind": store.kind} for store in self.stores]
+        place = None if self.place is None else {"store": self.place.store, "place": "/".join(map(str, self.place[1:]))}
+        return {"files": [shown(os.path.basename(path)) for path in self.files], "stores": stores, "first": place}
 
     def file(self, number: int) -> bytes:
         """The bytes of a file, and no more of them than decide. Raises IndexError and OSError."""
         return files.read(self.files[number])
 
 
+def place_of(words: Sequence[str]) -> Optional[Tuple[int, int, int]]:
+    """z, x and y of a tile; None where the words aren't those of one."""
+    if len(words) != 3 or not all(re.fullmatch("0|[1-9][0-9]{0,9}", word) for word in words):
+        return None
+    z, x, y = map(int, words)
+    return (z, x, y) if z <= _MOST_ZOOM and max(x, y) < 1 << z else None
+
+
 def shown(name: str) -> str:
     """A file's name as a text that any encoding takes."""
     return name.encode("utf-8", "surrogateescape").decode("utf-8", "backslashreplace")
+
+
+def _store(path: str) -> Optional[Store]:
+    try:
+        store = found(path)
+        if store is not None:
+            store.check()
+    except StoreError as why:
+        raise GivenError(shown(str(why))) from why
+    return store
 
 
 def _readable(path: str) -> str:

@@ -5,14 +5,17 @@ import re
 import secrets
 import select
 import socket
+import time
 import traceback
 from http.server import BaseHTTPRequestHandler
 from typing import TYPE_CHECKING, Any, Dict, List, NamedTuple, Optional, Sequence
 from urllib.parse import parse_qsl
 
+from ..audit.stores import Key, Store, StoreError
 from ..audit.unpacking import LIMIT
-from . import calls, frames
+from . import calls, frames, listing
 from .frames import Part
+from .given import place_of
 from .guard import denial
 
 if TYPE_CHECKING:
@@ -24,8 +27,8 @@ PATIENCE = 30
 MOST = LIMIT + 1
 MOST_FRAMED = MOST + (4 << 20)
 _PIECE = 1 << 20
-# So many bytes of a body are passed over behind an answer that doesn't want it.
-_PASSED_OVER = 1 << 20
+# So many bytes of a body are passed over behind an answer that doesn't want it, for so many seconds.
+_PASSED_OVER, _PASSING = 1 << 20, 1.0
 
 _PAGE, _BYTES, _JSON, _TEXT = "text/html; charset=utf-8", "application/octet-stream", "application/json", "text/plain; charset=utf-8"
 _ALWAYS = {
@@ -59,6 +62,7 @@ class Handler(BaseHTTPRequestHandler):
     protocol_version = "HTTP/1.1"
     default_request_version = "HTTP/1.0"
     timeout = PATIENCE
+    disable_nagle_algorithm = True
     server: "Server"
 
     def version_string(self) -> str:
@@ -121,17 +125,39 @@ class Handler(BaseHTTPRequestHandler):
             self._answer(_PAGE, [self.server.page], _OF_PAGE)
         elif asked.path == ["given"]:
             self._answer(_JSON, [json.dumps(self.server.given.told()).encode()])
-        elif asked.path[0] == "files":
-            self._answer(_BYTES, [self._file(asked.path[1:])])
+        elif asked.path[0] == "files" and len(asked.path) == 2:
+            self._answer(_BYTES, [self._file(_number(asked.path[1]))])
+        elif asked.path[0] == "stores" and len(asked.path) > 2:
+            self._of_store(_number(asked.path[1]), asked)
         else:
             raise Fault(404, "Nothing is here.")
 
-    def _file(self, path: Sequence[str]) -> bytes:
-        numbers = _numbers(path, 1)
+    def _file(self, number: int) -> bytes:
         try:
-            return self.server.given.file(numbers[0])
+            return self.server.given.file(number)
         except (IndexError, OSError) as why:
             raise Fault(404, _reason(why)) from why
+
+    # ---- stores
+
+    def _of_store(self, number: int, asked: Asked) -> None:
+        """Some tiles of a store, or one."""
+        what, stores = asked.path[2:], self.server.given.stores
+        if number >= len(stores):
+            raise Fault(404, "There is no such store.")
+        with self.server.turn(self.connection):
+            leave_if_gone(self.connection)
+            try:
+                if what == ["tiles"]:
+                    self._answer(_JSON, [json.dumps(listing.some(stores[number], _wish(stores[number], asked.query))).encode()])
+                else:
+                    self._answer(_BYTES, [stores[number].held(_key(stores[number], what, asked.query))])
+            except (ValueError, OverflowError) as why:
+                raise Fault(400, "This is no key of a tile.") from why
+            except (OSError, StoreError) as why:
+                raise Fault(404, _reason(why)) from why
+            except MemoryError as why:
+                self._without_memory(why)
 
     # ---- calls
 
@@ -215,13 +241,13 @@ class Handler(BaseHTTPRequestHandler):
             pass  # nobody is there to be told
 
     def _pass_over(self) -> None:
-        """Reads what is still on its way, so that the answer isn't lost with the connection."""
+        """Reads what is still on its way, for a while, so that the answer isn't lost with the connection."""
         if self._is_read:
             return
         self.connection.shutdown(socket.SHUT_WR)
-        self.connection.settimeout(1)
-        passed = 0
-        while passed < _PASSED_OVER:
+        self.connection.settimeout(_PASSING)
+        passed, begun = 0, time.monotonic()
+        while passed < _PASSED_OVER and time.monotonic() - begun < _PASSING:
             piece = self.connection.recv(65536)
             if not piece:
                 return
@@ -239,12 +265,38 @@ def _is_same(told: str, token: str) -> bool:
     return secrets.compare_digest(told.encode("utf-8", "surrogatepass"), token.encode())
 
 
-def _numbers(words: Sequence[str], count: int) -> List[int]:
-    """So many numbers of a path. Raises Fault where it has others, or fewer or more."""
-    if len(words) != count or not all(re.fullmatch("0|[1-9][0-9]{0,9}", word) for word in words):
+def _number(word: str) -> int:
+    """A number of a path. Raises Fault where it is none."""
+    if re.fullmatch("0|[1-9][0-9]{0,9}", word) is None:
         raise Fault(404, "Nothing is here.")
-    return [int(word) for word in words]
+    return int(word)
+
+
+def _key(store: Store, what: Sequence[str], query: Dict[str, str]) -> Key:
+    """The key of the tile at Z/X/Y, or the one that the query names. Raises Fault, and ValueError for what is no key."""
+    if list(what) == ["tile"]:
+        return listing.key_of(query.get("key", ""))
+    place = place_of(what)
+    key = None if place is None else store.find(*place)
+    if key is None:
+        raise Fault(404, "The store has no such tile.")
+    return key
+
+
+def _wish(store: Store, query: Dict[str, str]) -> listing.Wish:
+    """Which tiles are asked for: `from` or `after` a key, `at` or `past` a place, `count`, and `only` broken ones or those of
+    a cause."""
+    key = None
+    for name in {"from", "after"}.intersection(query):
+        key = listing.key_of(query[name])
+    for name in {"at", "past"}.intersection(query):
+        key = _key(store, query[name].split("/"), {})
+    only = query.get("only", "")
+    cause = None if only in ("", "broken") else _number(only)
+    count = min(max(_number(query.get("count", "200")), 1), listing.MOST)
+    return listing.Wish(key, "after" in query or "past" in query, count, only != "", cause)
 
 
 def _reason(why: Exception) -> str:
-    return (why.strerror if isinstance(why, OSError) else None) or "Nothing is here."
+    """Why something can't be read, without the paths of this machine."""
+    return (why.strerror if isinstance(why, OSError) else None) or "It can't be read."

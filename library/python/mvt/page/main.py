@@ -25,7 +25,9 @@ def _parser() -> argparse.ArgumentParser:
         epilog="It runs until Ctrl-C. Status: 0 it was ended, 2 the words are no good or the port is taken, 3 something can't"
         " be read.",
     )
-    words.add_argument("what", nargs="*", metavar="WHAT", help="a file with a tile")
+    words.add_argument("what", nargs="*", metavar="WHAT", help="a file with a tile, or a store: a folder"
+                       " {z}/{x}/{y}.mvt or .pbf (.gz too), an .mbtiles file, or a .txt file with a name on each line; behind a"
+                       " store perhaps the place Z/X/Y of the tile that is opened first")
     words.add_argument("--port", type=_port, default=0, metavar="N", help="the port; where nothing is said, one that is free")
     words.add_argument("--no-browser", action="store_true", help="don't open a browser, and only say the address")
     return words

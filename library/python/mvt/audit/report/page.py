@@ -1,5 +1,6 @@
 """The page as HTML."""
 
+import shlex
 import time
 from html import escape
 from pathlib import Path
@@ -168,9 +169,9 @@ def _example(example: Example, several: bool) -> str:
     row, fault = example.row, example.fault()
     where = row.name if row.z is None else f"{row.z}/{row.x}/{row.y}"
     title = escape(f"{Path(example.store).name}: {where}" if several else str(where))
-    said = [f"<h4>{title}{escape(_within(example))}</h4>"]
+    said = [f"<h4>{title}{escape(_within(example))}</h4>", _command(example)]
     if example.content is None:
-        return f'<article>{said[0]}<p>{escape(row.notes or example.why)}</p></article>'
+        return f'<article>{"".join(said)}<p>{escape(row.notes or example.why)}</p></article>'
     if fault is None:
         shown = _bytes(example.content, None)
         said.append(f"<p>{escape(row.notes)}; {counted(row.bytes or 0, 'byte')}.</p>")
@@ -182,6 +183,15 @@ def _example(example: Example, several: bool) -> str:
     said.append(f'<p class="quiet">{"; ".join(filter(None, told))}</p>')
     shown = "".join(_pictures(example.content, fault)) + _bytes(example.content, place)
     return f'<article>{"".join(said)}<div class="shown">{shown}</div></article>'
+
+
+def _command(example: Example) -> str:
+    """The command that opens a tile; nothing for one without a place. A link can't be: the page's address is secret."""
+    row = example.row
+    if row.z is None:
+        return ""
+    command = f"mvt-page {shlex.quote(example.store)} {row.z}/{row.x}/{row.y}"
+    return f'<p class="quiet">To look into it: <code>{escape(command)}</code></p>'
 
 
 def _within(example: Example) -> str:

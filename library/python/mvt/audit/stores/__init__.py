@@ -32,12 +32,18 @@ class State(NamedTuple):
 # The bytes of a tile as they are stored, or why they can't be read.
 Content = Union[bytes, Exception]
 
+# Where a tile stands in the order of its store: numbers and texts that the store alone understands.
+Key = Tuple[Any, ...]
+
 
 class Store(Protocol):
     """A store of tiles. It is sent to the workers, so it can be pickled, and opens nothing before it is asked."""
 
     path: str
     kind: str
+
+    def check(self) -> None:
+        """Raises StoreError where the store can't be read or has no tiles. Nothing is counted."""
 
     def state(self) -> State:
         """Raises StoreError where there are no tiles."""
@@ -51,13 +57,31 @@ class Store(Protocol):
     def tile(self, address: Address) -> bytes:
         """One tile. Raises OSError where it can't be read."""
 
+    def since(self, key: Optional[Key]) -> Iterator[Tuple[Key, Address, Content]]:
+        """The tiles from a key on, or all, each with its key: in the order of z, x and y where the store can tell them so.
+        Raises ValueError for a key that is none of this kind of store, and StoreError."""
 
-def opened(path: str) -> Store:
-    """The store at a path."""
+    def find(self, z: int, x: int, y: int) -> Optional[Key]:
+        """The key of the tile at a place, or None. Raises OSError."""
+
+    def held(self, key: Key) -> bytes:
+        """The tile of a key. Raises ValueError for a key that is none, and OSError where it can't be read."""
+
+
+def found(path: str) -> Optional[Store]:
+    """The store at a path, or None where there is none."""
     for module in sorted(pkgutil.iter_modules(__path__)):
         store: Optional[Store] = importlib.import_module(f"{__name__}.{module.name}").opened(path)
         if store is not None:
             return store
+    return None
+
+
+def opened(path: str) -> Store:
+    """The store at a path. Raises StoreError where there is none."""
+    store = found(path)
+    if store is not None:
+        return store
     raise StoreError(
         f"{path}: no store of tiles; it is a folder {{z}}/{{x}}/{{y}}.mvt or .pbf, an .mbtiles file,"
         " or a .txt file with a file name on each line"

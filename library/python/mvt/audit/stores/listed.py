@@ -2,10 +2,10 @@
 
 import hashlib
 import os
-from typing import Iterator, List, Optional, Tuple
+from typing import BinaryIO, Iterator, List, Optional, Tuple, Union
 
 from .. import files
-from . import Address, Content, State, StoreError
+from . import Address, Content, Key, State, StoreError
 
 
 def opened(path: str) -> Optional["Listed"]:
@@ -18,6 +18,10 @@ class Listed:
     def __init__(self, path: str) -> None:
         self.path = os.path.abspath(path)
         self.folder = os.path.dirname(self.path)
+
+    def check(self) -> None:
+        if next(self._names(), None) is None:
+            raise StoreError(f"{self.path}: this list has no names")
 
     def state(self) -> State:
         digest, tiles = hashlib.sha256(), 0
@@ -37,11 +41,47 @@ class Listed:
     def tile(self, address: Address) -> bytes:
         return files.read(os.path.join(self.folder, str(address)))
 
+    # A key is where a line begins.
+
+    def since(self, key: Optional[Key]) -> Iterator[Tuple[Key, Address, Content]]:
+        for start, name in self._lines(key):
+            [(address, content)] = files.tiles_of(self.folder, [name])
+            yield (start,), address, content
+
+    def find(self, z: int, x: int, y: int) -> Optional[Key]:
+        for start, name in self._lines(None):
+            if files.address_of(name)[:3] == (z, x, y):
+                return (start,)
+        return None
+
+    def held(self, key: Key) -> bytes:
+        for _, name in self._lines(key):
+            return files.read(os.path.join(self.folder, name))
+        raise ValueError("no line begins there")
+
     def _names(self) -> Iterator[str]:
+        return (name for _, name in self._lines(None))
+
+    def _lines(self, key: Optional[Key]) -> Iterator[Tuple[int, str]]:
+        """The names from a line on, each with where its line begins."""
+        [start] = (0,) if key is None else key
         try:
-            with open(self.path, encoding="utf-8", errors="surrogateescape") as file:
+            with open(self.path, "rb") as file:
+                at = _seek_line(file, start)
                 for line in file:
                     if line.strip():
-                        yield line.rstrip("\n")
+                        yield at, os.fsdecode(line.rstrip(b"\r\n"))
+                    at += len(line)
         except OSError as why:
             raise StoreError(f"{self.path}: {why.strerror}") from why
+
+
+def _seek_line(file: BinaryIO, start: Union[int, str]) -> int:
+    """Goes to a line. Raises ValueError where none begins there: a part of a name may be another name."""
+    if not isinstance(start, int) or start < 0:
+        raise ValueError("a line begins at a number")
+    if start > 0:
+        file.seek(start - 1)
+        if file.read(1) != b"\n":
+            raise ValueError("no line begins there")
+    return start

@@ -8,13 +8,12 @@ from pathlib import Path
 from typing import Any, Iterator, List, Optional, Tuple
 
 from ..files import MOST
-from . import Address, Content, State, StoreError
+from . import Address, Content, Key, State, StoreError
 
 _MAGIC = b"SQLite format 3\0"
 _PLACE = ("zoom_level", "tile_column", "tile_row")
 
 # A range: the first key, and the first behind it, or None at the end.
-Key = Tuple[Any, ...]
 Range = Tuple[Key, Optional[Key]]
 
 
@@ -39,11 +38,18 @@ class MBTiles:
         self.path = os.path.abspath(path)
         self._by_rowid = True
 
-    def state(self) -> State:
+    def check(self) -> None:
         self._check_file()
         try:
             with closing(self._connect()) as database:
                 self._check_tables(database)
+        except sqlite3.Error as why:
+            raise StoreError(f"{self.path}: {why}") from why
+
+    def state(self) -> State:
+        self.check()
+        try:
+            with closing(self._connect()) as database:
                 tiles = self._survey(database)
         except sqlite3.Error as why:
             raise StoreError(f"{self.path}: {why}") from why
@@ -57,7 +63,7 @@ class MBTiles:
         last: Optional[Key] = None
         try:
             with closing(self._connect()) as database:
-                for last, address, content in self._rows(database, part):
+                for last, address, content in self._rows(database, self._keys(), part):
                     yield address, content
         except sqlite3.Error as why:
             yield from self._unread(part, last, why)
@@ -72,6 +78,44 @@ class MBTiles:
             raise OSError(f"{self.path}: {why}") from why
         if found is None:
             raise FileNotFoundError(f"{self.path}: no tile {address}")
+        return _bytes(found[0])
+
+    # A key for `since` is a place, or a row's number where no index has the places in order.
+
+    def since(self, key: Optional[Key]) -> Iterator[Tuple[Key, Address, Content]]:
+        while True:
+            last: Optional[Key] = None
+            try:
+                with closing(self._connect()) as database:
+                    for last, address, content in self._rows(database, _order(database), (key, None)):
+                        yield last, address, content
+                return
+            except sqlite3.Error as why:
+                unread = self._unread_keys(key, last)
+                yield unread[0] if unread else last or key or (), _address_of(unread[:1]), why
+                if len(unread) < 2:
+                    return
+                key = unread[1]
+
+    def find(self, z: int, x: int, y: int) -> Optional[Key]:
+        try:
+            with closing(self._connect()) as database:
+                query = f"select {', '.join(_order(database))} from tiles where {_equal(_PLACE)}"
+                found: Optional[Key] = database.execute(query, (z, x, _turned(z, y))).fetchone()
+        except sqlite3.Error as why:
+            raise OSError(f"{self.path}: {why}") from why
+        return found
+
+    def held(self, key: Key) -> bytes:
+        try:
+            with closing(self._connect()) as database:
+                order = _order(database)
+                query = f"select {_DATA} from tiles where {_equal(order)}"
+                found = database.execute(query, _checked(order, key)).fetchone()
+        except sqlite3.Error as why:
+            raise OSError(f"{self.path}: {why}") from why
+        if found is None:
+            raise FileNotFoundError(f"{self.path}: no tile {key}")
         return _bytes(found[0])
 
     def _connect(self) -> sqlite3.Connection:
@@ -102,14 +146,14 @@ class MBTiles:
             told = None
         if told is not None and told[0] not in ("pbf", "mvt"):
             raise StoreError(f"{self.path}: its tiles are of the format {told[0]!r}, and not of 'pbf'")
+        if database.execute("select 1 from tiles limit 1").fetchone() is None:
+            raise StoreError(f"{self.path}: no tiles in this MBTiles file")
 
     def _survey(self, database: sqlite3.Connection) -> int:
         """Counts the tiles, and chooses how they are parted: by row ids where these lie close together."""
         [tiles] = database.execute("select count(*) from tiles").fetchone()
-        if not tiles:
-            raise StoreError(f"{self.path}: no tiles in this MBTiles file")
         self._by_rowid = False
-        if database.execute("select type from sqlite_master where name = 'tiles'").fetchone() == ("table",):
+        if _has_rows(database):
             try:
                 low, high = database.execute("select min(rowid), max(rowid) from tiles").fetchone()
                 self._by_rowid = high - low < 8 * tiles
@@ -149,14 +193,27 @@ class MBTiles:
             found = database.execute(query, (*first, size)).fetchone()
             yield first, found
 
-    def _rows(self, database: sqlite3.Connection, part: Range) -> Iterator[Tuple[Key, Address, Content]]:
-        keys, (first, end) = self._keys(), part
-        marks = ", ".join("?" * len(keys))
-        where = f"({', '.join(keys)}) >= ({marks})" + (f" and ({', '.join(keys)}) < ({marks})" if end else "")
-        columns = ", ".join((*keys, *_PLACE, _DATA))
-        query = f"select {columns} from tiles where {where} order by {', '.join(keys)}"
-        for row in database.execute(query, (*first, *(end or ()))):
+    def _rows(
+        self, database: sqlite3.Connection, keys: Tuple[str, ...], part: Tuple[Optional[Key], Optional[Key]]
+    ) -> Iterator[Tuple[Key, Address, Content]]:
+        first, end = part
+        bounds = [_bound(keys, sign) for sign, key in ((">=", first), ("<", end)) if key is not None]
+        where = f" where {' and '.join(bounds)}" if bounds else ""
+        query = f"select {', '.join((*keys, *_PLACE, _DATA))} from tiles{where} order by {', '.join(keys)}"
+        values = (*(() if first is None else _checked(keys, first)), *(end or ()))
+        for row in database.execute(query, values):
             yield row[: len(keys)], _address(*row[-4:-1]), _bytes(row[-1])
+
+    def _unread_keys(self, first: Optional[Key], last: Optional[Key]) -> List[Key]:
+        """The key behind the last that was read, or from the first on, and the one behind that, where they can be told."""
+        try:
+            with closing(self._connect()) as database:
+                keys, key = _order(database), last or first
+                where = "" if key is None else f" where {_bound(keys, '>' if last else '>=')}"
+                query = f"select {', '.join(keys)} from tiles{where} order by {', '.join(keys)} limit 2"
+                return database.execute(query, key or ()).fetchall()
+        except sqlite3.Error:
+            return []
 
     def _unread(self, part: Range, last: Optional[Key], why: sqlite3.Error) -> Iterator[Tuple[Address, Content]]:
         """The rest of a range behind a row that can't be read: row by row, where rows have numbers."""
@@ -168,7 +225,7 @@ class MBTiles:
         for row in range(first[0] if last is None else last[0] + 1, end[0]):
             try:
                 with closing(self._connect()) as database:
-                    found = list(self._rows(database, ((row,), (row + 1,))))
+                    found = list(self._rows(database, ("rowid",), ((row,), (row + 1,))))
             except sqlite3.Error as error:
                 yield Address(None, None, None, f"row {row}"), error
             else:
@@ -178,8 +235,45 @@ class MBTiles:
 _DATA = f"case when length(tile_data) > {MOST} then substr(tile_data, 1, {MOST}) else tile_data end"
 
 
+def _has_rows(database: sqlite3.Connection) -> bool:
+    """Whether the tiles are a table, and no view."""
+    kind = database.execute("select type from sqlite_master where name = 'tiles'").fetchone()
+    return bool(kind == ("table",))
+
+
+def _order(database: sqlite3.Connection) -> Tuple[str, ...]:
+    """By what tiles come one after another without being sorted: their places, or else the numbers of rows."""
+    columns = ", ".join(_PLACE)
+    plan = database.execute(f"explain query plan select 1 from tiles order by {columns} limit 1").fetchall()
+    if not any("TEMP B-TREE" in str(step[-1]) for step in plan) or not _has_rows(database):
+        return _PLACE
+    try:
+        database.execute("select rowid from tiles limit 0")
+    except sqlite3.OperationalError:
+        return _PLACE  # a table without row ids
+    return ("rowid",)
+
+
 def _equal(columns: Tuple[str, ...]) -> str:
     return " and ".join(f"{column} = ?" for column in columns)
+
+
+def _bound(columns: Tuple[str, ...], sign: str) -> str:
+    return f"({', '.join(columns)}) {sign} ({', '.join('?' * len(columns))})"
+
+
+def _checked(columns: Tuple[str, ...], key: Key) -> Key:
+    """A key that SQLite takes."""
+    if len(key) != len(columns) or any(isinstance(each, int) and abs(each) >= 1 << 63 for each in key):
+        raise ValueError("no key of an MBTiles file")
+    return key
+
+
+def _address_of(keys: List[Key]) -> Address:
+    """What is told of a row that can't be read, by its key."""
+    for key in keys:
+        return _address(*key) if len(key) == len(_PLACE) else Address(None, None, None, f"row {key[0]}")
+    return Address(None, None, None, "the tiles behind")
 
 
 def _bytes(data: Any) -> bytes:
