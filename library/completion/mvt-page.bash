@@ -1,0 +1,13 @@
+# Completion of mvt-page for bash.
+_mvt_page() {
+  local word=${COMP_WORDS[COMP_CWORD]}
+  COMPREPLY=()
+  if [ "${COMP_WORDS[COMP_CWORD - 1]}" = --port ]; then
+    return
+  elif [[ $word == -* ]]; then
+    mapfile -t COMPREPLY < <(compgen -W "--port --no-browser --help" -- "$word")
+  else
+    mapfile -t COMPREPLY < <(compgen -f -- "$word")
+  fi
+}
+complete -o filenames -F _mvt_page mvt-page
