@@ -3,5 +3,6 @@ mod FrontLemmas
 mod WalkLemmas
 mod JsonTexts
 mod QuotedLemmas
+mod NumberLemmas
 mod SvgLemmas
 mod XmlLemmas

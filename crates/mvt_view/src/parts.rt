@@ -66,7 +66,7 @@ impl Shown for Point {
 
     #[tactic(auto, using(crate::proofs::JsonTexts::point_text))]
     fn push(&self, _alloc: Global, text: &mut String) -> Result<(), ViewError> {
-        push_pair(text, "[", self.x, ",", self.y)?;
+        push_pair(text, b'[', self.x, b',', self.y)?;
         Ok(text.push_str("]")?)
     }
 }

@@ -112,12 +112,12 @@ fn push_ring(text: &mut String, points: &[Point]) -> Result<(), AllocError>
 fn push_move(text: &mut String, point: Point) -> Result<(), AllocError>
     ensures { OnOk result (string_bytes text.new ≡ string_bytes text.old ++ move_to point) }
 {
-    push_pair(text, "M", point.x, " ", point.y)
+    push_pair(text, b'M', point.x, b' ', point.y)
 }
 
 #[tactic(auto, unfolding(crate::specs::Svg::line_to))]
 fn push_stroke(text: &mut String, point: Point) -> Result<(), AllocError>
     ensures { OnOk result (string_bytes text.new ≡ string_bytes text.old ++ line_to point) }
 {
-    push_pair(text, "L", point.x, " ", point.y)
+    push_pair(text, b'L', point.x, b' ', point.y)
 }
