@@ -68,7 +68,8 @@ def _extract(body: bytearray) -> Iterator[List[Part]]:
 def _reports(body: bytearray) -> Iterator[List[Part]]:
     """Of frames of tiles: frames of answers."""
     with ExitStack() as held:
-        yield frames.spelled([held.enter_context(_made(library.mvt_report, body, place)) for place in frames.places(body)])
+        made = [_made(library.mvt_report, body, place) for place in frames.places(body)]
+        yield frames.spelled([held.enter_context(each) for each in made])
 
 
 # What the page asks for, by its name; and which of them take frames.

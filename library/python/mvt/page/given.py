@@ -26,9 +26,11 @@ class Place(NamedTuple):
 
 
 class Given:
+    """The files and stores, in order; and the tile of a store that is opened first, or None."""
+
     def __init__(self, words: Sequence[str]) -> None:
-        """Words are files, stores, and behind a store perhaps the place Z/X/Y of a tile. Raises GivenError where one of them
-        names nothing that can be read."""
+        """Words are files, stores, and behind a store perhaps the place Z/X/Y of a tile. Raises GivenError where one of
+        them names nothing that can be read."""
         self.files: List[str] = []
         self.stores: List[Store] = []
         self.place: Optional[Place] = None
@@ -57,9 +59,9 @@ class Given:
 
     def told(self) -> Dict[str, Any]:
         """The names, for the page, and what it opens first."""
-        stores = [{"name": shown(os.path.basename(store.path) or store.path), "kind": store.kind} for store in self.stores]
+        stores = [{"name": _base(store.path), "kind": store.kind} for store in self.stores]
         place = None if self.place is None else {"store": self.place.store, "place": "/".join(map(str, self.place[1:]))}
-        return {"files": [shown(os.path.basename(path)) for path in self.files], "stores": stores, "first": place}
+        return {"files": [_base(path) for path in self.files], "stores": stores, "first": place}
 
     def file(self, number: int) -> bytes:
         """The bytes of a file, and no more of them than decide. Raises IndexError and OSError."""
@@ -77,6 +79,10 @@ def place_of(words: Sequence[str]) -> Optional[Tuple[int, int, int]]:
 def shown(name: str) -> str:
     """A file's name as a text that any encoding takes."""
     return name.encode("utf-8", "surrogateescape").decode("utf-8", "backslashreplace")
+
+
+def _base(path: str) -> str:
+    return shown(os.path.basename(path) or path)
 
 
 def _store(path: str) -> Optional[Store]:

@@ -1,5 +1,5 @@
-"""Who may ask. The server is named by its number or as localhost, with its port; other names that lead here, other pages
-and frames in them get nothing."""
+"""Who may ask. The server is named by its number or as localhost, with its port; other names that lead here, other
+pages and frames in them get nothing."""
 
 from email.message import Message
 from typing import List
@@ -15,8 +15,8 @@ def is_ours(host: str, port: int) -> bool:
 
 
 def denial(headers: Message, port: int, is_page: bool) -> str:
-    """Why a request is denied, in a sentence; nothing where it isn't. The page itself may be asked for by a link elsewhere,
-    since whoever has the link has the token."""
+    """Why a request is denied, in a sentence; nothing where it isn't. The page itself may be asked for by a link
+    elsewhere, since whoever has the link has the token."""
     hosts = _all(headers, "Host")
     if len(hosts) != 1 or not is_ours(hosts[0], port):
         return "This server is asked by its own name alone."

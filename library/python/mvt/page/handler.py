@@ -30,7 +30,8 @@ _PIECE = 1 << 20
 # So many bytes of a body are passed over behind an answer that doesn't want it, for so many seconds.
 _PASSED_OVER, _PASSING = 1 << 20, 1.0
 
-_PAGE, _BYTES, _JSON, _TEXT = "text/html; charset=utf-8", "application/octet-stream", "application/json", "text/plain; charset=utf-8"
+_PAGE, _TEXT = "text/html; charset=utf-8", "text/plain; charset=utf-8"
+_BYTES, _JSON = "application/octet-stream", "application/json"
 _ALWAYS = {
     "Cache-Control": "no-store",
     "Cross-Origin-Opener-Policy": "same-origin",
@@ -59,6 +60,8 @@ class Asked(NamedTuple):
 
 
 class Handler(BaseHTTPRequestHandler):
+    """A connection of a page."""
+
     protocol_version = "HTTP/1.1"
     default_request_version = "HTTP/1.0"
     timeout = PATIENCE
@@ -149,7 +152,8 @@ class Handler(BaseHTTPRequestHandler):
             leave_if_gone(self.connection)
             try:
                 if what == ["tiles"]:
-                    self._answer(_JSON, [json.dumps(listing.some(stores[number], _wish(stores[number], asked.query))).encode()])
+                    some = listing.some(stores[number], _wish(stores[number], asked.query))
+                    self._answer(_JSON, [json.dumps(some).encode()])
                 else:
                     self._answer(_BYTES, [stores[number].held(_key(stores[number], what, asked.query))])
             except (ValueError, OverflowError) as why:
@@ -186,7 +190,7 @@ class Handler(BaseHTTPRequestHandler):
         return int(lengths[0])
 
     def _body(self, length: int) -> bytearray:
-        """The whole body. Raises ConnectionAbortedError where it ends early, or nobody waits for the answer any more."""
+        """The whole body. Raises ConnectionAbortedError where it ends early, or nobody waits for the answer."""
         body, at = bytearray(length), 0
         with memoryview(body) as view:
             while at < length:
@@ -232,7 +236,9 @@ class Handler(BaseHTTPRequestHandler):
 
     def send_error(self, code: int, message: Optional[str] = None, explain: Optional[str] = None) -> None:
         """A fault in plain text. The connection ends, since a body may stand unread in it."""
-        status, told = (405, "There are GET, HEAD and POST.") if code == 501 else (code, message or self.responses[code][0])
+        status, told = code, message or self.responses[code][0]
+        if code == 501:
+            status, told = 405, "There are GET, HEAD and POST."
         self.close_connection = True
         try:
             self._answer(_TEXT, [f"{told}\n".encode("utf-8", "backslashreplace")], status=status)
@@ -273,7 +279,7 @@ def _number(word: str) -> int:
 
 
 def _key(store: Store, what: Sequence[str], query: Dict[str, str]) -> Key:
-    """The key of the tile at Z/X/Y, or the one that the query names. Raises Fault, and ValueError for what is no key."""
+    """The key of the tile at Z/X/Y, or the one that the query names. Raises Fault, and ValueError where it is none."""
     if list(what) == ["tile"]:
         return listing.key_of(query.get("key", ""))
     place = place_of(what)
@@ -284,8 +290,8 @@ def _key(store: Store, what: Sequence[str], query: Dict[str, str]) -> Key:
 
 
 def _wish(store: Store, query: Dict[str, str]) -> listing.Wish:
-    """Which tiles are asked for: `from` or `after` a key, `at` or `past` a place, `count`, and `only` broken ones or those of
-    a cause."""
+    """Which tiles are asked for: `from` or `after` a key, `at` or `past` a place, `count`, and `only` broken ones or
+    those of a cause."""
     key = None
     for name in {"from", "after"}.intersection(query):
         key = listing.key_of(query[name])

@@ -19,8 +19,8 @@ _LONGEST = 1000
 
 
 class Wish(NamedTuple):
-    """Which tiles are wanted: from a key on, without that of the key itself where `is_behind`; so many at most; and only broken ones,
-    or those that break one rule."""
+    """Which tiles are wanted: from a key on, without that of the key itself where `is_behind`; so many at most; and
+    only broken ones, or those that break one rule."""
 
     key: Optional[Key]
     is_behind: bool
@@ -38,6 +38,7 @@ def key_of(told: str) -> Key:
 
 
 def spelled(key: Key) -> str:
+    """A key as a text, which `key_of` reads."""
     return json.dumps(key, default=str)
 
 
@@ -59,7 +60,7 @@ def some(store: Store, wish: Wish) -> Dict[str, Any]:
 
 
 def _wanted(address: Address, content: Content, wish: Wish) -> Optional[Row]:
-    """What is said of a tile that is wanted. Most are good, and of these nothing is made where broken ones are wanted."""
+    """What is said of a tile that is wanted. Most are good: of these nothing is made where broken ones are wanted."""
     if not wish.only_broken:
         return judged(address, content)
     if isinstance(content, bytes):

@@ -22,13 +22,15 @@ def _parser() -> argparse.ArgumentParser:
     words = argparse.ArgumentParser(
         prog="mvt-page",
         description="Shows tiles in the browser: a page that this machine alone can see, over the proved library.",
-        epilog="It runs until Ctrl-C. Status: 0 it was ended, 2 the words are no good or the port is taken, 3 something can't"
-        " be read.",
+        epilog="It runs until Ctrl-C. Status: 0 it was ended, 2 the words are no good or the port is taken, 3 something"
+        " can't be read.",
     )
-    words.add_argument("what", nargs="*", metavar="WHAT", help="a file with a tile, or a store: a folder"
-                       " {z}/{x}/{y}.mvt or .pbf (.gz too), an .mbtiles file, or a .txt file with a name on each line; behind a"
-                       " store perhaps the place Z/X/Y of the tile that is opened first")
-    words.add_argument("--port", type=_port, default=0, metavar="N", help="the port; where nothing is said, one that is free")
+    words.add_argument(
+        "what", nargs="*", metavar="WHAT",
+        help="a file with a tile, or a store: a folder {z}/{x}/{y}.mvt or .pbf (.gz too), an .mbtiles file, or a .txt"
+        " file with a name on each line; behind a store perhaps the place Z/X/Y of the tile that is opened first",
+    )
+    words.add_argument("--port", type=_port, default=0, metavar="N", help="the port; else one that is free")
     words.add_argument("--no-browser", action="store_true", help="don't open a browser, and only say the address")
     return words
 
@@ -45,8 +47,8 @@ def _fail(line: str, status: int) -> int:
 
 
 def _bound_memory() -> None:
-    """Takes half of the machine's memory at most: what wants more is told so, and the machine lives on. What threads only
-    reserve isn't counted."""
+    """Takes half of the machine's memory at most: what wants more is told so, and the machine lives on. What threads
+    only reserve isn't counted."""
     half = os.sysconf("SC_PAGE_SIZE") * os.sysconf("SC_PHYS_PAGES") // 2
     soft, hard = resource.getrlimit(resource.RLIMIT_DATA)
     if soft == resource.RLIM_INFINITY or soft > half:
@@ -64,7 +66,7 @@ def _ended() -> threading.Event:
 
 def _say(server: Server) -> None:
     print(f"The page is at {server.address}")
-    print("Only this machine can see it, and only who knows this address. It is there until Ctrl-C ends it.", flush=True)
+    print("Only this machine can see it, and only who knows the address. It is there until Ctrl-C ends it.", flush=True)
 
 
 def _say_way(port: int) -> None:
@@ -91,6 +93,7 @@ def _serve(server: Server, wants_browser: bool) -> int:
 
 
 def main(words: Optional[Sequence[str]] = None) -> int:
+    """Runs the command, until it is ended, and answers its status."""
     given = _parser().parse_args(words)
     try:
         page, what = _PAGE.read_bytes(), Given(given.what)

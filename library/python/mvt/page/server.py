@@ -1,5 +1,5 @@
-"""The server: one socket of this machine's own network, a thread for each connection, and as many calls of the library at
-a time as there are processors."""
+"""The server: one socket of this machine's own network, a thread for each connection, and as many calls of the library
+at a time as there are processors."""
 
 import os
 import secrets
@@ -40,6 +40,7 @@ class Server(ThreadingHTTPServer):
 
     @property
     def address(self) -> str:
+        """Where the page is, with the token."""
         return f"http://{HOST}:{self.server_port}/{self.token}/"
 
     def server_bind(self) -> None:

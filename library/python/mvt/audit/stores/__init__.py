@@ -58,8 +58,8 @@ class Store(Protocol):
         """One tile. Raises OSError where it can't be read."""
 
     def since(self, key: Optional[Key]) -> Iterator[Tuple[Key, Address, Content]]:
-        """The tiles from a key on, or all, each with its key: in the order of z, x and y where the store can tell them so.
-        Raises ValueError for a key that is none of this kind of store, and StoreError."""
+        """The tiles from a key on, or all, each with its key: in the order of z, x and y where the store can tell them
+        so. Raises ValueError for a key that is none of this kind of store, and StoreError."""
 
     def find(self, z: int, x: int, y: int) -> Optional[Key]:
         """The key of the tile at a place, or None. Raises OSError."""

@@ -205,7 +205,7 @@ class MBTiles:
             yield row[: len(keys)], _address(*row[-4:-1]), _bytes(row[-1])
 
     def _unread_keys(self, first: Optional[Key], last: Optional[Key]) -> List[Key]:
-        """The key behind the last that was read, or from the first on, and the one behind that, where they can be told."""
+        """The key behind the last that was read, or from the first on, and the one behind that, if they can be told."""
         try:
             with closing(self._connect()) as database:
                 keys, key = _order(database), last or first
