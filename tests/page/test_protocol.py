@@ -237,6 +237,35 @@ class Malformed(Served):
         self.assertLess(self.serving.memory("VmHWM"), 400)
 
 
+class Turns(Served):
+    def spent(self):
+        """The seconds of a processor that the server has used."""
+        return sum(map(int, Path(f"/proc/{self.serving.process.pid}/stat").read_text().rpartition(")")[2].split()[11:13])) / 100
+
+    def test_what_is_given_up_before_its_turn_never_begins(self):
+        tile = bytes([0x1A, 0xFB, 0xFF, 0xFF, 0x03, 0x78, 2, 0x0A, 1, 0x61]) + bytes([0x12, 0]) * 4_194_299
+        before = self.spent()
+        self.serving.call("report", tile)
+        single = self.spent() - before
+        asked = self.head("POST", self.serving.path + "report", Content_Length=str(len(tile))) + tile
+        held = [socket.create_connection(("127.0.0.1", self.serving.port)) for _ in range(50)]
+        for connection in held:
+            threading.Thread(target=self.send_quietly, args=(connection, asked), daemon=True).start()
+        time.sleep(0.3)
+        for connection in held:
+            connection.shutdown(socket.SHUT_RDWR)
+            connection.close()
+        self.is_there()
+        time.sleep(2 * single)
+        self.assertLess(self.spent() - before, (2 * os.cpu_count() + 4) * single + 2)
+
+    def send_quietly(self, connection, asked):
+        try:
+            connection.sendall(asked)
+        except OSError:
+            pass  # it was given up
+
+
 class Patience(Served):
     def test_a_head_that_drips_is_ended(self):
         """Also where a byte comes now and then."""
