@@ -1,11 +1,13 @@
 #!/usr/bin/env python3
-"""Times mvt-audit over MBTiles files, beside `mvt check FILE..` over the same tiles: audit.py TILES MVT [COUNT..]
+"""Times mvt-audit over MBTiles files and PMTiles archives, beside `mvt check FILE..` over the same tiles: audit.py TILES
+MVT [COUNT..]
 
 TILES is a folder that examples/producers/gdal and tilemaker filled. Of its tiles those of 700 to 1,400 bytes are taken in
 turn, compressed by gzip, as caches are, until there are so many: 100,000 and 1,000,000 where no count is given. MVT is the
 program. The module mvt has to be found (PYTHONPATH, MVT_LIBRARY). Peaks of memory are of the client and of its largest
-worker; seconds of processors are those of the client and of all workers together, without what they took before the first
-tile. Both are seen twenty times a second."""
+worker, seen twenty times a second. The microseconds of a processor are those that the client says it took from the first
+tile to the last, Dask's scheduler included, and those of all workers together, without what they take for one tile. A client
+feeds as many workers as take the time that it takes itself."""
 
 import gzip
 import json
@@ -18,10 +20,19 @@ import time
 from pathlib import Path
 
 import psutil
+from mvt.audit.judging import judged_part
+from mvt.audit.results import Results
+from mvt.audit.stores import opened
+
+sys.path.append(str(Path(__file__).resolve().parents[1] / "tests" / "library" / "audit"))
+import archives  # noqa: E402
 
 WORKERS = 4
+NAMES = ("a.mbtiles", "a.pmtiles")
 # `mvt check` gets so many files at most: each is one in a folder.
 FILES = 100_000
+# Tiles of the parts whose best time counts, of a worker and of the client, and how many of each are tried.
+JUDGED, ADDED, TRIED = 2000, 20_000, 40
 
 
 def tiles_of(folder):
@@ -31,7 +42,34 @@ def tiles_of(folder):
     return [path.read_bytes() for path in files]
 
 
+def make_pmtiles(path, tiles, count):
+    packed = [gzip.compress(tile, mtime=0) for tile in tiles]
+    # Each tile stands in the file by itself, as in the MBTiles file.
+    entries, at = [], 0
+    with open(path, "w+b") as file:
+        for number, place in enumerate(sorted(archives.tile_id(14, n % 1024, n // 1024) for n in range(count))):
+            content = packed[number % len(packed)]
+            entries.append((place, 1, at, len(content)))
+            at += len(content)
+        leaves, root = [], []
+        for begin in range(0, count, 4096):
+            leaf = gzip.compress(archives.directory(entries[begin : begin + 4096]))
+            root.append((entries[begin][0], 0, sum(map(len, leaves)), len(leaf)))
+            leaves.append(leaf)
+        sections, offset = [], 127
+        content = gzip.compress(archives.directory(root))
+        for length in (len(content), 0, sum(map(len, leaves)), at):
+            sections += [offset, length]
+            offset += length
+        head = archives.HEADER.pack(b"PMTiles", 3, *sections, count, count, count, 1, 2, 2, 1, 14, 14, *[0] * 6)
+        file.write(head[:127] + content + b"".join(leaves))
+        for number in range(count):
+            file.write(packed[number % len(packed)])
+
+
 def make(path, tiles, count):
+    if path.suffix == ".pmtiles":
+        return make_pmtiles(path, tiles, count)
     packed = [gzip.compress(tile, mtime=0) for tile in tiles]
     with sqlite3.connect(path) as database:
         database.execute("create table metadata (name text, value text)")
@@ -67,8 +105,8 @@ class Seen:
             time.sleep(0.05)
 
     def spent(self, client):
-        """By the client, and by the workers."""
-        return self.times[client], sum(self.times.values()) - self.times[client]
+        """By the workers."""
+        return sum(self.times.values()) - self.times[client]
 
 
 def audited(path, room, *more):
@@ -83,17 +121,41 @@ def audited(path, room, *more):
         return json.load(out), seconds, seen, seen.spent(process.pid)
 
 
-def measured(tiles, count):
-    """A row of the table. What the beginning and the end take is measured with one tile, and taken off."""
+def measured(tiles, count, name):
+    """A row of the table. What the workers' beginning and end take is measured with one tile, and taken off."""
     with tempfile.TemporaryDirectory() as room:
-        make(Path(room, "a.mbtiles"), tiles, 1)
-        none = audited(Path(room, "a.mbtiles"), room)[3]
+        make(Path(room, name), tiles, 1)
+        none = audited(Path(room, name), room)[3]
     with tempfile.TemporaryDirectory() as room:
-        make(Path(room, "a.mbtiles"), tiles, count)
-        found, seconds, seen, spent = audited(Path(room, "a.mbtiles"), room)
-    client, workers = (1e6 * (all_of - begin) / count for all_of, begin in zip(spent, none))
-    return (f"| {count:,} | `mvt-audit`, {WORKERS} workers | {seconds:.1f} | {found['seconds']['start']:.1f} | {found['seconds']['work']:.1f} |"
-            f" {found['tiles_a_second']:,} | {client:.0f} and {workers:.0f} | {seen.client} and {seen.worker} | {found['verdicts']['refused']:,} |")
+        make(Path(room, name), tiles, count)
+        found, seconds, seen, spent = audited(Path(room, name), room)
+    client, workers = 1e6 * found["seconds"]["client"] / count, 1e6 * (spent - none) / count
+    return (f"| {count:,} | `mvt-audit {name}`, {WORKERS} workers | {seconds:.1f} | {found['seconds']['start']:.1f} | {found['seconds']['work']:.1f} |"
+            f" {found['tiles_a_second']:,} | {client:.1f} and {workers:.0f} | {workers / client:.0f} | {seen.client} and {seen.worker} |"
+            f" {found['verdicts']['refused']:,} |")
+
+
+def alone(tiles, name):
+    """A line: what a worker and the client take for a part where they have a processor to themselves, the best of some."""
+    with tempfile.TemporaryDirectory() as room:
+        make(Path(room, name), tiles, ADDED)
+        store = opened(str(Path(room, name)))
+        results = Results(Path(room))
+        results.begin([store], [store.state()], ADDED)
+        block = judged_part(store, next(store.ranges(ADDED)))
+        part = next(store.ranges(JUDGED))
+        judged, added = [], []
+        for number in range(TRIED):
+            judged.append(spent_by(lambda: judged_part(store, part)))
+            added.append(spent_by(lambda: results.add(store.path, number, block)))  # noqa: B023
+        results.close()
+    return f"{name}: a worker {1e6 * min(judged) / JUDGED:.1f} µs a tile, the client {1e6 * min(added) / ADDED:.2f}"
+
+
+def spent_by(call):
+    begun = time.process_time()
+    call()
+    return time.process_time() - begun
 
 
 def checked(mvt, tiles, count, room):
@@ -117,15 +179,20 @@ def main():
     counts = [int(word) for word in sys.argv[3:]] or [100_000, 1_000_000]
     mean = sum(map(len, tiles)) / len(tiles)
     print(f"{len(tiles)} tiles of {mean:,.0f} bytes on average, in turn; load {os.getloadavg()[0]:.1f}\n")
-    print("| Tiles | Program | Seconds | The start | Judging | Tiles a second | Processor, µs a tile | Peak, MB | Refused |")
-    print("|---|---|---|---|---|---|---|---|---|")
+    print("The best of parts that are judged and added by one process, without Dask:")
+    for name in NAMES:
+        print(alone(tiles, name), flush=True)
+    print()
+    print("| Tiles | Program | Seconds | The start | Judging | Tiles a second | Processor, µs a tile | Workers a client can feed | Peak, MB | Refused |")
+    print("|---|---|---|---|---|---|---|---|---|---|")
     for count in counts:
-        print(measured(tiles, count), flush=True)
+        for name in NAMES:
+            print(measured(tiles, count, name), flush=True)
         if count <= FILES:
             with tempfile.TemporaryDirectory() as room:
                 seconds, spent, refused = checked(sys.argv[2], tiles, count, room)
             print(f"| {count:,} | `mvt check`, {WORKERS} processes | {seconds:.1f} | | {seconds:.1f} |"
-                  f" {count / seconds:,.0f} | {1e6 * spent / count:.0f} | | {refused:,} |", flush=True)
+                  f" {count / seconds:,.0f} | {1e6 * spent / count:.0f} | | | {refused:,} |", flush=True)
 
 
 main()

@@ -2,10 +2,10 @@
 
 import os
 
-from mvt.audit.stores import Address, State
+from mvt.audit.stores import Address, State, Store
 
 
-class Deadly:
+class Deadly(Store):
     path = "/deadly"
     kind = "deadly"
 

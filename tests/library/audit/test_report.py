@@ -110,9 +110,9 @@ class Pictures(unittest.TestCase):
 
 class Maps(unittest.TestCase):
     def test_where_maps_lie(self):
-        self.assertEqual(maps._where(3, maps.Box(0, 0, 8, 0, 1, 1)), "the whole world")
-        self.assertEqual(maps._where(2, maps.Box(2, 0, 2, 0, 1, 1)), "0° E to 180° E, 0° N to 85° N")
-        self.assertEqual(maps._where(14, maps.Box(8192, 8192, 16, 0, 1, 1)), "0.00° E to 0.35° E, 0.35° S to 0.00° N")
+        self.assertEqual(maps._where(3, maps.Box(0, 0, 8, 0)), "the whole world")
+        self.assertEqual(maps._where(2, maps.Box(2, 0, 2, 0)), "0° E to 180° E, 0° N to 85° N")
+        self.assertEqual(maps._where(14, maps.Box(8192, 8192, 16, 0)), "0.00° E to 0.35° E, 0.35° S to 0.00° N")
 
 
 if __name__ == "__main__":

@@ -110,7 +110,9 @@ class Runs(Case):
         status, out, error = audit(listed, "--into", self.into, "--part", 7, "--json")
         self.assertEqual(status, 1, error)
         self.assertIn(f"goes on: {before:,} of {total:,} tiles are judged already", error)
-        self.assertEqual(json.loads(out)["tiles_this_time"], total - before)
+        found = json.loads(out)
+        self.assertEqual(found["tiles_this_time"], total - before)
+        self.assertGreater(found["seconds"]["client"], 0)
         self.check_whole(times)
 
     def test_a_whole_audit_is_told_again(self):

@@ -6,17 +6,32 @@ import importlib
 import logging
 import os
 import signal
+import warnings
 from typing import Any, Callable, Dict, Iterator, List, NamedTuple, Optional, Sequence, Tuple
 
-from .judging import judged_part, rows_of
-from .results import Done, Results
+from .judging import judged_part
+from .results import Added, Done, Results
 from .stores import Store
 
 # How many parts wait at the scheduler for each worker, so that none of them is idle and no memory grows.
 AHEAD = 4
 
-# What the client is told of each finished part: its rows.
-Told = Callable[[List[Tuple[Any, ...]]], None]
+# What Dask is told, unless the environment says something else. Workers that are begun here read it too.
+SETTINGS = {
+    # They would tell of their own beginning and end on this terminal.
+    "LOGGING__DISTRIBUTED": "critical",
+    # Each part that is handed out would cost milliseconds, in which Dask looks up the source that hands it out.
+    "DISTRIBUTED__DIAGNOSTICS__COMPUTATIONS__IGNORE_MODULES": "['.*']",
+    "DISTRIBUTED__DIAGNOSTICS__COMPUTATIONS__NFRAMES": "0",
+    # It would look at itself from 2 to 100 times a second.
+    "DISTRIBUTED__WORKER__PROFILE__ENABLED": "False",
+    "DISTRIBUTED__ADMIN__TICK__INTERVAL": "500ms",
+    "DISTRIBUTED__ADMIN__SYSTEM_MONITOR__INTERVAL": "5s",
+    "DISTRIBUTED__WORKER__MEMORY__MONITOR_INTERVAL": "1s",
+}
+
+# What is told of each finished part.
+Told = Callable[[Added], None]
 
 
 class EngineError(Exception):
@@ -34,8 +49,8 @@ class Lost(NamedTuple):
 @contextlib.contextmanager
 def workers(count: int, scheduler: Optional[str]) -> Iterator[Any]:
     """A client of a scheduler, or of so many processes on this machine."""
-    # Read by the workers too, which would tell of their own beginning and end on this terminal.
-    os.environ.setdefault("DASK_LOGGING__DISTRIBUTED", "critical")
+    for name, value in SETTINGS.items():
+        os.environ.setdefault(f"DASK_{name}", value)
     dask: Any = importlib.import_module("distributed")
     for name in ("distributed", "tornado", "asyncio"):
         logging.getLogger(name).setLevel(logging.CRITICAL)
@@ -47,16 +62,23 @@ def workers(count: int, scheduler: Optional[str]) -> Iterator[Any]:
         with client:
             yield client
         return
+    with _cluster(dask, count) as cluster, dask.Client(cluster) as client:
+        yield client
+
+
+def _cluster(dask: Any, count: int) -> Any:
+    """So many processes on this machine."""
     # Ctrl-C is this process's own matter: workers that were ended by it would only say so.
     held = signal.signal(signal.SIGINT, signal.SIG_IGN)
     try:
-        cluster = dask.LocalCluster(
-            n_workers=count, threads_per_worker=1, dashboard_address=None, silence_logs=logging.CRITICAL
-        )
+        with warnings.catch_warnings():
+            # Another audit on this machine has the port of a page that nobody asked for.
+            warnings.filterwarnings("ignore", "Port .* is already in use")
+            return dask.LocalCluster(
+                n_workers=count, threads_per_worker=1, dashboard_address=None, silence_logs=logging.CRITICAL
+            )
     finally:
         signal.signal(signal.SIGINT, held)
-    with cluster, dask.Client(cluster) as client:
-        yield client
 
 
 def run(client: Any, results: Results, stores: Sequence[Store], done: Dict[str, Done], told: Told) -> List[Lost]:
@@ -67,7 +89,7 @@ def run(client: Any, results: Results, stores: Sequence[Store], done: Dict[str, 
     lost: List[Lost] = []
 
     def take(finished: Tuple[Any, Any]) -> None:
-        future, packed = finished
+        future, block = finished
         path, part = handed.pop(future.key)
         if future.cancelled():
             raise EngineError("the scheduler went away")
@@ -75,12 +97,12 @@ def run(client: Any, results: Results, stores: Sequence[Store], done: Dict[str, 
         if why is not None:
             lost.append(Lost(path, part, f"{type(why).__name__}: {why}".splitlines()[0]))
             return
-        rows = rows_of(packed)
-        results.add(path, part, rows)
-        told(rows)
+        told(results.add(path, part, block))
 
-    for store, part, tiles in _parts(stores, done, results.part_size()):
-        while waiting.count() >= AHEAD * max(1, len(client.nthreads())):
+    workers = max(1, len(client.nthreads()))
+    most = {store.path: store.spread(workers) or AHEAD * workers for store in stores}
+    for store, part, tiles in parts(stores, done, results.part_size()):
+        while waiting.count() >= most[store.path]:
             take(next(waiting))
         future = client.submit(judged_part, store, tiles, pure=False)
         handed[future.key] = store.path, part
@@ -90,7 +112,7 @@ def run(client: Any, results: Results, stores: Sequence[Store], done: Dict[str, 
     return lost
 
 
-def _parts(stores: Sequence[Store], done: Dict[str, Done], size: int) -> Iterator[Tuple[Store, int, Any]]:
+def parts(stores: Sequence[Store], done: Dict[str, Done], size: int) -> Iterator[Tuple[Store, int, Any]]:
     """The parts that aren't done, in order."""
     for store in stores:
         for part, tiles in enumerate(store.ranges(size)):

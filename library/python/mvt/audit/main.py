@@ -11,13 +11,14 @@ from pathlib import Path
 from typing import Any, Dict, List, Optional, Sequence, Tuple
 
 from . import engine, report, summary
-from .judging import ACCEPTED, EMPTY
-from .results import Results, ResultsError
-from .stores import State, Store, StoreError, opened
+from .judging import BROKEN
+from .results import Added, Results, ResultsError
+from .stores import Options, State, Store, StoreError, opened
+from .stores.server import DEEPEST
 
 USAGE, UNREAD, INTERRUPTED = 2, 3, 130
-# The column of a row that has its verdict.
-VERDICT = 4
+# Parts are so many that the work is shared out evenly, but each is worth its way to a worker and back.
+PARTS, SMALLEST, LARGEST = 50, 100, 20_000
 
 
 def _parser() -> argparse.ArgumentParser:
@@ -29,15 +30,23 @@ def _parser() -> argparse.ArgumentParser:
     )
     words.add_argument(
         "stores", nargs="+", metavar="STORE",
-        help="a folder {z}/{x}/{y}.mvt or .pbf (.gz too), an .mbtiles file, or a .txt file with a name on each line",
+        help="a folder {z}/{x}/{y}.mvt or .pbf (.gz too), an .mbtiles or .pmtiles file, a .txt file with a name on each"
+        " line, or a server: the address of its tiles with {z}, {x} and {y} (or {-y}) in it, or of its TileJSON",
     )
     words.add_argument("--into", required=True, type=Path, metavar="FOLDER", help="where the results go")
     where = words.add_mutually_exclusive_group()
     where.add_argument("--workers", type=_positive, default=4, metavar="N", help="processes on this machine (4)")
     where.add_argument("--scheduler", metavar="ADDRESS", help="a scheduler of Dask, such as tcp://alpha:8786")
-    words.add_argument("--part", type=_positive, default=2000, metavar="N", help="tiles in a part (2000)")
+    words.add_argument("--part", type=_positive, metavar="N", help="tiles in a part (a fiftieth; 100 to 20,000)")
     words.add_argument("--anew", action="store_true", help="forget the results in the folder, and begin again")
     words.add_argument("--json", action="store_true", help="sum up as JSON")
+    server = words.add_argument_group("of a server")
+    server.add_argument("--zooms", type=_zooms, metavar="A-B", help="its first and last zoom (as its TileJSON says)")
+    server.add_argument(
+        "--bounds", type=_bounds, metavar="W,S,E,N", help="degrees that its tiles lie between (as its TileJSON says)"
+    )
+    server.add_argument("--requests", type=_positive, default=8, metavar="N", help="requests at a time, at most (8)")
+    server.add_argument("--timeout", type=_positive, default=30, metavar="S", help="seconds that a request may take (30)")
     return words
 
 
@@ -45,6 +54,24 @@ def _positive(word: str) -> int:
     if not word.isdecimal() or int(word) == 0:
         raise argparse.ArgumentTypeError(f"{word!r} is no number from 1 on")
     return int(word)
+
+
+def _zooms(word: str) -> Tuple[int, int]:
+    first, _, last = word.partition("-")
+    last = last or first
+    if not (first.isdecimal() and last.isdecimal() and int(first) <= int(last) <= DEEPEST):
+        raise argparse.ArgumentTypeError(f"{word!r} is no zoom and no range of zooms such as 0-14")
+    return int(first), int(last)
+
+
+def _bounds(word: str) -> Tuple[float, float, float, float]:
+    try:
+        west, south, east, north = map(float, word.split(","))
+    except ValueError:
+        west = south = east = north = 999.0
+    if not (max(abs(west), abs(east)) <= 180 and -90 <= south <= north <= 90):
+        raise argparse.ArgumentTypeError(f"{word!r} is no west,south,east,north in degrees")
+    return west, south, east, north
 
 
 def _say(line: str) -> None:
@@ -63,11 +90,11 @@ class Progress:
             self.bar = tqdm(total=total, initial=done, bar_format=form, unit=" tiles", dynamic_ncols=True)
             self._show()
 
-    def add(self, rows: List[Tuple[Any, ...]]) -> None:
-        self.new += len(rows)
-        self.broken += sum(row[VERDICT] not in (ACCEPTED, EMPTY) for row in rows)
+    def add(self, added: Added) -> None:
+        self.new += added.tiles
+        self.broken += added.broken
         if self.bar is not None:
-            self.bar.update(len(rows))
+            self.bar.update(added.tiles)
             self._show()
 
     def _show(self) -> None:
@@ -78,36 +105,46 @@ class Progress:
             self.bar.close()
 
 
-def _stores(paths: Sequence[str]) -> Tuple[List[Store], List[State]]:
+def _stores(given: argparse.Namespace) -> Tuple[List[Store], List[State]]:
     """The stores and their states; one that is named twice counts once."""
-    stores = list({store.path: store for store in map(opened, paths)}.values())
+    options = Options(given.zooms, given.bounds, given.requests, given.timeout)
+    stores = list({store.path: store for store in (opened(path, options) for path in given.stores)}.values())
+    if (given.zooms or given.bounds) and all(store.kind != "server" for store in stores):
+        raise ResultsError("--zooms and --bounds are of a server, and none is named")
     return stores, [store.state() for store in stores]
+
+
+def _part_size(given: argparse.Namespace, tiles: int) -> int:
+    return given.part or min(max(tiles // PARTS, SMALLEST), LARGEST)
 
 
 def _judge(given: argparse.Namespace, results: Results, stores: List[Store], states: List[State]) -> Dict[str, Any]:
     """Judges what isn't done, and tells what was found."""
-    done = results.begin(stores, states, given.part)
-    total, before = sum(state.tiles for state in states), sum(each.tiles for each in done.values())
-    if before >= total:
+    total = sum(state.tiles for state in states)
+    done = results.begin(stores, states, _part_size(given, total))
+    before = sum(each.tiles for each in done.values())
+    if next(engine.parts(stores, done, results.part_size()), None) is None:
         _say(f"all {total:,} tiles are judged already; --anew judges them again")
-        return summary.told(results, summary.Timed(0, 0, 0), [])
+        return summary.told(results, summary.Timed(0, 0, 0, 0), [])
     if before:
         _say(f"goes on: {before:,} of {total:,} tiles are judged already")
-    [broken] = results.database.execute(f"select total(tiles) from counts where {summary.BROKEN}").fetchone()
+    [broken] = results.database.execute(f"select total(tiles) from counts where {BROKEN}").fetchone()
     begun = time.monotonic()
     with engine.workers(given.workers, given.scheduler) as client:
-        ready = time.monotonic()
+        ready, spent = time.monotonic(), time.process_time()
         progress = Progress(total, before, int(broken))
         try:
+            results.drop_index()
             lost = engine.run(client, results, stores, done, progress.add)
+            results.make_index()
         finally:
             progress.close()
-        timed = summary.Timed(ready - begun, time.monotonic() - ready, progress.new)
+        timed = summary.Timed(ready - begun, time.monotonic() - ready, time.process_time() - spent, progress.new)
     return summary.told(results, timed, lost)
 
 
 def _audit(given: argparse.Namespace) -> int:
-    stores, states = _stores(given.stores)
+    stores, states = _stores(given)
     total = sum(state.tiles for state in states)
     with contextlib.closing(Results(given.into, given.anew)) as results:
         try:

@@ -3,45 +3,51 @@
 import fcntl
 import os
 import sqlite3
+import sys
+import tempfile
 import time
-from collections import Counter
-from operator import itemgetter
 from pathlib import Path
 from typing import Any, Dict, Iterable, List, NamedTuple, Sequence, Set, Tuple
 
-from .judging import ACCEPTED, EMPTY, Row
+from .judging import BROKEN, TILES
 from .stores import State, Store
 
-SCHEMA = """
+SCHEMA = f"""
 create table stores (
   path text primary key, kind text not null, tiles integer not null, digest text not null, part_size integer not null,
   begun text not null) without rowid;
 create table parts (
   store text not null, part integer not null, tiles integer not null, primary key (store, part)) without rowid;
-create table tiles (
-  store text not null, z integer, x integer, y integer, name text, verdict text not null, bytes integer,
-  layer integer, layer_name text, feature integer, feature_id text, place integer, cause integer, cause_name text,
-  notes text not null);
-create index tiles_not_accepted on tiles (verdict, cause, z) where verdict <> 'accepted';
+{TILES}
 create table counts (
   store text not null, z integer, verdict text not null, cause integer, cause_name text, layer_name text,
   tiles integer not null);
 create table note_counts (store text not null, z integer, note text not null, tiles integer not null);
+create table cells (
+  z integer, x integer, y integer, tiles integer not null, broken integer not null, primary key (z, x, y)) without rowid;
 """
-VERSION = 1
+VERSION = 2
 
-_INSERT = f"insert into tiles values (?{', ?' * len(Row._fields)})"
+# It is made when all tiles are in: while there is none, the rows of a block are copied as they stand.
+_INDEX = "create index if not exists tiles_not_accepted on tiles (verdict, cause, z) where verdict <> 'accepted'"
+
+_ADD_CELLS = """insert into main.cells select * from block.cells where true
+ on conflict do update set tiles = tiles + excluded.tiles, broken = broken + excluded.broken"""
 
 # By what tiles are counted, beside the store.
 COUNTED = ("z", "verdict", "cause", "cause_name", "layer_name")
-Kind = Tuple[Any, ...]
-
-_KIND = itemgetter(*map(Row._fields.index, COUNTED))
-_NOTED = itemgetter(*map(Row._fields.index, ("z", "verdict", "notes")))
+NOTED = ("z", "note")
 
 
 class ResultsError(Exception):
     """Why the results can't be used, in a line."""
+
+
+class Added(NamedTuple):
+    """Of how many tiles a block is, and how many of them are broken."""
+
+    tiles: int
+    broken: int
 
 
 class Done(NamedTuple):
@@ -62,6 +68,7 @@ class Results:
             for end in ("", "-journal"):
                 Path(f"{self.file}{end}").unlink(missing_ok=True)
         self.database = self._opened()
+        self.database.execute("attach ':memory:' as block")
 
     def _opened(self) -> sqlite3.Connection:
         database = sqlite3.connect(self.file, isolation_level=None)
@@ -69,7 +76,8 @@ class Results:
             [version] = database.execute("pragma user_version").fetchone()
             [tables] = database.execute("select count(*) from sqlite_master").fetchone()
             if not tables:
-                database.executescript(f"begin; {SCHEMA} pragma user_version = {VERSION}; commit;")
+                # Larger pages than SQLite's own take less time to fill.
+                database.executescript(f"pragma page_size = 16384; begin; {SCHEMA} pragma user_version = {VERSION}; commit;")
             elif version != VERSION:
                 raise ResultsError(f"{self.file}: not made by this mvt-audit; --anew begins again")
         except sqlite3.DatabaseError as why:
@@ -106,18 +114,37 @@ class Results:
         rows = self.database.execute("select part, tiles from parts where store = ?", (path,)).fetchall()
         return Done({part for part, _ in rows}, sum(tiles for _, tiles in rows))
 
-    def add(self, path: str, part: int, rows: List[Tuple[Any, ...]]) -> None:
-        """A part's rows, all or none of them."""
-        counts: Counter[Kind] = Counter(map(_KIND, rows))
-        notes: Counter[Kind] = Counter()
-        for z, verdict, said in map(_NOTED, rows):
-            if said and verdict in (ACCEPTED, EMPTY):
-                notes.update((z, note) for note in {line.split(" ")[0] for line in said.split("; ")} - {"and"})
+    def add(self, path: str, part: int, block: bytes) -> Added:
+        """Takes in a part's rows, all or none of them."""
+        self._hold(block)
+        [tiles] = self.database.execute("select tiles from block.asked").fetchone()
+        [broken] = self.database.execute(f"select total(tiles) from block.counts where {BROKEN}").fetchone()
         with _transaction(self.database) as database:
-            database.executemany(_INSERT, ((path, *row) for row in rows))
-            _count(database, "counts", COUNTED, path, counts)
-            _count(database, "note_counts", ("z", "note"), path, notes)
-            database.execute("insert into parts values (?, ?, ?)", (path, part, len(rows)))
+            database.execute("insert into main.tiles select * from block.tiles")
+            _count(database, "counts", COUNTED, path)
+            _count(database, "note_counts", NOTED, path)
+            database.execute(_ADD_CELLS)
+            database.execute("insert into parts values (?, ?, ?)", (path, part, tiles))
+        return Added(tiles, int(broken))
+
+    def drop_index(self) -> None:
+        """Before blocks are added."""
+        self.database.execute("drop index if exists tiles_not_accepted")
+
+    def make_index(self) -> None:
+        """When all are."""
+        self.database.execute(_INDEX)
+
+    def _hold(self, block: bytes) -> None:
+        """Has the database `block` be these bytes of a file."""
+        if sys.version_info >= (3, 11):
+            self.database.deserialize(block, name="block")
+            return
+        self.database.execute("detach block")
+        with tempfile.NamedTemporaryFile() as file:
+            file.write(block)
+            file.flush()
+            self.database.execute("attach ? as block", (file.name,))
 
     def counted(self, columns: str, where: str = "true") -> List[Any]:
         """The counts by some columns: these and the number of tiles, the largest number first."""
@@ -139,17 +166,14 @@ class _transaction:
         self.database.execute("rollback" if kind else "commit")
 
 
-def _count(
-    database: sqlite3.Connection, table: str, columns: Iterable[str], path: str, counts: "Counter[Kind]"
-) -> None:
-    """Adds to a table of counts."""
-    named = ["store", *columns]
-    where = " and ".join(f"{column} is ?" for column in named)
-    marks = ", ".join("?" * (len(named) + 1))
-    for kind, tiles in counts.items():
-        changed = database.execute(f"update {table} set tiles = tiles + ? where {where}", (tiles, path, *kind))
+def _count(database: sqlite3.Connection, table: str, columns: Iterable[str], path: str) -> None:
+    """Adds a block's counts to a table of counts."""
+    where = " and ".join(f"{column} is ?" for column in ["store", *columns])
+    found = database.execute(f"select {', '.join(columns)}, tiles from block.{table}").fetchall()
+    for *kind, tiles in found:
+        changed = database.execute(f"update main.{table} set tiles = tiles + ? where {where}", (tiles, path, *kind))
         if not changed.rowcount:
-            database.execute(f"insert into {table} values ({marks})", (path, *kind, tiles))
+            database.execute(f"insert into main.{table} values (?{', ?' * (len(kind) + 1)})", (path, *kind, tiles))
 
 
 def _locked(folder: Path) -> int:

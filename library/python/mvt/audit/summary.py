@@ -3,7 +3,7 @@
 from typing import Any, Dict, List, NamedTuple, Sequence, Tuple
 
 from .engine import Lost
-from .judging import ACCEPTED, EMPTY, NOT_UNPACKED, REFUSED, UNREAD, VERDICTS
+from .judging import ACCEPTED, BROKEN, EMPTY, NOT_UNPACKED, REFUSED, UNREAD, VERDICTS
 from .results import Results
 
 # Of long lists the rest is counted.
@@ -11,10 +11,12 @@ SHOWN = 6
 
 
 class Timed(NamedTuple):
-    """How long a run took: until the workers were there, and then for so many tiles."""
+    """How long a run took: until the workers were there, and then for so many tiles; and of the latter the client's own
+    seconds of a processor."""
 
     start: float
     work: float
+    client: float
     tiles: int
 
     def rate(self) -> int:
@@ -37,14 +39,10 @@ def told(results: Results, timed: Timed, lost: Sequence[Lost]) -> Dict[str, Any]
         "layers": _listed(results, ("layer_name",), f"verdict = '{REFUSED}' and layer_name is not null"),
         "notes": dict(notes),
         "unfinished": [part._asdict() for part in lost],
-        "seconds": {"start": round(timed.start, 2), "work": round(timed.work, 2)},
+        "seconds": {"start": round(timed.start, 2), "work": round(timed.work, 2), "client": round(timed.client, 2)},
         "tiles_this_time": timed.tiles,
         "tiles_a_second": timed.rate(),
     }
-
-
-# What is counted where broken tiles are.
-BROKEN = f"verdict in ('{REFUSED}', '{NOT_UNPACKED}', '{UNREAD}')"
 
 
 def _listed(results: Results, columns: Tuple[str, ...], where: str) -> List[Dict[str, Any]]:

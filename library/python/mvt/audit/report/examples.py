@@ -14,12 +14,13 @@ SHOWN, LOOKED_AT = 3, 60
 
 class Example(NamedTuple):
     """A row of the table, its store, and its bytes: as they were judged, or as they are stored where they don't unpack;
-    None, and why, where they can't be read any more."""
+    None, and why, where they can't be read any more. The link is where a browser finds it."""
 
     store: str
     row: Row
     content: Optional[bytes]
     why: str = ""
+    link: Optional[str] = None
 
     def fault(self) -> Optional[mvt.Refused]:
         row = self.row
@@ -48,12 +49,14 @@ def _first_of_layers(rows: List[Any]) -> List[Any]:
 
 
 def _example(stores: Dict[str, Store], store: str, row: Row) -> Example:
+    address = Address(row.z, row.x, row.y, row.name)
+    link = stores[store].link(address)
     try:
-        stored = stores[store].tile(Address(row.z, row.x, row.y, row.name))
+        stored = stores[store].tile(address)
     except OSError as why:
-        return Example(store, row, None, why.strerror or str(why))
+        return Example(store, row, None, why.strerror or str(why), link)
     try:
         tile = unpacked(stored)
     except NotUnpacked:
         tile = stored
-    return Example(store, row, tile[: LIMIT + 1])
+    return Example(store, row, tile[: LIMIT + 1], link=link)

@@ -4,24 +4,24 @@ import math
 from collections import defaultdict
 from typing import Dict, List, NamedTuple, Tuple
 
+from ..judging import BROKEN, SQUARES
 from ..results import Results
-from ..summary import BROKEN
 
 # Cells on a side at most; where there are more tiles, a cell is a square of several.
 SIDE = 64
+# Of a zoom with more tiles than this, cells are made of what the parts have counted.
+MANY = 100_000
 # A cell is the darker the more of its tiles are broken: shares up to these.
 SHADES = (0.25, 0.5, 0.75, 1.0)
 
 
 class Box(NamedTuple):
-    """The tiles of a zoom: a square of them, of so many on a side, and how many there are and are broken."""
+    """The tiles of a zoom: a square of them, of so many on a side, and by how many bits a cell's place is shorter."""
 
     left: int
     top: int
     side: int
     shift: int
-    tiles: int
-    broken: int
 
 
 class Map(NamedTuple):
@@ -36,31 +36,54 @@ class Map(NamedTuple):
 
 def maps(results: Results) -> List[Map]:
     """A map for each zoom that has broken tiles."""
-    boxes = _boxes(results)
-    cells = _cells(results, boxes)
-    return [
-        Map(z, _svg(box, cells[z]), _where(z, box), box.tiles, box.broken)
-        for z, box in sorted(boxes.items())
-        if box.broken
-    ]
+    counted = dict(results.counted("z", "z between 0 and 30"))
+    broken = dict(results.counted("z", f"z between 0 and 30 and {BROKEN}"))
+    found = []
+    for table, zooms in _tables(counted, sorted(broken)).items():
+        boxes = _boxes(results, table, zooms)
+        cells = _cells(results, table, boxes)
+        found += [Map(z, _svg(box, cells[z]), _where(z, box), counted[z], broken[z]) for z, box in boxes.items()]
+    return sorted(found)
 
 
-def _boxes(results: Results) -> Dict[int, Box]:
+class Table(NamedTuple):
+    """Where the places of a zoom are counted, each with so many tiles, of which so many are broken; and, in SQL, by how
+    many bits a place is shorter than a tile's."""
+
+    name: str
+    tiles: str
+    broken: str
+    bits: str
+
+
+_TILES = Table("tiles", "1", BROKEN, "0")
+_CELLS = Table("cells", "tiles", "broken", f"z - {SQUARES}")
+
+
+def _tables(counted: Dict[int, int], zooms: List[int]) -> Dict[Table, List[int]]:
+    """Tiles are gone through one by one only where a zoom has few."""
+    large = [z for z in zooms if z > SQUARES and counted[z] > MANY]
+    return {_TILES: [z for z in zooms if z not in large], _CELLS: large}
+
+
+def _boxes(results: Results, table: Table, zooms: List[int]) -> Dict[int, Box]:
+    found: Dict[int, Box] = {}
+    if not zooms:
+        return found
     query = (
-        f"select z, min(x), max(x), min(y), max(y), count(*), sum({BROKEN}) from tiles"
-        " where x is not null and z between 0 and 30 group by z"
+        f"select z, {table.bits}, min(x), max(x), min(y), max(y) from {table.name}"
+        f" where x is not null and z in ({', '.join(map(str, zooms))}) group by z"
     )
-    found = {}
-    for z, left, right, top, bottom, tiles, broken in results.database.execute(query):
+    for z, bits, left, right, top, bottom in results.database.execute(query):
         side = max(right - left, bottom - top) + 1
         shift = max(0, math.ceil(math.log2(side / SIDE)))
-        cell = 1 << shift
         cells = max((right >> shift) - (left >> shift), (bottom >> shift) - (top >> shift)) + 1
-        found[z] = Box(left >> shift << shift, top >> shift << shift, cells * cell, shift, tiles, broken)
+        shift += bits
+        found[z] = Box(left << bits >> shift << shift, top << bits >> shift << shift, cells << shift, shift)
     return found
 
 
-def _cells(results: Results, boxes: Dict[int, Box]) -> Dict[int, Dict[Tuple[int, int], float]]:
+def _cells(results: Results, table: Table, boxes: Dict[int, Box]) -> Dict[int, Dict[Tuple[int, int], float]]:
     """Of each zoom the cells that have tiles, each with the share of broken ones."""
     cells: Dict[int, Dict[Tuple[int, int], float]] = defaultdict(dict)
     shifts = ", ".join(f"({z}, {box.shift})" for z, box in boxes.items())
@@ -68,8 +91,8 @@ def _cells(results: Results, boxes: Dict[int, Box]) -> Dict[int, Dict[Tuple[int,
         return cells
     query = (
         f"with shifts(z, shift) as (values {shifts})"
-        f" select z, x >> shift, y >> shift, avg({BROKEN}) from tiles join shifts using (z)"
-        " where x is not null group by 1, 2, 3"
+        f" select z, x >> shift - ({table.bits}), y >> shift - ({table.bits}), total({table.broken}) / total({table.tiles})"
+        f" from {table.name} join shifts using (z) where x is not null group by 1, 2, 3"
     )
     for z, x, y, share in results.database.execute(query):
         cells[z][x - (boxes[z].left >> boxes[z].shift), y - (boxes[z].top >> boxes[z].shift)] = share

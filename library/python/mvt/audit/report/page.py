@@ -169,6 +169,8 @@ def _example(example: Example, several: bool) -> str:
     row, fault = example.row, example.fault()
     where = row.name if row.z is None else f"{row.z}/{row.x}/{row.y}"
     title = escape(f"{Path(example.store).name}: {where}" if several else str(where))
+    if example.link is not None:
+        title = f'<a href="{escape(example.link)}">{title}</a>'
     said = [f"<h4>{title}{escape(_within(example))}</h4>", _command(example)]
     if example.content is None:
         return f'<article>{"".join(said)}<p>{escape(row.notes or example.why)}</p></article>'

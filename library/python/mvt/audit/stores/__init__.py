@@ -1,9 +1,16 @@
-"""Where tiles are kept. Each module beside this one is a kind of store: it has a function `opened`, which answers a
-store for a path that it takes, None for one that it doesn't, and raises StoreError for one that it should and can't."""
+"""Where tiles are kept. A kind of store is a function of a path and the options, which answers a store for a path that it
+takes, None for one that it doesn't, and raises StoreError for one that it should and can't. Those of this package stand in
+`opened`; another package brings its own by an entry point of the group `mvt.audit.stores`."""
 
 import importlib
-import pkgutil
-from typing import Any, Iterator, NamedTuple, Optional, Protocol, Tuple, Union
+import importlib.metadata
+import sys
+from abc import ABC, abstractmethod
+from typing import Any, Callable, Iterator, List, NamedTuple, Optional, Tuple, Union
+
+# The modules of this package that have a kind of store, as their function `opened`.
+KINDS = ("server", "listed", "mbtiles", "pmtiles", "tree")
+GROUP = "mvt.audit.stores"
 
 
 class StoreError(Exception):
@@ -29,60 +36,106 @@ class State(NamedTuple):
     digest: str
 
 
-# The bytes of a tile as they are stored, or why they can't be read.
-Content = Union[bytes, Exception]
+class Options(NamedTuple):
+    """What the command line says of servers: the first and the last zoom, the bounds in degrees (west, south, east,
+    north), how many requests there are at a time, and how many seconds one may take."""
+
+    zooms: Optional[Tuple[int, int]] = None
+    bounds: Optional[Tuple[float, float, float, float]] = None
+    requests: int = 8
+    timeout: float = 30
+
 
 # Where a tile stands in the order of its store: numbers and texts that the store alone understands.
 Key = Tuple[Any, ...]
 
+# The bytes of a tile as they are stored, why they can't be read, or None where there is no tile.
+Content = Union[bytes, Exception, None]
 
-class Store(Protocol):
+
+class Store(ABC):
     """A store of tiles. It is sent to the workers, so it can be pickled, and opens nothing before it is asked."""
 
     path: str
     kind: str
 
     def check(self) -> None:
-        """Raises StoreError where the store can't be read or has no tiles. Nothing is counted."""
+        """Raises StoreError where the store has no tiles, or can't be read, or none of its tiles can be found by its place.
+        Nothing is counted."""
+        raise StoreError(f"{self.path}: mvt-page opens folders, MBTiles files and lists of files, and not this store")
 
+    @abstractmethod
     def state(self) -> State:
         """Raises StoreError where there are no tiles."""
 
+    @abstractmethod
     def ranges(self, size: int) -> Iterator[Any]:
         """All tiles, about so many at a time, and in the same order while the state is the same."""
 
+    @abstractmethod
     def tiles(self, part: Any) -> Iterator[Tuple[Address, Content]]:
         """The tiles of a range."""
 
+    @abstractmethod
     def tile(self, address: Address) -> bytes:
         """One tile. Raises OSError where it can't be read."""
+
+    def link(self, address: Address) -> Optional[str]:
+        """Where a browser finds a tile, if it does."""
+        return None
+
+    def spread(self, workers: int) -> Optional[int]:
+        """Of how many ranges the tiles may be asked for at a time, by so many workers; None for any number."""
+        return None
 
     def since(self, key: Optional[Key]) -> Iterator[Tuple[Key, Address, Content]]:
         """The tiles from a key on, or all, each with its key: in the order of z, x and y where the store can tell them
         so. Raises ValueError for a key that is none of this kind of store, and StoreError."""
+        self.check()
+        return iter(())
 
     def find(self, z: int, x: int, y: int) -> Optional[Key]:
         """The key of the tile at a place, or None. Raises OSError."""
+        return None
 
     def held(self, key: Key) -> bytes:
         """The tile of a key. Raises ValueError for a key that is none, and OSError where it can't be read."""
+        raise ValueError(key)
 
 
-def found(path: str) -> Optional[Store]:
+Kind = Callable[[str, Options], Optional[Store]]
+
+
+def found(path: str, options: Options = Options()) -> Optional[Store]:
     """The store at a path, or None where there is none."""
-    for module in sorted(pkgutil.iter_modules(__path__)):
-        store: Optional[Store] = importlib.import_module(f"{__name__}.{module.name}").opened(path)
+    for kind in _kinds():
+        store = kind(path, options)
         if store is not None:
             return store
     return None
 
 
-def opened(path: str) -> Store:
+def opened(path: str, options: Options = Options()) -> Store:
     """The store at a path. Raises StoreError where there is none."""
-    store = found(path)
+    store = found(path, options)
     if store is not None:
         return store
     raise StoreError(
-        f"{path}: no store of tiles; it is a folder {{z}}/{{x}}/{{y}}.mvt or .pbf, an .mbtiles file,"
-        " or a .txt file with a file name on each line"
+        f"{path}: no store of tiles; it is a folder {{z}}/{{x}}/{{y}}.mvt or .pbf, an .mbtiles or .pmtiles file,"
+        " a .txt file with a file name on each line, or the address of a server"
     )
+
+
+def _kinds() -> Iterator[Kind]:
+    for name in KINDS:
+        kind: Kind = importlib.import_module(f"{__name__}.{name}").opened
+        yield kind
+    for point in _entry_points():
+        kind = point.load()
+        yield kind
+
+
+def _entry_points() -> List[Any]:
+    if sys.version_info >= (3, 10):
+        return list(importlib.metadata.entry_points(group=GROUP))
+    return list(importlib.metadata.entry_points().get(GROUP, []))

@@ -5,14 +5,14 @@ import os
 from typing import BinaryIO, Iterator, List, Optional, Tuple, Union
 
 from .. import files
-from . import Address, Content, Key, State, StoreError
+from . import Address, Content, Key, Options, State, Store, StoreError
 
 
-def opened(path: str) -> Optional["Listed"]:
+def opened(path: str, options: Options = Options()) -> Optional["Listed"]:
     return Listed(path) if path.endswith(".txt") and not os.path.isdir(path) else None
 
 
-class Listed:
+class Listed(Store):
     kind = "list"
 
     def __init__(self, path: str) -> None:

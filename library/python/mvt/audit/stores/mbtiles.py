@@ -8,7 +8,7 @@ from pathlib import Path
 from typing import Any, Iterator, List, Optional, Tuple
 
 from ..files import MOST
-from . import Address, Content, Key, State, StoreError
+from . import Address, Content, Key, Options, State, Store, StoreError
 
 _MAGIC = b"SQLite format 3\0"
 _PLACE = ("zoom_level", "tile_column", "tile_row")
@@ -17,7 +17,7 @@ _PLACE = ("zoom_level", "tile_column", "tile_row")
 Range = Tuple[Key, Optional[Key]]
 
 
-def opened(path: str) -> Optional["MBTiles"]:
+def opened(path: str, options: Options = Options()) -> Optional["MBTiles"]:
     if os.path.isdir(path) or not (path.endswith(".mbtiles") or _front(path, 16) == _MAGIC):
         return None
     return MBTiles(path)
@@ -31,7 +31,7 @@ def _front(path: str, length: int) -> bytes:
         return b""
 
 
-class MBTiles:
+class MBTiles(Store):
     kind = "MBTiles"
 
     def __init__(self, path: str) -> None:

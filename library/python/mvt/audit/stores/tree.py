@@ -6,17 +6,17 @@ import re
 from typing import Iterator, List, Optional, Tuple
 
 from .. import files
-from . import Address, Content, Key, State, StoreError
+from . import Address, Content, Key, Options, State, Store, StoreError
 
 ENDINGS = (".mvt", ".pbf", ".mvt.gz", ".pbf.gz")
 _ENTRY = re.compile(r"(0|[1-9]\d{0,9})(\.(?:mvt|pbf)(?:\.gz)?)")
 
 
-def opened(path: str) -> Optional["Tree"]:
+def opened(path: str, options: Options = Options()) -> Optional["Tree"]:
     return Tree(path) if os.path.isdir(path) else None
 
 
-class Tree:
+class Tree(Store):
     kind = "folder"
 
     def __init__(self, path: str) -> None:
