@@ -69,9 +69,11 @@ class Archives(Case):
             with self.assertRaises(FileNotFoundError):
                 store.tile(Address(9, 1, 1))
 
-    def test_no_part_is_larger_than_asked(self):
-        store, _ = self.opened(archives.archive(at_places([b"\x1a\x00"] * 1000), leaf=10))
-        self.assertLessEqual(max(len(list(store.tiles(part))) for part in store.ranges(30)), 30)
+    def test_parts_have_as_many_tiles_as_asked(self):
+        store, _ = self.opened(archives.archive(at_places([b"tile %d" % number for number in range(1000)]), leaf=16))
+        for size in (1, 7, 16, 30, 48, 1000, 1001):
+            counts = [len(list(store.tiles(part))) for part in store.ranges(size)]
+            self.assertEqual(counts, [size] * (1000 // size) + [1000 % size] * (1000 % size > 0))
 
     def test_equal_tiles_of_a_run_are_judged_once(self):
         tiles = {place: b"\x1a\x00" * 300 for place in many()}

@@ -84,17 +84,22 @@ class PMTiles(Store):
         return State(tiles, hashlib.sha256(front + f"{size} {told}".encode()).hexdigest())
 
     def ranges(self, size: int) -> Iterator[Part]:
-        """A part has whole directories while these are small, and slices of larger ones."""
+        """A part has so many tiles, of as many directories as these stand in."""
         part: Part = []
-        tiles = 0
+        room = size
         with open(self.path, "rb", buffering=0) as file:
-            for piece in self._pieces(file, size):
-                length = piece.end - piece.first if isinstance(piece, Slice) else 0
-                if part and tiles + length > size:
+            for piece in self._pieces(file):
+                if isinstance(piece, Fault):
+                    part.append(piece)
+                    continue
+                while piece.end - piece.first >= room:
+                    part.append(piece._replace(end=piece.first + room))
                     yield part
-                    part, tiles = [], 0
-                part.append(piece)
-                tiles += length
+                    piece = piece._replace(first=piece.first + room)
+                    part, room = [], size
+                if piece.first < piece.end:
+                    part.append(piece)
+                    room -= piece.end - piece.first
         if part:
             yield part
 
@@ -182,8 +187,8 @@ class PMTiles(Store):
                 yield begun, begun + found[1]
                 begun += found[1]
 
-    def _pieces(self, file: BinaryIO, size: int) -> Iterator[Union[Slice, Fault]]:
-        """The slices of all directories, of so many tiles at most, and what is wrong with the archive."""
+    def _pieces(self, file: BinaryIO) -> Iterator[Union[Slice, Fault]]:
+        """The own tiles of each directory, and what is wrong with the archive."""
         told, found, faults = self.header.addressed, 0, 0
         for each in self._walked(file, self._root()):
             if isinstance(each, Fault):
@@ -198,8 +203,7 @@ class PMTiles(Store):
             if told and found > told:
                 yield Fault(str(where), f"with it the archive has {found:,} tiles, and its header says {told:,}")
                 return
-            for first in range(0, places, size):
-                yield Slice(where, first, min(first + size, places))
+            yield Slice(where, 0, places)
         if found < told:
             yield Fault("header", f"it says {told:,} tiles, and the directories have {found:,}")
 
