@@ -50,17 +50,9 @@ export class Codec {
     return this.#patiently(async () => blockOf(await good(await this.#once(path))));
   }
 
-  /** What stands at a path: JSON. */
-  told(path) {
-    return this.#patiently(async () => (await good(await this.#once(path))).json());
-  }
-
-  /** Whether something stands at a path. */
-  has(path) {
-    return this.#patiently(async () => {
-      const response = await this.#once(path, { method: 'HEAD' });
-      return response.status !== 404 && (await good(response)).ok;
-    });
+  /** What stands at a path: JSON. It is given up where the signal says so. */
+  told(path, signal = null) {
+    return this.#patiently(async () => (await good(await this.#once(path, { signal }))).json());
   }
 
   /** Whether the server is there. */

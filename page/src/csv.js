@@ -2,8 +2,8 @@
 // formula for one, so an apostrophe stands before it.
 
 /** The lines of a table, each ended. */
-export function csvOf(heads, rows) {
-  return [heads, ...rows].map((row) => `${row.map(cell).join(',')}\r\n`).join('');
+export function csvOf(rows) {
+  return rows.map((row) => `${row.map(cell).join(',')}\r\n`).join('');
 }
 
 function cell(value) {

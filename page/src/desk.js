@@ -18,6 +18,7 @@ const ASKED_FILES = 100;
 
 export class Desk {
   #codec;
+  #fetched = null;
   #bytes = null;
   #tile = null;
   #report = null;
@@ -31,12 +32,20 @@ export class Desk {
     this.#codec = codec;
   }
 
+  /** Gets what stands at a path of the server, or why it can't be read, which `open` then takes: whether there is such. */
+  async fetch({ path }) {
+    this.#fetched = await this.#takeOrWhy(path);
+    return this.#fetched.verdict?.status !== 404;
+  }
+
   /**
-   * Reads and judges a file, bytes, or what stands at a path of the server. `facts` are the counts of an accepted tile, and
-   * `why` the reason where it can't be drawn; `place` is that of a fault, and `shape` what can be drawn of its feature.
+   * Reads and judges a file, bytes, or what stands at a path of the server; null is what was fetched. `facts` are the counts
+   * of an accepted tile, and `why` the reason where it can't be drawn; `place` is that of a fault, and `shape` what can be
+   * drawn of its feature.
    */
   async open({ source, name }) {
-    const { size, read } = await this.#take(source);
+    const { size, read, verdict: unread } = source === null ? this.#fetched : await this.#take(source);
+    if (read === undefined) return { size, note: null, verdict: unread, facts: null, why: null, place: null, shape: null };
     this.#bytes = read.bytes;
     this.#tile = this.#codec.open(read.bytes);
     const { verdict, facts = null, why = null } = await this.#read(read, name);
@@ -96,7 +105,7 @@ export class Desk {
       return await this.#take(source);
     } catch (error) {
       if (error instanceof Gone) throw error;
-      return { size: source.size ?? 0, verdict: { kind: 'unread', fault: null, why: error.message, notes: [], foreign: 0 } };
+      return { size: source.size ?? 0, verdict: { kind: 'unread', fault: null, why: error.message, status: error.status, notes: [], foreign: 0 } };
     }
   }
 

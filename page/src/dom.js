@@ -23,7 +23,7 @@ export function folded(title, make, isOpen = false) {
 
 /** Hands bytes to the person as a file. */
 export function save(name, type, bytes) {
-  const url = URL.createObjectURL(new Blob([bytes], { type }));
+  const url = URL.createObjectURL(new Blob([bytes].flat(), { type }));
   const link = element('a', { href: url, download: name });
   document.body.append(link);
   link.click();

@@ -1,6 +1,5 @@
 // What a file is that no tile is: told by how its bytes begin. It is asked only where the library refuses the bytes.
 
-const AUDIT = 'It holds many tiles: `mvt-audit` with the file’s name judges each of them.';
 const OPENED = 'It holds many tiles: `mvt-page` with the file’s name opens it here, and `mvt-audit` judges each of them.';
 
 /** Each kind: its name, its first bytes (in Latin 1), and what it is. */
@@ -8,7 +7,7 @@ const BEGINNINGS = [
   ['PNG', '\x89PNG', 'a picture (PNG)'],
   ['JPEG', '\xff\xd8\xff', 'a picture (JPEG)'],
   ['GIF', 'GIF8', 'a picture (GIF)'],
-  ['PMTiles', 'PMTiles', 'a PMTiles archive', AUDIT],
+  ['PMTiles', 'PMTiles', 'a PMTiles archive', OPENED],
   ['FlatGeobuf', 'fgb\x03', 'a FlatGeobuf file'],
   ['zstd', '\x28\xb5\x2f\xfd', 'compressed with zstd, which browsers can’t unpack here: unpack it first'],
   ['xz', '\xfd7zXZ', 'compressed with xz: unpack it first'],

@@ -2,16 +2,22 @@
 import { csvOf } from './csv.js';
 import { element, save } from './dom.js';
 import { foreignLine, plain } from './foreign.js';
+import { eachInSteps, sortedInSteps, withOthers } from './steps.js';
 import { counted, grouped, size } from './text.js';
 import { groupOf, lineOf, sayGroup } from './verdict.js';
 import { VirtualRows } from './virtual.js';
 
 const SAID_EVERY = 300;
+/** So many lines are saved as one piece. */
+const PIECE = 1000;
 
 export class TileList {
   #inputs;
   #rows = [];
   #shown = [];
+  #fresh = [];
+  #arranged = 0;
+  #isArranging = false;
   #groups = new Map();
   #filter = { text: '', group: null };
   #order = { by: 'index', isDown: false };
@@ -50,9 +56,10 @@ export class TileList {
       row.name = this.#inputs[row.index].name;
       row.line = lineOf(row.verdict);
       row.group = groupOf(row.verdict);
+      row.sought = `${row.name}\n${row.line}`.toLowerCase();
       this.#rows[row.index] = row;
       this.#groups.set(row.group, (this.#groups.get(row.group) ?? 0) + 1);
-      if (this.#isShown(row)) this.#shown.push(row.index);
+      if (this.#isShown(row)) this.#fresh.push(row.index);
     }
     this.#pending ??= setTimeout(() => this.#say(), this.#said === 0 ? 0 : SAID_EVERY);
   }
@@ -80,7 +87,7 @@ export class TileList {
     const part = this.count < this.#inputs.length ? `${grouped(this.count)} of ` : '';
     this.title.textContent = `${part}${counted(this.#inputs.length, 'file')} … ${this.#counts().replace(/^.*: /, '')}`;
     this.#sayGroups();
-    if (this.#order.by !== 'index') this.#sort();
+    this.#takeFresh();
     this.#saySome();
   }
 
@@ -96,24 +103,21 @@ export class TileList {
   }
 
   #saySome() {
-    const isAll = this.#shown.length === this.count;
+    const isAll = this.#shown.length + this.#fresh.length === this.count;
     this.told.textContent = isAll ? '' : `${grouped(this.#shown.length)} shown`;
     this.table.resize(this.#shown.length);
     this.turned();
   }
 
-  #isShown({ name, line, group }) {
+  #isShown({ sought, group }) {
     const { text, group: wanted } = this.#filter;
-    return (wanted === null || group === wanted) && (text === '' || name.toLowerCase().includes(text) || line.toLowerCase().includes(text));
+    return (wanted === null || group === wanted) && (text === '' || sought.includes(text));
   }
 
   #filterBy(change) {
     Object.assign(this.#filter, change);
-    this.#shown = this.#rows.filter((row) => this.#isShown(row)).map((row) => row.index);
-    this.#sort();
     this.#sayGroups();
-    this.table.root.scrollTop = 0;
-    this.#saySome();
+    this.#arrange(true);
   }
 
   // ---- sorting
@@ -132,12 +136,34 @@ export class TileList {
       if (head.dataset.by === this.#order.by) head.setAttribute('aria-sort', this.#order.isDown ? 'descending' : 'ascending');
       else head.removeAttribute('aria-sort');
     }
-    this.#sort();
+    this.#arrange(false);
+  }
+
+  /** Shows the rows that the filter lets through, in order. What is shown stays until they are; those that come meanwhile are
+   * taken in then. */
+  async #arrange(isFromTop) {
+    this.#arranged += 1;
+    const turn = this.#arranged;
+    const isNow = () => turn === this.#arranged;
+    this.#isArranging = true;
+    this.#fresh = [];
+    const wanted = [];
+    for (const row of this.#rows) if (this.#isShown(row)) wanted.push(row.index);
+    const shown = this.#order.by === 'index' ? wanted : await sortedInSteps(wanted, this.#comparison(), isNow);
+    if (!isNow()) return;
+    this.#shown = shown;
+    this.#isArranging = false;
+    this.#takeFresh();
+    if (isFromTop) this.table.root.scrollTop = 0;
     this.#saySome();
   }
 
-  #sort() {
-    this.#shown.sort(this.#comparison());
+  /** Takes in the rows that came since. */
+  #takeFresh() {
+    if (this.#isArranging) return;
+    if (this.#order.by === 'index') for (const index of this.#fresh) this.#shown.push(index);
+    else if (this.#fresh.length > 0) this.#shown = withOthers(this.#shown, this.#fresh, this.#comparison());
+    this.#fresh = [];
   }
 
   #comparison() {
@@ -181,16 +207,22 @@ export class TileList {
     return (step > 0 ? this.#shown.find(isOnTheWay) : this.#shown.findLast(isOnTheWay)) ?? null;
   }
 
-  #save() {
+  async #save() {
     const heads = ['file', 'bytes', 'verdict', 'layer', 'feature', 'at', 'cause', 'name', 'notes', 'words'];
-    const rows = this.#shown.map((index) => {
-      const { name, size: bytes, verdict, line } = this.#rows[index];
-      const { layer, feature, at, cause, name: causeName } = verdict.fault ?? {};
-      const notes = verdict.notes.map((note) => `${note.kind} ${note.count}`).join('; ');
-      return [name, bytes, verdict.kind, layer, feature, at, cause, causeName, notes, line];
-    });
-    save('tiles.csv', 'text/csv', new TextEncoder().encode(csvOf(heads, rows)));
+    const shown = this.#shown;
+    const pieces = [csvOf([heads])];
+    await eachInSteps(Math.ceil(shown.length / PIECE), (piece) => {
+      pieces.push(csvOf(shown.slice(PIECE * piece, PIECE * (piece + 1)).map((index) => cellsOf(this.#rows[index]))));
+    }, 1);
+    save('tiles.csv', 'text/csv', pieces);
   }
+}
+
+/** What a row's line of CSV has. */
+function cellsOf({ name, size: bytes, verdict, line }) {
+  const { layer, feature, at, cause, name: causeName } = verdict.fault ?? {};
+  const notes = verdict.notes.map((note) => `${note.kind} ${note.count}`).join('; ');
+  return [name, bytes, verdict.kind, layer, feature, at, cause, causeName, notes, line];
 }
 
 /** By name, numbers in it as numbers. */

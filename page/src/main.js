@@ -2,11 +2,19 @@
 import { Codec } from './codec.js';
 import { Page } from './page.js';
 import { spelledBytes } from './spelled.js';
+import { eachInSteps } from './steps.js';
 
 const data = JSON.parse(document.getElementById('data').textContent);
 const at = (id) => document.getElementById(id);
 
 const fileInput = (file) => ({ name: file.webkitRelativePath || file.name, source: file });
+
+/** The inputs of files, of which there may be very many. */
+async function inputsOf(files) {
+  const inputs = [];
+  await eachInSteps(files.length, (index) => void inputs.push(fileInput(files[index])));
+  return inputs;
+}
 const bytesInput = (name, source, note = null) => ({ name, source, note });
 
 function bytesOf(base64) {
@@ -27,9 +35,10 @@ function hasFolder(transfer) {
 /** Binds what a person does to the page. */
 function listen(page) {
   for (const id of ['files', 'folder']) {
-    at(id).addEventListener('change', ({ target }) => {
-      page.open([...target.files].map(fileInput));
+    at(id).addEventListener('change', async ({ target }) => {
+      const inputs = await inputsOf(target.files);
       target.value = '';    // so that the same file can be chosen again
+      page.open(inputs);
     });
   }
   document.addEventListener('dragover', (event) => {
@@ -37,11 +46,11 @@ function listen(page) {
     document.body.classList.add('over');
   });
   document.addEventListener('dragleave', (event) => event.relatedTarget ?? document.body.classList.remove('over'));
-  document.addEventListener('drop', (event) => {
+  document.addEventListener('drop', async (event) => {
     event.preventDefault();
     document.body.classList.remove('over');
     at('undropped').textContent = hasFolder(event.dataTransfer) ? 'A folder can’t be dropped. “Choose a folder” reads all its files.' : '';
-    if (at('undropped').textContent === '') page.open([...event.dataTransfer.files].map(fileInput));
+    if (at('undropped').textContent === '') page.open(await inputsOf(event.dataTransfer.files));
   });
   document.addEventListener('keydown', (event) => page.press(event));
   at('paste').addEventListener('submit', (event) => {

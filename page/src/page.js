@@ -19,6 +19,7 @@ export class Page {
   #codec;
   #newClient;
   #tiles = null;
+  #coming = null;
   #lists = null;
   #list = null;
   #store = null;
@@ -69,6 +70,7 @@ export class Page {
   #clear() {
     this.#lists?.stop();
     this.#store?.stop();
+    this.#comes();
     [this.#list, this.#store, this.#inputs] = [null, null, []];
     part('list').replaceChildren();
     this.#clearTile();
@@ -76,10 +78,10 @@ export class Page {
     document.body.classList.add('opened');
   }
 
-  #clearTile() {
+  #clearTile(client = this.#newClient()) {
     this.#tiles?.stop();
     this.#place = null;
-    this.#tiles = this.#newClient();
+    this.#tiles = client;
     this.#done('tile');
     this.#waysNow = () => {};
     part('tile').replaceChildren();
@@ -91,9 +93,9 @@ export class Page {
     await this.#showInput(this.#inputs[index], () => this.#ways(index), () => this.#list?.choose(index));
   }
 
-  /** Shows an input, with ways from it; `chosen` tells its list. */
-  async #showInput({ name, source, note = null }, ways, chosen) {
-    this.#clearTile();
+  /** Shows an input, with ways from it; `chosen` tells its list. The client is one that perhaps has it already. */
+  async #showInput({ name, source, note = null }, ways, chosen, client = undefined) {
+    this.#clearTile(client);
     chosen();
     this.#begin('tile', [`Reading ${plain(name)} …`], () => this.#stopTile(name));
     try {
@@ -219,21 +221,37 @@ export class Page {
   /** Opens a tile of the store, if it is there: what is shown stays where it isn't. */
   async #openTile(tile) {
     const store = this.#store;
+    const client = this.#newClient();
+    this.#comes(client);
+    this.#begin('coming', [`Reading ${plain(tile.name)} …`], () => this.#comes());
     try {
-      const isThere = await this.#codec.has(tile.source);
-      if (store !== this.#store) return;
-      this.#say(isThere ? '' : `The store has no tile ${tile.name}.`);
-      store.problem.textContent = part('told').textContent;
-      if (!isThere) return;
-      await this.#showInput(tile, () => this.#waysRound(tile.place), () => store.choose(tile));
+      const isThere = await client.ask('fetch', { path: tile.source });
+      this.#coming = null;
+      this.#done('coming');
+      this.#problem(isThere ? '' : `The store has no tile ${plain(tile.name)}.`);
+      if (isThere) await this.#showInput({ name: tile.name, source: null }, () => this.#waysRound(tile.place), () => store.choose(tile), client);
+      else client.stop();
     } catch (error) {
+      this.#comes();
       this.#failed(error);
     }
   }
 
+  /** Which client gets a tile now, or none; whatever another one gets is given up. */
+  #comes(client = null) {
+    this.#coming?.stop();
+    this.#coming = client;
+    this.#done('coming');
+  }
+
   #failed(error) {
     if (error.name === 'Gone') this.sayGone();
-    else this.#store.problem.textContent = error.message;
+    else this.#problem(error.message);
+  }
+
+  #problem(told) {
+    this.#say(told);
+    this.#store.problem.textContent = told;
   }
 
   /** Ways to the list, to the next broken tile, and to those round a tile. */

@@ -20,7 +20,9 @@ export class StoreList {
   #isLoading = false;
   #isStopped = false;
   #turn = 0;
+  #asking = new AbortController();
   #open = null;
+  #openRow = null;
 
   /**
    * The store of a number, `{name, kind}`. `hands` are `{open(tile), busy(words, stop), done(), failed(error)}`: a tile is
@@ -85,6 +87,7 @@ export class StoreList {
     this.stop();
     this.#isLoading = true;
     this.#rows = [];
+    this.#openRow = null;
     this.#next = from;
     this.#isAtStart = from === '';
     this.start.hidden = this.#isAtStart;
@@ -95,9 +98,17 @@ export class StoreList {
 
   /** Ends what is asked for. */
   stop() {
-    this.#turn += 1;
+    this.#nextTurn();
     this.#isLoading = false;
     this.#hands.done();
+  }
+
+  /** Gives up what is asked for, and begins a turn. */
+  #nextTurn() {
+    this.#asking.abort();
+    this.#asking = new AbortController();
+    this.#turn += 1;
+    return this.#turn;
   }
 
   #some(from, end) {
@@ -113,7 +124,9 @@ export class StoreList {
       while (this.#next !== null && this.#rows.length === before) {
         const told = await this.#tiles(`count=${ASKED_TILES}&only=${this.only.value}&${this.#next}`);
         if (turn !== this.#turn) return;
-        this.#rows.push(...told.tiles.map((row) => ({ ...row, told: verdictOfRow(row) })));
+        const rows = told.tiles.map((row) => ({ ...row, told: verdictOfRow(row) }));
+        this.#rows.push(...rows);
+        this.#openRow ??= this.#openAmong(rows);
         this.#next = told.next === null ? null : behind(told.next);
       }
       this.#isLoading = false;
@@ -122,14 +135,13 @@ export class StoreList {
   }
 
   #tiles(query) {
-    return this.#codec.told(`${this.#path}/tiles?${query}`);
+    return this.#codec.told(`${this.#path}/tiles?${query}`, this.#asking.signal);
   }
 
   /** Does what asks the server, and tells meanwhile that it may be stopped; `turn` tells whether it was. */
   async #ask(isLoading, does) {
     this.#isLoading = isLoading;
-    this.#turn += 1;
-    const turn = this.#turn;
+    const turn = this.#nextTurn();
     const isNow = () => turn === this.#turn;
     const timer = setTimeout(() => isNow() && this.#hands.busy(['Looking through the store …'], () => this.#stopped()), 200);
     try {
@@ -173,19 +185,22 @@ export class StoreList {
   /** Tells which tile is open below. */
   choose(tile) {
     this.#open = tile;
+    this.#openRow = this.#openAmong(this.#rows);
     this.table.refresh();
   }
 
-  /** The row of the open tile, if the list has it: by its key, or by its place where the key isn't known. */
-  get #openRow() {
-    const { key, name } = this.#open ?? {};
-    return this.#open && this.#rows.find((row) => (key === null ? row.z !== null && spelledPlace(row) === name : row.key === key));
+  /** The row of the open tile, if some rows have it: by its key, or by its place where the key isn't known. */
+  #openAmong(rows) {
+    if (this.#open === null) return null;
+    const { key, place } = this.#open;
+    const isOpen = key !== null ? (row) => row.key === key : ({ z, x, y }) => z === place.z && x === place.x && y === place.y;
+    return rows.find(isOpen) ?? null;
   }
 
   /** Brings the open tile's row into view, and the focus to it. */
   reveal() {
     const row = this.#openRow;
-    if (row) this.table.reveal(this.#rows.indexOf(row), true);
+    if (row !== null) this.table.reveal(this.#rows.indexOf(row), true);
     else this.title.focus();
   }
 

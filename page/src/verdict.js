@@ -50,6 +50,8 @@ export function titleOf({ kind, other, foreign, why }, layers) {
       return 'Refused: it breaks a rule';
     case 'other':
       return other.sentence;
+    case 'unread':
+      return `It can’t be read: ${why}`;
     default:
       return `Not judged: ${why}`;
   }

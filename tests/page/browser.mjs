@@ -69,7 +69,8 @@ export class Browser {
   /**
    * Records the tasks of all threads, until what it answers is called with a page. That gives how long each task of the
    * page's main thread kept a processor, in milliseconds: what else the machine does isn't counted. Of a task in which
-   * DevTools puts files into an input, what the page does then is counted.
+   * DevTools puts files into an input, what the page does then is counted. A busy machine sometimes tells more processor
+   * time than passed by the clock, which no task can have taken: then the clock's time counts.
    */
   async record() {
     const events = [];
@@ -85,7 +86,7 @@ export class Browser {
       const here = events.filter(({ ph, pid, tid }) => ph === 'X' && pid === main.pid && tid === main.tid);
       const changes = here.filter(({ name, args }) => name === 'EventDispatch' && args.data.type === 'change');
       const counted = (task) => changes.find(({ ts }) => ts >= task.ts && ts <= task.ts + task.dur) ?? task;
-      return here.filter(({ name }) => name === 'RunTask').map((task) => counted(task).tdur / 1000);
+      return here.filter(({ name }) => name === 'RunTask').map(counted).map(({ tdur, dur }) => Math.min(tdur, dur) / 1000);
     };
   }
 

@@ -8,6 +8,7 @@ from serving import TILES, TOP
 
 sys.path.insert(0, str(TOP / "tests" / "library" / "audit"))
 
+from archives import HEADER, archive, directory  # noqa: E402
 from common import make_mbtiles, make_tree  # noqa: E402
 
 GDAL = (TILES / "gdal.mvt").read_bytes()
@@ -37,9 +38,18 @@ def many():
     return {**{(9, number % 512, number // 512): small(number) for number in range(150_000)}, (12, 0, 0): broken("22-FirstRing")}
 
 
+def archive_of(entries, leaves=b"", data=b"x" * 100):
+    """An archive of such a root directory and such leaves."""
+    content = directory(entries)
+    sections = [127, len(content), 127, 0, 127 + len(content), len(leaves), 127 + len(content) + len(leaves), len(data)]
+    return HEADER.pack(b"PMTiles", 3, *sections, 0, 0, 0, 1, 1, 1, 1, 0, 31, *[0] * 6)[:127] + content + leaves + data
+
+
 if __name__ == "__main__":
     folder = Path(sys.argv[1])
     make_mbtiles(folder / "town.mbtiles", town())
     make_mbtiles(folder / "many.mbtiles", many())
+    (folder / "town.pmtiles").write_bytes(archive(town(), leaf=100, internal=2))
+    make_tree(folder / "town", town())
     make_tree(folder / "tree", {place: tile for place, tile in town().items() if place[0] < 4})
     (folder / "list.txt").write_text("tree/3/4/2.mvt\ntree/0/0/0.mvt\ngone.mvt\n")

@@ -16,6 +16,7 @@ import { Report } from '../../page/src/report.js';
 import { Rows } from '../../page/src/rows.js';
 import { spelledBytes, spelledOffset } from '../../page/src/spelled.js';
 import { answerOf, framesOf, partsOf, rowsOf } from '../../page/src/spelling.js';
+import { sortedInSteps, withOthers } from '../../page/src/steps.js';
 import { WAYS, placeOf, verdictOfRow, wayFrom, wayOfKey } from '../../page/src/stored.js';
 import { grouped } from '../../page/src/text.js';
 import { WHOLE, moved, transformOf, viewOf, zoomed } from '../../page/src/view.js';
@@ -84,7 +85,7 @@ for (const file of ['gdal.mvt', 'gdal.json', 'town.geojson', 'postgis.mvt']) {
   await is(`brotli of ${file}`, kindOfFile(new Uint8Array(brotliCompressSync(readFileSync(`${tiles}/${file}`))), 'a.mvt')?.name, 'brotli');
 }
 await is('a broken tile is a tile', kindOfFile(Uint8Array.of(0x1a, 3, 0x0a, 9, 0x61, 0x78, 2), 'a.mvt'), null);
-await counts.check('of a store it is said what to do', () => kindOfFile(latin('PMTiles\x03'), 'a').sentence.includes('mvt-audit'));
+await counts.check('of a store it is said what to do', () => kindOfFile(latin('PMTiles\x03'), 'a').sentence.includes('`mvt-page` with the file’s name opens it'));
 
 // ---- texts
 
@@ -95,8 +96,18 @@ await is('a long text is cut', foreign('x'.repeat(3000)).textContent, `${'x'.rep
 await is('no letter is cut in two', plain('😀'.repeat(3), 3), '\u2068😀…\u2069');
 await is('a plain text', plain('a\u2067b'), '\u2068a‹U+2067›b\u2069');
 await is('names keep zoom and column', ['tiles/12/2120/1451.pbf', 'a/b.mvt', 'b.pbf.gz', '12/2120/1451.mvt', '.mvt'].map(stemOf), ['12-2120-1451', 'b', 'b', '12-2120-1451', 'tile']);
-await is('CSV', csvOf(['a', 'b'], [['x,y', 1], ['say "so"', null]]), 'a,b\r\n"x,y",1\r\n"say ""so""",\r\n');
-await is('CSV without formulas', csvOf(['a'], [['=1+1'], ['-2.mvt'], ['@x'], ['+1'], ['\t=1'], [-1], ['a=1']]), "a\r\n'=1+1\r\n'-2.mvt\r\n'@x\r\n'+1\r\n'\t=1\r\n-1\r\na=1\r\n");
+await is('CSV', csvOf([['a', 'b'], ['x,y', 1], ['say "so"', null]]), 'a,b\r\n"x,y",1\r\n"say ""so""",\r\n');
+await is('CSV without formulas', csvOf([['a'], ['=1+1'], ['-2.mvt'], ['@x'], ['+1'], ['\t=1'], [-1], ['a=1']]), "a\r\n'=1+1\r\n'-2.mvt\r\n'@x\r\n'+1\r\n'\t=1\r\n-1\r\na=1\r\n");
+const scattered = Array.from({ length: 9000 }, (_, index) => (index * 7919) % 9001);
+const upwards = (a, b) => a - b;
+await is('sorted in steps', await sortedInSteps(scattered, upwards), [...scattered].sort(upwards));
+await is('sorted in one step, and nothing', [await sortedInSteps([3, 1, 2], upwards), await sortedInSteps([], upwards)], [[1, 2, 3], []]);
+await is('equal ones stay in order', (await sortedInSteps(scattered, (a, b) => (a % 3) - (b % 3))).slice(0, 3), scattered.filter((each) => each % 3 === 0).slice(0, 3));
+await counts.check('sorting is given up', async () => {
+  let asked = 0;
+  return (await sortedInSteps(scattered, upwards, () => (asked += 1) < 3)) === null && asked === 3;
+});
+await is('others among sorted ones', [withOthers([1, 3, 5], [4, 0, 5, 9], upwards), withOthers([], [2, 1], upwards), withOthers([1], [], upwards)], [[0, 1, 3, 4, 5, 5, 9], [1, 2], [1]]);
 await is('groups', [1, 1234, 67108864].map(grouped), ['1', '1,234', '67,108,864']);
 await is('JSON keeps its digits', laidOut('{"id":18446744073709551615,"a":["b, {c","\\""]}'), '{"id": 18446744073709551615, "a": ["b, {c", "\\""]}');
 const long = `[${'"abcdefghij",'.repeat(20)}[]]`;

@@ -22,7 +22,9 @@ class Serving:
     """A server that runs until the block ends."""
 
     def __init__(self, *words, browser=False, env=None, **how):
-        self.words, self.how = [*COMMAND, *map(str, words), *([] if browser else ["--no-browser"])], how
+        # Who runs the tests in the background may ignore Ctrl-C, and what is started here would too.
+        self.how = {"preexec_fn": lambda: signal.signal(signal.SIGINT, signal.SIG_DFL), **how}
+        self.words = [*COMMAND, *map(str, words), *([] if browser else ["--no-browser"])]
         self.env = {**os.environ, **(env or {})}
 
     def __enter__(self):

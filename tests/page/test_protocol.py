@@ -3,6 +3,8 @@
 import http.client
 import os
 import random
+import re
+import shlex
 import signal
 import socket
 import stat
@@ -346,11 +348,19 @@ class Command(unittest.TestCase):
             addresses = [line.split()[1] for line in listening.splitlines() if f":{serving.port:04X} " in line and line.split()[3] == "0A"]
             self.assertEqual(addresses, [f"0100007F:{serving.port:04X}"])
 
+    def test_a_signal_that_another_thread_is_given_ends_it_too(self):
+        with Serving() as serving:
+            others = [int(thread) for thread in os.listdir(f"/proc/{serving.process.pid}/task") if int(thread) != serving.process.pid]
+            os.kill(others[0], signal.SIGTERM)
+            self.assertEqual(serving.process.wait(timeout=20), 0)
+
     def test_ssh_is_told_where_no_browser_is(self):
-        none = {"DISPLAY": "", "WAYLAND_DISPLAY": "", "BROWSER": "", "SSH_CONNECTION": "10.0.0.1 5 10.0.0.2 22", "USER": "ann"}
-        with Serving(browser=True, env=none) as serving:
-            time.sleep(0.5)
-            self.assertIn(f"ssh -L {serving.port}:127.0.0.1:{serving.port} ann@10.0.0.2\n", serving.end()[1])
+        """By the address and the port through which the user came."""
+        none = {"DISPLAY": "", "WAYLAND_DISPLAY": "", "BROWSER": "", "USER": "ann"}
+        for came, way in [("10.0.0.1 5 10.0.0.2 22", "ann@10.0.0.2"), ("10.0.0.1 5 fe80::1 2222", "-p 2222 ann@fe80::1"), ("", "ann@THIS-MACHINE")]:
+            with Serving(browser=True, env={**none, "SSH_CONNECTION": came}) as serving:
+                time.sleep(0.5)
+                self.assertIn(f"ssh -L {serving.port}:127.0.0.1:{serving.port} {way}\n", serving.end()[1])
 
     def test_a_browser_is_opened_by_a_file(self):
         with tempfile.TemporaryDirectory() as folder:
@@ -371,10 +381,24 @@ class Command(unittest.TestCase):
                 self.assertEqual(serving.end()[0], 0)
                 self.assertFalse(file.exists())
 
+    def test_the_entry_of_the_desktop(self):
+        """It hands over names as they are, and where the command fails its window stays until Enter."""
+        entry = Path(TILES.parents[1], "library", "desktop", "mvt-page.desktop").read_text()
+        line = re.search("^Exec=(.*)$", entry, re.MULTILINE)[1].replace("\\\\", "\\")
+        names = ["/a/my town.mvt", "/b/$HOME \"x\".mbtiles"]
+        words = [each for word in shlex.split(line) for each in (names if word == "%F" else [word.replace("\\$", "$")])]
+        with tempfile.TemporaryDirectory() as folder:
+            command = Path(folder, "mvt-page")
+            for status, told in [(0, ""), (3, "Enter closes this window.\n")]:
+                command.write_text(f'#!/bin/sh\nprintf "%s\\n" "$@"\nexit {status}\n')
+                command.chmod(0o755)
+                run = subprocess.run(words, input="\n", capture_output=True, text=True, timeout=30, env={"PATH": f"{folder}:/usr/bin:/bin"})
+                self.assertEqual((run.stdout, run.stderr), ("".join(f"{name}\n" for name in names) + told, ""))
+
     def test_words_of_help(self):
         status, out, error = self.run_it("--help")
         self.assertEqual((status, error), (0, ""))
-        for word in ("--port", "--no-browser", "WHAT", "Status"):
+        for word in ("--port", "--no-browser", "--zooms", "--bounds", "--requests", "--timeout", "WHAT", "Status"):
             self.assertIn(word, out)
 
 

@@ -176,6 +176,8 @@ class Archives(Case):
         self.assertEqual([why for _, why in found], ["it leads in a circle"])
         found = self.unread(self.root([(5, 0, 0, 60)], leaves=leaf))
         self.assertEqual([why for _, why in found], ["the leaf of tile id 5 ends beyond the 5 bytes of leaves"])
+        found = self.unread(self.root([(1, 0, 0, 60), (5, 0, 0, 5)], leaves=leaf))
+        self.assertEqual([why for _, why in found], ["the leaf of tile id 1 ends beyond the 5 bytes of leaves", "it leads in a circle"])
         found = self.unread(self.root([(4, 0, 0, 5)], leaves=leaf))
         self.assertEqual([why for _, why in found], ["it begins with tile id 5, and the one above says 4"])
         leaf = archives.directory([(5, 1, 0, 6), (9, 1, 0, 6)])

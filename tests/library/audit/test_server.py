@@ -124,6 +124,7 @@ class Servers(Case):
         self.assertTrue(all(headers["Accept-Encoding"] == "gzip" for _, headers in server.asked))
         page = (self.into / "report.html").read_text()
         self.assertIn(f'<a href="{server.address}/6/', page)
+        self.assertRegex(page, f"mvt-page &#x27;{server.address}/{{z}}/{{x}}/{{y}}.pbf&#x27; 6/[0-9]+/[0-9]+ --zooms 6-6 --requests 6<")
         status, _, error = audit(*words)
         self.assertIn("all 4,096 tiles are judged already", error)
 
@@ -218,7 +219,8 @@ class Servers(Case):
         ]:
             self.fails([server.address + path, *words], 3, pattern)
         make_tree(self.room / "tree", at_places([b""]))
-        self.fails([self.room / "tree", "--zooms", "3"], 2, "--zooms and --bounds are of a server, and none is named")
+        for words in (["--zooms", "3"], ["--bounds", "-10.5,-10,10,10"]):
+            self.fails([self.room / "tree", *words], 2, "--zooms and --bounds are of a server, and none is named")
 
     def test_bounds(self):
         def places(zooms, bounds):
@@ -227,7 +229,14 @@ class Servers(Case):
         self.assertEqual(places((0, 1), (-180, -90, 180, 90)), [(0, 0, 0), (1, 0, 0), (1, 0, 1), (1, 1, 0), (1, 1, 1)])
         self.assertEqual(places((2, 2), (-90, 0, 0, 66)), [(2, 1, 1)])
         self.assertEqual(places((2, 2), (170, 1, -170, 2)), [(2, 3, 1), (2, 0, 1)])
+        self.assertEqual(places((0, 1), (170, 1, -170, 2)), [(0, 0, 0), (1, 1, 0), (1, 0, 0)])
         self.assertEqual(places((3, 3), (10, 10, 10, 10)), [(3, 4, 3)])
+
+    def test_words_that_name_it_again(self):
+        options = Options((0, 14), (-10.25, 40, 5.123456789, 50), 4, 5)
+        self.assertEqual(stores.opened("http://a/{z}/{x}/{y}", options).options(),
+                         ["--zooms", "0-14", "--bounds", "-10.25,40,5.123456789,50", "--requests", "4", "--timeout", "5"])
+        self.assertEqual(stores.opened("http://a/tiles.json").options(), [])
 
 
 if __name__ == "__main__":

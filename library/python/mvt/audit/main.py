@@ -10,11 +10,10 @@ import time
 from pathlib import Path
 from typing import Any, Dict, List, Optional, Sequence, Tuple
 
-from . import engine, report, summary
+from . import engine, report, serverwords, summary
 from .judging import BROKEN
 from .results import Added, Results, ResultsError
-from .stores import Options, State, Store, StoreError, opened
-from .stores.server import DEEPEST
+from .stores import State, Store, StoreError, opened
 
 USAGE, UNREAD, INTERRUPTED = 2, 3, 130
 # Parts are so many that the work is shared out evenly, but each is worth its way to a worker and back.
@@ -35,43 +34,13 @@ def _parser() -> argparse.ArgumentParser:
     )
     words.add_argument("--into", required=True, type=Path, metavar="FOLDER", help="where the results go")
     where = words.add_mutually_exclusive_group()
-    where.add_argument("--workers", type=_positive, default=4, metavar="N", help="processes on this machine (4)")
+    where.add_argument("--workers", type=serverwords.positive, default=4, metavar="N", help="processes on this machine (4)")
     where.add_argument("--scheduler", metavar="ADDRESS", help="a scheduler of Dask, such as tcp://alpha:8786")
-    words.add_argument("--part", type=_positive, metavar="N", help="tiles in a part (a fiftieth; 100 to 20,000)")
+    words.add_argument("--part", type=serverwords.positive, metavar="N", help="tiles in a part (a fiftieth; 100 to 20,000)")
     words.add_argument("--anew", action="store_true", help="forget the results in the folder, and begin again")
     words.add_argument("--json", action="store_true", help="sum up as JSON")
-    server = words.add_argument_group("of a server")
-    server.add_argument("--zooms", type=_zooms, metavar="A-B", help="its first and last zoom (as its TileJSON says)")
-    server.add_argument(
-        "--bounds", type=_bounds, metavar="W,S,E,N", help="degrees that its tiles lie between (as its TileJSON says)"
-    )
-    server.add_argument("--requests", type=_positive, default=8, metavar="N", help="requests at a time, at most (8)")
-    server.add_argument("--timeout", type=_positive, default=30, metavar="S", help="seconds that a request may take (30)")
+    serverwords.add_to(words)
     return words
-
-
-def _positive(word: str) -> int:
-    if not word.isdecimal() or int(word) == 0:
-        raise argparse.ArgumentTypeError(f"{word!r} is no number from 1 on")
-    return int(word)
-
-
-def _zooms(word: str) -> Tuple[int, int]:
-    first, _, last = word.partition("-")
-    last = last or first
-    if not (first.isdecimal() and last.isdecimal() and int(first) <= int(last) <= DEEPEST):
-        raise argparse.ArgumentTypeError(f"{word!r} is no zoom and no range of zooms such as 0-14")
-    return int(first), int(last)
-
-
-def _bounds(word: str) -> Tuple[float, float, float, float]:
-    try:
-        west, south, east, north = map(float, word.split(","))
-    except ValueError:
-        west = south = east = north = 999.0
-    if not (max(abs(west), abs(east)) <= 180 and -90 <= south <= north <= 90):
-        raise argparse.ArgumentTypeError(f"{word!r} is no west,south,east,north in degrees")
-    return west, south, east, north
 
 
 def _say(line: str) -> None:
@@ -107,10 +76,11 @@ class Progress:
 
 def _stores(given: argparse.Namespace) -> Tuple[List[Store], List[State]]:
     """The stores and their states; one that is named twice counts once."""
-    options = Options(given.zooms, given.bounds, given.requests, given.timeout)
+    options = serverwords.options_of(given)
     stores = list({store.path: store for store in (opened(path, options) for path in given.stores)}.values())
-    if (given.zooms or given.bounds) and all(store.kind != "server" for store in stores):
-        raise ResultsError("--zooms and --bounds are of a server, and none is named")
+    why = serverwords.misplaced(given, stores)
+    if why:
+        raise ResultsError(why)
     return stores, [store.state() for store in stores]
 
 
@@ -162,7 +132,7 @@ def _audit(given: argparse.Namespace) -> int:
 
 
 def main(words: Optional[Sequence[str]] = None) -> int:
-    given = _parser().parse_args(words)
+    given = _parser().parse_args(serverwords.words_of(words))
     missing = [name for name in ("distributed", "tqdm") if importlib.util.find_spec(name) is None]
     if missing:
         packages = "the extra libmvt[audit], or Debian's python3-distributed and python3-tqdm"

@@ -6,7 +6,7 @@ import stat
 from typing import Any, Dict, List, NamedTuple, Optional, Sequence, Tuple
 
 from ..audit import files
-from ..audit.stores import Key, Store, StoreError, found
+from ..audit.stores import Key, Options, Store, StoreError, found
 
 # A zoom beyond this is none.
 _MOST_ZOOM = 30
@@ -28,9 +28,9 @@ class Place(NamedTuple):
 class Given:
     """The files and stores, in order; and the tile of a store that is opened first, or None."""
 
-    def __init__(self, words: Sequence[str]) -> None:
-        """Words are files, stores, and behind a store perhaps the place Z/X/Y of a tile. Raises GivenError where one of
-        them names nothing that can be read."""
+    def __init__(self, words: Sequence[str], options: Options = Options()) -> None:
+        """Words are files, stores, and behind a store perhaps the place Z/X/Y of a tile; options are those of servers.
+        Raises GivenError where a word names nothing that can be read."""
         self.files: List[str] = []
         self.stores: List[Store] = []
         self.place: Optional[Place] = None
@@ -40,7 +40,7 @@ class Given:
             if place is not None:
                 self.place = Place(len(self.stores) - 1, *place)
                 self._key(self.place)
-            store = None if place else _store(word)
+            store = None if place else _store(word, options)
             if store is not None:
                 self.stores.append(store)
             elif place is None:
@@ -82,12 +82,13 @@ def shown(name: str) -> str:
 
 
 def _base(path: str) -> str:
-    return shown(os.path.basename(path) or path)
+    """The name of a file; the whole address of a server."""
+    return shown(path if "://" in path else os.path.basename(path) or path)
 
 
-def _store(path: str) -> Optional[Store]:
+def _store(path: str, options: Options) -> Optional[Store]:
     try:
-        store = found(path)
+        store = found(path, options)
         if store is not None:
             store.check()
     except StoreError as why:

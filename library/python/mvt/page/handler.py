@@ -7,6 +7,7 @@ import select
 import socket
 import time
 import traceback
+from contextlib import nullcontext
 from http.server import BaseHTTPRequestHandler
 from typing import TYPE_CHECKING, Any, Dict, List, NamedTuple, Optional, Sequence
 from urllib.parse import parse_qsl
@@ -42,6 +43,7 @@ _ALWAYS = {
 # The page says its own policy; what isn't the page may do nothing at all.
 _OF_PAGE = "frame-ancestors 'none'"
 _OF_OTHERS = "default-src 'none'; frame-ancestors 'none'; sandbox"
+_NO_MEMORY = "There is no memory for it."
 
 
 class Fault(Exception):
@@ -148,20 +150,30 @@ class Handler(BaseHTTPRequestHandler):
         what, stores = asked.path[2:], self.server.given.stores
         if number >= len(stores):
             raise Fault(404, "There is no such store.")
-        with self.server.turn(self.connection):
-            leave_if_gone(self.connection)
-            try:
-                if what == ["tiles"]:
-                    some = listing.some(stores[number], _wish(stores[number], asked.query))
-                    self._answer(_JSON, [json.dumps(some).encode()])
-                else:
-                    self._answer(_BYTES, [stores[number].held(_key(stores[number], what, asked.query))])
-            except (ValueError, OverflowError) as why:
-                raise Fault(400, "This is no key of a tile.") from why
-            except (OSError, StoreError) as why:
-                raise Fault(404, _reason(why)) from why
-            except MemoryError as why:
-                self._without_memory(why)
+        store = stores[number]
+        # Who only waits for another server keeps nobody from working.
+        with nullcontext() if store.waits else self.server.turn(self.connection):
+            self._leave_if_gone()
+            self._answer(_JSON if what == ["tiles"] else _BYTES, [self._told_of(store, what, asked.query)])
+
+    def _told_of(self, store: Store, what: Sequence[str], query: Dict[str, str]) -> bytes:
+        """Raises Fault, with the status 404 where there is no such tile and 502 where it can't be read."""
+        try:
+            if what == ["tiles"]:
+                return json.dumps(listing.some(store, _wish(store, query), self._leave_if_gone)).encode()
+            return store.held(_key(store, what, query))
+        except ConnectionAbortedError:
+            raise
+        except (ValueError, OverflowError) as why:
+            raise Fault(400, "This is no key of a tile.") from why
+        except (OSError, StoreError) as why:
+            raise Fault(404 if isinstance(why, FileNotFoundError) else 502, _reason(why)) from why
+        except MemoryError as why:
+            self.close_connection = True
+            raise Fault(503, _NO_MEMORY) from why
+
+    def _leave_if_gone(self) -> None:
+        leave_if_gone(self.connection)
 
     # ---- calls
 
@@ -206,7 +218,7 @@ class Handler(BaseHTTPRequestHandler):
         """Tells that this process has no memory, unless an answer is on its way already."""
         self.close_connection = True
         if not self._has_answered:
-            raise Fault(503, "There is no memory for it.") from why
+            raise Fault(503, _NO_MEMORY) from why
 
     # ---- answers
 

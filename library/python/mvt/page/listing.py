@@ -3,12 +3,12 @@
 import json
 import time
 from contextlib import closing
-from typing import Any, Dict, List, NamedTuple, Optional
+from typing import Any, Callable, Dict, List, NamedTuple, Optional
 
 import mvt
 
-from ..audit.judging import ACCEPTED, EMPTY, Row, judged
-from ..audit.stores import Address, Content, Key, Store
+from ..audit.judging import ACCEPTED, EMPTY, Judge, Row
+from ..audit.stores import Address, Content, Key, NotYet, Store
 from ..audit.unpacking import NotUnpacked, unpacked
 
 # So long, in seconds, tiles are looked through for one answer: who asks may go on, or not.
@@ -42,40 +42,56 @@ def spelled(key: Key) -> str:
     return json.dumps(key, default=str)
 
 
-def some(store: Store, wish: Wish) -> Dict[str, Any]:
-    """Some tiles, how many were looked at for them, and the key behind which to go on: None at the end."""
+def some(store: Store, wish: Wish, alive: Callable[[], None] = lambda: None) -> Dict[str, Any]:
+    """Some tiles, how many were looked at for them, and the key behind which to go on: None at the end. While a tile is
+    waited for, `alive` is asked, which may raise what ends the question."""
     tiles: List[Dict[str, Any]] = []
-    looked, last, begun = 0, wish.key, time.monotonic()
-    with closing(store.since(wish.key)) as found:  # type: ignore[type-var]
+    last: Optional[Key] = None
+    looked, looker, ends = 0, _Looker(wish), time.monotonic() + SLICE
+    asked = store.after(wish.key) if wish.is_behind and wish.key is not None else store.since(wish.key)
+    with closing(asked) as found:  # type: ignore[type-var]
         for key, address, content in found:
-            if wish.is_behind and key == wish.key:
-                continue
-            if looked and (len(tiles) == wish.most or time.monotonic() - begun > SLICE):
-                return {"tiles": tiles, "looked": looked, "next": spelled(last) if last is not None else None}
-            looked, last = looked + 1, key
-            row = _wanted(address, content, wish)
-            if row is not None:
-                tiles.append(_told(key, row, content))
+            if isinstance(content, NotYet):
+                alive()
+            else:
+                last = key
+                if content is not None:
+                    looked += 1
+                    tiles += looker.told(key, address, content)
+            if last is not None and (len(tiles) == wish.most or time.monotonic() > ends):
+                return {"tiles": tiles, "looked": looked, "next": spelled(last)}
     return {"tiles": tiles, "looked": looked, "next": None}
 
 
-def _wanted(address: Address, content: Content, wish: Wish) -> Optional[Row]:
-    """What is said of a tile that is wanted. Most are good: of these nothing is made where broken ones are wanted."""
-    if not wish.only_broken:
-        return judged(address, content)
-    if isinstance(content, bytes):
+class _Looker:
+    """Looks at one tile after the other. Most are good, and of these nothing is made where broken ones are wanted."""
+
+    def __init__(self, wish: Wish) -> None:
+        self._wish, self._judge = wish, Judge()
+        self._passed: Content = None
+
+    def told(self, key: Key, address: Address, content: Content) -> List[Dict[str, Any]]:
+        """What is told of a tile that is wanted; nothing of another."""
+        if content is self._passed:
+            return []
+        row = None if self._is_other(content) else Row._make((*address, *self._judge(content)))
+        if row is None or (self._wish.only_broken and not self._is_wanted(row)):
+            self._passed = content
+            return []
+        size = len(content) if isinstance(content, bytes) else None
+        return [{"key": spelled(key), "size": size, **row._asdict()}]
+
+    def _is_wanted(self, row: Row) -> bool:
+        return row.verdict not in (ACCEPTED, EMPTY) and self._wish.cause in (None, row.cause)
+
+    def _is_other(self, content: Content) -> bool:
+        """Whether broken tiles are wanted, and this one is good or breaks another rule than the one that is wanted."""
+        if not self._wish.only_broken or not isinstance(content, bytes):
+            return False
         try:
             mvt.judge(unpacked(content))
-            return None
         except mvt.Refused as fault:
-            if wish.cause not in (None, fault.cause):
-                return None
+            return self._wish.cause not in (None, fault.cause)
         except (NotUnpacked, MemoryError):
-            pass  # which is told below
-    row = judged(address, content)
-    return row if row.verdict not in (ACCEPTED, EMPTY) and wish.cause in (None, row.cause) else None
-
-
-def _told(key: Key, row: Row, content: Content) -> Dict[str, Any]:
-    size = len(content) if isinstance(content, bytes) else None
-    return {"key": spelled(key), "size": size, **row._asdict()}
+            return False  # which the row tells
+        return True

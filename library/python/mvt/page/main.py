@@ -10,12 +10,15 @@ from contextlib import ExitStack
 from pathlib import Path
 from typing import Optional, Sequence
 
+from ..audit import serverwords
 from . import launch
 from .given import Given, GivenError
 from .server import Server
 
 ENDED, USAGE, UNREAD = 0, 2, 3
 _PAGE = Path(__file__).with_name("page.html")
+# So often, in seconds, it is looked whether a signal came that the system gave to another thread, which wakes nobody.
+_WAKES = 0.5
 
 
 def _parser() -> argparse.ArgumentParser:
@@ -27,11 +30,13 @@ def _parser() -> argparse.ArgumentParser:
     )
     words.add_argument(
         "what", nargs="*", metavar="WHAT",
-        help="a file with a tile, or a store: a folder {z}/{x}/{y}.mvt or .pbf (.gz too), an .mbtiles file, or a .txt"
-        " file with a name on each line; behind a store perhaps the place Z/X/Y of the tile that is opened first",
+        help="a file with a tile, or a store: a folder {z}/{x}/{y}.mvt or .pbf (.gz too), an .mbtiles or .pmtiles file, a"
+        " .txt file with a name on each line, or a server, by the address of its tiles with {z}, {x} and {y} (or {-y}) in"
+        " it, or of its TileJSON; behind a store perhaps the place Z/X/Y of the tile that is opened first",
     )
     words.add_argument("--port", type=_port, default=0, metavar="N", help="the port; else one that is free")
     words.add_argument("--no-browser", action="store_true", help="don't open a browser, and only say the address")
+    serverwords.add_to(words)
     return words
 
 
@@ -71,9 +76,11 @@ def _say(server: Server) -> None:
 
 def _say_way(port: int) -> None:
     """How to reach the page from a machine with a screen."""
-    host = os.environ.get("SSH_CONNECTION", "").split(" ")[2:3] or ["THIS-MACHINE"]
+    came = os.environ.get("SSH_CONNECTION", "").split(" ")
+    host, door = came[2:] if len(came) == 4 else ("THIS-MACHINE", "22")
+    where = "" if door == "22" else f"-p {door} "
     print("No browser was opened. From a machine that has one, go this way, and open the address there:")
-    print(f"    ssh -L {port}:127.0.0.1:{port} {os.environ.get('USER', 'YOU')}@{host[0]}", flush=True)
+    print(f"    ssh -L {port}:127.0.0.1:{port} {where}{os.environ.get('USER', 'YOU')}@{host}", flush=True)
 
 
 def _serve(server: Server, wants_browser: bool) -> int:
@@ -86,7 +93,8 @@ def _serve(server: Server, wants_browser: bool) -> int:
             is_open = launch.opened(held.enter_context(launch.leading_file(server.address)))
         if wants_browser and not is_open:
             _say_way(server.server_port)
-        done.wait()
+        while not done.wait(_WAKES):
+            pass
         server.shutdown()
         server.server_close()
     return ENDED
@@ -94,13 +102,16 @@ def _serve(server: Server, wants_browser: bool) -> int:
 
 def main(words: Optional[Sequence[str]] = None) -> int:
     """Runs the command, until it is ended, and answers its status."""
-    given = _parser().parse_args(words)
+    given = _parser().parse_intermixed_args(serverwords.words_of(words))
     try:
-        page, what = _PAGE.read_bytes(), Given(given.what)
+        page, what = _PAGE.read_bytes(), Given(given.what, serverwords.options_of(given))
     except GivenError as why:
         return _fail(str(why), UNREAD)
     except OSError as why:
         return _fail(f"{_PAGE}: {why.strerror}; page/bundle.py makes it", UNREAD)
+    misplaced = serverwords.misplaced(given, what.stores)
+    if misplaced:
+        return _fail(misplaced, USAGE)
     _bound_memory()
     try:
         server = Server(given.port, page, what)

@@ -7,7 +7,7 @@ from pathlib import Path
 from typing import Any, Dict, Iterable, List, Optional, Tuple
 from urllib.parse import quote
 
-from ..judging import ACCEPTED, EMPTY, NOT_UNPACKED, REFUSED, UNREAD, VERDICTS
+from ..judging import ACCEPTED, EMPTY, NOT_UNPACKED, REFUSED, UNREAD, VERDICTS, Row
 from ..results import Results
 from ..stores import Store
 from . import pictures
@@ -158,20 +158,20 @@ def _causes(results: Results, stores: Dict[str, Store], found: Dict[str, Any]) -
             anchor = cause or verdict.replace(" ", "-")
             parts.append(f'<h3 id="cause-{anchor}">{escape(name)}: {counted(tiles, "tile")}</h3>')
             parts.append(f"<p>{escape(meaning)}</p>")
-            parts += [_example(each, several=len(stores) > 1) for each in examples(results, stores, verdict, cause)]
+            parts += [_example(each, stores) for each in examples(results, stores, verdict, cause)]
     if parts:
         parts.insert(0, "<h2>The worst of each kind</h2>")
         parts.insert(1, '<p class="quiet">Those at the lowest zooms, which most people see, of different layers.</p>')
     return parts
 
 
-def _example(example: Example, several: bool) -> str:
+def _example(example: Example, stores: Dict[str, Store]) -> str:
     row, fault = example.row, example.fault()
     where = row.name if row.z is None else f"{row.z}/{row.x}/{row.y}"
-    title = escape(f"{Path(example.store).name}: {where}" if several else str(where))
+    title = escape(f"{Path(example.store).name}: {where}" if len(stores) > 1 else str(where))
     if example.link is not None:
         title = f'<a href="{escape(example.link)}">{title}</a>'
-    said = [f"<h4>{title}{escape(_within(example))}</h4>", _command(example)]
+    said = [f"<h4>{title}{escape(_within(example))}</h4>", _command(row, stores[example.store])]
     if example.content is None:
         return f'<article>{"".join(said)}<p>{escape(row.notes or example.why)}</p></article>'
     if fault is None:
@@ -187,12 +187,11 @@ def _example(example: Example, several: bool) -> str:
     return f'<article>{"".join(said)}<div class="shown">{shown}</div></article>'
 
 
-def _command(example: Example) -> str:
+def _command(row: Row, store: Store) -> str:
     """The command that opens a tile; nothing for one without a place. A link can't be: the page's address is secret."""
-    row = example.row
     if row.z is None:
         return ""
-    command = f"mvt-page {shlex.quote(example.store)} {row.z}/{row.x}/{row.y}"
+    command = shlex.join(["mvt-page", store.path, f"{row.z}/{row.x}/{row.y}", *store.options()])
     return f'<p class="quiet">To look into it: <code>{escape(command)}</code></p>'
 
 

@@ -6,6 +6,7 @@ import importlib
 import importlib.metadata
 import sys
 from abc import ABC, abstractmethod
+from contextlib import closing
 from typing import Any, Callable, Iterator, List, NamedTuple, Optional, Tuple, Union
 
 # The modules of this package that have a kind of store, as their function `opened`.
@@ -46,6 +47,10 @@ class Options(NamedTuple):
     timeout: float = 30
 
 
+class NotYet(Exception):
+    """What a store that waits for its tiles tells every while that the next one doesn't come. It is no tile."""
+
+
 # Where a tile stands in the order of its store: numbers and texts that the store alone understands.
 Key = Tuple[Any, ...]
 
@@ -58,11 +63,13 @@ class Store(ABC):
 
     path: str
     kind: str
+    # Whether its tiles are waited for more than anything is done for them, as for those of a server.
+    waits = False
 
     def check(self) -> None:
         """Raises StoreError where the store has no tiles, or can't be read, or none of its tiles can be found by its place.
         Nothing is counted."""
-        raise StoreError(f"{self.path}: mvt-page opens folders, MBTiles files and lists of files, and not this store")
+        raise StoreError(f"{self.path}: mvt-page doesn't open this kind of store")
 
     @abstractmethod
     def state(self) -> State:
@@ -84,22 +91,35 @@ class Store(ABC):
         """Where a browser finds a tile, if it does."""
         return None
 
+    def options(self) -> List[str]:
+        """The words of a command line that it was opened by, beside its path."""
+        return []
+
     def spread(self, workers: int) -> Optional[int]:
         """Of how many ranges the tiles may be asked for at a time, by so many workers; None for any number."""
         return None
 
     def since(self, key: Optional[Key]) -> Iterator[Tuple[Key, Address, Content]]:
         """The tiles from a key on, or all, each with its key: in the order of z, x and y where the store can tell them
-        so. Raises ValueError for a key that is none of this kind of store, and StoreError."""
+        so. A place whose content is None has no tile. A store that waits tells a NotYet with the next key every while that
+        its tile doesn't come. Raises ValueError for a key that is none of this kind of store, OSError and StoreError."""
         self.check()
         return iter(())
 
+    def after(self, key: Key) -> Iterator[Tuple[Key, Address, Content]]:
+        """The same behind a key."""
+        with closing(self.since(key)) as found:  # type: ignore[type-var]
+            for each in found:
+                if each[0] != key:
+                    yield each
+
     def find(self, z: int, x: int, y: int) -> Optional[Key]:
-        """The key of the tile at a place, or None. Raises OSError."""
+        """The key of the tile at a place, or None. A store that waits tells the key without asking. Raises OSError."""
         return None
 
     def held(self, key: Key) -> bytes:
-        """The tile of a key. Raises ValueError for a key that is none, and OSError where it can't be read."""
+        """The tile of a key. Raises ValueError for a key that is none, FileNotFoundError where there is no tile, and else
+        OSError where it can't be read."""
         raise ValueError(key)
 
 

@@ -1,14 +1,18 @@
-"""A PMTiles archive, version 3, in a file that is read by ranges."""
+"""A PMTiles archive, version 3, in a file that is read by ranges. Its tiles have the archive's own order: zoom by zoom, and
+within a zoom along Hilbert's curve."""
 
+import errno
 import hashlib
 import os
-from typing import BinaryIO, Iterator, List, NamedTuple, Optional, Tuple, Union
+from contextlib import contextmanager
+from functools import lru_cache, partial
+from typing import BinaryIO, Callable, Iterator, List, NamedTuple, Optional, Tuple, Union
 
 from ..archive import GZIP, HEADER, MAGIC, MOST, ArchiveError, Directory, Entry, Header, Section, unpacked
 from ..files import MOST as MOST_OF_A_TILE
 from ..tile_ids import DEEPEST, first_of, id_of, place_of
 from ..unpacking import LIMIT, NotUnpacked
-from . import Address, Content, Options, State, Store, StoreError
+from . import Address, Content, Key, Options, State, Store, StoreError
 
 # How deep leaf directories may lie in one another.
 DEEPEST_LEAF = 8
@@ -37,10 +41,11 @@ class Slice(NamedTuple):
 
 
 class Fault(NamedTuple):
-    """What of the archive can't be read, and why."""
+    """What of the archive can't be read, why, and behind which tile id that stands."""
 
     name: str
     why: str
+    behind: int = 0
 
 
 Part = List[Union[Slice, Fault]]
@@ -67,20 +72,23 @@ class PMTiles(Store):
         self.path = os.path.abspath(path)
         self._header: Optional[Header] = None
 
-    def state(self) -> State:
+    def check(self) -> None:
         try:
-            with open(self.path, "rb", buffering=0) as file:
-                size, told = os.fstat(file.fileno()).st_size, os.fstat(file.fileno()).st_mtime_ns
-                front = file.read(HEADER)
-                self._header = Header.of(front, size)
-                root = self._directory(file, self._root())
-                tiles = self._header.addressed or sum(end - first for first, end in self._spans(file))
+            with self._reading() as file:
+                if not self._directory(file, self._root()).count:
+                    raise StoreError(f"{self.path}: no tiles in this archive")
         except OSError as why:
             raise StoreError(f"{self.path}: {why.strerror}") from why
-        except ArchiveError as why:
-            raise StoreError(f"{self.path}: {why}") from why
-        if not root.count:
-            raise StoreError(f"{self.path}: no tiles in this archive")
+
+    def state(self) -> State:
+        self.check()
+        try:
+            with self._reading() as file:
+                size, told = os.fstat(file.fileno()).st_size, os.fstat(file.fileno()).st_mtime_ns
+                front = os.pread(file.fileno(), HEADER, 0)
+                tiles = self.header.addressed or sum(end - first for first, end in self._spans(file))
+        except OSError as why:
+            raise StoreError(f"{self.path}: {why.strerror}") from why
         return State(tiles, hashlib.sha256(front + f"{size} {told}".encode()).hexdigest())
 
     def ranges(self, size: int) -> Iterator[Part]:
@@ -114,20 +122,49 @@ class PMTiles(Store):
     def tile(self, address: Address) -> bytes:
         if address.z is None or address.x is None or address.y is None:
             raise FileNotFoundError(f"{self.path}: {address} is no tile")
-        wanted = id_of(address.z, address.x, address.y)
-        try:
-            with open(self.path, "rb", buffering=0) as file:
-                content = self._content(file, self._found(file, wanted, address))
-        except ArchiveError as why:
-            raise OSError(f"{self.path}: {why}") from why
-        if isinstance(content, Exception):
-            raise OSError(f"{self.path}: {content}") from content
-        return content
+        return self._tile(id_of(address.z, address.x, address.y))
+
+    # A key is a tile id, and 0 for the tile or 1 for what is wrong behind it.
+
+    def since(self, key: Optional[Key]) -> Iterator[Tuple[Key, Address, Content]]:
+        first = (0, 0) if key is None else _checked(key)
+        with self._reading() as file:
+            content = self._contents(file)
+            for found in self._entries(file, self._root(), first[0]):
+                if isinstance(found, Entry):
+                    for tile_id in range(max(found.tile_id, sum(first)), found.tile_id + found.run):
+                        yield (tile_id, 0), Address(*place_of(tile_id)), content(*found[2:])
+                elif (found.behind, 1) >= first:
+                    yield (found.behind, 1), Address(None, None, None, found.name), StoreError(found.why)
+
+    def find(self, z: int, x: int, y: int) -> Optional[Key]:
+        tile_id = id_of(z, x, y)
+        with self._reading() as file:
+            return None if self._found(file, tile_id) is None else (tile_id, 0)
+
+    def held(self, key: Key) -> bytes:
+        tile_id, is_fault = _checked(key)
+        if is_fault:
+            found = next(self.since(key), None)
+            if found is None or found[0] != key:
+                raise FileNotFoundError(errno.ENOENT, "nothing is wrong there")
+            raise OSError(errno.EIO, str(found[2]))
+        return self._tile(tile_id)
 
     @property
     def header(self) -> Header:
-        assert self._header is not None, "the state was asked for"
+        assert self._header is not None, "the state was asked for, or the store checked"
         return self._header
+
+    @contextmanager
+    def _reading(self) -> Iterator[BinaryIO]:
+        """The file, with its header as it is now. What is wrong with the archive is an OSError."""
+        with open(self.path, "rb", buffering=0) as file:
+            try:
+                self._header = Header.of(file.read(HEADER), os.fstat(file.fileno()).st_size)
+                yield file
+            except ArchiveError as why:
+                raise OSError(errno.EIO, str(why)) from why
 
     def _root(self) -> Where:
         return Where(self.header.root, 0, first_of(DEEPEST + 1))
@@ -141,12 +178,23 @@ class PMTiles(Store):
             raise ArchiveError(f"it unpacks to more than {MOST:,} bytes")
         return Directory(content)
 
+    def _opened(self, file: BinaryIO, where: Where, above: Tuple[Section, ...]) -> Directory:
+        """A directory that lies below others. Raises ArchiveError where it can't be read, or doesn't belong there."""
+        leaves = self.header.leaves
+        if above and sum(where.section) > sum(leaves):
+            raise ArchiveError(f"the leaf of tile id {where.low} ends beyond the {leaves.length:,} bytes of leaves")
+        if where.section in above:
+            raise ArchiveError("it leads in a circle")
+        if len(above) > DEEPEST_LEAF:
+            raise ArchiveError(f"it lies below more than {DEEPEST_LEAF} others")
+        directory = self._directory(file, where)
+        if above and directory.first() != where.low:
+            raise ArchiveError(f"it begins with tile id {directory.first()}, and the one above says {where.low}")
+        return directory
+
     def _leaf(self, entry: Entry, high: int) -> Where:
         """The leaf directory that an entry leads to."""
-        leaves = self.header.leaves
-        if entry.offset + entry.length > leaves.length:
-            raise ArchiveError(f"the leaf of tile id {entry.tile_id} ends beyond the {leaves.length:,} bytes of leaves")
-        return Where(Section(leaves.offset + entry.offset, entry.length), entry.tile_id, high)
+        return Where(Section(self.header.leaves.offset + entry.offset, entry.length), entry.tile_id, high)
 
     def _leaves(self, directory: Directory, high: int) -> Iterator[Where]:
         """The leaf directories of a directory, each with the ids up to the next entry's."""
@@ -158,16 +206,29 @@ class PMTiles(Store):
         if pointer is not None:
             yield self._leaf(pointer, high)
 
+    def _entries(
+        self, file: BinaryIO, where: Where, first: int, above: Tuple[Section, ...] = ()
+    ) -> Iterator[Union[Entry, Fault]]:
+        """The entries of tiles that reach to a tile id or beyond it, in order, those of leaf directories in between; and
+        what is wrong, where it stands. Of the directories before the id nothing is read."""
+        last, below = where.low, (*above, where.section)
+        try:
+            pointer: Optional[Entry] = None
+            for entry in _own(self._opened(file, where, above), where):
+                if pointer is not None and entry.tile_id > first:
+                    yield from self._entries(file, self._leaf(pointer, entry.tile_id), first, below)
+                if entry.tile_id + entry.run > first and entry.run:
+                    yield entry
+                pointer, last = None if entry.run else entry, entry.tile_id + max(entry.run, 1) - 1
+            if pointer is not None:
+                yield from self._entries(file, self._leaf(pointer, where.high), first, below)
+        except ArchiveError as why:
+            yield Fault(str(where), str(why), last)
+
     def _walked(self, file: BinaryIO, where: Where, above: Tuple[Section, ...] = ()) -> Iterator[Union[Tuple[Where, int], Fault]]:
         """A directory with the number of its own tiles, and then those below it; or what is wrong with one of them."""
         try:
-            if where.section in above:
-                raise ArchiveError("it leads in a circle")
-            if len(above) > DEEPEST_LEAF:
-                raise ArchiveError(f"it lies below more than {DEEPEST_LEAF} others")
-            directory = self._directory(file, where)
-            if above and directory.first() != where.low:
-                raise ArchiveError(f"it begins with tile id {directory.first()}, and the one above says {where.low}")
+            directory = self._opened(file, where, above)
             yield where, directory.places()
             if directory.has_leaves():
                 for leaf in self._leaves(directory, where.high):
@@ -208,33 +269,32 @@ class PMTiles(Store):
             yield Fault("header", f"it says {told:,} tiles, and the directories have {found:,}")
 
     def _tiles_of(self, file: BinaryIO, piece: Slice) -> Iterator[Tuple[Address, Content]]:
-        """The tiles of a slice. Equal ones in turn have one content. What is wrong is told by the slice that it is in."""
+        """The tiles of a slice. What is wrong is told by the slice that it is in."""
         where, first, end = piece
-        place, last = 0, (-1, 0)
+        place, content = 0, self._contents(file)
         try:
-            for entry in self._directory(file, where).entries():
-                if not where.low <= entry.tile_id <= where.high - max(entry.run, 1):
-                    raise ArchiveError(f"tile id {entry.tile_id} isn't among those that the directory above says")
+            for entry in _own(self._directory(file, where), where):
                 low, high = max(first - place, 0), min(end - place, entry.run)
                 place += entry.run
-                if low < high:
-                    if last != entry[2:]:
-                        last, content = entry[2:], self._content(file, entry)
-                    for tile_id in range(entry.tile_id + low, entry.tile_id + high):
-                        yield Address(*place_of(tile_id)), content
+                for tile_id in range(entry.tile_id + low, entry.tile_id + high):
+                    yield Address(*place_of(tile_id)), content(*entry[2:])
                 if place >= end:
                     return
         except ArchiveError as why:
             if place >= first:
                 yield Address(None, None, None, str(where)), why
 
-    def _content(self, file: BinaryIO, entry: Entry) -> Union[bytes, Exception]:
-        header = self.header
-        tiles, length = header.tiles, min(entry.length, MOST_OF_A_TILE)
-        if entry.offset + entry.length > tiles.length:
-            return StoreError(f"its bytes end at {entry.offset + entry.length:,} of {tiles.length:,} bytes of tiles")
+    def _contents(self, file: BinaryIO) -> Callable[[int, int], Union[bytes, Exception]]:
+        """What reads tiles by their offset and length. Equal ones in turn have one content."""
+        return lru_cache(maxsize=1)(partial(self._content, file))
+
+    def _content(self, file: BinaryIO, offset: int, length: int) -> Union[bytes, Exception]:
+        header, tiles, end = self.header, self.header.tiles, offset + length
+        if end > tiles.length:
+            return StoreError(f"its bytes end at {end:,} of {tiles.length:,} bytes of tiles")
+        length = min(length, MOST_OF_A_TILE)
         try:
-            stored = os.pread(file.fileno(), length, tiles.offset + entry.offset)
+            stored = os.pread(file.fileno(), length, tiles.offset + offset)
             if len(stored) < length:
                 return StoreError("the file ends in it")
             # What unpacks a tile knows gzip by its first bytes.
@@ -244,18 +304,39 @@ class PMTiles(Store):
         except OSError as why:
             return why
 
-    def _found(self, file: BinaryIO, wanted: int, address: Address) -> Entry:
-        """The entry of a tile."""
-        where = self._root()
-        for _ in range(DEEPEST_LEAF + 1):
-            last: Optional[Entry] = None
-            for entry in self._directory(file, where).entries():
-                if entry.tile_id > wanted:
-                    break
-                last = entry
-            if last is None or (last.run and wanted >= last.tile_id + last.run):
-                break
-            if last.run:
-                return last
-            where = self._leaf(last, where.high)
-        raise FileNotFoundError(f"{self.path}: no tile {address}")
+    def _found(self, file: BinaryIO, wanted: int) -> Optional[Entry]:
+        """The entry of a tile, or None. Raises ArchiveError where a directory that may have it can't be read."""
+        found = next(self._entries(file, self._root(), wanted), None)
+        if isinstance(found, Fault) and found.behind <= wanted:
+            raise ArchiveError(f"{found.name}: {found.why}")
+        return found if isinstance(found, Entry) and found.tile_id <= wanted else None
+
+    def _tile(self, tile_id: int) -> bytes:
+        """A tile as it is stored. Raises OSError."""
+        with self._reading() as file:
+            entry = self._found(file, tile_id)
+            if entry is None:
+                z, x, y = place_of(tile_id)
+                raise FileNotFoundError(errno.ENOENT, f"no tile {z}/{x}/{y}")
+            content = self._content(file, *entry[2:])
+        if isinstance(content, Exception):
+            raise OSError(errno.EIO, str(content)) from content
+        return content
+
+
+def _own(directory: Directory, where: Where) -> Iterator[Entry]:
+    """The entries of a directory. Raises ArchiveError at one that the directory above doesn't let it have."""
+    for entry in directory.entries():
+        if not where.low <= entry.tile_id <= where.high - max(entry.run, 1):
+            raise ArchiveError(f"tile id {entry.tile_id} isn't among those that the directory above says")
+        yield entry
+
+
+def _checked(key: Key) -> Tuple[int, int]:
+    """A key of an archive. Raises ValueError where it is none."""
+    tile_id, is_fault = key
+    if not (isinstance(tile_id, int) and isinstance(is_fault, int)):
+        raise ValueError("a key is two numbers")
+    if not 0 <= tile_id < first_of(DEEPEST + 1) or not 0 <= is_fault <= 1:
+        raise ValueError("a number is out of range")
+    return tile_id, is_fault

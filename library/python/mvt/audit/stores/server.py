@@ -1,5 +1,7 @@
-"""A server that hands out tiles when it is asked: the address of its tiles, or of a TileJSON that tells it."""
+"""A server that hands out tiles when it is asked: the address of its tiles, or of a TileJSON that tells it. Its tiles are
+those of the zooms and the bounds, in the order of z, x and y."""
 
+import errno
 import hashlib
 import http.client
 import io
@@ -10,8 +12,9 @@ import socket
 import threading
 import time
 from collections import deque
-from concurrent.futures import Future, ThreadPoolExecutor
-from contextlib import closing
+from concurrent.futures import Future, wait
+from contextlib import closing, suppress
+from queue import SimpleQueue
 from typing import Any, Deque, Dict, Iterator, List, NamedTuple, Optional, Tuple
 from urllib.parse import urljoin, urlsplit
 
@@ -19,14 +22,17 @@ import mvt
 
 from ..files import MOST
 from ..unpacking import NotUnpacked, unpacked
-from . import Address, Content, Options, State, Store, StoreError
+from . import Address, Content, Key, NotYet, Options, State, Store, StoreError
 
 DEEPEST = 30
 _MOST_OF_TILEJSON = 1 << 20
+_PIECE = 1 << 18
 # The latitude where the square map of the Web Mercator projection ends.
 _EDGE = 85.0511287798066
 _HOLE = re.compile(r"\{(z|x|y|-y)\}")
 _NOTHING_THERE = (204, 404)
+# So often, in seconds, it is told that an answer hasn't come yet.
+_TOLD = 0.2
 # A server that sends head and body apart may wait until the head is acknowledged, which else takes 40 ms.
 _AT_ONCE = getattr(socket, "TCP_QUICKACK", None)
 _HEADERS = {"User-Agent": f"mvt-audit/{mvt.__version__}", "Accept-Encoding": "gzip", "Accept": "*/*"}
@@ -59,6 +65,16 @@ class Block(NamedTuple):
         x, y = divmod(number, self.bottom - self.top)
         return self.z, self.left + x, self.top + y
 
+    def before(self, z: int, x: int, y: int) -> int:
+        """How many of its tiles stand before a place, in the order of z, x and y."""
+        if self.z != z or not self.left <= x < self.right:
+            return self.tiles() if (self.z, self.right) <= (z, x) else 0
+        rows = self.bottom - self.top
+        return (x - self.left) * rows + min(max(y - self.top, 0), rows)
+
+    def has(self, z: int, x: int, y: int) -> bool:
+        return self.z == z and self.left <= x < self.right and self.top <= y < self.bottom
+
 
 def opened(path: str, options: Options = Options()) -> Optional["Server"]:
     return Server(path, options) if path.startswith(("http://", "https://")) else None
@@ -66,6 +82,7 @@ def opened(path: str, options: Options = Options()) -> Optional["Server"]:
 
 class Server(Store):
     kind = "server"
+    waits = True
 
     def __init__(self, path: str, options: Options) -> None:
         self.path = path
@@ -73,8 +90,10 @@ class Server(Store):
         self._template = path
         self._blocks: List[Block] = []
         self._threads = 1
+        self._kept: List["_Askers"] = []
 
-    def state(self) -> State:
+    def check(self) -> None:
+        """Finds out which tiles are asked for. Nothing but a TileJSON is asked."""
         zooms, bounds = self._options.zooms, self._options.bounds
         if not _HOLE.search(self.path):
             said = self._tilejson()
@@ -87,6 +106,9 @@ class Server(Store):
         if zooms is None:
             raise StoreError(f"{self.path}: which zooms? say --zooms 0-14, for example")
         self._blocks = list(_blocks(zooms, bounds or (-180, -90, 180, 90)))
+
+    def state(self) -> State:
+        self.check()
         told = f"{self._template} {self._blocks}"
         return State(sum(block.tiles() for block in self._blocks), hashlib.sha256(told.encode()).hexdigest())
 
@@ -96,28 +118,48 @@ class Server(Store):
             yield first, min(first + size, total)
 
     def tiles(self, part: Tuple[int, int]) -> Iterator[Tuple[Address, Content]]:
-        """The tiles in order, while the next are asked for already."""
-        with closing(self._client()) as client, ThreadPoolExecutor(self._threads) as pool:
-            waiting: Deque[Tuple[Address, "Future[Content]"]] = deque()
-            try:
-                for address in self._addresses(part):
-                    waiting.append((address, pool.submit(client.content, self.link(address))))
-                    if len(waiting) > 2 * self._threads:
-                        asked, content = waiting.popleft()
-                        yield asked, content.result()
-                while waiting:
-                    asked, content = waiting.popleft()
-                    yield asked, content.result()
-            finally:
-                for _, content in waiting:
-                    content.cancel()
+        with closing(_Askers(self._client(), self._threads)) as askers:
+            for address, content in self._asked(askers, self._addresses(part), 2 * self._threads):
+                if not isinstance(content, NotYet):
+                    yield address, content
 
     def tile(self, address: Address) -> bytes:
         with closing(self._client()) as client:
             content = client.content(self.link(address))
-        if isinstance(content, bytes):
-            return content
-        raise OSError(str(content) if content is not None else "the server has no such tile")
+        if content is None:
+            raise FileNotFoundError(errno.ENOENT, "the server has no such tile")
+        if isinstance(content, Exception):
+            raise OSError(errno.EIO, str(content))
+        return content
+
+    # A key is z, x and y. Whether a tile is there, only its answer tells.
+
+    def since(self, key: Optional[Key]) -> Iterator[Tuple[Key, Address, Content]]:
+        return self._told(self._addresses_from((0, 0, 0) if key is None else _checked(key)))
+
+    def after(self, key: Key) -> Iterator[Tuple[Key, Address, Content]]:
+        first = _checked(key)
+        return self._told(address for address in self._addresses_from(first) if address[:3] != first)
+
+    def find(self, z: int, x: int, y: int) -> Optional[Key]:
+        return (z, x, y) if any(block.has(z, x, y) for block in self._blocks) else None
+
+    def held(self, key: Key) -> bytes:
+        place = _checked(key)
+        if self.find(*place) is None:
+            raise FileNotFoundError(errno.ENOENT, "no such tile is asked for")
+        return self.tile(Address(*place))
+
+    def options(self) -> List[str]:
+        """Those that aren't what they are where nothing is said."""
+        zooms, bounds, requests, timeout = self._options
+        told = {
+            "--zooms": zooms and "-".join(map(str, zooms)),
+            "--bounds": bounds and ",".join(f"{degrees:.15g}" for degrees in bounds),
+            "--requests": requests != Options().requests and str(requests),
+            "--timeout": timeout != Options().timeout and f"{timeout:g}",
+        }
+        return [word for name, value in told.items() if value for word in (name, value)]
 
     def link(self, address: Address) -> str:
         z, y = address.z or 0, address.y or 0
@@ -137,6 +179,43 @@ class Server(Store):
                 yield Address(*block.place(number))
             first, end = first - count, end - count
 
+    def _addresses_from(self, first: Tuple[int, int, int]) -> Iterator[Address]:
+        for block in sorted(self._blocks):
+            for number in range(block.before(*first), block.tiles()):
+                yield Address(*block.place(number))
+
+    def _told(self, addresses: Iterator[Address]) -> Iterator[Tuple[Key, Address, Content]]:
+        """Tiles with their keys, for which as many requests are made at a time as are wanted. Connections are kept for
+        further questions, but where an answer that nobody waits for any more doesn't come soon."""
+        most = self._options.requests
+        try:
+            askers = self._kept.pop()
+        except IndexError:
+            askers = _Askers(self._client(), most)
+        try:
+            with closing(self._asked(askers, addresses, most)) as asked:  # type: ignore[type-var]
+                for address, content in asked:
+                    yield address[:3], address, content
+        finally:
+            if askers.is_free:
+                self._kept.append(askers)
+            else:
+                askers.close()
+
+    def _asked(self, askers: "_Askers", addresses: Iterator[Address], ahead: int) -> Iterator[Tuple[Address, Content]]:
+        """The tiles in order, while so many behind them are asked for already; and a NotYet with the next of them every
+        while that it doesn't come."""
+        waiting: Deque[Tuple[Address, "Future[Content]"]] = deque()
+        try:
+            for address in addresses:
+                waiting.append((address, askers.ask(self.link(address))))
+                if len(waiting) > ahead:
+                    yield from _awaited(*waiting.popleft())
+            while waiting:
+                yield from _awaited(*waiting.popleft())
+        finally:
+            askers.drop([content for _, content in waiting])
+
     def _client(self) -> "_Client":
         return _Client(self._options.timeout)
 
@@ -145,13 +224,56 @@ class Server(Store):
             with closing(self._client()) as client:
                 answer = client.answer(self.path, _MOST_OF_TILEJSON)
             said = json.loads(_plain(answer)) if answer.status == 200 else None
-        except (ServerError, ValueError) as why:
+        except ServerError as why:
             raise StoreError(f"{self.path}: {why}") from why
+        except ValueError as why:
+            raise StoreError(f"{self.path}: no TileJSON: {why}") from why
         if answer.status != 200:
             raise StoreError(f"{self.path}: {answer.status} {answer.reason}")
         if not isinstance(said, dict):
             raise StoreError(f"{self.path}: no TileJSON, and no address with {{z}}, {{x}} and {{y}} in it")
         return said
+
+
+def _awaited(address: Address, content: "Future[Content]") -> Iterator[Tuple[Address, Content]]:
+    """A tile, and before it a NotYet every while that it doesn't come."""
+    while content not in wait([content], _TOLD).done:
+        yield address, NotYet()
+    yield address, content.result()
+
+
+class _Askers:
+    """Threads that ask a client. They never keep the process from ending."""
+
+    def __init__(self, client: "_Client", count: int) -> None:
+        self._client, self._count, self.is_free = client, count, False
+        self._asked: "SimpleQueue[Optional[Tuple[str, Future[Content]]]]" = SimpleQueue()
+        for _ in range(count):
+            threading.Thread(target=self._ask_all, daemon=True).start()
+
+    def ask(self, address: str) -> "Future[Content]":
+        answer: "Future[Content]" = Future()
+        self._asked.put((address, answer))
+        return answer
+
+    def drop(self, answers: List["Future[Content]"]) -> None:
+        """Takes back what nobody waits for any more. Of what is asked already it waits a while whether that comes."""
+        self.is_free = not wait([answer for answer in answers if not answer.cancel()], _TOLD).not_done
+
+    def close(self) -> None:
+        """Ends the threads, and what they ask. They are not waited for."""
+        for _ in range(self._count):
+            self._asked.put(None)
+        self._client.close()
+
+    def _ask_all(self) -> None:
+        for address, answer in iter(self._asked.get, None):
+            if answer.set_running_or_notify_cancel():
+                try:
+                    answer.set_result(self._client.content(address))
+                except BaseException as why:
+                    answer.set_exception(why)
+        self._client.leave()
 
 
 class _Client:
@@ -161,10 +283,20 @@ class _Client:
         self._timeout = timeout
         self._local = threading.local()
         self._all: List["_Connection"] = []
+        self._is_closed = False
 
     def close(self) -> None:
-        for connection in self._all:
-            connection.close()
+        """Ends what any thread asks. Threads of their own give their connections back by `leave`."""
+        self._is_closed = True
+        for connection in list(self._all):
+            connection.end()
+        self.leave()
+
+    def leave(self) -> None:
+        """Gives back the connection of this thread."""
+        kept: Optional[_Connection] = getattr(self._local, "kept", None)
+        if kept is not None:
+            kept.close()
 
     def content(self, address: str) -> Content:
         """The body of a tile as it is stored; None where there is no tile."""
@@ -182,8 +314,11 @@ class _Client:
 
     def answer(self, address: str, most: int) -> Answer:
         """What the server says, of whose body at most so many bytes are read. Raises ServerError."""
-        host = urlsplit(address)
-        connection = self._connection(host.scheme, host.netloc)
+        try:
+            host = urlsplit(address)
+            connection = self._connection(host.scheme, host.netloc)
+        except (http.client.HTTPException, ValueError) as why:
+            raise ServerError(_told(why, self._timeout)) from why
         path = (host.path or "/") + (f"?{host.query}" if host.query else "")
         is_kept = connection.is_open()
         try:
@@ -191,7 +326,7 @@ class _Client:
                 return connection.asked(path, most, self._timeout)
             except (http.client.RemoteDisconnected, ConnectionResetError, BrokenPipeError):
                 # A server may end a connection that was kept, just as it is asked again.
-                if not is_kept:
+                if not is_kept or self._is_closed:
                     raise
                 return connection.asked(path, most, self._timeout)
         except (OSError, http.client.HTTPException, ValueError) as why:
@@ -214,13 +349,20 @@ class _Connection:
         self.server = scheme, netloc
         self._http: Any = kind(netloc)
         self._http.response_class = self._response
-        self._ends = 0.0
+        self._ends, self._is_ended = 0.0, False
 
     def is_open(self) -> bool:
         return self._http.sock is not None
 
     def close(self) -> None:
         self._http.close()
+
+    def end(self) -> None:
+        """Ends what another thread asks. That thread closes the connection."""
+        self._is_ended, sock = True, self._http.sock
+        if sock is not None:
+            with suppress(OSError):
+                socket.socket.shutdown(sock, socket.SHUT_RDWR)
 
     def asked(self, path: str, most: int, timeout: float) -> Answer:
         self._ends = time.monotonic() + timeout
@@ -229,16 +371,15 @@ class _Connection:
             self._http.connect()
         self._http.sock.settimeout(timeout)
         try:
+            if self._is_ended:
+                raise ConnectionAbortedError(errno.ECONNABORTED, "nobody waits for it any more")
             self._http.request("GET", path, headers=_HEADERS)
             response = self._http.getresponse()
-            body = response.read(most)
+            body = _body_of(response, most)
         except BaseException:
             self._http.close()
             raise
         if not response.isclosed():
-            if len(body) < most:
-                self._http.close()
-                raise http.client.IncompleteRead(body, response.length)
             # The rest is neither wanted nor waited for.
             self._http.close()
         encoding = (response.getheader("Content-Encoding") or "").strip().lower()
@@ -247,6 +388,19 @@ class _Connection:
     def _response(self, sock: socket.socket, *arguments: Any, **named: Any) -> http.client.HTTPResponse:
         timed: Any = _Timed(sock, self._ends)
         return http.client.HTTPResponse(timed, *arguments, **named)
+
+
+def _body_of(response: http.client.HTTPResponse, most: int) -> bytes:
+    """At most so many bytes of a body. Python 3.9 makes room for as many bytes as are asked for, so that is in pieces."""
+    body = bytearray()
+    while len(body) < most:
+        piece = response.read(min(most - len(body), _PIECE))
+        if not piece:
+            break
+        body += piece
+    if len(body) < most and response.length:
+        raise http.client.IncompleteRead(bytes(body), response.length)
+    return bytes(body)
 
 
 class _Timed(io.RawIOBase):
@@ -269,6 +423,16 @@ class _Timed(io.RawIOBase):
         if _AT_ONCE is not None:
             self._sock.setsockopt(socket.IPPROTO_TCP, _AT_ONCE, 1)
         return self._sock.recv_into(room)
+
+
+def _checked(key: Key) -> Tuple[int, int, int]:
+    """A key of a server, which is a place. Raises ValueError where it is none."""
+    z, x, y = key
+    if not (isinstance(z, int) and isinstance(x, int) and isinstance(y, int)):
+        raise ValueError("a key is three numbers")
+    if not 0 <= z <= DEEPEST or not 0 <= min(x, y) <= max(x, y) < 1 << z:
+        raise ValueError("a number is out of range")
+    return z, x, y
 
 
 def _told(why: Exception, timeout: float) -> str:
@@ -329,8 +493,10 @@ def _blocks(zooms: Tuple[int, int], bounds: Tuple[float, float, float, float]) -
     spans = [(west, east)] if west <= east else [(west, 180.0), (-180.0, east)]
     for z in range(zooms[0], zooms[1] + 1):
         top, bottom = _from_to(_row(north), _row(south), z)
-        for left_degrees, right_degrees in spans:
-            left, right = _from_to(_column(left_degrees), _column(right_degrees), z)
+        columns = [_from_to(_column(left), _column(right), z) for left, right in spans]
+        if len(columns) == 2 and columns[0][0] < columns[1][1]:
+            columns = [(0, 1 << z)]
+        for left, right in columns:
             yield Block(z, left, right, top, bottom)
 
 
