@@ -132,6 +132,10 @@ mvt_status mvt_rewrite(const uint8_t *bytes, size_t len, mvt_bytes *out, mvt_fau
 mvt_status mvt_extract(const uint8_t *bytes, size_t len, const mvt_bytes *names, size_t count, mvt_bytes *out,
                        mvt_fault *fault);
 
+/* The same. Where it answers MVT_NO_LAYER it also writes `missing`: the index of the first name that no layer has. */
+mvt_status mvt_extract_layers(const uint8_t *bytes, size_t len, const mvt_bytes *names, size_t count, mvt_bytes *out,
+                              mvt_fault *fault, size_t *missing);
+
 /* A tile as JSON, in one line without a line end. MVT_OK, MVT_REFUSED, MVT_NO_MEMORY. */
 mvt_status mvt_json(const uint8_t *bytes, size_t len, mvt_bytes *out, mvt_fault *fault);
 
@@ -175,8 +179,9 @@ mvt_status mvt_read_layer(const uint8_t *bytes, size_t len, mvt_bytes name, mvt_
  * more, the answer is MVT_NO_MEMORY, so that a few megabytes of rows can't ask for any amount of work. */
 mvt_status mvt_write(const mvt_tile *tile, mvt_bytes *out);
 
-/* What is wrong with rows, in the order in which it is looked for: layer by layer, and in a layer of version 2 first its
- * name, its keys and its values, then feature by feature. The last three are looked for when all rows have been read. */
+/* What is wrong with rows. It is looked for as the rows are written: a layer to its end before the next. In a layer of
+ * version 2 that is first its name, also whether an earlier layer has it; then its keys, its values and the span of its
+ * features; then feature by feature the id, the tags, the kind, the geometry, and last whether commands draw it. */
 typedef enum {
     MVT_ROWS_NAME_SPAN = 1,       /* a layer's name reaches beyond the texts */
     MVT_ROWS_NAME = 2,            /* a layer's name isn't UTF-8 */
@@ -208,9 +213,12 @@ typedef struct {
     uint32_t cause;         /* an mvt_rows_cause */
 } mvt_rows_fault;
 
-/* Whether rows are a valid tile, and else the first thing that is wrong with them: why mvt_write answers MVT_NO_TILE.
- * It writes `fault` where it answers MVT_NO_TILE. MVT_OK, MVT_NO_TILE, and MVT_NO_MEMORY, also where spans that overlap
- * name as many entries as mvt_write gives up at. */
+/* mvt_write. Where it answers MVT_NO_TILE it also writes `fault`: the first thing that is wrong with the rows. */
+mvt_status mvt_write_rows(const mvt_tile *tile, mvt_bytes *out, mvt_rows_fault *fault);
+
+/* Whether rows are a valid tile, and else the first thing that is wrong with them, as mvt_write_rows tells it. The rows are
+ * written, and the bytes are let go. MVT_OK, also where the bytes are too many; MVT_NO_TILE; and MVT_NO_MEMORY, also where
+ * spans that overlap name as many entries as mvt_write gives up at. */
 mvt_status mvt_judge_rows(const mvt_tile *tile, mvt_rows_fault *fault);
 
 /* A cause of mvt_rows_fault in plain words, which last for good; those of an unknown cause say so. */

@@ -397,21 +397,6 @@ template <class T>
 concept lasting_name = std::convertible_to<T, std::string_view> &&
                        (std::is_lvalue_reference_v<T> || std::is_trivially_copyable_v<std::remove_cvref_t<T>>);
 
-inline std::uint32_t extract(input of, std::span<const mvt_bytes> names, mvt_bytes *out, mvt_fault *fault) noexcept {
-    return mvt_extract(of.data(), of.size(), names.data(), names.size(), out, fault);
-}
-
-/// The first of the names that alone is missed too.
-inline std::string missed(input of, std::span<const mvt_bytes> names) {
-    for (const mvt_bytes &name : names) {
-        mvt_bytes out{};
-        mvt_fault fault{};
-        const std::uint32_t status = extract(of, {&name, 1}, &out, &fault);
-        mvt_bytes_free(&out);
-        if (status == MVT_NO_LAYER) return {reinterpret_cast<const char *>(name.data), name.len};
-    }
-    throw std::bad_alloc();
-}
 } // namespace detail
 
 /// The canonical bytes of a tile: equal tiles have equal bytes. Throws refused and too_large.
@@ -428,8 +413,11 @@ template <std::ranges::input_range Names>
     }
     mvt_bytes out{};
     mvt_fault fault{};
-    const std::uint32_t status = detail::extract(of, rows, &out, &fault);
-    if (status == MVT_NO_LAYER) throw no_layer(detail::missed(of, rows));
+    std::size_t missing = 0;
+    const std::uint32_t status =
+        mvt_extract_layers(of.data(), of.size(), rows.data(), rows.size(), &out, &fault, &missing);
+    if (status == MVT_NO_LAYER)
+        throw no_layer(std::string{reinterpret_cast<const char *>(rows[missing].data), rows[missing].len});
     require_ok(status, fault, of);
     return bytes::adopt(out);
 }
@@ -441,9 +429,9 @@ template <std::ranges::input_range Names>
 /// The canonical bytes of the tile that rows are, wherever these come from. Throws no_tile and too_large.
 [[nodiscard]] inline bytes write(const mvt_tile &rows) {
     mvt_bytes out{};
-    const std::uint32_t status = mvt_write(&rows, &out);
     mvt_rows_fault fault{};
-    if (status == MVT_NO_TILE && mvt_judge_rows(&rows, &fault) == MVT_NO_TILE) throw no_tile(fault);
+    const std::uint32_t status = mvt_write_rows(&rows, &out, &fault);
+    if (status == MVT_NO_TILE) throw no_tile(fault);
     require_ok(status, {});
     return bytes::adopt(out);
 }

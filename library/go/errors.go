@@ -114,12 +114,8 @@ func refusedOf(tile []byte, fault *C.mvt_fault) *Refused {
 	return told
 }
 
-// noTile says what is wrong with rows that are no valid tile.
-func noTile(rows *C.mvt_tile) error {
-	var fault C.mvt_rows_fault
-	if C.mvt_judge_rows(rows, &fault) != C.MVT_NO_TILE {
-		return ErrMemory
-	}
+// noTile is what is wrong with rows that are no valid tile, as an error.
+func noTile(fault *C.mvt_rows_fault) error {
 	told := &NoTile{Layer: int64(fault.layer), Feature: -1, Cause: uint32(fault.cause)}
 	if fault.has_feature == 1 {
 		told.Feature = int64(fault.feature)

@@ -22,7 +22,10 @@ package mvt
 */
 import "C"
 
-import "unsafe"
+import (
+	"unicode/utf8"
+	"unsafe"
+)
 
 // Judge says whether the bytes are a tile: nil where they are. Nothing is made of them, so it is the fastest way to know.
 func Judge(tile []byte) error {
@@ -50,33 +53,30 @@ func Extract(tile []byte, names ...string) ([]byte, error) {
 		defer C.free(held)
 		wanted[i] = C.mvt_bytes{(*C.uint8_t)(held), C.size_t(len(name))}
 	}
-	status := C.mvt_extract(start(tile), C.size_t(len(tile)), &wanted[0], C.size_t(len(names)), &out, &fault)
-	if status == C.MVT_NO_LAYER || status == C.MVT_BAD_NAME {
-		return nil, missing(tile, names)
+	var index C.size_t
+	status := C.mvt_extract_layers(start(tile), C.size_t(len(tile)), &wanted[0], C.size_t(len(names)), &out, &fault, &index)
+	if status == C.MVT_NO_LAYER {
+		return nil, &NoLayer{names[index]}
+	}
+	if status == C.MVT_BAD_NAME {
+		// A broken tile is told first, and so is a name before this one that no layer has.
+		bad := firstBad(names)
+		if _, err := Extract(tile, names[:bad]...); err != nil {
+			return nil, err
+		}
+		return nil, &NoLayer{names[bad]}
 	}
 	return made(status, tile, &out, &fault)
 }
 
-// missing is the first of the names that no layer of a tile has, as an error. The library says that there is one, and not
-// which.
-func missing(tile []byte, names []string) error {
-	read, err := Read(tile)
-	if err != nil {
-		return err
-	}
-	defer read.Close()
-	there := map[string]bool{}
-	for _, layer := range read.Layers() {
-		if layer.Version() == 2 {
-			there[layer.Name()] = true
+// firstBad is the index of the first name that isn't UTF-8; there is one.
+func firstBad(names []string) int {
+	for i, name := range names {
+		if !utf8.ValidString(name) {
+			return i
 		}
 	}
-	for _, name := range names {
-		if !there[name] {
-			return &NoLayer{name}
-		}
-	}
-	return ErrMemory
+	return len(names) - 1
 }
 
 // ToJSON shows a tile as JSON, in one line without a line end, as `mvt show` does. A text that many features share stands in it

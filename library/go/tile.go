@@ -67,9 +67,10 @@ func (t *Tile) Write() ([]byte, error) {
 
 func written(rows *C.mvt_tile) ([]byte, error) {
 	var out C.mvt_bytes
-	status := C.mvt_write(rows, &out)
+	var fault C.mvt_rows_fault
+	status := C.mvt_write_rows(rows, &out, &fault)
 	if status == C.MVT_NO_TILE {
-		return nil, noTile(rows)
+		return nil, noTile(&fault)
 	}
 	return made(status, nil, &out, nil)
 }

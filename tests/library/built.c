@@ -247,15 +247,38 @@ static void judge_rows(void) {
         case MVT_ROWS_REPEATED_NAME: layers[1].name.start = 0, layer = 1; break;
         default: break;
         }
-        mvt_rows_fault fault = {.cause = 99};
+        mvt_rows_fault fault = {.cause = 99}, told = fault;
         mvt_bytes out = {0};
         const uint32_t wanted = cause == 0 ? MVT_OK : MVT_NO_TILE;
-        require(mvt_judge_rows(&tile, &fault) == wanted && mvt_write(&tile, &out) == wanted, "rows are judged as they are written");
+        require(mvt_judge_rows(&tile, &fault) == wanted, "rows are judged");
+        require(mvt_write_rows(&tile, &out, &told) == wanted, "rows are written as they are judged");
+        require(memcmp(&told, &fault, sizeof told) == 0, "writing tells what judging tells");
+        mvt_bytes_free(&out);
+        require(mvt_write(&tile, &out) == wanted, "the same without a fault");
         require(fault.cause == (cause == 0 ? 99 : cause), "the cause of rows that are no tile");
         require(cause == 0 || (fault.layer == layer && fault.has_feature == (feature >= 0)), "the layer of such rows");
         require(cause == 0 || fault.feature == (feature < 0 ? 0 : (uint64_t)feature), "the feature of such rows");
         require(strlen(mvt_rows_cause_text(cause)) > 15, "the text of such a cause");
         mvt_bytes_free(&out);
+    }
+}
+
+/* Rows that are broken twice: a layer is looked at to its end before the next, and its name before its features. */
+static void judge_in_order(void) {
+    const mvt_point point = {INT32_MIN, 0};
+    const mvt_part part = {.points = {0, 1}};
+    const mvt_feature feature = {.kind = MVT_POINTS, .parts = {0, 1}};
+    mvt_layer layers[] = {{.version = 2, .name = {0, 1}, .features = {0, 1}}, {.version = 2, .name = {0, 1}, .keys = {0, 1}}};
+    mvt_tile tile = {.layers = layers, .layer_count = 2, .features = &feature, .feature_count = 1, .parts = &part,
+                     .part_count = 1, .points = &point, .point_count = 1, .texts = (const uint8_t *)"ab", .text_len = 2};
+    const uint32_t causes[] = {MVT_ROWS_DRAWING, MVT_ROWS_REPEATED_NAME, MVT_ROWS_KEYS_SPAN};
+    for (uint64_t step = 0; step < 3; ++step) {
+        mvt_rows_fault fault;
+        mvt_bytes out = {0};
+        require(mvt_write_rows(&tile, &out, &fault) == MVT_NO_TILE && out.data == NULL, "rows that are broken twice");
+        require(fault.cause == causes[step] && fault.layer == (step > 0), "what is wrong first");
+        if (step == 0) layers[0].features.len = 0;
+        else layers[1].name.start = 1;
     }
 }
 
@@ -296,6 +319,7 @@ int main(void) {
     build_out_of_turn();
     build_no_tile();
     judge_rows();
+    judge_in_order();
     write_what_nothing_names();
     write_overlaps();
     explain();

@@ -291,6 +291,11 @@ static void call(const char *path) {
     require(mvt_extract(bytes, len, NULL, 0, &out, &fault) == shown && out.len == 0, "no layers are named");
     mvt_bytes_free(&out);
     require(mvt_extract(bytes, len, names, 2, &out, &fault) == MVT_BAD_NAME, "a name that isn't UTF-8");
+    const mvt_bytes missed[] = {names[0], {(const uint8_t *)"no such layer", 13}};
+    size_t missing = 7;
+    const uint32_t without = mvt_extract_layers(bytes, len, missed, 2, &out, &fault, &missing);
+    require(without == (shown == MVT_OK ? MVT_NO_LAYER : shown), "a layer that isn't there");
+    require(missing == (shown != MVT_OK ? 7 : extracted == MVT_NO_LAYER ? 0 : 1), "the first name that no layer has");
     require(out.data == NULL && out.len == 0, "an output that isn't due is touched");
     if (read == MVT_OK) {
         sum += walk(&rows);

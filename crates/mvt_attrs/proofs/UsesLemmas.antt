@@ -1,7 +1,7 @@
 -- Entries that are known by their places, and those of them that are used.
-use Rattle.std.proofs.Common.{◌≡◌, ◌≢◌, ◌⊎◌, ℕ, zero, suc, ◌+◌, ◌-◌, ◌<◌, ◌≤◌, Bool, List, [], ◌∷◌, ◌++◌, length, map, set, get_or, take, drop, replicate, Some, Contains, Decides, bytes_eq, slice_get, slice_index, inl, inr, refl, sym, ap, ap₂, subst, ◌∙◌, ⊎_elim, arith, append_assoc, append-nil}
+use Rattle.std.proofs.Common.{◌≡◌, ◌≢◌, ◌⊎◌, ℕ, zero, suc, ◌+◌, ◌-◌, ◌<◌, ◌≤◌, Bool, List, [], ◌∷◌, ◌++◌, length, map, set, get_or, take, drop, replicate, Some, Contains, Decides, bytes_eq, slice_get, slice_index, inl, inr, refl, sym, ap, ap₂, subst, ◌∙◌, ⊎_elim, arith, append_assoc, append-nil, Result, Ok, Err, OnOk}
 use Rattle.std.proofs.lemmas.Bool.{cases_eq, cases_lt}
-use Rattle.std.proofs.lemmas.List.{get_or_default, get_or_past, get_or-set_same, get_or-set_other, get_or_append_left, length_push, length-set, length-take, get_or-take, length-replicate, get_or-replicate, map-append}
+use Rattle.std.proofs.lemmas.List.{get_or_default, get_or_past, get_or-set_same, get_or-set_other, get_or_append_left, length_push, length-set, length-take, get_or-take, length-replicate, get_or-replicate, map-append, nil_from_length}
 use Rattle.std.proofs.lemmas.Option.{slice_get_within, get_or_from_slice_get, slice_get-get_or}
 use Rattle.std.proofs.Math.Seq.{get_or-append_seam}
 use Rattle.std.proofs.lemmas.Slice.Eq.{bytes_eq-Decides}
@@ -13,10 +13,11 @@ use Rattle.mvt_attrs.specs.Pools.{key_pool, value_pool}
 use Rattle.mvt_attrs.specs.Tags.{Names}
 use Rattle.mvt_attrs.specs.TagPlaces.{tags_in}
 use Rattle.mvt_attrs.specs.TagRules.{pairs_of}
-use Rattle.mvt_attrs.specs.Using.{AreUses, HasUses, IsUsedBy}
+use Rattle.mvt_attrs.specs.Using.{AreUses, AreUsesOf, UsesAre, HasUses, IsUsedBy, used_in, used_of}
 use Rattle.mvt_attrs.specs.Values.{equal_values}
 use Rattle.mvt_base.specs.Related.{AreRelated}
 use Rattle.mvt_attrs.specs.declared.uses.LayerUses.{LayerUses}
+use Rattle.mvt_attrs.specs.declared.uses.Uses.{Uses}
 use Rattle.mvt_attrs.proofs.JudgingLemmas.{named_front, named_none}
 use Rattle.mvt_attrs.proofs.ResolvedLemmas.{related_from_names, there}
 use Rattle.mvt_attrs.proofs.TagLemmas.{NamesOne}
@@ -48,11 +49,13 @@ module _ {A : Type 0} (distinct : List A) (places marks : List ℕ) (used before
       let nothing = ap (λ ds. slice_get ds p) none in
       absurd cc
 
+  pub nothing_used : used ≡ []
+  nothing_used = no_entries used (λ i x at. (let (p, at_p, mark) = uses.recorded i x at in (p, at_p)))
+
   pub uses_apart : (after entries : List A) (indices zeros : List ℕ) → after ≡ entries → AreDistinct entries
       → AreIndices indices (length entries) → zeros ≡ replicate (length entries) 0 → AreUses after indices zeros used (before ++ entries)
   uses_apart after entries indices zeros is apart are_indices are_zeros =
       let no_before : before ≡ [] = no_entries before (λ i x at. (slice_index places i, uses.placed i x at)) in
-      let no_used : used ≡ [] = no_entries used (λ i x at. (let (p, at_p, mark) = uses.recorded i x at in (p, at_p))) in
       let all : before ++ entries ≡ after = ap (λ bs. bs ++ entries) no_before ∙ sym is in
       let size : length entries ≡ length after = ap length (sym is) in
       subst (AreUses after indices zeros used) (sym all) (record {
@@ -65,8 +68,8 @@ module _ {A : Type 0} (distinct : List A) (places marks : List ℕ) (used before
             let zero_there : slice_index zeros p ≡ 0 =
             ap (λ ns. slice_index ns p) are_zeros ∙ get_or-replicate (length entries) p 0 0 (omega (arith, size, within)) in
             absurd (omega (arith, zero_there, at));
-        once = subst AreDistinct (sym no_used) (λ i j d low within e. omega arith);
-        recorded = λ i x at. let nothing = ap (λ us. slice_get us i) no_used in cc;
+        once = subst AreDistinct (sym nothing_used) (λ i j d low within e. omega arith);
+        recorded = λ i x at. let nothing = ap (λ us. slice_get us i) nothing_used in cc;
       })
 
 -- entries that stand once each, of which the first are used
@@ -142,6 +145,104 @@ marks_more marks longer n used mark so_far is_used is_free grown =
 
 pub marks_none : (used : ℕ) → AreFirstMarks [] 0 used
 marks_none used = record { count = refl; front = λ i within lt. absurd (omega arith); rest = λ i le. refl }
+
+-- ---- what is used
+
+pub used_added : {A : Type 0} → (u : Uses A) → 0 < length u.places.items → used_of u ≡ u.used.items
+unfolding used_of
+used_added u some = by_places u.places.items some
+  where
+    by_places : (places : List ℕ) → 0 < length places → used_in places u.distinct u.used.items ≡ u.used.items
+    by_places [] none = absurd (omega arith)
+    by_places (p ∷ places) some = refl
+
+-- what is used hangs on these three lists alone
+pub still_used : {A : Type 0} → (old new : Uses A) → new.places.items ≡ old.places.items → new.distinct ≡ old.distinct
+    → new.used.items ≡ old.used.items → used_of new ≡ used_of old
+unfolding used_of
+still_used old new places distinct used =
+    ap (λ ps. used_in ps new.distinct new.used.items) places
+    ∙ ap₂ (λ ds us. used_in old.places.items ds us) distinct used
+
+pub all_used : {A : Type 0} → (u : Uses A) → u.places.items ≡ [] → used_of u ≡ u.distinct
+unfolding used_of
+all_used u none = ap (λ ps. used_in ps u.distinct u.used.items) none
+
+pub used_once : {A : Type 0} → (u : Uses A) (entries : List A) → AreUsesOf u entries → AreDistinct (used_of u)
+used_once u [] uses = subst AreDistinct (sym (all_used u uses.no_places)) uses.apart
+used_once u (x ∷ entries) uses = subst AreDistinct (sym (used_added u (let count = uses.count in omega arith))) uses.once
+
+-- with an entry at a place there are entries
+pub some_added : {A : Type 0} → (distinct : List A) (places marks : List ℕ) (used entries : List A) (i : ℕ) (x : A)
+    → UsesAre distinct places marks used entries → slice_get entries i ≡ Some x
+    → AreUses distinct places marks used entries × (0 < length places)
+some_added distinct places marks used [] i x uses at = cc
+some_added distinct places marks used (y ∷ entries) i x uses at = (uses, let count = uses.count in omega arith)
+
+pub still_uses : {A : Type 0} → (distinct : List A) (places marks new_marks : List ℕ) (used longer entries : List A) (i : ℕ) → i < length places
+    → UsesAre distinct places marks used entries
+    → (AreUses distinct places marks used entries → AreUses distinct places new_marks longer entries)
+    → UsesAre distinct places new_marks longer entries
+still_uses distinct places marks new_marks used longer [] i within uses more = absurd (let none = ap length uses.no_places in omega arith)
+still_uses distinct places marks new_marks used longer (x ∷ entries) i within uses more = more uses
+
+-- an entry can be added where entries were added, and where nothing is used
+pub to_add : {A : Type 0} → (distinct : List A) (places marks : List ℕ) (used entries : List A) → UsesAre distinct places marks used entries
+    → (places ≡ [] → distinct ≡ []) → AreUses distinct places marks used entries
+to_add distinct places marks used [] uses empty =
+    uses_none distinct places marks used (empty uses.no_places) uses.no_places uses.no_marks uses.no_used
+to_add distinct places marks used (x ∷ entries) uses empty = uses
+
+pub is_added : {A : Type 0} → (distinct : List A) (places marks : List ℕ) (used entries : List A) (x : A)
+    → AreUses distinct places marks used (entries ++ x ∷ []) → UsesAre distinct places marks used (entries ++ x ∷ [])
+is_added distinct places marks used [] x uses = uses
+is_added distinct places marks used (y ∷ entries) x uses = uses
+
+-- entries that are added at once, where nothing is used
+
+pub at_once : {A : Type 0} → (distinct : List A) (places marks : List ℕ) (used entries : List A) → AreUses distinct places marks used entries
+    → length distinct ≡ length places → (entries ≡ [] → used ≡ []) → UsesAre distinct places marks used entries
+at_once distinct places marks used [] uses size unused = record {
+  apart = uses.apart;
+  no_places = nil_from_length places uses.count;
+  no_marks = nil_from_length marks (uses.room ∙ size ∙ uses.count);
+  no_used = unused refl;
+}
+at_once distinct places marks used (x ∷ entries) uses size unused = uses
+
+pub nil_take : {A : Type 0} → (n : ℕ) (xs : List A) → xs ≡ [] → take n xs ≡ []
+nil_take zero xs none = refl
+nil_take (suc n) xs none = ap (take (suc n)) none
+
+pub first_used : {A : Type 0} → (u : Uses A) (entries : List A) (n : ℕ) → length u.places.items ≡ length entries → u.distinct ≡ entries
+    → u.used.items ≡ take n entries → used_of u ≡ take n entries
+first_used u [] n size same first = all_used u (nil_from_length u.places.items size) ∙ same ∙ sym (nil_take n [] refl)
+first_used u (x ∷ entries) n size same first = used_added u (omega (arith, size)) ∙ first
+
+none_in : {A : Type 0} → (places : List ℕ) (distinct used : List A) → length distinct ≡ length places → used ≡ []
+    → used_in places distinct used ≡ []
+none_in [] distinct used size unused = nil_from_length distinct size
+none_in (p ∷ places) distinct used size unused = unused
+
+pub none_used : {A : Type 0} → (u : Uses A) → length u.distinct ≡ length u.places.items → u.used.items ≡ [] → used_of u ≡ []
+unfolding used_of
+none_used u size unused = none_in u.places.items u.distinct u.used.items size unused
+
+pub none_before : {A : Type 0} → (u : Uses A) (entries : List A) → AreUsesOf u entries → u.distinct ≡ [] → used_of u ≡ []
+none_before u [] uses none = all_used u uses.no_places ∙ none
+none_before u (x ∷ entries) uses none =
+    used_added u (let count = uses.count in omega arith)
+    ∙ nothing_used u.distinct u.places.items u.marks.items u.used.items (x ∷ entries) uses none
+
+pub used_kept : {A : Type 0} → (old new : Uses A) (entries : List A) (place : ℕ) → AreUsesOf old entries
+    → (old.places.items ≡ [] → old.distinct ≡ []) → new.places.items ≡ old.places.items ++ place ∷ []
+    → new.used.items ≡ old.used.items → used_of new ≡ used_of old
+used_kept old new entries place uses empty pushed same =
+    used_added new (omega (arith, ap length pushed, length_push old.places.items place)) ∙ same ∙ sym (before entries uses)
+  where
+    before : (es : _) → AreUsesOf old es → used_of old ≡ old.used.items
+    before [] are = all_used old are.no_places ∙ empty are.no_places ∙ sym are.no_used
+    before (x ∷ es) are = used_added old (let count = are.count in omega arith)
 
 -- one of two entries at the places of a longer list
 push_cases : {A : Type 0} → (xs : List A) (x y : A) (i : ℕ) → slice_get (xs ++ x ∷ []) i ≡ Some y
@@ -487,7 +588,7 @@ pub record UsedSoFar (keys : List (List ℕ)) (values : List Value) (attributes 
   pub uses : HasUses now keys values
   pub tags : List ℕ
   pub out : after ≡ before ++ tags
-  pub so_far : TagsSoFar done old.keys.used.items now.keys.used.items old.values.used.items now.values.used.items tags
+  pub so_far : TagsSoFar done (used_of old.keys) (used_of now.keys) (used_of old.values) (used_of now.values) tags
 
 module _ (keys : List (List ℕ)) (values : List Value) (attributes : List Attribute) (old : LayerUses) (before : List ℕ) where
   pub used_start : (tags : List ℕ) → HasUses old keys values → Names keys values tags attributes
@@ -500,16 +601,16 @@ module _ (keys : List (List ℕ)) (values : List Value) (attributes : List Attri
     uses = uses;
     tags = [];
     out = sym (append-nil before);
-    so_far = tags_start old.keys.used.items old.values.used.items uses.0.once uses.1.once;
+    so_far = tags_start (used_of old.keys) (used_of old.values) (used_once old.keys keys uses.0) (used_once old.values values uses.1);
   }
 
   pub used_step : (rest left : List ℕ) (now next : LayerUses) (after longer : List ℕ) (k v : ℕ)
       → (so_far : UsedSoFar keys values attributes rest old now before after) → (some : 2 ≤ length rest)
       → left ≡ drop 2 rest → HasUses next keys values
       → ((x : List ℕ) → slice_get keys (get_or rest 0 0) ≡ Some x
-      → IsPut now.keys.used.items next.keys.used.items x × (slice_get next.keys.used.items k ≡ Some x))
+      → IsPut (used_of now.keys) (used_of next.keys) x × (slice_get (used_of next.keys) k ≡ Some x))
       → ((x : Value) → slice_get values (get_or rest 1 0) ≡ Some x
-      → IsPut now.values.used.items next.values.used.items x × (slice_get next.values.used.items v ≡ Some x))
+      → IsPut (used_of now.values) (used_of next.values) x × (slice_get (used_of next.values) v ≡ Some x))
       → longer ≡ after ++ k ∷ (v ∷ []) → UsedSoFar keys values attributes left old next before longer
   used_step rest left now next after longer k v so_far some is uses key value grown =
       let front = named_front keys values rest so_far.to_come some so_far.named in
@@ -524,8 +625,8 @@ module _ (keys : List (List ℕ)) (values : List Value) (attributes : List Attri
         uses = uses;
         tags = so_far.tags ++ k ∷ (v ∷ []);
         out = grown ∙ ap (λ o. o ++ k ∷ (v ∷ [])) so_far.out ∙ append_assoc before so_far.tags (k ∷ (v ∷ []));
-        so_far = tags_step so_far.done old.keys.used.items now.keys.used.items next.keys.used.items old.values.used.items
-            now.values.used.items next.values.used.items so_far.tags a k v so_far.so_far of_key.0 of_value.0 of_key.1 of_value.1;
+        so_far = tags_step so_far.done (used_of old.keys) (used_of now.keys) (used_of next.keys) (used_of old.values)
+            (used_of now.values) (used_of next.values) so_far.tags a k v so_far.so_far of_key.0 of_value.0 of_key.1 of_value.1;
       }
 
   module _ (rest : List ℕ) (now : LayerUses) (after : List ℕ) (so_far : UsedSoFar keys values attributes rest old now before after)
@@ -535,23 +636,67 @@ module _ (keys : List (List ℕ)) (values : List Value) (attributes : List Attri
         sym (so_far.parts
         ∙ ap (λ as'. so_far.done ++ as') (named_none keys values rest so_far.to_come none so_far.named) ∙ append-nil so_far.done)
 
-    all_so_far : TagsSoFar attributes old.keys.used.items now.keys.used.items old.values.used.items now.values.used.items so_far.tags
+    all_so_far : TagsSoFar attributes (used_of old.keys) (used_of now.keys) (used_of old.values) (used_of now.values) so_far.tags
     all_so_far =
         subst
-        (λ as'. TagsSoFar as' old.keys.used.items now.keys.used.items old.values.used.items now.values.used.items so_far.tags) used_all
+        (λ as'. TagsSoFar as' (used_of old.keys) (used_of now.keys) (used_of old.values) (used_of now.values) so_far.tags) used_all
         so_far.so_far
 
-    places : so_far.tags ≡ tags_in now.keys.used.items now.values.used.items attributes
+    places : so_far.tags ≡ tags_in (used_of now.keys) (used_of now.values) attributes
     places =
-        tags_are_places attributes old.keys.used.items now.keys.used.items old.values.used.items now.values.used.items so_far.tags
+        tags_are_places attributes (used_of old.keys) (used_of now.keys) (used_of old.values) (used_of now.values) so_far.tags
         all_so_far
 
     pub used_end : IsUsedBy attributes old now
     used_end = record {
       keys = all_so_far.keys_are;
       values = all_so_far.values_are;
-      names = subst (λ ts. Names now.keys.used.items now.values.used.items ts attributes) places all_so_far.names;
+      names = subst (λ ts. Names (used_of now.keys) (used_of now.values) ts attributes) places all_so_far.names;
     }
 
-    pub tags_end : after ≡ before ++ tags_in now.keys.used.items now.values.used.items attributes
+    pub tags_end : after ≡ before ++ tags_in (used_of now.keys) (used_of now.values) attributes
     tags_end = so_far.out ∙ ap (λ ts. before ++ ts) places
+
+-- ---- attributes whose entries are placed as they come
+
+pub on_ok_both : {T E P Q R : Type 0} → (r : Result T E) → (P → Q → R) → OnOk r P → OnOk r Q → OnOk r R
+on_ok_both (Ok x) both p q = both p q
+on_ok_both (Err e) both p q = tt
+
+pub on_ok_all : {T E P Q R S : Type 0} → (r : Result T E) → (P → Q → R → S) → OnOk r P → OnOk r Q → OnOk r R → OnOk r S
+on_ok_all (Ok x) all p q r = all p q r
+on_ok_all (Err e) all p q r = tt
+
+pub keys_apart : (keys : List (List ℕ)) (attributes : List Attribute) {pool : List (List ℕ)} → pool ≡ key_pool keys attributes → AreDistinct pool
+keys_apart keys attributes is = subst AreDistinct (sym is) (first_use-distinct bytes_eq bytes_eq-Decides _)
+
+pub values_apart : (values : List Value) (attributes : List Attribute) {pool : List Value} → pool ≡ value_pool values attributes
+    → AreDistinct pool
+values_apart values attributes is = subst AreDistinct (sym is) (first_use-distinct equal_values equal_values-Decides _)
+
+module _ (attributes : List Attribute) (old new : LayerUses) (uses : HasUses old [] []) (keys_stay : new.keys.places.items ≡ [])
+    (values_stay : new.values.places.items ≡ []) where
+  pub placed_by : new.keys.distinct ≡ key_pool old.keys.distinct attributes → new.values.distinct ≡ value_pool old.values.distinct attributes
+      → Names new.keys.distinct new.values.distinct (tags_in new.keys.distinct new.values.distinct attributes) attributes
+      → IsUsedBy attributes old new
+  placed_by keys values names = record {
+    keys = all_used new.keys keys_stay ∙ keys ∙ ap (λ k. key_pool k attributes) (sym (all_used old.keys uses.0.no_places));
+    values = all_used new.values values_stay ∙ values ∙ ap (λ v. value_pool v attributes) (sym (all_used old.values uses.1.no_places));
+    names =
+        subst (λ ks. Names ks (used_of new.values) (tags_in ks (used_of new.values) attributes) attributes) (sym (all_used new.keys keys_stay))
+        (subst (λ vs. Names new.keys.distinct vs (tags_in new.keys.distinct vs attributes) attributes) (sym (all_used new.values values_stay)) names);
+  }
+
+  pub placed_tags : (before : List ℕ) {after : List ℕ} → after ≡ before ++ tags_in new.keys.distinct new.values.distinct attributes
+      → after ≡ before ++ tags_in (used_of new.keys) (used_of new.values) attributes
+  placed_tags before is =
+      is ∙ ap₂ (λ ks vs. before ++ tags_in ks vs attributes) (sym (all_used new.keys keys_stay)) (sym (all_used new.values values_stay))
+
+pub too_many_used : (attributes : List Attribute) (old : LayerUses) (limit : ℕ) → HasUses old [] []
+    → (limit < length (key_pool old.keys.distinct attributes)) ⊎ (limit < length (value_pool old.values.distinct attributes))
+    → (limit < length (key_pool (used_of old.keys) attributes)) ⊎ (limit < length (value_pool (used_of old.values) attributes))
+too_many_used attributes old limit uses many =
+    subst (λ ks. (limit < length (key_pool ks attributes)) ⊎ (limit < length (value_pool (used_of old.values) attributes)))
+    (sym (all_used old.keys uses.0.no_places))
+    (subst (λ vs. (limit < length (key_pool old.keys.distinct attributes)) ⊎ (limit < length (value_pool vs attributes)))
+    (sym (all_used old.values uses.1.no_places)) many)

@@ -1,6 +1,6 @@
 -- The entries of a layer that its features use, each once, in order of first use (4.4). Entries are known by
 -- places: equal ones have one place.
-use Rattle.std.specs.Prelude.{◌≡◌, ◌≢◌, ℕ, ◌+◌, ◌<◌, List, Some, length, slice_get, slice_index}
+use Rattle.std.specs.Prelude.{◌≡◌, ◌≢◌, ℕ, ◌+◌, ◌<◌, List, [], ◌∷◌, Some, length, slice_get, slice_index}
 use Rattle.mvt_attrs.specs.declared.uses.Uses.{Uses}
 use Rattle.mvt_attrs.specs.declared.uses.LayerUses.{LayerUses}
 use Rattle.mvt_attrs.specs.declared.value.Attribute.{Attribute}
@@ -21,8 +21,28 @@ pub record AreUses {A : Type 0} (distinct : List A) (places marks : List ℕ) (u
   pub recorded : (i : ℕ) (x : A) → slice_get used i ≡ Some x
       → (p : ℕ) × (slice_get distinct p ≡ Some x) × (slice_index marks p ≢ 0)
 
+-- no entry was added: those that are used are placed as they come
+pub record AreAllUsed {A : Type 0} (distinct : List A) (places marks : List ℕ) (used : List A) : Type 0 where
+  pub apart : AreDistinct distinct
+  pub no_places : places ≡ []
+  pub no_marks : marks ≡ []
+  pub no_used : used ≡ []
+
+-- entries that were added, of which some are used; without them all are used that are there
+abbrev pub UsesAre : {A : Type 0} → List A → List ℕ → List ℕ → List A → List A → Type 0
+UsesAre distinct places marks used [] = AreAllUsed distinct places marks used
+UsesAre distinct places marks used (x ∷ entries) = AreUses distinct places marks used (x ∷ entries)
+
 abbrev pub AreUsesOf : {A : Type 0} → Uses A → List A → Type 0
-AreUsesOf uses entries = AreUses uses.distinct uses.places.items uses.marks.items uses.used.items entries
+AreUsesOf uses entries = UsesAre uses.distinct uses.places.items uses.marks.items uses.used.items entries
+
+-- the entries that are used
+abbrev pub used_in : {A : Type 0} → List ℕ → List A → List A → List A
+used_in [] distinct used = distinct
+used_in (place ∷ places) distinct used = used
+
+unfoldable pub used_of : {A : Type 0} → Uses A → List A
+used_of uses = used_in uses.places.items uses.distinct uses.used.items
 
 -- uses of a layer with these keys and values
 abbrev pub HasUses : LayerUses → List (List ℕ) → List Value → Type 0
@@ -30,6 +50,6 @@ HasUses uses keys values = AreUsesOf uses.keys keys × AreUsesOf uses.values val
 
 -- what attributes more do to the uses of a layer
 pub record IsUsedBy (attributes : List Attribute) (old new : LayerUses) : Type 0 where
-  pub keys : new.keys.used.items ≡ key_pool old.keys.used.items attributes
-  pub values : new.values.used.items ≡ value_pool old.values.used.items attributes
-  pub names : Names new.keys.used.items new.values.used.items (tags_in new.keys.used.items new.values.used.items attributes) attributes
+  pub keys : used_of new.keys ≡ key_pool (used_of old.keys) attributes
+  pub values : used_of new.values ≡ value_pool (used_of old.values) attributes
+  pub names : Names (used_of new.keys) (used_of new.values) (tags_in (used_of new.keys) (used_of new.values) attributes) attributes

@@ -26,7 +26,7 @@ pub use entry::Entry;
 pub use judging::judge_tags;
 pub use key_pool::KeyPool;
 pub use layer_keys::LayerKeys;
-pub use placing::{append_tags, tags_of};
+pub use placing::tags_of;
 pub use pool::Pool;
 pub use pool_error::PoolError;
 pub use resolving::{TagCause, TagError, resolve, resolve_in};

@@ -58,7 +58,7 @@ pub fn tags_of(
 /// # Errors
 ///
 /// As `tags_of`, and the list is then as it was or a longer one.
-pub fn append_tags(
+pub(crate) fn append_tags(
     attributes: &[Attribute],
     keys: &mut KeyPool,
     values: &mut ValuePool,

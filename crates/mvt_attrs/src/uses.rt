@@ -1,6 +1,6 @@
 //! The entries of a layer that its features use, each once, in order of first use.
-ghost use Rattle.std.specs.Prelude.{◌≡◌, ◌<◌, ◌≤◌, ◌++◌, ◌∷◌, [], List, ℕ, Some, Contains, length, take, slice_get, IfOk, OnErr, OnOk};
-ghost use Rattle.mvt_attrs.specs.declared.value.Attribute.{Attribute};
+ghost use Rattle.std.specs.Prelude.{◌≡◌, ◌<◌, ◌≤◌, ◌⊎◌, ◌++◌, ◌∷◌, [], List, ℕ, Some, Contains, length, take, slice_get, IfOk, IsErrOf, IsTrue, OnErr, OnOk, vec_len, vec_capacity};
+ghost use Rattle.mvt_attrs.specs.declared.value.Attribute.{Attribute as AnAttribute};
 ghost use Rattle.mvt_attrs.specs.declared.value.Value.{Value as AValue};
 ghost use Rattle.mvt_attrs.specs.Tags.{Names};
 ghost use Rattle.mvt_attrs.specs.TagPlaces.{tags_in};
@@ -8,14 +8,16 @@ ghost use Rattle.mvt_attrs.specs.FirstUse.{AreDistinct};
 ghost use Rattle.mvt_attrs.specs.Inner.Finding.{Knows};
 ghost use Rattle.mvt_attrs.specs.Inner.Places.{AreFirstMarks, AreIndices};
 ghost use Rattle.mvt_base.specs.Related.{Extends};
-ghost use Rattle.mvt_attrs.specs.Using.{AreUsesOf, HasUses, IsUsedBy};
+ghost use Rattle.mvt_attrs.specs.Pools.{key_pool, value_pool};
+ghost use Rattle.mvt_attrs.specs.Using.{AreUsesOf, HasUses, IsUsedBy, used_of};
 
 use crate::apart::index_apart;
 use crate::entry::Entry;
 use crate::entry_index::EntryIndex;
-use crate::placing::push_pair;
+use crate::placing::{append_tags, push_pair};
 use crate::pool::Pool;
-use crate::value::Value;
+use crate::pool_error::PoolError;
+use crate::value::{Attribute, Value};
 use mvt_base::{LIMIT, Text};
 use std::alloc::{AllocError, Global};
 
@@ -25,7 +27,8 @@ const FIRST_ROOM: usize = 16;
 /// The entries of a layer, and which of them its features use.
 ///
 /// Entries are compared when they are added, each once. From then on an entry is known by its
-/// place: a use costs two look-ups, however long the texts are.
+/// place: a use costs two look-ups, however long the texts are. Where none is added, all are used
+/// that attributes bring.
 #[derive(Drop)]
 pub struct Uses<T: Entry> {
     /// The entries, each once.
@@ -41,7 +44,7 @@ impl<T: Entry> Uses<T> {
     /// No entries, without memory.
     pub fn new(alloc: Global) -> Self
         ensures uses { AreUsesOf result [] }
-        ensures used { result.used.items ≡ [] }
+        ensures used { used_of result ≡ [] }
     {
         Uses {
             distinct: Pool::new(alloc),
@@ -62,7 +65,7 @@ impl<T: Entry> Uses<T> {
         requires apart { AreDistinct entries.items }
         requires within { used ≤ length entries.items }
         ensures uses { IfOk result (λ uses. AreUsesOf uses entries.items) }
-        ensures used { IfOk result (λ uses. uses.used.items ≡ take used entries.items) }
+        ensures used { IfOk result (λ uses. used_of uses ≡ take used entries.items) }
     {
         let count = entries.len();
         let first = copied_all(alloc, &entries[..used])?;
@@ -85,27 +88,45 @@ impl<T: Entry> Uses<T> {
 
     /// The entries that are used.
     pub fn used(&self) -> &[T]
-        ensures { result.now ≡ self.now.used.items }
+        ensures { result.now ≡ used_of self.now }
     {
-        &self.used
+        if self.places.is_empty() {
+            self.distinct.entries()
+        } else {
+            &self.used
+        }
+    }
+
+    /// Whether an entry can be added: none is used without it.
+    fn can_grow(&self) -> bool
+        ensures { IsTrue result → self.now.places.items ≡ [] → self.now.distinct ≡ [] }
+    {
+        !self.places.is_empty() || self.distinct.is_empty()
     }
 
     /// Adds an entry after the others.
     ///
     /// # Errors
     ///
-    /// When memory runs out. More entries than the limit don't fit any tile.
+    /// When memory runs out, or attributes were appended before. More entries than the limit don't
+    /// fit any tile.
     pub fn add(&mut self, entry: &T) -> Result<(), AllocError>
         ensures uses { (entries : List T) → AreUsesOf self.old entries
             → OnOk result (AreUsesOf self.new (entries ++ entry.now ∷ [])) }
-        ensures used { self.new.used.items ≡ self.old.used.items }
+        ensures used { (entries : List T) → AreUsesOf self.old entries
+            → used_of self.new ≡ used_of self.old }
     {
+        if !self.can_grow() {
+            return Err(AllocError);
+        }
+        make_room(&mut self.marks)?;
+        make_room(&mut self.places)?;
         let place = match self.distinct.place(entry) {
             Ok(place) => place,
             Err(_) => return Err(AllocError),
         };
-        add_mark(&mut self.marks, self.distinct.len())?;
-        push_in_room(&mut self.places, place)?;
+        add_mark(&mut self.marks, self.distinct.len());
+        self.places.push_reserved(place);
         Ok(())
     }
 
@@ -117,7 +138,8 @@ impl<T: Entry> Uses<T> {
     pub fn add_all(&mut self, more: &[T]) -> Result<(), AllocError>
         ensures uses { (entries : List T) → AreUsesOf self.old entries
             → OnOk result (AreUsesOf self.new (entries ++ more.now)) }
-        ensures used { self.new.used.items ≡ self.old.used.items }
+        ensures used { (entries : List T) → AreUsesOf self.old entries
+            → used_of self.new ≡ used_of self.old }
     {
         if !self.distinct.is_empty() {
             return self.add_each(more);
@@ -137,7 +159,8 @@ impl<T: Entry> Uses<T> {
     pub fn take_all(&mut self, more: Vec<T>) -> Result<(), AllocError>
         ensures uses { (entries : List T) → AreUsesOf self.old entries
             → OnOk result (AreUsesOf self.new (entries ++ more.items)) }
-        ensures used { self.new.used.items ≡ self.old.used.items }
+        ensures used { (entries : List T) → AreUsesOf self.old entries
+            → used_of self.new ≡ used_of self.old }
     {
         if !self.distinct.is_empty() {
             return self.add_each(&more);
@@ -152,7 +175,8 @@ impl<T: Entry> Uses<T> {
     fn add_each(&mut self, more: &[T]) -> Result<(), AllocError>
         ensures uses { (entries : List T) → AreUsesOf self.old entries
             → OnOk result (AreUsesOf self.new (entries ++ more.now)) }
-        ensures used { self.new.used.items ≡ self.old.used.items }
+        ensures used { (entries : List T) → AreUsesOf self.old entries
+            → used_of self.new ≡ used_of self.old }
     {
         for entry in more {
             self.add(entry)?;
@@ -173,7 +197,8 @@ impl<T: Entry> Uses<T> {
         requires known { Knows T.cmp T.hash_input entry_index entries.items }
         ensures uses { (before : List T) → AreUsesOf self.old before
             → OnOk result (AreUsesOf self.new (before ++ entries.items)) }
-        ensures used { self.new.used.items ≡ self.old.used.items }
+        ensures used { (before : List T) → AreUsesOf self.old before
+            → used_of self.new ≡ used_of self.old }
     {
         let places = indices(alloc, entries.len())?;
         self.marks = vec![in alloc; 0u32; entries.len()]?;
@@ -187,7 +212,8 @@ impl<T: Entry> Uses<T> {
         requires { self.old.distinct ≡ [] }
         ensures uses { (before : List T) → AreUsesOf self.old before
             → OnOk result (AreUsesOf self.new (before ++ entries.now)) }
-        ensures used { self.new.used.items ≡ self.old.used.items }
+        ensures used { (before : List T) → AreUsesOf self.old before
+            → used_of self.new ≡ used_of self.old }
     {
         self.distinct = Pool::with_slots(alloc, entries.len())?;
         self.add_each(entries)
@@ -203,13 +229,13 @@ impl<T: Entry> Uses<T> {
             → OnOk result (AreUsesOf self.new entries) }
         ensures index { (entries : List T) (x : T) → AreUsesOf self.old entries
             → slice_get entries entry ≡ Some x
-            → IfOk result (λ index. slice_get self.new.used.items index ≡ Some x) }
+            → IfOk result (λ index. slice_get (used_of self.new) index ≡ Some x) }
         ensures kept { (entries : List T) (x : T) → AreUsesOf self.old entries
-            → slice_get entries entry ≡ Some x → Contains self.old.used.items x
-            → OnOk result (self.new.used.items ≡ self.old.used.items) }
+            → slice_get entries entry ≡ Some x → Contains (used_of self.old) x
+            → OnOk result (used_of self.new ≡ used_of self.old) }
         ensures added { (entries : List T) (x : T) → AreUsesOf self.old entries
-            → slice_get entries entry ≡ Some x → ¬ (Contains self.old.used.items x)
-            → OnOk result (self.new.used.items ≡ self.old.used.items ++ x ∷ []) }
+            → slice_get entries entry ≡ Some x → ¬ (Contains (used_of self.old) x)
+            → OnOk result (used_of self.new ≡ used_of self.old ++ x ∷ []) }
     {
         let place = match self.places.get(entry as usize) {
             Some(place) => *place,
@@ -274,26 +300,34 @@ fn first_marks(alloc: Global, count: usize, used: usize) -> Result<Vec<u32>, All
     Ok(marks)
 }
 
-/// Adds an item after the others; the first takes room for those of a small layer.
+/// Room for an item after the others; the first takes room for those of a small layer.
+#[inline(always)]
+fn make_room<T: Drop>(items: &mut Vec<T>) -> Result<(), AllocError>
+    ensures items { items.new.items ≡ items.old.items }
+    ensures room { OnOk result (vec_len items.new < vec_capacity items.new) }
+{
+    items.reserve(if items.is_empty() { FIRST_ROOM } else { 1 })
+}
+
+/// Adds an item after the others.
 #[inline(always)]
 fn push_in_room<T: Drop>(items: &mut Vec<T>, item: T) -> Result<(), AllocError>
     ensures { OnOk result (items.new.items ≡ items.old.items ++ item ∷ []) }
 {
-    items.reserve(if items.is_empty() { FIRST_ROOM } else { 1 })?;
+    make_room(items)?;
     items.push_reserved(item);
     Ok(())
 }
 
-/// Adds a mark of no use, where fewer than `count` places have one.
-fn add_mark(marks: &mut Vec<u32>, count: usize) -> Result<(), AllocError>
-    ensures new { length marks.old.items < count
-        → OnOk result (marks.new.items ≡ marks.old.items ++ 0 ∷ []) }
+/// Adds a mark of no use, where fewer than `count` places have one. There is room for it.
+fn add_mark(marks: &mut Vec<u32>, count: usize)
+    requires { vec_len marks.old < vec_capacity marks.old }
+    ensures new { length marks.old.items < count → marks.new.items ≡ marks.old.items ++ 0 ∷ [] }
     ensures same { count ≤ length marks.old.items → marks.new.items ≡ marks.old.items }
 {
     if marks.len() < count {
-        push_in_room(marks, 0)?;
+        marks.push_reserved(0);
     }
-    Ok(())
 }
 
 /// The keys and the values of a layer, and which of them its features use.
@@ -307,8 +341,8 @@ impl LayerUses {
     /// No keys and no values, without memory.
     pub fn new(alloc: Global) -> Self
         ensures uses { HasUses result [] [] }
-        ensures keys { result.keys.used.items ≡ [] }
-        ensures values { result.values.used.items ≡ [] }
+        ensures keys { used_of result.keys ≡ [] }
+        ensures values { used_of result.values ≡ [] }
     {
         LayerUses {
             keys: Uses::new(alloc),
@@ -324,18 +358,18 @@ impl LayerUses {
     /// When memory runs out, or a tag names nothing; the list is then as it was or a longer one.
     pub fn append_used(&mut self, tags: &[u32], out: &mut Vec<u32>) -> Result<(), AllocError>
         ensures uses { (keys : List (List ℕ)) (values : List AValue)
-            (attributes : List Attribute) → HasUses self.old keys values
+            (attributes : List AnAttribute) → HasUses self.old keys values
             → Names keys values tags.now attributes
             → OnOk result (HasUses self.new keys values) }
         ensures used { (keys : List (List ℕ)) (values : List AValue)
-            (attributes : List Attribute) → HasUses self.old keys values
+            (attributes : List AnAttribute) → HasUses self.old keys values
             → Names keys values tags.now attributes
             → OnOk result (IsUsedBy attributes self.old self.new) }
         ensures tags { (keys : List (List ℕ)) (values : List AValue)
-            (attributes : List Attribute) → HasUses self.old keys values
+            (attributes : List AnAttribute) → HasUses self.old keys values
             → Names keys values tags.now attributes
             → OnOk result (out.new.items ≡ out.old.items
-            ++ tags_in self.new.keys.used.items self.new.values.used.items attributes) }
+            ++ tags_in (used_of self.new.keys) (used_of self.new.values) attributes) }
         ensures left { OnErr result (Extends out.old.items out.new.items) }
     {
         let mut rest = tags;
@@ -346,5 +380,40 @@ impl LayerUses {
             rest = others;
         }
         Ok(())
+    }
+
+    /// Appends the tags that these attributes have among the keys and the values that are used,
+    /// where new ones go last (4.4). Neither keys nor values were added before.
+    ///
+    /// An entry is looked for first where `last` has it, such as the tags of the feature before.
+    /// Any numbers will do: the entry there is compared.
+    ///
+    /// # Errors
+    ///
+    /// As [`tags_of`](crate::tags_of), and the list is then as it was or a longer one.
+    pub fn append_attributes(
+        &mut self,
+        attributes: &[Attribute],
+        last: &[u32],
+        out: &mut Vec<u32>,
+    ) -> Result<(), PoolError>
+        ensures uses { HasUses self.old [] [] → OnOk result (HasUses self.new [] []) }
+        ensures used { HasUses self.old [] []
+            → OnOk result (IsUsedBy attributes.now self.old self.new) }
+        ensures tags { HasUses self.old [] [] → OnOk result (out.new.items ≡ out.old.items
+            ++ tags_in (used_of self.new.keys) (used_of self.new.values) attributes.now) }
+        ensures left { OnErr result (Extends out.old.items out.new.items) }
+        ensures too_many { HasUses self.old [] [] → IsErrOf result PoolError.Full
+            → (LIMIT < length (key_pool (used_of self.old.keys) attributes.now))
+            ⊎ (LIMIT < length (value_pool (used_of self.old.values) attributes.now)) }
+    {
+        let LayerUses { keys, values } = self;
+        append_tags(
+            attributes,
+            &mut keys.distinct,
+            &mut values.distinct,
+            last,
+            out,
+        )
     }
 }

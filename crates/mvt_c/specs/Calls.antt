@@ -23,7 +23,7 @@ abbrev pub status_of_refusal : Refusal → ℕ
 status_of_refusal (Refused fault) = 1
 status_of_refusal Memory = 2
 status_of_refusal TooLarge = 3
-status_of_refusal NoLayer = 4
+status_of_refusal (NoLayer index) = 4
 status_of_refusal BadName = 5
 
 -- 0 for an answer
@@ -36,7 +36,7 @@ abbrev pub ReportsFault : Refusal → Fault → Fault → Type 0
 ReportsFault (Refused fault) old new = IsFault fault new
 ReportsFault Memory old new = new ≡ old
 ReportsFault TooLarge old new = new ≡ old
-ReportsFault NoLayer old new = new ≡ old
+ReportsFault (NoLayer index) old new = new ≡ old
 ReportsFault BadName old new = new ≡ old
 
 -- a call without a reader never tells a failed read
@@ -67,7 +67,7 @@ abbrev pub RefusedAs : List ℕ → Refusal → Type 0
 RefusedAs input (Refused fault) = fault_within LIMIT input ≡ Some fault
 RefusedAs input Memory = ⊤
 RefusedAs input TooLarge = IsTooLarge input
-RefusedAs input NoLayer = ⊥
+RefusedAs input (NoLayer index) = ⊥
 RefusedAs input BadName = ⊥
 
 -- the bytes are this tile, and each name is that of a layer of version 2
@@ -82,9 +82,13 @@ IsExtracted input names made = (tile : Tile) × IsTileWith input tile names × (
 abbrev pub IsTooLargeOf : List ℕ → List (List ℕ) → Type 0
 IsTooLargeOf input names = (tile : Tile) × IsTileWith input tile names × (LIMIT < length (canonical (pick tile names)))
 
--- the bytes are a tile, and no layer of version 2 has one of the names
+-- the bytes are a tile, and the first name that no layer of version 2 has is the one of this index
+abbrev pub LacksName : List ℕ → List (List ℕ) → ℕ → Type 0
+LacksName input names n = (tile : Tile) × IsTile LIMIT input tile × (first_missing tile names ≡ Some n)
+
+-- there is such a name
 abbrev pub LacksLayer : List ℕ → List (List ℕ) → Type 0
-LacksLayer input names = (tile : Tile) × (n : ℕ) × IsTile LIMIT input tile × (first_missing tile names ≡ Some n)
+LacksLayer input names = (n : ℕ) × LacksName input names n
 
 -- no layer of version 2 among the fields of the bytes has the name
 abbrev pub LacksLayerOf : List ℕ → List ℕ → Type 0
@@ -95,7 +99,7 @@ abbrev pub NotExtracted : List ℕ → List (List ℕ) → Refusal → Type 0
 NotExtracted input names (Refused fault) = fault_within LIMIT input ≡ Some fault
 NotExtracted input names Memory = ⊤
 NotExtracted input names TooLarge = IsTooLargeOf input names
-NotExtracted input names NoLayer = LacksLayer input names
+NotExtracted input names (NoLayer index) = LacksName input names index
 NotExtracted input names BadName = ⊥
 
 -- why no layer of this name is read from the bytes
@@ -103,7 +107,7 @@ abbrev pub NotReadOf : List ℕ → List ℕ → Refusal → Type 0
 NotReadOf name input (Refused fault) = named_fault LIMIT name input ≡ Some fault
 NotReadOf name input Memory = ⊤
 NotReadOf name input TooLarge = ⊥
-NotReadOf name input NoLayer = LacksLayerOf name input
+NotReadOf name input (NoLayer index) = LacksLayerOf name input
 NotReadOf name input BadName = ⊥
 
 -- the bytes are a tile, and this is a text of it
@@ -119,5 +123,5 @@ abbrev pub NotShown : List ℕ → Refusal → Type 0
 NotShown input (Refused fault) = fault_within LIMIT input ≡ Some fault
 NotShown input Memory = ⊤
 NotShown input TooLarge = ⊥
-NotShown input NoLayer = ⊥
+NotShown input (NoLayer index) = ⊥
 NotShown input BadName = ⊥

@@ -4,7 +4,8 @@ use Rattle.std.specs.Option.{unwrap_or}
 use Rattle.mvt_feature.specs.Causes.{cause_number, cause_name}
 use Rattle.mvt_tile.specs.declared.fault.Fault.{Fault as TileFault}
 use Rattle.mvt_rows.specs.declared.rows_cause.RowsFault.{RowsFault}
-use Rattle.mvt_rows.specs.RowsFaults.{rows_cause_number}
+use Rattle.mvt_rows.specs.RowsFaults.{IsFaultOf, rows_cause_number}
+use Rattle.mvt_rows.specs.Tables.{Table}
 use Rattle.mvt_c.specs.declared.fault.Fault.{Fault}
 use Rattle.mvt_c.specs.declared.writing.RowsFaultRow.{RowsFaultRow}
 
@@ -21,11 +22,11 @@ pub record IsFault (fault : TileFault) (reported : Fault) : Type 0 where
   pub cause : reported.cause ≡ cause_number fault.cause
   pub name : reported.name.bytes.now ≡ cause_name fault.cause
 
+-- whether a feature is to blame, and what is wrong with rows, as C has it
 abbrev pub has_feature : Option ℕ → ℕ
 has_feature None = 0
 has_feature (Some n) = 1
 
--- what is wrong with rows, as C has it
 abbrev pub row_of_fault : RowsFault → RowsFaultRow
 row_of_fault fault = record {
   layer = fault.layer;
@@ -33,3 +34,7 @@ row_of_fault fault = record {
   has_feature = has_feature fault.feature;
   cause = rows_cause_number fault.cause;
 }
+
+-- what is wrong with rows first
+abbrev pub IsRowsFault : Table → RowsFaultRow → Type 0
+IsRowsFault t row = (fault : RowsFault) × IsFaultOf t fault × (row ≡ row_of_fault fault)

@@ -13,5 +13,5 @@ abbrev pub HoldsNoText : List Bytes → Refusal → Type 0
 HoldsNoText names (Refused fault) = ⊥
 HoldsNoText names Memory = ⊤
 HoldsNoText names TooLarge = ⊥
-HoldsNoText names NoLayer = ⊥
+HoldsNoText names (NoLayer index) = ⊥
 HoldsNoText names BadName = Any (λ text. ¬ (IsUtf8 text)) (texts_of names)

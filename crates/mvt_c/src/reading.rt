@@ -111,6 +111,6 @@ fn read_named(alloc: Global, bytes: &[u8], name: &[u8]) -> Result<Table, Refusal
 {
     match read_layer(alloc, bytes, name, u64::MAX)? {
         Some(table) => Ok(table),
-        None => Err(Refusal::NoLayer),
+        None => Err(Refusal::NoLayer(0)),
     }
 }

@@ -17,8 +17,8 @@ pub(crate) enum Refusal {
     Memory,
     /// The result would be larger than the limit: 3.
     TooLarge,
-    /// A name that no layer has: 4.
-    NoLayer,
+    /// No layer has the name of this index: 4.
+    NoLayer(usize),
     /// A name that isn't UTF-8: 5.
     BadName,
 }
@@ -82,7 +82,7 @@ impl Refusal {
             Refusal::Refused(_) => 1,
             Refusal::Memory => 2,
             Refusal::TooLarge => 3,
-            Refusal::NoLayer => 4,
+            Refusal::NoLayer(_) => 4,
             Refusal::BadName => 5,
         }
     }

@@ -3,10 +3,9 @@ ghost use Rattle.std.specs.Prelude.{◌≡◌, ◌≢◌, ◌⊎◌};
 ghost use Rattle.mvt_model.specs.declared.tile.Tile.{Tile};
 ghost use Rattle.mvt_rows.specs.Lent.{table_of};
 ghost use Rattle.mvt_rows.specs.TileRows.{IsTileOf};
-ghost use Rattle.mvt_rows.specs.declared.rows_cause.RowsFault.{RowsFault as AFault};
-ghost use Rattle.mvt_rows.specs.RowsFaults.{AreValid, IsFaultOf};
+ghost use Rattle.mvt_rows.specs.RowsFaults.{AreValid};
 ghost use Rattle.mvt_rows.specs.Written.{IsNoTile, IsTooLargeOfRows, IsWritten};
-ghost use Rattle.mvt_c.specs.Faults.{row_of_fault};
+ghost use Rattle.mvt_c.specs.Faults.{IsRowsFault, row_of_fault};
 
 use crate::lent::Bytes;
 use mvt_rows::{Rows, RowsError, RowsFault, rows_fault, write_rows};
@@ -26,6 +25,31 @@ pub extern "C" fn mvt_write(alloc: Global, rows: &Rows, out: &mut Bytes) -> u32
         → IsTileOf (table_of rows.now) other
         → tile ≡ other }
 {
+    let mut untold = RowsFaultRow {
+        layer: 0,
+        feature: 0,
+        has_feature: 0,
+        cause: 0,
+    };
+    mvt_write_rows(alloc, rows, out, &mut untold)
+}
+
+/// The same, and what is wrong with rows that are no valid tile (`mvt_write_rows`).
+#[unsafe(no_mangle)]
+pub extern "C" fn mvt_write_rows(
+    alloc: Global,
+    rows: &Rows,
+    out: &mut Bytes,
+    fault: &mut RowsFaultRow,
+) -> u32
+    ensures done { result ≡ 0 → IsWritten (table_of rows.now) out.new.bytes.now }
+    ensures too_large { result ≡ 3 → IsTooLargeOfRows (table_of rows.now) }
+    ensures no_tile { result ≡ 6 → IsNoTile (table_of rows.now) }
+    ensures fault { result ≡ 6 → IsRowsFault (table_of rows.now) fault.new }
+    ensures known { (result ≡ 0) ⊎ ((result ≡ 2) ⊎ ((result ≡ 3) ⊎ (result ≡ 6))) }
+    ensures out_kept { result ≢ 0 → out.new ≡ out.old }
+    ensures fault_kept { result ≢ 6 → fault.new ≡ fault.old }
+{
     match write_rows(alloc, rows) {
         Ok(bytes) => {
             *out = Bytes {
@@ -35,7 +59,10 @@ pub extern "C" fn mvt_write(alloc: Global, rows: &Rows, out: &mut Bytes) -> u32
         }
         Err(RowsError::Memory) => 2,
         Err(RowsError::TooLarge) => 3,
-        Err(RowsError::NoTile) => 6,
+        Err(RowsError::NoTile(found)) => {
+            *fault = row_of(found);
+            6
+        }
     }
 }
 
@@ -55,8 +82,7 @@ pub struct RowsFaultRow {
 #[unsafe(no_mangle)]
 pub extern "C" fn mvt_judge_rows(alloc: Global, rows: &Rows, fault: &mut RowsFaultRow) -> u32
     ensures valid { result ≡ 0 → AreValid (table_of rows.now) }
-    ensures no_tile { result ≡ 6 → (found : AFault) × IsFaultOf (table_of rows.now) found
-        × (fault.new ≡ row_of_fault found) }
+    ensures no_tile { result ≡ 6 → IsRowsFault (table_of rows.now) fault.new }
     ensures known { (result ≡ 0) ⊎ ((result ≡ 2) ⊎ (result ≡ 6)) }
     ensures fault_kept { result ≢ 6 → fault.new ≡ fault.old }
 {

@@ -16,4 +16,3 @@ mod ShortLemmas
 mod CanonicalLemmas
 mod ValidLemmas
 mod RangeLemmas
-mod BoundLemmas

@@ -5,7 +5,7 @@ use Rattle.mvt_attrs.specs.declared.value.Value.{Value}
 use Rattle.mvt_attrs.specs.declared.uses.LayerUses.{LayerUses}
 use Rattle.mvt_attrs.specs.TagRules.{tag_fault}
 use Rattle.mvt_attrs.specs.TagPlaces.{tags_in}
-use Rattle.mvt_attrs.specs.Using.{IsUsedBy}
+use Rattle.mvt_attrs.specs.Using.{IsUsedBy, used_of}
 use Rattle.mvt_geometry.specs.declared.shape.Geometry.{Geometry}
 use Rattle.mvt_geometry.specs.Drawing.{drawn}
 use Rattle.mvt_geometry.specs.Shape.{kind_of}
@@ -46,7 +46,7 @@ judged_from {payload} {payload_at} {known} {scratch} says keys values tags_clean
 -- the fields of a feature are those of its parts
 pub parts_written : (keys : List (List ℕ)) (values : List Value) (known : FeatureFields) (scratch : Scratch) (f : Feature) (old new : LayerUses)
     (before after tags : List ℕ) → AreOf keys values known scratch f → IsUsedBy f.attributes old new
-    → tags ≡ tags_in new.keys.used.items new.values.used.items f.attributes
+    → tags ≡ tags_in (used_of new.keys) (used_of new.values) f.attributes
     → after ≡ before ++ spelled (id_fields known.id ++ (tags_fields tags ++ drawing_fields known.kind scratch.integers.items))
     → IsRewritten f old new before after
 parts_written keys values known scratch f old new before after tags are used tags_are is = (
@@ -54,16 +54,16 @@ parts_written keys values known scratch f old new before after tags are used tag
   is
       ∙ ap (λ i. before ++ spelled (id_fields i ++ (tags_fields tags ++ drawing_fields known.kind scratch.integers.items))) (sym are.id)
       ∙ ap (λ t. before ++ spelled (id_fields f.id ++ (tags_fields t ++ drawing_fields known.kind scratch.integers.items))) tags_are
-      ∙ ap (λ k. before ++ spelled (id_fields f.id ++ (tags_fields (tags_in new.keys.used.items new.values.used.items f.attributes)
+      ∙ ap (λ k. before ++ spelled (id_fields f.id ++ (tags_fields (tags_in (used_of new.keys) (used_of new.values) f.attributes)
       ++ drawing_fields k scratch.integers.items))) are.integers.same_kind
-      ∙ ap (λ i. before ++ spelled (id_fields f.id ++ (tags_fields (tags_in new.keys.used.items new.values.used.items f.attributes)
+      ∙ ap (λ i. before ++ spelled (id_fields f.id ++ (tags_fields (tags_in (used_of new.keys) (used_of new.values) f.attributes)
       ++ drawing_fields (kind_of f.geometry) i))) are.integers.spelled,
 )
 
 -- the same of a feature's parts
 pub fields_written : (f : Feature) (old new : LayerUses) (before after : List ℕ) (id : Option ℕ) (tags : List ℕ) (geometry : Geometry)
     → IsUsedBy f.attributes old new → f.id ≡ id → f.geometry ≡ geometry
-    → tags ≡ tags_in new.keys.used.items new.values.used.items f.attributes
+    → tags ≡ tags_in (used_of new.keys) (used_of new.values) f.attributes
     → after ≡ before ++ spelled (id_fields id ++ (tags_fields tags ++ drawing_fields (kind_of geometry) (drawn geometry)))
     → IsRewritten f old new before after
 fields_written f old new before after id tags geometry used id_is geometry_is tags_are is = (

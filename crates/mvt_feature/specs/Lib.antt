@@ -11,7 +11,6 @@ pub mod Features
 pub mod FeatureRules
 pub mod Canonical
 pub mod Rewriting
-pub mod Bounds
 pub mod Valid
 pub mod Ranges
 pub mod Walks

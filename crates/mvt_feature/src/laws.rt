@@ -1,5 +1,5 @@
 //! Laws about the definitions alone: functions without effect, whose contract is the law.
-ghost use Rattle.std.specs.Prelude.{◌≡◌, ◌==◌, ◌↔◌, ℕ, ◌+◌, ◌^◌, ◌<◌, ◌≤◌, List, [], ◌∷◌, ◌++◌, length, None, Some, if◌then◌else◌, Ok, Err, IsUtf8};
+ghost use Rattle.std.specs.Prelude.{◌≡◌, ◌==◌, ◌↔◌, ℕ, ◌+◌, ◌^◌, ◌<◌, List, [], ◌∷◌, ◌++◌, length, None, Some, if◌then◌else◌, Ok, Err, IsUtf8};
 ghost use Rattle.std.specs.List.{AllByRecursion};
 ghost use Rattle.mvt_base.specs.Rules.{AreOrdered, IsLeast, each, first};
 ghost use Rattle.mvt_attrs.specs.declared.value.Attribute.{Attribute};
@@ -8,8 +8,6 @@ ghost use Rattle.mvt_feature.specs.declared.numbers.feature.TheConstants.{ID, TA
 ghost use Rattle.mvt_feature.specs.declared.numbers.value.TheConstants.{STRING, FLOAT, DOUBLE, INT, UINT, SINT, BOOL};
 ghost use Rattle.mvt_feature.specs.declared.feature.Feature.{Feature};
 ghost use Rattle.mvt_attrs.specs.Tags.{Names};
-ghost use Rattle.mvt_attrs.specs.TagPlaces.{tags_in};
-ghost use Rattle.mvt_geometry.specs.Valid.{IsValid};
 ghost use Rattle.mvt_wire.specs.declared.fault.WireFault.{WireFault};
 ghost use Rattle.mvt_wire.specs.declared.field.Field.{Field};
 ghost use Rattle.mvt_wire.specs.Field.{Entry, entry_of};
@@ -18,7 +16,6 @@ ghost use Rattle.mvt_wire.specs.Spelling.{spelled};
 ghost use Rattle.mvt_wire.specs.Split.{Parts, Whole, split};
 ghost use Rattle.mvt_feature.specs.Causes.{of_wire};
 ghost use Rattle.mvt_feature.specs.Canonical.{value_fields, feature_fields};
-ghost use Rattle.mvt_feature.specs.Bounds.{feature_bound};
 ghost use Rattle.mvt_feature.specs.Faults.{MessageFault, fault_at, rest_rules};
 ghost use Rattle.mvt_feature.specs.Forms.{Form, IsFirst, HaveForms, forms_rules};
 ghost use Rattle.mvt_feature.specs.Ranges.{AreBytes, IsInRange};
@@ -105,15 +102,6 @@ pub fn canonical_reads()
         → AllByRecursion (λ tag. tag < 2 ^ 32) tags
         → length (spelled (feature_fields tags feature)) < 2 ^ 64
         → IsFeatureOf (spelled (feature_fields tags feature)) keys values feature }
-{}
-
-/// The payload of a feature, with tags of 32 bits, takes no more bytes than its bound says.
-pub fn bound_holds()
-    ensures { (keys : List (List ℕ)) (values : List Value) (feature : Feature)
-        → IsValid feature.geometry
-        → AllByRecursion (λ tag. tag < 2 ^ 32) (tags_in keys values feature.attributes)
-        → length (spelled (feature_fields
-        (tags_in keys values feature.attributes) feature)) ≤ feature_bound feature }
 {}
 
 /// What bytes are read as is valid; a feature, or attributes, where the keys and the values of the

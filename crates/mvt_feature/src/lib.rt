@@ -2,7 +2,6 @@
 //! why bytes aren't one.
 #![tactic(auto)]
 
-mod bound;
 mod canonical;
 mod cause;
 mod copying;
@@ -21,7 +20,6 @@ mod value;
 mod whole;
 mod writing;
 
-pub use bound::room_after_feature;
 pub use canonical::{CanonicalFeature, NotCanonical, is_canonical_value, judge_canonical};
 pub use cause::Cause;
 pub use drawn_feature::append_drawn_feature;
@@ -29,7 +27,7 @@ pub use feature::Feature;
 pub use feature_fields::FeatureFields;
 pub use message_error::MessageError;
 pub use reading::{draw_feature, judge_feature, read_feature, read_feature_in};
-pub use rewriting::{append_tagged_feature, rewrite_feature};
+pub use rewriting::rewrite_feature;
 pub use scratch::Scratch;
 pub use usual::{check_feature, draw_usual_feature};
 pub use validity::{is_valid_feature, validate_feature};

@@ -1,12 +1,10 @@
-//! Features made canonical from their payloads or from their parts, with tags by index (Mapbox
-//! Vector Tile Specification 2.1, 4.2).
+//! Features made canonical from their payloads, with tags by index (Mapbox Vector Tile
+//! Specification 2.1, 4.2).
 ghost use Rattle.std.specs.Prelude.{◌≡◌, ℕ, ◌+◌, ◌^◌, ◌<◌, ◌++◌, List, length, None, IfOk, IfErr, OnErr, OnOk};
 ghost use Rattle.mvt_base.specs.Related.{Extends};
 ghost use Rattle.mvt_base.specs.Reports.{Reports};
 ghost use Rattle.mvt_attrs.specs.declared.value.Value.{Value};
-ghost use Rattle.mvt_attrs.specs.Tags.{Names};
 ghost use Rattle.mvt_attrs.specs.Using.{HasUses};
-ghost use Rattle.mvt_geometry.specs.Valid.{IsValid};
 ghost use Rattle.mvt_feature.specs.declared.feature.Feature.{Feature};
 ghost use Rattle.mvt_geometry.specs.Drawing.{Draws};
 ghost use Rattle.mvt_feature.specs.Drawn.{integers_of};
@@ -21,9 +19,7 @@ use crate::feature_fields::FeatureFields;
 use crate::message_error::MessageError;
 use crate::reading::judge_known;
 use crate::scratch::Scratch;
-use crate::writing::append_fields;
 use mvt_attrs::{LayerKeys, LayerUses};
-use mvt_geometry::{Geometry, append_geometry, kind_of};
 use std::alloc::{AllocError, Global};
 
 /// Judges the payload of a feature, and appends the canonical one, in a layer with these keys and
@@ -61,37 +57,6 @@ pub fn rewrite_feature(
     let known = judge_known(alloc, payload, payload_at, keys, values, scratch)?;
     append_judged(payload, &known, uses, scratch, out)?;
     Ok(known)
-}
-
-/// Appends the canonical payload of the feature that has this id, these tags and this geometry, in
-/// a layer of these uses. A tag becomes the index of its key or value among those that are used.
-///
-/// # Errors
-///
-/// When memory runs out; the list is then as it was or a longer one.
-pub fn append_tagged_feature(
-    id: Option<u64>,
-    tags: &[u32],
-    geometry: &Geometry,
-    uses: &mut LayerUses,
-    scratch: &mut Scratch,
-    out: &mut Vec<u8>,
-) -> Result<(), AllocError>
-    requires { IsValid geometry.now }
-    ensures feature { (keys : List (List ℕ)) (held : List Value) (f : Feature)
-        → HasUses uses.old keys held → f.id ≡ id → f.geometry ≡ geometry.now
-        → Names keys held tags.now f.attributes
-        → OnOk result (IsRewritten f uses.old uses.new out.old.items out.new.items) }
-    ensures uses { (keys : List (List ℕ)) (held : List Value) (f : Feature)
-        → HasUses uses.old keys held → Names keys held tags.now f.attributes
-        → OnOk result (HasUses uses.new keys held) }
-    ensures left { OnErr result (Extends out.old.items out.new.items) }
-{
-    scratch.last.clear();
-    scratch.drawing.clear();
-    uses.append_used(tags, &mut scratch.last)?;
-    append_geometry(geometry, &mut scratch.drawing)?;
-    append_fields(out, id, &scratch.last, kind_of(geometry), &scratch.drawing)
 }
 
 /// Appends the canonical payload of the feature that a payload was judged to be.

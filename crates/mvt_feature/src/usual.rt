@@ -23,7 +23,7 @@ use crate::numbers::feature;
 use crate::reading::judge_feature;
 use crate::scratch::Scratch;
 use mvt_attrs::{LayerKeys, TagError, judge_tags};
-use mvt_geometry::{GeometryVisitor, Kind, Point, draw_packed};
+use mvt_geometry::{GeometryVisitor, Kind, Point, Ring, draw_packed};
 use mvt_wire::{Field, Fields, Payload, WireFault};
 use std::alloc::{AllocError, Global};
 
@@ -266,7 +266,7 @@ impl GeometryVisitor for Unheard {
     }
 
     #[inline(always)]
-    fn end_part(&mut self, _: usize, _: bool) -> Result<(), AllocError> {
+    fn end_part(&mut self, _: usize, _: Option<Ring>) -> Result<(), AllocError> {
         Ok(())
     }
 

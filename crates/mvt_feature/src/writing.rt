@@ -1,18 +1,17 @@
 //! Values and features in their canonical spelling.
-ghost use Rattle.std.specs.Prelude.{◌≡◌, ◌⊎◌, ℕ, ◌^◌, ◌<◌, List, ◌++◌, length, OnOk, OnErr, IsErrOf};
+ghost use Rattle.std.specs.Prelude.{◌≡◌, ◌⊎◌, ◌<◌, [], ◌++◌, length, OnOk, OnErr, IsErrOf};
 ghost use Rattle.mvt_base.specs.Related.{Extends};
 ghost use Rattle.mvt_attrs.specs.Pools.{key_pool, value_pool};
-ghost use Rattle.mvt_attrs.specs.Placed.{ArePlaced, AreReported, IsFullAt};
-ghost use Rattle.mvt_attrs.specs.Tags.{Names};
-ghost use Rattle.mvt_attrs.specs.TagPlaces.{tags_in};
+ghost use Rattle.mvt_attrs.specs.Using.{HasUses, used_of};
 ghost use Rattle.mvt_geometry.specs.Valid.{IsValid};
 ghost use Rattle.mvt_wire.specs.Spelling.{spelled};
-ghost use Rattle.mvt_feature.specs.Canonical.{value_fields, id_fields, tags_fields, type_fields, drawing_fields, feature_fields, type_number as the_type_number};
+ghost use Rattle.mvt_feature.specs.Canonical.{value_fields, id_fields, tags_fields, type_fields, drawing_fields, type_number as the_type_number};
+ghost use Rattle.mvt_feature.specs.Rewriting.{IsRewritten};
 
 use crate::feature::Feature;
 use crate::numbers::{feature, value};
 use crate::scratch::Scratch;
-use mvt_attrs::{KeyPool, PoolError, Value, ValuePool, append_tags};
+use mvt_attrs::{LayerUses, PoolError, Value};
 use mvt_base::LIMIT;
 use mvt_geometry::{Kind, append_geometry, kind_of};
 use mvt_wire::{PackedNumbers, Payload, field_len, put_field, put_packed, varint_len, zigzag64};
@@ -54,51 +53,33 @@ pub fn value_len(value: &Value) -> u64
     }
 }
 
-/// Appends the payload of a feature. Its keys and values get their places in the pools of the
-/// layer, which may still grow: a tag stays what it is.
+/// Appends the canonical payload of a feature, in a layer of these uses to which no key and no
+/// value was added. Those that are new are used last; a tag stays what it is while others follow.
 ///
 /// # Errors
 ///
-/// As `append_tags`, and the list is then as it was or a longer one.
+/// When memory runs out, or more keys or values are used than a pool may hold; the list is then as
+/// it was or a longer one.
 pub fn append_feature(
-    out: &mut Vec<u8>,
     feature: &Feature,
-    keys: &mut KeyPool,
-    values: &mut ValuePool,
+    uses: &mut LayerUses,
     scratch: &mut Scratch,
+    out: &mut Vec<u8>,
 ) -> Result<(), PoolError>
     requires { IsValid feature.now.geometry }
-    ensures ok { OnOk result (out.new.items ≡ out.old.items
-        ++ spelled (feature_fields (tags_in keys.new values.new feature.now.attributes)
-        feature.now)) }
-    ensures names { OnOk result
-        (Names keys.new values.new (tags_in keys.new values.new feature.now.attributes)
-        feature.now.attributes) }
-
-    // Each pool gains the entries that it lacked, in order of first use.
-    ensures keys { OnOk result (keys.new ≡ key_pool keys.old feature.now.attributes) }
-    ensures values { OnOk result (values.new ≡ value_pool values.old feature.now.attributes) }
-    ensures out_left { OnErr result ((more : List ℕ) × (out.new.items ≡ out.old.items ++ more)) }
-    ensures left { OnErr result
-        ((n : ℕ) × ArePlaced n feature.now.attributes keys.old keys.new values.old values.new) }
-
-    // `Full` says that a full pool has met an entry that is new, `Memory` that none has.
-    ensures full { IsErrOf result PoolError.Full → (length keys.new ≡ LIMIT)
-        ⊎ (length values.new ≡ LIMIT) }
-    ensures too_many { IsErrOf result PoolError.Full →
-        (LIMIT < length (key_pool keys.old feature.now.attributes))
-        ⊎ (LIMIT < length (value_pool values.old feature.now.attributes)) }
-    ensures memory { IsErrOf result PoolError.Memory → (n : ℕ)
-        × AreReported n feature.now.attributes keys.old keys.new values.old values.new
-        × ¬ (IsFullAt n feature.now.attributes keys.new values.new) }
+    ensures feature { HasUses uses.old [] [] → OnOk result
+        (IsRewritten feature.now uses.old uses.new out.old.items out.new.items) }
+    ensures uses { HasUses uses.old [] [] → OnOk result (HasUses uses.new [] []) }
+    ensures too_many { HasUses uses.old [] [] → IsErrOf result PoolError.Full →
+        (LIMIT < length (key_pool (used_of uses.old.keys) feature.now.attributes))
+        ⊎ (LIMIT < length (value_pool (used_of uses.old.values) feature.now.attributes)) }
+    ensures left { OnErr result (Extends out.old.items out.new.items) }
 {
     swap(&mut scratch.tags, &mut scratch.last);
     scratch.tags.clear();
     scratch.drawing.clear();
-    append_tags(
+    uses.append_attributes(
         feature.attributes.as_slice(),
-        keys,
-        values,
         &scratch.last,
         &mut scratch.tags,
     )?;

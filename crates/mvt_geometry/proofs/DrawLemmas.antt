@@ -1,11 +1,12 @@
 -- A walk over the pairs of a path that tells its points.
-use Rattle.std.proofs.Common.{◌≡◌, ℕ, ℤ, ◌+◌, ◌-◌, ◌*◌, ◌^◌, ◌<◌, ◌≤◌, ◌+ℤ◌, FitsSigned, to_z, of_z, List, [], ◌∷◌, ◌++◌, length, take, drop, refl, sym, ap, ap₂, subst, ◌∙◌, arith, append-nil, append_assoc, length-append, length-drop}
+use Rattle.std.proofs.Common.{◌≡◌, ℕ, ℤ, Some, slice_get, ◌+◌, ◌-◌, ◌*◌, ◌^◌, ◌<◌, ◌≤◌, ◌+ℤ◌, FitsSigned, to_z, of_z, List, [], ◌∷◌, ◌++◌, length, take, drop, refl, sym, ap, ap₂, subst, ◌∙◌, arith, append-nil, append_assoc, length-append, length-drop}
 use Rattle.std.specs.Int.{w128}
 use Rattle.std.specs.Int.RustNames.{unsigned_abs}
 use Rattle.std.proofs.lemmas.List.{length_push, take_rest}
 use Rattle.std.proofs.lemmas.Int.{to_z-of_z}
 use Rattle.mvt_geometry.specs.declared.shape.Point.{Point}
 use Rattle.mvt_geometry.specs.Area.{cross, area2}
+use Rattle.mvt_geometry.specs.Rings.{are_same, is_closed}
 use Rattle.mvt_geometry.specs.Shape.{last_of}
 use Rattle.mvt_geometry.specs.Commands.{Pair, pairs_of, stepped, moved, positions}
 use Rattle.mvt_geometry.specs.Inner.Building.{ArePlaces, Passed}
@@ -69,3 +70,16 @@ path_area head tail path edge n path_is edge_is small few edge_small =
 pub line_end : {from : Point} {ints : List ℕ} {line : List Point} {more : List ℕ} (f : Front from ints line more)
     → last_of from line ≡ last_of f.head f.tail
 line_end {from} f = ap (last_of from) f.line_is
+
+pub last_read : (p : Point) (ps : List Point) → slice_get (p ∷ ps) (length ps) ≡ Some (last_of p ps)
+last_read p [] = refl
+last_read p (q ∷ ps) = last_read q ps
+
+-- a line is closed where the point that it ends at is its first
+pub closed_line : {from : Point} {ints : List ℕ} {line : List Point} {more : List ℕ} (f : Front from ints line more) {first end : Point}
+    → first ≡ f.head → end ≡ last_of from line → are_same (Some first) (Some end) ≡ is_closed line
+closed_line f {first} {end} first_is end_is =
+    let size : length (f.head ∷ f.tail) - 1 ≡ length f.tail = omega arith in
+    ap₂ (λ p q. are_same (Some p) (Some q)) first_is (end_is ∙ line_end f)
+    ∙ ap (are_same (Some f.head)) (sym (ap (slice_get (f.head ∷ f.tail)) size ∙ last_read f.head f.tail))
+    ∙ ap is_closed (sym f.line_is)

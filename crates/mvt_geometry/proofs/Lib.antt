@@ -22,6 +22,5 @@ mod ValidLemmas
 mod OrderedLemmas
 mod LawLemmas
 mod CountLemmas
-mod BoundLemmas
 mod TellingLemmas
 mod ToldLemmas

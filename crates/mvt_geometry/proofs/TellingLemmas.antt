@@ -1,5 +1,5 @@
 -- A walk over packed bytes that tells a visitor what they draw.
-use Rattle.std.proofs.Common.{◌≡◌, ◌≢◌, ℕ, ◌+◌, ◌*◌, ◌^◌, ◌≤◌, Bool, true, false, List, [], ◌∷◌, ◌++◌, Option, Some, None, ℤ, pos, ◌+ℤ◌, ◌-ℤ◌, refl, sym, ap, ap₂, subst, ◌∙◌, arith, append_assoc, append-nil}
+use Rattle.std.proofs.Common.{◌≡◌, ◌≢◌, ℕ, ◌+◌, ◌-◌, ◌*◌, ◌^◌, ◌≤◌, Bool, true, false, List, [], ◌∷◌, ◌++◌, length, slice_get, Option, Some, None, ℤ, pos, ◌+ℤ◌, ◌-ℤ◌, refl, sym, ap, ap₂, subst, ◌∙◌, arith, append_assoc, append-nil}
 use Rattle.std.specs.Prelude.{IfNone}
 use Rattle.std.specs.Option.{is_some}
 use Rattle.std.specs.Int.RustNames.{unsigned_abs}
@@ -11,6 +11,7 @@ use Rattle.mvt_wire.specs.Zigzag.{zig}
 use Rattle.mvt_geometry.specs.declared.shape.Point.{Point}
 use Rattle.mvt_geometry.specs.Shape.{IsPlace, IsStep, last_of}
 use Rattle.mvt_geometry.specs.Area.{cross}
+use Rattle.mvt_geometry.specs.Rings.{are_same, is_closed}
 use Rattle.mvt_geometry.specs.Drawing.{path_from, stroke}
 use Rattle.mvt_geometry.specs.Visiting.{Part}
 use Rattle.mvt_geometry.specs.Commands.{Pair, stepped}
@@ -18,6 +19,7 @@ use Rattle.mvt_geometry.specs.Table.{step_rules}
 use Rattle.mvt_geometry.specs.Inner.Validity.{IsStepTo, IsPath}
 use Rattle.mvt_geometry.specs.Inner.Telling.{SpellsFront, WasTold, IsPair, ArePairs, IsHead, IsLine}
 use Rattle.mvt_geometry.proofs.AreaLemmas.{area2-ring, edges-push, last_of-push}
+use Rattle.mvt_geometry.proofs.DrawLemmas.{last_read}
 use Rattle.mvt_geometry.proofs.PathLemmas.{SmallPair, between-stepped, calm_step}
 use Rattle.mvt_geometry.proofs.PolygonLemmas.{stroke_closed}
 use Rattle.mvt_geometry.proofs.ValidLemmas.{stroke_of}
@@ -93,11 +95,19 @@ one_pair_more {line} {from} {c} {p} {bytes} {rest} {behind} {n} {area} {ps} done
   small = small;
 }
 
+-- a line is closed where the point that it ends at is its first
+closed_there : (head end : Point) (ps : List Point) → end ≡ last_of head ps → are_same (Some head) (Some end) ≡ is_closed (head ∷ ps)
+closed_there head end ps end_is =
+    let size : length (head ∷ ps) - 1 ≡ length ps = omega arith in
+    ap (λ q. are_same (Some head) (Some q)) end_is
+    ∙ ap (are_same (Some head)) (sym (ap (slice_get (head ∷ ps)) size ∙ last_read head ps))
+
 -- the line that a head and its pairs are
 pub line_there : {least : ℕ} {from head end : Point} {count : ℕ} {bytes pairs behind : List ℕ} {area : ℤ} {ps : List Point}
     → IsHead least from head count bytes pairs → ArePairs true head pairs behind count end area ps → (edge sum : ℤ)
-    → edge ≡ cross end head → sum ≡ area +ℤ edge → IsLine least [] from bytes behind (count + 1) end sum (head ∷ ps)
-line_there {least} {from} {head} {end} {count} {bytes} {pairs} {behind} {area} {ps} h p edge sum edge_is sum_is = record {
+    → edge ≡ cross end head → sum ≡ area +ℤ edge → (same : Bool) → same ≡ are_same (Some head) (Some end)
+    → IsLine least [] from bytes behind (count + 1) end sum same (head ∷ ps)
+line_there {least} {from} {head} {end} {count} {bytes} {pairs} {behind} {area} {ps} h p edge sum edge_is sum_is same same_is = record {
   is = stroke_of least from (head ∷ ps)
       (omega (arith, h.enough, p.long), omega (arith, h.few, p.long), h.step, p.is);
   spelled =
@@ -108,6 +118,7 @@ line_there {least} {from} {head} {end} {count} {bytes} {pairs} {behind} {area} {
   end_is = p.end_is;
   area_is =
       sum_is ∙ ap₂ (λ a b. a +ℤ b) p.area_is (edge_is ∙ ap (λ q. cross q head) p.end_is) ∙ sym (area2-ring head ps);
+  closed_is = same_is ∙ closed_there head end ps p.end_is;
 }
 
 closed : (c : Point) (line : List Point) → stroke [] c line ++ 15 ∷ [] ≡ stroke (15 ∷ []) c line
@@ -115,13 +126,14 @@ closed c [] = refl
 closed c (p ∷ ps) = stroke_closed c p ps [] ∙ append-nil (stroke (15 ∷ []) c (p ∷ ps))
 
 -- a line that is closed
-pub ring_there : {least count : ℕ} {from end : Point} {bytes mid behind : List ℕ} {area : ℤ} {line : List Point}
-    → IsLine least [] from bytes mid count end area line → SpellsFront mid (15 ∷ []) behind
-    → IsLine least (15 ∷ []) from bytes behind count end area line
-ring_there {least} {count} {from} {end} {bytes} {mid} {behind} {area} {line} h close = record {
+pub ring_there : {least count : ℕ} {from end : Point} {bytes mid behind : List ℕ} {area : ℤ} {same : Bool} {line : List Point}
+    → IsLine least [] from bytes mid count end area same line → SpellsFront mid (15 ∷ []) behind
+    → IsLine least (15 ∷ []) from bytes behind count end area same line
+ring_there {least} {count} {from} {end} {bytes} {mid} {behind} {area} {same} {line} h close = record {
   is = h.is;
   spelled = subst (λ ns. SpellsFront bytes ns behind) (closed from line) (spells_both h.spelled close);
   long = h.long;
   end_is = h.end_is;
   area_is = h.area_is;
+  closed_is = h.closed_is;
 }

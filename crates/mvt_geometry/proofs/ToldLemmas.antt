@@ -11,10 +11,10 @@ use Rattle.mvt_geometry.specs.Drawing.{drawn, path_from, stroke, strokes}
 use Rattle.mvt_geometry.specs.Parts.{IsStrokeFrom}
 use Rattle.mvt_geometry.specs.Shape.{origin, last_of}
 use Rattle.mvt_geometry.specs.Valid.{IsValid}
-use Rattle.mvt_geometry.specs.Visiting.{parts_of}
+use Rattle.mvt_geometry.specs.Visiting.{ring_part, parts_of}
 use Rattle.mvt_geometry.specs.Inner.Grouping.{parts_of_rings}
 use Rattle.mvt_geometry.specs.Inner.Telling.{SpellsFront, ArePairs, IsLine, AreInFront, is_still_first}
-use Rattle.mvt_geometry.proofs.PartLemmas.{part, grouped_parts}
+use Rattle.mvt_geometry.proofs.PartLemmas.{grouped_parts}
 use Rattle.mvt_geometry.proofs.PartsLemmas.{stroke_follows, strokes_follow, end_follows}
 use Rattle.mvt_geometry.proofs.PolygonLemmas.{HasFineFirst}
 use Rattle.mvt_geometry.proofs.TellingLemmas.{spells_none, spells_both}
@@ -43,10 +43,11 @@ none_in_front least close bytes some = record {
   some = omega (arith, some);
 }
 
-pub one_more_in_front : {least n : ℕ} {close bytes rest behind : List ℕ} {c end : Point} {area : ℤ} {lines : List (List Point)}
-    {line : List Point} → AreInFront least close bytes rest c lines → IsLine least close c rest behind n end area line
+pub one_more_in_front : {least n : ℕ} {close bytes rest behind : List ℕ} {c end : Point} {area : ℤ} {same : Bool}
+    {lines : List (List Point)} {line : List Point} → AreInFront least close bytes rest c lines
+    → IsLine least close c rest behind n end area same line
     → AreInFront least close bytes behind end (lines ++ line ∷ [])
-one_more_in_front {least} {n} {close} {bytes} {rest} {behind} {c} {end} {area} {lines} {line} f l = record {
+one_more_in_front {least} {n} {close} {bytes} {rest} {behind} {c} {end} {area} {same} {lines} {line} f l = record {
   are = (stroke_follows least lines line).1 (f.are, subst (λ q. IsStrokeFrom least q line) f.cursor_is l.is);
   spelled =
       subst (λ ns. SpellsFront bytes ns behind)
@@ -74,15 +75,15 @@ rings_told {bytes} {rest} {c} {rings} f fine none =
 
 -- one ring more
 pub ring_parts-push : (is_first : Bool) (rings : List (List Point)) (ring : List Point) → parts_of_rings is_first (rings ++ ring ∷ [])
-    ≡ parts_of_rings is_first rings ++ part (is_still_first is_first rings || lt_z (pos 0) (area2 ring)) ring ∷ []
+    ≡ parts_of_rings is_first rings ++ ring_part (is_still_first is_first rings || lt_z (pos 0) (area2 ring)) ring ∷ []
 ring_parts-push is_first [] ring = refl
 ring_parts-push is_first (r ∷ rings) ring =
-    ap (λ ps. part (is_first || lt_z (pos 0) (area2 r)) r ∷ ps) (later rings)
+    ap (λ ps. ring_part (is_first || lt_z (pos 0) (area2 r)) r ∷ ps) (later rings)
   where
     later : (rs : List (List Point)) → parts_of_rings false (rs ++ ring ∷ [])
-        ≡ parts_of_rings false rs ++ part (false || lt_z (pos 0) (area2 ring)) ring ∷ []
+        ≡ parts_of_rings false rs ++ ring_part (false || lt_z (pos 0) (area2 ring)) ring ∷ []
     later [] = refl
-    later (s ∷ rs) = ap (λ ps. part (lt_z (pos 0) (area2 s)) s ∷ ps) (later rs)
+    later (s ∷ rs) = ap (λ ps. ring_part (lt_z (pos 0) (area2 s)) s ∷ ps) (later rs)
 
 pub first_no_more : (rings : List (List Point)) (ring : List Point) → is_still_first true (rings ++ ring ∷ []) ≡ false
 first_no_more [] ring = refl

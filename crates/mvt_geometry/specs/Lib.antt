@@ -1,10 +1,10 @@
 pub mod Shape
 pub mod Area
+pub mod Rings
 pub mod Valid
 pub mod Drawing
 pub mod Parts
 pub mod Visiting
-pub mod Bounds
 pub mod Commands
 pub mod Table
 pub mod Reports

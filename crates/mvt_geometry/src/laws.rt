@@ -1,16 +1,14 @@
 //! Laws about the definitions alone: functions without effect, whose contract is the law.
-ghost use Rattle.std.specs.Prelude.{◌≡◌, ◌↔◌, ◌<◌, ◌≤◌, ◌^◌, ℕ, List, [], ◌∷◌, ◌++◌, length, Some, None};
+ghost use Rattle.std.specs.Prelude.{◌≡◌, ◌↔◌, ◌<◌, ◌^◌, ℕ, List, [], ◌∷◌, ◌++◌, Some, None};
 ghost use Rattle.std.specs.List.{AllByRecursion};
 ghost use Rattle.mvt_base.specs.Rules.{AreOrdered, IsLeast};
-ghost use Rattle.mvt_wire.specs.Spelling.{short_numbers};
 ghost use Rattle.mvt_geometry.specs.declared.shape.Kind.{Kind};
 ghost use Rattle.mvt_geometry.specs.declared.shape.Geometry.{Geometry};
 ghost use Rattle.mvt_geometry.specs.declared.shape.Point.{Point};
 ghost use Rattle.mvt_geometry.specs.Parts.{AreStrokes, IsStrokeFrom, end_of};
-ghost use Rattle.mvt_geometry.specs.Shape.{wide, narrow, origin, last_of};
+ghost use Rattle.mvt_geometry.specs.Shape.{origin, last_of};
 ghost use Rattle.mvt_geometry.specs.Valid.{IsValid, IsValidNarrow};
-ghost use Rattle.mvt_geometry.specs.Drawing.{drawn, Draws, DrawsOf, stroke, strokes};
-ghost use Rattle.mvt_geometry.specs.Bounds.{geometry_bound};
+ghost use Rattle.mvt_geometry.specs.Drawing.{drawn, Draws, stroke, strokes};
 ghost use Rattle.mvt_geometry.specs.Table.{IndexedCause, geometry_rules, geometry_fault};
 
 /// Integers draw at most one geometry.
@@ -47,20 +45,9 @@ pub fn drawn_small()
     ensures { (g : Geometry) → IsValid g → AllByRecursion (λ n. n < 2 ^ 32) (drawn g) }
 {}
 
-/// The packed integers of a valid geometry take no more bytes than its bound says.
-pub fn bound_holds()
-    ensures { (g : Geometry) → IsValid g → length (short_numbers (drawn g)) ≤ geometry_bound g }
-{}
-
 /// What is valid with positions in the narrow range, from -2^30 to 2^30 - 1, is valid.
 pub fn old_geometries_stay()
     ensures { (g : Geometry) → IsValidNarrow g → IsValid g }
-{}
-
-/// What integers draw with positions in the narrow range, they draw.
-pub fn narrow_is_wide()
-    ensures { (kind : Kind) (ints : List ℕ) (g : Geometry)
-        → DrawsOf narrow kind ints g → DrawsOf wide kind ints g }
 {}
 
 /// Lines or rings can be drawn one after the other where each can from where the last one ends.

@@ -6,7 +6,6 @@
 #![tactic(auto)]
 
 mod area;
-mod bound;
 mod command;
 mod drawing;
 mod fault;
@@ -21,7 +20,6 @@ mod visiting;
 mod writing;
 
 pub use area::twice_area;
-pub use bound::room_after_geometry;
 pub use drawing::{PartError, RingRole, append_integers, append_line, append_points, append_ring};
 pub use fault::{GeometryCause, GeometryError};
 pub use judging::judge_geometry;
@@ -30,5 +28,5 @@ pub use position::Position;
 pub use reading::read_geometry;
 pub use shape::{Geometry, Kind, Point, Polygon, kind_of};
 pub use validity::is_valid_geometry;
-pub use visiting::{GeometryVisitor, draw_geometry};
+pub use visiting::{GeometryVisitor, Ring, draw_geometry};
 pub use writing::{append_geometry, put_geometry};

@@ -12,7 +12,7 @@ use crate::area::cross;
 use crate::command::Command;
 use crate::judging::{ORIGIN, step_fault};
 use crate::shape::{Kind, Point};
-use crate::visiting::{GeometryVisitor, begins_polygon};
+use crate::visiting::{GeometryVisitor, Ring, begins_polygon, is_same};
 use mvt_wire::{packed_front, unzigzag32};
 use std::alloc::AllocError;
 
@@ -67,7 +67,7 @@ fn tell_points<V: GeometryVisitor>(visitor: &mut V, bytes: &[u8]) -> Result<bool
     if !path.behind.is_empty() {
         return Ok(false);
     }
-    visitor.end_part(count, false)?;
+    visitor.end_part(count, None)?;
     Ok(true)
 }
 
@@ -86,7 +86,7 @@ fn tell_lines<V: GeometryVisitor>(visitor: &mut V, bytes: &[u8]) -> Result<bool,
         let Some(line) = tell_line(visitor, cursor, 2, rest)? else {
             return Ok(false);
         };
-        visitor.end_part(line.points, false)?;
+        visitor.end_part(line.points, None)?;
         cursor = line.end;
         rest = line.behind;
     }
@@ -112,7 +112,12 @@ fn tell_polygons<V: GeometryVisitor>(visitor: &mut V, bytes: &[u8]) -> Result<bo
         if !may_stand(is_first, ring.area) {
             return Ok(false);
         }
-        visitor.end_part(ring.points, begins_polygon(is_first, ring.area))?;
+        let known = Ring {
+            exterior: begins_polygon(is_first, ring.area),
+            twice_area: ring.area,
+            is_closed: ring.is_closed,
+        };
+        visitor.end_part(ring.points, Some(known))?;
         is_first = false;
         cursor = ring.end;
         rest = ring.behind;
@@ -129,12 +134,13 @@ fn may_stand(is_first: bool, area: i128) -> bool
 }
 
 /// How many points a line has that was told, the last of them, twice the area of the ring that it
-/// would be, and the bytes behind it.
+/// would be, whether that ring's last point is its first, and the bytes behind it.
 #[derive(Clone, Copy, Debug)]
 struct Line<'a> {
     points: usize,
     end: Point,
     area: i128,
+    is_closed: bool,
     behind: &'a [u8],
 }
 
@@ -148,7 +154,7 @@ fn tell_ring<'a, V: GeometryVisitor>(
     ensures further { IfOk result (λ told. IfSome told (λ ring.
         length ring.behind.now < length bytes.now)) }
     ensures line { IfOk result (λ told. IfSome told (λ r. (points : List Point)
-        × IsLine 3 (15 ∷ []) from bytes.now r.behind.now r.points r.end r.area points
+        × IsLine 3 (15 ∷ []) from bytes.now r.behind.now r.points r.end r.area r.is_closed points
         × WasTold V.has_parts visitor.old points visitor.new)) }
     ensures told { OnOk result ((points : List Point)
         × WasTold V.has_parts visitor.old points visitor.new) }
@@ -177,7 +183,7 @@ fn tell_line<'a, V: GeometryVisitor>(
     ensures further { IfOk result (λ told. IfSome told (λ line.
         length line.behind.now < length bytes.now)) }
     ensures line { IfOk result (λ told. IfSome told (λ r. (points : List Point)
-        × IsLine least [] from bytes.now r.behind.now r.points r.end r.area points
+        × IsLine least [] from bytes.now r.behind.now r.points r.end r.area r.is_closed points
         × WasTold V.has_parts visitor.old points visitor.new)) }
     ensures told { OnOk result ((points : List Point)
         × WasTold V.has_parts visitor.old points visitor.new) }
@@ -194,6 +200,7 @@ fn tell_line<'a, V: GeometryVisitor>(
         points: head.count + 1,
         end: path.end,
         area: path.area + cross(path.end, first),
+        is_closed: is_same(first, path.end),
         behind: path.behind,
     }))
 }

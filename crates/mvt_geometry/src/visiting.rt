@@ -1,16 +1,17 @@
 //! A geometry told point by point, without lists.
-ghost use Rattle.std.specs.Prelude.{◌≡◌, ◌≢◌, pos, ◌||◌, ◌<◌, ◌≤◌, ◌*◌, ◌^◌, ℕ, true, List, [], ◌∷◌, ◌++◌, length, map, IfOk, IfErr, OnOk};
+ghost use Rattle.std.specs.Prelude.{◌≡◌, ◌≢◌, pos, ◌||◌, ◌<◌, ◌≤◌, ◌*◌, ◌^◌, ℕ, true, List, [], ◌∷◌, ◌++◌, length, map, Some, IfOk, IfErr, OnOk};
 ghost use Rattle.mvt_geometry.specs.declared.shape.Point.{Point};
 ghost use Rattle.mvt_geometry.specs.declared.shape.Geometry.{Geometry};
 ghost use Rattle.std.specs.Int.RustNames.{unsigned_abs};
 ghost use Rattle.std.specs.Int.Signed.{lt_z};
 ghost use Rattle.mvt_geometry.specs.Shape.{origin, last_of};
 ghost use Rattle.mvt_geometry.specs.Area.{area2};
+ghost use Rattle.mvt_geometry.specs.Rings.{are_same, is_closed};
 ghost use Rattle.mvt_geometry.specs.Drawing.{path_from, Draws};
 ghost use Rattle.mvt_geometry.specs.Commands.{pairs_of, moved, positions};
 ghost use Rattle.mvt_geometry.specs.Table.{geometry_fault};
 ghost use Rattle.mvt_geometry.specs.Reports.{Reports};
-ghost use Rattle.mvt_geometry.specs.Visiting.{Part, plain, HasDrawn};
+ghost use Rattle.mvt_geometry.specs.Visiting.{Part, plain, EndsAs, HasDrawn};
 ghost use Rattle.mvt_geometry.specs.Inner.Building.{ArePlaces, IsFront, SpellLines, SpellRings};
 ghost use Rattle.mvt_geometry.specs.Inner.Judging.{edges};
 ghost use Rattle.mvt_geometry.specs.Inner.Grouping.{parts_of_rings};
@@ -42,18 +43,28 @@ pub trait GeometryVisitor: Drop {
             → has_parts start parts begun self.old
             → OnOk result (has_parts start parts (begun ++ point ∷ []) self.new) };
 
-    /// Ends a part that has so many points. One that is exterior begins a polygon.
-    fn end_part(&mut self, points: usize, exterior: bool) -> Result<(), AllocError>
-        ensures { (start : Self) (parts : List Part) (begun : List Point)
-            → has_parts start parts begun self.old → points ≡ length begun
-            → OnOk result (has_parts start
-            (parts ++ record { exterior = exterior; points = begun } ∷ []) [] self.new) };
+    /// Ends a part that has so many points, and tells of a ring what is known of it. An exterior
+    /// one begins a polygon.
+    fn end_part(&mut self, points: usize, ring: Option<Ring>) -> Result<(), AllocError>
+        ensures { (start : Self) (parts : List Part) (part : Part)
+            → has_parts start parts part.points self.old → EndsAs part points ring
+            → OnOk result (has_parts start (parts ++ part ∷ []) [] self.new) };
 
     /// Takes the integers of a geometry of unknown type.
     fn visit_integers(&mut self, integers: &[u32]) -> Result<(), AllocError>
         ensures { OnOk result (has_integers self.old integers.now self.new) };
 
     ghost begins: { (start : Self) → has_parts start [] [] start };
+}
+
+/// What is known of a ring at its end.
+#[derive(Clone, Copy, Debug)]
+pub struct Ring {
+    pub exterior: bool,
+    /// Twice its area by the surveyor's formula (4.3.4.4).
+    pub twice_area: i128,
+    /// Whether its last point is its first.
+    pub is_closed: bool,
 }
 
 /// Tells a visitor the geometry of this type that the integers draw.
@@ -102,7 +113,7 @@ fn draw_points<V: GeometryVisitor>(visitor: &mut V, parameters: &[u32]) -> Resul
 {
     let count = parameters.len() / 2;
     draw_path(visitor, ORIGIN, parameters)?;
-    visitor.end_part(count, false)
+    visitor.end_part(count, None)
 }
 
 fn draw_lines<V: GeometryVisitor>(visitor: &mut V, integers: &[u32]) -> Result<(), AllocError>
@@ -114,7 +125,7 @@ fn draw_lines<V: GeometryVisitor>(visitor: &mut V, integers: &[u32]) -> Result<(
     let mut rest = integers;
     while !rest.is_empty() {
         let line = draw_line(visitor, cursor, rest)?;
-        visitor.end_part(line.points, false)?;
+        visitor.end_part(line.points, None)?;
         cursor = line.end;
         rest = line.behind;
     }
@@ -131,7 +142,12 @@ fn draw_polygons<V: GeometryVisitor>(visitor: &mut V, integers: &[u32]) -> Resul
     let mut rest = integers;
     while !rest.is_empty() {
         let ring = draw_line(visitor, cursor, rest)?;
-        visitor.end_part(ring.points, begins_polygon(is_first, ring.area))?;
+        let known = Ring {
+            exterior: begins_polygon(is_first, ring.area),
+            twice_area: ring.area,
+            is_closed: ring.is_closed,
+        };
+        visitor.end_part(ring.points, Some(known))?;
         is_first = false;
         cursor = ring.end;
         rest = &ring.behind[1..];
@@ -147,13 +163,14 @@ pub(crate) fn begins_polygon(is_first: bool, area: i128) -> bool
     is_first || area > 0
 }
 
-/// How many points a line has, the last of them, twice the area of the ring that it would be, and
-/// what stands after its pairs.
+/// How many points a line has, the last of them, twice the area of the ring that it would be,
+/// whether that ring's last point is its first, and what stands after its pairs.
 #[derive(Clone, Copy, Debug)]
 struct Line<'a> {
     points: usize,
     end: Point,
     area: i128,
+    is_closed: bool,
     behind: &'a [u32],
 }
 
@@ -173,7 +190,7 @@ fn draw_line<'a, V: GeometryVisitor>(
         → OnOk result (V.has_parts start parts l visitor.new) }
     ensures line { (l : List Point) (more : List ℕ) → IsFront from integers.now l more
         → IfOk result (λ r. (r.points ≡ length l) × (r.end ≡ last_of from l)
-        × (r.area ≡ area2 l) × (r.behind.now ≡ more)) }
+        × (r.area ≡ area2 l) × (r.is_closed ≡ is_closed l) × (r.behind.now ≡ more)) }
 {
     let (head, tail) = integers.split_at(4);
     let count = Command::count_in(head[3]) as usize;
@@ -184,8 +201,16 @@ fn draw_line<'a, V: GeometryVisitor>(
         points: count + 1,
         end,
         area: path + cross(end, first),
+        is_closed: is_same(first, end),
         behind,
     })
+}
+
+#[inline(always)]
+pub(crate) fn is_same(p: Point, q: Point) -> bool
+    ensures { result ≡ are_same (Some p) (Some q) }
+{
+    p.x == q.x && p.y == q.y
 }
 
 /// Tells the points that pairs lead to, and answers the last, and what the edges to it add to twice

@@ -2,20 +2,20 @@
 use crate::copying::{FEW_VALUES, MANY_VALUES, changed};
 use crate::expect::expect;
 use mvt_feature::FeatureFields;
-use mvt_geometry::{GeometryVisitor, Kind, Point, draw_geometry};
+use mvt_geometry::{GeometryVisitor, Kind, Point, Ring, draw_geometry};
 use mvt_message::*;
 use std::alloc::{AllocError, Global};
 use std::process::Abort;
 
 // What was told of features: the id and the type of each, the points of all, how many points each
-// part has, and whether it begins a polygon.
+// part has, and of a ring whether it begins a polygon, twice its area and whether it is closed.
 #[derive(Drop)]
 struct Told {
     ids: Vec<Option<u64>>,
     kinds: Vec<Kind>,
     points: Vec<Point>,
     counts: Vec<usize>,
-    exteriors: Vec<bool>,
+    rings: Vec<Option<(bool, i128, bool)>>,
 }
 
 impl Told {
@@ -25,7 +25,7 @@ impl Told {
             kinds: Vec::new(alloc),
             points: Vec::new(alloc),
             counts: Vec::new(alloc),
-            exteriors: Vec::new(alloc),
+            rings: Vec::new(alloc),
         }
     }
 
@@ -40,7 +40,7 @@ impl Told {
             && self.kinds.as_slice() == other.kinds.as_slice()
             && self.points.as_slice() == other.points.as_slice()
             && self.counts.as_slice() == other.counts.as_slice()
-            && self.exteriors.as_slice() == other.exteriors.as_slice()
+            && self.rings.as_slice() == other.rings.as_slice()
     }
 }
 
@@ -56,9 +56,10 @@ impl GeometryVisitor for Told {
         Ok(())
     }
 
-    fn end_part(&mut self, points: usize, exterior: bool) -> Result<(), AllocError> {
+    fn end_part(&mut self, points: usize, ring: Option<Ring>) -> Result<(), AllocError> {
         self.counts.push(points)?;
-        self.exteriors.push(exterior)?;
+        self.rings
+            .push(ring.map(|r| (r.exterior, r.twice_area, r.is_closed)))?;
         Ok(())
     }
 

@@ -3,7 +3,7 @@ ghost use Rattle.mvt_geometry.specs.Valid.{IsValid};
 
 use crate::expect::{expect, expect_eq};
 use crate::support::{KEYS, feature_with, made_with, point, repeated_keys};
-use mvt_attrs::{Attribute, KeyPool, LayerKeys, PoolError, Value, ValuePool};
+use mvt_attrs::{Attribute, LayerKeys, LayerUses, PoolError, Value};
 use mvt_base::{Items, Text};
 use mvt_feature::*;
 use mvt_geometry::Geometry;
@@ -198,17 +198,15 @@ fn writes_values(rt: HostRuntime) {
     drop(text);
 }
 
-// What is appended of a feature, over new pools.
+// What is appended of a feature, in a layer that has nothing yet.
 fn appended(alloc: Global, out: &mut Vec<u8>, feature: &Feature) -> Result<(), PoolError>
     requires { IsValid feature.now.geometry }
 {
-    let mut keys = KeyPool::new(alloc);
-    let mut values = ValuePool::new(alloc);
+    let mut uses = LayerUses::new(alloc);
     let mut scratch = Scratch::new(alloc);
-    let done = append_feature(out, feature, &mut keys, &mut values, &mut scratch);
+    let done = append_feature(feature, &mut uses, &mut scratch, out);
     drop(scratch);
-    drop(values);
-    drop(keys);
+    drop(uses);
     done
 }
 
@@ -234,9 +232,6 @@ fn writes_features(rt: HostRuntime) {
         0x12, 0x02, 0x00, 0x00, 0x18, 0x01, 0x22, 0x03, 0x09, 0x32, 0x22,
     ];
     expect_written(&rt, &feature, &expected);
-    // 35, two tags of five bytes, and three integers of five.
-    expect_eq!(rt; room_after_feature(&feature, 60), Some(0));
-    expect_eq!(rt; room_after_feature(&feature, 59), None);
     drop(feature);
 }
 

@@ -220,22 +220,6 @@ fn validates_items(rt: HostRuntime) {
     drop(layer);
 }
 
-// What is left of this room, and nothing where it is one less.
-fn expect_bound(rt: &impl Abort, item: Item, bound: u8) {
-    let bound = u64::from(bound);
-    expect_eq!(rt; room_after_item(&item, bound), Some(0));
-    expect_eq!(rt; room_after_item(&item, bound.saturating_sub(1)), None);
-    drop(item);
-}
-
-// A layer: 24 and its name, the field of its feature with 11 in front, and 33 for an attribute and
-// its key. An item of another version is its bytes.
-#[test]
-fn bounds(rt: HostRuntime) {
-    expect_bound(&rt, layer_item(&rt, &["k"]), 130);
-    expect_bound(&rt, foreign_item(&rt, 1, &FOREIGN), 5);
-}
-
 // Payloads, and what they are written as.
 #[test]
 fn writes_what_it_read(rt: HostRuntime) {

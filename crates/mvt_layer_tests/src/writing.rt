@@ -1,11 +1,11 @@
 //! Layers whose values are added at once, beside the same whose values are added one by one.
 use crate::expect::expect_eq;
-use crate::support::point;
 use mvt_attrs::Value;
 use mvt_base::Text;
 use mvt_feature::Scratch;
-use mvt_geometry::{Geometry, is_valid_geometry};
+use mvt_geometry::Kind;
 use mvt_message::*;
+use mvt_wire::PackedNumbers;
 use std::alloc::{AllocError, Global};
 
 // How the values of a layer are added.
@@ -13,7 +13,6 @@ use std::alloc::{AllocError, Global};
 enum Way {
     OneByOne,
     All,
-    Taken,
 }
 
 // So many values, of which so many are different.
@@ -31,30 +30,32 @@ fn values(alloc: Global, size: u8, different: u8) -> Result<Vec<Value>, AllocErr
     Ok(values)
 }
 
-fn add(writer: &mut LayerWriter, values: Vec<Value>, way: Way) -> Result<(), AllocError> {
+fn add(
+    alloc: Global,
+    writer: &mut LayerWriter,
+    values: Vec<Value>,
+    way: Way,
+) -> Result<(), AllocError> {
     match way {
         Way::OneByOne => {
-            for index in 0..values.len() {
-                writer.add_values(&values[index..index + 1])?;
+            for value in values {
+                let mut one = Vec::new(alloc);
+                one.push(value)?;
+                writer.take_values(one)?;
             }
             Ok(())
         }
-        Way::All => writer.add_values(&values),
-        Way::Taken => writer.take_values(values),
+        Way::All => writer.take_values(values),
     }
 }
 
-// Adds a feature of the first key and this value.
-fn add_feature(
-    writer: &mut LayerWriter,
-    value: u32,
-    geometry: &Geometry,
-    scratch: &mut Scratch,
-) -> Result<(), AllocError> {
-    if !is_valid_geometry(geometry) {
-        return Err(AllocError);
+// The integers of the point (25,17).
+fn drawing(alloc: Global) -> Result<PackedNumbers, AllocError> {
+    let mut integers = PackedNumbers::new(alloc);
+    for integer in [9, 50, 34] {
+        integers.push(integer)?;
     }
-    writer.add_feature(None, &[0, value], geometry, scratch)
+    Ok(integers)
 }
 
 // The payload of a layer with one key and so many values, whose features use these.
@@ -65,13 +66,14 @@ fn payload(
     used: &[u32],
     way: Way,
 ) -> Result<Option<Vec<u8>>, AllocError> {
-    let geometry = point(alloc, 25, 17)?;
+    let integers = drawing(alloc)?;
     let mut writer = LayerWriter::new(alloc);
-    add(&mut writer, values(alloc, size, different)?, way)?;
+    add(alloc, &mut writer, values(alloc, size, different)?, way)?;
     writer.add_keys(&[Text::from_str(alloc, "key")?])?;
     let mut scratch = Scratch::new(alloc);
     for value in used {
-        add_feature(&mut writer, *value, &geometry, &mut scratch)?;
+        let tags = [0, *value];
+        writer.add_drawn_feature(None, &tags, Kind::Point, &integers, &mut scratch)?;
     }
     writer.payload(alloc, "layer", 4096)
 }
@@ -80,12 +82,7 @@ fn payload(
 fn length_in_all_ways(alloc: Global, size: u8, different: u8, used: &[u32]) -> Option<usize> {
     let one = payload(alloc, size, different, used, Way::OneByOne).ok()??;
     let all = payload(alloc, size, different, used, Way::All).ok()??;
-    let taken = payload(alloc, size, different, used, Way::Taken).ok()??;
-    if one == all && one == taken {
-        Some(one.len())
-    } else {
-        None
-    }
+    if one == all { Some(one.len()) } else { None }
 }
 
 // How many values there are, how many of them are different, and how long the payload is: version

@@ -1,5 +1,5 @@
 -- A layer that is canonical but for where its version stands, and for last keys and values that no feature uses.
-use Rattle.std.proofs.Common.{◌≡◌, ℕ, zero, suc, ◌+◌, ◌-◌, ◌<◌, ◌≤◌, ◌^◌, List, [], ◌∷◌, ◌++◌, length, map, take, drop, get_or, Bor, inl, inr, zero-add, refl, sym, ap, ap₂, subst, ◌∙◌, arith, append_assoc, append-nil, length-append}
+use Rattle.std.proofs.Common.{◌≡◌, ℕ, zero, suc, ◌+◌, ◌-◌, ◌<◌, ◌≤◌, ◌^◌, List, [], ◌∷◌, ◌++◌, length, map, take, drop, get_or, Bor, inl, inr, zero-add, refl, sym, ap, ap₂, subst, ◌∙◌, arith, append_assoc, append-nil, length-append, slice_get, Some}
 use Rattle.std.proofs.lemmas.List.{drop-map, length-drop, map-append, take_more, take-append-drop}
 use Rattle.std.proofs.lemmas.Option.{slice_get-get_or}
 use Rattle.std.proofs.Math.Seq.{take-append_seam, take-length}
@@ -28,9 +28,9 @@ use Rattle.mvt_message.specs.CanonicalItems.{canonical_item, keys_of, values_of,
 use Rattle.mvt_message.specs.Copying.{body_with, body_fields, IsBodyOf, IsCanonicalLayer, IsCopied, HasBody, AreFieldsFrom, AreKeysFrom, ArePayloadsFrom, AreValuesFrom, AreFeaturesFrom, lent_field}
 use Rattle.mvt_message.specs.Items.{IsItem}
 use Rattle.mvt_message.specs.ValidItems.{ValidItem, ValidLayer}
-use Rattle.mvt_message.proofs.LenLemmas.{len_step}
 use Rattle.mvt_message.proofs.CanonicalLemmas.{features_held, layer_longer, layer_moved}
 use Rattle.mvt_message.proofs.PoolLemmas.{keys_distinct, keys_more, values_distinct, values_more}
+use Rattle.mvt_message.proofs.PutLemmas.{entry_step}
 use Rattle.mvt_message.proofs.RewriteLemmas.{keys_none, values_none}
 
 -- one more field
@@ -233,6 +233,18 @@ split_spelled f n ys =
 
 pub rest_of : {Y : Type 0} → (n : ℕ) (ys : List Y) → take (length ys - n) (drop n ys) ≡ drop n ys
 rest_of n ys = ap (λ m. take m (drop n ys)) (sym (length-drop n ys)) ∙ take-length (drop n ys)
+
+-- one more field of a list, by lengths
+len_step : {Y : Type 0} → (g : Y → Plain) (ys : List Y) (i : ℕ) {y : Y} (start old new : ℕ) → Some y ≡ slice_get ys i
+    → old ≡ start + length (spelled (map g (take i ys))) → new ≡ old + length (short_field (g y).number (g y).content)
+    → new ≡ start + length (spelled (map g (take (i + 1) ys)))
+len_step g ys i {y} start old new at was more =
+    let front = spelled (map g (take i ys)) in
+    let one = short_field (g y).number (g y).content in
+    let joined : front ++ one ≡ spelled (map g (take (i + 1) ys)) = entry_step g ys i [] at refl refl in
+    let size = length-append front one in
+    let same = ap length joined in
+    omega (arith, size, same)
 
 -- one more field of those that no feature uses
 pub unused_step : (number used : ℕ) (payloads : List (Bor (List ℕ))) (i at end size : ℕ) (rest : List (Bor (List ℕ))) (default : Bor (List ℕ))

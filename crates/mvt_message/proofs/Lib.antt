@@ -9,9 +9,7 @@ mod ValidLemmas
 mod CanonicalLemmas
 mod PoolLemmas
 mod PutLemmas
-mod LenLemmas
 mod HeldLemmas
-mod BoundLemmas
 mod VisitLemmas
 mod ResumeLemmas
 mod RewriteLemmas

@@ -1,10 +1,10 @@
 -- What is written of a layer so far.
-use Rattle.std.proofs.Common.{◌≡◌, ℕ, ◌+◌, ◌*◌, ◌<◌, ◌≤◌, ◌⊎◌, inl, inr, List, [], ◌∷◌, ◌++◌, length, map, take, drop, get_or, slice_get, Some, Result, Err, refl, sym, ap, ap₂, ◌∙◌, subst, arith, append_assoc, append-nil, length-append}
+use Rattle.std.proofs.Common.{◌≡◌, ℕ, ◌+◌, ◌*◌, ◌<◌, ◌≤◌, ◌⊎◌, inl, inr, List, [], ◌∷◌, ◌++◌, length, map, take, get_or, slice_get, Some, Result, Err, refl, sym, ap, ap₂, ◌∙◌, subst, arith, append_assoc, append-nil}
 use Rattle.std.specs.List.{AllByRecursion}
 use Rattle.std.specs.Result.{IsErrAnd}
 use Rattle.std.proofs.lemmas.Option.{slice_get_within, get_or_from_slice_get}
 use Rattle.std.proofs.lemmas.Result.{err_from_is_err_and}
-use Rattle.std.proofs.lemmas.List.{append_cancel_right, map-append, take-append-drop}
+use Rattle.std.proofs.lemmas.List.{append_cancel_right, map-append}
 use Rattle.mvt_base.specs.declared.TheConstants.{LIMIT}
 use Rattle.mvt_base.specs.Related.{Extends}
 use Rattle.mvt_base.proofs.ListLemmas.{all_weaker, front_more}
@@ -20,7 +20,6 @@ use Rattle.mvt_wire.specs.Field.{bytes}
 use Rattle.mvt_wire.specs.Varint.{short}
 use Rattle.mvt_wire.specs.Spelling.{Plain, short_field, spelled}
 use Rattle.mvt_feature.specs.declared.feature.Feature.{Feature}
-use Rattle.mvt_feature.specs.Canonical.{feature_fields}
 use Rattle.mvt_feature.specs.Valid.{ValidFeature}
 use Rattle.mvt_attrs.proofs.AttrsLaws.{tags_stay}
 use Rattle.mvt_wire.proofs.WireLaws.{spelled_parts}
@@ -30,7 +29,7 @@ use Rattle.mvt_message.specs.CanonicalItems.{keys_of, values_of, head_fields, fe
 use Rattle.mvt_message.specs.PutErrors.{of_pool}
 use Rattle.mvt_message.specs.ValidItems.{ValidLayer}
 use Rattle.mvt_message.proofs.CanonicalLemmas.{pools_within}
-use Rattle.mvt_message.proofs.PoolLemmas.{keys_more, values_more, keys_front, values_front, keys_past, values_past, keys_distinct, values_distinct}
+use Rattle.mvt_message.proofs.PoolLemmas.{keys_front, values_front, keys_past, values_past, keys_distinct, values_distinct}
 
 pub pool_full : (e : PoolError) → of_pool e ≡ TooLarge → e ≡ pools.Full
 pool_full pools.Memory h = cc
@@ -109,101 +108,6 @@ tags_last features done rest f keys values parts keys_are values_are names =
     tags_stay keys all_keys.0 values all_values.0 (tags_in keys values f.attributes) f.attributes distinct_keys distinct_values names
     ∙ ap₂ (λ ks vs. tags_in ks vs f.attributes) (sym keys_grow) (sym values_grow)
 
--- the features below a place are written, with tags that name entries of the pools of all features
-pub record FeaturesSoFar (features : List Feature) (i : ℕ) (keys : List (List ℕ)) (values : List Value) (start out : List ℕ) : Type 0 where
-  pub keys_are : keys ≡ keys_of (take i features)
-  pub values_are : values ≡ values_of (take i features)
-  pub out_is : out ≡ start ++ spelled (map (feature_field (keys_of features) (values_of features)) (take i features))
-
-pub features_start : (features : List Feature) {keys : List (List ℕ)} {values : List Value} (start : List ℕ)
-    → keys ≡ [] → values ≡ [] → FeaturesSoFar features 0 keys values start start
-unfolding keys_of values_of
-features_start features start no_keys no_values =
-    record { keys_are = no_keys; values_are = no_values; out_is = sym (append-nil start) }
-
--- a feature whose entries are in pools, and its payload after nothing
-pub record IsPlaced (f : Feature) (keys new_keys : List (List ℕ)) (values new_values : List Value) (payload : List ℕ) : Type 0 where
-  pub keys_grow : new_keys ≡ key_pool keys f.attributes
-  pub values_grow : new_values ≡ value_pool values f.attributes
-  pub names : Names new_keys new_values (tags_in new_keys new_values f.attributes) f.attributes
-  pub payload_is : payload ≡ spelled (feature_fields (tags_in new_keys new_values f.attributes) f)
-
-pub placed : {f : Feature} {keys new_keys : List (List ℕ)} {values new_values : List Value} {old payload : List ℕ} → old ≡ []
-    → payload ≡ old ++ spelled (feature_fields (tags_in new_keys new_values f.attributes) f)
-    → new_keys ≡ key_pool keys f.attributes → new_values ≡ value_pool values f.attributes
-    → Names new_keys new_values (tags_in new_keys new_values f.attributes) f.attributes
-    → IsPlaced f keys new_keys values new_values payload
-placed {f} {new_keys} {new_values} nothing is keys_grow values_grow names = record {
-  keys_grow = keys_grow;
-  values_grow = values_grow;
-  names = names;
-  payload_is = is ∙ ap (λ l. l ++ spelled (feature_fields (tags_in new_keys new_values f.attributes) f)) nothing;
-}
-
-pub features_step : {features : List Feature} {i : ℕ} {f : Feature} {keys new_keys : List (List ℕ)} {values new_values : List Value}
-    {start out payload new_out : List ℕ}
-    → FeaturesSoFar features i keys values start out → i < length features → f ≡ get_or features i f
-    → IsPlaced f keys new_keys values new_values payload → new_out ≡ out ++ short_field 2 (bytes payload)
-    → FeaturesSoFar features (i + 1) new_keys new_values start new_out
-features_step {features} {i} {f} {keys} {new_keys} {values} {new_values} {start} {out} so_far within here placed out_grows =
-    let done = take i features in
-    let next = take (i + 1) features in
-    let more = front_more features i f within here in
-    let keys_are : new_keys ≡ keys_of next =
-    placed.keys_grow ∙ ap (λ k. key_pool k f.attributes) so_far.keys_are ∙ keys_more done f ∙ ap keys_of (sym more) in
-    let values_are : new_values ≡ values_of next =
-    placed.values_grow ∙ ap (λ v. value_pool v f.attributes) so_far.values_are ∙ values_more done f ∙ ap values_of (sym more) in
-    let parts = sym (take-append-drop (i + 1) features) in
-    let tags = tags_last features next (drop (i + 1) features) f new_keys new_values parts keys_are values_are placed.names in
-    let whole = placed.payload_is ∙ ap (λ t. spelled (feature_fields t f)) tags in
-    record {
-      keys_are = keys_are;
-      values_are = values_are;
-      out_is = list_step (feature_field (keys_of features) (values_of features)) features i start within (sym here) so_far.out_is
-          (out_grows ∙ ap (λ b. out ++ short_field 2 (bytes b)) whole);
-    }
-
--- a front of a list is no longer than the whole
-pub front_long : {Y : Type 0} → (g : Y → Plain) (ys : List Y) (i start bound : ℕ)
-    → bound < start + length (spelled (map g (take i ys))) → bound < start + length (spelled (map g ys))
-front_long g ys i start bound long =
-    let front = map g (take i ys) in
-    let back = map g (drop i ys) in
-    let parts : spelled (map g ys) ≡ spelled front ++ spelled back =
-    ap (λ l. spelled (map g l)) (sym (take-append-drop i ys)) ∙ ap spelled (map-append g (take i ys) (drop i ys))
-    ∙ spelled_parts front back in
-    let size = ap length parts ∙ length-append (spelled front) (spelled back) in
-    omega (arith, size)
-
--- what is written is a front of the whole
-abbrev pub features_length : List Feature → ℕ
-features_length features = length (spelled (map (feature_field (keys_of features) (values_of features)) features))
-
-pub features_long : {features : List Feature} {i : ℕ} {keys : List (List ℕ)} {values : List Value} {start out : List ℕ} (bound : ℕ)
-    → FeaturesSoFar features i keys values start out → bound < length out → bound < length start + features_length features
-features_long {features} {i} {start} bound so_far long =
-    let field = feature_field (keys_of features) (values_of features) in
-    let size = ap length so_far.out_is ∙ length-append start (spelled (map field (take i features))) in
-    front_long field features i (length start) bound (omega (arith, size))
-
--- pools that a feature takes past a bound are fronts of the pools of all features
-pub features_full : {features : List Feature} {i : ℕ} {f : Feature} {keys : List (List ℕ)} {values : List Value}
-    {start out : List ℕ} (bound : ℕ)
-    → FeaturesSoFar features i keys values start out → i < length features → f ≡ get_or features i f
-    → (bound < length (key_pool keys f.attributes)) ⊎ (bound < length (value_pool values f.attributes))
-    → (bound ≤ length (keys_of features)) ⊎ (bound ≤ length (values_of features))
-features_full {features} {i} {f} bound so_far within here (inl more) =
-    let longer = subst (λ k. bound < length (key_pool k f.attributes)) so_far.keys_are more in
-    inl (let all = keys_past features i bound f within here longer in omega arith)
-features_full {features} {i} {f} bound so_far within here (inr more) =
-    let longer = subst (λ v. bound < length (value_pool v f.attributes)) so_far.values_are more in
-    inr (let all = values_past features i bound f within here longer in omega arith)
-
--- the whole layer
-abbrev pub IsLong : ℕ → ℕ → List Feature → Type 0
-IsLong bound start features =
-    (bound < start + features_length features) ⊎ ((bound ≤ length (keys_of features)) ⊎ (bound ≤ length (values_of features)))
-
 -- the parts of a layer's payload, in their order
 abbrev pub head_part : ALayer → List ℕ
 head_part layer = spelled (head_fields layer.name)
@@ -234,39 +138,20 @@ layer_parts layer =
     spelled_parts (head_fields layer.name) (features ++ (keys ++ (values ++ extent)))
     ∙ ap (λ l. head_part layer ++ l) (spelled_parts features (keys ++ (values ++ extent)) ∙ behind)
 
-pub layer_long : (layer : ALayer) {features : List Feature} {start : ℕ} → features ≡ layer.features → start ≡ length (head_part layer)
-    → IsLong LIMIT start features → LIMIT < length (spelled (layer_fields layer))
-layer_long layer {start} is start_is long = by_cause (subst (IsLong LIMIT start) is long)
+-- pools that a feature takes past a bound are fronts of the pools of all features
+pub features_full : (features : List Feature) (i : ℕ) (f : Feature) (bound : ℕ) → i < length features → f ≡ get_or features i f
+    → (bound < length (key_pool (keys_of (take i features)) f.attributes)) ⊎ (bound < length (value_pool (values_of (take i features)) f.attributes))
+    → (bound ≤ length (keys_of features)) ⊎ (bound ≤ length (values_of features))
+features_full features i f bound within here (inl more) = inl (let all = keys_past features i bound f within here more in omega arith)
+features_full features i f bound within here (inr more) = inr (let all = values_past features i bound f within here more in omega arith)
+
+-- a layer with so many keys or values is long
+pub layer_long : (layer : ALayer) {features : List Feature} → features ≡ layer.features
+    → (LIMIT ≤ length (keys_of features)) ⊎ (LIMIT ≤ length (values_of features)) → LIMIT < length (spelled (layer_fields layer))
+layer_long layer is long =
+    by_cause (subst (λ fs. (LIMIT ≤ length (keys_of fs)) ⊎ (LIMIT ≤ length (values_of fs))) is long)
   where
-    by_cause : IsLong LIMIT start layer.features → LIMIT < length (spelled (layer_fields layer))
-    by_cause (inl h) =
-        let parts = ap length (layer_parts layer) ∙ length-append (head_part layer) _ in
-        let more = length-append (features_part layer.features) (pool_parts layer) in
-        omega (arith, parts, more)
-    by_cause (inr (inl h)) = omega (arith, (pools_within (keys_of layer.features) (values_of layer.features) layer).0)
-    by_cause (inr (inr h)) = omega (arith, (pools_within (keys_of layer.features) (values_of layer.features) layer).1)
-
-pub layer_put : (layer : ALayer) {features : List Feature} {keys : List (List ℕ)} {values : List Value} {a b c d e : List ℕ}
-    → features ≡ layer.features → keys ≡ keys_of features → values ≡ values_of features
-    → a ≡ head_part layer → b ≡ a ++ features_part features → c ≡ b ++ keys_part keys → d ≡ c ++ values_part values
-    → e ≡ d ++ extent_part layer → e ≡ spelled (layer_fields layer)
-layer_put layer {b} {c} {d} is keys_are values_are ha hb hc hd he =
-    let F = features_part layer.features in
-    let K = keys_part (keys_of layer.features) in
-    let V = values_part (values_of layer.features) in
-    let E = extent_part layer in
-    let H = head_part layer in
-    let b_is : b ≡ H ++ F = hb ∙ ap₂ (λ x y. x ++ features_part y) ha is in
-    let c_is : c ≡ (H ++ F) ++ K = hc ∙ ap₂ (λ x y. x ++ keys_part y) b_is (keys_are ∙ ap keys_of is) in
-    let d_is : d ≡ ((H ++ F) ++ K) ++ V = hd ∙ ap₂ (λ x y. x ++ values_part y) c_is (values_are ∙ ap values_of is) in
-    he ∙ ap (λ x. x ++ E) d_is ∙ regroup H F K V E ∙ sym (layer_parts layer)
-  where
-    regroup : (h f k v x : List ℕ) → (((h ++ f) ++ k) ++ v) ++ x ≡ h ++ (f ++ (k ++ (v ++ x)))
-    regroup h f k v x = simp append_assoc
-
--- what was counted of a list is known of another name of it
-pub long_as : (a b : List ℕ) (n bound : ℕ) → a ≡ b → n ≡ length a → bound < n → bound < length b
-long_as a b n bound same count long = subst (λ l. bound < length l) same (omega arith)
-
-pub short_as : (a : List ℕ) (n bound : ℕ) → n ≡ length a → n ≤ bound → length a ≤ bound
-short_as a n bound count short = omega arith
+    by_cause : (LIMIT ≤ length (keys_of layer.features)) ⊎ (LIMIT ≤ length (values_of layer.features))
+        → LIMIT < length (spelled (layer_fields layer))
+    by_cause (inl h) = omega (arith, (pools_within (keys_of layer.features) (values_of layer.features) layer).0)
+    by_cause (inr h) = omega (arith, (pools_within (keys_of layer.features) (values_of layer.features) layer).1)

@@ -11,7 +11,7 @@ use Rattle.mvt_attrs.specs.declared.value.Value.{Value}
 use Rattle.mvt_attrs.specs.FirstUse.{AreDistinct}
 use Rattle.mvt_attrs.specs.FirstUses.{lent}
 use Rattle.mvt_attrs.specs.TagPlaces.{IsIn}
-use Rattle.mvt_attrs.specs.Using.{HasUses}
+use Rattle.mvt_attrs.specs.Using.{HasUses, used_of}
 use Rattle.mvt_wire.specs.Field.{bytes, varint, Entry}
 use Rattle.mvt_wire.specs.Spelling.{Plain, short_field, spelled}
 use Rattle.mvt_feature.specs.declared.feature.Feature.{Feature}
@@ -150,8 +150,8 @@ module _ (keys : List (List ℕ)) (values : List Value) (features : List Feature
 
 -- the canonical features are written as they stand
 pub written_start : (body : List ℕ) (part : Part) (w : LayerWriter) → length body ≤ LIMIT → (is : IsPartOf body part) → IsTrue part.front.is_apart
-    → HasUses w.uses part.keys.items is.held → w.uses.keys.used.items ≡ take part.reached.used.0 part.keys.items
-    → w.uses.values.used.items ≡ take part.reached.used.1 is.held
+    → HasUses w.uses part.keys.items is.held → used_of w.uses.keys ≡ take part.reached.used.0 part.keys.items
+    → used_of w.uses.values ≡ take part.reached.used.1 is.held
     → w.features.items ≡ take (part.reached.at - part.features_at) (drop part.features_at body)
     → IsWrittenUpTo body part part.reached.at w
 written_start body part w small is apart uses used_keys used_values copied =

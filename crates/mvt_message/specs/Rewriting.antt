@@ -3,7 +3,7 @@ use Rattle.std.specs.Prelude.{◌≡◌, ◌≢◌, ℕ, ◌<◌, List, [], ◌+
 use Rattle.std.specs.Global.{Global}
 use Rattle.mvt_attrs.specs.declared.value.Value.{Value}
 use Rattle.mvt_attrs.specs.declared.uses.LayerUses.{LayerUses}
-use Rattle.mvt_attrs.specs.Using.{HasUses}
+use Rattle.mvt_attrs.specs.Using.{HasUses, used_of}
 use Rattle.mvt_wire.specs.Spelling.{spelled}
 use Rattle.mvt_feature.specs.declared.feature.Feature.{Feature}
 use Rattle.mvt_message.specs.declared.layer_writer.LayerWriter.{LayerWriter}
@@ -24,15 +24,15 @@ AreWritten features out =
 -- a layer's values so far
 pub record HasGathered (w : LayerWriter) (values : List Value) : Type 0 where
   pub uses : HasUses w.uses [] values
-  pub no_keys : w.uses.keys.used.items ≡ []
-  pub no_values : w.uses.values.used.items ≡ []
+  pub no_keys : used_of w.uses.keys ≡ []
+  pub no_values : used_of w.uses.values ≡ []
   pub no_features : w.features.items ≡ []
 
 -- and its features so far
 pub record HasWritten (keys : List (List ℕ)) (values : List Value) (w : LayerWriter) (features : List Feature) : Type 0 where
   pub uses : HasUses w.uses keys values
-  pub keys_are : w.uses.keys.used.items ≡ keys_of features
-  pub values_are : w.uses.values.used.items ≡ values_of features
+  pub keys_are : used_of w.uses.keys ≡ keys_of features
+  pub values_are : used_of w.uses.values ≡ values_of features
   pub written : AreWritten features w.features.items
 
 -- the same, where features are left out that follow more bytes than a limit
@@ -51,7 +51,7 @@ IsPayloadOf limit layer made =
 -- the fields of a layer behind its features
 abbrev pub tail_of : LayerUses → ℕ → List ℕ
 tail_of uses extent =
-    spelled (map key_field uses.keys.used.items) ++ (spelled (map value_field uses.values.used.items) ++ spelled (extent_fields extent))
+    spelled (map key_field (used_of uses.keys)) ++ (spelled (map value_field (used_of uses.values)) ++ spelled (extent_fields extent))
 
 -- a payload is the item that was made canonical, of whose features this visitor was told
 abbrev pub IsRewrittenAs : {V : Type 0} → (V → List Feature → List ℕ → Type 0) → List ℕ → Rewritten V → Type 0

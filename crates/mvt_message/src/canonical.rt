@@ -10,7 +10,7 @@ use crate::copying::layer_of_body;
 use crate::layer_rewriting::Untold;
 use mvt_base::LIMIT;
 use mvt_feature::{FeatureFields, NotCanonical};
-use mvt_geometry::{GeometryVisitor, Point};
+use mvt_geometry::{GeometryVisitor, Point, Ring};
 use std::alloc::{AllocError, Global};
 
 /// What is told the features of a layer whose fields are canonical as they stand: the parts of each
@@ -45,7 +45,7 @@ impl GeometryVisitor for Untold {
     }
 
     #[inline(always)]
-    fn end_part(&mut self, _: usize, _: bool) -> Result<(), AllocError> {
+    fn end_part(&mut self, _: usize, _: Option<Ring>) -> Result<(), AllocError> {
         Ok(())
     }
 

@@ -16,7 +16,8 @@ use mvt_wire::{PackedNumbers, Payload, put_field};
 use std::alloc::AllocError;
 
 impl LayerWriter {
-    /// As `add_feature`, of a geometry that these integers draw.
+    /// Adds the feature that has this id, these tags and the geometry that these integers draw. From
+    /// where the features alone are more bytes than the limit, it is left out.
     ///
     /// # Errors
     ///

@@ -11,7 +11,6 @@ ghost use Rattle.mvt_message.specs.declared.numbers.layer.TheConstants.{NAME, FE
 ghost use Rattle.mvt_message.specs.declared.item.Item.{Item};
 ghost use Rattle.mvt_message.specs.ItemRules.{item_rules, item_fault, payload_names};
 ghost use Rattle.mvt_message.specs.Items.{IsItem, names_in};
-ghost use Rattle.mvt_message.specs.Bounds.{item_bound};
 ghost use Rattle.mvt_message.specs.CanonicalItems.{canonical_item, keys_of, values_of};
 ghost use Rattle.mvt_message.specs.ValidItems.{ValidItem, WasValidItem};
 
@@ -59,42 +58,6 @@ pub fn item_names()
 pub fn canonical_reads()
     ensures { (item : Item) → ValidItem item → length (canonical_item item) ≤ LIMIT
         → IsItem (canonical_item item) item }
-{}
-
-/// The keys and the values that features use: where the features are valid they can be written, and
-/// each feature has its own among them.
-pub fn pools_of_features()
-    ensures keys { (features : List Feature) → AllByRecursion ValidFeature features
-        → AllByRecursion IsUtf8 (keys_of features) }
-    ensures values { (features : List Feature) → AllByRecursion ValidFeature features
-        → AllByRecursion ValidValue (values_of features) }
-    ensures held { (features : List Feature)
-        → AllByRecursion (λ (f : Feature). AllByRecursion
-        (IsIn (keys_of features) (values_of features)) f.attributes) features }
-{}
-
-/// Feature by feature the keys and the values grow: with one more feature, and where a feature
-/// takes them beyond a bound, those of all features are beyond it.
-pub fn pools_by_features()
-    ensures more_keys { (done : List Feature) (feature : Feature) →
-        key_pool (keys_of done) feature.attributes ≡ keys_of (done ++ feature ∷ []) }
-    ensures more_values { (done : List Feature) (feature : Feature) →
-        value_pool (values_of done) feature.attributes ≡ values_of (done ++ feature ∷ []) }
-    ensures past_keys { (features : List Feature) (i bound : ℕ) (feature : Feature) →
-        i < length features → feature ≡ get_or features i feature
-        → bound < length (key_pool (keys_of (take i features)) feature.attributes)
-        → bound < length (keys_of features) }
-    ensures past_values { (features : List Feature) (i bound : ℕ) (feature : Feature) →
-        i < length features → feature ≡ get_or features i feature
-        → bound < length (value_pool (values_of (take i features)) feature.attributes)
-        → bound < length (values_of features) }
-{}
-
-/// The canonical payload of an item takes no more bytes than its bound says, where that is within
-/// the limit.
-pub fn bound_holds()
-    ensures { (item : Item) → ValidItem item → item_bound item ≤ LIMIT
-        → length (canonical_item item) ≤ item_bound item }
 {}
 
 /// An item that was valid with positions in the narrow range is valid.

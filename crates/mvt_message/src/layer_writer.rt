@@ -1,34 +1,40 @@
 //! A layer written feature by feature, with tags by index (Mapbox Vector Tile Specification 2.1,
 //! 4.1).
-ghost use Rattle.std.specs.Prelude.{◌≡◌, ℕ, [], ◌∷◌, ◌++◌, List, length, IfOk, OnErr, OnOk};
+ghost use Rattle.std.specs.Prelude.{◌≡◌, ◌⊎◌, ℕ, ◌<◌, [], ◌∷◌, ◌++◌, List, length, IfOk, IsErrOf, OnErr, OnOk};
 ghost use Rattle.mvt_base.specs.Related.{Extends};
 ghost use Rattle.mvt_attrs.specs.declared.value.Value.{Value as AValue};
-ghost use Rattle.mvt_attrs.specs.Tags.{Names};
+ghost use Rattle.mvt_attrs.specs.Pools.{key_pool, value_pool};
 ghost use Rattle.mvt_geometry.specs.Valid.{IsValid};
 ghost use Rattle.mvt_wire.specs.Spelling.{spelled};
-ghost use Rattle.mvt_feature.specs.declared.feature.Feature.{Feature};
+ghost use Rattle.mvt_feature.specs.declared.feature.Feature.{Feature as AFeature};
 ghost use Rattle.mvt_message.specs.declared.item.Layer.{Layer};
-ghost use Rattle.mvt_message.specs.CanonicalItems.{head_fields};
+ghost use Rattle.mvt_message.specs.CanonicalItems.{keys_of, values_of, head_fields};
 ghost use Rattle.mvt_message.specs.Rewriting.{HasGathered, HasWritten, HasWrittenUpTo, IsPayloadOf, tail_of};
 
-use crate::layer_writing::{FEATURE_ROOM, put_extent, put_head, put_keys, put_values};
+use crate::layer_writing::{put_extent, put_head, put_keys, put_values};
 use crate::numbers::layer;
-use mvt_attrs::{LayerUses, Value};
+use mvt_attrs::{LayerUses, PoolError, Value};
 use mvt_base::{LIMIT, Text};
-use mvt_feature::{Scratch, append_tagged_feature};
-use mvt_geometry::Geometry;
+use mvt_feature::{Feature, Scratch, append_feature};
 use mvt_wire::{Payload, put_field};
 use std::alloc::{AllocError, Global};
+
+/// How many bytes a feature's payload has room for at first: a small one never grows.
+pub(crate) const FEATURE_ROOM: usize = 256;
+
+/// How many bytes the features of a layer have room for at first, where it isn't known how long
+/// they are.
+pub(crate) const LAYER_ROOM: usize = 1024;
 
 /// Writes a layer feature by feature: first come its values and its keys, which tags name by their
 /// indices.
 ///
 /// ```ignore
 /// let mut writer = LayerWriter::new(alloc);
-/// writer.add_values(&values)?;
+/// writer.take_values(values)?;
 /// writer.add_keys(&keys)?;
 /// for feature in features {
-///     writer.add_feature(feature.id, feature.tags, &feature.geometry, &mut scratch)?;
+///     writer.add_drawn_feature(feature.id, feature.tags, kind, &integers, &mut scratch)?;
 /// }
 /// let payload = writer.payload(alloc, name, extent)?;
 /// ```
@@ -76,18 +82,6 @@ impl LayerWriter {
     /// # Errors
     ///
     /// When memory runs out.
-    pub fn add_values(&mut self, values: &[Value]) -> Result<(), AllocError>
-        ensures { (held : List AValue) → HasGathered self.old held
-            → OnOk result (HasGathered self.new (held ++ values.now)) }
-    {
-        self.uses.values.add_all(values)
-    }
-
-    /// The same of values that need no copies.
-    ///
-    /// # Errors
-    ///
-    /// When memory runs out.
     pub fn take_values(&mut self, values: Vec<Value>) -> Result<(), AllocError>
         ensures { (held : List AValue) → HasGathered self.old held
             → OnOk result (HasGathered self.new (held ++ values.items)) }
@@ -118,49 +112,38 @@ impl LayerWriter {
 
     /// How many values the layer has.
     pub fn value_count(&self) -> usize
-        ensures { (keys : List (List ℕ)) (held : List AValue) (features : List Feature)
+        ensures { (keys : List (List ℕ)) (held : List AValue) (features : List AFeature)
             → HasWrittenUpTo LIMIT keys held self.now features → result ≡ length held }
     {
         self.uses.values.len()
     }
 
-    /// Adds the feature that has this id, these tags and this geometry. From where the features
-    /// alone are more bytes than the limit, it is left out.
+    /// Adds a feature to a layer of which neither values nor keys were added: it brings its own.
+    /// From where the features alone are more bytes than the limit, it is left out.
     ///
     /// # Errors
     ///
-    /// When memory runs out.
-    pub fn add_feature(
-        &mut self,
-        id: Option<u64>,
-        tags: &[u32],
-        geometry: &Geometry,
-        scratch: &mut Scratch,
-    ) -> Result<(), AllocError>
-        requires { IsValid geometry.now }
-        ensures { (keys : List (List ℕ)) (held : List AValue) (features : List Feature)
-            (f : Feature)
-            → HasWrittenUpTo LIMIT keys held self.old features → f.id ≡ id
-            → f.geometry ≡ geometry.now → Names keys held tags.now f.attributes
-            → OnOk result (HasWrittenUpTo LIMIT keys held self.new (features ++ f ∷ [])) }
+    /// When memory runs out, or the layer has more keys or values than a pool holds.
+    pub(crate) fn add(&mut self, feature: &Feature, scratch: &mut Scratch) -> Result<(), PoolError>
+        requires { IsValid feature.now.geometry }
+        ensures added { (features : List AFeature) → HasWrittenUpTo LIMIT [] [] self.old features
+            → OnOk result (HasWrittenUpTo LIMIT [] [] self.new (features ++ feature.now ∷ [])) }
+        ensures too_many { (features : List AFeature) → HasWrittenUpTo LIMIT [] [] self.old features
+            → IsErrOf result PoolError.Full
+            → (LIMIT < length (key_pool (keys_of features) feature.now.attributes))
+            ⊎ (LIMIT < length (value_pool (values_of features) feature.now.attributes)) }
     {
         if self.features.len() as u64 > LIMIT {
             return Ok(());
         }
         self.payload.clear();
-        append_tagged_feature(
-            id,
-            tags,
-            geometry,
-            &mut self.uses,
-            scratch,
-            &mut self.payload,
-        )?;
+        append_feature(feature, &mut self.uses, scratch, &mut self.payload)?;
         put_field(
             &mut self.features,
             layer::FEATURES,
             &Payload::Len(&self.payload),
-        )
+        )?;
+        Ok(())
     }
 
     /// The canonical payload of the layer; `None` where its features alone are more bytes than the

@@ -2,7 +2,6 @@
 //! another as its bytes, read from a payload and written as one.
 #![tactic(auto)]
 
-mod bound;
 mod canonical;
 mod copying;
 mod drawn_feature;
@@ -11,7 +10,6 @@ mod item;
 pub mod laws;
 mod layer_fields;
 mod layer_header;
-mod layer_len;
 mod layer_rewriting;
 mod layer_writer;
 mod layer_writing;
@@ -28,7 +26,6 @@ mod version;
 mod visiting;
 mod writing;
 
-pub use bound::room_after_item;
 pub use canonical::{CanonicalVisitor, visit_canonical};
 pub use item::{Item, Layer};
 pub use layer_rewriting::{RewriteVisitor, Rewritten, RewrittenLayer, rewrite_parts};

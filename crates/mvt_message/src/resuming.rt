@@ -8,8 +8,7 @@ ghost use Rattle.mvt_feature.specs.Values.{IsValueOf};
 ghost use Rattle.mvt_message.specs.Resuming.{AreFeaturesRead, IsPartOf, IsWrittenUpTo};
 
 use crate::copying::Part;
-use crate::layer_writer::LayerWriter;
-use crate::layer_writing::FEATURE_ROOM;
+use crate::layer_writer::{FEATURE_ROOM, LayerWriter};
 use crate::numbers::layer;
 use mvt_attrs::{LayerKeys, LayerUses, Uses, Value};
 use mvt_base::{LIMIT, Text};

@@ -1,20 +1,21 @@
 //! Writing an item (Mapbox Vector Tile Specification 2.1, 4.1).
-ghost use Rattle.std.specs.Prelude.{◌≡◌, ◌<◌, ◌≤◌, [], length, OnOk, IfOk, IsErrOf};
+ghost use Rattle.std.specs.Prelude.{◌≡◌, ◌⊎◌, ◌<◌, ◌≤◌, [], length, OnOk, IfOk, IsErrOf};
+ghost use Rattle.std.specs.List.{AllByRecursion};
+ghost use Rattle.mvt_geometry.specs.Valid.{IsValid};
 ghost use Rattle.mvt_wire.specs.Spelling.{spelled};
-ghost use Rattle.mvt_message.specs.CanonicalItems.{layer_fields, canonical_item};
+ghost use Rattle.mvt_feature.specs.declared.feature.Feature.{Feature as OneFeature};
+ghost use Rattle.mvt_message.specs.CanonicalItems.{keys_of, values_of, layer_fields, canonical_item};
+ghost use Rattle.mvt_message.specs.Rewriting.{HasGathered, HasWrittenUpTo};
 ghost use Rattle.mvt_message.specs.ValidItems.{ValidItem, ValidLayer};
 
 use crate::item::{Item, Layer};
-use crate::layer_len::layer_len;
-use crate::layer_writing::{put_extent, put_features, put_head, put_keys, put_values};
-use mvt_attrs::{KeyPool, PoolError, ValuePool};
+use crate::layer_writer::{LAYER_ROOM, LayerWriter};
+use mvt_attrs::PoolError;
 use mvt_base::LIMIT;
+use mvt_feature::{Feature, Scratch};
 use std::alloc::{AllocError, Global};
 use std::error::Error;
 use std::fmt;
-
-/// How many bytes a layer's payload has room for at first: a small one never grows.
-const LAYER_ROOM: usize = 1024;
 
 /// Why an item can't be written.
 #[derive(Clone, Copy, Debug, PartialEq, Eq)]
@@ -85,7 +86,7 @@ pub fn put_item(alloc: Global, item: &Item) -> Result<Vec<u8>, PutError>
     }
 }
 
-/// The length of an item's canonical payload.
+/// The length of an item's canonical payload, which is made for it where it is a layer's.
 ///
 /// # Errors
 ///
@@ -98,9 +99,21 @@ pub fn item_len(alloc: Global, item: &Item) -> Result<u64, PutError>
         → LIMIT < length (canonical_item item.now) }
 {
     match item {
-        Item::Layer(layer) => layer_len(alloc, layer),
+        Item::Layer(layer) => Ok(put_layer(alloc, layer)?.len() as u64),
         Item::Foreign { bytes, .. } => foreign_len(bytes.as_slice()),
     }
+}
+
+fn foreign_len(bytes: &[u8]) -> Result<u64, PutError>
+    ensures len { IfOk result (λ n. (n ≡ length bytes.now) × (n ≤ LIMIT)) }
+    ensures too_large { IsErrOf result PutError.TooLarge → LIMIT < length bytes.now }
+    ensures memory { ¬ (IsErrOf result PutError.Memory) }
+{
+    let len = bytes.len() as u64;
+    if len > LIMIT {
+        return Err(PutError::TooLarge);
+    }
+    Ok(len)
 }
 
 fn put_foreign(alloc: Global, bytes: &[u8]) -> Result<Vec<u8>, PutError>
@@ -120,49 +133,32 @@ fn put_layer(alloc: Global, layer: &Layer) -> Result<Vec<u8>, PutError>
     ensures too_large { IsErrOf result PutError.TooLarge
         → LIMIT < length (spelled (layer_fields layer.now)) }
 {
-    let mut out = Vec::with_capacity(alloc, LAYER_ROOM)?;
-    let mut keys = KeyPool::new(alloc);
-    let mut values = ValuePool::new(alloc);
-    put_parts(alloc, layer, &mut out, &mut keys, &mut values)?;
-    Ok(out)
+    let mut writer = LayerWriter::with_room(alloc, LAYER_ROOM)?;
+    add_features(alloc, &mut writer, layer.features.as_slice())?;
+    let Some(payload) = writer.payload(alloc, layer.name.as_str(), layer.extent)? else {
+        return Err(PutError::TooLarge);
+    };
+    if payload.len() as u64 > LIMIT {
+        return Err(PutError::TooLarge);
+    }
+    Ok(payload)
 }
 
-/// Puts a layer's payload where nothing stands yet, with pools that hold nothing yet.
-fn put_parts(
+/// Adds features to a layer that has nothing yet.
+fn add_features(
     alloc: Global,
-    layer: &Layer,
-    out: &mut Vec<u8>,
-    keys: &mut KeyPool,
-    values: &mut ValuePool,
+    writer: &mut LayerWriter,
+    features: &[Feature],
 ) -> Result<(), PutError>
-    requires valid { ValidLayer layer.now }
-    requires no_bytes { out.old.items ≡ [] }
-    requires no_keys { keys.old ≡ [] }
-    requires no_values { values.old ≡ [] }
-    ensures put { OnOk result (out.new.items ≡ spelled (layer_fields layer.now)) }
-    ensures limit { OnOk result (length out.new.items ≤ LIMIT) }
-    ensures too_large { IsErrOf result PutError.TooLarge
-        → LIMIT < length (spelled (layer_fields layer.now)) }
+    requires valid { AllByRecursion (λ (f : OneFeature). IsValid f.geometry) features.now }
+    requires nothing { HasGathered writer.old [] }
+    ensures added { OnOk result (HasWrittenUpTo LIMIT [] [] writer.new features.now) }
+    ensures too_large { IsErrOf result PutError.TooLarge → (LIMIT ≤ length (keys_of features.now))
+        ⊎ (LIMIT ≤ length (values_of features.now)) }
 {
-    put_head(out, layer.name.as_str())?;
-    put_features(alloc, layer.features.as_slice(), out, keys, values)?;
-    put_keys(out, keys.entries())?;
-    put_values(out, values.entries())?;
-    put_extent(out, layer.extent)?;
-    if out.len() as u64 > LIMIT {
-        return Err(PutError::TooLarge);
+    let mut scratch = Scratch::with_room(alloc)?;
+    for feature in features {
+        writer.add(feature, &mut scratch)?;
     }
     Ok(())
-}
-
-fn foreign_len(bytes: &[u8]) -> Result<u64, PutError>
-    ensures len { IfOk result (λ n. (n ≡ length bytes.now) × (n ≤ LIMIT)) }
-    ensures too_large { IsErrOf result PutError.TooLarge → LIMIT < length bytes.now }
-    ensures memory { ¬ (IsErrOf result PutError.Memory) }
-{
-    let len = bytes.len() as u64;
-    if len > LIMIT {
-        return Err(PutError::TooLarge);
-    }
-    Ok(len)
 }

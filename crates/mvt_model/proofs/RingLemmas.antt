@@ -1,24 +1,20 @@
 -- The rings of a feature that were noted.
-use Rattle.std.proofs.Common.{◌≡◌, ℕ, ℤ, pos, ◌+◌, Bool, true, false, cond, ◌||◌, List, [], ◌∷◌, ◌++◌, length, map, nat_lt, Result, Ok, Err, OnOk, arith, refl, sym, ap, ap₂, subst, ◌∙◌, append-nil, zero-add}
+use Rattle.std.proofs.Common.{◌≡◌, ℕ, ◌+◌, true, false, cond, List, [], ◌∷◌, ◌++◌, length, map, refl, sym, ap, ap₂, subst, ◌∙◌, arith, append-nil, append_assoc, length-append}
 use Rattle.std.specs.List.{flat_map}
-use Rattle.std.specs.Ordering.{int_eq}
-use Rattle.std.proofs.lemmas.List.{map-append, nil_from_length}
+use Rattle.std.proofs.lemmas.Grind.{flat_map-append}
 use Rattle.mvt_feature.specs.declared.feature.Feature.{Feature}
 use Rattle.mvt_geometry.specs.declared.shape.Geometry.{Geometry}
 use Rattle.mvt_geometry.specs.declared.shape.Geometry.TheVariants.{Unknown, Points, Lines, Polygons}
 use Rattle.mvt_geometry.specs.declared.shape.Point.{Point}
 use Rattle.mvt_geometry.specs.declared.shape.Polygon.{Polygon}
-use Rattle.mvt_geometry.specs.Area.{area2}
 use Rattle.mvt_geometry.specs.Shape.{rings_of}
-use Rattle.mvt_geometry.specs.Visiting.{Part, plain, ring_parts, HasDrawn}
-use Rattle.mvt_model.specs.declared.note.Note.{Note}
+use Rattle.mvt_geometry.specs.Visiting.{Part, plain, ring_part, ring_parts, HasDrawn}
 use Rattle.mvt_model.specs.declared.layer_noting.LayerNotes.{LayerNotes}
 use Rattle.mvt_model.specs.declared.ring_noting.RingNotes.{RingNotes}
-use Rattle.mvt_model.specs.declared.note.Note.TheVariants.{ClosedTwice, FlatRing}
 use Rattle.mvt_model.specs.FirstIds.{AreFirst}
-use Rattle.mvt_model.specs.Notes.{first_of, numbered, note_if, is_closed, ring_notes}
 use Rattle.mvt_model.specs.Findings.{AreNoted, AreNotedSoFar, HaveNotedLayerParts, IsSameButRings}
-use Rattle.mvt_model.specs.Rings.{points_of, rings_in, HasBegun, HasNotedAll, HaveNoted, HaveNotedParts}
+use Rattle.mvt_model.specs.Notes.{first_of, numbered, ring_notes}
+use Rattle.mvt_model.specs.Rings.{rings_in, HasBegun, HasNotedRing, HasNotedAll, HaveNoted}
 use Rattle.mvt_model.proofs.NoteLemmas.{numbered-append}
 
 -- the rings among the parts of a geometry
@@ -27,104 +23,72 @@ no_rings : (lines : List (List Point)) → rings_in (map plain lines) ≡ []
 no_rings [] = refl
 no_rings (line ∷ lines) = no_rings lines
 
-plain_points : (lines : List (List Point)) → points_of (map plain lines) ≡ lines
-plain_points [] = refl
-plain_points (line ∷ lines) = ap (λ ls. line ∷ ls) (plain_points lines)
-
-polygon_points : (polygons : List Polygon) → points_of (flat_map ring_parts polygons) ≡ rings_of polygons
-polygon_points [] = refl
-polygon_points (p ∷ polygons) =
-    map-append (λ (q : Part). q.points) (ring_parts p) (flat_map ring_parts polygons)
-    ∙ ap₂ (λ rs more. (p.outer ∷ rs) ++ more) (plain_points p.rest) (polygon_points polygons)
+inner_rings : (rings : List (List Point)) → rings_in (map (ring_part false) rings) ≡ rings
+inner_rings [] = refl
+inner_rings (ring ∷ rings) = ap (λ rs. ring ∷ rs) (inner_rings rings)
 
 polygon_rings : (polygons : List Polygon) → rings_in (flat_map ring_parts polygons) ≡ rings_of polygons
 polygon_rings [] = refl
-polygon_rings (p ∷ polygons) = polygon_points (p ∷ polygons)
+polygon_rings (p ∷ polygons) =
+    flat_map-append (λ (q : Part). cond q.ring (q.points ∷ []) []) (ring_parts p) (flat_map ring_parts polygons)
+    ∙ ap₂ (λ rs more. (p.outer ∷ rs) ++ more) (inner_rings p.rest) (polygon_rings polygons)
 
 -- one part more
 
-points_more : (parts : List Part) (part : Part) → points_of (parts ++ part ∷ []) ≡ points_of parts ++ part.points ∷ []
-points_more parts part = map-append (λ (q : Part). q.points) parts (part ∷ [])
+rings_more : (parts : List Part) (part : Part) → rings_in (parts ++ part ∷ []) ≡ rings_in parts ++ cond part.ring (part.points ∷ []) []
+rings_more parts part =
+    flat_map-append (λ (q : Part). cond q.ring (q.points ∷ []) []) parts (part ∷ [])
+    ∙ ap (λ rs. rings_in parts ++ rs) (append-nil (cond part.ring (part.points ∷ []) []))
 
-all_or_more : (b : Bool) (E : Type 0) (all more all_next more_next t : List (List Point)) → all_next ≡ all ++ t
-    → ((more ≡ [] → E) → more_next ≡ more ++ t) → (cond b all more ≡ [] → E) → cond b all_next more_next ≡ cond b all more ++ t
-all_or_more true E all more all_next more_next t e f h = e
-all_or_more false E all more all_next more_next t e f h = f h
+pub ring_noted : (start old new : RingNotes) (parts : List Part) (part : Part) → part.ring ≡ true → HaveNoted start parts old
+    → HasNotedRing part.points old new → HaveNoted start (parts ++ part ∷ []) new
+ring_noted start old new parts part is have one =
+    let noted = ring_notes start.layer start.feature in
+    let rings : rings_in (parts ++ part ∷ []) ≡ rings_in parts ++ part.points ∷ [] =
+    rings_more parts part ∙ ap (λ b. rings_in parts ++ cond b (part.points ∷ []) []) is in
+    record {
+      layer_is = one.layer_is ∙ have.layer_is;
+      feature_is = one.feature_is ∙ have.feature_is;
+      count_is = omega (arith, one.count_is, have.count_is, ap length rings, length-append (rings_in parts) (part.points ∷ []));
+      notes_are = one.notes_are
+          ∙ ap₂ (λ l f. old.notes.items ++ ring_notes l f old.count part.points) have.layer_is have.feature_is
+          ∙ ap₂ (λ ns k. ns ++ noted k part.points) have.notes_are have.count_is
+          ∙ append_assoc start.notes.items (numbered noted start.count (rings_in parts))
+          (noted (start.count + length (rings_in parts)) part.points)
+          ∙ ap (λ ns. start.notes.items ++ (numbered noted start.count (rings_in parts) ++ ns))
+          (sym (append-nil (noted (start.count + length (rings_in parts)) part.points)))
+          ∙ ap (λ ns. start.notes.items ++ ns)
+          (sym (ap (numbered noted start.count) rings ∙ numbered-append noted start.count (rings_in parts) (part.points ∷ [])));
+    }
 
-pub ring_more : (parts : List Part) (part : Part) → (rings_in parts ≡ [] → part.exterior ≡ true)
-    → rings_in (parts ++ part ∷ []) ≡ rings_in parts ++ part.points ∷ []
-ring_more [] part begins = ap (λ b. cond b (part.points ∷ []) []) (begins refl)
-ring_more (p ∷ parts) part begins =
-    all_or_more p.exterior (part.exterior ≡ true) (p.points ∷ points_of parts) (rings_in parts) _ _ (part.points ∷ [])
-    (ap (λ rs. p.points ∷ rs) (points_more parts part)) (ring_more parts part) begins
-
-none_of : (b : Bool) (p : List Point) (all more all_next more_next : List (List Point)) → cond b (p ∷ all) more ≡ []
-    → (more ≡ [] → more_next ≡ []) → cond b all_next more_next ≡ []
-none_of true p all more all_next more_next none f = absurd (cc none)
-none_of false p all more all_next more_next none f = f none
-
-pub line_more : (parts : List Part) (part : Part) → rings_in parts ≡ [] → part.exterior ≡ false → rings_in (parts ++ part ∷ []) ≡ []
-line_more [] part none is = ap (λ b. cond b (part.points ∷ []) []) is
-line_more (p ∷ parts) part none is =
-    none_of p.exterior p.points (points_of parts) (rings_in parts) _ _ none (λ nothing. line_more parts part nothing is)
-
--- a part is a ring where it begins a polygon or follows a ring
-
-pub begins_ring : (exterior : Bool) (count : ℕ) (rings : List (List Point)) → (exterior || nat_lt 0 count) ≡ true → count ≡ length rings
-    → rings ≡ [] → exterior ≡ true
-begins_ring true count rings is counted none = refl
-begins_ring false count rings is counted none = absurd (grind (arith, is, counted, ap length none))
-
-pub is_line : (exterior : Bool) (count : ℕ) (rings : List (List Point)) → (exterior || nat_lt 0 count) ≡ false → count ≡ length rings
-    → (rings ≡ []) × (exterior ≡ false)
-is_line true count rings is counted = absurd (cc is)
-is_line false count rings is counted = (nil_from_length rings (grind (arith, is, counted)), refl)
-
-pub on_ok_under : {X E : Type 0} (result : Result X E) (A P : Type 0) → (A → OnOk result P) → OnOk result (A → P)
-on_ok_under (Ok x) A P f = f
-on_ok_under (Err e) A P f = tt
-
--- one ring more
-
-pub ring_noted : (layer feature : ℕ) (rings : List (List Point)) (ring : List Point) (old : RingNotes) (area : ℤ) (closed : Bool)
-    (new : List Note) → HaveNoted layer feature rings ring old → area ≡ area2 ring → ◌≡◌ {A = Bool} closed (is_closed ring)
-    → new ≡ old.notes.items
-    ++ (note_if (int_eq area (pos 0)) (FlatRing old.layer old.feature old.count)
-    ++ note_if closed (ClosedTwice old.layer old.feature old.count))
-    → new ≡ numbered (ring_notes layer feature) 0 (rings ++ ring ∷ [])
-ring_noted layer feature rings ring old area closed new have area_is closed_is e =
-    let noted = ring_notes layer feature in
-    e
-    ∙ ap₂ (λ z b. old.notes.items
-    ++ (note_if (int_eq z (pos 0)) (FlatRing old.layer old.feature old.count)
-    ++ note_if b (ClosedTwice old.layer old.feature old.count))) area_is closed_is
-    ∙ ap₂ (λ l f. old.notes.items ++ ring_notes l f old.count ring) have.layer_is have.feature_is
-    ∙ ap₂ (λ ns k. ns ++ noted k ring) have.notes_are (have.count_is ∙ sym (zero-add (length rings)))
-    ∙ ap (λ ns. numbered noted 0 rings ++ ns) (sym (append-nil (noted (0 + length rings) ring)))
-    ∙ sym (numbered-append noted 0 rings (ring ∷ []))
+pub line_noted : (start old : RingNotes) (parts : List Part) (part : Part) → part.ring ≡ false → HaveNoted start parts old
+    → HaveNoted start (parts ++ part ∷ []) old
+line_noted start old parts part is have =
+    let rings : rings_in (parts ++ part ∷ []) ≡ rings_in parts =
+    rings_more parts part ∙ ap (λ b. rings_in parts ++ cond b (part.points ∷ []) []) is ∙ append-nil (rings_in parts) in
+    record {
+      layer_is = have.layer_is;
+      feature_is = have.feature_is;
+      count_is = have.count_is ∙ ap (λ rs. start.count + length rs) (sym rings);
+      notes_are = have.notes_are
+          ∙ ap (λ rs. start.notes.items ++ numbered (ring_notes start.layer start.feature) start.count rs) (sym rings);
+    }
 
 -- all parts
 
 these_noted : (layer feature : ℕ) (start now : RingNotes) (parts : List Part) (rings : List (List Point)) → rings_in parts ≡ rings
-    → HasBegun layer feature start → (HasBegun start.layer start.feature start
-    → HaveNoted start.layer start.feature (rings_in parts) [] now)
+    → HasBegun layer feature start → HaveNoted start parts now
     → (now.layer ≡ layer) × (now.notes.items ≡ numbered (ring_notes layer feature) 0 rings)
-these_noted layer feature start now parts rings are begun have =
-    let own : HasBegun start.layer start.feature start = record {
-      layer_is = refl;
-      feature_is = refl;
-      count_is = begun.count_is;
-      notes_are = begun.notes_are;
-      path_is = begun.path_is;
-    } in
-    let all = have own in (
-      all.layer_is ∙ begun.layer_is,
-      all.notes_are ∙ ap₂ (λ l f. numbered (ring_notes l f) 0 (rings_in parts)) begun.layer_is begun.feature_is
-          ∙ ap (numbered (ring_notes layer feature) 0) are,
-    )
+these_noted layer feature start now parts rings are begun have = (
+  have.layer_is ∙ begun.layer_is,
+  have.notes_are ∙ ap (λ ns. ns ++ numbered (ring_notes start.layer start.feature) start.count (rings_in parts)) begun.notes_are
+      ∙ ap₂ (λ l f. numbered (ring_notes l f) start.count (rings_in parts)) begun.layer_is begun.feature_is
+      ∙ ap₂ (λ k rs. numbered (ring_notes layer feature) k rs) begun.count_is are,
+)
 
 pub all_noted_of : (layer feature : ℕ) (start now : RingNotes) (g : Geometry) → HasBegun layer feature start
-    → HasDrawn HaveNotedParts (λ first integers last. last ≡ first) start now g → HasNotedAll layer feature g now
+    → HasDrawn (λ first parts begun last. HaveNoted first parts last) (λ first integers last. last ≡ first) start now g
+    → HasNotedAll layer feature g now
 all_noted_of layer feature start now (Unknown integers) begun drawn = record {
   layer_is = ap (λ (r : RingNotes). r.layer) drawn ∙ begun.layer_is;
   notes_are = ap (λ (r : RingNotes). r.notes.items) drawn ∙ begun.notes_are;
@@ -140,17 +104,9 @@ all_noted_of layer feature start now (Polygons polygons) begun drawn =
     record { layer_is = noted.0; notes_are = noted.1 }
 
 -- whatever parts were told, the layer stays
-pub told_layer : (layer feature : ℕ) (start now : RingNotes) (parts : List Part) (points : List Point) → HasBegun layer feature start
-    → HaveNotedParts start parts points now → now.layer ≡ layer
-told_layer layer feature start now parts points begun have =
-    let own : HasBegun start.layer start.feature start = record {
-      layer_is = refl;
-      feature_is = refl;
-      count_is = begun.count_is;
-      notes_are = begun.notes_are;
-      path_is = begun.path_is;
-    } in
-    (have own).layer_is ∙ begun.layer_is
+pub told_layer : (layer feature : ℕ) (start now : RingNotes) (parts : List Part) → HasBegun layer feature start → HaveNoted start parts now
+    → now.layer ≡ layer
+told_layer layer feature start now parts begun have = have.layer_is ∙ begun.layer_is
 
 -- the notes of a layer, which was told the geometry of its next feature
 

@@ -1,5 +1,5 @@
 -- Items written one after the other.
-use Rattle.std.proofs.Common.{◌≡◌, ℕ, ◌+◌, ◌<◌, ◌≤◌, List, [], ◌∷◌, ◌++◌, length, map, take, drop, get_or, Vec, Global, Option, None, Some, Result, Ok, Err, OnOk, IfOk, refl, sym, ap, ap₂, subst, ◌∙◌, arith, append_assoc, append-nil, length-append, take-append-drop}
+use Rattle.std.proofs.Common.{◌≡◌, ℕ, ◌+◌, ◌*◌, ◌<◌, ◌≤◌, List, [], ◌∷◌, ◌++◌, length, map, take, drop, get_or, Vec, Global, Option, None, Some, Result, Ok, Err, OnOk, IfOk, refl, sym, ap, ap₂, subst, ◌∙◌, arith, append_assoc, append-nil, length-append, take-append-drop}
 use Rattle.std.proofs.lemmas.List.{take_all, map-append}
 use Rattle.std.proofs.lemmas.Grind.{flat_map-append}
 use Rattle.std.specs.Option.{ok_or}
@@ -7,11 +7,12 @@ use Rattle.mvt_base.specs.declared.TheConstants.{LIMIT}
 use Rattle.mvt_base.proofs.ListLemmas.{front_more}
 use Rattle.mvt_wire.specs.Field.{bytes}
 use Rattle.mvt_wire.specs.Spelling.{Plain, short_field, spelled}
+use Rattle.mvt_wire.specs.Varint.{short}
 use Rattle.mvt_message.specs.declared.item.Item.{Item}
 use Rattle.mvt_message.specs.CanonicalItems.{canonical_item}
 use Rattle.mvt_message.specs.declared.writing.PutError.{PutError}
 use Rattle.mvt_message.specs.declared.writing.PutError.TheVariants as put
-use Rattle.mvt_wire.proofs.WireLaws.{short_lengths_bytes}
+use Rattle.mvt_wire.proofs.WireLaws.{short_lengths_bytes, short_lengths_field, short_lengths_most}
 use Rattle.mvt_model.specs.declared.numbers.tile.TheConstants.{LAYERS}
 use Rattle.mvt_model.specs.declared.write_error.WriteError.TheVariants as write
 use Rattle.mvt_model.specs.declared.tile.Tile.{Tile}
@@ -85,15 +86,15 @@ payload_within items i item h is =
     let longer = short_lengths_bytes LAYERS (canonical_item item) in
     omega arith
 
+-- a field has at most 20 bytes besides its payload
+pub field_most : (number : ℕ) (d : List ℕ) → length (short_field number (bytes d)) ≤ length d + 20
+field_most number d =
+    let parts = length-append (short (length d)) d in
+    omega (arith, short_lengths_field number (bytes d), parts, short_lengths_most (8 * number + 2), short_lengths_most (length d))
+
 pub canonical_is : (tile : Tile) (items : List Item) → items ≡ tile.items → canonical tile ≡ written items
 unfolding canonical
 canonical_is tile items is = ap written (sym is)
-
-pub only_is : (tile : Tile) (items : List Item) (item : Item) → items ≡ tile.items → 0 < length items → length items ≤ 1
-    → item ≡ get_or items 0 item
-    → canonical tile ≡ field_of item
-only_is tile items item is some few at =
-    canonical_is tile items is ∙ sym (written_all items 1 few) ∙ written_more items 0 item some at
 
 pub encoded_reads : {V E : Type 0} → (tile : Tile) (of : V → List ℕ) (r : Result V E) → Valid tile → IfOk r (λ b. of b ≡ canonical tile)
     → IfOk r (λ b. length (of b) ≤ LIMIT)

@@ -17,7 +17,7 @@ use Rattle.mvt_model.specs.CanonicalTiles.{item_field}
 use Rattle.mvt_model.specs.Comparing.{IsAfter}
 use Rattle.mvt_model.specs.FirstIds.{AreFirst}
 use Rattle.mvt_model.specs.Notes.{numbered, item_notes, feature_notes, first_of}
-use Rattle.mvt_model.specs.Rings.{HasBegun, HaveNotedParts}
+use Rattle.mvt_model.specs.Rings.{HasBegun, HaveNoted}
 use Rattle.mvt_model.specs.Survey.{feature_count}
 
 -- the notes of a layer's features so far
@@ -40,7 +40,7 @@ pub record IsSameButRings (start now : LayerNotes) : Type 0 where
 
 -- and of these parts of its geometry
 abbrev pub HaveNotedLayerParts : LayerNotes → List Part → List Point → LayerNotes → Type 0
-HaveNotedLayerParts start parts begun now = IsSameButRings start now × HaveNotedParts start.rings parts begun now.rings
+HaveNotedLayerParts start parts begun now = IsSameButRings start now × HaveNoted start.rings parts now.rings
 
 -- the canonical payload of a layer of this name, the notes of whose features are these
 abbrev pub IsNotedLayer : ℕ → List ℕ → List ℕ → LayerNotes → Type 0

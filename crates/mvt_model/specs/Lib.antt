@@ -1,7 +1,6 @@
 pub mod Tiles
 pub mod CanonicalTiles
 pub mod ValidTiles
-pub mod Bounds
 pub mod Encoding
 pub mod Writing
 pub mod Comparing

@@ -1,5 +1,5 @@
 -- What is noted of a tile that is accepted.
-use Rattle.std.specs.Prelude.{ℕ, ◌+◌, ◌-◌, ◌&&◌, ◌==◌, Bool, false, pos, List, [], ◌∷◌, ◌++◌, length, take, slice_get, Option, Some, None, if◌then◌else◌}
+use Rattle.std.specs.Prelude.{ℕ, ◌+◌, ◌==◌, Bool, false, pos, List, [], ◌∷◌, ◌++◌, length, take, Option, Some, None, if◌then◌else◌}
 use Rattle.std.specs.List.{position_from}
 use Rattle.std.specs.Ordering.{int_eq}
 use Rattle.mvt_feature.specs.declared.feature.Feature.{Feature}
@@ -7,6 +7,7 @@ use Rattle.mvt_geometry.specs.declared.shape.Point.{Point}
 use Rattle.mvt_geometry.specs.declared.shape.Geometry.{Geometry}
 use Rattle.mvt_geometry.specs.declared.shape.Geometry.TheVariants.{Unknown, Points, Lines, Polygons}
 use Rattle.mvt_geometry.specs.Area.{area2}
+use Rattle.mvt_geometry.specs.Rings.{is_closed}
 use Rattle.mvt_geometry.specs.Shape.{rings_of}
 use Rattle.mvt_message.specs.declared.item.Item.{Item}
 use Rattle.mvt_message.specs.declared.item.Item.TheVariants as items
@@ -23,18 +24,9 @@ numbered noted n (x ∷ xs) = noted n x ++ numbered noted (n + 1) xs
 abbrev pub note_if : Bool → Note → List Note
 note_if test note = if test then note ∷ [] else []
 
--- two points that are there and are the same
-abbrev pub are_same : Option Point → Option Point → Bool
-are_same (Some p) (Some q) = int_eq p.x q.x && int_eq p.y q.y
-are_same _ _ = false
-
--- a ring without area, and one whose last point equals its first
+-- a ring without area
 abbrev pub is_flat : List Point → Bool
 is_flat ring = int_eq (area2 ring) (pos 0)
-
--- a ring whose last point is its first
-abbrev pub is_closed : List Point → Bool
-is_closed ring = are_same (slice_get ring 0) (slice_get ring (length ring - 1))
 
 -- the notes of a ring: no area, or closed by a point of its own
 abbrev pub ring_notes : ℕ → ℕ → ℕ → List Point → List Note

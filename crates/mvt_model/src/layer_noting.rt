@@ -11,7 +11,7 @@ use crate::ring_noting::RingNotes;
 use mvt_attrs::LayerKeys;
 use mvt_base::Text;
 use mvt_feature::{Scratch, judge_value};
-use mvt_geometry::{GeometryVisitor, Point};
+use mvt_geometry::{GeometryVisitor, Point, Ring};
 use mvt_message::{CanonicalVisitor, FeatureFields, LayerVisitor, MessageError, RewriteVisitor};
 use std::alloc::{AllocError, Global};
 
@@ -122,7 +122,7 @@ impl RewriteVisitor for LayerNotes {
 /// The rings of the next feature are noted as they are told.
 impl GeometryVisitor for LayerNotes {
     ghost use Rattle.std.specs.Prelude.{◌≡◌};
-    ghost use Rattle.std.proofs.Common.{refl};
+    ghost use Rattle.std.proofs.Common.{refl, sym, add-zero, append-nil};
     ghost use Rattle.mvt_model.specs.Findings.{HaveNotedLayerParts};
 
     ghost has_parts = { HaveNotedLayerParts };
@@ -136,7 +136,12 @@ impl GeometryVisitor for LayerNotes {
         ids_are = refl;
         notes_are = refl;
       },
-      λ begun. begun,
+      record {
+        layer_is = refl;
+        feature_is = refl;
+        count_is = sym (add-zero start.rings.count);
+        notes_are = sym (append-nil start.rings.notes.items);
+      },
     ) };
 
     #[inline(always)]
@@ -145,8 +150,8 @@ impl GeometryVisitor for LayerNotes {
     }
 
     #[inline(always)]
-    fn end_part(&mut self, points: usize, exterior: bool) -> Result<(), AllocError> {
-        self.rings.end_part(points, exterior)
+    fn end_part(&mut self, points: usize, ring: Option<Ring>) -> Result<(), AllocError> {
+        self.rings.end_part(points, ring)
     }
 
     fn visit_integers(&mut self, _: &[u32]) -> Result<(), AllocError> {

@@ -12,7 +12,6 @@ mod layer_noting;
 mod note;
 mod noting;
 pub mod numbers;
-mod path;
 mod ring_noting;
 mod survey;
 mod tile;

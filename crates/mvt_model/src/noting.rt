@@ -3,9 +3,10 @@ ghost use Rattle.std.specs.Prelude.{◌≡◌, ℕ, ◌+◌, pos, ◌++◌, leng
 ghost use Rattle.std.specs.Ordering.{int_eq};
 ghost use Rattle.mvt_model.specs.declared.note.Note.TheVariants.{ClosedTwice, FlatRing};
 ghost use Rattle.std.specs.Option.{option_or};
+ghost use Rattle.mvt_geometry.specs.Rings.{is_closed as the_is_closed};
 ghost use Rattle.mvt_geometry.specs.Shape.{rings_of};
 ghost use Rattle.mvt_model.specs.FirstIds.{AreFirst};
-ghost use Rattle.mvt_model.specs.Notes.{numbered, note_if as the_note_if, is_closed as the_is_closed, ring_notes, geometry_notes, is_id, id_note, feature_notes, layer_notes, item_notes, notes_of};
+ghost use Rattle.mvt_model.specs.Notes.{numbered, note_if as the_note_if, ring_notes, geometry_notes, is_id, id_note, feature_notes, layer_notes, item_notes, notes_of};
 
 use crate::first_ids::FirstIds;
 use crate::note::Note;

@@ -1,21 +1,22 @@
 //! The notes of the rings of a feature, as they are drawn.
-ghost use Rattle.std.specs.Prelude.{◌≡◌, ◌+◌, ◌^◌, ◌<◌, ◌∷◌, ◌++◌, ◌||◌, ℕ, List, [], length, nat_lt, None, IfOk, IfErr, OnOk};
+ghost use Rattle.std.specs.Prelude.{◌≡◌, ◌+◌, ◌^◌, ◌<◌, ℕ, List, length, None, IfOk, IfErr, OnOk};
 ghost use Rattle.mvt_base.specs.Reports.{Reports};
 ghost use Rattle.mvt_attrs.specs.declared.value.Value.{Value};
 ghost use Rattle.mvt_geometry.specs.declared.shape.Geometry.{Geometry as AGeometry};
 ghost use Rattle.mvt_geometry.specs.declared.shape.Point.{Point as APoint};
+ghost use Rattle.mvt_geometry.specs.Area.{area2};
 ghost use Rattle.mvt_geometry.specs.Drawing.{Draws};
+ghost use Rattle.mvt_geometry.specs.Rings.{is_closed};
 ghost use Rattle.mvt_feature.specs.Drawn.{IsDrawnOf, tags_of};
 ghost use Rattle.mvt_feature.specs.Faults.{fault_of};
 ghost use Rattle.mvt_feature.specs.FeatureRules.{feature_fault};
-ghost use Rattle.mvt_model.specs.Rings.{HasBegun, HasNotedAll, HaveNoted};
+ghost use Rattle.mvt_model.specs.Rings.{HasBegun, HasNotedAll, HasNotedRing};
 
 use crate::note::Note;
 use crate::noting::note_known_ring;
-use crate::path::Path;
 use mvt_attrs::LayerKeys;
 use mvt_feature::{FeatureFields, MessageError, Scratch, draw_feature, draw_usual_feature};
-use mvt_geometry::{GeometryVisitor, Kind, Point, draw_geometry};
+use mvt_geometry::{GeometryVisitor, Kind, Point, Ring, draw_geometry};
 use std::alloc::{AllocError, Global};
 
 /// Notes the rings of a feature.
@@ -25,8 +26,6 @@ pub(crate) struct RingNotes {
     feature: usize,
     /// How many rings the feature has so far.
     count: usize,
-    /// The points of the part that is drawn.
-    path: Path,
     pub(crate) notes: Vec<Note>,
 }
 
@@ -39,7 +38,6 @@ impl RingNotes {
             layer,
             feature: 0,
             count: 0,
-            path: Path::new(),
             notes: Vec::new(alloc),
         }
     }
@@ -50,7 +48,6 @@ impl RingNotes {
     {
         self.feature = feature;
         self.count = 0;
-        self.path = Path::new();
         self.notes.clear();
     }
 
@@ -105,54 +102,51 @@ impl RingNotes {
         }
     }
 
-    /// Whether a part is a ring: where it begins a polygon or follows a ring.
-    fn is_ring(&self, exterior: bool) -> bool
-        ensures { result ≡ (exterior || nat_lt 0 self.now.count) }
-    {
-        exterior || self.count > 0
-    }
-
-    /// Notes the ring that was drawn. More than can be counted don't fit any memory.
-    fn end_ring(&mut self) -> Result<(), AllocError>
-        ensures { (layer feature : ℕ) (rings : List (List APoint)) (ring : List APoint)
-            → HaveNoted layer feature rings ring self.old → length ring < 2 ^ 64
-            → OnOk result (HaveNoted layer feature (rings ++ ring ∷ []) [] self.new) }
+    /// Notes the next ring. More than can be counted don't fit any memory.
+    fn add(&mut self, ring: Ring) -> Result<(), AllocError>
+        ensures { (points : List APoint) → ring.twice_area ≡ area2 points
+            → ring.is_closed ≡ is_closed points
+            → OnOk result (HasNotedRing points self.old self.new) }
     {
         note_known_ring(
             &mut self.notes,
             self.layer,
             self.feature,
             self.count,
-            self.path.twice_area(),
-            self.path.is_closed(),
+            ring.twice_area,
+            ring.is_closed,
         )?;
         self.count = self.count.checked_add(1).ok_or(AllocError)?;
-        self.path = Path::new();
         Ok(())
     }
 }
 
 impl GeometryVisitor for RingNotes {
     ghost use Rattle.std.specs.Prelude.{◌≡◌};
-    ghost use Rattle.mvt_model.specs.Rings.{HaveNotedParts};
+    ghost use Rattle.mvt_model.specs.Rings.{HaveNoted};
+    ghost use Rattle.std.proofs.Common.{refl, sym, add-zero, append-nil};
 
-    ghost has_parts = { HaveNotedParts };
+    ghost has_parts = { λ start parts begun now. HaveNoted start parts now };
 
     ghost has_integers = { λ start integers now. now ≡ start };
 
-    ghost begins = { λ start begun. begun };
+    ghost begins = { λ start. record {
+      layer_is = refl;
+      feature_is = refl;
+      count_is = sym (add-zero start.count);
+      notes_are = sym (append-nil start.notes.items);
+    } };
 
-    fn visit_point(&mut self, point: Point) -> Result<(), AllocError> {
-        self.path.add(point);
+    #[inline(always)]
+    fn visit_point(&mut self, _: Point) -> Result<(), AllocError> {
         Ok(())
     }
 
-    fn end_part(&mut self, _: usize, exterior: bool) -> Result<(), AllocError> {
-        if self.is_ring(exterior) {
-            return self.end_ring();
+    fn end_part(&mut self, _: usize, ring: Option<Ring>) -> Result<(), AllocError> {
+        match ring {
+            Some(ring) => self.add(ring),
+            None => Ok(()),
         }
-        self.path = Path::new();
-        Ok(())
     }
 
     fn visit_integers(&mut self, _: &[u32]) -> Result<(), AllocError> {

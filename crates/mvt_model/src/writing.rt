@@ -1,5 +1,5 @@
 //! Writing a tile as its canonical bytes.
-ghost use Rattle.std.specs.Prelude.{◌≡◌, ◌↔◌, ◌+◌, ◌<◌, ◌≤◌, ◌++◌, Some, length, map, IfOk, IfErr, IfSome, IfNone, IsErrOf, IsTrue, OnOk};
+ghost use Rattle.std.specs.Prelude.{◌≡◌, ◌+◌, ◌<◌, ◌≤◌, ◌++◌, Some, length, map, IfOk, IfErr, IsErrOf, OnOk};
 ghost use Rattle.std.specs.List.{AllByRecursion};
 ghost use Rattle.mvt_io.specs.Transfers.{Wrote, WroteFront};
 ghost use Rattle.mvt_wire.specs.Field.{bytes};
@@ -7,7 +7,6 @@ ghost use Rattle.mvt_wire.specs.Spelling.{short_field, spelled};
 ghost use Rattle.mvt_message.specs.CanonicalItems.{canonical_item};
 ghost use Rattle.mvt_message.specs.ValidItems.{ValidItem};
 ghost use Rattle.mvt_model.specs.declared.numbers.tile.TheConstants.{LAYERS};
-ghost use Rattle.mvt_model.specs.Bounds.{items_bound};
 ghost use Rattle.mvt_model.specs.CanonicalTiles.{canonical, item_field};
 ghost use Rattle.mvt_model.specs.ValidTiles.{Valid};
 ghost use Rattle.mvt_model.specs.Writing.{kind_written};
@@ -17,15 +16,15 @@ use crate::tile::Tile;
 use crate::write_error::WriteError;
 use mvt_base::LIMIT;
 use mvt_io::{Sink, write_all};
-use mvt_message::{Item, PutError, item_len, put_item, room_after_item};
+use mvt_message::{Item, PutError, item_len, put_item};
 use mvt_wire::{field_len, put_field_head};
 use std::alloc::Global;
 use std::io::ErrorKind;
 
-/// Has a writer take the canonical bytes of a tile: one item after the other is made and written.
-/// Where there are several and a quick bound of their length is beyond the limit, the lengths of
-/// all items are added up first. The writer isn't flushed. Texts cost what they cost
-/// [`encode`](crate::encode).
+/// Has a writer take the canonical bytes of a tile. First the lengths of all items are added up;
+/// then one item after the other is made and written. So each item is made twice, and no more than
+/// one stands in memory. The writer isn't flushed. Texts cost what they cost
+/// [`encode`](crate::encode), twice.
 ///
 /// # Errors
 ///
@@ -42,34 +41,8 @@ pub fn write_tile<W: Sink>(alloc: Global, tile: &Tile, writer: &mut W) -> Result
         (canonical tile.now) (kind_written error)) }
 {
     let items = tile.items.as_slice();
-    if let [item] = items {
-        return write_item(alloc, item, writer);
-    }
-    if !are_surely_small(items) {
-        items_len(alloc, items)?;
-    }
+    items_len(alloc, items)?;
     write_items(alloc, items, writer)
-}
-
-/// Whether items have no more canonical bytes than the limit by a quick bound of their number.
-fn are_surely_small(items: &[Item]) -> bool
-    requires { AllByRecursion ValidItem items.now }
-    ensures bound { IsTrue result ↔ (items_bound items.now ≤ LIMIT) }
-    ensures small { IsTrue result → length (spelled (map item_field items.now)) ≤ LIMIT }
-{
-    room_after_items(items).is_some()
-}
-
-/// What is left of the limit after items, by that bound.
-fn room_after_items(items: &[Item]) -> Option<u64>
-    ensures some { IfSome result (λ left. left + items_bound items.now ≡ LIMIT) }
-    ensures none { IfNone result (LIMIT < items_bound items.now) }
-{
-    let mut left = LIMIT;
-    for item in items {
-        left = room_after_item(item, left.checked_sub(20)?)?;
-    }
-    Some(left)
 }
 
 /// How many canonical bytes items have.
@@ -119,27 +92,20 @@ fn write_items<W: Sink>(alloc: Global, items: &[Item], writer: &mut W) -> Result
     Ok(())
 }
 
-/// Makes the payload of an item, and writes its field where that is within the limit.
+/// Makes the payload of an item, and writes its field.
 #[tactic(auto, using(mvt_io::proofs::IoLaws::writes_add_up_none))]
 fn write_item<W: Sink>(alloc: Global, item: &Item, writer: &mut W) -> Result<(), WriteError>
-    requires { ValidItem item.now }
+    requires valid { ValidItem item.now }
+    requires small { length (canonical_item item.now) ≤ LIMIT }
     ensures wrote { OnOk result (Wrote (W.state writer.old) (W.state writer.new)
         (short_field LAYERS (bytes (canonical_item item.now)))) }
-    ensures small { OnOk result (length
-        (short_field LAYERS (bytes (canonical_item item.now))) ≤ LIMIT) }
-    ensures too_large { IsErrOf result WriteError.TooLarge
-        → (LIMIT < length (short_field LAYERS (bytes (canonical_item item.now))))
-        × (writer.new ≡ writer.old) }
+    ensures never { IsErrOf result WriteError.TooLarge → ⊥ }
     ensures stopped { IfErr result (λ error. WroteFront (W.state writer.old) (W.state writer.new)
         (short_field LAYERS (bytes (canonical_item item.now))) (kind_written error)) }
 {
     let payload = put_item(alloc, item)?;
-    let len = payload.len() as u64;
-    if field_len(tile::LAYERS, len) > LIMIT {
-        return Err(WriteError::TooLarge);
-    }
     let mut head = Vec::new(alloc);
-    put_field_head(&mut head, tile::LAYERS, len)?;
+    put_field_head(&mut head, tile::LAYERS, payload.len() as u64)?;
     match write_both(writer, head.as_slice(), payload.as_slice()) {
         Ok(()) => Ok(()),
         Err(kind) => Err(WriteError::Write(kind)),

@@ -266,11 +266,12 @@ fn reports_faults(rt: HostRuntime) {
     expect_faults(&rt);
 }
 
-// The points that were told, how many each part had and whether it was exterior, and integers.
+// The points that were told, how many each part had, of a ring whether it was exterior, twice its
+// area and whether its last point was its first, and integers.
 #[derive(Drop)]
 pub(crate) struct Told {
     pub(crate) points: Vec<(i32, i32)>,
-    pub(crate) ends: Vec<(usize, bool)>,
+    pub(crate) ends: Vec<(usize, Option<(bool, i128, bool)>)>,
     integers: Vec<u32>,
 }
 
@@ -298,8 +299,11 @@ impl GeometryVisitor for Told {
         Ok(())
     }
 
-    fn end_part(&mut self, points: usize, exterior: bool) -> Result<(), AllocError> {
-        self.ends.push((points, exterior))?;
+    fn end_part(&mut self, points: usize, ring: Option<Ring>) -> Result<(), AllocError> {
+        self.ends.push((
+            points,
+            ring.map(|r| (r.exterior, r.twice_area, r.is_closed)),
+        ))?;
         Ok(())
     }
 
@@ -313,7 +317,7 @@ fn expect_told(
     kind: Kind,
     integers: &[u32],
     points: &[(i32, i32)],
-    ends: &[(usize, bool)],
+    ends: &[(usize, Option<(bool, i128, bool)>)],
 ) {
     let mut told = Told::new(rt.alloc());
     draw_geometry(&mut told, kind, integers).expect(rt, "a geometry");
@@ -328,11 +332,11 @@ fn expect_told(
 #[test]
 fn tells_parts(rt: HostRuntime) {
     let points = [(5, 7), (3, 2)];
-    let ends = [(2, false)];
+    let ends = [(2, None)];
     expect_told(&rt, Kind::Point, &[17, 10, 14, 3, 9], &points, &ends);
     let lines = [9, 4, 4, 18, 0, 16, 16, 0, 9, 17, 17, 10, 4, 8];
     let points = [(2, 2), (2, 10), (10, 10), (1, 1), (3, 5)];
-    let ends = [(3, false), (2, false)];
+    let ends = [(3, None), (2, None)];
     expect_told(&rt, Kind::LineString, &lines, &points, &ends);
     let polygons = [
         9, 0, 0, 26, 20, 0, 0, 20, 19, 0, 15, 9, 22, 2, 26, 18, 0, 0, 18, 17, 0, 15, 9, 4, 13, 26,
@@ -351,8 +355,16 @@ fn tells_parts(rt: HostRuntime) {
     ];
     let mut points = Vec::from_slice(rt.alloc(), &first).expect(&rt, "points");
     points.extend_from_slice(&others).expect(&rt, "points");
-    let ends = [(4, true), (4, true), (4, false)];
+    let ends = [
+        (4, Some((true, 200, false))),
+        (4, Some((true, 162, false))),
+        (4, Some((false, -32, false))),
+    ];
     expect_told(&rt, Kind::Polygon, &polygons, &points, &ends);
+    let points = [(0, 0), (4, 0), (0, 4), (0, 0)];
+    let closed = [9, 0, 0, 26, 8, 0, 7, 8, 0, 7, 15];
+    let ends = [(4, Some((true, 16, true)))];
+    expect_told(&rt, Kind::Polygon, &closed, &points, &ends);
     expect_told(&rt, Kind::Unknown, &[7, 7], &[], &[]);
 }
 
@@ -486,27 +498,4 @@ fn refused_puts_and_copies(rt: HostRuntime) {
         }
     }
     expect!(rt; refused < 2);
-}
-
-fn expect_bound(rt: &impl Abort, geometry: Geometry, bound: u8) {
-    let bound = u64::from(bound);
-    expect_eq!(rt; room_after_geometry(&geometry, bound + 1), Some(1));
-    expect_eq!(rt; room_after_geometry(&geometry, bound.saturating_sub(1)), None);
-    drop(geometry);
-}
-
-// Five bytes an integer: a MoveTo, a LineTo and a ClosePath for each line, and two integers a
-// point.
-#[test]
-fn bounds(rt: HostRuntime) {
-    expect_bound(&rt, unknown(&rt, &[9, 0, 0]), 15);
-    expect_bound(&rt, drawn_points(&rt, &[(1, 1), (2, 2)]), 25);
-    let two = lines(&rt, &[&[(1, 1), (2, 2)], &[(3, 3), (4, 4), (5, 5)]]);
-    expect_bound(&rt, Geometry::Lines(two), 80);
-    let holed = polygon(
-        &rt,
-        &[(0, 0), (9, 0), (9, 9)],
-        &[&[(1, 1), (1, 2), (2, 2), (2, 1)]],
-    );
-    expect_bound(&rt, one_polygon(&rt, holed), 100);
 }

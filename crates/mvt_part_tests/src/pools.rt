@@ -144,12 +144,11 @@ fn letters(alloc: Global) -> Result<Vec<Attribute>, AllocError> {
 fn expect_tags(
     rt: &(impl Abort + AllocGlobal),
     attributes: &[Attribute],
-    keys: &mut KeyPool,
-    values: &mut ValuePool,
+    uses: &mut LayerUses,
     last: &[u32],
 ) {
     let mut tags = Vec::new(rt.alloc());
-    let done = append_tags(attributes, keys, values, last, &mut tags);
+    let done = uses.append_attributes(attributes, last, &mut tags);
     expect!(rt; done.is_ok());
     expect_eq!(rt; tags.as_slice(), [0, 0, 1, 1].as_slice());
     drop(tags);
@@ -159,15 +158,15 @@ fn expect_tags(
 #[test]
 fn guesses_are_compared(rt: HostRuntime) {
     let attributes = letters(rt.alloc()).expect(&rt, "attributes");
-    let mut keys = KeyPool::new(rt.alloc());
-    let mut values = ValuePool::new(rt.alloc());
+    let mut uses = LayerUses::new(rt.alloc());
     let guesses: [&[u32]; 5] = [&[], &[0, 0, 1, 1], &[1, 1, 0, 0], &[7], &[0, 1, 2, 3, 4]];
     for last in guesses {
-        expect_tags(&rt, &attributes, &mut keys, &mut values, last);
+        expect_tags(&rt, &attributes, &mut uses, last);
     }
-    expect_eq!(rt; keys.len() + values.len(), 4);
-    drop(values);
-    drop(keys);
+    expect_eq!(rt; uses.keys.used().len() + uses.values.used().len(), 4);
+    let first = attributes.first().expect(&rt, "an attribute");
+    expect!(rt; uses.keys.add(&first.key).is_err());
+    drop(uses);
     drop(attributes);
 }
 

@@ -4,7 +4,6 @@ use Rattle.std.specs.List.{AllByRecursion}
 use Rattle.std.specs.Option.{is_some, option_map, option_and_then}
 use Rattle.std.specs.Prelude.{◌↔◌, ◌==◌, if◌then◌else◌}
 use Rattle.std.proofs.lemmas.Grind.{flat_map-append}
-use Rattle.std.proofs.lemmas.Option.{none-some, same_Some}
 use Rattle.mvt_base.proofs.ListLemmas.{all_joined, all_left, all_right}
 use Rattle.mvt_geometry.specs.declared.drawing.RingRole.{RingRole}
 use Rattle.mvt_geometry.specs.declared.drawing.RingRole.TheVariants.{First, Exterior, Interior}
@@ -22,10 +21,9 @@ use Rattle.mvt_geometry.proofs.GeometryLaws.{end_follows, stroke_follows, stroke
 use Rattle.mvt_rows.specs.declared.rows.FeatureRow.{FeatureRow}
 use Rattle.mvt_rows.specs.declared.rows.PartRow.{PartRow}
 use Rattle.mvt_rows.specs.declared.rows.PointRow.{PointRow}
-use Rattle.mvt_rows.specs.Drawing.{AreDrawn, DrawnLines, DrawnPolygons, HasBegun, IsDrawable, IsFollowedBy, ring_role, role_of}
+use Rattle.mvt_rows.specs.Drawing.{AreDrawn, DrawnLines, DrawnPolygons, HasBegun, IsFollowedBy, IsUndrawable, ring_role, role_of}
 use Rattle.mvt_rows.specs.Tables.{Table}
 use Rattle.mvt_rows.specs.TileRows.{drawn_of, each, geometry_of, line_of, part_of, point_of, points_of, truth_of, with_inner, with_ring, with_ring_row}
-use Rattle.mvt_rows.specs.Written.{IsNone}
 
 -- ---- one geometry
 
@@ -33,11 +31,8 @@ pub drawn_as : (of_rows : Option Geometry) (g : Geometry) (integers : List ℕ) 
     → AreDrawn of_rows (kind_of g) integers
 drawn_as of_rows g integers is valid spelled = (g, is, record { same_kind = refl; valid = valid; spelled = spelled })
 
-pub not_there : (of_rows : Option Geometry) → of_rows ≡ None → IsNone (IsDrawable of_rows)
-not_there of_rows none g h = none-some g (sym none ∙ h.0)
-
-pub not_valid : (of_rows : Option Geometry) (g : Geometry) → of_rows ≡ Some g → (IsValid g → ⊥) → IsNone (IsDrawable of_rows)
-not_valid of_rows g is not f h = not (subst IsValid (same_Some f g (sym h.0 ∙ is)) h.1)
+pub not_valid : (of_rows : Option Geometry) (g : Geometry) → of_rows ≡ Some g → (IsValid g → ⊥) → IsUndrawable of_rows
+not_valid of_rows g is not = subst IsUndrawable (sym is) not
 
 pub line_is : (points : List PointRow) (row : PartRow) (rows : List PointRow) → part_of points row.points ≡ Some rows
     → line_of points row ≡ Some (map point_of rows)
@@ -94,13 +89,13 @@ lines_drawn made lines (Some cursor) integers is some there h =
     drawn_as (option_map Lines made) (Lines lines) integers (ap (option_map Lines) is) (some, h.0.are, h.0.steps) h.2
 
 pub lines_not_drawn : (made : Option (List (List Point))) (lines : List (List Point)) (cursor : Option Point) (integers : List ℕ) → made ≡ Some lines
-    → is_some cursor ≡ false → DrawnLines lines cursor integers → IsNone (IsDrawable (option_map Lines made))
+    → is_some cursor ≡ false → DrawnLines lines cursor integers → IsUndrawable (option_map Lines made)
 lines_not_drawn made lines (Some cursor) integers is none h = cc
 lines_not_drawn made lines None integers is none h =
     not_valid (option_map Lines made) (Lines lines) (ap (option_map Lines) is) (λ v. h (record { are = v.1; steps = v.2 }))
 
 pub no_lines : (made : Option (List (List Point))) (lines : List (List Point)) → made ≡ Some lines → length lines ≡ 0
-    → IsNone (IsDrawable (option_map Lines made))
+    → IsUndrawable (option_map Lines made)
 no_lines made lines is none = not_valid (option_map Lines made) (Lines lines) (ap (option_map Lines) is) (λ v. omega (arith, v.0))
 
 -- ---- polygons
@@ -275,13 +270,13 @@ polygons_drawn made ps (Some cursor) integers is some there h =
     (grouped_of ps some h.1, h.0.are, h.0.steps) h.3
 
 pub polygons_not_drawn : (made : Option (List Polygon)) (ps : List Polygon) (cursor : Option Point) (integers : List ℕ) → made ≡ Some ps
-    → is_some cursor ≡ false → DrawnPolygons ps cursor integers → IsNone (IsDrawable (option_map Polygons made))
+    → is_some cursor ≡ false → DrawnPolygons ps cursor integers → IsUndrawable (option_map Polygons made)
 polygons_not_drawn made ps (Some cursor) integers is none h = cc
 polygons_not_drawn made ps None integers is none h =
     not_valid (option_map Polygons made) (Polygons ps) (ap (option_map Polygons) is)
     (λ v. h (record { are = v.1; steps = v.2 }) (areas_of ps v.0))
 
-pub no_polygons : (made : Option (List Polygon)) (ps : List Polygon) → made ≡ Some ps → ps ≡ [] → IsNone (IsDrawable (option_map Polygons made))
+pub no_polygons : (made : Option (List Polygon)) (ps : List Polygon) → made ≡ Some ps → ps ≡ [] → IsUndrawable (option_map Polygons made)
 no_polygons made ps is none =
     not_valid (option_map Polygons made) (Polygons ps) (ap (option_map Polygons) is) (λ v. subst (λ qs. Grouped (rings_of qs) qs) none v.0)
 

@@ -4,7 +4,6 @@ mod DrawingLemmas
 mod TileLemmas
 mod WritingLemmas
 mod FaultLemmas
-mod JudgingLemmas
 mod RowLemmas
 mod GrowthLemmas
 mod TableLemmas

@@ -18,7 +18,8 @@ use Rattle.mvt_geometry.specs.declared.shape.Geometry.{Geometry}
 use Rattle.mvt_geometry.specs.declared.shape.Geometry.TheVariants.{Unknown, Points, Lines, Polygons}
 use Rattle.mvt_geometry.specs.declared.shape.Kind.{Kind}
 use Rattle.mvt_geometry.specs.Shape.{kind_of}
-use Rattle.mvt_geometry.specs.Visiting.{Part, plain, ring_parts, HasDrawn}
+use Rattle.mvt_geometry.specs.declared.visiting.Ring.{Ring}
+use Rattle.mvt_geometry.specs.Visiting.{Part, plain, ring_part, ring_parts, EndsAs, HasDrawn}
 use Rattle.mvt_feature.specs.Canonical.{type_number}
 use Rattle.mvt_feature.specs.Valid.{ValidValue}
 use Rattle.mvt_rows.specs.declared.rows.Span.{Span}
@@ -160,12 +161,12 @@ ring_steps points ps (row ∷ rows) (part ∷ parts) h =
     (λ next. ring_steps points next rows parts h.1) (with_ring_part ps part)
 
 inner_steps : (front : List Polygon) (outer : List Point) (rest rings : List (List Point))
-    → steps with_ring_part (front ++ record { outer = outer; rest = rest } ∷ []) (map plain rings) ≡ Some
+    → steps with_ring_part (front ++ record { outer = outer; rest = rest } ∷ []) (map (ring_part false) rings) ≡ Some
     (front ++ record { outer = outer; rest = rest ++ rings } ∷ [])
 inner_steps front outer rest [] = ap (λ l. Some (front ++ record { outer = outer; rest = l } ∷ [])) (sym (append-nil rest))
 inner_steps front outer rest (ring ∷ rings) =
     let p : Polygon = record { outer = outer; rest = rest } in
-    ap (option_and_then (λ next. steps with_ring_part next (map plain rings))) (inner_last front p ring)
+    ap (option_and_then (λ next. steps with_ring_part next (map (ring_part false) rings))) (inner_last front p ring)
     ∙ inner_steps front outer (rest ++ ring ∷ []) rings
     ∙ ap (λ l. Some (front ++ record { outer = outer; rest = l } ∷ [])) (append_assoc rest (ring ∷ []) rings)
 
@@ -270,19 +271,23 @@ point_told start parts begun point t is =
     (append_assoc base.points (map point_row begun) (point_row point ∷ [])
     ∙ ap (λ more. base.points ++ more) (sym (map-append point_row begun (point ∷ []))))
 
-pub part_told : (start : Table) (parts : List Part) (begun : List Point) (exterior : Bool) (n : ℕ) (t : Table)
-    → t ≡ with_parts start parts begun → n ≡ length begun
+-- the end of a part tells how many points it has
+pub ends_count : (part : Part) (n : ℕ) (ring : Option Ring) → EndsAs part n ring → n ≡ length part.points
+ends_count part n None ends = ends.0
+ends_count part n (Some known) ends = ends.0
+
+pub part_told : (start : Table) (parts : List Part) (part : Part) (n : ℕ) (t : Table)
+    → t ≡ with_parts start parts part.points → n ≡ length part.points
     → record t {
       parts = t.parts
-          ++ record { exterior = truth_number exterior; points = record { start = length t.points - n; len = n } } ∷ [];
-    } ≡ with_parts start (parts ++ record { exterior = exterior; points = begun } ∷ []) []
-part_told start parts begun exterior n t is count =
+          ++ record { exterior = truth_number part.exterior; points = record { start = length t.points - n; len = n } } ∷ [];
+    } ≡ with_parts start (parts ++ part ∷ []) []
+part_told start parts part n t is count =
     let base = fold with_part start parts in
-    let part : Part = record { exterior = exterior; points = begun } in
-    let points = base.points ++ map point_row begun in
-    let row : ℕ → ℕ → PartRow = λ s m. record { exterior = truth_number exterior; points = record { start = s; len = m } } in
+    let points = base.points ++ map point_row part.points in
+    let row : ℕ → ℕ → PartRow = λ s m. record { exterior = truth_number part.exterior; points = record { start = s; len = m } } in
     let begins : length points - n ≡ length base.points =
-    omega (arith, length-append base.points (map point_row begun), length-map begun point_row, count) in
+    omega (arith, length-append base.points (map point_row part.points), length-map part.points point_row, count) in
     ap (λ (u : Table). let v : Table = record u { parts = u.parts ++ row (length u.points - n) n ∷ [] } in v) is
     ∙ ap₂ (λ s m. let u : Table = record base { points = points; parts = base.parts ++ row s m ∷ [] } in u) begins count
     ∙ sym (no_points (with_part base part))

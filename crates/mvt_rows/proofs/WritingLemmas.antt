@@ -1,14 +1,12 @@
 -- What is written of rows, row by row.
-use Rattle.std.proofs.Common.{◌≡◌, ℕ, ◌+◌, ◌<◌, ◌≤◌, ◌^◌, Bool, true, false, ◌||◌, List, [], ◌∷◌, ◌++◌, append-nil, not, if◌then◌else◌, ◌≢◌, length, take, drop, get_or, bytes_eq, IsTrue, IsUtf8, Option, Some, None, Vec, Global, Result, Ok, Err, IfOk, IfErr, refl, sym, ap, ap₂, ◌∙◌, subst}
+use Rattle.std.proofs.Common.{◌≡◌, ℕ, ◌+◌, ◌<◌, ◌≤◌, ◌^◌, Bool, true, false, ◌||◌, List, [], ◌∷◌, ◌++◌, append-nil, not, if◌then◌else◌, ◌≢◌, length, take, drop, get_or, bytes_eq, IsUtf8, Option, Some, None, Vec, Global, Result, IfOk, IfErr, refl, sym, ap, ap₂, ◌∙◌, subst}
 use Rattle.std.specs.List.{AllByRecursion, list_any, flat_map}
 use Rattle.std.specs.Option.{option_and_then, ok_or}
-use Rattle.std.specs.Prelude.{◌↔◌}
-use Rattle.std.specs.Result.{IsErrAnd}
 use Rattle.std.specs.Str.{is_utf8}
 use Rattle.std.proofs.lemmas.Bool.{false≢true, not-false, not-true}
 use Rattle.std.proofs.lemmas.Grind.{flat_map-append}
 use Rattle.std.proofs.lemmas.List.Folds.{list_any-append}
-use Rattle.std.proofs.lemmas.Option.{none-some, same_Some}
+use Rattle.std.proofs.lemmas.Option.{same_Some}
 use Rattle.std.proofs.lemmas.Str.{IsUtf8-from_is_utf8}
 use Rattle.std.proofs.lemmas.List.{take_all}
 use Rattle.mvt_base.specs.declared.TheConstants.{LIMIT}
@@ -17,6 +15,7 @@ use Rattle.mvt_base.proofs.ListLemmas.{around, related_once}
 use Rattle.mvt_attrs.specs.declared.value.Value.{Value}
 use Rattle.mvt_attrs.specs.Tags.{Names}
 use Rattle.mvt_attrs.proofs.AttrsLaws.{attributes_or_fault_there}
+use Rattle.mvt_geometry.specs.declared.shape.Kind.{Kind}
 use Rattle.mvt_geometry.specs.Drawing.{Draws}
 use Rattle.mvt_feature.specs.declared.feature.Feature.{Feature}
 use Rattle.mvt_feature.specs.Valid.{ValidFeature}
@@ -40,18 +39,20 @@ use Rattle.mvt_rows.specs.declared.rows.LayerRow.{LayerRow}
 use Rattle.mvt_rows.specs.declared.rows.Span.{Span}
 use Rattle.mvt_rows.specs.declared.writing.RowsWriter.{RowsWriter}
 use Rattle.mvt_rows.specs.declared.rows_error.RowsError.{RowsError}
-use Rattle.mvt_rows.specs.declared.rows_error.RowsError.TheVariants.{Memory, TooLarge, NoTile}
+use Rattle.mvt_rows.specs.declared.rows_error.RowsError.TheVariants.{TooLarge}
 use Rattle.mvt_rows.specs.declared.writing.features.FeatureParts.{FeatureParts}
 use Rattle.mvt_rows.specs.declared.writing.layers.LayerParts.{LayerParts}
+use Rattle.mvt_rows.specs.Drawing.{AreDrawnIf}
 use Rattle.mvt_rows.specs.Tables.{Table}
-use Rattle.mvt_rows.specs.TileRows.{part_of, text_of, utf8_of, IsFeature, IsItem, IsTileOf}
-use Rattle.mvt_rows.specs.Written.{FailsAs, IsNone, IsNoTile, IsWritten, NotWritten}
-use Rattle.mvt_rows.specs.Writing.{AreNames, AreFeatureParts, AreInRange, AreLayerParts, IsValidFeatureOf, IsValidLayerOf, IsValidItemOf, IsRefused, HasAdded, HasAddedRow}
-use Rattle.mvt_rows.proofs.TileLemmas.{some_same, item_once, none_related, related_more}
+use Rattle.mvt_rows.specs.TileRows.{geometry_of, part_of, text_of, utf8_of, IsFeature, IsItem, IsTileOf}
+use Rattle.mvt_rows.specs.Written.{IsNoTile, IsWritten, NotWritten}
+use Rattle.mvt_rows.specs.RowsFaults.{IsValidFeatureOf, IsValidItemOf, IsValidLayerOf}
+use Rattle.mvt_rows.specs.Writing.{AreNames, AreFeatureParts, AreInRange, AreLayerParts, IsRefused, HasAdded, HasAddedRow}
+use Rattle.mvt_rows.proofs.TileLemmas.{some_same, item_once, related_more}
 
 -- ---- lists
 
-related_with : {X Y : Type 0} → (R : X → Y → Type 0) (P : Y → Type 0) (xs : List X) (ys : List Y) → AreRelated R xs ys → AllByRecursion P ys
+pub related_with : {X Y : Type 0} → (R : X → Y → Type 0) (P : Y → Type 0) (xs : List X) (ys : List Y) → AreRelated R xs ys → AllByRecursion P ys
     → AreRelated (λ x y. R x y × P y) xs ys
 related_with R P [] [] h k = tt
 related_with R P [] (y ∷ ys) h k = h
@@ -78,11 +79,11 @@ related_at R (z ∷ front) x back (y ∷ ys) h =
 -- ---- features
 
 pub feature_of_parts : (t : Table) (keys : List (List ℕ)) (values : List Value) (row : FeatureRow) (integers : List ℕ) (parts : FeatureParts)
-    → AreInRange keys values → AreFeatureParts t keys values row integers parts
-    → (f : Feature) × (f.id ≡ parts.id) × Draws parts.kind integers f.geometry × Names keys values parts.tags.now f.attributes
+    (kind : Kind) → AreInRange keys values → AreFeatureParts t keys values row integers parts → parts.kind ≡ Some kind
+    → (f : Feature) × (f.id ≡ parts.id) × Draws kind integers f.geometry × Names keys values parts.tags.now f.attributes
     × IsValidFeatureOf t keys values row f
-feature_of_parts t keys values row integers parts range are =
-    let (geometry, geometry_is, draws) = are.geometry in
+feature_of_parts t keys values row integers parts kind range are is =
+    let (geometry, geometry_is, draws) = subst (λ k. AreDrawnIf (geometry_of t row) k integers) is are.geometry in
     let attributes = attributes_or_fault_there keys values parts.tags.now are.tags in
     let f : Feature = record { id = parts.id; attributes = attributes.0; geometry = geometry } in (
       f,
@@ -99,13 +100,6 @@ feature_of_parts t keys values row integers parts range are =
         },
       ),
     )
-
-pub no_features_left : (t : Table) (keys others : List (List ℕ)) (values : List Value) (rows : List FeatureRow) (i : ℕ) (d : FeatureRow)
-    → others ≡ keys → i < length rows → IsNone (IsValidFeatureOf t others values (get_or rows i d))
-    → IsNone (AreRelated (IsValidFeatureOf t keys values) rows)
-no_features_left t keys others values rows i d same within none =
-    none_related (IsValidFeatureOf t keys values) rows i d within
-    (subst (λ k. IsNone (IsValidFeatureOf t k values (get_or rows i d))) same none)
 
 pub features_written : (t : Table) (keys others : List (List ℕ)) (values : List Value) (rows : List FeatureRow) (i : ℕ) (d : FeatureRow)
     (features : List Feature) (w : LayerWriter)
@@ -140,21 +134,6 @@ layer_of_parts t row parts name features named utf8 extent are related =
       (utf8, extent, both.1),
     )
 
-no_layer : (t : Table) (row : LayerRow) (parts : LayerParts) → AreLayerParts t row parts
-    → IsNone (AreRelated (IsValidFeatureOf t parts.keys.items parts.values.items) parts.rows.now) → IsNone (IsValidLayerOf t row)
-unfolding ValidLayer
-no_layer t row parts are none layer h =
-    let is = h.0 in
-    let keys : is.keys ≡ parts.keys.items = some_same _ _ _ is.has_keys are.keys in
-    let values : is.values ≡ parts.values.items = some_same _ _ _ is.has_values are.values in
-    let rows : is.rows ≡ parts.rows.now = some_same _ _ _ is.has_rows are.rows in
-    let related : AreRelated (IsFeature t parts.keys.items parts.values.items) parts.rows.now layer.features =
-    subst (λ r. AreRelated (IsFeature t parts.keys.items parts.values.items) r layer.features) rows
-    (subst (λ v. AreRelated (IsFeature t parts.keys.items v) is.rows layer.features) values
-    (subst (λ k. AreRelated (IsFeature t k is.values) is.rows layer.features) keys is.features)) in
-    none layer.features
-    (related_with (IsFeature t parts.keys.items parts.values.items) ValidFeature parts.rows.now layer.features related h.1.2)
-
 -- the same of the lists that are handed on
 pub parts_range : (t : Table) (row : LayerRow) (parts : LayerParts) (keys : List (List ℕ)) (values : List Value) → AreLayerParts t row parts
     → keys ≡ parts.keys.items → values ≡ parts.values.items → AreInRange keys values
@@ -169,14 +148,6 @@ layer_made t row parts name features keys values named utf8 extent are keys_are 
     layer_of_parts t row parts name features named utf8 extent are
     (subst (λ k. AreRelated (IsValidFeatureOf t k parts.values.items) parts.rows.now features) keys_are
     (subst (λ v. AreRelated (IsValidFeatureOf t keys v) parts.rows.now features) values_are related))
-
-pub no_layer_made : (t : Table) (row : LayerRow) (parts : LayerParts) (keys : List (List ℕ)) (values : List Value) → AreLayerParts t row parts
-    → keys ≡ parts.keys.items → values ≡ parts.values.items → IsNone (AreRelated (IsValidFeatureOf t keys values) parts.rows.now)
-    → IsNone (IsValidLayerOf t row)
-no_layer_made t row parts keys values are keys_are values_are none =
-    no_layer t row parts are
-    (subst (λ k. IsNone (AreRelated (IsValidFeatureOf t k parts.values.items) parts.rows.now)) keys_are
-    (subst (λ v. IsNone (AreRelated (IsValidFeatureOf t keys v) parts.rows.now)) values_are none))
 
 -- a name is UTF-8
 utf8_if : (bytes : List ℕ) (b : Bool) → is_utf8 bytes ≡ b → (text : List ℕ) → (if b then Some bytes else None) ≡ Some text → IsUtf8 text
@@ -227,6 +198,13 @@ name_repeated names items name text new are same added there =
     ap (λ n. repeats (flat_map names_in items) (n ∷ [])) (sym same) ∙ sym (repeats_by names (flat_map names_in items) (text ∷ []) are)
     ∙ not-false (repeats names (text ∷ [])) (sym added ∙ there)
 
+-- the name of a layer is none of those before it
+pub name_fresh : (names : List (List ℕ)) (items : List Item) (name text : List ℕ) (new : Bool) → AreNames names items → text ≡ name
+    → new ≡ not (repeats names (text ∷ [])) → new ≡ true → repeats (flat_map names_in items) (name ∷ []) ≡ false
+name_fresh names items name text new are same added is_new =
+    ap (λ n. repeats (flat_map names_in items) (n ∷ [])) (sym same) ∙ sym (repeats_by names (flat_map names_in items) (text ∷ []) are)
+    ∙ not-true (repeats names (text ∷ [])) (sym added ∙ is_new)
+
 -- the name of a layer is new
 pub layer_named : (names after : List (List ℕ)) (items : List Item) (layer : ALayer) (text : List ℕ) (new : Bool) → AreNames names items
     → HasDistinctNames items → text ≡ layer.name → new ≡ not (repeats names (text ∷ [])) → new ≡ true
@@ -239,22 +217,6 @@ layer_named names after items layer text new named distinct same added is_new mo
 
 -- ---- items
 
-pub layer_refused : (t : Table) (row : LayerRow) (items : List Item) → row.version ≡ 2 → IsNone (IsValidLayerOf t row) → IsRefused t row items
-unfolding ValidItem
-layer_refused t row items is none (Layer layer) h = absurd (none layer (h.0.1, h.1))
-layer_refused t row items is none (Foreign version content) h = absurd (h.0.0 is)
-
-pub not_called : (t : Table) (row : LayerRow) (items : List Item) → row.version ≡ 2 → text_of t.texts row.name ≡ None → IsRefused t row items
-not_called t row items is none (Layer layer) h = absurd (none-some layer.name (sym none ∙ h.0.1.name))
-not_called t row items is none (Foreign version content) h = absurd (h.0.0 is)
-
-pub name_refused : (t : Table) (row : LayerRow) (items : List Item) (names : List (List ℕ)) (name text : List ℕ) (new : Bool)
-    → row.version ≡ 2 → text_of t.texts row.name ≡ Some name → text ≡ name → AreNames names items
-    → new ≡ not (repeats names (text ∷ [])) → new ≡ false → IsRefused t row items
-name_refused t row items names name text new is named same are added there (Layer layer) h =
-    name_repeated names items layer.name text new are (same ∙ some_same _ _ _ named h.0.1.name) added there
-name_refused t row items names name text new is named same are added there (Foreign version content) h = absurd (h.0.0 is)
-
 pub layer_added : (t : Table) (row : LayerRow) (layer : ALayer) (items : List Item) (old w : RowsWriter) (name text : List ℕ) (new : Bool)
     → row.version ≡ 2 → text_of t.texts row.name ≡ Some name → text ≡ name → HasAdded old items → IsValidLayerOf t row layer
     → new ≡ not (repeats old.names.keys (text ∷ [])) → new ≡ true
@@ -266,19 +228,6 @@ layer_added t row layer items old w name text new is named same has valid added 
     layer_named old.names.keys w.names.keys items layer text new has.named has.distinct (same ∙ some_same _ _ _ named valid.0.name)
     added is_new more in
     (Layer layer, ((is, valid.0), valid.1), record { named = names.0; distinct = names.1; encoded = encoded })
-
-pub foreign_refused : (t : Table) (row : LayerRow) (items : List Item) (content : List ℕ) (b : Bool)
-    → row.version ≢ 2 → part_of t.texts row.bytes ≡ Some content → (IsTrue b ↔ AreOfVersion row.version content) → b ≡ false
-    → IsRefused t row items
-unfolding ValidItem
-foreign_refused t row items content b not2 named are is (Layer layer) h = absurd (not2 h.0.0)
-foreign_refused t row items content b not2 named are is (Foreign version others) h =
-    let same : others ≡ content = some_same _ _ _ h.0.2 named in
-    absurd (false≢true (sym is ∙ are.1 (subst (AreOfVersion row.version) same (subst (λ v. AreOfVersion v others) h.0.1 h.1))))
-
-pub not_named : (t : Table) (row : LayerRow) (items : List Item) → row.version ≢ 2 → part_of t.texts row.bytes ≡ None → IsRefused t row items
-not_named t row items not2 none (Layer layer) h = absurd (not2 h.0.0)
-not_named t row items not2 none (Foreign version content) h = absurd (none-some content (sym none ∙ h.0.2))
 
 pub foreign_added : (t : Table) (row : LayerRow) (content : List ℕ) (items : List Item) (old w : RowsWriter)
     → row.version ≢ 2 → part_of t.texts row.bytes ≡ Some content → AreOfVersion row.version content → HasAdded old items
@@ -314,17 +263,6 @@ no_tile t i d items are within refused tile is valid =
     let apart = names_apart_before before item after (subst HasDistinctNames parts valid.names) in
     false≢true
     (sym apart ∙ ap (λ fs. repeats (flat_map names_in fs) (names_in item)) same ∙ refused item here)
-
--- why nothing was written
-not_written_as : (t : Table) (P : Type 0) (e : RowsError) → FailsAs P e → (P → IsNoTile t) → NotWritten t e
-not_written_as t P Memory h none = tt
-not_written_as t P TooLarge h none = absurd h
-not_written_as t P NoTile h none = none h
-
-pub not_written : {A : Type 0} → (t : Table) (r : Result A RowsError) (e : RowsError) (P : Type 0) → IsErrAnd r (λ f. f ≡ e) → FailsAs P e
-    → (P → IsNoTile t) → IfErr r (NotWritten t)
-not_written t (Ok x) e P h k none = tt
-not_written t (Err f) e P h k none = subst (NotWritten t) (sym h) (not_written_as t P e k none)
 
 -- all rows are written
 pub all_written : (t : Table) (i : ℕ) (items : List Item) → length t.layers ≤ i → AreRelated (IsValidItemOf t) (take i t.layers) items

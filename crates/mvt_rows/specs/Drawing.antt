@@ -14,13 +14,19 @@ use Rattle.mvt_geometry.specs.Valid.{IsValid}
 use Rattle.mvt_rows.specs.declared.rows.PartRow.{PartRow}
 use Rattle.mvt_rows.specs.TileRows.{truth_of}
 
--- the geometry of rows, which can be drawn
-abbrev pub IsDrawable : Option Geometry → Geometry → Type 0
-IsDrawable of_rows g = (of_rows ≡ Some g) × IsValid g
-
 -- the integers that draw the geometry of rows
 abbrev pub AreDrawn : Option Geometry → Kind → List ℕ → Type 0
 AreDrawn of_rows kind integers = (g : Geometry) × (of_rows ≡ Some g) × Draws kind integers g
+
+-- rows name a geometry that no integers draw
+abbrev pub IsUndrawable : Option Geometry → Type 0
+IsUndrawable None = ⊥
+IsUndrawable (Some g) = IsValid g → ⊥
+
+-- the integers that draw the geometry of rows, and its type; there is no type where none draw it
+abbrev pub AreDrawnIf : Option Geometry → Option Kind → List ℕ → Type 0
+AreDrawnIf of_rows None integers = IsUndrawable of_rows
+AreDrawnIf of_rows (Some kind) integers = AreDrawn of_rows kind integers
 
 -- the lines so far are drawn up to a cursor; there is none where they can't be
 abbrev pub DrawnLines : List (List Point) → Option Point → List ℕ → Type 0

@@ -5,7 +5,6 @@ pub mod Drawing
 pub mod Written
 pub mod Writing
 pub mod RowsFaults
-pub mod Judging
 pub mod Reading
 pub mod Visiting
 pub mod Decoding

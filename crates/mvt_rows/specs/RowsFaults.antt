@@ -1,32 +1,32 @@
--- What is wrong with rows that are no valid tile: the first thing, layer by layer and feature by feature; after all rows,
--- the first layer that can't be written.
-use Rattle.std.specs.Prelude.{◌≡◌, ℕ, ◌+◌, ◌==◌, nat_lt, true, List, [], ◌∷◌, take, slice_get, flat_map, Option, Some, None, Result, Ok, Err, option_map, if◌then◌else◌, ◌⊎◌}
+-- What is wrong with rows that are no valid tile: the first thing, in the order in which they are written. That is layer by
+-- layer to its end: its name, its keys, its values, and then feature by feature.
+use Rattle.std.specs.Prelude.{◌≡◌, ◌≢◌, ℕ, nat_lt, List, [], ◌∷◌, take, slice_get, Option, Some, None, option_map, if◌then◌else◌}
 use Rattle.std.specs.Option.{option_or}
-use Rattle.std.specs.List.{AllByRecursion}
+use Rattle.std.specs.List.{flat_map}
+use Rattle.mvt_base.specs.Related.{AreRelated}
 use Rattle.mvt_attrs.specs.declared.value.Value.{Value}
 use Rattle.mvt_attrs.specs.declared.resolving.TagCause.{TagCause}
 use Rattle.mvt_attrs.specs.declared.resolving.TagCause.TheVariants as tags
 use Rattle.mvt_attrs.specs.TagRules.{tag_fault}
+use Rattle.mvt_geometry.specs.declared.shape.Geometry.{Geometry as AGeometry}
+use Rattle.mvt_geometry.specs.Valid.{IsValid}
 use Rattle.mvt_feature.specs.declared.feature.Feature.{Feature}
 use Rattle.mvt_feature.specs.Valid.{ValidFeature}
 use Rattle.mvt_message.specs.declared.item.Item.{Item}
-use Rattle.mvt_message.specs.declared.item.Item.TheVariants.{Layer, Foreign}
+use Rattle.mvt_message.specs.declared.item.Layer.{Layer as ALayer}
 use Rattle.mvt_message.specs.Items.{names_in}
-use Rattle.mvt_message.specs.ValidItems.{ValidItem}
+use Rattle.mvt_message.specs.ValidItems.{AreOfVersion, ValidItem, ValidLayer}
 use Rattle.mvt_model.specs.declared.tile.Tile.{Tile}
 use Rattle.mvt_model.specs.Tiles.{HasDistinctNames}
 use Rattle.mvt_model.specs.ValidTiles.{Valid}
 use Rattle.mvt_tile.specs.TileRules.{repeats}
-use Rattle.mvt_rows.specs.declared.rows.Span.{Span}
 use Rattle.mvt_rows.specs.declared.rows.LayerRow.{LayerRow}
 use Rattle.mvt_rows.specs.declared.rows.FeatureRow.{FeatureRow}
-use Rattle.mvt_rows.specs.declared.rows_error.RowsError.{RowsError}
-use Rattle.mvt_rows.specs.declared.rows_error.RowsError.TheVariants.{Memory, TooLarge, NoTile}
 use Rattle.mvt_rows.specs.declared.rows_cause.RowsCause.{RowsCause}
 use Rattle.mvt_rows.specs.declared.rows_cause.RowsCause.TheVariants.{NameSpan, NameText, KeysSpan, Key, ValuesSpan, Value as ValueCause, FeaturesSpan, BytesSpan, HasId, TagsSpan, OddTags, KeyIndex, ValueIndex, RepeatedKey, Kind, Geometry, Drawing, Bytes, RepeatedName}
 use Rattle.mvt_rows.specs.declared.rows_cause.RowsFault.{RowsFault}
 use Rattle.mvt_rows.specs.Tables.{Table}
-use Rattle.mvt_rows.specs.TileRows.{each, part_of, utf8_of, text_of, value_of, id_of, geometry_of, IsTileOf}
+use Rattle.mvt_rows.specs.TileRows.{each, part_of, utf8_of, text_of, value_of, id_of, geometry_of, keys_of, values_of, IsFeature, IsLayer, IsItem, IsTileOf}
 
 -- the numbers of causes in mvt.h
 abbrev pub rows_cause_number : RowsCause → ℕ
@@ -73,77 +73,97 @@ feature_cause t keys values row =
     or_wrong (id_of row) HasId (λ _. or_wrong (part_of t.tags row.tags) TagsSpan
     (λ tags. option_or (tags_cause keys values tags) (geometry_cause t row)))
 
--- where in a layer something is wrong, and what: at a feature, or at no feature
-abbrev pub Wrong : Type 0
-Wrong = Option ℕ × RowsCause
+-- rows of what can be written
+abbrev pub IsValidFeatureOf : Table → List (List ℕ) → List Value → FeatureRow → Feature → Type 0
+IsValidFeatureOf t keys values row f = IsFeature t keys values row f × ValidFeature f
 
--- the first of features, the first of which has this index
-abbrev pub features_wrong : Table → List (List ℕ) → List Value → ℕ → List FeatureRow → Option Wrong
-features_wrong t keys values n [] = None
-features_wrong t keys values n (row ∷ rows) =
-    option_or (option_map (λ cause. (Some n, cause)) (feature_cause t keys values row)) (features_wrong t keys values (n + 1) rows)
+abbrev pub IsValidLayerOf : Table → LayerRow → ALayer → Type 0
+IsValidLayerOf t row layer = IsLayer t row layer × ValidLayer layer
 
-abbrev pub text_wrong : List ℕ → Span → Option Wrong
-text_wrong texts span = or_wrong (part_of texts span) (None, NameSpan) (λ bytes. or_wrong (utf8_of bytes) (None, NameText) (λ _. None))
+abbrev pub IsValidItemOf : Table → LayerRow → Item → Type 0
+IsValidItemOf t row item = IsItem t row item × ValidItem item
 
-abbrev pub keys_wrong : Table → LayerRow → (List (List ℕ) → Option Wrong) → Option Wrong
-keys_wrong t row next =
-    or_wrong (part_of t.keys row.keys) (None, KeysSpan) (λ spans. or_wrong (each (text_of t.texts) spans) (None, Key) next)
+-- no commands draw the geometry of a row that names one (4.3)
+abbrev pub IsUndrawn : Option AGeometry → RowsCause → Type 0
+IsUndrawn None cause = ⊥
+IsUndrawn (Some geometry) cause = (cause ≡ Drawing) × (IsValid geometry → ⊥)
 
-abbrev pub values_wrong : Table → LayerRow → (List Value → Option Wrong) → Option Wrong
-values_wrong t row next =
-    or_wrong (part_of t.values row.values) (None, ValuesSpan) (λ rows. or_wrong (each (value_of t.texts) rows) (None, ValueCause) next)
+-- the first that is wrong with a feature: its row, or what is drawn
+abbrev pub IsWrongBy : Option RowsCause → Option AGeometry → RowsCause → Type 0
+IsWrongBy (Some wrong) geometry cause = cause ≡ wrong
+IsWrongBy None geometry cause = IsUndrawn geometry cause
 
--- the first of a layer of version 2: its name, its keys, its values, its features
-abbrev pub layer_wrong : Table → LayerRow → Option Wrong
-layer_wrong t row = option_or (text_wrong t.texts row.name) (keys_wrong t row (λ keys. values_wrong t row
-    (λ values. or_wrong (part_of t.features row.features) (None, FeaturesSpan) (features_wrong t keys values 0))))
+abbrev pub IsFeatureWrong : Table → List (List ℕ) → List Value → FeatureRow → Option ℕ → RowsCause → Type 0
+IsFeatureWrong t keys values row feature cause =
+    (feature ≡ None) × IsWrongBy (feature_cause t keys values row) (geometry_of t row) cause
 
-abbrev pub row_wrong : Table → LayerRow → Option Wrong
-row_wrong t row =
-    if row.version == 2 then layer_wrong t row else or_wrong (part_of t.texts row.bytes) (None, BytesSpan) (λ _. None)
+-- the first of features that is wrong: those before it can be written
+pub record IsFirstWrong (t : Table) (keys : List (List ℕ)) (values : List Value) (rows : List FeatureRow) (j : ℕ)
+    (cause : RowsCause) : Type 0 where
+  pub row : FeatureRow
+  pub there : slice_get rows j ≡ Some row
+  pub before : List Feature
+  pub valid : AreRelated (IsValidFeatureOf t keys values) (take j rows) before
+  pub wrong : IsWrongBy (feature_cause t keys values row) (geometry_of t row) cause
 
--- the first of layers, the first of which has this index
-abbrev pub rows_wrong : Table → ℕ → List LayerRow → Option RowsFault
-rows_wrong t n [] = None
-rows_wrong t n (row ∷ rows) =
-    option_or (option_map (λ (w : Wrong). record { layer = n; feature = w.0; cause = w.1 }) (row_wrong t row)) (rows_wrong t (n + 1) rows)
+abbrev pub IsFeatureWrongIn : Table → List (List ℕ) → List Value → List FeatureRow → Option ℕ → RowsCause → Type 0
+IsFeatureWrongIn t keys values rows None cause = ⊥
+IsFeatureWrongIn t keys values rows (Some j) cause = IsFirstWrong t keys values rows j cause
 
--- the first that keeps rows from being a tile
-abbrev pub rows_fault : Table → Option RowsFault
-rows_fault t = rows_wrong t 0 t.layers
+-- the first cause of a layer's row outside its features: its keys, its values, the span of its features
+abbrev pub keys_cause : Table → LayerRow → Option RowsCause → Option RowsCause
+keys_cause t row next = or_wrong (part_of t.keys row.keys) KeysSpan (λ spans. or_wrong (each (text_of t.texts) spans) Key (λ _. next))
 
--- what was made, or nothing where rows are wrong
-abbrev pub if_any : {X : Type 0} → Result X RowsError → Result (Option X) RowsError
-if_any (Ok x) = Ok (Some x)
-if_any (Err Memory) = Err Memory
-if_any (Err TooLarge) = Err TooLarge
-if_any (Err NoTile) = Ok None
+abbrev pub values_cause : Table → LayerRow → Option RowsCause → Option RowsCause
+values_cause t row next =
+    or_wrong (part_of t.values row.values) ValuesSpan (λ rows. or_wrong (each (value_of t.texts) rows) ValueCause (λ _. next))
 
--- the first feature that can't be written
-abbrev pub IsFirstInvalidFeature : List Feature → ℕ → Type 0
-IsFirstInvalidFeature features j =
-    (f : Feature) × (slice_get features j ≡ Some f) × AllByRecursion ValidFeature (take j features) × (ValidFeature f → ⊥)
+abbrev pub parts_cause : Table → LayerRow → Option RowsCause
+parts_cause t row = keys_cause t row (values_cause t row (or_wrong (part_of t.features row.features) FeaturesSpan (λ _. None)))
 
--- why an item can't be written with the items before it
-abbrev pub IsInvalid : List Item → Item → Option ℕ → RowsCause → Type 0
-IsInvalid before (Layer layer) (Some j) Drawing = IsFirstInvalidFeature layer.features j
-IsInvalid before (Foreign version content) None Bytes = ValidItem (Foreign version content) → ⊥
-IsInvalid before (Layer layer) None RepeatedName = repeats (flat_map names_in before) (layer.name ∷ []) ≡ true
-IsInvalid before _ _ _ = ⊥
+-- before these, its name: a text that is none of those before it
+abbrev pub name_cause : Table → List (List ℕ) → LayerRow → Option RowsCause
+name_cause t names row = or_wrong (part_of t.texts row.name) NameSpan (λ bytes. or_wrong (utf8_of bytes) NameText
+    (λ name. if repeats names (name ∷ []) then Some RepeatedName else None))
 
--- the first item of a tile that can't be written with those before it, and why
-pub record IsInvalidTile (items : List Item) (fault : RowsFault) : Type 0 where
-  pub item : Item
-  pub there : slice_get items fault.layer ≡ Some item
-  pub valid : AllByRecursion ValidItem (take fault.layer items)
-  pub distinct : HasDistinctNames (take fault.layer items)
-  pub wrong : IsInvalid (take fault.layer items) item fault.feature fault.cause
+-- a layer's row names these keys, values and rows, of which the first that is wrong is this one
+pub record HasWrong (t : Table) (row : LayerRow) (j : ℕ) (cause : RowsCause) : Type 0 where
+  pub none : parts_cause t row ≡ None
+  pub keys : List (List ℕ)
+  pub has_keys : keys_of t row.keys ≡ Some keys
+  pub values : List Value
+  pub has_values : values_of t row.values ≡ Some values
+  pub rows : List FeatureRow
+  pub has_rows : part_of t.features row.features ≡ Some rows
+  pub first : IsFirstWrong t keys values rows j cause
 
--- what is wrong with rows that are no valid tile
-abbrev pub IsFaultOf : Table → RowsFault → Type 0
-IsFaultOf t fault =
-    (rows_fault t ≡ Some fault) ⊎ ((rows_fault t ≡ None) × (tile : Tile) × IsTileOf t tile × IsInvalidTile tile.items fault)
+-- what is wrong behind the name of a layer of version 2: at a feature, or at none
+abbrev pub IsInsideWrong : Table → LayerRow → Option ℕ → RowsCause → Type 0
+IsInsideWrong t row None cause = parts_cause t row ≡ Some cause
+IsInsideWrong t row (Some j) cause = HasWrong t row j cause
+
+abbrev pub IsLayerWrongBy : Table → LayerRow → Option RowsCause → Option ℕ → RowsCause → Type 0
+IsLayerWrongBy t row (Some wrong) feature cause = (feature ≡ None) × (cause ≡ wrong)
+IsLayerWrongBy t row None feature cause = IsInsideWrong t row feature cause
+
+-- what is wrong with the bytes of a layer of another version
+abbrev pub IsForeignWrong : ℕ → Option (List ℕ) → RowsCause → Type 0
+IsForeignWrong version None cause = cause ≡ BytesSpan
+IsForeignWrong version (Some content) cause = (cause ≡ Bytes) × (AreOfVersion version content → ⊥)
+
+-- what is wrong with a layer's row after layers with these names
+pub record IsRowWrong (t : Table) (names : List (List ℕ)) (row : LayerRow) (feature : Option ℕ) (cause : RowsCause) : Type 0 where
+  pub layer : row.version ≡ 2 → IsLayerWrongBy t row (name_cause t names row) feature cause
+  pub foreign : row.version ≢ 2 → (feature ≡ None) × IsForeignWrong row.version (part_of t.texts row.bytes) cause
+
+-- what is wrong with rows that are no valid tile: the first layer's row that is wrong, after rows that can be written
+pub record IsFaultOf (t : Table) (fault : RowsFault) : Type 0 where
+  pub row : LayerRow
+  pub there : slice_get t.layers fault.layer ≡ Some row
+  pub before : List Item
+  pub valid : AreRelated (IsValidItemOf t) (take fault.layer t.layers) before
+  pub distinct : HasDistinctNames before
+  pub wrong : IsRowWrong t (flat_map names_in before) row fault.feature fault.cause
 
 -- the rows are a valid tile
 abbrev pub AreValid : Table → Type 0

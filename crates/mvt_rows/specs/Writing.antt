@@ -5,12 +5,9 @@ use Rattle.mvt_base.specs.declared.TheConstants.{LIMIT}
 use Rattle.mvt_base.specs.Related.{AreRelated}
 use Rattle.mvt_attrs.specs.declared.value.Value.{Value}
 use Rattle.mvt_attrs.specs.TagRules.{tag_fault}
-use Rattle.mvt_feature.specs.declared.feature.Feature.{Feature}
-use Rattle.mvt_feature.specs.Valid.{ValidFeature, ValidValue}
+use Rattle.mvt_feature.specs.Valid.{ValidValue}
 use Rattle.mvt_message.specs.declared.item.Item.{Item}
-use Rattle.mvt_message.specs.declared.item.Layer.{Layer as ALayer}
 use Rattle.mvt_message.specs.Items.{names_in}
-use Rattle.mvt_message.specs.ValidItems.{ValidItem, ValidLayer}
 use Rattle.mvt_model.specs.Encoding.{AreEncoded}
 use Rattle.mvt_model.specs.Tiles.{HasDistinctNames}
 use Rattle.mvt_tile.specs.TileRules.{repeats}
@@ -19,9 +16,10 @@ use Rattle.mvt_rows.specs.declared.rows.LayerRow.{LayerRow}
 use Rattle.mvt_rows.specs.declared.writing.features.FeatureParts.{FeatureParts}
 use Rattle.mvt_rows.specs.declared.writing.layers.LayerParts.{LayerParts}
 use Rattle.mvt_rows.specs.declared.writing.RowsWriter.{RowsWriter}
-use Rattle.mvt_rows.specs.Drawing.{AreDrawn}
+use Rattle.mvt_rows.specs.Drawing.{AreDrawnIf}
+use Rattle.mvt_rows.specs.RowsFaults.{IsValidItemOf}
 use Rattle.mvt_rows.specs.Tables.{Table}
-use Rattle.mvt_rows.specs.TileRows.{part_of, id_of, geometry_of, keys_of, values_of, IsFeature, IsLayer, IsItem}
+use Rattle.mvt_rows.specs.TileRows.{part_of, id_of, geometry_of, keys_of, values_of}
 
 -- how many entries the lists have
 abbrev pub entry_count : Table → ℕ
@@ -29,13 +27,13 @@ entry_count t =
     length t.layers + (length t.features + (length t.keys + (length t.values + (length t.tags
     + (length t.parts + (length t.points + (length t.integers + length t.texts)))))))
 
--- what a feature's row says, where its tags have no fault, and the integers that draw its geometry
+-- what a feature's row says, where its tags have no fault, and the integers that draw its geometry, where there are any
 pub record AreFeatureParts (t : Table) (keys : List (List ℕ)) (values : List Value) (row : FeatureRow) (integers : List ℕ) (parts : FeatureParts) : Type 0 where
   pub id : id_of row ≡ Some parts.id
   pub id_fits : IfSome parts.id (λ n. n < 2 ^ 64)
   pub tagged : part_of t.tags row.tags ≡ Some parts.tags.now
   pub tags : tag_fault keys values parts.tags.now ≡ None
-  pub geometry : AreDrawn (geometry_of t row) parts.kind integers
+  pub geometry : AreDrawnIf (geometry_of t row) parts.kind integers
 
 -- the keys and the values of a layer are in the range of their types
 pub record AreInRange (keys : List (List ℕ)) (values : List Value) : Type 0 where
@@ -48,16 +46,6 @@ pub record AreLayerParts (t : Table) (row : LayerRow) (parts : LayerParts) : Typ
   pub values : values_of t row.values ≡ Some parts.values.items
   pub in_range : AreInRange parts.keys.items parts.values.items
   pub rows : part_of t.features row.features ≡ Some parts.rows.now
-
--- rows of what can be written
-abbrev pub IsValidFeatureOf : Table → List (List ℕ) → List Value → FeatureRow → Feature → Type 0
-IsValidFeatureOf t keys values row f = IsFeature t keys values row f × ValidFeature f
-
-abbrev pub IsValidLayerOf : Table → LayerRow → ALayer → Type 0
-IsValidLayerOf t row layer = IsLayer t row layer × ValidLayer layer
-
-abbrev pub IsValidItemOf : Table → LayerRow → Item → Type 0
-IsValidItemOf t row item = IsItem t row item × ValidItem item
 
 -- what a row is that can be written has the name of an item before it
 abbrev pub IsRefused : Table → LayerRow → List Item → Type 0

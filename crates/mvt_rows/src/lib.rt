@@ -1,23 +1,19 @@
-//! A tile as flat rows, and the tile that rows are: each row names the parts that belong to it by
-//! where they stand in the list of their kind. So code in any language follows a tile without
-//! calls.
+//! A tile as flat rows, and the bytes of the tile that rows are: each row names the parts that
+//! belong to it by where they stand in the list of their kind. So code in any language follows a
+//! tile without calls.
 #![tactic(auto)]
 
-mod faults;
 pub mod laws;
 mod places;
 mod rows;
 mod rows_cause;
 mod rows_error;
 mod table;
-mod tiles;
 mod work;
 mod writing;
 
-pub use faults::rows_fault;
 pub use rows::{FeatureRow, LayerRow, PartRow, PointRow, Rows, Span, ValueRow};
 pub use rows_cause::{RowsCause, RowsFault};
 pub use rows_error::RowsError;
 pub use table::{RowsDecoder, RowsVisitor, Table, read_layer, read_rows, read_rows_within};
-pub use tiles::tile_of;
-pub use writing::write_rows;
+pub use writing::{rows_fault, write_rows};

@@ -6,9 +6,9 @@ use mvt_attrs::TagCause;
 
 /// What is wrong with rows.
 ///
-/// The causes stand in the order in which they are looked for: layer by layer, and in a layer first
-/// its name, its keys and its values, then feature by feature. The last three are looked for when
-/// all rows have been read.
+/// A cause is looked for as the rows are written: a layer to its end before the next. In a layer of
+/// version 2 that is first its name, also whether an earlier layer has it; then its keys, its
+/// values and the span of its features; then feature by feature.
 #[derive(Clone, Copy, Debug, PartialEq, Eq)]
 pub enum RowsCause {
     /// The span of a layer's name reaches beyond the texts.

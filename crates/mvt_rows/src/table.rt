@@ -1,8 +1,9 @@
 //! The lists of a tile's rows, as they grow.
-ghost use Rattle.std.specs.Prelude.{◌≡◌, IsUtf8, OnOk, OnErr, length, nat_le};
+ghost use Rattle.std.specs.Prelude.{◌≡◌, ℕ, IsUtf8, OnOk, OnErr, length, nat_le};
 ghost use Rattle.std.specs.List.{AllByRecursion, fold};
 ghost use Rattle.mvt_attrs.specs.declared.value.Value.TheVariants as values;
 ghost use Rattle.mvt_feature.specs.Meanings.{meant};
+ghost use Rattle.mvt_geometry.specs.Visiting.{Part, EndsAs};
 ghost use Rattle.mvt_rows.specs.Lent.{table_of};
 ghost use Rattle.mvt_rows.specs.Tables.{no_rows, with_key, with_value, with_number, table_size};
 
@@ -14,7 +15,7 @@ use crate::places::Places;
 use crate::rows::{FeatureRow, LayerRow, PartRow, PointRow, Rows, Span, ValueRow};
 use mvt_base::Text;
 use mvt_feature::Meaning;
-use mvt_geometry::{GeometryVisitor, Point};
+use mvt_geometry::{GeometryVisitor, Point, Ring};
 use std::alloc::{AllocError, Global};
 use std::marker::Model;
 pub use visiting::{RowsDecoder, RowsVisitor, read_layer, read_rows, read_rows_within};
@@ -249,10 +250,10 @@ impl GeometryVisitor for Table {
         Ok(())
     }
 
-    fn end_part(&mut self, points: usize, exterior: bool) -> Result<(), AllocError> {
+    fn end_part(&mut self, points: usize, ring: Option<Ring>) -> Result<(), AllocError> {
         let start = self.points.len().saturating_sub(points);
         self.parts.push(PartRow {
-            exterior: u32::from(exterior),
+            exterior: u32::from(is_exterior(ring)),
             points: after_list(start, points),
         })?;
         Ok(())
@@ -260,5 +261,15 @@ impl GeometryVisitor for Table {
 
     fn visit_integers(&mut self, integers: &[u32]) -> Result<(), AllocError> {
         self.integers.extend_from_slice(integers)
+    }
+}
+
+/// Whether a part that ends so is an exterior ring.
+fn is_exterior(ring: Option<Ring>) -> bool
+    ensures { (part : Part) (count : ℕ) → EndsAs part count ring → result ≡ part.exterior }
+{
+    match ring {
+        Some(ring) => ring.exterior,
+        None => false,
     }
 }

@@ -1,48 +1,78 @@
 //! Rows written as a tile's bytes, layer by layer and feature by feature: no layer of it stands as
 //! a value.
-ghost use Rattle.std.specs.Prelude.{◌≡◌, ◌≢◌, ◌∷◌, ◌++◌, [], List, IfOk, IfErr, OnOk};
+ghost use Rattle.std.specs.Prelude.{◌≡◌, ◌≢◌, ◌∷◌, ◌++◌, [], List, None, IfOk, IfErr, MatchOption, OnOk};
+ghost use Rattle.std.specs.List.{flat_map};
 ghost use Rattle.mvt_base.specs.declared.TheConstants.{LIMIT as the_limit};
 ghost use Rattle.mvt_message.specs.declared.item.Item.{Item};
 ghost use Rattle.mvt_message.specs.declared.item.Item.TheVariants.{Layer as IsALayer};
 ghost use Rattle.mvt_message.specs.declared.item.Layer.{Layer};
+ghost use Rattle.mvt_message.specs.Items.{names_in};
 ghost use Rattle.mvt_message.specs.Rewriting.{IsPayloadOf};
 ghost use Rattle.mvt_model.specs.Encoding.{AreEncoded};
+ghost use Rattle.mvt_rows.specs.declared.rows_error.RowsError.TheVariants.{Memory};
 ghost use Rattle.mvt_rows.specs.Lent.{table_of};
-ghost use Rattle.mvt_rows.specs.Writing.{HasAdded, HasAddedRow, IsRefused};
-ghost use Rattle.mvt_rows.specs.Written.{FailsAs, IsWritten, NotWritten};
+ghost use Rattle.mvt_rows.specs.RowsFaults.{AreValid, IsFaultOf, IsRowWrong};
+ghost use Rattle.mvt_rows.specs.Writing.{HasAdded, HasAddedRow};
+ghost use Rattle.mvt_rows.specs.Written.{IfWrong, IsWritten, NotWritten};
 
 mod features;
 mod geometries;
 mod layers;
+mod parts;
+mod values;
 
 use crate::rows::{LayerRow, Rows};
-use crate::rows_error::RowsError;
-use crate::tiles::parts::{part, str_of};
+use crate::rows_cause::{RowsCause, RowsFault};
+use crate::rows_error::{RowError, RowsError, if_any};
 use crate::work::Work;
 use layers::layer_payload;
 use mvt_base::Text;
 use mvt_message::are_of_version;
 use mvt_model::encode_payload;
 use mvt_tile::add_name;
+use parts::part;
 use std::alloc::{AllocError, Global};
 use std::collections::BTreeSet;
+use std::str;
 
 /// The canonical bytes of the tile that rows are. What it holds are these bytes, and of one layer
 /// its keys, its values, the fields of its features and one feature.
 ///
 /// # Errors
 ///
-/// Rows that are no valid tile; a result beyond the limit; want of memory. Spans that overlap, and
+/// Rows that are no valid tile, and why; a result beyond the limit; want of memory. Spans that
+/// overlap, and
 /// so name more entries than all lists and the limit have, are told as want of memory.
 pub fn write_rows(alloc: Global, rows: &Rows) -> Result<Vec<u8>, RowsError>
     ensures done { IfOk result (λ made. IsWritten (table_of rows.now) made.items) }
     ensures refused { IfErr result (NotWritten (table_of rows.now)) }
 {
     let mut writer = RowsWriter::new(alloc, rows);
-    for row in rows.layers {
-        writer.add(alloc, rows, row)?;
+    for (index, row) in rows.layers.iter().enumerate() {
+        match writer.add(alloc, rows, row) {
+            Ok(()) => {}
+            Err(error) => return Err(error.at_layer(index)),
+        }
     }
     writer.out.ok_or(RowsError::TooLarge)
+}
+
+/// The first thing that is wrong with rows, or nothing where they are a valid tile: they are
+/// written, and the bytes are let go.
+///
+/// # Errors
+///
+/// When memory runs out, or spans that overlap name more entries than all lists and the limit have.
+pub fn rows_fault(alloc: Global, rows: &Rows) -> Result<Option<RowsFault>, RowsError>
+    ensures fault { IfOk result (λ found. MatchOption found (AreValid (table_of rows.now))
+        (IsFaultOf (table_of rows.now))) }
+    ensures memory { IfErr result (λ error. error ≡ Memory) }
+{
+    match write_rows(alloc, rows) {
+        Ok(_) | Err(RowsError::TooLarge) => Ok(None),
+        Err(RowsError::NoTile(fault)) => Ok(Some(fault)),
+        Err(RowsError::Memory) => Err(RowsError::Memory),
+    }
 }
 
 /// The names of the layers so far, and the canonical bytes; `None` from where they are more than
@@ -66,11 +96,11 @@ impl RowsWriter {
     }
 
     /// Adds the item of a row.
-    fn add(&mut self, alloc: Global, rows: &Rows, row: &LayerRow) -> Result<(), RowsError>
+    fn add(&mut self, alloc: Global, rows: &Rows, row: &LayerRow) -> Result<(), RowError>
         ensures added { (items : List Item) → HasAdded self.old items
             → OnOk result (HasAddedRow (table_of rows.now) row.now self.new items) }
-        ensures refused { (items : List Item) → HasAdded self.old items
-            → IfErr result (FailsAs (IsRefused (table_of rows.now) row.now items)) }
+        ensures wrong { (items : List Item) → HasAdded self.old items → IfErr result
+            (IfWrong (IsRowWrong (table_of rows.now) (flat_map names_in items) row.now)) }
     {
         if row.version == 2 {
             self.add_layer(alloc, rows, row)
@@ -79,16 +109,21 @@ impl RowsWriter {
         }
     }
 
-    fn add_layer(&mut self, alloc: Global, rows: &Rows, row: &LayerRow) -> Result<(), RowsError>
+    fn add_layer(&mut self, alloc: Global, rows: &Rows, row: &LayerRow) -> Result<(), RowError>
         requires { row.now.version ≡ 2 }
         ensures added { (items : List Item) → HasAdded self.old items
             → OnOk result (HasAddedRow (table_of rows.now) row.now self.new items) }
-        ensures refused { (items : List Item) → HasAdded self.old items
-            → IfErr result (FailsAs (IsRefused (table_of rows.now) row.now items)) }
+        ensures wrong { (items : List Item) → HasAdded self.old items → IfErr result
+            (IfWrong (IsRowWrong (table_of rows.now) (flat_map names_in items) row.now)) }
     {
-        let name = str_of(rows.texts, row.name, &mut self.work)?;
+        let Some(bytes) = if_any(part(rows.texts, row.name, &mut self.work))? else {
+            return Err(RowError::Wrong(None, RowsCause::NameSpan));
+        };
+        let Ok(name) = str::from_utf8(bytes) else {
+            return Err(RowError::Wrong(None, RowsCause::NameText));
+        };
         if !add_name(&mut self.names, Some(Text::from_str(alloc, name)?))? {
-            return Err(RowsError::NoTile);
+            return Err(RowError::Wrong(None, RowsCause::RepeatedName));
         }
         let payload = layer_payload(alloc, rows, row, name, &mut self.work)?;
         self.out = add_payload(self.out.take(), payload)?;
@@ -96,16 +131,18 @@ impl RowsWriter {
     }
 
     /// Adds the bytes of a layer of another version.
-    fn add_foreign(&mut self, rows: &Rows, row: &LayerRow) -> Result<(), RowsError>
+    fn add_foreign(&mut self, rows: &Rows, row: &LayerRow) -> Result<(), RowError>
         requires { row.now.version ≢ 2 }
         ensures added { (items : List Item) → HasAdded self.old items
             → OnOk result (HasAddedRow (table_of rows.now) row.now self.new items) }
-        ensures refused { (items : List Item) → HasAdded self.old items
-            → IfErr result (FailsAs (IsRefused (table_of rows.now) row.now items)) }
+        ensures wrong { (items : List Item) → HasAdded self.old items → IfErr result
+            (IfWrong (IsRowWrong (table_of rows.now) (flat_map names_in items) row.now)) }
     {
-        let bytes = part(rows.texts, row.bytes, &mut self.work)?;
+        let Some(bytes) = if_any(part(rows.texts, row.bytes, &mut self.work))? else {
+            return Err(RowError::Wrong(None, RowsCause::BytesSpan));
+        };
         if !are_of_version(row.version, bytes) {
-            return Err(RowsError::NoTile);
+            return Err(RowError::Wrong(None, RowsCause::Bytes));
         }
         self.out = encode_payload(self.out.take(), bytes)?;
         Ok(())

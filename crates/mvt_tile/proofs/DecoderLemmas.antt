@@ -1,5 +1,5 @@
 -- A decoder that stands for a stream, and more of it.
-use Rattle.std.proofs.Common.{◌≡◌, ℕ, ◌+◌, ◌-◌, ◌<◌, ◌≤◌, true, cond, List, [], ◌∷◌, ◌++◌, length, take, drop, Option, Some, None, refl, sym, ap, ap₂, subst, ◌∙◌, arith, append_assoc, append-nil, length-append, length-drop, take-append-drop}
+use Rattle.std.proofs.Common.{◌≡◌, ℕ, ◌+◌, ◌-◌, ◌<◌, ◌≤◌, true, cond, List, [], ◌∷◌, ◌++◌, length, take, drop, Some, None, refl, sym, ap, ap₂, subst, ◌∙◌, arith, append_assoc, append-nil, length-append, length-drop, take-append-drop}
 use Rattle.std.proofs.Math.Seq.{take-append_seam}
 use Rattle.mvt_base.specs.Rules.{each, first}
 use Rattle.mvt_base.proofs.RuleLemmas.{option_or-none}
@@ -15,7 +15,7 @@ use Rattle.mvt_tile.specs.declared.fault.DecodeError.{DecodeError}
 use Rattle.mvt_tile.specs.declared.fault.DecodeError.TheVariants.{Memory, Fault, Read}
 use Rattle.mvt_tile.specs.Faults.{outer_fault, is_open}
 use Rattle.mvt_tile.specs.Inner.Judging.{fault_after, IsJudged, ReportsAfter}
-use Rattle.mvt_tile.specs.Streams.{IsCalm, IsLive, ReportsEarly, Decoding, StandsAs, StandsFor}
+use Rattle.mvt_tile.specs.Streams.{IsCalm, IsLive, ReportsEarly}
 use Rattle.mvt_tile.specs.TileRules.{field_rules, rest_rules_at, rest_rules, tile_rules, beyond, fault_within}
 use Rattle.mvt_model.specs.Tiles.{AreItems, IsTile}
 use Rattle.mvt_tile.proofs.ItemLemmas.{are_none, are_clean}
@@ -188,24 +188,3 @@ module _ (limit offset : ℕ) (items new : List Item) (raw after t : List ℕ) (
       subst (λ p. ReportsEarly (Fault (outer_fault (offset + used) TooLarge)) (fault_within limit p))
       (append_assoc s t more ∙ ap (λ p. s ++ p) (sym joined))
       (live_too_large limit (offset + used) new after (s ++ t) longer more (omega arith) some)
-
--- what a decoder stands for, by its parts
-
-pub failed_stays : (limit : ℕ) (o : Option DecodeError) (d : Decoding) (e : DecodeError) (s t : List ℕ)
-    → o ≡ Some e → StandsAs limit o d s → StandsAs limit o d (s ++ t)
-failed_stays limit None d e s t is stands = cc
-failed_stays limit (Some x) d e s t is stands = (stands.0, reports_stays limit x s t stands.1)
-
-pub live_of : (limit : ℕ) (failure : Option DecodeError) (offset : ℕ) (items : List Item) (raw : List ℕ) (d : Decoding) (s : List ℕ)
-    → (let d' : Decoding = record { failure = failure; items = items; raw = raw; offset = offset } in d') ≡ d → failure ≡ None
-    → StandsFor limit d s → IsLive limit offset items raw s
-live_of limit failure offset items raw d s is none stands =
-    subst (λ o. StandsAs limit o (record { failure = failure; items = items; raw = raw; offset = offset }) s) none
-    (subst (λ x. StandsFor limit x s) (sym is) stands)
-
-pub stands_of : (limit : ℕ) (failure : Option DecodeError) (offset : ℕ) (items new : List Item) (raw s : List ℕ) → failure ≡ None
-    → items ≡ new → IsLive limit offset new raw s
-    → StandsFor limit (record { failure = failure; items = items; raw = raw; offset = offset }) s
-stands_of limit failure offset items new raw s none is live =
-    subst (λ o. StandsAs limit o (record { failure = failure; items = items; raw = raw; offset = offset }) s) (sym none)
-    (subst (λ xs. IsLive limit offset xs raw s) (sym is) live)

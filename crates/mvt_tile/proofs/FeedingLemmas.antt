@@ -15,7 +15,7 @@ use Rattle.mvt_tile.specs.Reading.{ReadsTile, StopsEarly, fault_of, kind_of, kin
 use Rattle.std.specs.declared.io.ErrorKind.{ErrorKind}
 use Rattle.mvt_base.specs.Reports.{Reports}
 use Rattle.mvt_model.specs.declared.tile.Tile.{Tile}
-use Rattle.mvt_model.specs.Tiles.{IsTile}
+use Rattle.mvt_model.specs.Tiles.{HasDistinctNames, IsTile}
 use Rattle.mvt_tile.specs.Streams.{IsCalm, IsLive, ReportsEarly, ReportsAtEnd}
 use Rattle.mvt_tile.specs.TileRules.{fault_within}
 use Rattle.mvt_tile.proofs.DecoderLemmas.{live_start}
@@ -130,10 +130,10 @@ reports_at_end (Read k) o h = absurd h
 module _ (limit : ℕ) (Has : List Item → Type 0) (offset : ℕ) (raw : List ℕ) (a b : Option (List ℕ)) (reads : ℕ)
     (has : HasFed limit Has offset raw a b reads) (end : IsAtEnd b) where
   pub fed_tile : IsTile limit has.given (record { items = has.items })
-      → (tile : Tile) × Has tile.items × IfSome a (λ bytes. IsTile limit bytes tile)
+      → (tile : Tile) × Has tile.items × HasDistinctNames tile.items × IfSome a (λ bytes. IsTile limit bytes tile)
   fed_tile is =
       let tile : Tile = record { items = has.items } in
-      (tile, has.has, Consumes-whole a b has.given (λ bytes. IsTile limit bytes tile) has.consumed end is)
+      (tile, has.has, has.live.items_are.distinct, Consumes-whole a b has.given (λ bytes. IsTile limit bytes tile) has.consumed end is)
 
   pub fed_reported : (e : DecodeError) → ReportsAtEnd e (fault_within limit has.given)
       → IfSome a (λ input. Reports (fault_of e) (fault_within limit input))

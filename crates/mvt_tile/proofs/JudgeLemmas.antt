@@ -274,10 +274,3 @@ pub judged_there : (Knows : List Item → Type 0) (offset : ℕ) (b : List ℕ) 
     → IfOk r (λ used. (new : List Item) × Knows new × IsJudged offset b old new used)
 judged_there Knows offset b old now (Ok n) known h = (now, known, h)
 judged_there Knows offset b old now (Err e) known h = tt
-
--- where the items that are there are known
-pub judged_as : (offset : ℕ) (b : List ℕ) (old now : List Item) (r : Result ℕ DecodeError)
-    → IfOk r (λ used. (new : List Item) × (now ≡ new) × IsJudged offset b old new used)
-    → IfOk r (IsJudged offset b old now)
-judged_as offset b old now (Ok n) h = subst (λ is. IsJudged offset b old is n) (sym h.1) h.2
-judged_as offset b old now (Err e) h = tt

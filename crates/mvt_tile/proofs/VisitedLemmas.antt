@@ -2,16 +2,15 @@
 use Rattle.std.proofs.Common.{◌≡◌, ℕ, ◌+◌, ◌≤◌, List, [], ◌++◌, length, Some, None, sym, subst, arith}
 use Rattle.mvt_message.specs.declared.item.Item.{Item}
 use Rattle.mvt_tile.specs.declared.fault.DecodeError.{DecodeError}
-use Rattle.mvt_tile.specs.Inner.Judging.{AreNamed}
-use Rattle.mvt_tile.specs.Visiting.{Visiting, HasVisited, StandsAs, StandsFor}
+use Rattle.mvt_tile.specs.Visiting.{Visiting, HasNamed, HasVisited, StandsAs, StandsFor}
 use Rattle.mvt_tile.proofs.DecoderLemmas.{live_start, live_length, reports_stays}
 
 -- nothing yet
-pub visited_start : (limit : ℕ) (Has : List Item → Type 0) (d : Visiting) → Has [] → AreNamed d.count d.names [] → d.raw ≡ []
+pub visited_start : (limit : ℕ) (Has : List Item → Type 0) (d : Visiting) → HasNamed Has d.count d.names [] → d.raw ≡ []
     → d.offset ≡ 0 → HasVisited limit Has d []
-visited_start limit Has d has named raw offset = record {
+visited_start limit Has d has raw offset = record {
   items = [];
-  has = (named, tt, has);
+  has = has;
   few = omega arith;
   live = rw (raw, offset) (live_start limit);
 }

@@ -6,7 +6,6 @@ use Rattle.std.proofs.lemmas.Bool.{not-false}
 use Rattle.std.proofs.lemmas.List.Elements.{filter-append}
 use Rattle.std.proofs.lemmas.List.Folds.{list_any-append}
 use Rattle.std.proofs.lemmas.Slice.Eq.{bytes_eq-Decides}
-use Rattle.mvt_base.proofs.ListLemmas.{all_joined}
 use Rattle.mvt_message.specs.declared.item.Item.{Item as AnItem}
 use Rattle.mvt_message.specs.declared.item.Item.TheVariants.{Layer, Foreign}
 use Rattle.mvt_message.specs.Items.{names_in}
@@ -17,7 +16,7 @@ use Rattle.mvt_model.specs.Encoding.{AreEncoded, IsEncoded}
 use Rattle.mvt_tile.specs.declared.rewriting.Rewriter.{Rewriter}
 use Rattle.mvt_tile.specs.Extraction.{first_missing, is_among, is_named, pick}
 use Rattle.mvt_tile.specs.Inner.Judging.{AreNamed}
-use Rattle.mvt_tile.specs.Inner.Wanting.{HasRewritten, IsSetOf, all_items, is_in, names_of}
+use Rattle.mvt_tile.specs.Inner.Wanting.{HasRewritten, IsSetOf, all_items, is_in}
 use Rattle.mvt_tile.specs.TileRules.{repeats}
 use Rattle.mvt_tile.proofs.ExtractionLemmas.{any_named}
 use Rattle.mvt_tile.proofs.NameLemmas.{bytes_eq_comm, or_right_false}
@@ -66,9 +65,7 @@ set_wants keys names set (Foreign version bytes) = none_among names
 pub wants_layers : (limit : ℕ) (names keys : List (List ℕ)) (r : Rewriter) → IsSetOf keys names → HasRewritten limit (is_in (Some keys)) r []
     → HasRewritten limit (is_among names) r []
 wants_layers limit names keys r set has = record {
-  named = has.named;
   encoded = has.encoded;
-  valid = tt;
   wants = λ item. has.wants item ∙ set_wants keys names set item;
 }
 
@@ -94,17 +91,12 @@ unfolding canonical
 layers_encoded limit items names made are = are
 
 -- an item more that isn't wanted
-pub unwanted_more : (limit : ℕ) (wanted : AnItem → Bool) (items : List AnItem) (item : AnItem) (old new : Rewriter)
-    → HasRewritten limit wanted old items → wanted item ≡ false → ValidItem item
-    → AreNamed new.names.count new.names.names (items ++ item ∷ []) → new.out ≡ old.out → new.wanted ≡ old.wanted
-    → HasRewritten limit wanted new (items ++ item ∷ [])
-unwanted_more limit wanted items item old new has is valid named out wants = record {
-  named = named;
-  encoded = subst (λ xs. AreEncoded limit xs new.out)
-      (sym (append-nil (filter wanted items)) ∙ wanted_more wanted items item false (sym is))
-      (subst (AreEncoded limit (filter wanted items)) (sym out) has.encoded);
-  valid = all_joined ValidItem items (item ∷ []) has.valid (valid, tt);
-  wants = λ i. ap (λ w. is_in (names_of w) i) wants ∙ has.wants i;
+pub unwanted_more : (limit : ℕ) (wanted : AnItem → Bool) (items : List AnItem) (item : AnItem) (r : Rewriter)
+    → HasRewritten limit wanted r items → wanted item ≡ false → HasRewritten limit wanted r (items ++ item ∷ [])
+unwanted_more limit wanted items item r has is = record {
+  encoded = subst (λ xs. AreEncoded limit xs r.out)
+      (sym (append-nil (filter wanted items)) ∙ wanted_more wanted items item false (sym is)) has.encoded;
+  wants = has.wants;
 }
 
 -- ---- whether a payload is wanted

@@ -2,3 +2,4 @@
 pub mod Judging
 pub mod Feeding
 pub mod Wanting
+pub mod Taking

@@ -3,6 +3,7 @@ pub mod TileRules
 pub mod Inner
 pub mod Streams
 pub mod Visiting
+pub mod Decoding
 pub mod Reading
 pub mod Extraction
 pub mod Finding

@@ -1,5 +1,5 @@
--- What a decoder stands for: a stream that comes in pieces.
-use Rattle.std.specs.Prelude.{◌≡◌, ℕ, ◌≤◌, true, false, List, [], length, Option, Some, None, Result, Ok, Err, ⊤}
+-- A stream that comes in pieces.
+use Rattle.std.specs.Prelude.{◌≡◌, ℕ, ◌≤◌, true, false, List, length, Option, Some, None, Result, Ok, Err, ⊤}
 use Rattle.mvt_wire.specs.Split.{split}
 use Rattle.mvt_message.specs.declared.item.Item.{Item}
 use Rattle.mvt_tile.specs.declared.fault.Fault.{Fault as AFault}
@@ -8,13 +8,6 @@ use Rattle.mvt_tile.specs.declared.fault.DecodeError.TheVariants.{Memory, Fault,
 use Rattle.mvt_tile.specs.Faults.{is_open}
 use Rattle.mvt_tile.specs.TileRules.{fault_within}
 use Rattle.mvt_model.specs.Tiles.{AreItems}
-
--- a decoder: the error that it answers for good, the items so far, and the bytes after the last whole field, with their place
-pub record Decoding : Type 0 where
-  pub failure : Option DecodeError
-  pub items : List Item
-  pub raw : List ℕ
-  pub offset : ℕ
 
 -- no fault, or that of a field that isn't finished
 abbrev pub IsCalm : Option AFault → Type 0
@@ -39,15 +32,6 @@ abbrev pub ReportsAtEnd : DecodeError → Option AFault → Type 0
 ReportsAtEnd Memory fault = ⊤
 ReportsAtEnd (Fault f) fault = fault ≡ Some f
 ReportsAtEnd (Read kind) fault = ⊥
-
--- what a decoder holds of a stream: what is live of it, or the error that it keeps
-abbrev pub StandsAs : ℕ → Option DecodeError → Decoding → List ℕ → Type 0
-StandsAs limit None decoder stream = IsLive limit decoder.offset decoder.items decoder.raw stream
-StandsAs limit (Some error) decoder stream = (decoder.raw ≡ []) × ReportsEarly error (fault_within limit stream)
-
--- the decoder stands for this stream
-abbrev pub StandsFor : ℕ → Decoding → List ℕ → Type 0
-StandsFor limit decoder stream = StandsAs limit decoder.failure decoder stream
 
 -- a call answers the error that the decoder keeps, or Ok where there is none
 abbrev pub Answers : Option DecodeError → Result (Unit {0}) DecodeError → Type 0

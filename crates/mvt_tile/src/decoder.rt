@@ -1,14 +1,15 @@
 //! Reading a tile that comes in pieces.
 ghost use Rattle.std.specs.Prelude.{◌≡◌, ℕ, List, [], ◌++◌, length, None, IsSome, IfOk, IfErr, IfSome};
-ghost use Rattle.mvt_tile.specs.Streams.{StandsFor, Answers, ReportsAtEnd};
+ghost use Rattle.mvt_tile.specs.Decoding.{StandsFor};
+ghost use Rattle.mvt_tile.specs.Streams.{Answers, ReportsAtEnd};
 ghost use Rattle.mvt_tile.specs.TileRules.{fault_within};
 ghost use Rattle.mvt_model.specs.Tiles.{IsTile};
 ghost use Rattle.mvt_model.specs.ValidTiles.{Valid};
 
 use crate::fault::DecodeError;
-use crate::layers::Layers;
-use crate::partial_tile::PartialTile;
-use mvt_base::{Items, LIMIT};
+use crate::keeping::ItemKeeper;
+use crate::visiting_decoder::VisitingDecoder;
+use mvt_base::LIMIT;
 use mvt_model::Tile;
 use std::alloc::Global;
 use std::marker::Model;
@@ -28,48 +29,33 @@ use std::marker::Model;
 /// After an error it answers that error for good, and holds no bytes.
 #[derive(Drop)]
 pub struct TileDecoder {
-    alloc: Global,
-    partial: PartialTile<Layers>,
-    failure: Option<DecodeError>,
+    decoder: VisitingDecoder<ItemKeeper>,
 }
 
 impl Model for TileDecoder {
-    ghost use Rattle.std.specs.Prelude.{ℕ, ◌+◌, ◌≤◌, length, IfNone};
-    ghost use Rattle.mvt_base.specs.declared.TheConstants.{LIMIT};
-    ghost use Rattle.mvt_tile.specs.Streams.{Decoding};
+    ghost use Rattle.mvt_tile.specs.Decoding.{Decoding};
 
     ghost Value = { Decoding };
 
-    ghost view = { λ d. record {
-      failure = d.failure;
-      items = d.partial.visitor;
-      raw = d.partial.raw.items;
-      offset = d.partial.offset;
-    } };
-
-    ghost invariant = { λ d. IfNone d.failure
-        ((length d.partial.visitor ≤ d.partial.offset)
-        × (d.partial.offset + length d.partial.raw.items ≤ LIMIT)) };
+    ghost view = { λ d. (d.decoder.0, d.decoder.1.items.items) };
 }
 
 impl TileDecoder {
     /// A decoder of no bytes yet, which takes no memory.
     pub fn new(alloc: Global) -> Self
         ensures stands { StandsFor LIMIT result [] }
-        ensures fresh { result.failure ≡ None }
+        ensures fresh { result.0.failure ≡ None }
     {
         TileDecoder {
-            alloc,
-            partial: PartialTile::new(alloc, Layers::new(alloc)),
-            failure: None,
+            decoder: VisitingDecoder::new(alloc, ItemKeeper::new(alloc)),
         }
     }
 
     /// How many bytes stand after the last whole field; none after an error.
     pub fn held(&self) -> usize
-        ensures { result ≡ length self.now.raw }
+        ensures { result ≡ length self.now.0.raw }
     {
-        self.partial.raw.len()
+        self.decoder.held()
     }
 
     /// Takes a piece of the input.
@@ -80,20 +66,10 @@ impl TileDecoder {
     pub fn feed(&mut self, piece: &[u8]) -> Result<(), DecodeError>
         ensures stands { (s : List ℕ) → StandsFor LIMIT self.old s
             → StandsFor LIMIT self.new (s ++ piece.now) }
-        ensures answer { Answers self.new.failure result }
-        ensures sticky { IsSome self.old.failure → self.new ≡ self.old }
+        ensures answer { Answers self.new.0.failure result }
+        ensures sticky { IsSome self.old.0.failure → self.new ≡ self.old }
     {
-        if let Some(error) = self.failure {
-            return Err(error);
-        }
-        match self.partial.take(self.alloc, piece) {
-            Ok(()) => Ok(()),
-            Err(error) => {
-                self.partial.raw.clear();
-                self.failure = Some(error);
-                Err(error)
-            }
-        }
+        self.decoder.feed(piece)
     }
 
     /// The tile, after the last piece. It takes no memory.
@@ -107,22 +83,13 @@ impl TileDecoder {
         ensures valid { IfOk result Valid }
         ensures fault { IfErr result (λ error. (s : List ℕ) → StandsFor LIMIT self s
             → ReportsAtEnd error (fault_within LIMIT s)) }
-        ensures kept { IfSome self.failure (λ error. result ≡ Err error) }
-        ensures no_memory { self.failure ≡ None
+        ensures kept { IfSome self.0.failure (λ error. result ≡ Err error) }
+        ensures no_memory { self.0.failure ≡ None
             → IfErr result (λ error. (error ≡ DecodeError.Memory → ⊥)) }
     {
-        let TileDecoder {
-            partial,
-            failure,
-            ..
-        } = self;
-        if let Some(error) = failure {
-            return Err(error);
-        }
-        let layers = partial.finish()?;
-        Ok(Tile {
-            items: Items::new(layers.into_items()),
-        })
+        let TileDecoder { decoder } = self;
+        let keeper = decoder.finish()?;
+        Ok(keeper.into_tile())
     }
 }
 

@@ -8,17 +8,18 @@ ghost use Rattle.mvt_message.specs.declared.item.Item.{Item as AnItem};
 ghost use Rattle.mvt_model.specs.declared.tile.Tile.{Tile};
 ghost use Rattle.mvt_model.specs.Tiles.{IsTile};
 ghost use Rattle.mvt_tile.specs.Extraction.{AreExtracted, is_among};
+ghost use Rattle.mvt_tile.specs.Inner.Taking.{HasTaken};
 ghost use Rattle.mvt_tile.specs.Inner.Wanting.{HasRewritten};
 ghost use Rattle.mvt_tile.specs.Reading.{ReadsTile, fault_of, kind_of};
 ghost use Rattle.mvt_tile.specs.Streams.{ReportsAtEnd};
 ghost use Rattle.mvt_tile.specs.TileRules.{fault_within};
 
 use crate::fault::DecodeError;
-use crate::layers::set_of;
 use crate::name_set::NameSet;
+use crate::names::set_of;
 use crate::reading::read_whole;
 use crate::rewriting::Rewriter;
-use crate::walking::walk_whole;
+use crate::walking::{Taken, walk_whole};
 use mvt_base::{LIMIT, Text};
 use mvt_io::Source;
 use std::alloc::{AllocError, Global};
@@ -50,9 +51,9 @@ pub fn extract_bytes(
         × AreExtracted LIMIT tile (map string_bytes names.now) layers) }
     ensures fault { IfErr result (λ error. ReportsAtEnd error (fault_within LIMIT bytes.now)) }
 {
-    let mut rewriter = Rewriter::new(alloc, Some(set_of(alloc, names)?));
-    walk_whole(alloc, &mut rewriter, bytes)?;
-    Ok(rewritten(alloc, rewriter, names)?)
+    let rewriter = Rewriter::new(alloc, Some(set_of(alloc, names)?));
+    let taken = walk_whole(alloc, rewriter, bytes)?;
+    Ok(rewritten(alloc, taken, names)?)
 }
 
 /// The same of the tile that a reader has left. It reads no further after a fault.
@@ -74,21 +75,25 @@ pub fn extract_tile<R: Source>(
     ensures read { ReadsTile LIMIT (R.state reader.old) (R.state reader.new) (kind_of result) }
 {
     let rewriter = Rewriter::new(alloc, Some(set_of(alloc, names)?));
-    let rewriter = read_whole(alloc, reader, rewriter)?;
-    Ok(rewritten(alloc, rewriter, names)?)
+    let taken = read_whole(alloc, reader, rewriter)?;
+    Ok(rewritten(alloc, taken, names)?)
 }
 
 /// What was rewritten of the named layers, after the last item.
-fn rewritten(alloc: Global, rewriter: Rewriter, names: &[String]) -> Result<NamedLayers, AllocError>
+fn rewritten(
+    alloc: Global,
+    taken: Taken<Rewriter>,
+    names: &[String],
+) -> Result<NamedLayers, AllocError>
     ensures { (items : List AnItem)
-        → HasRewritten LIMIT (is_among (map string_bytes names.now)) rewriter items
+        → HasTaken (HasRewritten LIMIT (is_among (map string_bytes names.now))) taken items
         → IfOk result (AreExtracted LIMIT (record { items = items }) (map string_bytes names.now)) }
 {
-    let Rewriter {
+    let Taken {
         names: there,
-        out,
-        ..
-    } = rewriter;
+        visitor,
+    } = taken;
+    let Rewriter { out, .. } = visitor;
     if let Some(index) = first_missing(alloc, &there.names, names)? {
         return Ok(NamedLayers::Missing(index));
     }

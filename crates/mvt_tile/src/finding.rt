@@ -36,10 +36,11 @@ pub fn visit_named<V: TileVisitor>(
     bytes: &[u8],
     name: &[u8],
 ) -> Result<Option<V>, DecodeError>
-    requires { V.has_items visitor [] }
-    ensures found { IfOk result (λ found. MatchOption found (first_in name.now bytes.now ≡ None)
+    requires { (given : V.Given) × V.has_items given visitor [] }
+    ensures found { (given : V.Given) → V.has_items given visitor [] → IfOk result
+        (λ found. MatchOption found (first_in name.now bytes.now ≡ None)
         (λ visitor. (item : Item) × IsFirst name.now bytes.now item
-        × V.has_items visitor (item ∷ []))) }
+        × V.has_items given visitor (item ∷ []))) }
     ensures ok { OnOk result (named_fault LIMIT name.now bytes.now ≡ None) }
     ensures fault { IfErr result
         (λ error. ReportsAtEnd error (named_fault LIMIT name.now bytes.now)) }
@@ -116,10 +117,11 @@ fn visit_found<V: TileVisitor>(
     visitor: V,
     found: Found<'_>,
 ) -> Result<V, DecodeError>
-    requires start { V.has_items visitor [] }
+    requires start { (given : V.Given) × V.has_items given visitor [] }
     requires fits { found.payload_at + length found.payload.now ≤ LIMIT }
-    ensures item { IfOk result (λ visitor. (item : Item) × IsItem found.entry.payload.now item
-        × V.has_items visitor (item ∷ [])) }
+    ensures item { (given : V.Given) → V.has_items given visitor [] → IfOk result (λ visitor.
+        (item : Item) × IsItem found.entry.payload.now item
+        × V.has_items given visitor (item ∷ [])) }
     ensures ok { OnOk result (item_fault found.entry.payload.now found.entry.payload_at
         found.entry.tag_at ≡ None) }
     ensures fault { IfErr result (λ error. ReportsAtEnd error

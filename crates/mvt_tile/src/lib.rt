@@ -10,9 +10,10 @@ mod extraction;
 mod fault;
 mod finding;
 mod judging;
+mod keeping;
 pub mod laws;
-mod layers;
 mod name_set;
+mod names;
 mod partial_tile;
 mod reading;
 mod rewriting;
@@ -30,7 +31,6 @@ pub use extraction::extract;
 pub use fault::{DecodeError, Fault};
 pub use finding::visit_named;
 pub use judging::judge;
-pub use layers::add_name;
 pub use mvt_attrs::{Attribute, Value};
 pub use mvt_base::{Items, LIMIT, Text};
 pub use mvt_feature::{Cause, Feature};
@@ -40,6 +40,7 @@ pub use mvt_message::{Item, Layer, PutError};
 pub use mvt_model::{
     Note, Survey, Tile, WriteError, encode, feature_count, notes, numbers, write_tile,
 };
+pub use names::add_name;
 pub use reading::read_tile;
 pub use rewriting::{rewrite, rewrite_tile};
 pub use round_trip::write_and_read;

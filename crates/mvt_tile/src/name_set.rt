@@ -5,7 +5,7 @@ ghost use Rattle.std.specs.List.{list_any};
 ghost use Rattle.std.specs.Option.{option_to_list};
 ghost use Rattle.mvt_tile.specs.TileRules.{repeats};
 
-use crate::layers::{add_name, holds_name};
+use crate::names::{add_name, holds_name};
 use mvt_base::Text;
 use std::alloc::{AllocError, Global};
 use std::collections::BTreeSet;

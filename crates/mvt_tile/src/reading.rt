@@ -5,17 +5,19 @@ ghost use Rattle.mvt_base.specs.Reports.{Reports};
 ghost use Rattle.mvt_io.specs.States.{EndedBy};
 ghost use Rattle.mvt_io.specs.Transfers.{Reads};
 ghost use Rattle.mvt_tile.specs.Inner.Feeding.{HasFed, HasStopped};
+ghost use Rattle.mvt_tile.specs.Inner.Taking.{HasTaken};
 ghost use Rattle.mvt_tile.specs.Reading.{ReadsTile, fault_of, kind_of};
 ghost use Rattle.mvt_tile.specs.TileRules.{fault_within};
 ghost use Rattle.mvt_model.specs.declared.tile.Tile.{Tile};
-ghost use Rattle.mvt_model.specs.Tiles.{IsTile};
+ghost use Rattle.mvt_model.specs.Tiles.{HasDistinctNames, IsTile};
 ghost use Rattle.mvt_model.specs.ValidTiles.{Valid};
 
 use crate::fault::DecodeError;
-use crate::layers::Layers;
+use crate::keeping::ItemKeeper;
 use crate::partial_tile::PartialTile;
-use crate::walking::ItemVisitor;
-use mvt_base::{Items, LIMIT};
+use crate::visiting::TileVisitor;
+use crate::walking::Taken;
+use mvt_base::LIMIT;
 use mvt_io::Source;
 use mvt_model::Tile;
 use std::alloc::Global;
@@ -41,25 +43,23 @@ pub fn read_tile<R: Source>(alloc: Global, reader: &mut R) -> Result<Tile, Decod
         (λ input. Reports (fault_of error) (fault_within LIMIT input))) }
     ensures read { ReadsTile LIMIT (R.state reader.old) (R.state reader.new) (kind_of result) }
 {
-    let layers = read_whole(alloc, reader, Layers::new(alloc))?;
-    Ok(Tile {
-        items: Items::new(layers.into_items()),
-    })
+    let taken = read_whole(alloc, reader, ItemKeeper::new(alloc))?;
+    Ok(taken.visitor.into_tile())
 }
 
 /// Takes the items of a tile: all that the reader has left. It reads no further after a fault.
-pub(crate) fn read_whole<R: Source, T: ItemVisitor>(
+pub(crate) fn read_whole<R: Source, V: TileVisitor>(
     alloc: Global,
     reader: &mut R,
-    visitor: T,
-) -> Result<T, DecodeError>
-    requires start { (given : T.Given) × T.has_visited given visitor [] }
+    visitor: V,
+) -> Result<Taken<V>, DecodeError>
+    requires start { (given : V.Given) × V.has_items given visitor [] }
     ensures end { OnOk result (IsAtEnd (R.state reader.new).left) }
     ensures fault { IfErr result (λ error. IfSome (R.state reader.old).left
         (λ input. Reports (fault_of error) (fault_within LIMIT input))) }
-    ensures tile { (given : T.Given) → T.has_visited given visitor []
-        → IfOk result (λ after. (tile : Tile)
-        × T.has_visited given after tile.items
+    ensures tile { (given : V.Given) → V.has_items given visitor [] → IfOk result (λ taken.
+        (tile : Tile) × HasTaken (V.has_items given) taken tile.items
+        × HasDistinctNames tile.items
         × IfSome (R.state reader.old).left (λ bytes. IsTile LIMIT bytes tile)) }
     ensures read { ReadsTile LIMIT (R.state reader.old) (R.state reader.new) (kind_of result) }
 {
@@ -70,19 +70,19 @@ pub(crate) fn read_whole<R: Source, T: ItemVisitor>(
 }
 
 /// Takes the items in all that the reader has left, in pieces of the buffer's length at most.
-fn feed_all<R: Source, T: ItemVisitor>(
+fn feed_all<R: Source, V: TileVisitor>(
     alloc: Global,
     reader: &mut R,
-    partial: &mut PartialTile<T>,
+    partial: &mut PartialTile<V>,
     buffer: &mut [u8],
 ) -> Result<(), DecodeError>
     requires room { 0 < length buffer.old }
     requires few { length buffer.old ≤ 65536 }
-    requires start { (given : T.Given) × T.has_visited given partial.old.visitor [] }
+    requires start { (given : V.Given) × HasTaken (V.has_items given) partial.old.taken [] }
     requires raw { partial.old.raw.items ≡ [] }
     requires offset { partial.old.offset ≡ 0 }
-    ensures fed { (given : T.Given) → T.has_visited given partial.old.visitor [] → OnOk result
-        (HasFed LIMIT (T.has_visited given partial.new.visitor) partial.new.offset
+    ensures fed { (given : V.Given) → HasTaken (V.has_items given) partial.old.taken [] → OnOk result
+        (HasFed LIMIT (HasTaken (V.has_items given) partial.new.taken) partial.new.offset
         partial.new.raw.items (R.state reader.old).left (R.state reader.new).left 0) }
     ensures end { OnOk result (IsAtEnd (R.state reader.new).left) }
     ensures stopped { IfErr result (HasStopped LIMIT (R.state reader.new).given

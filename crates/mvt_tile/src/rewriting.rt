@@ -20,13 +20,14 @@ ghost use Rattle.mvt_tile.specs.Streams.{ReportsAtEnd, ReportsEarly};
 ghost use Rattle.mvt_tile.specs.TileRules.{fault_within, repeats};
 
 use crate::fault::DecodeError;
-use crate::judging::text_of;
-use crate::layers::{Names, holds_name};
+use crate::judging::ItemJudge;
+use crate::names::{holds_name, text_of};
 use crate::reading::read_whole;
-use crate::walking::{ItemVisitor, in_layer, walk_whole};
+use crate::visiting::{TileVisitor, visit_tile};
+use crate::walking::Taken;
 use mvt_base::{LIMIT, Text};
 use mvt_io::Source;
-use mvt_message::{name_in, rewrite_item};
+use mvt_message::{MessageError, name_in, rewrite_item};
 use mvt_model::encode_payload;
 use std::alloc::{AllocError, Global};
 use std::collections::BTreeSet;
@@ -44,8 +45,7 @@ pub fn rewrite(alloc: Global, bytes: &[u8]) -> Result<Option<Vec<u8>>, DecodeErr
         × IsEncoded LIMIT tile out) }
     ensures fault { IfErr result (λ error. ReportsAtEnd error (fault_within LIMIT bytes.now)) }
 {
-    let mut rewriter = Rewriter::of_all(alloc);
-    walk_whole(alloc, &mut rewriter, bytes)?;
+    let rewriter = visit_tile(alloc, Rewriter::of_all(alloc), bytes)?;
     Ok(rewriter.out)
 }
 
@@ -66,15 +66,14 @@ pub fn rewrite_tile<R: Source>(
         × IfSome (R.state reader.old).left (λ input. IsTile LIMIT input tile × Valid tile)) }
     ensures read { ReadsTile LIMIT (R.state reader.old) (R.state reader.new) (kind_of result) }
 {
-    let rewriter = read_whole(alloc, reader, Rewriter::of_all(alloc))?;
-    Ok(rewriter.out)
+    let Taken { visitor, .. } = read_whole(alloc, reader, Rewriter::of_all(alloc))?;
+    Ok(visitor.out)
 }
 
-/// The names of the layers so far, and the canonical bytes of the items that are wanted: of all of
-/// them, or of the layers whose names are in a set.
+/// The canonical bytes of the items so far that are wanted: of all of them, or of the layers whose
+/// names are in a set.
 #[derive(Drop)]
 pub(crate) struct Rewriter {
-    pub(crate) names: Names,
     pub(crate) wanted: Option<BTreeSet<Text>>,
     pub(crate) out: Option<Vec<u8>>,
 }
@@ -90,7 +89,6 @@ impl Rewriter {
         ensures { HasRewritten LIMIT (is_in (names_of wanted)) result [] }
     {
         Rewriter {
-            names: Names::new(alloc),
             wanted,
             out: Some(Vec::new(alloc)),
         }
@@ -112,27 +110,9 @@ impl Rewriter {
             Err(_) => Ok(false),
         }
     }
-
-    /// Adds an item that is wanted, with this name and this canonical payload.
-    fn add(&mut self, name: Option<Text>, tag_at: u64, canonical: &[u8]) -> Result<(), DecodeError>
-        requires { self.old.names.count ≤ LIMIT }
-        ensures added { (wanted : AnItem → Bool) (items : List AnItem) (item : AnItem)
-            → HasRewritten LIMIT wanted self.old items → names_in item ≡ option_to_list name
-            → ValidItem item → wanted item ≡ true → canonical.now ≡ canonical_item item
-            → OnOk result (HasRewritten LIMIT wanted self.new (items ++ item ∷ [])
-            × (repeats (flat_map names_in items) (names_in item) ≡ false)) }
-        ensures fault { (wanted : AnItem → Bool) (items : List AnItem)
-            → HasRewritten LIMIT wanted self.old items
-            → IfErr result (λ error. ReportsEarly error (name_fault (length items)
-            (flat_map names_in items) (option_to_list name) tag_at)) }
-    {
-        self.names.add(name, tag_at)?;
-        self.out = encode_payload(self.out.take(), canonical)?;
-        Ok(())
-    }
 }
 
-impl ItemVisitor for Rewriter {
+impl TileVisitor for Rewriter {
     ghost use Rattle.std.specs.Prelude.{Bool};
     ghost use Rattle.mvt_base.specs.declared.TheConstants.{LIMIT};
     ghost use Rattle.mvt_message.specs.declared.item.Item.{Item};
@@ -141,24 +121,26 @@ impl ItemVisitor for Rewriter {
     // Which items are wanted.
     ghost Given = { Item → Bool };
 
-    ghost has_visited = { HasRewritten LIMIT };
+    ghost has_items = { HasRewritten LIMIT };
 
-    /// Makes an item that is wanted canonical, and keeps its bytes; judges another. It keeps the
-    /// name of either.
+    /// Makes an item that is wanted canonical, and keeps its bytes; judges another.
     fn visit_item(
         &mut self,
         alloc: Global,
         payload: &[u8],
         payload_at: u64,
         tag_at: u64,
-    ) -> Result<(), DecodeError> {
+    ) -> Result<Option<Text>, MessageError> {
         if !self.wants(alloc, payload)? {
-            return self.names.visit_item(alloc, payload, payload_at, tag_at);
+            return ItemJudge.visit_item(alloc, payload, payload_at, tag_at);
         }
         let mut canonical = Vec::new(alloc);
         match rewrite_item(alloc, payload, payload_at, tag_at, &mut canonical) {
-            Ok(name) => self.add(text_of(alloc, name)?, tag_at, &canonical),
-            Err(error) => Err(in_layer(self.names.count, error)),
+            Ok(name) => {
+                self.out = encode_payload(self.out.take(), &canonical)?;
+                Ok(text_of(alloc, name)?)
+            }
+            Err(error) => Err(error),
         }
     }
 }

@@ -11,10 +11,10 @@ ghost use Rattle.mvt_model.specs.Tiles.{IsTile};
 ghost use Rattle.mvt_model.specs.ValidTiles.{Valid};
 
 use crate::fault::DecodeError;
-use crate::judging::text_of;
-use crate::layers::Names;
-use crate::walking::{ItemVisitor, in_layer, walk_whole};
-use mvt_base::LIMIT;
+use crate::names::text_of;
+use crate::visiting::{TileVisitor, visit_tile};
+use mvt_base::{LIMIT, Text};
+use mvt_message::MessageError;
 use mvt_model::{Findings, Survey};
 use std::alloc::Global;
 
@@ -32,50 +32,47 @@ pub fn survey_tile(alloc: Global, bytes: &[u8]) -> Result<Survey, DecodeError>
     ensures fault { IfErr result (λ error. ReportsAtEnd error (fault_within LIMIT bytes.now)) }
 {
     let fitting = &bytes[..bytes.len().min(LIMIT as usize)];
-    let mut surveyor = Surveyor {
-        names: Names::new(alloc),
+    let surveyor = Surveyor {
+        count: 0,
         found: Findings::new(alloc, fitting),
     };
-    walk_whole(alloc, &mut surveyor, bytes)?;
-    let Surveyor { names, found } = surveyor;
-    Ok(found.into_survey(names.count)?)
+    let Surveyor { count, found } = visit_tile(alloc, surveyor, bytes)?;
+    Ok(found.into_survey(count)?)
 }
 
-/// The names of the layers so far, and what was found of them.
+/// How many items there are so far, and what was found of them.
 #[derive(Drop)]
 struct Surveyor<'a> {
-    names: Names,
+    count: u32,
     found: Findings<'a>,
 }
 
-impl<'a> ItemVisitor for Surveyor<'a> {
-    ghost use Rattle.std.specs.Prelude.{List, ℕ};
-    ghost use Rattle.std.specs.List.{AllByRecursion};
+impl<'a> TileVisitor for Surveyor<'a> {
+    ghost use Rattle.std.specs.Prelude.{◌≡◌, List, length, ℕ};
     ghost use Rattle.mvt_base.specs.declared.TheConstants.{LIMIT};
-    ghost use Rattle.mvt_message.specs.ValidItems.{ValidItem};
-    ghost use Rattle.mvt_tile.specs.Inner.Judging.{AreNamed};
     ghost use Rattle.mvt_model.specs.Findings.{AreFound};
 
+    // The input.
     ghost Given = { List ℕ };
 
-    ghost has_visited = { λ input s items. AreNamed s.names.count s.names.names items
-        × AreFound LIMIT input s.found items × AllByRecursion ValidItem items };
+    ghost has_items = { λ input s items. (s.count ≡ length items)
+        × AreFound LIMIT input s.found items };
 
-    /// Keeps what is found of an item, and its name.
+    /// Keeps what is found of an item.
     fn visit_item(
         &mut self,
         alloc: Global,
         payload: &[u8],
         payload_at: u64,
         tag_at: u64,
-    ) -> Result<(), DecodeError> {
-        let index = self.names.count;
-        match self
-            .found
-            .add(alloc, index as usize, payload, payload_at, tag_at)
-        {
-            Ok(name) => self.names.add(text_of(alloc, name)?, tag_at),
-            Err(error) => Err(in_layer(index, error)),
+    ) -> Result<Option<Text>, MessageError> {
+        let index = self.count as usize;
+        match self.found.add(alloc, index, payload, payload_at, tag_at) {
+            Ok(name) => {
+                self.count += 1;
+                Ok(text_of(alloc, name)?)
+            }
+            Err(error) => Err(error),
         }
     }
 }

@@ -9,7 +9,7 @@ ghost use Rattle.mvt_model.specs.Tiles.{HasDistinctNames};
 ghost use Rattle.mvt_model.specs.ValidTiles.{Valid};
 
 use crate::extraction::has_layer;
-use crate::layers::{add_name, name_of};
+use crate::names::{add_name, name_of};
 use mvt_message::{Item, is_valid_item, validate_item};
 use mvt_model::Tile;
 use std::alloc::{AllocError, Global};

@@ -14,8 +14,7 @@ ghost use Rattle.mvt_tile.specs.Streams.{ReportsAtEnd};
 ghost use Rattle.mvt_tile.specs.TileRules.{fault_within};
 
 use crate::fault::DecodeError;
-use crate::layers::Names;
-use crate::walking::{ItemVisitor, in_layer, walk_whole};
+use crate::walking::walk_whole;
 use mvt_base::{LIMIT, Text};
 use mvt_message::MessageError;
 use std::alloc::Global;
@@ -23,8 +22,11 @@ use std::alloc::Global;
 /// What is told the items of a tile, one after the other. It judges an item while it takes it, but
 /// for its name.
 pub trait TileVisitor: Drop {
-    // What it has when it took these items.
-    ghost has_items: { Self → List Item → Type 0 };
+    // What it was given beside the items.
+    ghost Given: { Type 0 };
+
+    // What it has of that when it took these items.
+    ghost has_items: { Given → Self → List Item → Type 0 };
 
     /// Takes the item of a payload, and answers the name of the layer that it is. The payload's
     /// first byte and the tag of its field stand at these places.
@@ -39,11 +41,13 @@ pub trait TileVisitor: Drop {
         payload_at: u64,
         tag_at: u64,
     ) -> Result<Option<Text>, MessageError>
-        requires known { (items : List Item) × has_items self.old items }
+        requires known { (given : Given) × (items : List Item) × has_items given self.old items
+            × (length items ≤ LIMIT) }
         requires fits { payload_at + length payload.now ≤ LIMIT }
-        ensures item { (items : List Item) → has_items self.old items → IfOk result (λ name.
-            (item : Item) × IsItem payload.now item × ValidItem item
-            × (names_in item ≡ option_to_list name) × has_items self.new (items ++ item ∷ [])) }
+        ensures item { (given : Given) (items : List Item) → has_items given self.old items
+            → IfOk result (λ name. (item : Item) × IsItem payload.now item × ValidItem item
+            × (names_in item ≡ option_to_list name)
+            × has_items given self.new (items ++ item ∷ [])) }
         ensures fault { IfErr result (λ error. Reports (fault_of error)
             (item_fault payload.now payload_at tag_at)) };
 }
@@ -55,45 +59,12 @@ pub trait TileVisitor: Drop {
 /// The first fault, which is the one that [`decode`](crate::decode) tells; want of memory. Never a
 /// failed read.
 pub fn visit_tile<V: TileVisitor>(alloc: Global, visitor: V, bytes: &[u8]) -> Result<V, DecodeError>
-    requires { V.has_items visitor [] }
-    ensures tile { IfOk result (λ visitor. (tile : Tile) × IsTile LIMIT bytes.now tile × Valid tile
-        × V.has_items visitor tile.items) }
+    requires { (given : V.Given) × V.has_items given visitor [] }
+    ensures tile { (given : V.Given) → V.has_items given visitor [] → IfOk result (λ visitor.
+        (tile : Tile) × IsTile LIMIT bytes.now tile × Valid tile
+        × V.has_items given visitor tile.items) }
     ensures fault { IfErr result (λ error. ReportsAtEnd error (fault_within LIMIT bytes.now)) }
 {
-    let mut named = Named {
-        names: Names::new(alloc),
-        visitor,
-    };
-    walk_whole(alloc, &mut named, bytes)?;
-    Ok(named.visitor)
-}
-
-/// The names of the layers so far, and what takes the items.
-#[derive(Drop)]
-pub(crate) struct Named<V> {
-    pub(crate) names: Names,
-    pub(crate) visitor: V,
-}
-
-impl<V: TileVisitor> ItemVisitor for Named<V> {
-    ghost use Rattle.mvt_tile.specs.Visiting.{HasNamed};
-
-    ghost Given = { Unit {0} };
-
-    ghost has_visited = { λ _ named items. HasNamed (V.has_items named.visitor) named.names.count
-        named.names.names items };
-
-    /// Has the visitor take an item, and adds its name.
-    fn visit_item(
-        &mut self,
-        alloc: Global,
-        payload: &[u8],
-        payload_at: u64,
-        tag_at: u64,
-    ) -> Result<(), DecodeError> {
-        match self.visitor.visit_item(alloc, payload, payload_at, tag_at) {
-            Ok(name) => self.names.add(name, tag_at),
-            Err(error) => Err(in_layer(self.names.count, error)),
-        }
-    }
+    let taken = walk_whole(alloc, visitor, bytes)?;
+    Ok(taken.visitor)
 }

@@ -1,5 +1,5 @@
 //! Going over a tile that comes in pieces.
-ghost use Rattle.std.specs.Prelude.{◌≡◌, ℕ, List, [], ◌++◌, None, IsSome, IfOk, IfErr, IfSome};
+ghost use Rattle.std.specs.Prelude.{◌≡◌, ℕ, List, [], ◌++◌, length, None, IsSome, IfOk, IfErr, IfSome};
 ghost use Rattle.mvt_model.specs.declared.tile.Tile.{Tile};
 ghost use Rattle.mvt_model.specs.Tiles.{IsTile};
 ghost use Rattle.mvt_model.specs.ValidTiles.{Valid};
@@ -8,9 +8,8 @@ ghost use Rattle.mvt_tile.specs.TileRules.{fault_within};
 ghost use Rattle.mvt_tile.specs.Visiting.{StandsFor};
 
 use crate::fault::DecodeError;
-use crate::layers::Names;
 use crate::partial_tile::PartialTile;
-use crate::visiting::{Named, TileVisitor};
+use crate::visiting::TileVisitor;
 use mvt_base::LIMIT;
 use std::alloc::Global;
 use std::marker::Model;
@@ -22,7 +21,7 @@ use std::marker::Model;
 #[derive(Drop)]
 pub struct VisitingDecoder<V: TileVisitor> {
     alloc: Global,
-    partial: PartialTile<Named<V>>,
+    partial: PartialTile<V>,
     failure: Option<DecodeError>,
 }
 
@@ -36,19 +35,19 @@ impl<V: TileVisitor> Model for VisitingDecoder<V> {
     ghost view = { λ d. (
       record {
         failure = d.failure;
-        count = d.partial.visitor.names.count;
-        names = d.partial.visitor.names.names;
+        count = d.partial.taken.names.count;
+        names = d.partial.taken.names.names;
         raw = d.partial.raw.items;
         offset = d.partial.offset;
       },
-      d.partial.visitor.visitor,
+      d.partial.taken.visitor,
     ) };
 
-    ghost invariant = { λ d. IfNone d.failure ((s : List ℕ)
-        × HasVisited LIMIT (V.has_items d.partial.visitor.visitor) (record {
+    ghost invariant = { λ d. IfNone d.failure ((given : V.Given) × (s : List ℕ)
+        × HasVisited LIMIT (V.has_items given d.partial.taken.visitor) (record {
           failure = d.failure;
-          count = d.partial.visitor.names.count;
-          names = d.partial.visitor.names.names;
+          count = d.partial.taken.names.count;
+          names = d.partial.taken.names.names;
           raw = d.partial.raw.items;
           offset = d.partial.offset;
         }) s) };
@@ -57,19 +56,23 @@ impl<V: TileVisitor> Model for VisitingDecoder<V> {
 impl<V: TileVisitor> VisitingDecoder<V> {
     /// A decoder of no bytes yet, which takes no memory.
     pub fn new(alloc: Global, visitor: V) -> Self
-        requires { V.has_items visitor [] }
-        ensures stands { StandsFor LIMIT V.has_items result [] }
+        requires { (given : V.Given) × V.has_items given visitor [] }
+        ensures stands { (given : V.Given) → V.has_items given visitor []
+            → StandsFor LIMIT (V.has_items given) result [] }
         ensures fresh { result.0.failure ≡ None }
     {
-        let named = Named {
-            names: Names::new(alloc),
-            visitor,
-        };
         VisitingDecoder {
             alloc,
-            partial: PartialTile::new(alloc, named),
+            partial: PartialTile::new(alloc, visitor),
             failure: None,
         }
+    }
+
+    /// How many bytes stand after the last whole field; none after an error.
+    pub fn held(&self) -> usize
+        ensures { result ≡ length self.now.0.raw }
+    {
+        self.partial.raw.len()
     }
 
     /// Takes a piece of the input.
@@ -78,8 +81,9 @@ impl<V: TileVisitor> VisitingDecoder<V> {
     ///
     /// The first fault of the input so far, unless further bytes may change it; want of memory.
     pub fn feed(&mut self, piece: &[u8]) -> Result<(), DecodeError>
-        ensures stands { (s : List ℕ) → StandsFor LIMIT V.has_items self.old s
-            → StandsFor LIMIT V.has_items self.new (s ++ piece.now) }
+        ensures stands { (given : V.Given) (s : List ℕ)
+            → StandsFor LIMIT (V.has_items given) self.old s
+            → StandsFor LIMIT (V.has_items given) self.new (s ++ piece.now) }
         ensures answer { Answers self.new.0.failure result }
         ensures sticky { IsSome self.old.0.failure → self.new ≡ self.old }
     {
@@ -102,9 +106,13 @@ impl<V: TileVisitor> VisitingDecoder<V> {
     ///
     /// The error that the decoder keeps, or the fault of the field that isn't finished.
     pub fn finish(self) -> Result<V, DecodeError>
-        ensures tile { IfOk result (λ visitor. (s : List ℕ) → StandsFor LIMIT V.has_items self s
-            → (tile : Tile) × IsTile LIMIT s tile × Valid tile × V.has_items visitor tile.items) }
-        ensures fault { IfErr result (λ error. (s : List ℕ) → StandsFor LIMIT V.has_items self s
+        ensures tile { IfOk result (λ visitor. (given : V.Given) (s : List ℕ)
+            → StandsFor LIMIT (V.has_items given) self s → (tile : Tile) × IsTile LIMIT s tile
+            × Valid tile × V.has_items given visitor tile.items) }
+        ensures valid { IfOk result (λ visitor. (given : V.Given) × (tile : Tile) × Valid tile
+            × V.has_items given visitor tile.items) }
+        ensures fault { IfErr result (λ error. (given : V.Given) (s : List ℕ)
+            → StandsFor LIMIT (V.has_items given) self s
             → ReportsAtEnd error (fault_within LIMIT s)) }
         ensures kept { IfSome self.0.failure (λ error. result ≡ Err error) }
         ensures no_memory { self.0.failure ≡ None
@@ -118,7 +126,7 @@ impl<V: TileVisitor> VisitingDecoder<V> {
         if let Some(error) = failure {
             return Err(error);
         }
-        let named = partial.finish()?;
-        Ok(named.visitor)
+        let taken = partial.finish()?;
+        Ok(taken.visitor)
     }
 }

@@ -1,4 +1,4 @@
-//! The whole fields at the front of some bytes, and what takes the items in them.
+//! The whole fields at the front of some bytes, and a visitor that takes the items in them.
 ghost use Rattle.std.specs.Prelude.{◌≡◌, ◌≢◌, ℕ, ◌+◌, ◌≤◌, List, [], ◌∷◌, ◌++◌, length, IfOk, IfErr, OnOk, MatchOption};
 ghost use Rattle.std.specs.List.{flat_map};
 ghost use Rattle.mvt_base.specs.Rules.{first};
@@ -11,90 +11,113 @@ ghost use Rattle.mvt_message.specs.Items.{names_in};
 ghost use Rattle.mvt_model.specs.declared.numbers.tile.TheConstants.{LAYERS};
 ghost use Rattle.mvt_model.specs.declared.tile.Tile.{Tile};
 ghost use Rattle.mvt_tile.specs.Faults.{outer_fault};
+ghost use Rattle.mvt_tile.specs.Inner.Taking.{HasTaken};
 ghost use Rattle.mvt_tile.specs.Inner.Judging.{IsJudged, IsPlaceOf, TakesItem, ReportsAfter, payload_fault, repeated_at, reported_in};
 ghost use Rattle.mvt_tile.specs.Streams.{ReportsEarly, ReportsAtEnd};
 ghost use Rattle.mvt_tile.specs.TileRules.{field_rules, fault_within};
 ghost use Rattle.mvt_model.specs.Tiles.{AreItems, IsTile};
 
 use crate::fault::{DecodeError, Fault};
+use crate::names::Names;
+use crate::visiting::TileVisitor;
 use mvt_base::LIMIT;
 use mvt_message::{Cause, MessageError};
 use mvt_model::numbers::tile;
 use mvt_wire::{Field, Fields, Payload, WireCause, WireFault};
 use std::alloc::Global;
 
-/// What takes the items of a tile, one after the other.
-pub(crate) trait ItemVisitor: Drop {
-    // What it was given beside the items.
-    ghost Given: { Type 0 };
+/// A visitor, and the names of the layers that it took.
+#[derive(Drop)]
+pub(crate) struct Taken<V> {
+    pub(crate) names: Names,
+    pub(crate) visitor: V,
+}
 
-    // What it knows of that when it has taken these items.
-    ghost has_visited: { Given → Self → List Item → Type 0 };
+impl<V: TileVisitor> Taken<V> {
+    /// No items yet, without memory.
+    pub(crate) fn new(alloc: Global, visitor: V) -> Self
+        ensures { (given : V.Given) → V.has_items given visitor []
+            → HasTaken (V.has_items given) result [] }
+    {
+        Taken {
+            names: Names::new(alloc),
+            visitor,
+        }
+    }
 
-    /// Takes the item of a payload. Its first byte and the tag of its field stand at these places.
-    fn visit_item(
+    /// Has the visitor take the item of a payload, and adds its name. The payload's first byte and
+    /// the tag of its field stand at these places.
+    fn take_item(
         &mut self,
         alloc: Global,
         payload: &[u8],
         payload_at: u64,
         tag_at: u64,
     ) -> Result<(), DecodeError>
-        requires few { (given : Given) × (items : List Item) × has_visited given self.old items
-            × (length items ≤ LIMIT) }
+        requires few { (given : V.Given) × (items : List Item)
+            × HasTaken (V.has_items given) self.old items × (length items ≤ LIMIT) }
         requires fits { payload_at + length payload.now ≤ LIMIT }
-        ensures item { (given : Given) (items : List Item) → has_visited given self.old items
-            → OnOk result
-            ((new : List Item) × has_visited given self.new new × TakesItem items new payload.now) }
-        ensures fault { (given : Given) (items : List Item) → has_visited given self.old items
-            → IfErr result
+        ensures item { (given : V.Given) (items : List Item)
+            → HasTaken (V.has_items given) self.old items → OnOk result ((new : List Item)
+            × HasTaken (V.has_items given) self.new new × TakesItem items new payload.now) }
+        ensures fault { (given : V.Given) (items : List Item)
+            → HasTaken (V.has_items given) self.old items → IfErr result
             (λ error. ReportsEarly error (payload_fault (length items)
-            (flat_map names_in items) payload.now payload_at tag_at)) };
+            (flat_map names_in items) payload.now payload_at tag_at)) }
+    {
+        match self.visitor.visit_item(alloc, payload, payload_at, tag_at) {
+            Ok(name) => self.names.add(name, tag_at),
+            Err(error) => Err(in_layer(self.names.count, error)),
+        }
+    }
 }
 
 /// Takes the items of a tile: all bytes, which stand at the front of an input.
-pub(crate) fn walk_whole<T: ItemVisitor>(
+pub(crate) fn walk_whole<V: TileVisitor>(
     alloc: Global,
-    visitor: &mut T,
+    visitor: V,
     bytes: &[u8],
-) -> Result<(), DecodeError>
-    requires start { (given : T.Given) × T.has_visited given visitor.old [] }
-    ensures tile { (given : T.Given) → T.has_visited given visitor.old [] → OnOk result
-        ((tile : Tile) × IsTile LIMIT bytes.now tile × T.has_visited given visitor.new tile.items) }
+) -> Result<Taken<V>, DecodeError>
+    requires start { (given : V.Given) × V.has_items given visitor [] }
+    ensures tile { (given : V.Given) → V.has_items given visitor [] → IfOk result (λ taken.
+        (tile : Tile) × IsTile LIMIT bytes.now tile
+        × HasTaken (V.has_items given) taken tile.items) }
     ensures fault { IfErr result (λ error. ReportsAtEnd error (fault_within LIMIT bytes.now)) }
 {
     let (fitting, beyond) = bytes.split_at(bytes.len().min(LIMIT as usize));
-    let used = walk_fields(alloc, visitor, fitting, 0)?;
+    let mut taken = Taken::new(alloc, visitor);
+    let used = walk_fields(alloc, &mut taken, fitting, 0)?;
     if !beyond.is_empty() {
         return Err(DecodeError::Fault(Fault::outer(used as u64, Cause::TooLarge)));
     }
     if used < fitting.len() {
         return Err(DecodeError::Fault(Fault::outer(used as u64, Cause::Truncated)));
     }
-    Ok(())
+    Ok(taken)
 }
 
 /// Takes the items of the whole fields at the front, and answers how many bytes those are. The
 /// bytes stand at an offset of the input.
-pub(crate) fn walk_fields<T: ItemVisitor>(
+pub(crate) fn walk_fields<V: TileVisitor>(
     alloc: Global,
-    visitor: &mut T,
+    taken: &mut Taken<V>,
     bytes: &[u8],
     offset: u64,
 ) -> Result<usize, DecodeError>
-    requires few { (given : T.Given) × (items : List Item) × T.has_visited given visitor.old items
-        × (length items ≤ offset) }
+    requires few { (given : V.Given) × (items : List Item)
+        × HasTaken (V.has_items given) taken.old items × (length items ≤ offset) }
     requires fits { offset + length bytes.now ≤ LIMIT }
-    ensures judged { (given : T.Given) (items : List Item) → T.has_visited given visitor.old items
-        → IfOk result
-        (λ used. (new : List Item) × T.has_visited given visitor.new new
+    ensures judged { (given : V.Given) (items : List Item)
+        → HasTaken (V.has_items given) taken.old items → IfOk result
+        (λ used. (new : List Item) × HasTaken (V.has_items given) taken.new new
         × IsJudged offset bytes.now items new used) }
-    ensures fault { (given : T.Given) (items : List Item) → T.has_visited given visitor.old items
-        → IfErr result
+    ensures fault { (given : V.Given) (items : List Item)
+        → HasTaken (V.has_items given) taken.old items → IfErr result
         (λ error. ReportsAfter error offset bytes.now items) }
 {
     for field in Fields::new(bytes) {
         match field {
-            Ok(field) => take_field(alloc, visitor, &field, offset)?,
+            Ok(field) => take_field(alloc, taken, &field, offset)?,
             Err(fault) => return judge_rest(fault, offset),
         }
     }
@@ -152,29 +175,29 @@ fn layer_in<'a>(field: &Field<'a>, offset: u64) -> Result<Option<Place<'a>>, Dec
 }
 
 /// Takes the item of a field that holds one.
-fn take_field<T: ItemVisitor>(
+fn take_field<V: TileVisitor>(
     alloc: Global,
-    visitor: &mut T,
+    taken: &mut Taken<V>,
     field: &Field<'_>,
     offset: u64,
 ) -> Result<(), DecodeError>
-    requires few { (given : T.Given) × (items : List Item) × T.has_visited given visitor.old items
-        × (length items ≤ LIMIT) }
+    requires few { (given : V.Given) × (items : List Item)
+        × HasTaken (V.has_items given) taken.old items × (length items ≤ LIMIT) }
     requires place { offset + field.now.at ≤ LIMIT }
     requires fits { offset + (field.now.body + bytes_size (entry_of field.now).content) ≤ LIMIT }
-    ensures items { (given : T.Given) (items : List Item) → T.has_visited given visitor.old items
-        → OnOk result ((new : List Item)
-        × T.has_visited given visitor.new new × (length new ≤ length items + 1)
+    ensures items { (given : V.Given) (items : List Item)
+        → HasTaken (V.has_items given) taken.old items → OnOk result ((new : List Item)
+        × HasTaken (V.has_items given) taken.new new × (length new ≤ length items + 1)
         × ((front : List Entry) → AreItems front items
         → AreItems (front ++ shifted offset (entry_of field.now) ∷ []) new)) }
-    ensures fault { (given : T.Given) (items : List Item) → T.has_visited given visitor.old items
-        → IfErr result (λ error.
+    ensures fault { (given : V.Given) (items : List Item)
+        → HasTaken (V.has_items given) taken.old items → IfErr result (λ error.
         (front : List Entry) → AreItems front items
         → ReportsEarly error (first (field_rules front (shifted offset (entry_of field.now))))) }
 {
     match layer_in(field, offset)? {
         None => Ok(()),
-        Some(place) => visitor.visit_item(alloc, place.payload, place.payload_at, place.tag_at),
+        Some(place) => taken.take_item(alloc, place.payload, place.payload_at, place.tag_at),
     }
 }
 

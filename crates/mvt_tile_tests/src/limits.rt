@@ -5,7 +5,7 @@ use mvt_attrs::{Attribute, Value};
 use mvt_base::{Items, LIMIT, Text};
 use mvt_geometry::Geometry;
 use mvt_io::MemorySink;
-use mvt_message::{Cause, Feature, Item, is_valid_item, item_len, put_item, room_after_item};
+use mvt_message::{Cause, Feature, Item, is_valid_item, item_len, put_item};
 use mvt_tile::{
     DecodeError, Note, PutError, Tile, TileDecoder, WriteError, decode, encode, is_valid, judge,
     notes, rewrite, write_tile,
@@ -160,15 +160,13 @@ fn sharing(rt: &(impl Abort + AllocGlobal)) -> Tile {
     }
 }
 
-// The room that the bound of an item leaves of the limit, and its length.
 fn expect_lengths(rt: &(impl Abort + AllocGlobal), tile: &Tile) {
     for item in tile.items.as_slice() {
-        let (room, len) = match item {
-            Item::Layer(_) => (None, 1_049_505),
-            Item::Foreign { .. } => (Some(LIMIT - 5), 5),
+        let len = match item {
+            Item::Layer(_) => 1_049_505,
+            Item::Foreign { .. } => 5,
         };
         expect!(rt; is_valid_item(item));
-        expect_eq!(rt; room_after_item(item, LIMIT), room);
         expect_eq!(rt; item_len(rt.alloc(), item), Ok(len));
     }
 }
@@ -179,10 +177,11 @@ fn expect_read(rt: &(impl Abort + AllocGlobal), input: &[u8], tile: &Tile) {
     drop(read);
 }
 
-// A bound that shares no text exceeds the limit, and the bytes are within it: 13 a feature,
-// 1,048,584 of the text, 11 of the rest and 4 in front; then 7 of the other item.
+// Texts are beyond the limit if each counts for itself, and the bytes are within it, since the text
+// stands once: 13 a feature, 1,048,584 of the text, 11 of the rest and 4 in front; then 7 of the
+// other item.
 #[test]
-fn is_written_past_the_bound(rt: HostRuntime) {
+fn writes_a_shared_text_once(rt: HostRuntime) {
     let tile = sharing(&rt);
     expect!(rt; is_valid(&tile));
     let made = MemorySink::new(rt.alloc(), 1_049_516, limit(), u64::MAX, false);

@@ -1,10 +1,15 @@
 //! Rows whose geometries are at the limits of what can be drawn. What is written of them is the
 //! encoded tile that they are.
 use crate::expect::expect_eq;
+use crate::shapes::geometry_of;
+use mvt_base::{Items, Text};
+use mvt_message::{Feature, Item, Layer};
 use mvt_rows::{
-    FeatureRow, LayerRow, PartRow, PointRow, Rows, RowsError, Span, tile_of, write_rows,
+    FeatureRow, LayerRow, PartRow, PointRow, Rows, RowsCause, RowsError, RowsFault, Span,
+    write_rows,
 };
-use mvt_tile::{encode, validate};
+use mvt_tile::{Tile, encode, validate};
+use std::alloc::Global;
 use std::process::Abort;
 
 const NOWHERE: Span = Span { start: 0, len: 0 };
@@ -670,9 +675,26 @@ const NOT_DRAWN: [Rows; 21] = [
     },
 ];
 
+// The tile that rows are: layer `a` with their one feature.
+fn tile_of(alloc: Global, rows: &Rows) -> Option<Tile> {
+    let row = rows.features.first()?;
+    let feature = Feature {
+        id: None,
+        attributes: Items::new(Vec::new(alloc)),
+        geometry: geometry_of(alloc, rows, row)?,
+    };
+    let layer = Layer {
+        name: Text::from_str(alloc, "a").ok()?,
+        extent: 4096,
+        features: Items::new(vec![in alloc; feature].ok()?),
+    };
+    let items = Items::new(vec![in alloc; Item::Layer(layer)].ok()?);
+    Some(Tile { items })
+}
+
 // The bytes of the tile that rows are, where it is valid.
 fn encoded(rt: &(impl Abort + AllocGlobal), rows: &Rows) -> Option<Vec<u8>> {
-    let tile = tile_of(rt.alloc(), rows).ok()?;
+    let tile = tile_of(rt.alloc(), rows)?;
     if validate(rt.alloc(), &tile).expect(rt, "an answer") {
         return Some(encode(rt.alloc(), &tile).expect(rt, "bytes"));
     }
@@ -688,11 +710,29 @@ fn writes_what_can_be_drawn(rt: HostRuntime) {
     }
 }
 
+// Why the feature of rows isn't drawn: it is of no kind, its parts are none, or they can't be
+// drawn.
+fn cause_of(rt: &(impl Abort + AllocGlobal), rows: &Rows) -> RowsCause {
+    let row = rows.features.first().expect(rt, "a feature");
+    if row.kind > 3 {
+        return RowsCause::Kind;
+    }
+    match geometry_of(rt.alloc(), rows, row) {
+        Some(_) => RowsCause::Drawing,
+        None => RowsCause::Geometry,
+    }
+}
+
 #[test]
 fn refuses_what_cannot_be_drawn(rt: HostRuntime) {
     for rows in &NOT_DRAWN {
+        let fault = RowsFault {
+            layer: 0,
+            feature: Some(0),
+            cause: cause_of(&rt, rows),
+        };
         let error = write_rows(rt.alloc(), rows).err();
-        expect_eq!(rt; error, Some(RowsError::NoTile));
+        expect_eq!(rt; error, Some(RowsError::NoTile(fault)));
         expect_eq!(rt; encoded(&rt, rows), None);
     }
 }

@@ -1,5 +1,5 @@
-//! The tests of texts, pictures and rows: worked rows, each public call with ample memory, and
-//! refused growths. They call what is public, as any other crate does.
+//! The tests of texts, pictures, places and rows: worked rows, each public call with ample
+//! memory, and refused growths. They call what is public, as any other crate does.
 #![tactic(auto)]
 
 #[cfg(test)]
@@ -7,6 +7,12 @@ mod drawing;
 #[cfg(test)]
 mod expect;
 #[cfg(test)]
+mod places;
+#[cfg(test)]
 mod rows;
 #[cfg(test)]
+mod shapes;
+#[cfg(test)]
 mod view;
+#[cfg(test)]
+mod visiting_rows;

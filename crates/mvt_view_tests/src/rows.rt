@@ -1,12 +1,11 @@
 //! Rows that are tiles, and rows that are none.
 use crate::expect::{expect, expect_eq};
-use mvt_message::{Cause, MessageError};
+use mvt_message::Cause;
 use mvt_rows::{
     FeatureRow, LayerRow, PartRow, PointRow, Rows, RowsCause, RowsDecoder, RowsError, RowsFault,
-    RowsVisitor, Span, ValueRow, read_layer, read_rows, read_rows_within, rows_fault, tile_of,
-    write_rows,
+    RowsVisitor, Span, ValueRow, read_layer, read_rows, read_rows_within, rows_fault, write_rows,
 };
-use mvt_tile::{DecodeError, Fault, Tile, TileVisitor, encode, validate};
+use mvt_tile::{DecodeError, Fault, Tile, decode, encode, validate};
 use std::process::Abort;
 
 const NOWHERE: Span = Span { start: 0, len: 0 };
@@ -134,8 +133,9 @@ fn expect_written(rt: &(impl Abort + AllocGlobal), rows: &Rows, bytes: &[u8]) {
 }
 
 fn expect_refused(rt: &(impl Abort + AllocGlobal), rows: &Rows) {
+    let fault = fault_of(rt, rows).expect(rt, "a fault");
     let error = write_rows(rt.alloc(), rows).err();
-    expect_eq!(rt; error, Some(RowsError::NoTile));
+    expect_eq!(rt; error, Some(RowsError::NoTile(fault)));
 }
 
 #[test]
@@ -280,11 +280,16 @@ fn refuses_what_is_no_tile(rt: HostRuntime) {
 
 #[test]
 fn reports_why_nothing_is_made(rt: HostRuntime) {
+    let fault = RowsFault {
+        layer: 0,
+        feature: None,
+        cause: RowsCause::Key,
+    };
     let text = format!(in rt.alloc();
         "{}, {}, {}",
         RowsError::Memory,
         RowsError::TooLarge,
-        RowsError::NoTile
+        RowsError::NoTile(fault)
     )
     .expect(&rt, "a text");
     expect_eq!(rt;
@@ -359,14 +364,19 @@ fn finds_what_cannot_be_written(rt: HostRuntime) {
     expect_fault(&rt, &names, 3, None, RowsCause::RepeatedName);
 }
 
-// What keeps rows from being a tile is looked for in all of them first.
+// A layer is looked at to its end before the next.
 #[test]
-fn finds_what_is_no_tile_first(rt: HostRuntime) {
-    let rows = Rows {
+fn finds_what_is_wrong_layer_by_layer(rt: HostRuntime) {
+    let undrawn = Rows {
         texts: b"ab\x78",
         ..UNDRAWN
     };
-    expect_fault(&rt, &rows, 2, None, RowsCause::BytesSpan);
+    expect_fault(&rt, &undrawn, 0, Some(0), RowsCause::Drawing);
+    let drawn = Rows {
+        points: ONE_POINT.points,
+        ..undrawn
+    };
+    expect_fault(&rt, &drawn, 2, None, RowsCause::BytesSpan);
 }
 
 // The tile's canonical bytes; none where it isn't valid.
@@ -379,16 +389,18 @@ fn spelled(rt: &(impl Abort + AllocGlobal), tile: &Tile) -> Vec<u8> {
 
 #[test]
 fn makes_a_tile_of_rows(rt: HostRuntime) {
-    let tile = tile_of(rt.alloc(), &NUMBERS).expect(&rt, "a tile");
+    let written = write_rows(rt.alloc(), &NUMBERS).expect(&rt, "bytes");
+    let tile = decode(rt.alloc(), &written).expect(&rt, "a tile");
     let bytes = spelled(&rt, &tile);
     expect_eq!(rt; bytes.as_slice(), &NUMBERS_BYTES[..]);
     drop(bytes);
     drop(tile);
+    drop(written);
 }
 
 // Layer `a` of a point and a ring, with two keys and two values that no feature names, and a layer
 // of version 1.
-const READ_BYTES: [u8; 67] = [
+pub(crate) const READ_BYTES: [u8; 67] = [
     0x1A, 0x3D, 0x78, 0x02, 0x0A, 0x01, 0x61, 0x12, 0x0D, 0x08, 0x07, 0x12, 0x02, 0x02, 0x01, 0x18,
     0x01, 0x22, 0x03, 0x09, 0x32, 0x22, 0x12, 0x0F, 0x18, 0x03, 0x22, 0x0B, 0x09, 0x00, 0x00, 0x1A,
     0x14, 0x00, 0x00, 0x14, 0x13, 0x00, 0x0F, 0x1A, 0x01, 0x6B, 0x1A, 0x01, 0x75, 0x1A, 0x01, 0x6C,
@@ -396,7 +408,7 @@ const READ_BYTES: [u8; 67] = [
     0x02, 0x78, 0x01,
 ];
 
-const READ: Rows = Rows {
+pub(crate) const READ: Rows = Rows {
     layers: &[
         LayerRow {
             version: 2,
@@ -479,7 +491,7 @@ const READ: Rows = Rows {
     texts: b"xkula\x78\x01",
 };
 
-const NONE: Rows = Rows {
+pub(crate) const NONE: Rows = Rows {
     layers: &[],
     features: &[],
     keys: &[],
@@ -678,66 +690,6 @@ fn judging_rows_refused_memory(rt: HostRuntime) {
     let mut refused: u32 = 0;
     for _ in 0..2 {
         refused = refused.saturating_add(u32::from(is_judging_refused(&rt, &rows)));
-    }
-    expect!(rt; refused <= 1);
-}
-
-// The rows that a visitor has behind the fault of its first layer.
-fn rows_behind_a_fault(rt: &(impl Abort + AllocGlobal), bytes: &[u8; 67]) -> Rows {
-    let mut visitor = RowsVisitor::new(rt.alloc(), u64::MAX);
-    let done = visitor.visit_item(rt.alloc(), &bytes[2..63], 2, 0);
-    expect!(rt; matches!(done, Err(MessageError::Fault { .. })));
-    drop(done);
-    visitor.into_table().leak()
-}
-
-// The ring is closed twice, the tags of the first feature name a fourth key.
-#[test]
-fn keeps_no_part_of_a_broken_feature(rt: HostRuntime) {
-    let mut bytes = READ_BYTES;
-    bytes[38] = 0x17;
-    let rows = rows_behind_a_fault(&rt, &bytes);
-    expect_eq!(rt; rows.features, &READ.features[..1]);
-    expect_eq!(rt; rows.parts, &READ.parts[..1]);
-    expect_eq!(rt; rows.points, &READ.points[..1]);
-    bytes[13] = 3;
-    let rows = rows_behind_a_fault(&rt, &bytes);
-    expect_eq!(rt; rows.parts, NONE.parts);
-    expect_eq!(rt; rows.points, NONE.points);
-}
-
-// Each part of the rows is one feature's, and the points end with the last part.
-fn are_parts_of_features(rows: &Rows) -> bool {
-    let end = match rows.parts.last() {
-        Some(part) => part.points.start.checked_add(part.points.len),
-        None => Some(0),
-    };
-    rows.parts.len() == rows.features.len() && end == Some(rows.points.len() as u64)
-}
-
-fn is_visiting_refused(rt: &(impl Abort + AllocGlobal)) -> bool {
-    let mut visitor = RowsVisitor::new(rt.alloc(), u64::MAX);
-    let done = visitor.visit_item(rt.alloc(), &READ_BYTES[2..63], 2, 0);
-    let rows = visitor.into_table().leak();
-    expect!(rt; are_parts_of_features(&rows));
-    match done {
-        Ok(name) => {
-            expect_eq!(rt; rows.points, READ.points);
-            drop(name);
-            false
-        }
-        Err(error) => {
-            expect_eq!(rt; error, MessageError::Memory);
-            true
-        }
-    }
-}
-
-#[test]
-fn visiting_rows_refused_memory(rt: HostRuntime) {
-    let mut refused: u32 = 0;
-    for _ in 0..2 {
-        refused = refused.saturating_add(u32::from(is_visiting_refused(&rt)));
     }
     expect!(rt; refused <= 1);
 }

@@ -3,7 +3,7 @@ use Rattle.std.proofs.Common.{◌≡◌, ℕ, zero, suc, ◌+◌, ◌-◌, ◌*�
 use Rattle.std.proofs.Math.Pow.{pow_mono}
 use Rattle.std.proofs.lemmas.Bool.{cases_lt, cases_Bool, cond-true, cond-false, and_parts, and_from, and_left, and_right}
 use Rattle.std.proofs.lemmas.Nat.{row_fits, mod_below, shl_whole, or_shifted, or_comm, mul-add-lt, and_mask}
-use Rattle.std.proofs.lemmas.List.{length-append, length-take-le, get_or-take, take_at, take-append-drop, take_more, drop_more, append_cancel_left}
+use Rattle.std.proofs.lemmas.List.{length-append, length-take-le, get_or-take, take_at, take-append-drop, take_more, drop_more}
 use Rattle.mvt_wire.specs.declared.fault.WireCause.{WireCause}
 use Rattle.mvt_wire.specs.declared.fault.WireCause.TheVariants.{Truncated, VarintRange}
 use Rattle.mvt_wire.specs.Varint.{groups_from, Spells, SpellsNone, spell_cause}
@@ -371,13 +371,3 @@ same_found b front back found n e joined s = same_ok _ _ _ e (ap number_at joine
 
 pub none_found : (b front back : List ℕ) (c : WireCause) (n : ℕ) → number_at b ≡ Err c → b ≡ front ++ back → Spells front n → ⊥
 none_found b front back c n e joined s = let there = sym e ∙ ap number_at joined ∙ number_spelled front back n s in cc
-
--- two spellings at the front of one list are one
-pub varint_once : (a b x y : List ℕ) (m n : ℕ) → Spells a m → Spells b n → a ++ x ≡ b ++ y → (a ≡ b) × (x ≡ y) × (m ≡ n)
-varint_once a b x y m n left right joined =
-    let same : pair_of m (length a) ≡ pair_of n (length b) =
-    same_ok _ _ (number_at (a ++ x)) (number_spelled a x m left) (ap number_at joined ∙ number_spelled b y n right) in
-    let number : m ≡ n = ap (λ p. p.0) same in
-    let size : length a ≡ length b = ap (λ p. p.1) same in
-    let front : a ≡ b = sym (take_at a x (length b) size) ∙ ap (take (length b)) joined ∙ take_at b y (length b) refl in
-    (front, append_cancel_left a x y (joined ∙ ap (λ s. s ++ y) (sym front)), number)

@@ -13,12 +13,6 @@ ghost use Rattle.mvt_wire.specs.Spelling.{IsFit, IsWholeAs, Plain, short_field, 
 ghost use Rattle.mvt_wire.specs.Zigzag.{zig, unzig};
 ghost use Rattle.mvt_wire.specs.Split.{Split, Whole, split, split_from, behind, no_fields, shifted, shifted_parts};
 
-/// At most one prefix of a list spells a number, and it spells one number.
-pub fn one_varint()
-    ensures { (a b x y : List ℕ) (m n : ℕ) → Spells a m → Spells b n → a ++ x ≡ b ++ y
-        → (a ≡ b) × (x ≡ y) × (m ≡ n) }
-{}
-
 /// `short` is a spelling, no spelling is shorter, and it is the only one of its length.
 pub fn short_varint()
     ensures spells { (n : ℕ) → n < 2 ^ 64 → Spells (short n) n }
@@ -171,21 +165,9 @@ pub fn short_lengths()
     ensures numbers { (ns : List ℕ) → length ns ≤ length (short_numbers ns) }
 {}
 
-/// Packed numbers of 32 bits take five bytes each at most.
-pub fn packed_lengths()
-    ensures { (ns : List ℕ) → AllByRecursion (λ n. n < 2 ^ 32) ns
-        → length (short_numbers ns) ≤ 5 * length ns }
-{}
-
 /// Fields after others are spelled after them.
 pub fn spelled_parts()
     ensures { (fs gs : List Plain) → spelled (fs ++ gs) ≡ spelled fs ++ spelled gs }
-{}
-
-/// A field of bytes whose tag takes one byte takes at most eleven bytes more than they are.
-pub fn bytes_lengths()
-    ensures { (number : ℕ) (d : List ℕ) → number < 16
-        → length (short_field number (bytes d)) ≤ 11 + length d }
 {}
 
 /// `unzig` gives the number of a zigzag code, and `zig` the code of a number.

@@ -1,7 +1,7 @@
 """The calls that make bytes and texts."""
 
 import ctypes
-from typing import Any, Callable, Dict, Iterable, List, Union
+from typing import Any, Callable, Dict, Iterable, Union
 
 from ._errors import MvtError, NoLayer, NoTile, Refused, TooLarge
 from ._library import LISTS, Bytes, FaultRow, PlaceRow, RowsFaultRow, TileRows, library
@@ -35,8 +35,6 @@ def raise_for(status: int, fault: FaultRow, tile: bytes = b"") -> None:
         raise MemoryError("out of memory")
     if status == TOO_LARGE:
         raise TooLarge("the result is larger than 67108864 bytes")
-    if status == NO_LAYER:
-        raise _Missing
     if status == NO_TILE:
         raise NoTile("these rows are no valid tile")
     if status != 0:
@@ -48,11 +46,11 @@ def held(tile: Buffer) -> bytes:
     return tile if isinstance(tile, bytes) else bytes(memoryview(tile))
 
 
-def made(call: Callable[..., int], tile: bytes, *arguments: Any) -> bytes:
+def made(call: Callable[..., int], tile: bytes) -> bytes:
     """What a call of a tile hands out through its last two parameters."""
     out, fault = Bytes(), FaultRow()
     try:
-        raise_for(call(tile, len(tile), *arguments, ctypes.byref(out), ctypes.byref(fault)), fault, tile)
+        raise_for(call(tile, len(tile), ctypes.byref(out), ctypes.byref(fault)), fault, tile)
         return out.copy()
     finally:
         library.mvt_bytes_free(ctypes.byref(out))
@@ -79,25 +77,16 @@ def extract(tile: Buffer, names: Iterable[str]) -> bytes:
     tile = held(tile)
     encoded = [name.encode() for name in names]
     rows = (Bytes * len(encoded))(*[Bytes(ctypes.cast(ctypes.c_char_p(name), ctypes.c_void_p), len(name)) for name in encoded])
+    out, fault, missing = Bytes(), FaultRow(), ctypes.c_size_t()
     try:
-        return made(library.mvt_extract, tile, rows, len(encoded))
-    except _Missing:
-        raise NoLayer(_first_missing(tile, encoded)) from None
-
-
-class _Missing(MvtError):
-    """The library doesn't say which layer it missed."""
-
-
-def _first_missing(tile: bytes, names: List[bytes]) -> str:
-    """The first of the names that alone is missed too."""
-    for name in names:
-        row, out, fault = Bytes(ctypes.cast(ctypes.c_char_p(name), ctypes.c_void_p), len(name)), Bytes(), FaultRow()
-        status = library.mvt_extract(tile, len(tile), ctypes.byref(row), 1, ctypes.byref(out), ctypes.byref(fault))
-        library.mvt_bytes_free(ctypes.byref(out))
+        told = (ctypes.byref(out), ctypes.byref(fault), ctypes.byref(missing))
+        status = library.mvt_extract_layers(tile, len(tile), rows, len(encoded), *told)
         if status == NO_LAYER:
-            return name.decode()
-    raise MemoryError("out of memory")
+            raise NoLayer(encoded[missing.value].decode())
+        raise_for(status, fault, tile)
+        return out.copy()
+    finally:
+        library.mvt_bytes_free(ctypes.byref(out))
 
 
 def report(tile: Buffer) -> str:
@@ -116,11 +105,8 @@ def to_svg(tile: Buffer) -> str:
     return made(library.mvt_svg, held(tile)).decode()
 
 
-def _no_tile(rows: TileRows) -> NoTile:
+def _no_tile(fault: RowsFaultRow) -> NoTile:
     """What is wrong with rows that are no valid tile."""
-    fault = RowsFaultRow()
-    if library.mvt_judge_rows(ctypes.byref(rows), ctypes.byref(fault)) != NO_TILE:
-        raise MemoryError("out of memory")
     feature = fault.feature if fault.has_feature else None
     place = f"layer {fault.layer}" + ("" if feature is None else f" feature {feature}")
     why = NoTile(f"{place}: {library.mvt_rows_cause_text(fault.cause).decode()}")
@@ -130,7 +116,7 @@ def _no_tile(rows: TileRows) -> NoTile:
 
 def written(lists: Dict[str, Any]) -> bytes:
     """The canonical bytes of the tile that rows are, of an array for each list, by its name."""
-    rows, out, lent = TileRows(), Bytes(), []
+    rows, out, wrong, lent = TileRows(), Bytes(), RowsFaultRow(), []
     for name, row in LISTS.items():
         size = memoryview(lists[name]).nbytes
         if size != 0:
@@ -138,9 +124,9 @@ def written(lists: Dict[str, Any]) -> bytes:
             setattr(rows, name, ctypes.addressof(lent[-1]))
             setattr(rows, name + "_count", size // ctypes.sizeof(row))
     try:
-        status = library.mvt_write(ctypes.byref(rows), ctypes.byref(out))
+        status = library.mvt_write_rows(ctypes.byref(rows), ctypes.byref(out), ctypes.byref(wrong))
         if status == NO_TILE:
-            raise _no_tile(rows)
+            raise _no_tile(wrong)
         raise_for(status, FaultRow())
         return out.copy()
     finally:

@@ -51,6 +51,7 @@ library = _load()
 _TILE = [c_char_p, c_size_t]
 library.mvt_rewrite.argtypes = [*_TILE, POINTER(Bytes), POINTER(FaultRow)]
 library.mvt_extract.argtypes = [*_TILE, POINTER(Bytes), c_size_t, POINTER(Bytes), POINTER(FaultRow)]
+library.mvt_extract_layers.argtypes = [*library.mvt_extract.argtypes, POINTER(c_size_t)]
 library.mvt_json.argtypes = [*_TILE, POINTER(Bytes), POINTER(FaultRow)]
 library.mvt_svg.argtypes = [*_TILE, POINTER(Bytes), POINTER(FaultRow)]
 library.mvt_report.argtypes = [*_TILE, POINTER(Bytes), POINTER(FaultRow)]
@@ -59,8 +60,11 @@ library.mvt_read.argtypes = [*_TILE, POINTER(TileRows), POINTER(FaultRow)]
 library.mvt_read_within.argtypes = [*_TILE, c_uint64, POINTER(TileRows), POINTER(FaultRow)]
 library.mvt_read_layer.argtypes = [*_TILE, Bytes, POINTER(TileRows), POINTER(FaultRow)]
 library.mvt_write.argtypes = [POINTER(TileRows), POINTER(Bytes)]
+library.mvt_write_rows.argtypes = [POINTER(TileRows), POINTER(Bytes), POINTER(RowsFaultRow)]
 library.mvt_judge_rows.argtypes = [POINTER(TileRows), POINTER(RowsFaultRow)]
-for _name in ("judge", "judge_rows", "read", "read_within", "read_layer", "write", "rewrite", "extract", "json", "svg", "report"):
+for _name in ("judge", "judge_rows", "read", "read_within", "read_layer", "write", "write_rows"):
+    getattr(library, "mvt_" + _name).restype = c_uint32
+for _name in ("rewrite", "extract", "extract_layers", "json", "svg", "report"):
     getattr(library, "mvt_" + _name).restype = c_uint32
 library.mvt_decoder_new_within.argtypes = [POINTER(DecoderRow), c_uint64]
 library.mvt_decoder_feed.argtypes = [POINTER(DecoderRow), *_TILE, POINTER(FaultRow)]

@@ -3,7 +3,6 @@
 use crate::error::error_of;
 use crate::output::lent;
 use crate::{sys, Bytes, Error, RowsFault, Tile};
-use std::collections::HashSet;
 use std::ffi::CStr;
 
 /// A fault that nothing was told of.
@@ -151,32 +150,27 @@ pub fn rewrite(bytes: &[u8]) -> Result<Bytes, Error> {
 /// [`Error::OutOfMemory`].
 pub fn extract(bytes: &[u8], names: &[&str]) -> Result<Bytes, Error> {
     let wanted: Vec<sys::Bytes> = names.iter().map(|name| lent(name.as_bytes())).collect();
-    let mut is_missing = false;
+    let mut missing = None;
     let told = made(bytes, |out, fault| {
-        let (start, count) = (wanted.as_ptr(), wanted.len());
-        // SAFETY: as in `read`; the names are lent for the call.
-        let status =
-            unsafe { sys::mvt_extract(bytes.as_ptr(), bytes.len(), start, count, out, fault) };
-        is_missing = status == sys::NO_LAYER;
+        let (start, count, mut index) = (wanted.as_ptr(), wanted.len(), 0);
+        // SAFETY: as in `read`; the names are lent for the call, and the index has room.
+        let status = unsafe {
+            sys::mvt_extract_layers(
+                bytes.as_ptr(),
+                bytes.len(),
+                start,
+                count,
+                out,
+                fault,
+                &mut index,
+            )
+        };
+        missing = (status == sys::NO_LAYER).then_some(index);
         status
     });
-    if is_missing {
-        return Err(missing(bytes, names));
-    }
-    told
-}
-
-/// The first of the names that no layer of a tile has. The library says that there is one, and not which.
-fn missing(bytes: &[u8], names: &[&str]) -> Error {
-    let tile = match read(bytes) {
-        Ok(tile) => tile,
-        Err(error) => return error,
-    };
-    let layers = tile.layers().filter(|layer| layer.version() == 2);
-    let there: HashSet<&str> = layers.map(|layer| layer.name()).collect();
-    match names.iter().find(|name| !there.contains(*name)) {
-        Some(name) => Error::NoLayer((*name).into()),
-        None => Error::OutOfMemory,
+    match missing {
+        Some(index) => Err(Error::NoLayer(names[index].into())),
+        None => told,
     }
 }
 
@@ -236,36 +230,23 @@ pub fn write(tile: &Tile) -> Result<Bytes, Error> {
 /// The lists of the rows can be read.
 pub(crate) unsafe fn written(rows: &sys::Tile) -> Result<Bytes, Error> {
     let mut out = no_bytes();
-    // SAFETY: by the condition of this function; the output has room.
-    match unsafe { sys::mvt_write(rows, &mut out) } {
-        // SAFETY: the call filled the bytes, which nothing else gives back.
-        sys::OK => Ok(unsafe { Bytes::adopt(out) }),
-        // SAFETY: by the condition of this function.
-        sys::NO_TILE => Err(unsafe { why_no_tile(rows) }),
-        // SAFETY: the status isn't that of a fault.
-        status => Err(unsafe { error_of(status, &[], &no_fault()) }),
-    }
-}
-
-/// What is wrong with rows that are no valid tile.
-///
-/// # Safety
-/// The lists of the rows can be read.
-unsafe fn why_no_tile(rows: &sys::Tile) -> Error {
     let mut fault = sys::RowsFault {
         layer: 0,
         feature: 0,
         has_feature: 0,
         cause: 0,
     };
-    // SAFETY: by the condition of this function; the fault has room.
-    match unsafe { sys::mvt_judge_rows(rows, &mut fault) } {
-        sys::NO_TILE => Error::NoTile(RowsFault {
+    // SAFETY: by the condition of this function; the output and the fault have room.
+    match unsafe { sys::mvt_write_rows(rows, &mut out, &mut fault) } {
+        // SAFETY: the call filled the bytes, which nothing else gives back.
+        sys::OK => Ok(unsafe { Bytes::adopt(out) }),
+        sys::NO_TILE => Err(Error::NoTile(RowsFault {
             layer: fault.layer,
             feature: (fault.has_feature == 1).then_some(fault.feature),
             cause: fault.cause,
-        }),
-        _ => Error::OutOfMemory,
+        })),
+        // SAFETY: the status isn't that of a fault.
+        status => Err(unsafe { error_of(status, &[], &no_fault()) }),
     }
 }
 

@@ -187,6 +187,15 @@ extern "C" {
         out: *mut Bytes,
         fault: *mut Fault,
     ) -> u32;
+    pub fn mvt_extract_layers(
+        bytes: *const u8,
+        len: usize,
+        names: *const Bytes,
+        count: usize,
+        out: *mut Bytes,
+        fault: *mut Fault,
+        missing: *mut usize,
+    ) -> u32;
     pub fn mvt_json(bytes: *const u8, len: usize, out: *mut Bytes, fault: *mut Fault) -> u32;
     pub fn mvt_svg(bytes: *const u8, len: usize, out: *mut Bytes, fault: *mut Fault) -> u32;
     pub fn mvt_judge(bytes: *const u8, len: usize, fault: *mut Fault) -> u32;
@@ -207,6 +216,7 @@ extern "C" {
         fault: *mut Fault,
     ) -> u32;
     pub fn mvt_write(tile: *const Tile, out: *mut Bytes) -> u32;
+    pub fn mvt_write_rows(tile: *const Tile, out: *mut Bytes, fault: *mut RowsFault) -> u32;
     pub fn mvt_judge_rows(tile: *const Tile, fault: *mut RowsFault) -> u32;
     pub fn mvt_rows_cause_text(cause: u32) -> *const c_char;
     pub fn mvt_decoder_new(decoder: *mut Decoder) -> u32;

@@ -4,7 +4,7 @@ use Rattle.std.specs.Int.Signed.{lt_z}
 use Rattle.mvt_geometry.specs.declared.shape.Point.{Point}
 use Rattle.mvt_geometry.specs.declared.shape.Polygon.{Polygon}
 use Rattle.mvt_geometry.specs.Area.{area2}
-use Rattle.mvt_geometry.specs.Visiting.{Part}
+use Rattle.mvt_geometry.specs.Visiting.{Part, ring_part}
 
 -- the interior rings of a polygon that is open before these rings, and the polygons after it
 pub record Groups : Type 0 where
@@ -30,7 +30,7 @@ opened outer rest rings = record { outer = outer; rest = rest ++ (groups_of ring
 abbrev pub parts_of_rings : Bool → List (List Point) → List Part
 parts_of_rings is_first [] = []
 parts_of_rings is_first (ring ∷ rings) =
-    record { exterior = is_first || lt_z (pos 0) (area2 ring); points = ring } ∷ parts_of_rings false rings
+    ring_part (is_first || lt_z (pos 0) (area2 ring)) ring ∷ parts_of_rings false rings
 
 -- the polygons of rings whose first is exterior
 abbrev pub polygons_of : List (List Point) → List Polygon

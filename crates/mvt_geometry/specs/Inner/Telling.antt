@@ -5,6 +5,7 @@ use Rattle.mvt_wire.specs.Packed.{ArePacked}
 use Rattle.mvt_geometry.specs.declared.shape.Point.{Point}
 use Rattle.mvt_geometry.specs.Area.{area2}
 use Rattle.mvt_geometry.specs.Drawing.{path_from, stroke, strokes}
+use Rattle.mvt_geometry.specs.Rings.{is_closed}
 use Rattle.mvt_geometry.specs.Parts.{AreStrokes, IsStrokeFrom, end_of}
 use Rattle.mvt_geometry.specs.Shape.{origin, last_of}
 use Rattle.mvt_geometry.specs.Visiting.{Part}
@@ -41,12 +42,14 @@ pub record IsHead (least : ℕ) (from head : Point) (count : ℕ) (bytes behind 
   pub spelled : SpellsFront bytes (9 ∷ (path_from from (head ∷ []) ++ (2 + 8 * count) ∷ [])) behind
 
 -- a line or ring in front
-pub record IsLine (least : ℕ) (close : List ℕ) (from : Point) (bytes behind : List ℕ) (count : ℕ) (end : Point) (area : ℤ) (line : List Point) : Type 0 where
+pub record IsLine (least : ℕ) (close : List ℕ) (from : Point) (bytes behind : List ℕ) (count : ℕ) (end : Point) (area : ℤ) (closed : Bool)
+    (line : List Point) : Type 0 where
   pub is : IsStrokeFrom least from line
   pub spelled : SpellsFront bytes (stroke close from line) behind
   pub long : count ≡ length line
   pub end_is : end ≡ last_of from line
   pub area_is : area ≡ area2 line
+  pub closed_is : closed ≡ is_closed line
 
 -- the lines or rings in front of the rest, at least one of them if none is left
 pub record AreInFront (least : ℕ) (close bytes rest : List ℕ) (cursor : Point) (lines : List (List Point)) : Type 0 where

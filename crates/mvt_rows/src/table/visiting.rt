@@ -130,7 +130,9 @@ impl RowsVisitor {
 impl TileVisitor for RowsVisitor {
     ghost use Rattle.mvt_rows.specs.Visiting.{AreItemRows};
 
-    ghost has_items = { λ rows items. AreItemRows rows.table items };
+    ghost Given = { Unit {0} };
+
+    ghost has_items = { λ _ rows items. AreItemRows rows.table items };
 
     fn visit_item(
         &mut self,

@@ -1,15 +1,18 @@
-//! What the rows of features say, for writing.
-ghost use Rattle.std.specs.Prelude.{◌≡◌, List, length, IfOk, IfErr};
-ghost use Rattle.mvt_attrs.specs.declared.value.Value.{Value};
+//! What the rows of features say.
+ghost use Rattle.std.specs.Prelude.{◌≡◌, ◌<◌, ◌^◌, List, Some, None, length, IfOk, IfErr, IfSome, OnOk, if◌then◌else◌};
+ghost use Rattle.mvt_attrs.specs.declared.value.Value.{Value as AValue};
 ghost use Rattle.mvt_rows.specs.Lent.{table_of};
-ghost use Rattle.mvt_rows.specs.Writing.{AreFeatureParts, IsValidFeatureOf};
-ghost use Rattle.mvt_rows.specs.Written.{FailsAs, IsNone};
+ghost use Rattle.mvt_rows.specs.RowsFaults.{feature_cause};
+ghost use Rattle.mvt_rows.specs.TileRows.{id_of};
+ghost use Rattle.mvt_rows.specs.Writing.{AreFeatureParts};
+ghost use Rattle.mvt_rows.specs.Written.{IsWrongAs};
 
 use super::geometries::draw_geometry;
+use super::parts::part;
+use super::values::truth;
 use crate::rows::{FeatureRow, Rows};
-use crate::rows_error::RowsError;
-use crate::tiles::features::id;
-use crate::tiles::parts::part;
+use crate::rows_cause::RowsCause;
+use crate::rows_error::{RowError, if_any};
 use crate::work::Work;
 use mvt_attrs::{LayerKeys, judge_tags};
 use mvt_geometry::Kind;
@@ -21,11 +24,12 @@ use std::alloc::Global;
 pub(crate) struct FeatureParts {
     pub(crate) id: Option<u64>,
     pub(crate) tags: &'static [u32],
-    pub(crate) kind: Kind,
+    /// The type of its geometry; `None` where no integers draw that.
+    pub(crate) kind: Option<Kind>,
 }
 
 /// What the row of a feature says, in a layer with these keys and this number of values. The
-/// integers become those that draw its geometry.
+/// integers become those that draw its geometry, where there are any.
 pub(crate) fn feature_parts(
     alloc: Global,
     rows: &Rows,
@@ -34,18 +38,44 @@ pub(crate) fn feature_parts(
     row: &FeatureRow,
     work: &mut Work,
     integers: &mut PackedNumbers,
-) -> Result<FeatureParts, RowsError>
-    ensures parts { (held : List Value) → length held ≡ values
+) -> Result<FeatureParts, RowError>
+    ensures parts { (held : List AValue) → length held ≡ values
         → IfOk result (AreFeatureParts (table_of rows.now) keys.old held row.now integers.new) }
-    ensures none { (held : List Value) → length held ≡ values → IfErr result (FailsAs
-        (IsNone (IsValidFeatureOf (table_of rows.now) keys.old held row.now))) }
+    ensures clean { (held : List AValue) → length held ≡ values
+        → OnOk result (feature_cause (table_of rows.now) keys.old held row.now ≡ None) }
+    ensures wrong { (held : List AValue) → length held ≡ values
+        → IfErr result (IsWrongAs (feature_cause (table_of rows.now) keys.old held row.now)) }
     ensures same { keys.new ≡ keys.old }
 {
     let Some(id) = id(row) else {
-        return Err(RowsError::NoTile);
+        return Err(RowError::Wrong(None, RowsCause::HasId));
     };
-    let tags = part(rows.tags, row.tags, work)?;
+    let Some(tags) = if_any(part(rows.tags, row.tags, work))? else {
+        return Err(RowError::Wrong(None, RowsCause::TagsSpan));
+    };
     judge_tags(alloc, keys, values, tags)?;
-    let kind = draw_geometry(rows, row, work, integers)?;
+    if row.kind > 3 {
+        return Err(RowError::Wrong(None, RowsCause::Kind));
+    }
+    let Some(kind) = if_any(draw_geometry(rows, row, work, integers))? else {
+        return Err(RowError::Wrong(None, RowsCause::Geometry));
+    };
     Ok(FeatureParts { id, tags, kind })
+}
+
+fn id(row: &FeatureRow) -> Option<Option<u64>>
+    ensures id { result ≡ id_of row.now }
+    ensures fits { IfSome result (λ id. IfSome id (λ n. n < 2 ^ 64)) }
+{
+    match truth(u64::from(row.has_id)) {
+        Some(has_id) => Some(id_if(has_id, row.id)),
+        None => None,
+    }
+}
+
+fn id_if(has_id: bool, id: u64) -> Option<u64>
+    ensures id { result ≡ (if has_id then Some id else None) }
+    ensures fits { IfSome result (λ n. n < 2 ^ 64) }
+{
+    if has_id { Some(id) } else { None }
 }

@@ -1,17 +1,17 @@
 //! Geometries drawn straight from their rows.
-ghost use Rattle.std.specs.Prelude.{◌≡◌, ◌∷◌, ◌++◌, [], List, map, IfOk, IfErr, Some, option_map};
+ghost use Rattle.std.specs.Prelude.{◌≡◌, ◌∷◌, ◌++◌, [], List, map, IfOk, IfErr, None, option_map};
 ghost use Rattle.mvt_geometry.specs.declared.shape.Geometry.TheVariants.{Lines, Polygons};
 ghost use Rattle.mvt_geometry.specs.declared.shape.Point.{Point as APoint};
 ghost use Rattle.mvt_geometry.specs.declared.shape.Polygon.{Polygon};
-ghost use Rattle.mvt_rows.specs.Drawing.{AreDrawn, DrawnLines, DrawnPolygons, IsDrawable, IsFollowedBy, role_of as the_role_of};
+ghost use Rattle.mvt_rows.specs.Drawing.{AreDrawnIf, DrawnLines, DrawnPolygons, IsFollowedBy, role_of as the_role_of};
 ghost use Rattle.mvt_rows.specs.Lent.{table_of};
 ghost use Rattle.mvt_rows.specs.TileRows.{each, geometry_of, line_of, point_of, points_of, steps, with_ring_row};
-ghost use Rattle.mvt_rows.specs.Written.{FailsAs, IsNone};
+ghost use Rattle.mvt_rows.specs.Written.{FailsAs};
 
+use super::parts::part;
+use super::values::truth;
 use crate::rows::{FeatureRow, PartRow, PointRow, Rows};
-use crate::rows_error::RowsError;
-use crate::tiles::parts::part;
-use crate::tiles::values::truth;
+use crate::rows_error::RowPartError;
 use crate::work::Work;
 use mvt_geometry::{
     Kind, PartError, Point, Position, RingRole, append_integers, append_line, append_points,
@@ -37,8 +37,8 @@ impl Position for PointRow {
     }
 }
 
-/// Draws the geometry of a feature's row, and answers its type. The list then has its integers
-/// alone.
+/// Draws the geometry of a feature's row, and answers its type; `None` where there is one that no
+/// integers draw. The list then has its integers alone.
 ///
 /// Parts that can't be drawn are told only after all parts have counted.
 pub(crate) fn draw_geometry(
@@ -46,23 +46,22 @@ pub(crate) fn draw_geometry(
     row: &FeatureRow,
     work: &mut Work,
     integers: &mut PackedNumbers,
-) -> Result<Kind, RowsError>
+) -> Result<Option<Kind>, RowPartError>
     ensures drawn { IfOk result
-        (λ kind. AreDrawn (geometry_of (table_of rows.now) row.now) kind integers.new) }
-    ensures refused { IfErr result
-        (FailsAs (IsNone (IsDrawable (geometry_of (table_of rows.now) row.now)))) }
+        (λ drawn. AreDrawnIf (geometry_of (table_of rows.now) row.now) drawn integers.new) }
+    ensures none { IfErr result (FailsAs (geometry_of (table_of rows.now) row.now ≡ None)) }
 {
     integers.clear();
     if row.kind == 0 {
         append_integers(integers, part(rows.integers, row.integers, work)?)?;
-        return Ok(Kind::Unknown);
+        return Ok(Some(Kind::Unknown));
     }
     let parts = part(rows.parts, row.parts, work)?;
     match row.kind {
         1 => draw_points(rows.points, parts, work, integers),
         2 => draw_lines(rows.points, parts, work, integers),
         3 => draw_polygons(rows.points, parts, work, integers),
-        _ => Err(RowsError::NoTile),
+        _ => Err(RowPartError::NoPart),
     }
 }
 
@@ -72,20 +71,19 @@ fn draw_points(
     rows: &[PartRow],
     work: &mut Work,
     integers: &mut PackedNumbers,
-) -> Result<Kind, RowsError>
+) -> Result<Option<Kind>, RowPartError>
     requires { integers.now ≡ [] }
     ensures drawn { IfOk result
-        (λ kind. AreDrawn (points_of points.now rows.now) kind integers.new) }
-    ensures refused { IfErr result
-        (FailsAs (IsNone (IsDrawable (points_of points.now rows.now)))) }
+        (λ drawn. AreDrawnIf (points_of points.now rows.now) drawn integers.new) }
+    ensures none { IfErr result (FailsAs (points_of points.now rows.now ≡ None)) }
 {
     let [row] = rows else {
-        return Err(RowsError::NoTile);
+        return Err(RowPartError::NoPart);
     };
     match append_points(integers, part(points, row.points, work)?) {
-        Ok(()) => Ok(Kind::Point),
-        Err(PartError::Invalid) => Err(RowsError::NoTile),
-        Err(PartError::Memory) => Err(RowsError::Memory),
+        Ok(()) => Ok(Some(Kind::Point)),
+        Err(PartError::Invalid) => Ok(None),
+        Err(PartError::Memory) => Err(RowPartError::Memory),
     }
 }
 
@@ -94,12 +92,11 @@ fn draw_lines(
     rows: &[PartRow],
     work: &mut Work,
     integers: &mut PackedNumbers,
-) -> Result<Kind, RowsError>
+) -> Result<Option<Kind>, RowPartError>
     requires { integers.now ≡ [] }
-    ensures drawn { IfOk result (λ kind. AreDrawn
-        (option_map Lines (each (line_of points.now) rows.now)) kind integers.new) }
-    ensures refused { IfErr result (FailsAs (IsNone (IsDrawable
-        (option_map Lines (each (line_of points.now) rows.now))))) }
+    ensures drawn { IfOk result (λ drawn. AreDrawnIf
+        (option_map Lines (each (line_of points.now) rows.now)) drawn integers.new) }
+    ensures none { IfErr result (FailsAs (each (line_of points.now) rows.now ≡ None)) }
 {
     let mut cursor = Some(ORIGIN);
     for row in rows {
@@ -107,9 +104,9 @@ fn draw_lines(
         cursor = draw_line(integers, cursor, line)?;
     }
     if rows.is_empty() || cursor.is_none() {
-        return Err(RowsError::NoTile);
+        return Ok(None);
     }
-    Ok(Kind::LineString)
+    Ok(Some(Kind::LineString))
 }
 
 /// Draws one line more. The cursor is `None` from where a line can't be drawn.
@@ -137,27 +134,26 @@ fn draw_polygons(
     rows: &[PartRow],
     work: &mut Work,
     integers: &mut PackedNumbers,
-) -> Result<Kind, RowsError>
+) -> Result<Option<Kind>, RowPartError>
     requires { integers.now ≡ [] }
-    ensures drawn { IfOk result (λ kind. AreDrawn
-        (option_map Polygons (steps (with_ring_row points.now) [] rows.now)) kind integers.new) }
-    ensures refused { IfErr result (FailsAs (IsNone (IsDrawable
-        (option_map Polygons (steps (with_ring_row points.now) [] rows.now))))) }
+    ensures drawn { IfOk result (λ drawn. AreDrawnIf
+        (option_map Polygons (steps (with_ring_row points.now) [] rows.now)) drawn integers.new) }
+    ensures none { IfErr result (FailsAs (steps (with_ring_row points.now) [] rows.now ≡ None)) }
 {
     let mut cursor = Some(ORIGIN);
     let mut begun = false;
     for row in rows {
         let ring = part(points, row.points, work)?;
         let Some(role) = role_of(row, begun) else {
-            return Err(RowsError::NoTile);
+            return Err(RowPartError::NoPart);
         };
         cursor = draw_ring(integers, cursor, ring, role)?;
         begun = true;
     }
     if !begun || cursor.is_none() {
-        return Err(RowsError::NoTile);
+        return Ok(None);
     }
-    Ok(Kind::Polygon)
+    Ok(Some(Kind::Polygon))
 }
 
 /// What the ring of a row is, where a polygon was begun before it or none.

@@ -1,5 +1,5 @@
 //! A layer of rows written feature by feature.
-ghost use Rattle.std.specs.Prelude.{◌≡◌, ◌∷◌, ◌++◌, [], List, Some, IfOk, IfErr, OnOk};
+ghost use Rattle.std.specs.Prelude.{◌≡◌, ◌∷◌, ◌++◌, [], List, None, Some, IfOk, IfErr, OnOk};
 ghost use Rattle.mvt_base.specs.declared.TheConstants.{LIMIT as the_limit};
 ghost use Rattle.mvt_base.specs.Related.{AreRelated};
 ghost use Rattle.mvt_attrs.specs.declared.value.Value.{Value as AValue};
@@ -7,15 +7,17 @@ ghost use Rattle.mvt_feature.specs.declared.feature.Feature.{Feature};
 ghost use Rattle.mvt_message.specs.declared.item.Layer.{Layer};
 ghost use Rattle.mvt_message.specs.Rewriting.{HasWrittenUpTo, IsPayloadOf};
 ghost use Rattle.mvt_rows.specs.Lent.{table_of};
-ghost use Rattle.mvt_rows.specs.TileRows.{IsLayer, text_of};
-ghost use Rattle.mvt_rows.specs.Writing.{AreInRange, AreLayerParts, IsValidFeatureOf, IsValidLayerOf};
-ghost use Rattle.mvt_rows.specs.Written.{FailsAs, IsNone};
+ghost use Rattle.mvt_rows.specs.RowsFaults.{IsFeatureWrong, IsFeatureWrongIn, IsInsideWrong, IsValidFeatureOf, IsValidLayerOf, parts_cause};
+ghost use Rattle.mvt_rows.specs.TileRows.{text_of};
+ghost use Rattle.mvt_rows.specs.Writing.{AreInRange, AreLayerParts};
+ghost use Rattle.mvt_rows.specs.Written.{IfWrong, IsWrongAs};
 
 use super::features::feature_parts;
+use super::parts::{keys, part};
+use super::values::values;
 use crate::rows::{FeatureRow, LayerRow, Rows};
-use crate::rows_error::RowsError;
-use crate::tiles::parts::{keys, part};
-use crate::tiles::values::values;
+use crate::rows_cause::RowsCause;
+use crate::rows_error::{RowError, if_any};
 use crate::work::Work;
 use mvt_attrs::{LayerKeys, Value};
 use mvt_base::Text;
@@ -32,12 +34,12 @@ pub(crate) fn layer_payload(
     row: &LayerRow,
     name: &str,
     work: &mut Work,
-) -> Result<Option<Vec<u8>>, RowsError>
+) -> Result<Option<Vec<u8>>, RowError>
     requires { text_of rows.now.texts.now row.now.name ≡ Some name.now }
     ensures payload { IfOk result (λ payload. (layer : Layer)
         × IsValidLayerOf (table_of rows.now) row.now layer × IsPayloadOf the_limit layer payload) }
-    ensures refused { IfErr result
-        (FailsAs (IsNone (IsValidLayerOf (table_of rows.now) row.now))) }
+    ensures clean { OnOk result (parts_cause (table_of rows.now) row.now ≡ None) }
+    ensures wrong { IfErr result (IfWrong (IsInsideWrong (table_of rows.now) row.now)) }
 {
     let parts = layer_parts(alloc, rows, row, work)?;
     let LayerParts {
@@ -66,14 +68,26 @@ fn layer_parts(
     rows: &Rows,
     row: &LayerRow,
     work: &mut Work,
-) -> Result<LayerParts, RowsError>
+) -> Result<LayerParts, RowError>
     ensures parts { IfOk result (AreLayerParts (table_of rows.now) row.now) }
-    ensures none { IfErr result (FailsAs (IsNone (IsLayer (table_of rows.now) row.now))) }
+    ensures clean { OnOk result (parts_cause (table_of rows.now) row.now ≡ None) }
+    ensures wrong { IfErr result (IsWrongAs (parts_cause (table_of rows.now) row.now)) }
 {
-    let keys = keys(alloc, rows.texts, part(rows.keys, row.keys, work)?, work)?;
-    let of_values = part(rows.values, row.values, work)?;
-    let values = values(alloc, rows.texts, of_values, work)?;
-    let rows = part(rows.features, row.features, work)?;
+    let Some(spans) = if_any(part(rows.keys, row.keys, work))? else {
+        return Err(RowError::Wrong(None, RowsCause::KeysSpan));
+    };
+    let Some(keys) = if_any(keys(alloc, rows.texts, spans, work))? else {
+        return Err(RowError::Wrong(None, RowsCause::Key));
+    };
+    let Some(of_values) = if_any(part(rows.values, row.values, work))? else {
+        return Err(RowError::Wrong(None, RowsCause::ValuesSpan));
+    };
+    let Some(values) = if_any(values(alloc, rows.texts, of_values, work))? else {
+        return Err(RowError::Wrong(None, RowsCause::Value));
+    };
+    let Some(rows) = if_any(part(rows.features, row.features, work))? else {
+        return Err(RowError::Wrong(None, RowsCause::FeaturesSpan));
+    };
     Ok(LayerParts { keys, values, rows })
 }
 
@@ -102,21 +116,25 @@ fn write_features(
     of_layer: &[FeatureRow],
     work: &mut Work,
     writer: &mut LayerWriter,
-) -> Result<(), RowsError>
+) -> Result<(), RowError>
     ensures written { (values : List AValue) → AreInRange keys.now values
         → HasWrittenUpTo the_limit keys.now values writer.old []
         → OnOk result ((features : List Feature)
         × AreRelated (IsValidFeatureOf (table_of rows.now) keys.now values) of_layer.now features
         × HasWrittenUpTo the_limit keys.now values writer.new features) }
-    ensures refused { (values : List AValue) → AreInRange keys.now values
+    ensures wrong { (values : List AValue) → AreInRange keys.now values
         → HasWrittenUpTo the_limit keys.now values writer.old []
-        → IfErr result (FailsAs (IsNone (AreRelated
-        (IsValidFeatureOf (table_of rows.now) keys.now values) of_layer.now))) }
+        → IfErr result (IfWrong (IsFeatureWrongIn (table_of rows.now) keys.now values
+        of_layer.now)) }
 {
     let mut layer_keys = LayerKeys::new(alloc, keys);
     let mut lists = FeatureLists::with_room(alloc)?;
-    for row in of_layer {
-        write_feature(alloc, rows, row, &mut layer_keys, work, &mut lists, writer)?;
+    for (index, row) in of_layer.iter().enumerate() {
+        let keys = &mut layer_keys;
+        match write_feature(alloc, rows, row, keys, work, &mut lists, writer) {
+            Ok(()) => {}
+            Err(error) => return Err(error.at_feature(index)),
+        }
     }
     Ok(())
 }
@@ -130,21 +148,23 @@ fn write_feature(
     work: &mut Work,
     lists: &mut FeatureLists,
     writer: &mut LayerWriter,
-) -> Result<(), RowsError>
+) -> Result<(), RowError>
     ensures written { (values : List AValue) (features : List Feature)
         → AreInRange keys.old values
         → HasWrittenUpTo the_limit keys.old values writer.old features
         → OnOk result ((f : Feature)
         × IsValidFeatureOf (table_of rows.now) keys.old values row.now f
         × HasWrittenUpTo the_limit keys.old values writer.new (features ++ f ∷ [])) }
-    ensures refused { (values : List AValue) (features : List Feature)
+    ensures wrong { (values : List AValue) (features : List Feature)
         → HasWrittenUpTo the_limit keys.old values writer.old features
-        → IfErr result (FailsAs (IsNone
-        (IsValidFeatureOf (table_of rows.now) keys.old values row.now))) }
+        → IfErr result (IfWrong (IsFeatureWrong (table_of rows.now) keys.old values row.now)) }
     ensures same { keys.new ≡ keys.old }
 {
     let values = writer.value_count();
     let FeatureLists { scratch, integers } = lists;
     let parts = feature_parts(alloc, rows, keys, values, row, work, integers)?;
-    Ok(writer.add_drawn_feature(parts.id, parts.tags, parts.kind, integers, scratch)?)
+    let Some(kind) = parts.kind else {
+        return Err(RowError::Wrong(None, RowsCause::Drawing));
+    };
+    Ok(writer.add_drawn_feature(parts.id, parts.tags, kind, integers, scratch)?)
 }

@@ -1,14 +1,12 @@
 -- The items of a tile that are rewritten.
 use Rattle.std.specs.Prelude.{◌≡◌, ℕ, Bool, true, List, filter, bytes_eq, Option, Some, None}
-use Rattle.std.specs.List.{AllByRecursion, list_any}
+use Rattle.std.specs.List.{list_any}
 use Rattle.std.specs.BTreeSet.{BTreeSet, keys}
 use Rattle.std.specs.Option.{option_map}
 use Rattle.mvt_message.specs.declared.item.Item.{Item}
 use Rattle.mvt_message.specs.Items.{names_in}
-use Rattle.mvt_message.specs.ValidItems.{ValidItem}
 use Rattle.mvt_model.specs.Encoding.{AreEncoded}
 use Rattle.mvt_tile.specs.declared.rewriting.Rewriter.{Rewriter}
-use Rattle.mvt_tile.specs.Inner.Judging.{AreNamed}
 use Rattle.mvt_tile.specs.TileRules.{repeats}
 
 -- the names that are wanted, if only some are
@@ -28,9 +26,7 @@ all_items item = true
 abbrev pub IsSetOf : List (List ℕ) → List (List ℕ) → Type 0
 IsSetOf keys names = (n : List ℕ) → list_any (bytes_eq n) keys ≡ list_any (bytes_eq n) names
 
--- of these items, all of which are valid, the wanted ones are encoded
+-- of these items the wanted ones are encoded
 pub record HasRewritten (limit : ℕ) (wanted : Item → Bool) (r : Rewriter) (items : List Item) : Type 0 where
-  pub named : AreNamed r.names.count r.names.names items
   pub encoded : AreEncoded limit (filter wanted items) r.out
-  pub valid : AllByRecursion ValidItem items
   pub wants : (item : Item) → is_in (names_of r.wanted) item ≡ wanted item

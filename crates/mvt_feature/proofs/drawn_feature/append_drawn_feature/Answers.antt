@@ -1,6 +1,7 @@
 use Rattle.std.proofs.Common.{◌≡◌, ◌++◌, refl, ap, ap₂, ◌∙◌}
 use Rattle.std.proofs.lemmas.Result.{on_ok_weaker}
 use Rattle.mvt_attrs.specs.TagPlaces.{tags_in}
+use Rattle.mvt_attrs.specs.Using.{used_of}
 use Rattle.mvt_wire.specs.Spelling.{spelled}
 use Rattle.mvt_feature.specs.Canonical.{id_fields, tags_fields, drawing_fields}
 use Rattle.mvt_feature.proofs.RewritingLemmas.{fields_written}
@@ -10,7 +11,7 @@ pub returns-clause-feature : goal.returns-clause-feature
 returns-clause-feature c = λ keys held f uses id draws names.
     let used = c.in_ok-append_used.ensures.used keys held f.attributes uses names in
     let new = c.append_used.new.self in
-    let places = tags_in new.keys.used.items new.values.used.items f.attributes in
+    let places = tags_in (used_of new.keys) (used_of new.values) f.attributes in
     let tags : c.deref.result.now ≡ places =
     c.deref.ensures.value ∙ c.in_ok-append_used.ensures.tags keys held f.attributes uses names
     ∙ ap (λ l. l ++ places) c.clear.ensures.items in

@@ -2,6 +2,7 @@ use Rattle.std.proofs.Common.{◌≡◌, ◌++◌, ap, subst, sym, ◌∙◌}
 use Rattle.std.proofs.lemmas.Result.{on_ok_weaker}
 use Rattle.mvt_attrs.specs.Tags.{Names}
 use Rattle.mvt_attrs.specs.TagPlaces.{tags_in}
+use Rattle.mvt_attrs.specs.Using.{used_of}
 use Rattle.mvt_wire.specs.Spelling.{spelled}
 use Rattle.mvt_feature.specs.Canonical.{id_fields, tags_fields, drawing_fields}
 use Rattle.mvt_wire.specs.Split.{split}
@@ -16,7 +17,7 @@ returns-clause-rewritten c = λ keys held f uses is are.
     let names = subst (λ ts. Names keys held ts f.attributes) (sym c.deref.ensures.value) are.tags.named in
     let used = c.in_ok-append_used.ensures.used keys held f.attributes uses names in
     let new = c.append_used.new.self in
-    let places = tags_in new.keys.used.items new.values.used.items f.attributes in
+    let places = tags_in (used_of new.keys) (used_of new.values) f.attributes in
     let tags : c.deref-2.result.now ≡ places =
     c.deref-2.ensures.value ∙ c.in_ok-append_used.ensures.tags keys held f.attributes uses names
     ∙ ap (λ l. l ++ places) (c.reserve.ensures.items ∙ c.clear.ensures.items) in

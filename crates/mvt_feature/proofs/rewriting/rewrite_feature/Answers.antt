@@ -11,3 +11,8 @@ returns-clause-feature c = λ held uses.
       are.id,
       subst (λ i. Draws c.in_ok-known.known.kind i f.geometry) (sym c.append_judged.ensures.integers) are.integers,
     )
+
+pub returns-clause-uses : goal.returns-clause-uses
+returns-clause-uses c = λ held uses.
+    let (f, is, are) = c.in_ok-known.ensures.judged held (sym (c.len-values.ensures held uses.1)) in
+    c.in_ok-append_judged.ensures.uses c.args.keys.now held f uses are

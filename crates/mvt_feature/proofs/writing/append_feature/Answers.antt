@@ -1,49 +1,30 @@
-use Rattle.std.proofs.Common.{length}
-use Rattle.std.proofs.lemmas.Result.{err_from_is_err_and}
+use Rattle.std.proofs.Common.{◌≡◌, ◌++◌, [], ap, ap₂, refl, sym, subst, ◌∙◌, append-nil}
 use Rattle.mvt_base.proofs.ResultLemmas.{on_err}
-use Rattle.mvt_feature.proofs.WritingLemmas.{kept_as_it_was, all_placed, all_reported, none_full, reported_as, full_as}
+use Rattle.mvt_attrs.specs.TagPlaces.{tags_in}
+use Rattle.mvt_attrs.specs.Using.{IsUsedBy, used_of}
+use Rattle.mvt_geometry.specs.Drawing.{drawn}
+use Rattle.mvt_wire.specs.Spelling.{spelled}
+use Rattle.mvt_feature.specs.Canonical.{id_fields, tags_fields, drawing_fields}
+use Rattle.mvt_feature.proofs.RewritingLemmas.{fields_written}
 use Rattle.mvt_feature.proofs.writing.append_feature.Goals as goal
 
-pub returns-in_err-append_tags-clause-out_left : goal.returns-in_err-append_tags-clause-out_left
-returns-in_err-append_tags-clause-out_left c = kept_as_it_was c.from_residual.result c.args.out.now.items
-
-pub returns-in_err-append_tags-clause-memory : goal.returns-in_err-append_tags-clause-memory
-returns-in_err-append_tags-clause-memory c =
-    let p = err_from_is_err_and c.from_residual.result c.from_residual.ensures.1 in
-    λ h. (
-    let m = c.in_err-append_tags.ensures.memory (let k = rw p.1 at h in let q = p.2 in cc) in (
-      m.0,
-      reported_as _ _ c.as_slice.ensures _ _ _ _ m.0 m.1,
-      full_as _ _ c.as_slice.ensures c.args.keys.now _ c.args.values.now _ m.0 m.3,
-    )
-    )
+pub returns-clause-feature : goal.returns-clause-feature
+returns-clause-feature c = λ uses.
+    let f = c.args.feature.now in
+    let old = c.args.uses.now in
+    let new = c.append_attributes.new.self in
+    let used = subst (λ as'. IsUsedBy as' old new) c.as_slice.ensures (c.in_ok-append_attributes.ensures.used uses) in
+    let places = tags_in (used_of new.keys) (used_of new.values) f.attributes in
+    let tags : c.deref-2.result.now ≡ places =
+    c.deref-2.ensures.value ∙ c.in_ok-append_attributes.ensures.tags uses
+    ∙ ap₂ (λ l as'. l ++ tags_in (used_of new.keys) (used_of new.values) as') c.clear.ensures.items c.as_slice.ensures in
+    let integers : c.append_geometry.new.integers ≡ drawn f.geometry =
+    c.in_ok-append_geometry.ensures.integers ∙ ap (λ l. l ++ drawn f.geometry) c.clear-2.ensures in
+    fields_written f old new c.args.out.now.items c.append_fields.new.out.items f.id c.deref-2.result.now
+    f.geometry used refl refl tags
+    (c.in_ok-append_fields.ensures.ok ∙ ap₂ (λ k i. c.args.out.now.items
+    ++ spelled (id_fields f.id ++ (tags_fields c.deref-2.result.now ++ drawing_fields k i))) c.kind_of.ensures integers)
 
 pub returns-in_err-append_geometry-clause-left : goal.returns-in_err-append_geometry-clause-left
 returns-in_err-append_geometry-clause-left c =
-    let e = c.in_ok-append_tags.ensures in
-    on_err c.from_residual-in_err-append_geometry.result
-    (length c.args.feature.now.attributes, all_placed _ _ c.as_slice.ensures _ _ _ _ e.keys e.values)
-
-pub returns-in_err-append_geometry-clause-memory : goal.returns-in_err-append_geometry-clause-memory
-returns-in_err-append_geometry-clause-memory c = λ h.
-    let e = c.in_ok-append_tags.ensures in (
-      length c.args.feature.now.attributes,
-      all_reported _ _ c.as_slice.ensures _ _ _ _ e.keys e.values,
-      none_full c.args.feature.now.attributes _ c.as_slice.ensures c.args.keys.now c.append_tags.new.keys c.args.values.now
-          c.append_tags.new.values,
-    )
-
-pub returns-in_err-append_fields-clause-left : goal.returns-in_err-append_fields-clause-left
-returns-in_err-append_fields-clause-left c =
-    let e = c.in_ok-append_tags.ensures in
-    on_err c.from_residual-in_err-append_fields.result
-    (length c.args.feature.now.attributes, all_placed _ _ c.as_slice.ensures _ _ _ _ e.keys e.values)
-
-pub returns-in_err-append_fields-clause-memory : goal.returns-in_err-append_fields-clause-memory
-returns-in_err-append_fields-clause-memory c = λ h.
-    let e = c.in_ok-append_tags.ensures in (
-      length c.args.feature.now.attributes,
-      all_reported _ _ c.as_slice.ensures _ _ _ _ e.keys e.values,
-      none_full c.args.feature.now.attributes _ c.as_slice.ensures c.args.keys.now c.append_tags.new.keys c.args.values.now
-          c.append_tags.new.values,
-    )
+    on_err c.from_residual-in_err-append_geometry.result ([], sym (append-nil c.args.out.now.items))

@@ -26,7 +26,7 @@ loop-rest-preserved g c =
     let done = inv.0 in
     let line = rw c.in-Some.is at c.in_ok-line.ensures.line in
     let begun = line.2.told start (map plain done) [] inv.2 in
-    let ended = c.in_ok-end_part.ensures start (map plain done) line.0 begun line.1.long in (
+    let ended = c.in_ok-end_part.ensures start (map plain done) (plain line.0) begun (line.1.long, refl, refl) in (
       done ++ line.0 ∷ [],
       one_more_in_front inv.1 line.1,
       subst (λ parts. g.V.GeometryVisitor.has_parts start parts [] c.end_part.new.self)

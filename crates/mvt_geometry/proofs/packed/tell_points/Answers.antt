@@ -1,6 +1,7 @@
 use Rattle.std.proofs.Common.{rules, arith, ◌≡◌, ◌<◌, [], length, refl, sym}
 use Rattle.mvt_geometry.specs.declared.shape.Geometry.TheVariants.{Points}
 use Rattle.mvt_geometry.specs.Drawing.{drawn}
+use Rattle.mvt_geometry.specs.Visiting.{plain}
 use Rattle.mvt_geometry.proofs.ToldLemmas.{points_told}
 use Rattle.mvt_geometry.proofs.packed.tell_points.Goals as goal
 
@@ -35,5 +36,5 @@ returns-clause-drawn g c = λ yes.
       told.0,
       Points points,
       record { same_kind = refl; valid = told.1; spelled = refl },
-      c.in_ok-end_part.ensures start [] points begun (sym path.1.long),
+      c.in_ok-end_part.ensures start [] (plain points) begun (sym path.1.long, refl, refl),
     )

@@ -4,7 +4,7 @@ use Rattle.std.specs.Int.Signed.{lt_z}
 use Rattle.mvt_geometry.specs.declared.shape.Geometry.TheVariants.{Polygons}
 use Rattle.mvt_geometry.specs.Drawing.{drawn}
 use Rattle.mvt_geometry.specs.Inner.Grouping.{parts_of_rings}
-use Rattle.mvt_geometry.proofs.PartLemmas.{part}
+use Rattle.mvt_geometry.specs.Visiting.{ring_part}
 use Rattle.mvt_geometry.proofs.ToldLemmas.{none_in_front, one_more_in_front, rings_told, ring_parts-push, first_no_more, first_stays_fine}
 use Rattle.mvt_geometry.proofs.packed.tell_polygons.Goals as goal
 
@@ -44,7 +44,9 @@ loop-rest-preserved g c =
     let same : to_z w128 (of_z w128 c.in-Some.ring.area) ≡ c.in-Some.ring.area = search rules in
     let area = same ∙ ring.1.area_is in
     let begun = ring.2.told start done [] inv.4 in
-    let ended = c.in_ok-end_part.ensures start done ring.0 begun ring.1.long in
+    let ended =
+    c.in_ok-end_part.ensures start done (ring_part c.begins_polygon.result ring.0) begun
+    (ring.1.long, refl, refl, area, ring.1.closed_is) in
     let exterior = c.begins_polygon.ensures ∙ ap₂ (λ first a. first || lt_z (pos 0) a) inv.3 area in (
       rings ++ ring.0 ∷ [],
       one_more_in_front inv.1 ring.1,
@@ -52,7 +54,7 @@ loop-rest-preserved g c =
           (λ first. subst (λ a. pos 0 ≤ℤ a) area (c.may_stand.ensures c.if-not-may_stand.false (inv.3 ∙ first))),
       sym (first_no_more rings ring.0),
       subst (λ parts. g.V.GeometryVisitor.has_parts start parts [] c.end_part.new.self)
-          (ap (λ e. done ++ part e ring.0 ∷ []) exterior ∙ sym (ring_parts-push true rings ring.0)) ended,
+          (ap (λ e. done ++ ring_part e ring.0 ∷ []) exterior ∙ sym (ring_parts-push true rings ring.0)) ended,
     )
 
 pub returns-clause-drawn : goal.returns-clause-drawn

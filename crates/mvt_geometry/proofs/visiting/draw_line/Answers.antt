@@ -5,7 +5,7 @@ use Rattle.mvt_geometry.specs.Commands.{pairs_of, positions, moved}
 use Rattle.mvt_geometry.specs.Inner.Building.{ArePlaces}
 use Rattle.mvt_geometry.specs.Inner.Judging.{edges}
 use Rattle.mvt_geometry.proofs.BuildLemmas.{front_is, room_for, count_is, first_points, first_end, other_points, other_end, after_is}
-use Rattle.mvt_geometry.proofs.DrawLemmas.{path_area, line_end}
+use Rattle.mvt_geometry.proofs.DrawLemmas.{path_area, line_end, closed_line}
 use Rattle.mvt_geometry.proofs.visiting.draw_line.Goals as goal
 
 pub split_at-requires-2 : goal.split_at-requires-2
@@ -97,6 +97,7 @@ returns-clause-line g c = λ l more is.
       omega (arith, count, ap length f.line_is),
       end,
       (rw (p, q) area) ∙ sym (ap area2 f.line_is),
+      c.is_same.ensures ∙ closed_line f (first) (end),
       (rw c.count_in-count.ensures at c.split_at-2.ensures.back)
           ∙ after_is f c.split_at.result.0.now c.split_at.result.1.now c.split_at.ensures.front c.split_at.ensures.back,
     )

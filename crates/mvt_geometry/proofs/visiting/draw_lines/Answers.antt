@@ -22,11 +22,11 @@ loop-rest-preserved g c = λ lines are.
     let f = more_lines inv.3 some in
     let line = c.in_ok-line.ensures.line f.line _ f.front in
     let told = c.in_ok-line.ensures.drawn f.line _ c.args.visitor.now (map plain done) f.front inv.4 in
-    let ended = c.in_ok-end_part.ensures c.args.visitor.now (map plain done) f.line told line.0 in (
+    let ended = c.in_ok-end_part.ensures c.args.visitor.now (map plain done) (plain f.line) told (line.0, refl, refl) in (
       done ++ f.line ∷ [],
       f.others,
       append_assoc done (f.line ∷ []) f.others ∙ ap (λ xs. done ++ xs) (sym f.lines_are) ∙ inv.2,
-      f.others_are c.in_ok-line.line.end c.in_ok-line.line.behind.now line.1 line.3,
+      f.others_are c.in_ok-line.line.end c.in_ok-line.line.behind.now line.1 line.4,
       subst (λ parts. g.V.GeometryVisitor.has_parts c.args.visitor.now parts [] c.end_part.new.self)
           (sym (map-append plain done (f.line ∷ []))) ended,
     )

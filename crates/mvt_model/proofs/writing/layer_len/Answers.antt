@@ -1,7 +1,7 @@
 use Rattle.std.proofs.Common.{arith, sym}
 use Rattle.mvt_message.specs.CanonicalItems.{canonical_item}
 use Rattle.mvt_model.specs.declared.numbers.tile.TheConstants.{LAYERS}
-use Rattle.mvt_model.proofs.BoundLemmas.{field_most}
+use Rattle.mvt_model.proofs.WritingLemmas.{field_most}
 use Rattle.mvt_model.proofs.writing.layer_len.Goals as goal
 
 pub returns-clause-most : goal.returns-clause-most

@@ -1,9 +1,7 @@
-use Rattle.std.proofs.Common.{◌≤◌, length, refl, arith}
-use Rattle.mvt_base.specs.declared.TheConstants.{LIMIT}
+use Rattle.std.proofs.Common.{refl, arith}
 use Rattle.std.proofs.lemmas.Result.{err_from_is_err_and}
-use Rattle.mvt_model.proofs.WritingLemmas.{written, canonical_is, on_ok, only_is, put_large}
+use Rattle.mvt_model.proofs.WritingLemmas.{canonical_is, on_ok, put_large}
 use Rattle.mvt_model.proofs.writing.write_tile.Goals as goal
-use Rattle.mvt_model.proofs.writing.write_tile.Goals.{then-not-are_surely_small+in_ok-items_len, else-not-are_surely_small}
 
 pub returns-in_err-items_len-clause-too_large : goal.returns-in_err-items_len-clause-too_large
 returns-in_err-items_len-clause-too_large g c =
@@ -21,35 +19,9 @@ returns-clause-wrote g c =
 
 pub returns-clause-small : goal.returns-clause-small
 returns-clause-small g c =
-    rw (canonical_is c.args.tile.now c.as_slice-items.result.now c.as_slice-items.ensures) (on_ok c.write_items.result small)
-  where
-    small : length (written c.as_slice-items.result.now) ≤ LIMIT
-    small =
-        elim c.if-not-are_surely_small.branch [
-          | then-not-are_surely_small+in_ok-items_len w ↦ omega (arith, w.in_ok-items_len.ensures.len, w.in_ok-items_len.ensures.small)
-          | else-not-are_surely_small w ↦ c.are_surely_small.ensures.small w.if-not-are_surely_small.false
-        ]
+    rw (canonical_is c.args.tile.now c.as_slice-items.result.now c.as_slice-items.ensures)
+    (on_ok c.write_items.result (omega (arith, c.in_ok-items_len.ensures.len, c.in_ok-items_len.ensures.small)))
 
 pub returns-clause-stopped : goal.returns-clause-stopped
 returns-clause-stopped g c =
     rw (canonical_is c.args.tile.now c.as_slice-items.result.now c.as_slice-items.ensures) c.write_items.ensures.stopped
-
-pub returns-in-len1-clause-wrote : goal.returns-in-len1-clause-wrote
-returns-in-len1-clause-wrote g c =
-    rw (only_is c.args.tile.now c.as_slice-items.result.now c.item-item.result c.as_slice-items.ensures
-    (omega (arith, c.in-len1.len_at_least)) (omega (arith, c.in-len1.len_below)) c.item-item.is) c.write_item.ensures.wrote
-
-pub returns-in-len1-clause-small : goal.returns-in-len1-clause-small
-returns-in-len1-clause-small g c =
-    rw (only_is c.args.tile.now c.as_slice-items.result.now c.item-item.result c.as_slice-items.ensures
-    (omega (arith, c.in-len1.len_at_least)) (omega (arith, c.in-len1.len_below)) c.item-item.is) c.write_item.ensures.small
-
-pub returns-in-len1-clause-too_large : goal.returns-in-len1-clause-too_large
-returns-in-len1-clause-too_large g c =
-    rw (only_is c.args.tile.now c.as_slice-items.result.now c.item-item.result c.as_slice-items.ensures
-    (omega (arith, c.in-len1.len_at_least)) (omega (arith, c.in-len1.len_below)) c.item-item.is) c.write_item.ensures.too_large
-
-pub returns-in-len1-clause-stopped : goal.returns-in-len1-clause-stopped
-returns-in-len1-clause-stopped g c =
-    rw (only_is c.args.tile.now c.as_slice-items.result.now c.item-item.result c.as_slice-items.ensures
-    (omega (arith, c.in-len1.len_at_least)) (omega (arith, c.in-len1.len_below)) c.item-item.is) c.write_item.ensures.stopped

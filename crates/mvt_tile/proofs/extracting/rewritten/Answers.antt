@@ -7,14 +7,14 @@ use Rattle.mvt_tile.proofs.extracting.rewritten.Goals as goal
 pub returns-in-Some : goal.returns-in-Some
 returns-in-Some c = λ items has.
     let names = map string_bytes c.args.names.now in
-    sym (missing_by _ c.args.rewriter.names.names items names has.named) ∙ sym c.in_ok-index.ensures ∙ c.in-Some.is
+    sym (missing_by _ c.args.taken.names.names items names has.0) ∙ sym c.in_ok-index.ensures ∙ c.in-Some.is
 
 pub returns-in-Some-out : goal.returns-in-Some-out
 returns-in-Some-out c = λ items has.
     let names = map string_bytes c.args.names.now in
     let encoded = subst (IsEncoded 67108864 (pick (record { items = items }) names)) c.in-Some-out.is
-    (layers_encoded 67108864 items names c.args.rewriter.out has.encoded) in (
-      sym (missing_by _ c.args.rewriter.names.names items names has.named) ∙ sym c.in_ok-index.ensures ∙ c.in_default.is,
+    (layers_encoded 67108864 items names c.args.taken.visitor.out has.2.encoded) in (
+      sym (missing_by _ c.args.taken.names.names items names has.0) ∙ sym c.in_ok-index.ensures ∙ c.in_default.is,
       encoded.0,
       encoded.1,
     )
@@ -22,7 +22,7 @@ returns-in-Some-out c = λ items has.
 pub returns : goal.returns
 returns c = λ items has.
     let names = map string_bytes c.args.names.now in (
-      sym (missing_by _ c.args.rewriter.names.names items names has.named) ∙ sym c.in_ok-index.ensures ∙ c.in_default.is,
+      sym (missing_by _ c.args.taken.names.names items names has.0) ∙ sym c.in_ok-index.ensures ∙ c.in_default.is,
       subst (IsEncoded 67108864 (pick (record { items = items }) names)) c.in-None.is
-          (layers_encoded 67108864 items names c.args.rewriter.out has.encoded),
+          (layers_encoded 67108864 items names c.args.taken.visitor.out has.2.encoded),
     )

@@ -1,7 +1,8 @@
 use Rattle.std.proofs.Common.{IfSome, arith}
 use Rattle.std.proofs.lemmas.Result.{err_from_is_err_and, IfOk-weaker, IfErr-weaker}
 use Rattle.mvt_model.specs.declared.tile.Tile.{Tile}
-use Rattle.mvt_model.specs.Tiles.{IsTile}
+use Rattle.mvt_model.specs.Tiles.{HasDistinctNames, IsTile}
+use Rattle.mvt_tile.specs.Inner.Taking.{HasTaken}
 use Rattle.mvt_tile.specs.TileRules.{fault_within}
 use Rattle.mvt_tile.proofs.FeedingLemmas.{end_faults, stopped_reported, stopped_early, fed_early, fed_tile, fed_reported}
 use Rattle.mvt_tile.proofs.reading.read_whole.Goals as goal
@@ -26,7 +27,7 @@ returns-in_err-feed_all-clause-read g c =
 pub returns-clause-read : goal.returns-clause-read
 returns-clause-read g c =
     let (input, start) = c.requires.start in
-    let fed = c.in_ok-feed_all.ensures.fed input (rw c.new-partial.ensures.visitor start) in
+    let fed = c.in_ok-feed_all.ensures.fed input (c.new-partial.ensures.taken input start) in
     record {
       early = fed_early 67108864 65536 _ _ _ _ _ _ fed;
       stops = fed_early 67108864 _ _ _ _ _ _ _ fed;
@@ -38,17 +39,17 @@ returns-clause-read g c =
 
 pub returns-clause-tile : goal.returns-clause-tile
 returns-clause-tile g c = λ input start.
-    let fed = c.in_ok-feed_all.ensures.fed input (rw c.new-partial.ensures.visitor start) in
+    let fed = c.in_ok-feed_all.ensures.fed input (c.new-partial.ensures.taken input start) in
     IfOk-weaker c.finish.result _
-    (λ after. (tile : Tile) × g.T.ItemVisitor.has_visited input after tile.items
-    × IfSome (g.R.Source.state c.args.reader.now).left (λ bytes. IsTile 67108864 bytes tile))
-    (λ visitor done. rw done.0 (fed_tile 67108864 _ _ _ _ _ _ fed c.in_ok-feed_all.ensures.end done.1))
+    (λ taken. (tile : Tile) × HasTaken (g.V.TileVisitor.has_items input) taken tile.items
+    × HasDistinctNames tile.items × IfSome (g.R.Source.state c.args.reader.now).left (λ bytes. IsTile 67108864 bytes tile))
+    (λ taken done. rw done.0 (fed_tile 67108864 _ _ _ _ _ _ fed c.in_ok-feed_all.ensures.end done.1))
     (c.finish.ensures.tile fed.items fed.given fed.live)
 
 pub returns-clause-fault : goal.returns-clause-fault
 returns-clause-fault g c =
     let (input, start) = c.requires.start in
-    let fed = c.in_ok-feed_all.ensures.fed input (rw c.new-partial.ensures.visitor start) in
+    let fed = c.in_ok-feed_all.ensures.fed input (c.new-partial.ensures.taken input start) in
     IfErr-weaker c.finish.result _ _
     (λ e reported. fed_reported 67108864 _ _ _ _ _ _ fed c.in_ok-feed_all.ensures.end e reported)
     (c.finish.ensures.fault fed.items fed.given fed.live)

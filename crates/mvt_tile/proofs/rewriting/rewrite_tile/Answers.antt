@@ -9,14 +9,13 @@ read_whole-requires g c = record { start = (all_items, c.of_all.ensures) }
 
 pub returns-clause-tile : goal.returns-clause-tile
 returns-clause-tile g c =
-    let taken = c.in_ok-rewriter.ensures.tile all_items c.of_all.ensures in (
-      taken.0,
-      tile_encoded 67108864 taken.0 _ taken.1.encoded,
-      IfSome_then (g.R.Source.state c.args.reader.now).left taken.2
-          (λ input is. (is, record { items = taken.1.valid; names = is.distinct })),
+    let (tile, has, distinct, is) = c.in_ok-visitor.ensures.tile all_items c.of_all.ensures in (
+      tile,
+      tile_encoded 67108864 tile _ has.2.encoded,
+      IfSome_then (g.R.Source.state c.args.reader.now).left is (λ input of. (of, record { items = has.1; names = distinct })),
     )
 
-pub returns-in_err-rewriter-clause-read : goal.returns-in_err-rewriter-clause-read
-returns-in_err-rewriter-clause-read g c =
+pub returns-in_err-visitor-clause-read : goal.returns-in_err-visitor-clause-read
+returns-in_err-visitor-clause-read g c =
     let p = err_from_is_err_and c.from_residual.result c.from_residual.ensures.1 in
-    rw (p.1, p.2) c.in_err-rewriter.ensures.read
+    rw (p.1, p.2) c.in_err-visitor.ensures.read

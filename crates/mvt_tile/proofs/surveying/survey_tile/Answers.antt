@@ -1,4 +1,4 @@
-use Rattle.std.proofs.Common.{arith, sym, ap, ◌∙◌, bytes_eq}
+use Rattle.std.proofs.Common.{arith, sym, ap, ◌∙◌, bytes_eq, refl}
 use Rattle.std.proofs.lemmas.List.{take_all}
 use Rattle.mvt_model.specs.CanonicalTiles.{canonical}
 use Rattle.mvt_model.specs.Survey.{survey_of}
@@ -6,11 +6,10 @@ use Rattle.mvt_tile.proofs.surveying.survey_tile.Goals as goal
 
 pub returns-clause-survey : goal.returns-clause-survey
 returns-clause-survey c =
-    let taken = c.in_ok-walk_whole.ensures.tile _ (c.new.ensures, c.new-2.ensures, tt) in
-    let tile = taken.0 in (
+    let (tile, is, valid, has) = c.in_ok-count.ensures.tile _ (refl, c.new.ensures) in (
       tile,
-      taken.1,
-      record { items = taken.2.2; names = taken.1.distinct },
-      c.in_ok-into_survey.ensures _ tile taken.2.1 (sym taken.2.0.counted)
-          ∙ ap (λ b. survey_of tile (bytes_eq b (canonical tile))) (take_all c.min.result c.args.bytes.now (omega (arith, taken.1.small))),
+      is,
+      valid,
+      c.in_ok-into_survey.ensures _ tile has.1 (sym has.0)
+          ∙ ap (λ b. survey_of tile (bytes_eq b (canonical tile))) (take_all c.min.result c.args.bytes.now (omega (arith, is.small))),
     )

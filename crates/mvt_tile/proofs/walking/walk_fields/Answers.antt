@@ -2,6 +2,7 @@ use Rattle.std.proofs.Common.{ap, arith, ◌∙◌}
 use Rattle.std.proofs.lemmas.Result.{err_from_is_err_and}
 use Rattle.mvt_wire.specs.Fields.{Ahead}
 use Rattle.mvt_tile.proofs.JudgeLemmas.{so_far_start, so_far_step, so_far_place, so_far_count, so_far_fails, so_far_ends, so_far_rest, so_far_broken, judged_there}
+use Rattle.mvt_tile.specs.Inner.Taking.{HasTaken}
 use Rattle.mvt_tile.proofs.walking.walk_fields.Goals as goal
 
 pub loop-field-init : goal.loop-field-init
@@ -69,7 +70,7 @@ pub returns-in-Err-clause-judged : goal.returns-in-Err-clause-judged
 returns-in-Err-clause-judged g c = λ input items has.
     let (now, known, so_far) = c.loop-field.invariant input items has in
     let step = (rw c.in-Err.is at c.in-Some.ensures.steps).0 in
-    judged_there (g.T.ItemVisitor.has_visited input c.loop-field.visitor) c.args.offset c.args.bytes.now items now c.judge_rest.result known
+    judged_there (HasTaken (g.V.TileVisitor.has_items input) c.loop-field.taken) c.args.offset c.args.bytes.now items now c.judge_rest.result known
     (so_far_rest c.args.offset c.args.bytes.now items now c.loop-field.field-iterator.to_come so_far c.next.new.self.to_come c.in-Err.fault
     step _ c.judge_rest.ensures.unfinished)
 

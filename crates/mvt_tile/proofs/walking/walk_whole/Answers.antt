@@ -10,7 +10,7 @@ returns-in_err-used-clause-fault g c =
     let (input, has) = c.requires.start in
     let (front, back) = c.split_at.result in
     let all = cut _ _ _ _ c.split_at.ensures.front c.split_at.ensures.back in
-    rw (p.1, p.2) (whole_fails 67108864 c.args.bytes.now front.now back.now all _ (c.in_err-used.ensures.fault input [] has) (search rules))
+    rw (p.1, p.2) (whole_fails 67108864 c.args.bytes.now front.now back.now all _ (c.in_err-used.ensures.fault input [] (c.new-taken.ensures input has)) (search rules))
 
 pub returns-then-not-is_empty-clause-fault : goal.returns-then-not-is_empty-clause-fault
 returns-then-not-is_empty-clause-fault g c =
@@ -18,7 +18,7 @@ returns-then-not-is_empty-clause-fault g c =
     let (front, back) = c.split_at.result in
     let some : length back.now ≡ 0 → ⊥ = search rules in
     let all = cut _ _ _ _ c.split_at.ensures.front c.split_at.ensures.back in
-    let judged = c.in_ok-used.ensures.judged input [] has in
+    let judged = c.in_ok-used.ensures.judged input [] (c.new-taken.ensures input has) in
     rw c.outer.ensures
     (whole_too_large 67108864 c.args.bytes.now front.now back.now all judged.0 c.in_ok-used.used judged.2 (search rules) some)
 
@@ -27,7 +27,7 @@ returns-then-used-fitting-clause-fault g c =
     let (input, has) = c.requires.start in
     let (front, back) = c.split_at.result in
     let all = cut _ _ _ _ c.split_at.ensures.front c.split_at.ensures.back in
-    let judged = c.in_ok-used.ensures.judged input [] has in
+    let judged = c.in_ok-used.ensures.judged input [] (c.new-taken.ensures input has) in
     rw c.outer-then-used-fitting.ensures
     (whole_truncated 67108864 c.args.bytes.now front.now back.now all judged.0 c.in_ok-used.used judged.2 (search rules)
     (search rules) c.if-used-fitting.true)
@@ -36,7 +36,7 @@ pub returns-clause-tile : goal.returns-clause-tile
 returns-clause-tile g c = λ input has.
     let (front, back) = c.split_at.result in
     let all = cut _ _ _ _ c.split_at.ensures.front c.split_at.ensures.back in
-    let judged = c.in_ok-used.ensures.judged input [] has in
+    let judged = c.in_ok-used.ensures.judged input [] (c.new-taken.ensures input has) in
     let tile =
     whole_tile 67108864 c.args.bytes.now front.now back.now all judged.0 c.in_ok-used.used judged.2 (search rules)
     (search rules) c.if-used-fitting.false in

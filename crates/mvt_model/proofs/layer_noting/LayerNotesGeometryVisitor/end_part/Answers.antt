@@ -2,7 +2,7 @@ use Rattle.std.proofs.lemmas.Result.{on_ok_weaker}
 use Rattle.mvt_model.proofs.layer_noting.LayerNotesGeometryVisitor.end_part.Goals as goal
 
 pub returns : goal.returns
-returns c = λ start parts begun has count.
+returns c = λ start parts part has ends.
     on_ok_weaker c.end_part.result
     (λ noted. (
       record {
@@ -13,4 +13,4 @@ returns c = λ start parts begun has count.
       },
       noted,
     ))
-    (c.end_part.ensures start.rings parts begun has.1 count)
+    (c.end_part.ensures start.rings parts part has.1 ends)

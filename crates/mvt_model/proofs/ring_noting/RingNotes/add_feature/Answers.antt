@@ -19,7 +19,7 @@ pub returns-in_ok-known-in-None-clause-feature : goal.returns-in_ok-known-in-Non
 returns-in_ok-known-in-None-clause-feature c = λ layer feature begun held are.
     let drawn = rw c.in_ok-known.ensures.same at (c.in_ok-known-in-None.ensures.feature held are) in
     let told = rw c.in-None.is at c.in_ok-known.ensures.told in
-    let same = told_layer layer feature c.args.self.now c.draw_usual_feature.new.visitor told.0 told.1 begun told.2 in
+    let same = told_layer layer feature c.args.self.now c.draw_usual_feature.new.visitor told.0 begun told.2 in
     let again : HasBegun layer feature c.begin.new.self =
     subst (λ l. HasBegun l feature c.begin.new.self) same
     (subst (λ f. HasBegun c.draw_usual_feature.new.visitor.layer f c.begin.new.self) begun.feature_is c.begin.ensures) in

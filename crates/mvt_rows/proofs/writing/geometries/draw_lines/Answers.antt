@@ -1,11 +1,10 @@
-use Rattle.std.proofs.Common.{arith, ◌≡◌, ◌<◌, ◌++◌, [], ◌∷◌, Some, ap, get_or, length, map, refl, subst, true}
-use Rattle.std.specs.Option.{is_some, option_map}
+use Rattle.std.proofs.Common.{arith, ◌≡◌, ◌<◌, ◌++◌, [], ◌∷◌, Some, get_or, length, map, refl, subst, true}
+use Rattle.std.specs.Option.{is_some}
 use Rattle.std.proofs.lemmas.Grind.{common_steps}
 use Rattle.std.proofs.lemmas.List.{take_all}
-use Rattle.mvt_geometry.specs.declared.shape.Geometry.TheVariants.{Lines}
 use Rattle.mvt_rows.specs.declared.rows.PartRow.{PartRow}
 use Rattle.mvt_rows.specs.TileRows.{each, line_of, point_of}
-use Rattle.mvt_rows.proofs.DrawingLemmas.{each_length, line_is, lines_drawn, no_line, not_there}
+use Rattle.mvt_rows.proofs.DrawingLemmas.{each_length, line_is, lines_drawn, no_line}
 use Rattle.mvt_rows.proofs.EachLemmas.{each_more, each_stops}
 use Rattle.mvt_rows.proofs.TileLemmas.{fails_in}
 use Rattle.mvt_rows.proofs.writing.geometries.draw_lines.Goals as goal
@@ -13,13 +12,12 @@ use Rattle.mvt_rows.proofs.writing.geometries.draw_lines.Goals as goal
 abbrev no_row : PartRow
 no_row = record { exterior = 0; points = record { start = 0; len = 0 } }
 
-pub returns-in_err-line-clause-refused : goal.returns-in_err-line-clause-refused
-returns-in_err-line-clause-refused c =
+pub returns-in_err-line-clause-none : goal.returns-in_err-line-clause-none
+returns-in_err-line-clause-none c =
     let f = line_of c.args.points.now in
     fails_in c.from_residual.result _ _ _ c.from_residual.ensures.1 c.in_err-line.ensures.none
-    (λ none. not_there _ (ap (option_map Lines)
-    (each_stops f c.args.rows.now c.loop-row.row-index no_row c.loop-row-test.true
-    (no_line c.args.points.now (get_or c.args.rows.now c.loop-row.row-index no_row) none))))
+    (λ none. each_stops f c.args.rows.now c.loop-row.row-index no_row c.loop-row-test.true
+    (no_line c.args.points.now (get_or c.args.rows.now c.loop-row.row-index no_row) none))
 
 pub loop-row-preserved : goal.loop-row-preserved
 loop-row-preserved c =

@@ -1,9 +1,9 @@
-use Rattle.std.proofs.Common.{arith, ◌≡◌, ◌++◌, ap, length, map, ◌∙◌}
+use Rattle.std.proofs.Common.{arith, ◌≡◌, ◌++◌, Err, ap, length, map, ◌∙◌}
 use Rattle.mvt_geometry.specs.declared.shape.Geometry.TheVariants.{Points}
 use Rattle.mvt_geometry.specs.Drawing.{drawn}
 use Rattle.mvt_rows.specs.declared.rows.PartRow.{PartRow}
 use Rattle.mvt_rows.specs.TileRows.{point_of, points_of}
-use Rattle.mvt_rows.proofs.DrawingLemmas.{drawn_as, points_alone}
+use Rattle.mvt_rows.proofs.DrawingLemmas.{drawn_as, not_valid, points_alone}
 use Rattle.mvt_rows.proofs.writing.geometries.draw_points.Goals as goal
 
 abbrev no_row : PartRow
@@ -16,3 +16,11 @@ returns-in-Ok-clause-drawn c =
     drawn_as (points_of c.args.points.now c.args.rows.now) (Points (map point_of found)) c.append_points.new.list
     (points_alone c.args.points.now c.args.rows.now no_row found one c.in_ok-part.ensures.part) c.in-Ok.ensures.valid
     (c.in-Ok.ensures.drawn ∙ ap (λ l. l ++ drawn (Points (map point_of found))) c.requires)
+
+pub returns-in-Err-Invalid-clause-drawn : goal.returns-in-Err-Invalid-clause-drawn
+returns-in-Err-Invalid-clause-drawn c =
+    let one : length c.args.rows.now ≡ 1 = omega arith in
+    let found = c.in_ok-part.field-0.now in
+    not_valid (points_of c.args.points.now c.args.rows.now) (Points (map point_of found))
+    (points_alone c.args.points.now c.args.rows.now no_row found one c.in_ok-part.ensures.part)
+    (c.in-Err-Invalid.ensures.invalid (ap Err c.in-Err-Invalid.field-0-is))

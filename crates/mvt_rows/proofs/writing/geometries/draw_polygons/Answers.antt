@@ -1,12 +1,11 @@
-use Rattle.std.proofs.Common.{arith, ◌≡◌, [], true, false, Some, ap, get_or, map, subst, sym, ◌∙◌}
-use Rattle.std.specs.Option.{is_some, option_map}
+use Rattle.std.proofs.Common.{arith, ◌≡◌, [], true, false, Some, get_or, map, subst, sym, ◌∙◌}
+use Rattle.std.specs.Option.{is_some}
 use Rattle.std.proofs.lemmas.Grind.{common_steps}
 use Rattle.std.proofs.lemmas.List.{take_all}
-use Rattle.mvt_geometry.specs.declared.shape.Geometry.TheVariants.{Polygons}
 use Rattle.mvt_rows.specs.declared.rows.PartRow.{PartRow}
 use Rattle.mvt_rows.specs.Drawing.{HasBegun}
 use Rattle.mvt_rows.specs.TileRows.{point_of, steps, with_ring_row}
-use Rattle.mvt_rows.proofs.DrawingLemmas.{line_is, no_line, no_polygons, not_there, polygons_drawn, polygons_not_drawn, row_follows, row_stops, row_without}
+use Rattle.mvt_rows.proofs.DrawingLemmas.{line_is, no_line, no_polygons, polygons_drawn, polygons_not_drawn, row_follows, row_stops, row_without}
 use Rattle.mvt_rows.proofs.EachLemmas.{steps_more, steps_stop}
 use Rattle.mvt_rows.proofs.TileLemmas.{fails_in}
 use Rattle.mvt_rows.proofs.writing.geometries.draw_polygons.Goals as goal
@@ -15,25 +14,23 @@ use Rattle.mvt_rows.proofs.writing.geometries.draw_polygons.Goals.{then-not-begu
 abbrev no_row : PartRow
 no_row = record { exterior = 0; points = record { start = 0; len = 0 } }
 
-pub returns-in_err-ring-clause-refused : goal.returns-in_err-ring-clause-refused
-returns-in_err-ring-clause-refused c =
+pub returns-in_err-ring-clause-none : goal.returns-in_err-ring-clause-none
+returns-in_err-ring-clause-none c =
     let l = c.loop-row in
     let row = get_or c.args.rows.now l.row-index no_row in
     fails_in c.from_residual.result _ _ _ c.from_residual.ensures.1 c.in_err-ring.ensures.none
-    (λ none. not_there _ (ap (option_map Polygons)
-    (steps_stop (with_ring_row c.args.points.now) [] c.args.rows.now l.row-index no_row l.invariant.polygons l.invariant.made
+    (λ none. steps_stop (with_ring_row c.args.points.now) [] c.args.rows.now l.row-index no_row l.invariant.polygons l.invariant.made
     c.loop-row-test.true
-    (row_without c.args.points.now l.invariant.polygons row (no_line c.args.points.now row none)))))
+    (row_without c.args.points.now l.invariant.polygons row (no_line c.args.points.now row none)))
 
-pub returns-in_default-clause-refused : goal.returns-in_default-clause-refused
-returns-in_default-clause-refused c =
+pub returns-in_default-clause-none : goal.returns-in_default-clause-none
+returns-in_default-clause-none c =
     let l = c.loop-row in
     let row = get_or c.args.rows.now l.row-index no_row in
     let line = line_is c.args.points.now row c.in_ok-ring.ring.now c.in_ok-ring.ensures.part in
-    not_there _ (ap (option_map Polygons)
-    (steps_stop (with_ring_row c.args.points.now) [] c.args.rows.now l.row-index no_row l.invariant.polygons l.invariant.made c.loop-row-test.true
+    steps_stop (with_ring_row c.args.points.now) [] c.args.rows.now l.row-index no_row l.invariant.polygons l.invariant.made c.loop-row-test.true
     (row_stops c.args.points.now l.invariant.polygons row l.begun (map point_of c.in_ok-ring.ring.now) l.invariant.begun line
-    (sym c.role_of.ensures ∙ c.in_default.is))))
+    (sym c.role_of.ensures ∙ c.in_default.is))
 
 pub loop-row-preserved : goal.loop-row-preserved
 loop-row-preserved c =
@@ -51,8 +48,8 @@ loop-row-preserved c =
       drawn = c.in_ok-cursor.ensures l.invariant.polygons next follows l.invariant.drawn;
     }
 
-pub returns-then-not-begun-clause-refused : goal.returns-then-not-begun-clause-refused
-returns-then-not-begun-clause-refused c =
+pub returns-then-not-begun-clause-drawn : goal.returns-then-not-begun-clause-drawn
+returns-then-not-begun-clause-drawn c =
     let l = c.loop-row in
     let f = with_ring_row c.args.points.now in
     let made : steps f [] c.args.rows.now ≡ Some l.invariant.polygons =

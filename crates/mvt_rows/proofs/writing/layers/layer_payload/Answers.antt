@@ -2,16 +2,17 @@ use Rattle.std.proofs.Common.{[], arith, refl}
 use Rattle.mvt_base.specs.declared.TheConstants.{LIMIT}
 use Rattle.mvt_message.specs.declared.item.Layer.{Layer as ALayer}
 use Rattle.mvt_rows.specs.Lent.{table_of}
-use Rattle.mvt_rows.proofs.TileLemmas.{fails_in}
-use Rattle.mvt_rows.proofs.WritingLemmas.{layer_made, no_layer_made, nothing_written, parts_range, utf8_there}
+use Rattle.mvt_rows.proofs.FaultLemmas.{features_wrong, part_wrong, wrong_in}
+use Rattle.mvt_rows.proofs.WritingLemmas.{layer_made, nothing_written, parts_range, utf8_there}
 use Rattle.mvt_rows.proofs.writing.layers.layer_payload.Goals as goal
 
-pub returns-in_err-parts-clause-refused : goal.returns-in_err-parts-clause-refused
-returns-in_err-parts-clause-refused c =
-    fails_in c.from_residual.result _ _ _ c.from_residual.ensures.1 c.in_err-parts.ensures.none (λ none layer is. none layer is.0)
+pub returns-in_err-parts-clause-wrong : goal.returns-in_err-parts-clause-wrong
+returns-in_err-parts-clause-wrong c =
+    wrong_in c.from_residual.result _ _ _ c.from_residual.ensures.1 c.in_err-parts.ensures.wrong
+    (part_wrong (table_of c.args.rows.now) c.args.row.now)
 
-pub returns-in_err-write_features-clause-refused : goal.returns-in_err-write_features-clause-refused
-returns-in_err-write_features-clause-refused c =
+pub returns-in_err-write_features-clause-wrong : goal.returns-in_err-write_features-clause-wrong
+returns-in_err-write_features-clause-wrong c =
     let t = table_of c.args.rows.now in
     let parts = c.in_ok-parts.parts in
     let are = c.in_ok-parts.ensures.parts in
@@ -20,9 +21,9 @@ returns-in_err-write_features-clause-refused c =
     let keys_are = c.as_slice-keys.ensures.value in
     let range = parts_range t c.args.row.now parts keys values are keys_are refl in
     let written = c.in_ok-add_keys.ensures values (c.in_ok-take_values.ensures [] c.new-writer.ensures) in
-    fails_in c.from_residual-in_err-write_features.result _ _ _ c.from_residual-in_err-write_features.ensures.1
-    (c.in_err-write_features.ensures.refused values range (nothing_written LIMIT keys values _ written))
-    (no_layer_made t c.args.row.now parts keys values are keys_are refl)
+    wrong_in c.from_residual-in_err-write_features.result _ _ _ c.from_residual-in_err-write_features.ensures.1
+    (c.in_err-write_features.ensures.wrong values range (nothing_written LIMIT keys values _ written))
+    (features_wrong t c.args.row.now parts keys values are c.in_ok-parts.ensures.clean keys_are refl)
 
 pub returns-clause-payload : goal.returns-clause-payload
 returns-clause-payload c =

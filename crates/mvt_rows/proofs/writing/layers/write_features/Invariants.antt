@@ -5,13 +5,14 @@ use Rattle.mvt_attrs.specs.declared.value.Value.{Value}
 use Rattle.mvt_feature.specs.declared.feature.Feature.{Feature}
 use Rattle.mvt_message.specs.Rewriting.{HasWrittenUpTo}
 use Rattle.mvt_rows.specs.Lent.{table_of}
-use Rattle.mvt_rows.specs.Writing.{AreInRange, IsValidFeatureOf}
+use Rattle.mvt_rows.specs.RowsFaults.{IsValidFeatureOf}
+use Rattle.mvt_rows.specs.Writing.{AreInRange}
 use Rattle.mvt_rows.proofs.writing.layers.write_features.Given as goal
 
-abbrev pub invariant-loop-row : goal.invariant-loop-row
-invariant-loop-row l = record {
+abbrev pub invariant-loop-index : goal.invariant-loop-index
+invariant-loop-index l = record {
   same : l.layer_keys ≡ l.keys;
   done : (values : List Value) → AreInRange l.keys values → HasWrittenUpTo LIMIT l.keys values l.fn.writer []
-      → (features : List Feature) × AreRelated (IsValidFeatureOf (table_of l.rows) l.keys values) (take l.row-index l.of_layer) features
+      → (features : List Feature) × AreRelated (IsValidFeatureOf (table_of l.rows) l.keys values) (take l.index l.of_layer) features
       × HasWrittenUpTo LIMIT l.keys values l.writer features;
 }

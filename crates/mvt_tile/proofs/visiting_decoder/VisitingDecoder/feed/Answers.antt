@@ -3,30 +3,30 @@ use Rattle.mvt_tile.proofs.VisitedLemmas.{failed_of, stands_of, visited_of, visi
 use Rattle.mvt_tile.proofs.visiting_decoder.VisitingDecoder.feed.Goals as goal
 
 pub returns-in-Some-clause-stands : goal.returns-in-Some-clause-stands
-returns-in-Some-clause-stands g c =
-    λ s. failed_of 67108864 g.V.TileVisitor.has_items _ _ c.args.self.now c.self.view_is s c.in-Some.error c.args.piece.now c.in-Some.is
+returns-in-Some-clause-stands g c = λ given s.
+    failed_of 67108864 (g.V.TileVisitor.has_items given) _ _ c.args.self.now c.self.view_is s c.in-Some.error c.args.piece.now c.in-Some.is
 
 pub take-requires : goal.take-requires
 take-requires g c =
-    let (s, visited) = rw c.in_default.is at c.self.invariant in
+    let (given, s, visited) = rw c.in_default.is at c.self.invariant in
     record {
-      few = (tt, visited.items, visited.has, visited.few);
+      few = (given, visited.items, visited.has, visited.few);
       small = visited_small 67108864 _ _ s visited;
     }
 
 pub invariant_of-self : goal.invariant_of-self
 invariant_of-self g c =
-    let (s, visited) = rw c.in_default.is at c.self.invariant in
-    let (new, has, few, live) = c.in-Ok.ensures.live tt visited.items visited.has visited.few in
-    rw c.in_default.is (s ++ c.args.piece.now, record { items = new; has = has; few = few; live = live s visited.live })
+    let (given, s, visited) = rw c.in_default.is at c.self.invariant in
+    let (new, has, few, live) = c.in-Ok.ensures.live given visited.items visited.has visited.few in
+    rw c.in_default.is (given, s ++ c.args.piece.now, record { items = new; has = has; few = few; live = live s visited.live })
 
 pub returns-in-Ok-clause-stands : goal.returns-in-Ok-clause-stands
-returns-in-Ok-clause-stands g c = λ s stands.
-    let visited = visited_of 67108864 g.V.TileVisitor.has_items _ _ c.args.self.now c.self.view_is s c.in_default.is stands in
-    let (new, has, few, live) = c.in-Ok.ensures.live tt visited.items visited.has visited.few in
+returns-in-Ok-clause-stands g c = λ given s stands.
+    let visited = visited_of 67108864 (g.V.TileVisitor.has_items given) _ _ c.args.self.now c.self.view_is s c.in_default.is stands in
+    let (new, has, few, live) = c.in-Ok.ensures.live given visited.items visited.has visited.few in
     stands_of 67108864 _ _ _ c.in_default.is (record { items = new; has = has; few = few; live = live s visited.live })
 
 pub returns-in-Err-clause-stands : goal.returns-in-Err-clause-stands
-returns-in-Err-clause-stands g c = λ s stands.
-    let visited = visited_of 67108864 g.V.TileVisitor.has_items _ _ c.args.self.now c.self.view_is s c.in_default.is stands in
-    (c.clear.ensures.items, c.in-Err.ensures.fault tt visited.items visited.has s visited.live)
+returns-in-Err-clause-stands g c = λ given s stands.
+    let visited = visited_of 67108864 (g.V.TileVisitor.has_items given) _ _ c.args.self.now c.self.view_is s c.in_default.is stands in
+    (c.clear.ensures.items, c.in-Err.ensures.fault given visited.items visited.has s visited.live)

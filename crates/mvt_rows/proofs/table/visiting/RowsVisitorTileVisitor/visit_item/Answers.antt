@@ -19,14 +19,14 @@ HasFeatures items keys values rows features = AreLayerRows rows.table rows.opene
 
 pub visit_layer-requires-clause-start : goal.visit_layer-requires-clause-start
 visit_layer-requires-clause-start c =
-    let (items, are) = c.requires.known in (
+    let (given, items, are, few) = c.requires.known in (
       items,
       layer_opened c.args.self.now.table c.places-self.result items c.places-self.ensures.features c.places-self.ensures.keys
           c.places-self.ensures.values are,
     )
 
 pub returns-in_ok-from_str-in-Ok-Layer-clause-item : goal.returns-in_ok-from_str-in-Ok-Layer-clause-item
-returns-in_ok-from_str-in-Ok-Layer-clause-item c = λ items are.
+returns-in_ok-from_str-in-Ok-Layer-clause-item c = λ given items are.
     let start =
     layer_opened c.args.self.now.table c.places-self.result items c.places-self.ensures.features c.places-self.ensures.keys
     c.places-self.ensures.values are in
@@ -47,7 +47,7 @@ returns-in_ok-from_str-in-Ok-Layer-clause-item c = λ items are.
     )
 
 pub returns-in_ok-keep_within-in-Ok-Foreign-clause-item : goal.returns-in_ok-keep_within-in-Ok-Foreign-clause-item
-returns-in_ok-keep_within-in-Ok-Foreign-clause-item c = λ items are.
+returns-in_ok-keep_within-in-Ok-Foreign-clause-item c = λ given items are.
     let start =
     layer_opened c.args.self.now.table c.places-self.result items c.places-self.ensures.features c.places-self.ensures.keys
     c.places-self.ensures.values are in

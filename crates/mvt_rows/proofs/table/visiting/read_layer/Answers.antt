@@ -1,0 +1,9 @@
+use Rattle.mvt_rows.proofs.table.visiting.read_layer.Goals as goal
+
+pub returns-in-None-clause-read : goal.returns-in-None-clause-read
+returns-in-None-clause-read c = rw c.in-None.is at c.in_ok-rows.ensures.found tt c.new.ensures.items
+
+pub returns-clause-read : goal.returns-clause-read
+returns-clause-read c =
+    let (item, is, has) = rw c.in-Some.is at c.in_ok-rows.ensures.found tt c.new.ensures.items in
+    rw c.into_table-layer.ensures (item, is, has)

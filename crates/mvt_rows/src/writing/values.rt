@@ -1,0 +1,85 @@
+//! Values of rows.
+ghost use Rattle.std.specs.Prelude.{◌≡◌, Some, None, IfOk, IfErr, IfSome};
+ghost use Rattle.std.specs.List.{AllByRecursion};
+ghost use Rattle.mvt_feature.specs.Valid.{ValidValue};
+ghost use Rattle.mvt_rows.specs.Written.{FailsAs};
+ghost use Rattle.mvt_rows.specs.TileRows.{each, float_of, number_of, truth_of, value_of};
+
+use super::parts::text;
+use crate::rows::ValueRow;
+use crate::rows_error::RowPartError;
+use crate::work::Work;
+use mvt_attrs::Value;
+use std::alloc::Global;
+
+/// 0 or 1.
+pub(crate) fn truth(number: u64) -> Option<bool>
+    ensures { result ≡ truth_of number }
+{
+    match number {
+        0 => Some(false),
+        1 => Some(true),
+        _ => None,
+    }
+}
+
+/// A float's bits.
+fn float(bits: u64) -> Option<u32>
+    ensures { result ≡ float_of bits }
+{
+    u32::try_from(bits).ok()
+}
+
+/// A value that is no text.
+fn number(kind: u32, bits: u64) -> Option<Value>
+    ensures number { result ≡ number_of kind bits }
+    ensures valid { IfSome result ValidValue }
+{
+    match kind {
+        2 => Some(Value::Float(float(bits)?)),
+        3 => Some(Value::Double(bits)),
+        4 => Some(Value::Int(bits.cast_signed())),
+        5 => Some(Value::Uint(bits)),
+        6 => Some(Value::Sint(bits.cast_signed())),
+        7 => Some(Value::Bool(truth(bits)?)),
+        _ => None,
+    }
+}
+
+fn value(
+    alloc: Global,
+    texts: &[u8],
+    row: &ValueRow,
+    work: &mut Work,
+) -> Result<Value, RowPartError>
+    ensures value { IfOk result (λ value. value_of texts.now row.now ≡ Some value) }
+    ensures valid { IfOk result ValidValue }
+    ensures none { IfErr result (FailsAs (value_of texts.now row.now ≡ None)) }
+{
+    if row.kind == 1 {
+        return Ok(Value::Text(text(alloc, texts, row.text, work)?));
+    }
+    match number(row.kind, row.bits) {
+        Some(value) => Ok(value),
+        None => Err(RowPartError::NoPart),
+    }
+}
+
+/// The values of a layer.
+pub(crate) fn values(
+    alloc: Global,
+    texts: &[u8],
+    rows: &[ValueRow],
+    work: &mut Work,
+) -> Result<Vec<Value>, RowPartError>
+    ensures values { IfOk result (λ values. each (value_of texts.now) rows.now
+        ≡ Some values.items) }
+    ensures valid { IfOk result (λ values. AllByRecursion ValidValue values.items) }
+    ensures none { IfErr result (FailsAs (each (value_of texts.now) rows.now ≡ None)) }
+{
+    let mut values = Vec::with_capacity(alloc, rows.len())?;
+    for row in rows {
+        values.push(value(alloc, texts, row, work)?)?;
+    }
+    Ok(values)
+}
