@@ -147,6 +147,8 @@ def main():
         (["draw"], drawn()),
         (["check"], report),
         (["check", file], os.fsencode(file) + b": " + report),
+        (["explain"], report),
+        (["explain", file], os.fsencode(file) + b": " + report),
         ([], report),
         (["rewrite"], canonical),
         (["extract", "places"], canonical),

@@ -6,38 +6,42 @@ use Rattle.clap.specs.declared.parser.matches.ArgMatches.{ArgMatches}
 use Rattle.clap.specs.declared.error.kind.ErrorKind.TheVariants.{OutOfMemory}
 use Rattle.clap.proofs.OnLiterals.{clap_on_literals}
 use Rattle.clap.specs.Words.{App, HasMatchesOf, fault_of, is_simple, is_simple_and_free, kind_of, subcommand_of, subcommand_rows_of}
-use Rattle.mvt_cli.specs.Words.{mvt, extract_app, check_app, faults_in, subcommand_in, IsBare, IsPlainLine}
+use Rattle.mvt_cli.specs.Words.{mvt, extract_app, files_app, faults_in, subcommand_in, IsBare, IsPlainLine}
 
 pub mvt_free : is_simple_and_free mvt ≡ true
-unfolding clap_on_literals mvt extract_app check_app
+unfolding clap_on_literals mvt extract_app files_app
 mvt_free = refl
 
 pub name_alone : (name : List ℕ) → fault_of mvt (name ∷ []) ≡ []
-unfolding clap_on_literals mvt extract_app check_app
+unfolding clap_on_literals mvt extract_app files_app
 name_alone name = refl
 
 pub fields_alone : (name : List ℕ) → fault_of mvt (name ∷ codes "fields" ∷ []) ≡ []
-unfolding clap_on_literals mvt extract_app check_app
+unfolding clap_on_literals mvt extract_app files_app
 fields_alone name = refl
 
 pub show_alone : (name : List ℕ) → fault_of mvt (name ∷ codes "show" ∷ []) ≡ []
-unfolding clap_on_literals mvt extract_app check_app
+unfolding clap_on_literals mvt extract_app files_app
 show_alone name = refl
 
 pub draw_alone : (name : List ℕ) → fault_of mvt (name ∷ codes "draw" ∷ []) ≡ []
-unfolding clap_on_literals mvt extract_app check_app
+unfolding clap_on_literals mvt extract_app files_app
 draw_alone name = refl
 
 pub check_alone : (name : List ℕ) → fault_of mvt (name ∷ codes "check" ∷ []) ≡ []
-unfolding clap_on_literals mvt extract_app check_app
+unfolding clap_on_literals mvt extract_app files_app
 check_alone name = refl
 
+pub explain_alone : (name : List ℕ) → fault_of mvt (name ∷ codes "explain" ∷ []) ≡ []
+unfolding clap_on_literals mvt extract_app files_app
+explain_alone name = refl
+
 pub rewrite_alone : (name : List ℕ) → fault_of mvt (name ∷ codes "rewrite" ∷ []) ≡ []
-unfolding clap_on_literals mvt extract_app check_app
+unfolding clap_on_literals mvt extract_app files_app
 rewrite_alone name = refl
 
 pub mvt_simple : is_simple mvt ≡ true
-unfolding clap_on_literals mvt extract_app check_app
+unfolding clap_on_literals mvt extract_app files_app
 mvt_simple = refl
 
 pub bare_alone : (name word : List ℕ) → IsBare word → fault_of mvt (name ∷ word ∷ []) ≡ []
@@ -45,7 +49,8 @@ bare_alone name word (inl h) = ap (λ w. fault_of mvt (name ∷ w ∷ [])) h ∙
 bare_alone name word (inr (inl h)) = ap (λ w. fault_of mvt (name ∷ w ∷ [])) h ∙ show_alone name
 bare_alone name word (inr (inr (inl h))) = ap (λ w. fault_of mvt (name ∷ w ∷ [])) h ∙ draw_alone name
 bare_alone name word (inr (inr (inr (inl h)))) = ap (λ w. fault_of mvt (name ∷ w ∷ [])) h ∙ check_alone name
-bare_alone name word (inr (inr (inr (inr h)))) = ap (λ w. fault_of mvt (name ∷ w ∷ [])) h ∙ rewrite_alone name
+bare_alone name word (inr (inr (inr (inr (inl h))))) = ap (λ w. fault_of mvt (name ∷ w ∷ [])) h ∙ explain_alone name
+bare_alone name word (inr (inr (inr (inr (inr h))))) = ap (λ w. fault_of mvt (name ∷ w ∷ [])) h ∙ rewrite_alone name
 
 -- a list that isn't empty is given to clap
 pub given_to_clap : {A : Type 0} → (text : A → List ℕ) (words : List A) → (length words == 0) ≡ false

@@ -12,13 +12,20 @@ pub fn lines_ask()
     ensures show { (name : List ℕ) → task_in (name ∷ codes "show" ∷ []) ≡ Task.Show }
     ensures draw { (name : List ℕ) → task_in (name ∷ codes "draw" ∷ []) ≡ Task.Draw }
     ensures check { (name : List ℕ) → task_in (name ∷ codes "check" ∷ []) ≡ Task.Check }
+    ensures explain { (name : List ℕ) → task_in (name ∷ codes "explain" ∷ []) ≡ Task.Explain }
     ensures rewrite { (name : List ℕ) → task_in (name ∷ codes "rewrite" ∷ []) ≡ Task.Rewrite }
     ensures extract { (name : List ℕ)
         → task_in (name ∷ codes "extract" ∷ codes "b" ∷ codes "a" ∷ [])
         ≡ Task.Extract (codes "b" ∷ codes "a" ∷ []) }
+{}
+
+/// The lines name these files, whatever the program's own name is.
+pub fn lines_name_files()
     ensures no_files { (name : List ℕ) → files_in (name ∷ codes "check" ∷ []) ≡ [] }
     ensures files { (name : List ℕ) → files_in (name ∷ codes "check" ∷ codes "b" ∷ codes "a" ∷ [])
         ≡ codes "b" ∷ codes "a" ∷ [] }
+    ensures files_explained { (name : List ℕ)
+        → files_in (name ∷ codes "explain" ∷ codes "b" ∷ codes "a" ∷ []) ≡ codes "b" ∷ codes "a" ∷ [] }
     ensures hyphens { (name : List ℕ)
         → files_in (name ∷ codes "check" ∷ codes "--" ∷ codes "-b" ∷ [])
         ≡ codes "-b" ∷ [] }

@@ -5,7 +5,7 @@ ghost use Rattle.mvt_io.specs.Transfers.{Reads, TakesPrefix};
 ghost use Rattle.mvt_tasks.specs.declared.failure.Failure.{Failure as AFailure};
 ghost use Rattle.mvt_tasks.specs.declared.failure.Failure.TheVariants.{Write as WriteFailure};
 ghost use Rattle.mvt_tasks.specs.declared.reply.Reply.{Reply as AReply};
-ghost use Rattle.mvt_tasks.specs.Checks.{ChecksFiles, Prints, run_state};
+ghost use Rattle.mvt_tasks.specs.Checks.{Prints, SaysOf, TellsFiles, run_state};
 ghost use Rattle.mvt_tasks.specs.Failures.{EndsFailed, FailsReading, line_of, status_of};
 ghost use Rattle.mvt_tasks.specs.Output.{GivesReply, HasOutput, IsReplyTo, PutOut, PutsText, ReadsNoFurther};
 ghost use Rattle.mvt_tasks.specs.Visits.{OneAtATime};
@@ -15,14 +15,14 @@ ghost use Rattle.mvt_cli.specs.Refused.{IsUsage, usage_text};
 use crate::words::{Asked, Refusal, read_words};
 use mvt_base::LIMIT;
 use mvt_io::{Sink, Source};
-use mvt_tasks::{Failure, Folder, check_files, print, run_task};
+use mvt_tasks::{Failure, Folder, print, run_task, tell_files};
 use std::alloc::Global;
 
 /// Runs the program on the words of its command line, the first of which is its name, and answers
 /// its status: 0 where all went well, 1 where the tile is refused, 2 where the words are, 3 where a
 /// read or a write failed, 4 for want of memory. Faults of `errors` are ignored.
 ///
-/// Where the words name files, these are checked, and the reader isn't touched.
+/// Where the words name files, these are checked or explained, and the reader isn't touched.
 pub fn run<F: Folder, R: Source, W: Sink, E: Sink>(
     alloc: Global,
     words: &[String],
@@ -58,7 +58,8 @@ pub fn run<F: Folder, R: Source, W: Sink, E: Sink>(
     // is left as it was.
     ensures files { files_in (map string_bytes words.now) ≢ []
         → faults_in (map string_bytes words.now) ≡ []
-        → ChecksFiles LIMIT (F.holds folder.old) (files_in (map string_bytes words.now))
+        → TellsFiles (SaysOf LIMIT (task_in (map string_bytes words.now))) (F.holds folder.old)
+        (files_in (map string_bytes words.now))
         (run_state (F.visits folder.old) (W.state writer.old) (E.state errors.old))
         (run_state (F.visits folder.new) (W.state writer.new) (E.state errors.new)) result
         × OneAtATime (F.open_files folder.old) (F.open_files folder.new) }
@@ -81,7 +82,7 @@ pub fn run<F: Folder, R: Source, W: Sink, E: Sink>(
         Err(refusal) => return refuse(refusal, errors),
     };
     if !files.is_empty() {
-        return check_files(alloc, files.as_slice(), folder, writer, errors);
+        return tell_files(alloc, &task, files.as_slice(), folder, writer, errors);
     }
     run_task(alloc, task, reader, writer, errors)
 }

@@ -2,7 +2,7 @@
 ghost use Rattle.std.specs.Prelude.{◌≡◌, ◌≢◌, [], false, map, string_bytes, IfOk, IfErr, OnOk};
 ghost use Rattle.clap.specs.declared.builder.command.Command.TheViews.{out-Command as fields_of};
 ghost use Rattle.clap.specs.Words.{app_of, found_of, new_app, rows_of, subcommand_rows_of};
-ghost use Rattle.mvt_cli.specs.Words.{mvt, extract_app, check_app, task_in, task_named as named, task_of_subcommand, texts_given, faults_in, files_in, files_named as named_files, files_of_subcommand};
+ghost use Rattle.mvt_cli.specs.Words.{mvt, extract_app, files_app, task_in, task_named as named, task_of_subcommand, texts_given, faults_in, files_in, files_named as named_files, files_of_subcommand};
 ghost use Rattle.mvt_cli.specs.Refused.{IsUsage};
 
 use clap::error::ErrorKind;
@@ -56,7 +56,18 @@ fn mvt_command<'a>(alloc: Global) -> Result<Command<'a>, AllocError>
     let fields = bare_command(alloc, "fields", "Lists the top-level fields of the input");
     let show = bare_command(alloc, "show", "Shows the tile as JSON");
     let draw = bare_command(alloc, "draw", "Draws the tile as a picture in SVG");
-    let check = check_command(alloc)?;
+    let check = files_command(
+        alloc,
+        "check",
+        "Checks the tile, or each of the files, and reports on it (the default)",
+        "The name of a file to check in place of the input",
+    )?;
+    let explain = files_command(
+        alloc,
+        "explain",
+        "Checks the tile, or each of the files, and says where and why it is refused",
+        "The name of a file to explain in place of the input",
+    )?;
     let rewrite = bare_command(alloc, "rewrite", "Writes the tile in its canonical form");
     let extract = extract_command(alloc)?;
     Command::new(alloc, "mvt")
@@ -65,6 +76,7 @@ fn mvt_command<'a>(alloc: Global) -> Result<Command<'a>, AllocError>
         .subcommand(show)?
         .subcommand(draw)?
         .subcommand(check)?
+        .subcommand(explain)?
         .subcommand(rewrite)?
         .subcommand(extract)
 }
@@ -77,18 +89,21 @@ fn bare_command<'a>(alloc: Global, name: &'a str, about: &'a str) -> Command<'a>
     Command::new(alloc, name).about(about)
 }
 
-/// The subcommand `check`, which takes the names of files.
-fn check_command<'a>(alloc: Global) -> Result<Command<'a>, AllocError>
-    ensures shape { IfOk result (λ command. app_of command ≡ check_app) }
+/// A subcommand that takes the names of files, by its name.
+fn files_command<'a>(
+    alloc: Global,
+    name: &'a str,
+    about: &'a str,
+    help: &'a str,
+) -> Result<Command<'a>, AllocError>
+    ensures shape { IfOk result (λ command. app_of command ≡ files_app name.entry.now) }
     ensures local { IfOk result (λ command. (fields_of command).has_globals ≡ false) }
 {
     let files = Arg::new(alloc, "file")
         .action(ArgAction::Append)
         .num_args(1..)
-        .help("The name of a file to check in place of the input");
-    Command::new(alloc, "check")
-        .about("Checks the tile, or each of the files, and reports on it (the default)")
-        .arg(files)
+        .help(help);
+    Command::new(alloc, name).about(about).arg(files)
 }
 
 /// The subcommand `extract`, which takes one name or more.
@@ -162,6 +177,7 @@ fn task_named(alloc: Global, name: &str, given: &ArgMatches<'_>) -> Result<Task,
         "fields" => Ok(Task::Fields),
         "show" => Ok(Task::Show),
         "draw" => Ok(Task::Draw),
+        "explain" => Ok(Task::Explain),
         "rewrite" => Ok(Task::Rewrite),
         "extract" => Ok(Task::Extract(texts_of(alloc, given, "name")?)),
         _ => Ok(Task::Check),
@@ -184,6 +200,7 @@ fn files_named(alloc: Global, name: &str, given: &ArgMatches<'_>) -> Result<Name
 {
     match name {
         "check" => texts_of(alloc, given, "file"),
+        "explain" => texts_of(alloc, given, "file"),
         _ => Ok(Names::new(Vec::new(alloc))),
     }
 }

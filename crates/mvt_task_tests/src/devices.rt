@@ -58,6 +58,14 @@ fn flushes_once_or_writes_nothing(rt: HostRuntime) {
     }
 }
 
+// What is said of a refused tile is put out once, beside the line of its fault.
+#[test]
+fn explains_a_broken_tile(rt: HostRuntime) {
+    let said = (1, NO_WIRE_TYPE_EXPLAINED.as_bytes(), WIRE_TYPE);
+    let calls = expect_run(&rt, Command::Explain, NO_WIRE_TYPE, SOUND, said);
+    expect_eq!(rt; calls.flushes, 1);
+}
+
 // Each read fails in turn, of which there is one a byte and one at the end; the writer isn't
 // touched.
 fn expect_reads_fail(rt: &(impl Abort + AllocGlobal), command: Command) {

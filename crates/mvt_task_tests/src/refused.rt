@@ -136,4 +136,7 @@ fn faults_refused_memory(rt: HostRuntime) {
     for (command, input, line) in rows {
         expect_once(&rt, command, input, (1, b"", line));
     }
+    let line = "layer - feature - at 0: 4 WireType\n";
+    let said = (1, NO_WIRE_TYPE_EXPLAINED.as_bytes(), line);
+    expect_once(&rt, Command::Explain, NO_WIRE_TYPE, said);
 }

@@ -35,13 +35,21 @@ const POINT_DRAWN: &str = concat!(
 
 const POINT_CHECKED: &str = "ok layers 1 features 1 canonical yes\n";
 
+// An input of one byte that is refused, and what is said of it.
+pub(super) const NO_WIRE_TYPE: &[u8] = b"\x1B";
+
+pub(super) const NO_WIRE_TYPE_EXPLAINED: &str = "byte 0, tag byte 0x1b: field 3, wire type 3\n\
+    A field begins here with a wire type that isn't allowed: only 0, 1, 2 and 5 are.\n\
+    0  [1b]\n";
+
 // Each command, and its output for the tile of one point.
-pub(super) fn point_written() -> [(Command, &'static [u8]); 6] {
+pub(super) fn point_written() -> [(Command, &'static [u8]); 7] {
     [
         (Command::Fields, POINT_LISTED.as_bytes()),
         (Command::Show, POINT_SHOWN.as_bytes()),
         (Command::Draw, POINT_DRAWN.as_bytes()),
         (Command::Check, POINT_CHECKED.as_bytes()),
+        (Command::Explain, POINT_CHECKED.as_bytes()),
         (Command::Rewrite, ONE_POINT),
         (Command::Extract(&["a"]), ONE_POINT),
     ]
@@ -54,6 +62,7 @@ pub(super) enum Command {
     Show,
     Draw,
     Check,
+    Explain,
     Rewrite,
     Extract(&'static [&'static str]),
 }
@@ -72,6 +81,7 @@ pub(super) fn task_of(alloc: Global, command: Command) -> Result<Task, AllocErro
         Command::Show => Ok(Task::Show),
         Command::Draw => Ok(Task::Draw),
         Command::Check => Ok(Task::Check),
+        Command::Explain => Ok(Task::Explain),
         Command::Rewrite => Ok(Task::Rewrite),
         Command::Extract(names) => Ok(Task::Extract(Names::new(names_of(alloc, names)?))),
     }

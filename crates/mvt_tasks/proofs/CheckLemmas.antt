@@ -6,6 +6,7 @@ use Rattle.std.proofs.lemmas.List.Sums.{sum_by-append}
 use Rattle.std.proofs.lemmas.Grind.{common_steps, flat_map-append}
 use Rattle.std.proofs.KnownBytes.{Appends-nil, Appends-trans}
 use Rattle.std.specs.List.{flat_map}
+use Rattle.std.specs.Prelude.{IfSome}
 use Rattle.std.specs.Io.KnownBytes.{Appends, Keeps}
 use Rattle.mvt_base.proofs.ListLemmas.{related-append, length-related}
 use Rattle.mvt_io.specs.Counts.{last_count}
@@ -102,9 +103,15 @@ tally_size (f ∷ fs) =
 
 -- ---- files
 
-pub said_none : (limit : ℕ) (holds : List ℕ → Option (List ℕ)) (now : RunState) (tally : Tally)
-    → tally ≡ record { accepted = 0; refused = 0; unread = 0 } → ReportsFiles limit holds [] now now [] tally
-said_none limit holds now tally is = record {
+-- what is said of what a file holds
+pub said_held : (Says : List ℕ → Reply → Type 0) (held left : Option (List ℕ)) (reply : Reply) → IfSome held (λ bytes. left ≡ Some bytes)
+    → IfSome left (λ input. Says input reply) → IfSome held (λ input. Says input reply)
+said_held Says None left reply opened says = tt
+said_held Says (Some bytes) left reply opened says = subst (λ (o : Option (List ℕ)). IfSome o (λ input. Says input reply)) opened says
+
+pub said_none : (Says : List ℕ → Reply → Type 0) (holds : List ℕ → Option (List ℕ)) (now : RunState) (tally : Tally)
+    → tally ≡ record { accepted = 0; refused = 0; unread = 0 } → ReportsFiles Says holds [] now now [] tally
+said_none Says holds now tally is = record {
   files = [];
   checked = tt;
   visited = adds_nothing now.visits;
@@ -134,11 +141,11 @@ counted_more files file old new verdict counted judged adds =
     ap₂ (λ (x : ℕ) (p : ℕ × ℕ). record { accepted = x; refused = p.0; unread = p.1 }) a (ap₂ (λ (y z : ℕ). (y, z)) r u)
 
 -- one file more
-pub said_more : (limit : ℕ) (holds : List ℕ → Option (List ℕ)) (names : List (List ℕ)) (name : List ℕ) (a b c : RunState)
+pub said_more : (Says : List ℕ → Reply → Type 0) (holds : List ℕ → Option (List ℕ)) (names : List (List ℕ)) (name : List ℕ) (a b c : RunState)
     (old new : Tally) (verdict : Verdict)
-    → ReportsFiles limit holds names a b [] old → ReportsFile limit holds name b c verdict → IsAdded old new verdict
-    → ReportsFiles limit holds (names ++ name ∷ []) a c [] new
-said_more limit holds names name a b c old new verdict said one adds =
+    → ReportsFiles Says holds names a b [] old → ReportsFile Says holds name b c verdict → IsAdded old new verdict
+    → ReportsFiles Says holds (names ++ name ∷ []) a c [] new
+said_more Says holds names name a b c old new verdict said one adds =
     let file : Checked = record { name = name; reply = one.reply } in
     let files = said.files in
     let visits = λ (fs : List Checked). map (λ f. visit_of f.name f.reply) fs in
@@ -149,7 +156,7 @@ said_more limit holds names name a b c old new verdict said one adds =
     record {
       files = files ++ file ∷ [];
       checked =
-          related-append (λ n (f : Checked). (f.name ≡ n) × IsFileReply limit (holds n) f.reply) names files (name ∷ []) (file ∷ []) said.checked
+          related-append (λ n (f : Checked). (f.name ≡ n) × IsFileReply Says (holds n) f.reply) names files (name ∷ []) (file ∷ []) said.checked
           ((refl, one.checked), tt);
       visited =
           subst (AddsAll a.visits c.visits) (sym (map-append (λ (f : Checked). visit_of f.name f.reply) files (file ∷ [])))
@@ -166,22 +173,22 @@ said_more limit holds names name a b c old new verdict said one adds =
     }
 
 -- so many files were counted as there are names
-pub said_size : (limit : ℕ) (holds : List ℕ → Option (List ℕ)) (names : List (List ℕ)) (a b : RunState) (line : List ℕ) (tally : Tally)
-    → ReportsFiles limit holds names a b line tally → tally.accepted + tally.refused + tally.unread ≡ length names
-said_size limit holds names a b line tally said =
+pub said_size : (Says : List ℕ → Reply → Type 0) (holds : List ℕ → Option (List ℕ)) (names : List (List ℕ)) (a b : RunState) (line : List ℕ) (tally : Tally)
+    → ReportsFiles Says holds names a b line tally → tally.accepted + tally.refused + tally.unread ≡ length names
+said_size Says holds names a b line tally said =
     ap (λ (t : Tally). t.accepted + t.refused + t.unread) said.counted ∙ tally_size said.files
-    ∙ sym (length-related (λ n (f : Checked). (f.name ≡ n) × IsFileReply limit (holds n) f.reply) names said.files said.checked)
+    ∙ sym (length-related (λ n (f : Checked). (f.name ≡ n) × IsFileReply Says (holds n) f.reply) names said.files said.checked)
 
-pub said_step : (limit : ℕ) (holds held : List ℕ → Option (List ℕ)) (all names : List (List ℕ)) (name shown : List ℕ) (a b c : RunState)
+pub said_step : (Says : List ℕ → Reply → Type 0) (holds held : List ℕ → Option (List ℕ)) (all names : List (List ℕ)) (name shown : List ℕ) (a b c : RunState)
     (old new : Tally) (verdict : Verdict)
-    → ReportsFiles limit holds names a b [] old → ReportsFile limit held shown b c verdict → held ≡ holds → shown ≡ name
-    → all ≡ names ++ name ∷ [] → IsAdded old new verdict → ReportsFiles limit holds all a c [] new
-said_step limit holds held all names name shown a b c old new verdict said one same shows all_is adds =
-    let here : ReportsFile limit holds name b c verdict =
-    subst (λ (h : List ℕ → Option (List ℕ)). ReportsFile limit h name b c verdict) same
-    (subst (λ (n : List ℕ). ReportsFile limit held n b c verdict) shows one) in
-    subst (λ (ns : List (List ℕ)). ReportsFiles limit holds ns a c [] new) (sym all_is)
-    (said_more limit holds names name a b c old new verdict said here adds)
+    → ReportsFiles Says holds names a b [] old → ReportsFile Says held shown b c verdict → held ≡ holds → shown ≡ name
+    → all ≡ names ++ name ∷ [] → IsAdded old new verdict → ReportsFiles Says holds all a c [] new
+said_step Says holds held all names name shown a b c old new verdict said one same shows all_is adds =
+    let here : ReportsFile Says holds name b c verdict =
+    subst (λ (h : List ℕ → Option (List ℕ)). ReportsFile Says h name b c verdict) same
+    (subst (λ (n : List ℕ). ReportsFile Says held n b c verdict) shows one) in
+    subst (λ (ns : List (List ℕ)). ReportsFiles Says holds ns a c [] new) (sym all_is)
+    (said_more Says holds names name a b c old new verdict said here adds)
 
 -- ---- a run that was over early
 
@@ -206,10 +213,10 @@ weaker_err (Ok x) f h = tt
 weaker_err (Err e) f h = f e h
 
 -- an end before the first file was checked
-pub cut_first : (limit : ℕ) (holds : List ℕ → Option (List ℕ)) (names : List (List ℕ)) (old : RunState) (visits : Option (List Visit))
+pub cut_first : (Says : List ℕ → Reply → Type 0) (holds : List ℕ → Option (List ℕ)) (names : List (List ℕ)) (old : RunState) (visits : Option (List Visit))
     (next : List Visit)
-    → IsNext names next → AddsAll old.visits visits next → EndsEarly limit holds names old (record old { visits = visits }) [] Memory
-cut_first limit holds names old visits next is_next visited = record {
+    → IsNext names next → AddsAll old.visits visits next → EndsEarly Says holds names old (record old { visits = visits }) [] Memory
+cut_first Says holds names old visits next is_next visited = record {
   front = [];
   rest = names;
   files = [];
@@ -223,12 +230,12 @@ cut_first limit holds names old visits next is_next visited = record {
 }
 
 -- an end within a file, of which there is something to say
-cut_within : (limit : ℕ) (holds : List ℕ → Option (List ℕ)) (name : List ℕ) (reply : Option Reply) (old new : RunState) (failure : Failure)
-    → IsFileReply limit (holds name) reply → AddsAll old.visits new.visits (visit_of name reply ∷ [])
+cut_within : (Says : List ℕ → Reply → Type 0) (holds : List ℕ → Option (List ℕ)) (name : List ℕ) (reply : Option Reply) (old new : RunState) (failure : Failure)
+    → IsFileReply Says (holds name) reply → AddsAll old.visits new.visits (visit_of name reply ∷ [])
     → TakesUntil old.output.taken new.output.taken (written_of (record { name = name; reply = reply })) failure
     → Prints old.errors new.errors (printed_of (record { name = name; reply = reply }))
-    → EndsEarly limit holds (name ∷ []) old new [] failure
-cut_within limit holds name reply old new failure said visited takes printed =
+    → EndsEarly Says holds (name ∷ []) old new [] failure
+cut_within Says holds name reply old new failure said visited takes printed =
     let file : Checked = record { name = name; reply = reply } in
     record {
       front = name ∷ [];
@@ -245,11 +252,11 @@ cut_within limit holds name reply old new failure said visited takes printed =
     }
 
 -- an end after the last file
-cut_last : (limit : ℕ) (holds : List ℕ → Option (List ℕ)) (names : List (List ℕ)) (a b : RunState) (tally : Tally)
+cut_last : (Says : List ℕ → Reply → Type 0) (holds : List ℕ → Option (List ℕ)) (names : List (List ℕ)) (a b : RunState) (tally : Tally)
     (w : Outflow) (failure : Failure)
-    → ReportsFiles limit holds names a b [] tally → TakesUntil b.output.taken w.taken [] failure
-    → EndsEarly limit holds names a (record b { output = w }) [] failure
-cut_last limit holds names a b tally w failure said takes = record {
+    → ReportsFiles Says holds names a b [] tally → TakesUntil b.output.taken w.taken [] failure
+    → EndsEarly Says holds names a (record b { output = w }) [] failure
+cut_last Says holds names a b tally w failure said takes = record {
   front = names;
   rest = [];
   files = said.files;
@@ -272,11 +279,11 @@ next_more (name ∷ names) behind (v ∷ []) is = is
 next_more (name ∷ names) behind (v ∷ w ∷ vs) is = absurd is
 
 -- an end at a file after others
-cut_later : (limit : ℕ) (holds held : List ℕ → Option (List ℕ)) (all names : List (List ℕ)) (name shown : List ℕ)
+cut_later : (Says : List ℕ → Reply → Type 0) (holds held : List ℕ → Option (List ℕ)) (all names : List (List ℕ)) (name shown : List ℕ)
     (behind : List (List ℕ)) (a b c : RunState) (tally : Tally) (failure : Failure)
-    → ReportsFiles limit holds names a b [] tally → EndsEarly limit held (shown ∷ []) b c [] failure → held ≡ holds → shown ≡ name
-    → all ≡ names ++ name ∷ behind → EndsEarly limit holds all a c [] failure
-cut_later limit holds held all names name shown behind a b c tally failure said cut same shows all_is =
+    → ReportsFiles Says holds names a b [] tally → EndsEarly Says held (shown ∷ []) b c [] failure → held ≡ holds → shown ≡ name
+    → all ≡ names ++ name ∷ behind → EndsEarly Says holds all a c [] failure
+cut_later Says holds held all names name shown behind a b c tally failure said cut same shows all_is =
     let one : shown ∷ [] ≡ cut.front ++ cut.rest = cut.of_names in
     let visits = λ (fs : List Checked). map (λ f. visit_of f.name f.reply) fs in
     let lines : (flat_map printed_of said.files ++ []) ++ (flat_map printed_of cut.files ++ []) ≡ flat_map printed_of (said.files ++ cut.files) ++ [] =
@@ -292,9 +299,9 @@ cut_later limit holds held all names name shown behind a b c tally failure said 
           all_is ∙ ap (λ n. names ++ n ∷ behind) (sym shows) ∙ ap (λ ns. names ++ (ns ++ behind)) one
           ∙ ap (λ ns. names ++ ns) (append_assoc cut.front cut.rest behind) ∙ sym (append_assoc names cut.front (cut.rest ++ behind));
       checked =
-          related-append (λ n (f : Checked). (f.name ≡ n) × IsFileReply limit (holds n) f.reply) names said.files cut.front
+          related-append (λ n (f : Checked). (f.name ≡ n) × IsFileReply Says (holds n) f.reply) names said.files cut.front
           cut.files said.checked
-          (subst (λ (h : List ℕ → Option (List ℕ)). AreChecked limit h cut.front cut.files) same cut.checked);
+          (subst (λ (h : List ℕ → Option (List ℕ)). AreChecked Says h cut.front cut.files) same cut.checked);
       is_next = next_more cut.rest behind cut.next cut.is_next;
       visited =
           subst (AddsAll a.visits c.visits)
@@ -311,11 +318,11 @@ cut_later limit holds held all names name shown behind a b c tally failure said 
     }
 
 -- the line that tells why
-pub cut_printed : (limit : ℕ) (holds : List ℕ → Option (List ℕ)) (names : List (List ℕ)) (a b : RunState) (errors : Outflow)
+pub cut_printed : (Says : List ℕ → Reply → Type 0) (holds : List ℕ → Option (List ℕ)) (names : List (List ℕ)) (a b : RunState) (errors : Outflow)
     (line : List ℕ) (failure : Failure)
-    → EndsEarly limit holds names a b [] failure → Prints b.errors errors line
-    → EndsEarly limit holds names a (record b { errors = errors }) line failure
-cut_printed limit holds names a b errors line failure cut printed = record {
+    → EndsEarly Says holds names a b [] failure → Prints b.errors errors line
+    → EndsEarly Says holds names a (record b { errors = errors }) line failure
+cut_printed Says holds names a b errors line failure cut printed = record {
   front = cut.front;
   rest = cut.rest;
   files = cut.files;
@@ -330,46 +337,46 @@ cut_printed limit holds names a b errors line failure cut printed = record {
       (prints-trans a.errors b.errors errors (flat_map printed_of cut.files ++ []) line cut.printed printed);
 }
 
-pub cut_at_first : (limit : ℕ) (holds : List ℕ → Option (List ℕ)) (names : List (List ℕ)) (old : RunState) (errors : Outflow) (line : List ℕ)
-    → Prints old.errors errors line → EndsEarly limit holds names old (record old { errors = errors }) line Memory
-cut_at_first limit holds names old errors line printed =
-    cut_printed limit holds names old old errors line Memory
-    (cut_first limit holds names old old.visits [] tt (adds_nothing old.visits)) printed
+pub cut_at_start : (Says : List ℕ → Reply → Type 0) (holds : List ℕ → Option (List ℕ)) (names : List (List ℕ)) (old : RunState) (errors : Outflow) (line : List ℕ)
+    → Prints old.errors errors line → EndsEarly Says holds names old (record old { errors = errors }) line Memory
+cut_at_start Says holds names old errors line printed =
+    cut_printed Says holds names old old errors line Memory
+    (cut_first Says holds names old old.visits [] tt (adds_nothing old.visits)) printed
 
 -- of an answer
 
-module _ {T : Type 0} (r : Result T Failure) (limit : ℕ) (holds : List ℕ → Option (List ℕ)) where
+module _ {T : Type 0} (r : Result T Failure) (Says : List ℕ → Reply → Type 0) (holds : List ℕ → Option (List ℕ)) where
   pub cut_first_of : (name : List ℕ) (old : RunState) (visits : Option (List Visit)) (next : List Visit) → IsNext (name ∷ []) next
       → AddsAll old.visits visits next → IfErr r (λ failure. failure ≡ Memory)
-      → IfErr r (EndsEarly limit holds (name ∷ []) old (record old { visits = visits }) [])
+      → IfErr r (EndsEarly Says holds (name ∷ []) old (record old { visits = visits }) [])
   cut_first_of name old visits next is_next visited is =
-      weaker_err r (λ failure is_memory. subst (EndsEarly limit holds (name ∷ []) old (record old { visits = visits }) []) (sym is_memory)
-      (cut_first limit holds (name ∷ []) old visits next is_next visited)) is
+      weaker_err r (λ failure is_memory. subst (EndsEarly Says holds (name ∷ []) old (record old { visits = visits }) []) (sym is_memory)
+      (cut_first Says holds (name ∷ []) old visits next is_next visited)) is
 
-  pub cut_within_of : (name : List ℕ) (reply : Option Reply) (old new : RunState) → IsFileReply limit (holds name) reply
+  pub cut_within_of : (name : List ℕ) (reply : Option Reply) (old new : RunState) → IsFileReply Says (holds name) reply
       → AddsAll old.visits new.visits (visit_of name reply ∷ [])
       → IfErr r (TakesUntil old.output.taken new.output.taken (written_of (record { name = name; reply = reply })))
       → Prints old.errors new.errors (printed_of (record { name = name; reply = reply }))
-      → IfErr r (EndsEarly limit holds (name ∷ []) old new [])
+      → IfErr r (EndsEarly Says holds (name ∷ []) old new [])
   cut_within_of name reply old new said visited takes printed =
-      weaker_err r (λ failure took. cut_within limit holds name reply old new failure said visited took printed) takes
+      weaker_err r (λ failure took. cut_within Says holds name reply old new failure said visited took printed) takes
 
-  pub cut_unwritten : (names : List (List ℕ)) (a b : RunState) (tally : Tally) → ReportsFiles limit holds names a b [] tally
-      → IfErr r (λ failure. failure ≡ Memory) → IfErr r (EndsEarly limit holds names a b [])
+  pub cut_unwritten : (names : List (List ℕ)) (a b : RunState) (tally : Tally) → ReportsFiles Says holds names a b [] tally
+      → IfErr r (λ failure. failure ≡ Memory) → IfErr r (EndsEarly Says holds names a b [])
   cut_unwritten names a b tally said is =
-      weaker_err r (λ failure is_memory. cut_last limit holds names a b tally b.output failure said
+      weaker_err r (λ failure is_memory. cut_last Says holds names a b tally b.output failure said
       (subst (TakesUntil b.output.taken b.output.taken []) (sym is_memory) (Appends-nil b.output.taken))) is
 
   pub cut_unflushed : (names : List (List ℕ)) (a b : RunState) (tally : Tally) (w : Outflow)
-      → ReportsFiles limit holds names a b [] tally → Keeps b.output.taken w.taken → IfErr r (λ failure. failure ≡ Write)
-      → IfErr r (EndsEarly limit holds names a (record b { output = w }) [])
+      → ReportsFiles Says holds names a b [] tally → Keeps b.output.taken w.taken → IfErr r (λ failure. failure ≡ Write)
+      → IfErr r (EndsEarly Says holds names a (record b { output = w }) [])
   cut_unflushed names a b tally w said keeps is =
-      weaker_err r (λ failure is_write. cut_last limit holds names a b tally w failure said
+      weaker_err r (λ failure is_write. cut_last Says holds names a b tally w failure said
       (subst (TakesUntil b.output.taken w.taken []) (sym is_write) (0, (omega arith), keeps_nothing b.output.taken w.taken keeps))) is
 
   pub cut_later_of : (held : List ℕ → Option (List ℕ)) (all names : List (List ℕ)) (name shown : List ℕ)
       (behind : List (List ℕ)) (a b c : RunState) (tally : Tally)
-      → ReportsFiles limit holds names a b [] tally → IfErr r (EndsEarly limit held (shown ∷ []) b c []) → held ≡ holds → shown ≡ name
-      → all ≡ names ++ name ∷ behind → IfErr r (EndsEarly limit holds all a c [])
+      → ReportsFiles Says holds names a b [] tally → IfErr r (EndsEarly Says held (shown ∷ []) b c []) → held ≡ holds → shown ≡ name
+      → all ≡ names ++ name ∷ behind → IfErr r (EndsEarly Says holds all a c [])
   cut_later_of held all names name shown behind a b c tally said cut same shows all_is =
-      weaker_err r (λ failure one. cut_later limit holds held all names name shown behind a b c tally failure said one same shows all_is) cut
+      weaker_err r (λ failure one. cut_later Says holds held all names name shown behind a b c tally failure said one same shows all_is) cut

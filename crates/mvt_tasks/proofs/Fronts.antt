@@ -12,8 +12,8 @@ use Rattle.mvt_tile.specs.TileRules.{fault_within, beyond, tile_rules}
 use Rattle.mvt_view.specs.FaultLines.{fault_line}
 use Rattle.mvt_view.proofs.ViewLaws.{front_reports_fault, front_reports_lines}
 use Rattle.mvt_tasks.specs.declared.reply.Reply.{Reply}
-use Rattle.mvt_tasks.specs.declared.task.Task.TheVariants.{Check}
-use Rattle.mvt_tasks.specs.Output.{IsReply, fields_reply}
+use Rattle.mvt_tasks.specs.declared.task.Task.TheVariants.{Check, Explain}
+use Rattle.mvt_tasks.specs.Output.{IsExplained, IsReply, fields_reply}
 
 abbrev judged : ℕ → List ℕ → Option Fault
 judged limit input = if nat_lt limit (length input) then beyond limit (first (tile_rules (take limit input))) else first (tile_rules input)
@@ -62,3 +62,17 @@ pub checked : (limit : ℕ) (left : Option (List ℕ)) (bytes slice : List ℕ) 
 checked limit None bytes slice reply read same is = tt
 checked limit (Some input) bytes slice reply read same is =
     printed-front limit input reply (subst (λ b. IsReply limit Check b reply) (same ∙ read) is)
+
+explained-front : (limit : ℕ) (input : List ℕ) (reply : Reply) → IsExplained limit (take (limit + 1) input) (take (limit + 1) input) reply
+    → IsReply limit Explain input reply
+explained-front limit input reply (inl (tile, is_tile, is)) =
+    let whole = whole-front limit input is_tile.small in
+    subst (λ bytes. IsExplained limit (take (limit + 1) input) bytes reply) whole (inl (tile, is_tile, is))
+explained-front limit input reply (inr (fault, first_is, is)) = inr (fault, sym (fault-front limit input) ∙ first_is, is)
+
+pub explained : (limit : ℕ) (left : Option (List ℕ)) (bytes slice : List ℕ) (reply : Reply)
+    → IfSome left (λ input. bytes ≡ take (limit + 1) input) → slice ≡ bytes → IsExplained limit slice slice reply
+    → IfSome left (λ input. IsReply limit Explain input reply)
+explained limit None bytes slice reply read same is = tt
+explained limit (Some input) bytes slice reply read same is =
+    explained-front limit input reply (subst (λ b. IsExplained limit b b reply) (same ∙ read) is)

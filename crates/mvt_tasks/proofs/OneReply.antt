@@ -1,49 +1,58 @@
 -- A task has one reply for each input: bytes are one tile, or have one fault.
-use Rattle.std.proofs.Common.{◌≡◌, ℕ, List, Option, Some, None, inl, inr, refl, sym, ap, ◌∙◌, codes, ◌++◌}
+use Rattle.std.proofs.Common.{◌≡◌, ℕ, ◌+◌, List, take, Option, Some, None, inl, inr, refl, sym, ap, ◌∙◌}
 use Rattle.mvt_base.specs.declared.TheConstants.{LIMIT}
 use Rattle.mvt_tile.proofs.TileLaws.{tile_or_fault_clean, tile_or_fault_once, tile_or_fault_there}
 use Rattle.mvt_tile.specs.declared.fault.Fault.{Fault}
 use Rattle.mvt_model.specs.declared.tile.Tile.{Tile}
 use Rattle.mvt_tile.specs.TileRules.{fault_within}
 use Rattle.mvt_model.specs.Tiles.{IsTile}
-use Rattle.mvt_view.specs.FaultLines.{fault_line}
 use Rattle.mvt_tasks.specs.declared.reply.Reply.{Reply}
 use Rattle.mvt_tasks.specs.declared.task.Task.{Task}
-use Rattle.mvt_tasks.specs.declared.task.Task.TheVariants.{Fields, Show, Draw, Check, Rewrite, Extract}
-use Rattle.mvt_tasks.specs.Output.{IsReply, IsPrinted, fields_reply, bytes_reply, layers_reply, done, refused, json_lines, svg_lines, check_lines}
+use Rattle.mvt_tasks.specs.declared.task.Task.TheVariants.{Fields, Show, Draw, Check, Explain, Rewrite, Extract}
+use Rattle.mvt_tasks.specs.Output.{IsReply, IsJudged, IsPrinted, fault_reply, fields_reply, bytes_reply, layers_reply, done, json_lines, svg_lines, check_lines, told_why}
 
-there_is : (of_tile : Tile → Reply) (input : List ℕ) (o : Option Fault) → fault_within LIMIT input ≡ o
-    → (o ≡ None → (tile : Tile) × IsTile LIMIT input tile) → (reply : Reply) × IsPrinted LIMIT of_tile input reply
-there_is of_tile input None is there = let (tile, is_tile) = there refl in (of_tile tile, inl (tile, is_tile, refl))
-there_is of_tile input (Some fault) is there = (refused (fault_line fault ++ codes "\n"), inr (fault, is, refl))
+there_is : (of_tile : Tile → Reply) (of_fault : Fault → Reply) (input : List ℕ) (o : Option Fault) → fault_within LIMIT input ≡ o
+    → (o ≡ None → (tile : Tile) × IsTile LIMIT input tile) → (reply : Reply) × IsJudged LIMIT of_tile of_fault input reply
+there_is of_tile of_fault input None is there = let (tile, is_tile) = there refl in (of_tile tile, inl (tile, is_tile, refl))
+there_is of_tile of_fault input (Some fault) is there = (of_fault fault, inr (fault, is, refl))
+
+judged : (of_tile : Tile → Reply) (of_fault : Fault → Reply) (input : List ℕ) → (reply : Reply) × IsJudged LIMIT of_tile of_fault input reply
+judged of_tile of_fault input = there_is of_tile of_fault input (fault_within LIMIT input) refl (tile_or_fault_there input)
 
 printed : (of_tile : Tile → Reply) (input : List ℕ) → (reply : Reply) × IsPrinted LIMIT of_tile input reply
-printed of_tile input = there_is of_tile input (fault_within LIMIT input) refl (tile_or_fault_there input)
+printed of_tile input = judged of_tile fault_reply input
 
 pub has_reply : (task : Task) (input : List ℕ) → (reply : Reply) × IsReply LIMIT task input reply
 has_reply Fields input = (fields_reply LIMIT input, refl)
 has_reply Show input = printed (λ tile. done (json_lines tile)) input
 has_reply Draw input = printed (λ tile. done (svg_lines tile)) input
 has_reply Check input = printed (λ tile. done (check_lines input tile)) input
+has_reply Explain input = judged (λ tile. done (check_lines input tile)) (told_why LIMIT (take (LIMIT + 1) input)) input
 has_reply Rewrite input = printed (bytes_reply LIMIT) input
 has_reply (Extract names) input = printed (layers_reply LIMIT names) input
 
-printed_once : (of_tile : Tile → Reply) (input : List ℕ) (a b : Reply) → IsPrinted LIMIT of_tile input a → IsPrinted LIMIT of_tile input b → a ≡ b
-printed_once of_tile input a b (inl (s, is_s, a_is)) (inl (t, is_t, b_is)) =
+judged_once : (of_tile : Tile → Reply) (of_fault : Fault → Reply) (input : List ℕ) (a b : Reply) → IsJudged LIMIT of_tile of_fault input a
+    → IsJudged LIMIT of_tile of_fault input b → a ≡ b
+judged_once of_tile of_fault input a b (inl (s, is_s, a_is)) (inl (t, is_t, b_is)) =
     a_is ∙ ap of_tile (tile_or_fault_once input s t is_s is_t) ∙ sym b_is
-printed_once of_tile input a b (inl (s, is_s, a_is)) (inr (f, is_f, b_is)) =
+judged_once of_tile of_fault input a b (inl (s, is_s, a_is)) (inr (f, is_f, b_is)) =
     let e : None ≡ Some f = sym (tile_or_fault_clean input s is_s) ∙ is_f in cc
-printed_once of_tile input a b (inr (f, is_f, a_is)) (inl (t, is_t, b_is)) =
+judged_once of_tile of_fault input a b (inr (f, is_f, a_is)) (inl (t, is_t, b_is)) =
     let e : None ≡ Some f = sym (tile_or_fault_clean input t is_t) ∙ is_f in cc
-printed_once of_tile input a b (inr (f, is_f, a_is)) (inr (g, is_g, b_is)) =
+judged_once of_tile of_fault input a b (inr (f, is_f, a_is)) (inr (g, is_g, b_is)) =
     let e : Some f ≡ Some g = sym is_f ∙ is_g in
     let same : f ≡ g = cc in
-    a_is ∙ ap (λ h. refused (fault_line h ++ codes "\n")) same ∙ sym b_is
+    a_is ∙ ap of_fault same ∙ sym b_is
+
+printed_once : (of_tile : Tile → Reply) (input : List ℕ) (a b : Reply) → IsPrinted LIMIT of_tile input a → IsPrinted LIMIT of_tile input b → a ≡ b
+printed_once of_tile input a b a_is b_is = judged_once of_tile fault_reply input a b a_is b_is
 
 pub has_one_reply : (task : Task) (input : List ℕ) (a b : Reply) → IsReply LIMIT task input a → IsReply LIMIT task input b → a ≡ b
 has_one_reply Fields input a b a_is b_is = a_is ∙ sym b_is
 has_one_reply Show input a b a_is b_is = printed_once (λ tile. done (json_lines tile)) input a b a_is b_is
 has_one_reply Draw input a b a_is b_is = printed_once (λ tile. done (svg_lines tile)) input a b a_is b_is
 has_one_reply Check input a b a_is b_is = printed_once (λ tile. done (check_lines input tile)) input a b a_is b_is
+has_one_reply Explain input a b a_is b_is =
+    judged_once (λ tile. done (check_lines input tile)) (told_why LIMIT (take (LIMIT + 1) input)) input a b a_is b_is
 has_one_reply Rewrite input a b a_is b_is = printed_once (bytes_reply LIMIT) input a b a_is b_is
 has_one_reply (Extract names) input a b a_is b_is = printed_once (layers_reply LIMIT names) input a b a_is b_is

@@ -1,4 +1,4 @@
--- What is said of files that are checked one after another.
+-- What is said of files that are checked, or explained, one after another.
 use Rattle.std.specs.Prelude.{◌≡◌, ℕ, ◌⊎◌, ◌≤◌, ◌==◌, List, [], ◌∷◌, ◌++◌, length, map, nat_lt, count_by, Bool, true, false, Option, Some, None, is_some, IfSome, codes, if◌then◌else◌, ⊤}
 use Rattle.std.specs.Fmt.{decimal}
 use Rattle.std.specs.List.{flat_map}
@@ -14,25 +14,35 @@ use Rattle.mvt_tasks.specs.declared.reply.Reply.{Reply}
 use Rattle.mvt_tasks.specs.declared.tally.Tally.{Tally}
 use Rattle.mvt_tasks.specs.declared.tally.Verdict.{Verdict}
 use Rattle.mvt_tasks.specs.declared.tally.Verdict.TheVariants.{Accepted, Refused, Unread}
-use Rattle.mvt_tasks.specs.declared.task.Task.TheVariants.{Check}
+use Rattle.mvt_tasks.specs.declared.task.Task.{Task}
+use Rattle.mvt_tasks.specs.declared.task.Task.TheVariants.{Check, Explain}
 use Rattle.mvt_tasks.specs.Failures.{line_of, status_of, FailsWriting}
 use Rattle.mvt_tasks.specs.Output.{IsReply}
 use Rattle.mvt_tasks.specs.Visits.{visit, Adds, AddsAll, IsNext}
 
--- a file, and what `check` answers for its bytes; no answer where they couldn't be read
+-- a file, and what is answered for its bytes; no answer where they couldn't be read
 pub record Checked : Type 0 where
   pub name : List ℕ
   pub reply : Option Reply
 
+-- what is asked of files: to check them, or to explain them
+abbrev pub task_of_files : Task → Task
+task_of_files Explain = Explain
+task_of_files task = Check
+
+-- what is answered for the bytes of a file
+abbrev pub SaysOf : ℕ → Task → List ℕ → Reply → Type 0
+SaysOf limit task input reply = IsReply limit (task_of_files task) input reply
+
 -- the reply is that for what the file holds
-abbrev pub IsFileReply : ℕ → Option (List ℕ) → Option Reply → Type 0
-IsFileReply limit held None = ⊤
-IsFileReply limit held (Some reply) = IfSome held (λ input. IsReply limit Check input reply)
+abbrev pub IsFileReply : (List ℕ → Reply → Type 0) → Option (List ℕ) → Option Reply → Type 0
+IsFileReply Says held None = ⊤
+IsFileReply Says held (Some reply) = IfSome held (λ input. Says input reply)
 
 -- each name's file, in order, with its reply
-abbrev pub AreChecked : ℕ → (List ℕ → Option (List ℕ)) → List (List ℕ) → List Checked → Type 0
-AreChecked limit holds names files =
-    AreRelated (λ name (file : Checked). (file.name ≡ name) × IsFileReply limit (holds name) file.reply) names files
+abbrev pub AreChecked : (List ℕ → Reply → Type 0) → (List ℕ → Option (List ℕ)) → List (List ℕ) → List Checked → Type 0
+AreChecked Says holds names files =
+    AreRelated (λ name (file : Checked). (file.name ≡ name) × IsFileReply Says (holds name) file.reply) names files
 
 -- a file without a reply is one that couldn't be read
 abbrev pub visit_of : List ℕ → Option Reply → Visit
@@ -126,19 +136,19 @@ run_state visits output errors = record { visits = visits; output = output; erro
 
 -- the files of these names were checked, each once and in order, and all was put out that there is to say of them, and on
 -- the error stream one line more
-pub record ReportsFiles (limit : ℕ) (holds : List ℕ → Option (List ℕ)) (names : List (List ℕ)) (old new : RunState)
+pub record ReportsFiles (Says : List ℕ → Reply → Type 0) (holds : List ℕ → Option (List ℕ)) (names : List (List ℕ)) (old new : RunState)
     (line : List ℕ) (tally : Tally) : Type 0 where
   pub files : List Checked
-  pub checked : AreChecked limit holds names files
+  pub checked : AreChecked Says holds names files
   pub visited : AddsAll old.visits new.visits (map (λ file. visit_of file.name file.reply) files)
   pub written : Appends old.output.taken new.output.taken (flat_map written_of files)
   pub printed : Prints old.errors new.errors (flat_map printed_of files ++ line)
   pub counted : tally ≡ tally_of files
 
 -- the same of one file
-pub record ReportsFile (limit : ℕ) (holds : List ℕ → Option (List ℕ)) (name : List ℕ) (old new : RunState) (verdict : Verdict) : Type 0 where
+pub record ReportsFile (Says : List ℕ → Reply → Type 0) (holds : List ℕ → Option (List ℕ)) (name : List ℕ) (old new : RunState) (verdict : Verdict) : Type 0 where
   pub reply : Option Reply
-  pub checked : IsFileReply limit (holds name) reply
+  pub checked : IsFileReply Says (holds name) reply
   pub visited : Adds old.visits new.visits (visit_of name reply)
   pub written : Appends old.output.taken new.output.taken (written_of (record { name = name; reply = reply }))
   pub printed : Prints old.errors new.errors (printed_of (record { name = name; reply = reply }))
@@ -152,14 +162,14 @@ TakesUntil old new text Memory = Appends old new text
 
 -- a run that was over early: the files of a front of the names were checked, in order, at most one more was visited, what
 -- there is to say of the checked ones was taken, and on the error stream one line more
-pub record EndsEarly (limit : ℕ) (holds : List ℕ → Option (List ℕ)) (names : List (List ℕ)) (old new : RunState)
+pub record EndsEarly (Says : List ℕ → Reply → Type 0) (holds : List ℕ → Option (List ℕ)) (names : List (List ℕ)) (old new : RunState)
     (line : List ℕ) (failure : Failure) : Type 0 where
   pub front : List (List ℕ)
   pub rest : List (List ℕ)
   pub files : List Checked
   pub next : List Visit
   pub of_names : names ≡ front ++ rest
-  pub checked : AreChecked limit holds front files
+  pub checked : AreChecked Says holds front files
   pub is_next : IsNext rest next
   pub visited : AddsAll old.visits new.visits (map (λ file. visit_of file.name file.reply) files ++ next)
   pub taken : TakesUntil old.output.taken new.output.taken (flat_map written_of files) failure
@@ -172,9 +182,13 @@ FlushesAtMost old new failure = (new ≡ old) ⊎ ((failure ≡ Write) × (new �
 -- all is said of the files of these names, the output was flushed once, none of its calls failed, and the status tells how
 -- the files were judged; or the run was over before, with a front of this on the output, not flushed but by a call that
 -- failed, and the last line tells why
-abbrev pub ChecksFiles : ℕ → (List ℕ → Option (List ℕ)) → List (List ℕ) → RunState → RunState → ℕ → Type 0
-ChecksFiles limit holds names old new status =
-    ((tally : Tally) × ReportsFiles limit holds names old new (summary (length names) tally) tally
+abbrev pub TellsFiles : (List ℕ → Reply → Type 0) → (List ℕ → Option (List ℕ)) → List (List ℕ) → RunState → RunState → ℕ → Type 0
+TellsFiles Says holds names old new status =
+    ((tally : Tally) × ReportsFiles Says holds names old new (summary (length names) tally) tally
     × (new.output.flushes ≡ counted old.output.flushes) × NoneFailed old.output.faults new.output.faults × (status ≡ status_after tally))
     ⊎ ((failure : Failure) × FailsWriting old.output.faults new.output.faults failure × (status ≡ status_of failure)
-    × EndsEarly limit holds names old new (line_of failure) failure × FlushesAtMost old.output.flushes new.output.flushes failure)
+    × EndsEarly Says holds names old new (line_of failure) failure × FlushesAtMost old.output.flushes new.output.flushes failure)
+
+-- the same, where the files are checked
+abbrev pub ChecksFiles : ℕ → (List ℕ → Option (List ℕ)) → List (List ℕ) → RunState → RunState → ℕ → Type 0
+ChecksFiles limit holds names old new status = TellsFiles (IsReply limit Check) holds names old new status

@@ -1,5 +1,5 @@
 -- What a run puts on its output and its error stream, and its status.
-use Rattle.std.specs.Prelude.{◌≡◌, ℕ, ◌+◌, ◌⊎◌, Bool, List, ◌++◌, length, nat_lt, find, not, Option, Some, None, bytes_eq, if◌then◌else◌, codes, MatchOption, IfSome, IsSome, ⊤}
+use Rattle.std.specs.Prelude.{◌≡◌, ℕ, ◌+◌, ◌⊎◌, Bool, List, ◌++◌, length, take, nat_lt, find, not, Option, Some, None, bytes_eq, if◌then◌else◌, codes, MatchOption, IfSome, IsSome, ⊤}
 use Rattle.std.specs.Option.{option_map}
 use Rattle.std.specs.List.{list_any}
 use Rattle.std.specs.Io.KnownBytes.{Appends}
@@ -14,6 +14,7 @@ use Rattle.mvt_tile.specs.Extraction.{is_named, pick}
 use Rattle.mvt_tile.specs.Reading.{StopsEarly}
 use Rattle.mvt_tile.specs.TileRules.{fault_within}
 use Rattle.mvt_model.specs.Tiles.{IsTile}
+use Rattle.mvt_places.specs.Explanations.{explanation}
 use Rattle.mvt_view.specs.FaultLines.{fault_line}
 use Rattle.mvt_view.specs.FieldLines.{fields_lines, fields_fault}
 use Rattle.mvt_view.specs.JsonForms.{json}
@@ -23,7 +24,7 @@ use Rattle.mvt_tasks.specs.declared.reply.Reply.{Reply}
 use Rattle.mvt_tasks.specs.declared.viewing.View.{View}
 use Rattle.mvt_tasks.specs.declared.viewing.View.TheVariants.{Json, Svg}
 use Rattle.mvt_tasks.specs.declared.task.Task.{Task}
-use Rattle.mvt_tasks.specs.declared.task.Task.TheVariants.{Fields, Show, Draw, Check, Rewrite, Extract}
+use Rattle.mvt_tasks.specs.declared.task.Task.TheVariants.{Fields, Show, Draw, Check, Explain, Rewrite, Extract}
 
 -- a text is written, and no line is told
 abbrev pub done : List ℕ → Reply
@@ -78,11 +79,30 @@ layers_reply_or (Some name) reply = refused (missing_line name)
 abbrev pub layers_reply : ℕ → List (List ℕ) → Tile → Reply
 layers_reply limit names tile = layers_reply_or (find (is_missing tile) names) (bytes_reply limit (pick tile names))
 
+-- the reply for an input that is a tile, or that for its fault
+abbrev pub IsJudged : ℕ → (Tile → Reply) → (Fault → Reply) → List ℕ → Reply → Type 0
+IsJudged limit of_tile of_fault input reply =
+    ((tile : Tile) × IsTile limit input tile × (reply ≡ of_tile tile))
+    ⊎ ((fault : Fault) × (fault_within limit input ≡ Some fault) × (reply ≡ of_fault fault))
+
+-- the line of a fault
+abbrev pub fault_reply : Fault → Reply
+fault_reply fault = refused (fault_line fault ++ codes "\n")
+
 -- the reply for an input that is a tile, or the line of its fault
 abbrev pub IsPrinted : ℕ → (Tile → Reply) → List ℕ → Reply → Type 0
-IsPrinted limit of_tile input reply =
-    ((tile : Tile) × IsTile limit input tile × (reply ≡ of_tile tile))
-    ⊎ ((fault : Fault) × (fault_within limit input ≡ Some fault) × (reply ≡ refused (fault_line fault ++ codes "\n")))
+IsPrinted limit of_tile input reply = IsJudged limit of_tile fault_reply input reply
+
+-- what is said of a fault of these bytes, and its line
+abbrev pub told_why : ℕ → List ℕ → Fault → Reply
+told_why limit bytes fault = record {
+  written = Some (explanation limit bytes fault);
+  printed = Some (fault_line fault ++ codes "\n");
+}
+
+-- the report on an input that is a tile, or what is said of its fault, as these bytes of it tell
+abbrev pub IsExplained : ℕ → List ℕ → List ℕ → Reply → Type 0
+IsExplained limit bytes input reply = IsJudged limit (λ tile. done (check_lines input tile)) (told_why limit bytes) input reply
 
 -- what a task answers for an input
 abbrev pub IsReply : ℕ → Task → List ℕ → Reply → Type 0
@@ -90,6 +110,7 @@ IsReply limit Fields input reply = reply ≡ fields_reply limit input
 IsReply limit Show input reply = IsPrinted limit (λ tile. done (json_lines tile)) input reply
 IsReply limit Draw input reply = IsPrinted limit (λ tile. done (svg_lines tile)) input reply
 IsReply limit Check input reply = IsPrinted limit (λ tile. done (check_lines input tile)) input reply
+IsReply limit Explain input reply = IsExplained limit (take (limit + 1) input) input reply
 IsReply limit Rewrite input reply = IsPrinted limit (bytes_reply limit) input reply
 IsReply limit (Extract names) input reply = IsPrinted limit (layers_reply limit names) input reply
 
@@ -99,6 +120,7 @@ ReadsNoFurther limit Fields old new = TakesAtMost (limit + 1) old.left new.left
 ReadsNoFurther limit Show old new = StopsEarly limit new.given old.left new.left
 ReadsNoFurther limit Draw old new = StopsEarly limit new.given old.left new.left
 ReadsNoFurther limit Check old new = TakesAtMost (limit + 1) old.left new.left
+ReadsNoFurther limit Explain old new = TakesAtMost (limit + 1) old.left new.left
 ReadsNoFurther limit Rewrite old new = StopsEarly limit new.given old.left new.left
 ReadsNoFurther limit (Extract names) old new = StopsEarly limit new.given old.left new.left
 

@@ -6,6 +6,7 @@ ghost use Rattle.mvt_tasks.specs.Failures.{FailsReading};
 ghost use Rattle.mvt_tasks.specs.Output.{HasOutput, IsReplyTo, ReadsNoFurther};
 
 use crate::checking::check;
+use crate::explaining::explain;
 use crate::extraction::extract_layers;
 use crate::failure::Failure;
 use crate::listing::list_fields;
@@ -37,6 +38,7 @@ pub fn answer<R: Source>(alloc: Global, task: Task, reader: &mut R) -> Result<Re
         Task::Show => view_tile(alloc, View::Json, reader),
         Task::Draw => view_tile(alloc, View::Svg, reader),
         Task::Check => check(alloc, reader),
+        Task::Explain => explain(alloc, reader),
         Task::Rewrite => rewrite(alloc, reader),
         Task::Extract(names) => extract_layers(alloc, &names, reader),
     }

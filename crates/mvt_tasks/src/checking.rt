@@ -46,7 +46,8 @@ fn checked(alloc: Global, input: &[u8]) -> Result<Reply, Failure>
     }
 }
 
-fn reported(alloc: Global, survey: &Survey) -> Result<Reply, Failure>
+/// The report on a tile that was surveyed.
+pub(crate) fn reported(alloc: Global, survey: &Survey) -> Result<Reply, Failure>
     ensures reply { IfOk result (λ reply. reply ≡ done (survey_lines survey.now)) }
     ensures failed { IfErr result (λ failure. failure ≡ Failure.Memory) }
 {

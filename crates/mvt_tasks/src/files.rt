@@ -1,22 +1,24 @@
-//! The command `check` over files.
-ghost use Rattle.std.specs.Prelude.{◌≡◌, ◌≢◌, ◌<◌, ◌⊎◌, [], ◌∷◌, ◌++◌, ℕ, List, length, map, string_bytes, IfOk, IfErr, OnOk, OnErr};
+//! The commands `check` and `explain` over files.
+ghost use Rattle.std.specs.Prelude.{◌≡◌, ◌≢◌, ◌<◌, ◌⊎◌, [], ◌∷◌, ◌++◌, ℕ, List, length, map, string_bytes, IfOk, IfErr, IfSome, OnOk, OnErr};
 ghost use Rattle.std.specs.List.{flat_map};
 ghost use Rattle.std.specs.Io.KnownBytes.{Appends};
 ghost use Rattle.mvt_io.specs.Counts.{counted};
 ghost use Rattle.mvt_io.specs.States.{NoneFailed};
 ghost use Rattle.mvt_tasks.specs.declared.folder.Visit.{Visit as AVisit};
-ghost use Rattle.mvt_tasks.specs.Checks.{Checked, FlushesAtMost, EndsEarly, IsFileReply, ReportsFiles, ReportsFile, ChecksFiles, TakesUntil, Prints, line_printed, marked_text, run_state, status_after, summary, text_of, printed_of, verdict_of, visit_of, written_of};
-ghost use Rattle.mvt_tasks.specs.Failures.{FailsWriting};
+ghost use Rattle.mvt_tasks.specs.Checks.{Checked, FlushesAtMost, EndsEarly, IsFileReply, ReportsFiles, ReportsFile, ChecksFiles, SaysOf, TakesUntil, TellsFiles, Prints, line_printed, marked_text, run_state, status_after, summary, text_of, printed_of, verdict_of, visit_of, written_of};
+ghost use Rattle.mvt_tasks.specs.Failures.{FailsReading, FailsWriting};
 ghost use Rattle.mvt_tasks.specs.Visits.{Adds, AddsAll, IsNext, OneAtATime};
 
 use crate::checking::check;
+use crate::explaining::explain;
 use crate::failure::Failure;
 use crate::folder::Folder;
 use crate::marks::named;
 use crate::reply::{Reply, fail};
 use crate::tally::{Tally, Verdict};
+use crate::task::Task;
 use mvt_base::{LIMIT, Text};
-use mvt_io::{Sink, write_all};
+use mvt_io::{Sink, Source, write_all};
 use std::alloc::Global;
 use std::io::ErrorKind;
 
@@ -37,20 +39,41 @@ pub fn check_files<F: Folder, W: Sink, E: Sink>(
     ensures sound { result < 2
         → NoneFailed (W.state writer.old).faults (W.state writer.new).faults }
 {
-    match check_all(alloc, names, folder, writer, errors) {
+    tell_files(alloc, &Task::Check, names, folder, writer, errors)
+}
+
+/// The same of files that are checked or explained, by the task: other tasks check them.
+pub fn tell_files<F: Folder, W: Sink, E: Sink>(
+    alloc: Global,
+    task: &Task,
+    names: &[String],
+    folder: &mut F,
+    writer: &mut W,
+    errors: &mut E,
+) -> u8
+    ensures printed { TellsFiles (SaysOf LIMIT task.now) (F.holds folder.old)
+        (map string_bytes names.now)
+        (run_state (F.visits folder.old) (W.state writer.old) (E.state errors.old))
+        (run_state (F.visits folder.new) (W.state writer.new) (E.state errors.new)) result }
+    ensures one { OneAtATime (F.open_files folder.old) (F.open_files folder.new) }
+    ensures sound { result < 2
+        → NoneFailed (W.state writer.old).faults (W.state writer.new).faults }
+{
+    match tell_all(alloc, task, names, folder, writer, errors) {
         Ok(tally) => tally.status(),
         Err(failure) => fail(failure, errors),
     }
 }
 
-fn check_all<F: Folder, W: Sink, E: Sink>(
+fn tell_all<F: Folder, W: Sink, E: Sink>(
     alloc: Global,
+    task: &Task,
     names: &[String],
     folder: &mut F,
     writer: &mut W,
     errors: &mut E,
 ) -> Result<Tally, Failure>
-    ensures said { IfOk result (λ tally. ReportsFiles LIMIT (F.holds folder.old)
+    ensures said { IfOk result (λ tally. ReportsFiles (SaysOf LIMIT task.now) (F.holds folder.old)
         (map string_bytes names.now)
         (run_state (F.visits folder.old) (W.state writer.old) (E.state errors.old))
         (run_state (F.visits folder.new) (W.state writer.new) (E.state errors.new))
@@ -63,26 +86,29 @@ fn check_all<F: Folder, W: Sink, E: Sink>(
         (NoneFailed (W.state writer.old).faults (W.state writer.new).faults) }
     ensures failed { IfErr result
         (FailsWriting (W.state writer.old).faults (W.state writer.new).faults) }
-    ensures cut { IfErr result (EndsEarly LIMIT (F.holds folder.old) (map string_bytes names.now)
+    ensures cut { IfErr result (EndsEarly (SaysOf LIMIT task.now) (F.holds folder.old)
+        (map string_bytes names.now)
         (run_state (F.visits folder.old) (W.state writer.old) (E.state errors.old))
         (run_state (F.visits folder.new) (W.state writer.new) (E.state errors.new)) []) }
     ensures one { OneAtATime (F.open_files folder.old) (F.open_files folder.new) }
 {
-    let tally = check_each(alloc, names, folder, writer, errors)?;
+    let tally = tell_each(alloc, task, names, folder, writer, errors)?;
     let line = tally.line(alloc, names.len())?;
     writer.flush().map_err(|_| Failure::Write)?;
     note(errors, line.as_bytes());
     Ok(tally)
 }
 
-fn check_each<F: Folder, W: Sink, E: Sink>(
+fn tell_each<F: Folder, W: Sink, E: Sink>(
     alloc: Global,
+    task: &Task,
     names: &[String],
     folder: &mut F,
     writer: &mut W,
     errors: &mut E,
 ) -> Result<Tally, Failure>
-    ensures said { IfOk result (ReportsFiles LIMIT (F.holds folder.old) (map string_bytes names.now)
+    ensures said { IfOk result (ReportsFiles (SaysOf LIMIT task.now) (F.holds folder.old)
+        (map string_bytes names.now)
         (run_state (F.visits folder.old) (W.state writer.old) (E.state errors.old))
         (run_state (F.visits folder.new) (W.state writer.new) (E.state errors.new)) []) }
     ensures unflushed { (W.state writer.new).flushes ≡ (W.state writer.old).flushes }
@@ -90,28 +116,31 @@ fn check_each<F: Folder, W: Sink, E: Sink>(
         (NoneFailed (W.state writer.old).faults (W.state writer.new).faults) }
     ensures failed { IfErr result
         (FailsWriting (W.state writer.old).faults (W.state writer.new).faults) }
-    ensures cut { IfErr result (EndsEarly LIMIT (F.holds folder.old) (map string_bytes names.now)
+    ensures cut { IfErr result (EndsEarly (SaysOf LIMIT task.now) (F.holds folder.old)
+        (map string_bytes names.now)
         (run_state (F.visits folder.old) (W.state writer.old) (E.state errors.old))
         (run_state (F.visits folder.new) (W.state writer.new) (E.state errors.new)) []) }
     ensures one { OneAtATime (F.open_files folder.old) (F.open_files folder.new) }
 {
     let mut tally = Tally::none();
     for name in names {
-        let verdict = check_one(alloc, name.as_str(), folder, writer, errors)?;
+        let verdict = tell_one(alloc, task, name.as_str(), folder, writer, errors)?;
         tally.add(verdict);
     }
     Ok(tally)
 }
 
-/// Checks a file, and puts out what there is to say of it.
-fn check_one<F: Folder, W: Sink, E: Sink>(
+/// Checks or explains a file, and puts out what there is to say of it.
+fn tell_one<F: Folder, W: Sink, E: Sink>(
     alloc: Global,
+    task: &Task,
     name: &str,
     folder: &mut F,
     writer: &mut W,
     errors: &mut E,
 ) -> Result<Verdict, Failure>
-    ensures said { IfOk result (λ verdict. ReportsFile LIMIT (F.holds folder.old) name.now
+    ensures said { IfOk result (λ verdict. ReportsFile (SaysOf LIMIT task.now)
+        (F.holds folder.old) name.now
         (run_state (F.visits folder.old) (W.state writer.old) (E.state errors.old))
         (run_state (F.visits folder.new) (W.state writer.new) (E.state errors.new)) verdict) }
     ensures unflushed { (W.state writer.new).flushes ≡ (W.state writer.old).flushes }
@@ -119,13 +148,14 @@ fn check_one<F: Folder, W: Sink, E: Sink>(
         (NoneFailed (W.state writer.old).faults (W.state writer.new).faults) }
     ensures failed { IfErr result
         (FailsWriting (W.state writer.old).faults (W.state writer.new).faults) }
-    ensures cut { IfErr result (EndsEarly LIMIT (F.holds folder.old) (name.now ∷ [])
+    ensures cut { IfErr result (EndsEarly (SaysOf LIMIT task.now) (F.holds folder.old)
+        (name.now ∷ [])
         (run_state (F.visits folder.old) (W.state writer.old) (E.state errors.old))
         (run_state (F.visits folder.new) (W.state writer.new) (E.state errors.new)) []) }
     ensures same { F.holds folder.new ≡ F.holds folder.old }
     ensures one { OneAtATime (F.open_files folder.old) (F.open_files folder.new) }
 {
-    let reply = check_file(alloc, name, folder)?;
+    let reply = tell_file(alloc, task, name, folder)?;
     let verdict = Verdict::of(&reply);
     let written = written(alloc, name, &reply)?;
     let printed = printed(alloc, name, &reply)?;
@@ -134,13 +164,14 @@ fn check_one<F: Folder, W: Sink, E: Sink>(
     Ok(verdict)
 }
 
-/// What `check` answers for a file; nothing where it couldn't be opened or read.
-fn check_file<F: Folder>(
+/// What is answered for a file; nothing where it couldn't be opened or read.
+fn tell_file<F: Folder>(
     alloc: Global,
+    task: &Task,
     name: &str,
     folder: &mut F,
 ) -> Result<Option<Reply>, Failure>
-    ensures said { IfOk result (IsFileReply LIMIT (F.holds folder.old name.now)) }
+    ensures said { IfOk result (IsFileReply (SaysOf LIMIT task.now) (F.holds folder.old name.now)) }
     ensures visited { IfOk result (λ reply. Adds (F.visits folder.old) (F.visits folder.new)
         (visit_of name.now reply)) }
     ensures asked { OnErr result ((next : List AVisit) × IsNext (name.now ∷ []) next
@@ -155,12 +186,27 @@ fn check_file<F: Folder>(
         Err(ErrorKind::OutOfMemory) => return Err(Failure::Memory),
         Err(_) => return Ok(None),
     };
-    let checked = check(alloc, &mut reader);
+    let told = tell(alloc, task, &mut reader);
     folder.close(text, reader);
-    match checked {
+    match told {
         Ok(reply) => Ok(Some(reply)),
         Err(Failure::Memory) => Err(Failure::Memory),
         Err(Failure::Read | Failure::Write) => Ok(None),
+    }
+}
+
+/// What is answered for the bytes of a file.
+fn tell<R: Source>(alloc: Global, task: &Task, reader: &mut R) -> Result<Reply, Failure>
+    ensures reply { IfOk result (λ reply. IfSome (R.state reader.old).left
+        (λ input. SaysOf LIMIT task.now input reply)) }
+    ensures failed { IfErr result
+        (FailsReading (R.state reader.old).faults (R.state reader.new).faults) }
+    ensures sound { OnOk result
+        (NoneFailed (R.state reader.old).faults (R.state reader.new).faults) }
+{
+    match task {
+        Task::Explain => explain(alloc, reader),
+        _ => check(alloc, reader),
     }
 }
 

@@ -1,7 +1,7 @@
 //! Laws about the definitions alone: functions without effect, whose contract is the law.
 ghost use Rattle.std.specs.Prelude.{◌≡◌, ℕ, List, Option};
 ghost use Rattle.mvt_io.specs.States.{Outflow};
-ghost use Rattle.mvt_tasks.specs.Checks.{EndsEarly, RunState, Prints};
+ghost use Rattle.mvt_tasks.specs.Checks.{EndsEarly, RunState, Prints, SaysOf};
 ghost use Rattle.mvt_tasks.specs.declared.failure.Failure.TheVariants.{Memory as MemoryFailure};
 ghost use Rattle.mvt_tasks.specs.declared.reply.Reply.{Reply as AReply};
 ghost use Rattle.mvt_tasks.specs.declared.task.Task.{Task as ATask};
@@ -20,7 +20,8 @@ pub fn one_reply()
 /// A check of files that was over before its first file, for want of memory, was cut short, with
 /// one line told.
 pub fn cut_at_first()
-    ensures { (limit : ℕ) (holds : List ℕ → Option (List ℕ)) (names : List (List ℕ))
+    ensures { (limit : ℕ) (task : ATask) (holds : List ℕ → Option (List ℕ)) (names : List (List ℕ))
         (old : RunState) (errors : Outflow) (line : List ℕ) → Prints old.errors errors line
-        → EndsEarly limit holds names old (record old { errors = errors }) line MemoryFailure }
+        → EndsEarly (SaysOf limit task) holds names old (record old { errors = errors }) line
+        MemoryFailure }
 {}

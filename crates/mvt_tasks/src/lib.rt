@@ -1,9 +1,10 @@
-//! What the program `mvt` does with tiles: it lists, shows, draws, checks, rewrites and extracts,
-//! over any reader and writer, and checks the files of any folder.
+//! What the program `mvt` does with tiles: it lists, shows, draws, checks, explains, rewrites and
+//! extracts, over any reader and writer, and checks the files of any folder.
 #![tactic(auto)]
 
 mod answering;
 mod checking;
+mod explaining;
 mod extraction;
 mod failure;
 mod files;
@@ -23,9 +24,10 @@ mod viewing;
 
 pub use answering::answer;
 pub use checking::check;
+pub use explaining::explain;
 pub use extraction::extract_layers;
 pub use failure::Failure;
-pub use files::check_files;
+pub use files::{check_files, tell_files};
 pub use folder::{Disk, Folder, OpenFiles, Visit};
 pub use listing::list_fields;
 pub use memory::{MemoryFile, MemoryFolder};

@@ -13,6 +13,8 @@ pub enum Task {
     Draw,
     /// Whether the tile is accepted, and what is noted of it.
     Check,
+    /// The same, and why a tile is refused: where, and what it means.
+    Explain,
     /// The tile in canonical form.
     Rewrite,
     /// The named layers in canonical form.

@@ -1,10 +1,10 @@
 use Rattle.std.proofs.Common.{refl}
 use Rattle.clap.proofs.OnLiterals.{clap_on_literals}
-use Rattle.mvt_cli.specs.Words.{mvt, extract_app, check_app}
+use Rattle.mvt_cli.specs.Words.{mvt, extract_app, files_app}
 use Rattle.mvt_cli.proofs.laws.lines_ask.Goals as goal
 
 pub returns : goal.returns
-unfolding clap_on_literals mvt extract_app check_app
+unfolding clap_on_literals mvt extract_app files_app
 returns c = record {
   nothing = refl;
   alone = λ name. refl;
@@ -12,9 +12,7 @@ returns c = record {
   show = λ name. refl;
   draw = λ name. refl;
   check = λ name. refl;
+  explain = λ name. refl;
   rewrite = λ name. refl;
   extract = λ name. refl;
-  no_files = λ name. refl;
-  files = λ name. refl;
-  hyphens = λ name. refl;
 }

@@ -1,5 +1,5 @@
 use Rattle.std.proofs.Common.{◌≡◌, ap, ◌∙◌, codes}
-use Rattle.std.proofs.lemmas.Result.{IfOk-weaker}
+use Rattle.std.proofs.lemmas.Result.{IfOk-weaker, err_from_is_err_and}
 use Rattle.clap.specs.Simple.{app_of_fields}
 use Rattle.clap.specs.Words.{app_of, new_app}
 use Rattle.mvt_cli.specs.Words.{mvt}
@@ -14,7 +14,17 @@ returns c =
     let two = added _ _ _ _ _ c.in_ok-subcommand-2.ensures one c.bare_command-show.ensures.shape c.bare_command-show.ensures.local in
     let three = added _ _ _ _ _ c.in_ok-subcommand-3.ensures two c.bare_command-draw.ensures.shape c.bare_command-draw.ensures.local in
     let four = added _ _ _ _ _ c.in_ok-subcommand-4.ensures three c.in_ok-check.ensures.shape c.in_ok-check.ensures.local in
-    let five = added _ _ _ _ _ c.in_ok-subcommand-5.ensures four c.bare_command-rewrite.ensures.shape
+    let five = added _ _ _ _ _ c.in_ok-subcommand-5.ensures four c.in_ok-explain.ensures.shape
+    c.in_ok-explain.ensures.local in
+    let six = added _ _ _ _ _ c.in_ok-subcommand-6.ensures five c.bare_command-rewrite.ensures.shape
     c.bare_command-rewrite.ensures.local in
-    IfOk-weaker c.subcommand-6.result _ _
-    (λ m h. added _ _ _ _ _ h five c.in_ok-extract.ensures.shape c.in_ok-extract.ensures.local) c.subcommand-6.ensures
+    IfOk-weaker c.subcommand-7.result _ _
+    (λ m h. added _ _ _ _ _ h six c.in_ok-extract.ensures.shape c.in_ok-extract.ensures.local) c.subcommand-7.ensures
+
+pub returns-in_err-extract : goal.returns-in_err-extract
+returns-in_err-extract c =
+    let p = err_from_is_err_and c.from_residual-in_err-extract.result c.from_residual-in_err-extract.ensures.1 in rw p.1 tt
+
+pub returns-in_err-subcommand : goal.returns-in_err-subcommand
+returns-in_err-subcommand c =
+    let p = err_from_is_err_and c.from_residual-in_err-subcommand.result c.from_residual-in_err-subcommand.ensures.1 in rw p.1 tt

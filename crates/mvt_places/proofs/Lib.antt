@@ -1,0 +1,6 @@
+mod ExplanationLemmas
+mod MessageLemmas
+mod PickLemmas
+pub mod PlacesLaws
+mod SpanLemmas
+mod WithinLemmas

@@ -1,0 +1,19 @@
+//! Where a fault stands in the bytes of a tile, and what is said of it in plain words.
+#![tactic(auto)]
+
+mod explaining;
+pub mod laws;
+mod locating;
+mod lookalike;
+mod message;
+mod numbers;
+mod place;
+mod sentences;
+mod span;
+mod target;
+
+pub use explaining::explanation_text;
+pub use locating::locate;
+pub use lookalike::{Lookalike, looks_like};
+pub use place::Place;
+pub use sentences::{sentence, sentence_with_zero};

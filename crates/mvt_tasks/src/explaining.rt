@@ -1,0 +1,57 @@
+//! The command `explain`.
+ghost use Rattle.std.specs.Prelude.{◌≡◌, ◌+◌, IfOk, IfErr, IfSome, OnOk};
+ghost use Rattle.mvt_io.specs.States.{NoneFailed};
+ghost use Rattle.mvt_io.specs.Transfers.{Reads, TakesAtMost};
+ghost use Rattle.mvt_tasks.specs.Failures.{FailsReading};
+ghost use Rattle.mvt_tasks.specs.Output.{IsExplained, IsReply, HasOutput, told_why};
+
+use crate::checking::reported;
+use crate::failure::Failure;
+use crate::refusal::fault_printed;
+use crate::reply::Reply;
+use crate::task::Task;
+use mvt_base::{Items, LIMIT};
+use mvt_io::{Source, read_up_to};
+use mvt_places::explanation_text;
+use mvt_tile::{DecodeError, Fault, survey_tile};
+use std::alloc::Global;
+
+/// Checks a tile, and reports on it, or explains why it is refused.
+pub fn explain<R: Source>(alloc: Global, reader: &mut R) -> Result<Reply, Failure>
+    ensures reply { IfOk result (λ reply. IfSome (R.state reader.old).left
+        (λ input. IsReply LIMIT Task.Explain input reply)) }
+    ensures output { IfOk result HasOutput }
+    ensures failed { IfErr result
+        (FailsReading (R.state reader.old).faults (R.state reader.new).faults) }
+    ensures sound { OnOk result
+        (NoneFailed (R.state reader.old).faults (R.state reader.new).faults) }
+    ensures reads { Reads (LIMIT + 1) (R.state reader.old) (R.state reader.new) }
+    ensures leaves { TakesAtMost (LIMIT + 1) (R.state reader.old).left (R.state reader.new).left }
+{
+    let input = read_up_to(alloc, reader, LIMIT as usize + 1)?;
+    explained(alloc, &input)
+}
+
+fn explained(alloc: Global, input: &[u8]) -> Result<Reply, Failure>
+    ensures reply { IfOk result (IsExplained LIMIT input.now input.now) }
+    ensures output { IfOk result HasOutput }
+    ensures failed { IfErr result (λ failure. failure ≡ Failure.Memory) }
+{
+    match survey_tile(alloc, input) {
+        Ok(survey) => reported(alloc, &survey),
+        Err(DecodeError::Fault(fault)) => why(alloc, input, &fault),
+        Err(DecodeError::Memory | DecodeError::Read(_)) => Err(Failure::Memory),
+    }
+}
+
+/// What is said of a refused tile. The line of the fault is made before anything is put out.
+fn why(alloc: Global, input: &[u8], fault: &Fault) -> Result<Reply, Failure>
+    ensures reply { IfOk result (λ reply. reply ≡ told_why LIMIT input.now fault.now) }
+    ensures failed { IfErr result (λ failure. failure ≡ Failure.Memory) }
+{
+    let text = explanation_text(alloc, input, fault)?;
+    Ok(Reply {
+        written: Some(Items::new(text.into_bytes())),
+        printed: Some(fault_printed(alloc, fault)?),
+    })
+}
