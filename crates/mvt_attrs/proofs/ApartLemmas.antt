@@ -26,7 +26,8 @@ apart_more entries n before here i j lt within =
     ⊎_elim (λ (e : j ≡ n). subst (IsApart entries i) (sym e) (here i (omega arith)))
     (λ (ne : j ≡ n → ⊥). before i j lt (omega arith)) (cases_eq j n)
 
-lent_at : (entries : List (Bor (List ℕ))) (i : ℕ) (a : Bor (List ℕ)) → slice_get entries i ≡ Some a → slice_get (lent entries) i ≡ Some a.now
+lent_at : (entries : List (Bor (List ℕ))) (i : ℕ) (a : Bor (List ℕ)) → slice_get entries i ≡ Some a
+    → slice_get (lent entries) i ≡ Some a.now
 lent_at [] i a at = cc
 lent_at (b ∷ bs) zero a at = let same : b ≡ a = cc in ap (λ (x : Bor (List ℕ)). Some x.now) same
 lent_at (b ∷ bs) (suc i) a at = lent_at bs i a at
@@ -46,7 +47,8 @@ apart_distinct entries n all apart i j d before inside same =
 
 -- ---- slots
 
-pub taken_more : (slots : List ℕ) (first slot : ℕ) → AreTaken slots first slot → slice_index slots slot ≢ 0 → AreTaken slots first (slot + 1)
+pub taken_more : (slots : List ℕ) (first slot : ℕ) → AreTaken slots first slot → slice_index slots slot ≢ 0
+    → AreTaken slots first (slot + 1)
 taken_more slots first slot before here q low high =
     ⊎_elim (λ (e : q ≡ slot). λ none. here (sym (ap (slice_index slots) e) ∙ none))
     (λ (ne : q ≡ slot → ⊥). before q low (omega arith)) (cases_eq q slot)
@@ -76,7 +78,8 @@ module _ (entries : List (Bor (List ℕ))) (slots : List ℕ) (room n slot : ℕ
         | inl less ↦ free.others p i (omega (arith, behind, first)) less mark a b at_i at_n same
         | inr more ↦
             ⊎_elim (λ (e : slot ≡ p). let zero_is = sym free.free ∙ ap (slice_index slots) e ∙ mark in absurd (omega (arith, zero_is)))
-            (λ (ne : slot ≡ p → ⊥). taken slot (let low = free.behind in omega (arith, first)) (omega (arith, more)) free.free) (cases_eq slot p)
+            (λ (ne : slot ≡ p → ⊥). taken slot (let low = free.behind in omega (arith, first)) (omega (arith, more)) free.free)
+                (cases_eq slot p)
       ]
 
   after : List ℕ

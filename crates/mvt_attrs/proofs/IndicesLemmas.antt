@@ -6,7 +6,8 @@ use Rattle.mvt_attrs.specs.Inner.Marking.{IsGrouped}
 use Rattle.mvt_attrs.specs.Inner.Places.{AreIndices}
 use Rattle.mvt_attrs.proofs.UsesLemmas.{one_place}
 
-pub grouped_apart : (texts : List (List ℕ)) (places : List ℕ) → AreDistinct texts → AreIndices places (length texts) → IsGrouped texts places
+pub grouped_apart : (texts : List (List ℕ)) (places : List ℕ) → AreDistinct texts → AreIndices places (length texts)
+    → IsGrouped texts places
 grouped_apart texts places apart indices = record {
   len = indices.count;
   within = λ i lt. let here = indices.here i lt in omega (arith, here, lt);

@@ -15,17 +15,17 @@ use Rattle.mvt_attrs.proofs.TagLemmas.{NamesOne, Progress, progress_none, progre
 
 -- whatever so many values there are, the pairs so far name attributes, and the places of their keys are marked
 abbrev pub MarkedSoFar : List (List ℕ) → List ℕ → List ℕ → ℕ → ℕ → List ℕ → List ℕ → Type 0
-MarkedSoFar keys places marks turn count tags rest =
+MarkedSoFar keys first_indices named_by feature count tags rest =
     (values : List Value) → length values ≡ count
-    → (attributes : List Attribute) × Progress keys values tags rest attributes × IsMarked keys places marks turn attributes
+    → (attributes : List Attribute) × Progress keys values tags rest attributes × IsMarked keys first_indices named_by feature attributes
 
-pub so_far_none : (keys : List (List ℕ)) (places marks : List ℕ) (turn count : ℕ) (tags : List ℕ) → AreBelow marks turn
-    → MarkedSoFar keys places marks turn count tags tags
-so_far_none keys places marks turn count tags below =
-    λ values e. ([], progress_none keys values tags, marked_none keys places marks turn below)
+pub so_far_none : (keys : List (List ℕ)) (first_indices named_by : List ℕ) (feature count : ℕ) (tags : List ℕ) → AreBelow named_by feature
+    → MarkedSoFar keys first_indices named_by feature count tags tags
+so_far_none keys first_indices named_by feature count tags below =
+    λ values e. ([], progress_none keys values tags, marked_none keys first_indices named_by feature below)
 
-module _ (keys : List (List ℕ)) (places marks : List ℕ) (turn count : ℕ) (tags rest : List ℕ)
-    (so_far : MarkedSoFar keys places marks turn count tags rest) (even : length tags % 2 ≡ 1 → ⊥) where
+module _ (keys : List (List ℕ)) (first_indices named_by : List ℕ) (feature count : ℕ) (tags rest : List ℕ)
+    (so_far : MarkedSoFar keys first_indices named_by feature count tags rest) (even : length tags % 2 ≡ 1 → ⊥) where
   module _ (more : 2 ≤ length rest) where
     pub key_stops : length keys ≤ get_or rest 0 0 → (values : List Value) → length values ≡ count
         → tag_fault keys values tags ≡ Some (length tags - length rest, KeyIndex)
@@ -42,7 +42,7 @@ module _ (keys : List (List ℕ)) (places marks : List ℕ) (turn count : ℕ) (
           (sym (slice_get_past values (get_or rest 1 0) (omega arith)))
 
       module _ (value_within : get_or rest 1 0 < count) (new : Bool)
-          (is : new ≡ not (get_or marks (get_or places (get_or rest 0 0) 0) 0 == turn)) where
+          (is : new ≡ not (get_or named_by (get_or first_indices (get_or rest 0 0) 0) 0 == feature)) where
         pub repeat_stops : new ≡ false → (values : List Value) → length values ≡ count
             → tag_fault keys values tags ≡ Some (length tags - length rest, RepeatedKey)
         repeat_stops no_new = λ values e.
@@ -50,27 +50,28 @@ module _ (keys : List (List ℕ)) (places marks : List ℕ) (turn count : ℕ) (
             let value = there values (get_or rest 1 0) (omega arith) in
             let attributes = (so_far values e).0 in
             stops_at_repeat keys values tags rest attributes (so_far values e).1 even more key.0 (sym key.1) value.0 (sym value.1)
-            (repeated_before keys places marks turn attributes (get_or rest 0 0) key.0 new (so_far values e).2 key.1 is no_new)
+            (repeated_before keys first_indices named_by feature attributes (get_or rest 0 0) key.0 new (so_far values e).2 key.1 is no_new)
 
-        pub so_far_more : (after : List ℕ) → after ≡ drop 2 rest → IsGrouped keys places → length marks ≡ length keys → new ≡ true
-            → MarkedSoFar keys places (set marks (get_or places (get_or rest 0 0) 0) turn) turn count tags after
+        pub so_far_more : (after : List ℕ) → after ≡ drop 2 rest → IsGrouped keys first_indices → length named_by ≡ length keys → new ≡ true
+            → MarkedSoFar keys first_indices (set named_by (get_or first_indices (get_or rest 0 0) 0) feature) feature count tags after
         so_far_more after left groups room is_new = λ values e.
             let key = there keys (get_or rest 0 0) within in
             let value = there values (get_or rest 1 0) (omega arith) in
             let attributes = (so_far values e).0 in
-            let unused = new_before keys places marks turn attributes (get_or rest 0 0) key.0 new (so_far values e).2 key.1 is is_new in
+            let unused = new_before keys first_indices named_by feature attributes (get_or rest 0 0) key.0 new (so_far values e).2 key.1
+                is is_new in
             let one : Attribute = record { key = key.0; value = value.0 } in (
               attributes ++ one ∷ [],
               progress_more keys values tags rest attributes (so_far values e).1 even more key.0 (sym key.1) value.0
                   (sym value.1) after left unused,
-              marked_more keys places marks turn attributes (get_or rest 0 0) one groups room key.1 (so_far values e).2,
+              marked_more keys first_indices named_by feature attributes (get_or rest 0 0) one groups room key.1 (so_far values e).2,
             )
 
-        pub below_more : IsGrouped keys places → length marks ≡ length keys → AreBelow marks (turn + 1)
-            → AreBelow (set marks (get_or places (get_or rest 0 0) 0) turn) (turn + 1)
+        pub below_more : IsGrouped keys first_indices → length named_by ≡ length keys → AreBelow named_by (feature + 1)
+            → AreBelow (set named_by (get_or first_indices (get_or rest 0 0) 0) feature) (feature + 1)
         below_more groups room below =
             let key = there keys (get_or rest 0 0) within in
-            below_marked keys places marks turn (get_or rest 0 0) key.0 groups room key.1 below
+            below_marked keys first_indices named_by feature (get_or rest 0 0) key.0 groups room key.1 below
 
     -- the error of a pair that names no key, or no value
     pub indices_stop : (index : ℕ) → index ≡ length tags - length rest → (error : TagError)

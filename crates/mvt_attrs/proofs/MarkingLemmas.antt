@@ -15,50 +15,51 @@ use Rattle.mvt_attrs.specs.Inner.Marking.{IsGrouped, IsMarked, IsPlaceAfter, Are
 use Rattle.mvt_attrs.specs.Tags.{has_key}
 
 -- the places of the first texts, and where each text is found among them
-pub record Found (texts : List (List ℕ)) (n : ℕ) (places : List ℕ) (find : List ℕ → Option ℕ) : Type 0 where
-  pub count : length places ≡ n
-  pub found : (j : ℕ) (a : List ℕ) → j < n → slice_get texts j ≡ Some a → find a ≡ Some (get_or places j 0)
+pub record Found (texts : List (List ℕ)) (n : ℕ) (first_indices : List ℕ) (find : List ℕ → Option ℕ) : Type 0 where
+  pub count : length first_indices ≡ n
+  pub found : (j : ℕ) (a : List ℕ) → j < n → slice_get texts j ≡ Some a → find a ≡ Some (get_or first_indices j 0)
   pub first : (a : List ℕ) (v : ℕ) → find a ≡ Some v → slice_get texts v ≡ Some a
 
-pub found_none : (texts : List (List ℕ)) (places : List ℕ) (find : List ℕ → Option ℕ) → places ≡ []
-    → ((q : List ℕ) → find q ≡ None) → Found texts 0 places find
-found_none texts places find e nothing = record {
+pub found_none : (texts : List (List ℕ)) (first_indices : List ℕ) (find : List ℕ → Option ℕ) → first_indices ≡ []
+    → ((q : List ℕ) → find q ≡ None) → Found texts 0 first_indices find
+found_none texts first_indices find e nothing = record {
   count = ap length e;
   found = λ j a lt at. absurd (omega arith);
   first = λ a v at. let none = nothing a in cc;
 }
 
-front_of : (places : List ℕ) (place j : ℕ) → j < length places → get_or (places ++ place ∷ []) j 0 ≡ get_or places j 0
-front_of places place j lt = get_or_append_left places (place ∷ []) 0 j lt
+front_of : (first_indices : List ℕ) (place j : ℕ) → j < length first_indices
+    → get_or (first_indices ++ place ∷ []) j 0 ≡ get_or first_indices j 0
+front_of first_indices place j lt = get_or_append_left first_indices (place ∷ []) 0 j lt
 
-last_of : (places : List ℕ) (place j : ℕ) → j ≡ length places → get_or (places ++ place ∷ []) j 0 ≡ place
-last_of places place j e = ap (λ k. get_or (places ++ place ∷ []) k 0) e ∙ get_or-append_seam places place [] 0
+last_of : (first_indices : List ℕ) (place j : ℕ) → j ≡ length first_indices → get_or (first_indices ++ place ∷ []) j 0 ≡ place
+last_of first_indices place j e = ap (λ k. get_or (first_indices ++ place ∷ []) k 0) e ∙ get_or-append_seam first_indices place [] 0
 
-module _ (texts : List (List ℕ)) (n : ℕ) (places : List ℕ) (find after : List ℕ → Option ℕ) (text : List ℕ) (place : ℕ)
-    (so_far : Found texts n places find) (at : slice_get texts n ≡ Some text) (is : place ≡ unwrap_or (find text) n)
+module _ (texts : List (List ℕ)) (n : ℕ) (first_indices : List ℕ) (find after : List ℕ → Option ℕ) (text : List ℕ) (place : ℕ)
+    (so_far : Found texts n first_indices find) (at : slice_get texts n ≡ Some text) (is : place ≡ unwrap_or (find text) n)
     (known : (q : List ℕ) → after q ≡ update bytes_eq find text (Some place) q) where
-  found_at : (j : ℕ) (a : List ℕ) → j < n + 1 → slice_get texts j ≡ Some a → after a ≡ Some (get_or (places ++ place ∷ []) j 0)
+  found_at : (j : ℕ) (a : List ℕ) → j < n + 1 → slice_get texts j ≡ Some a → after a ≡ Some (get_or (first_indices ++ place ∷ []) j 0)
   found_at j a lt at_j = by (bytes_eq text a) refl
     where
       last : j ≡ n → text ≡ a
       last e = let here : slice_get texts n ≡ Some a = subst (λ k. slice_get texts k ≡ Some a) e at_j in cc
 
-      by : (b : Bool) → bytes_eq text a ≡ b → after a ≡ Some (get_or (places ++ place ∷ []) j 0)
+      by : (b : Bool) → bytes_eq text a ≡ b → after a ≡ Some (get_or (first_indices ++ place ∷ []) j 0)
       by true e =
           let one : text ≡ a = (bytes_eq-Decides text a).0 e in
           known a ∙ update_same bytes_eq find text (Some place) a e ∙ ap Some (⊎_elim
-          (λ (is_last : j ≡ n). sym (last_of places place j (is_last ∙ sym so_far.count)))
+          (λ (is_last : j ≡ n). sym (last_of first_indices place j (is_last ∙ sym so_far.count)))
           (λ (other : j ≡ n → ⊥).
           let before : j < n = omega arith in
-          let there : find a ≡ Some (get_or places j 0) = so_far.found j a before at_j in
-          let same : place ≡ get_or places j 0 = is ∙ ap (λ t. unwrap_or (find t) n) one ∙ ap (λ o. unwrap_or o n) there in
-          same ∙ sym (front_of places place j (omega (arith, so_far.count))))
+          let there : find a ≡ Some (get_or first_indices j 0) = so_far.found j a before at_j in
+          let same : place ≡ get_or first_indices j 0 = is ∙ ap (λ t. unwrap_or (find t) n) one ∙ ap (λ o. unwrap_or o n) there in
+          same ∙ sym (front_of first_indices place j (omega (arith, so_far.count))))
           (cases_eq j n))
       by false e =
           let other : j ≡ n → ⊥ = λ is_last. false≢true (sym e ∙ (bytes_eq-Decides text a).1 (last is_last)) in
           let before : j < n = omega arith in
           known a ∙ update_other bytes_eq find text (Some place) a e ∙ so_far.found j a before at_j
-          ∙ ap Some (sym (front_of places place j (omega (arith, so_far.count))))
+          ∙ ap Some (sym (front_of first_indices place j (omega (arith, so_far.count))))
 
   place_is : slice_get texts place ≡ Some text
   place_is = by (find text) refl
@@ -78,44 +79,46 @@ module _ (texts : List (List ℕ)) (n : ℕ) (places : List ℕ) (find after : L
           subst (λ k. slice_get texts k ≡ Some a) same (place_is ∙ ap Some one)
       by false e = so_far.first a v (sym (known a ∙ update_other bytes_eq find text (Some place) a e) ∙ at_v)
 
-  pub found_more : (longer : List ℕ) → longer ≡ places ++ place ∷ [] → Found texts (n + 1) longer after
+  pub found_more : (longer : List ℕ) → longer ≡ first_indices ++ place ∷ [] → Found texts (n + 1) longer after
   found_more longer e = subst (λ ps. Found texts (n + 1) ps after) (sym e) (record {
-    count = omega (arith, length_push places place, so_far.count);
+    count = omega (arith, length_push first_indices place, so_far.count);
     found = found_at;
     first = first_at;
   })
 
 -- the places so far, found by some function that answers only these
 abbrev pub FoundFew : List (List ℕ) → List ℕ → Type 0
-FoundFew texts places =
-    (find : List ℕ → Option ℕ) × Found texts (length places) places find × ((q : List ℕ) (v : ℕ) → find q ≡ Some v → v < length places)
+FoundFew texts first_indices =
+    (find : List ℕ → Option ℕ) × Found texts (length first_indices) first_indices find
+        × ((q : List ℕ) (v : ℕ) → find q ≡ Some v → v < length first_indices)
 
-module _ (texts : List (List ℕ)) (places : List ℕ) (find : List ℕ → Option ℕ) (so_far : Found texts (length places) places find)
-    (low : (q : List ℕ) (v : ℕ) → find q ≡ Some v → v < length places) (text : List ℕ)
-    (at : slice_get texts (length places) ≡ Some text) where
-  place_found : (place : ℕ) → IsPlaceAfter texts places place → place ≡ unwrap_or (find text) (length places)
-  place_found place (inl (j, lt, same, is)) = is ∙ sym (ap (λ o. unwrap_or o (length places)) (so_far.found j text lt (same ∙ at)))
+module _ (texts : List (List ℕ)) (first_indices : List ℕ) (find : List ℕ → Option ℕ)
+    (so_far : Found texts (length first_indices) first_indices find)
+    (low : (q : List ℕ) (v : ℕ) → find q ≡ Some v → v < length first_indices) (text : List ℕ)
+    (at : slice_get texts (length first_indices) ≡ Some text) where
+  place_found : (place : ℕ) → IsPlaceAfter texts first_indices place → place ≡ unwrap_or (find text) (length first_indices)
+  place_found place (inl (j, lt, same, is)) = is ∙ sym (ap (λ o. unwrap_or o (length first_indices)) (so_far.found j text lt (same ∙ at)))
   place_found place (inr (none, is)) = by (find text) refl
     where
-      by : (o : Option ℕ) → find text ≡ o → place ≡ unwrap_or (find text) (length places)
-      by None e = is ∙ sym (ap (λ o. unwrap_or o (length places)) e)
+      by : (o : Option ℕ) → find text ≡ o → place ≡ unwrap_or (find text) (length first_indices)
+      by None e = is ∙ sym (ap (λ o. unwrap_or o (length first_indices)) e)
       by (Some v) e = absurd (none v (low text v e) (so_far.first text v e ∙ sym at))
 
-  place_low : (place : ℕ) → place ≡ unwrap_or (find text) (length places) → place < length places + 1
+  place_low : (place : ℕ) → place ≡ unwrap_or (find text) (length first_indices) → place < length first_indices + 1
   place_low place is = by (find text) refl
     where
-      by : (o : Option ℕ) → find text ≡ o → place < length places + 1
-      by None e = let here : place ≡ length places = is ∙ ap (λ o. unwrap_or o (length places)) e in omega arith
+      by : (o : Option ℕ) → find text ≡ o → place < length first_indices + 1
+      by None e = let here : place ≡ length first_indices = is ∙ ap (λ o. unwrap_or o (length first_indices)) e in omega arith
       by (Some v) e =
-          let here : place ≡ v = is ∙ ap (λ o. unwrap_or o (length places)) e in
+          let here : place ≡ v = is ∙ ap (λ o. unwrap_or o (length first_indices)) e in
           let small = low text v e in
           omega arith
 
-  few_low : (place : ℕ) → place < length places + 1 → (q : List ℕ) (v : ℕ)
-      → update bytes_eq find text (Some place) q ≡ Some v → v < length places + 1
+  few_low : (place : ℕ) → place < length first_indices + 1 → (q : List ℕ) (v : ℕ)
+      → update bytes_eq find text (Some place) q ≡ Some v → v < length first_indices + 1
   few_low place small q v e = by (bytes_eq text q) refl
     where
-      by : (b : Bool) → bytes_eq text q ≡ b → v < length places + 1
+      by : (b : Bool) → bytes_eq text q ≡ b → v < length first_indices + 1
       by true same =
           let here : Some place ≡ Some v = sym (update_same bytes_eq find text (Some place) q same) ∙ e in
           let is : place ≡ v = cc in
@@ -124,98 +127,110 @@ module _ (texts : List (List ℕ)) (places : List ℕ) (find : List ℕ → Opti
           let before = low q v (sym (update_other bytes_eq find text (Some place) q other) ∙ e) in
           omega arith
 
-  pub few_more : (place : ℕ) (longer : List ℕ) → IsPlaceAfter texts places place → longer ≡ places ++ place ∷ [] → FoundFew texts longer
+  pub few_more : (place : ℕ) (longer : List ℕ) → IsPlaceAfter texts first_indices place → longer ≡ first_indices ++ place ∷ []
+      → FoundFew texts longer
   few_more place longer behind e =
       let is = place_found place behind in
       let after = update bytes_eq find text (Some place) in
-      let len : length places + 1 ≡ length longer = omega (arith, ap length e, length_push places place) in (
+      let len : length first_indices + 1 ≡ length longer = omega (arith, ap length e, length_push first_indices place) in (
         after,
         subst (λ n. Found texts n longer after) len
-            (found_more texts (length places) places find after text place so_far at is (λ q. refl) longer e),
+            (found_more texts (length first_indices) first_indices find after text place so_far at is (λ q. refl) longer e),
         subst (λ n. (q : List ℕ) (v : ℕ) → after q ≡ Some v → v < n) len (few_low place (place_low place is)),
       )
 
-pub few_none : (texts : List (List ℕ)) (places : List ℕ) → places ≡ [] → FoundFew texts places
-few_none texts places e = (
+pub few_none : (texts : List (List ℕ)) (first_indices : List ℕ) → first_indices ≡ [] → FoundFew texts first_indices
+few_none texts first_indices e = (
   λ q. None,
-  subst (λ n. Found texts n places (λ q. None)) (sym (ap length e)) (found_none texts places (λ q. None) e (λ q. refl)),
+  subst (λ n. Found texts n first_indices (λ q. None)) (sym (ap length e)) (found_none texts first_indices (λ q. None) e (λ q. refl)),
   λ q v is. cc,
 )
 
-pub grouped : (texts : List (List ℕ)) (n : ℕ) (places : List ℕ) (find : List ℕ → Option ℕ) → n ≡ length texts
-    → Found texts n places find → IsGrouped texts places
-grouped texts n places find all done = record {
+pub grouped : (texts : List (List ℕ)) (n : ℕ) (first_indices : List ℕ) (find : List ℕ → Option ℕ) → n ≡ length texts
+    → Found texts n first_indices find → IsGrouped texts first_indices
+grouped texts n first_indices find all done = record {
   len = done.count ∙ all;
   within = λ i lt.
       let text = get_or texts i [] in
       let at : slice_get texts i ≡ Some text = slice_get-get_or texts i [] lt in
-      slice_get_within texts (get_or places i 0) text (done.first text (get_or places i 0) (done.found i text (omega arith) at));
+      slice_get_within texts (get_or first_indices i 0) text
+          (done.first text (get_or first_indices i 0) (done.found i text (omega arith) at));
   together = λ i j a at_i at_j.
       let lt_i : i < length texts = slice_get_within texts i a at_i in
       let lt_j : j < length texts = slice_get_within texts j a at_j in
-      let here : find a ≡ Some (get_or places i 0) = done.found i a (omega arith) at_i in
-      let there : find a ≡ Some (get_or places j 0) = done.found j a (omega arith) at_j in
+      let here : find a ≡ Some (get_or first_indices i 0) = done.found i a (omega arith) at_i in
+      let there : find a ≡ Some (get_or first_indices j 0) = done.found j a (omega arith) at_j in
       cc;
   apart = λ i j a b at_i at_j e.
       let lt_i : i < length texts = slice_get_within texts i a at_i in
       let lt_j : j < length texts = slice_get_within texts j b at_j in
-      let here : slice_get texts (get_or places i 0) ≡ Some a = done.first a (get_or places i 0) (done.found i a (omega arith) at_i) in
-      let there : slice_get texts (get_or places j 0) ≡ Some b = done.first b (get_or places j 0) (done.found j b (omega arith) at_j) in
+      let here : slice_get texts (get_or first_indices i 0) ≡ Some a = done.first a (get_or first_indices i 0)
+          (done.found i a (omega arith) at_i) in
+      let there : slice_get texts (get_or first_indices j 0) ≡ Some b = done.first b (get_or first_indices j 0)
+          (done.found j b (omega arith) at_j) in
       let both : Some a ≡ Some b = sym here ∙ ap (slice_get texts) e ∙ there in
       cc;
 }
 
-pub below_set : (marks : List ℕ) (p turn : ℕ) → p < length marks → AreBelow marks (turn + 1) → AreBelow (set marks p turn) (turn + 1)
-below_set marks p turn lt below = λ i.
+pub below_set : (named_by : List ℕ) (p feature : ℕ) → p < length named_by → AreBelow named_by (feature + 1)
+    → AreBelow (set named_by p feature) (feature + 1)
+below_set named_by p feature lt below = λ i.
     ⊎_elim
-    (λ (e : i ≡ p). subst (λ k. get_or (set marks p turn) k 0 < turn + 1) (sym e) (omega (arith, get_or-set_same marks p turn 0 lt)))
-    (λ (ne : i ≡ p → ⊥). omega (arith, get_or-set_other marks p i turn 0 ne, below i))
+    (λ (e : i ≡ p). subst (λ k. get_or (set named_by p feature) k 0 < feature + 1) (sym e)
+        (omega (arith, get_or-set_same named_by p feature 0 lt)))
+    (λ (ne : i ≡ p → ⊥). omega (arith, get_or-set_other named_by p i feature 0 ne, below i))
     (cases_eq i p)
 
--- no place is marked with a turn above all marks
-pub marked_none : (texts : List (List ℕ)) (places marks : List ℕ) (turn : ℕ) → AreBelow marks turn → IsMarked texts places marks turn []
-marked_none texts places marks turn below = λ i text at.
-    let lt = below (get_or places i 0) in ne_eqb (get_or marks (get_or places i 0) 0) turn (λ e. omega arith)
+-- a feature above all that named a key has named none
+pub marked_none : (texts : List (List ℕ)) (first_indices named_by : List ℕ) (feature : ℕ) → AreBelow named_by feature
+    → IsMarked texts first_indices named_by feature []
+marked_none texts first_indices named_by feature below = λ i text at.
+    let lt = below (get_or first_indices i 0) in ne_eqb (get_or named_by (get_or first_indices i 0) 0) feature (λ e. omega arith)
 
-module _ (texts : List (List ℕ)) (places marks : List ℕ) (turn : ℕ) (attributes : List Attribute) (k : ℕ) (key : List ℕ) (new : Bool)
-    (marked : IsMarked texts places marks turn attributes) (at : slice_get texts k ≡ Some key)
-    (is : new ≡ not (get_or marks (get_or places k 0) 0 == turn)) where
-  -- a key whose place has this turn's mark was named before
+module _ (texts : List (List ℕ)) (first_indices named_by : List ℕ) (feature : ℕ) (attributes : List Attribute) (k : ℕ) (key : List ℕ)
+    (new : Bool)
+    (marked : IsMarked texts first_indices named_by feature attributes) (at : slice_get texts k ≡ Some key)
+    (is : new ≡ not (get_or named_by (get_or first_indices k 0) 0 == feature)) where
+  -- a key whose first index this feature has named was named before
   pub repeated_before : new ≡ false → has_key key attributes ≡ true
   repeated_before no_new = not-false (has_key key attributes) (ap not (sym (marked k key at)) ∙ sym is ∙ no_new)
 
   pub new_before : new ≡ true → has_key key attributes ≡ false
   new_before is_new = not-true (has_key key attributes) (ap not (sym (marked k key at)) ∙ sym is ∙ is_new)
 
-pub below_marked : (texts : List (List ℕ)) (places marks : List ℕ) (turn k : ℕ) (key : List ℕ) → IsGrouped texts places
-    → length marks ≡ length texts → slice_get texts k ≡ Some key
-    → AreBelow marks (turn + 1) → AreBelow (set marks (get_or places k 0) turn) (turn + 1)
-below_marked texts places marks turn k key groups room at below =
+pub below_marked : (texts : List (List ℕ)) (first_indices named_by : List ℕ) (feature k : ℕ) (key : List ℕ) → IsGrouped texts first_indices
+    → length named_by ≡ length texts → slice_get texts k ≡ Some key
+    → AreBelow named_by (feature + 1) → AreBelow (set named_by (get_or first_indices k 0) feature) (feature + 1)
+below_marked texts first_indices named_by feature k key groups room at below =
     let lt : k < length texts = slice_get_within texts k key at in
-    below_set marks (get_or places k 0) turn (omega (arith, groups.within k lt)) below
+    below_set named_by (get_or first_indices k 0) feature (omega (arith, groups.within k lt)) below
 
 -- one attribute more, and its key's place marked
-pub marked_more : (texts : List (List ℕ)) (places marks : List ℕ) (turn : ℕ) (attributes : List Attribute) (k : ℕ) (a : Attribute)
-    → IsGrouped texts places → length marks ≡ length texts → slice_get texts k ≡ Some a.key → IsMarked texts places marks turn attributes
-    → IsMarked texts places (set marks (get_or places k 0) turn) turn (attributes ++ a ∷ [])
-marked_more texts places marks turn attributes k a groups room at marked = λ i text at_i.
+pub marked_more : (texts : List (List ℕ)) (first_indices named_by : List ℕ) (feature : ℕ) (attributes : List Attribute) (k : ℕ)
+    (a : Attribute)
+    → IsGrouped texts first_indices → length named_by ≡ length texts → slice_get texts k ≡ Some a.key
+    → IsMarked texts first_indices named_by feature attributes
+    → IsMarked texts first_indices (set named_by (get_or first_indices k 0) feature) feature (attributes ++ a ∷ [])
+marked_more texts first_indices named_by feature attributes k a groups room at marked = λ i text at_i.
     let lt_k : k < length texts = slice_get_within texts k a.key at in
-    let lt : get_or places k 0 < length marks = omega (arith, groups.within k lt_k) in
+    let lt : get_or first_indices k 0 < length named_by = omega (arith, groups.within k lt_k) in
     let whole : has_key text (attributes ++ a ∷ []) ≡ (has_key text attributes || (bytes_eq a.key text || false)) =
     list_any-append (λ (b : Attribute). bytes_eq b.key text) attributes (a ∷ []) in
     ⊎_elim
-    (λ (e : get_or places i 0 ≡ get_or places k 0).
+    (λ (e : get_or first_indices i 0 ≡ get_or first_indices k 0).
     let one : a.key ≡ text = groups.apart k i a.key text at at_i (sym e) in
-    eq-eqb _ _ (ap (λ p. get_or (set marks (get_or places k 0) turn) p 0) e ∙ get_or-set_same marks (get_or places k 0) turn 0 lt)
+    eq-eqb _ _ (ap (λ p. get_or (set named_by (get_or first_indices k 0) feature) p 0) e
+        ∙ get_or-set_same named_by (get_or first_indices k 0) feature 0 lt)
     ∙ sym (whole ∙ ap (λ b. has_key text attributes || (b || false)) ((bytes_eq-Decides a.key text).1 one)
     ∙ or-true (has_key text attributes)))
-    (λ (ne : get_or places i 0 ≡ get_or places k 0 → ⊥).
+    (λ (ne : get_or first_indices i 0 ≡ get_or first_indices k 0 → ⊥).
     let two : bytes_eq a.key text ≡ false = differs text i at_i ne in
-    ap (λ m. m == turn) (get_or-set_other marks (get_or places k 0) (get_or places i 0) turn 0 ne) ∙ marked i text at_i
+    ap (λ m. m == feature) (get_or-set_other named_by (get_or first_indices k 0) (get_or first_indices i 0) feature 0 ne)
+        ∙ marked i text at_i
     ∙ sym (whole ∙ ap (λ b. has_key text attributes || (b || false)) two ∙ or-false (has_key text attributes)))
-    (cases_eq (get_or places i 0) (get_or places k 0))
+    (cases_eq (get_or first_indices i 0) (get_or first_indices k 0))
   where
-    differs : (text : List ℕ) (i : ℕ) → slice_get texts i ≡ Some text → (get_or places i 0 ≡ get_or places k 0 → ⊥)
+    differs : (text : List ℕ) (i : ℕ) → slice_get texts i ≡ Some text → (get_or first_indices i 0 ≡ get_or first_indices k 0 → ⊥)
         → bytes_eq a.key text ≡ false
     differs text i at_i ne = by (bytes_eq a.key text) refl
       where

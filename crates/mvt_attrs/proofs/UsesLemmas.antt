@@ -16,8 +16,8 @@ use Rattle.mvt_attrs.specs.TagRules.{pairs_of}
 use Rattle.mvt_attrs.specs.Using.{AreUses, AreUsesOf, UsesAre, HasUses, IsUsedBy, used_in, used_of}
 use Rattle.mvt_attrs.specs.Values.{equal_values}
 use Rattle.mvt_base.specs.Related.{AreRelated}
-use Rattle.mvt_attrs.specs.declared.uses.LayerUses.{LayerUses}
-use Rattle.mvt_attrs.specs.declared.uses.Uses.{Uses}
+use Rattle.mvt_attrs.specs.declared.used_entries.LayerEntries.{LayerEntries}
+use Rattle.mvt_attrs.specs.declared.used_entries.UsedEntries.{UsedEntries}
 use Rattle.mvt_attrs.proofs.JudgingLemmas.{named_front, named_none}
 use Rattle.mvt_attrs.proofs.ResolvedLemmas.{related_from_names, there}
 use Rattle.mvt_attrs.proofs.TagLemmas.{NamesOne}
@@ -42,7 +42,8 @@ uses_none distinct places marks used no_distinct no_places no_marks no_used = re
 -- the first entries, each of which stands once
 module _ {A : Type 0} (distinct : List A) (places marks : List ℕ) (used before : List A) (uses : AreUses distinct places marks used before)
     (none : distinct ≡ []) where
-  no_entries : (entries : List A) → ((i : ℕ) (x : A) → slice_get entries i ≡ Some x → (p : ℕ) × (slice_get distinct p ≡ Some x)) → entries ≡ []
+  no_entries : (entries : List A) → ((i : ℕ) (x : A) → slice_get entries i ≡ Some x → (p : ℕ) × (slice_get distinct p ≡ Some x))
+      → entries ≡ []
   no_entries [] known = refl
   no_entries (x ∷ xs) known =
       let (p, at) = known 0 x refl in
@@ -90,7 +91,8 @@ pub uses_first : {A : Type 0} → (after entries : List A) (indices marks : List
     → AreDistinct entries → AreIndices indices (length entries) → AreFirstMarks marks (length entries) used
     → copies ≡ take used entries → AreUses after indices marks copies entries
 uses_first after entries indices marks copies used is apart are_indices are_marks first =
-    subst (λ ds. AreUses ds indices marks copies entries) (sym is) (subst (λ cs. AreUses entries indices marks cs entries) (sym first) (record {
+    subst (λ ds. AreUses ds indices marks copies entries) (sym is)
+        (subst (λ cs. AreUses entries indices marks cs entries) (sym first) (record {
       apart = apart;
       count = are_indices.count;
       placed = λ i x at. ap (slice_get entries) (are_indices.here i (slice_get_within entries i x at)) ∙ at;
@@ -148,7 +150,7 @@ marks_none used = record { count = refl; front = λ i within lt. absurd (omega a
 
 -- ---- what is used
 
-pub used_added : {A : Type 0} → (u : Uses A) → 0 < length u.places.items → used_of u ≡ u.used.items
+pub used_added : {A : Type 0} → (u : UsedEntries A) → 0 < length u.places.items → used_of u ≡ u.used.items
 unfolding used_of
 used_added u some = by_places u.places.items some
   where
@@ -157,18 +159,18 @@ used_added u some = by_places u.places.items some
     by_places (p ∷ places) some = refl
 
 -- what is used hangs on these three lists alone
-pub still_used : {A : Type 0} → (old new : Uses A) → new.places.items ≡ old.places.items → new.distinct ≡ old.distinct
+pub still_used : {A : Type 0} → (old new : UsedEntries A) → new.places.items ≡ old.places.items → new.distinct ≡ old.distinct
     → new.used.items ≡ old.used.items → used_of new ≡ used_of old
 unfolding used_of
 still_used old new places distinct used =
     ap (λ ps. used_in ps new.distinct new.used.items) places
     ∙ ap₂ (λ ds us. used_in old.places.items ds us) distinct used
 
-pub all_used : {A : Type 0} → (u : Uses A) → u.places.items ≡ [] → used_of u ≡ u.distinct
+pub all_used : {A : Type 0} → (u : UsedEntries A) → u.places.items ≡ [] → used_of u ≡ u.distinct
 unfolding used_of
 all_used u none = ap (λ ps. used_in ps u.distinct u.used.items) none
 
-pub used_once : {A : Type 0} → (u : Uses A) (entries : List A) → AreUsesOf u entries → AreDistinct (used_of u)
+pub used_once : {A : Type 0} → (u : UsedEntries A) (entries : List A) → AreUsesOf u entries → AreDistinct (used_of u)
 used_once u [] uses = subst AreDistinct (sym (all_used u uses.no_places)) uses.apart
 used_once u (x ∷ entries) uses = subst AreDistinct (sym (used_added u (let count = uses.count in omega arith))) uses.once
 
@@ -179,7 +181,8 @@ pub some_added : {A : Type 0} → (distinct : List A) (places marks : List ℕ) 
 some_added distinct places marks used [] i x uses at = cc
 some_added distinct places marks used (y ∷ entries) i x uses at = (uses, let count = uses.count in omega arith)
 
-pub still_uses : {A : Type 0} → (distinct : List A) (places marks new_marks : List ℕ) (used longer entries : List A) (i : ℕ) → i < length places
+pub still_uses : {A : Type 0} → (distinct : List A) (places marks new_marks : List ℕ) (used longer entries : List A) (i : ℕ)
+    → i < length places
     → UsesAre distinct places marks used entries
     → (AreUses distinct places marks used entries → AreUses distinct places new_marks longer entries)
     → UsesAre distinct places new_marks longer entries
@@ -200,7 +203,8 @@ is_added distinct places marks used (y ∷ entries) x uses = uses
 
 -- entries that are added at once, where nothing is used
 
-pub at_once : {A : Type 0} → (distinct : List A) (places marks : List ℕ) (used entries : List A) → AreUses distinct places marks used entries
+pub at_once : {A : Type 0} → (distinct : List A) (places marks : List ℕ) (used entries : List A)
+    → AreUses distinct places marks used entries
     → length distinct ≡ length places → (entries ≡ [] → used ≡ []) → UsesAre distinct places marks used entries
 at_once distinct places marks used [] uses size unused = record {
   apart = uses.apart;
@@ -214,7 +218,8 @@ pub nil_take : {A : Type 0} → (n : ℕ) (xs : List A) → xs ≡ [] → take n
 nil_take zero xs none = refl
 nil_take (suc n) xs none = ap (take (suc n)) none
 
-pub first_used : {A : Type 0} → (u : Uses A) (entries : List A) (n : ℕ) → length u.places.items ≡ length entries → u.distinct ≡ entries
+pub first_used : {A : Type 0} → (u : UsedEntries A) (entries : List A) (n : ℕ) → length u.places.items ≡ length entries
+    → u.distinct ≡ entries
     → u.used.items ≡ take n entries → used_of u ≡ take n entries
 first_used u [] n size same first = all_used u (nil_from_length u.places.items size) ∙ same ∙ sym (nil_take n [] refl)
 first_used u (x ∷ entries) n size same first = used_added u (omega (arith, size)) ∙ first
@@ -224,17 +229,17 @@ none_in : {A : Type 0} → (places : List ℕ) (distinct used : List A) → leng
 none_in [] distinct used size unused = nil_from_length distinct size
 none_in (p ∷ places) distinct used size unused = unused
 
-pub none_used : {A : Type 0} → (u : Uses A) → length u.distinct ≡ length u.places.items → u.used.items ≡ [] → used_of u ≡ []
+pub none_used : {A : Type 0} → (u : UsedEntries A) → length u.distinct ≡ length u.places.items → u.used.items ≡ [] → used_of u ≡ []
 unfolding used_of
 none_used u size unused = none_in u.places.items u.distinct u.used.items size unused
 
-pub none_before : {A : Type 0} → (u : Uses A) (entries : List A) → AreUsesOf u entries → u.distinct ≡ [] → used_of u ≡ []
+pub none_before : {A : Type 0} → (u : UsedEntries A) (entries : List A) → AreUsesOf u entries → u.distinct ≡ [] → used_of u ≡ []
 none_before u [] uses none = all_used u uses.no_places ∙ none
 none_before u (x ∷ entries) uses none =
     used_added u (let count = uses.count in omega arith)
     ∙ nothing_used u.distinct u.places.items u.marks.items u.used.items (x ∷ entries) uses none
 
-pub used_kept : {A : Type 0} → (old new : Uses A) (entries : List A) (place : ℕ) → AreUsesOf old entries
+pub used_kept : {A : Type 0} → (old new : UsedEntries A) (entries : List A) (place : ℕ) → AreUsesOf old entries
     → (old.places.items ≡ [] → old.distinct ≡ []) → new.places.items ≡ old.places.items ++ place ∷ []
     → new.used.items ≡ old.used.items → used_of new ≡ used_of old
 used_kept old new entries place uses empty pushed same =
@@ -358,7 +363,8 @@ module _ {A : Type 0} (distinct : List A) (places marks : List ℕ) (used entrie
             λ e. before.2 (sym (get_or_append_left marks (0 ∷ []) 0 before.0 small) ∙ e),
           )
 
-pub uses_more : {A : Type 0} (distinct after : List A) (places new_places marks new_marks : List ℕ) (used entries : List A) (x : A) (place : ℕ)
+pub uses_more : {A : Type 0} (distinct after : List A) (places new_places marks new_marks : List ℕ) (used entries : List A) (x : A)
+    (place : ℕ)
     → AreUses distinct places marks used entries → (after ≡ distinct) ⊎ (after ≡ distinct ++ x ∷ []) → AreDistinct after
     → slice_get after place ≡ Some x → (length marks < length after → new_marks ≡ marks ++ 0 ∷ [])
     → (length after ≤ length marks → new_marks ≡ marks) → new_places ≡ places ++ place ∷ []
@@ -378,7 +384,8 @@ uses_more distinct after places new_places marks new_marks used entries x place 
 
 -- ---- one use more
 
-module _ {A : Type 0} (distinct : List A) (places marks : List ℕ) (used entries : List A) (uses : AreUses distinct places marks used entries)
+module _ {A : Type 0} (distinct : List A) (places marks : List ℕ) (used entries : List A)
+    (uses : AreUses distinct places marks used entries)
     (entry : ℕ) (x : A) (at : slice_get entries entry ≡ Some x) where
   -- the entry stands among the distinct ones
   pub stands : slice_get distinct (slice_index places entry) ≡ Some x
@@ -463,7 +470,8 @@ pub read_at : (xs ys : List ℕ) (i n : ℕ) → xs ≡ ys → n ≡ get_or xs i
 read_at xs ys i n same at = at ∙ ap (λ l. get_or l i n) same
 
 -- the place and the mark of an entry, as they are read
-module _ {A : Type 0} (distinct : List A) (places marks : List ℕ) (used entries : List A) (uses : AreUses distinct places marks used entries)
+module _ {A : Type 0} (distinct : List A) (places marks : List ℕ) (used entries : List A)
+    (uses : AreUses distinct places marks used entries)
     (entry place : ℕ) (lt : entry < length entries) (read : place ≡ get_or places entry place) where
   pub place_is : place ≡ slice_index places entry
   place_is = read_is places entry place (omega (arith, lt, uses.count)) read
@@ -534,7 +542,8 @@ module _ {A : Type 0} (same : A → A → Bool) (decides : (x y : A) → Decides
       ]
 
 -- tags so far, of attributes whose entries are used: those that were used before, and theirs
-pub record TagsSoFar (done : List Attribute) (held_keys keys : List (List ℕ)) (held_values values : List Value) (tags : List ℕ) : Type 0 where
+pub record TagsSoFar (done : List Attribute) (held_keys keys : List (List ℕ)) (held_values values : List Value) (tags : List ℕ) : Type 0
+    where
   pub keys_are : keys ≡ key_pool held_keys done
   pub values_are : values ≡ value_pool held_values done
   pub names : Names keys values tags done
@@ -572,14 +581,15 @@ pub tags_are_places : (attributes : List Attribute) (held_keys keys : List (List
     → TagsSoFar attributes held_keys keys held_values values tags → tags ≡ tags_in keys values attributes
 tags_are_places attributes held_keys keys held_values values tags all =
     let distinct_keys : AreDistinct keys = subst AreDistinct (sym all.keys_are) (first_use-distinct bytes_eq bytes_eq-Decides _) in
-    let distinct_values : AreDistinct values = subst AreDistinct (sym all.values_are) (first_use-distinct equal_values equal_values-Decides _) in
+    let distinct_values : AreDistinct values = subst AreDistinct (sym all.values_are)
+        (first_use-distinct equal_values equal_values-Decides _) in
     names_places keys [] values [] tags attributes distinct_keys distinct_values all.names
     ∙ ap₂ (λ ks vs. tags_in ks vs attributes) (append-nil keys) (append-nil values)
 
 -- ---- a walk over tags
 
 -- so many attributes are used, and these tags name those to come
-pub record UsedSoFar (keys : List (List ℕ)) (values : List Value) (attributes : List Attribute) (rest : List ℕ) (old now : LayerUses)
+pub record UsedSoFar (keys : List (List ℕ)) (values : List Value) (attributes : List Attribute) (rest : List ℕ) (old now : LayerEntries)
     (before after : List ℕ) : Type 0 where
   pub done : List Attribute
   pub to_come : List Attribute
@@ -590,7 +600,7 @@ pub record UsedSoFar (keys : List (List ℕ)) (values : List Value) (attributes 
   pub out : after ≡ before ++ tags
   pub so_far : TagsSoFar done (used_of old.keys) (used_of now.keys) (used_of old.values) (used_of now.values) tags
 
-module _ (keys : List (List ℕ)) (values : List Value) (attributes : List Attribute) (old : LayerUses) (before : List ℕ) where
+module _ (keys : List (List ℕ)) (values : List Value) (attributes : List Attribute) (old : LayerEntries) (before : List ℕ) where
   pub used_start : (tags : List ℕ) → HasUses old keys values → Names keys values tags attributes
       → UsedSoFar keys values attributes tags old old before before
   used_start tags uses names = record {
@@ -604,7 +614,7 @@ module _ (keys : List (List ℕ)) (values : List Value) (attributes : List Attri
     so_far = tags_start (used_of old.keys) (used_of old.values) (used_once old.keys keys uses.0) (used_once old.values values uses.1);
   }
 
-  pub used_step : (rest left : List ℕ) (now next : LayerUses) (after longer : List ℕ) (k v : ℕ)
+  pub used_step : (rest left : List ℕ) (now next : LayerEntries) (after longer : List ℕ) (k v : ℕ)
       → (so_far : UsedSoFar keys values attributes rest old now before after) → (some : 2 ≤ length rest)
       → left ≡ drop 2 rest → HasUses next keys values
       → ((x : List ℕ) → slice_get keys (get_or rest 0 0) ≡ Some x
@@ -629,7 +639,7 @@ module _ (keys : List (List ℕ)) (values : List Value) (attributes : List Attri
             (used_of now.values) (used_of next.values) so_far.tags a k v so_far.so_far of_key.0 of_value.0 of_key.1 of_value.1;
       }
 
-  module _ (rest : List ℕ) (now : LayerUses) (after : List ℕ) (so_far : UsedSoFar keys values attributes rest old now before after)
+  module _ (rest : List ℕ) (now : LayerEntries) (after : List ℕ) (so_far : UsedSoFar keys values attributes rest old now before after)
       (none : length rest < 2) where
     used_all : so_far.done ≡ attributes
     used_all =
@@ -667,24 +677,28 @@ pub on_ok_all : {T E P Q R S : Type 0} → (r : Result T E) → (P → Q → R �
 on_ok_all (Ok x) all p q r = all p q r
 on_ok_all (Err e) all p q r = tt
 
-pub keys_apart : (keys : List (List ℕ)) (attributes : List Attribute) {pool : List (List ℕ)} → pool ≡ key_pool keys attributes → AreDistinct pool
+pub keys_apart : (keys : List (List ℕ)) (attributes : List Attribute) {pool : List (List ℕ)} → pool ≡ key_pool keys attributes
+    → AreDistinct pool
 keys_apart keys attributes is = subst AreDistinct (sym is) (first_use-distinct bytes_eq bytes_eq-Decides _)
 
 pub values_apart : (values : List Value) (attributes : List Attribute) {pool : List Value} → pool ≡ value_pool values attributes
     → AreDistinct pool
 values_apart values attributes is = subst AreDistinct (sym is) (first_use-distinct equal_values equal_values-Decides _)
 
-module _ (attributes : List Attribute) (old new : LayerUses) (uses : HasUses old [] []) (keys_stay : new.keys.places.items ≡ [])
+module _ (attributes : List Attribute) (old new : LayerEntries) (uses : HasUses old [] []) (keys_stay : new.keys.places.items ≡ [])
     (values_stay : new.values.places.items ≡ []) where
-  pub placed_by : new.keys.distinct ≡ key_pool old.keys.distinct attributes → new.values.distinct ≡ value_pool old.values.distinct attributes
+  pub placed_by : new.keys.distinct ≡ key_pool old.keys.distinct attributes
+      → new.values.distinct ≡ value_pool old.values.distinct attributes
       → Names new.keys.distinct new.values.distinct (tags_in new.keys.distinct new.values.distinct attributes) attributes
       → IsUsedBy attributes old new
   placed_by keys values names = record {
     keys = all_used new.keys keys_stay ∙ keys ∙ ap (λ k. key_pool k attributes) (sym (all_used old.keys uses.0.no_places));
     values = all_used new.values values_stay ∙ values ∙ ap (λ v. value_pool v attributes) (sym (all_used old.values uses.1.no_places));
     names =
-        subst (λ ks. Names ks (used_of new.values) (tags_in ks (used_of new.values) attributes) attributes) (sym (all_used new.keys keys_stay))
-        (subst (λ vs. Names new.keys.distinct vs (tags_in new.keys.distinct vs attributes) attributes) (sym (all_used new.values values_stay)) names);
+        subst (λ ks. Names ks (used_of new.values) (tags_in ks (used_of new.values) attributes) attributes)
+            (sym (all_used new.keys keys_stay))
+        (subst (λ vs. Names new.keys.distinct vs (tags_in new.keys.distinct vs attributes) attributes)
+            (sym (all_used new.values values_stay)) names);
   }
 
   pub placed_tags : (before : List ℕ) {after : List ℕ} → after ≡ before ++ tags_in new.keys.distinct new.values.distinct attributes
@@ -692,7 +706,7 @@ module _ (attributes : List Attribute) (old new : LayerUses) (uses : HasUses old
   placed_tags before is =
       is ∙ ap₂ (λ ks vs. before ++ tags_in ks vs attributes) (sym (all_used new.keys keys_stay)) (sym (all_used new.values values_stay))
 
-pub too_many_used : (attributes : List Attribute) (old : LayerUses) (limit : ℕ) → HasUses old [] []
+pub too_many_used : (attributes : List Attribute) (old : LayerEntries) (limit : ℕ) → HasUses old [] []
     → (limit < length (key_pool old.keys.distinct attributes)) ⊎ (limit < length (value_pool old.values.distinct attributes))
     → (limit < length (key_pool (used_of old.keys) attributes)) ⊎ (limit < length (value_pool (used_of old.values) attributes))
 too_many_used attributes old limit uses many =

@@ -1,8 +1,8 @@
 -- The entries of a layer that its features use, each once, in order of first use (4.4). Entries are known by
 -- places: equal ones have one place.
 use Rattle.std.specs.Prelude.{◌≡◌, ◌≢◌, ℕ, ◌+◌, ◌<◌, List, [], ◌∷◌, Some, length, slice_get, slice_index}
-use Rattle.mvt_attrs.specs.declared.uses.Uses.{Uses}
-use Rattle.mvt_attrs.specs.declared.uses.LayerUses.{LayerUses}
+use Rattle.mvt_attrs.specs.declared.used_entries.UsedEntries.{UsedEntries}
+use Rattle.mvt_attrs.specs.declared.used_entries.LayerEntries.{LayerEntries}
 use Rattle.mvt_attrs.specs.declared.value.Attribute.{Attribute}
 use Rattle.mvt_attrs.specs.declared.value.Value.{Value}
 use Rattle.mvt_attrs.specs.FirstUse.{AreDistinct}
@@ -33,7 +33,7 @@ abbrev pub UsesAre : {A : Type 0} → List A → List ℕ → List ℕ → List 
 UsesAre distinct places marks used [] = AreAllUsed distinct places marks used
 UsesAre distinct places marks used (x ∷ entries) = AreUses distinct places marks used (x ∷ entries)
 
-abbrev pub AreUsesOf : {A : Type 0} → Uses A → List A → Type 0
+abbrev pub AreUsesOf : {A : Type 0} → UsedEntries A → List A → Type 0
 AreUsesOf uses entries = UsesAre uses.distinct uses.places.items uses.marks.items uses.used.items entries
 
 -- the entries that are used
@@ -41,15 +41,15 @@ abbrev pub used_in : {A : Type 0} → List ℕ → List A → List A → List A
 used_in [] distinct used = distinct
 used_in (place ∷ places) distinct used = used
 
-unfoldable pub used_of : {A : Type 0} → Uses A → List A
+unfoldable pub used_of : {A : Type 0} → UsedEntries A → List A
 used_of uses = used_in uses.places.items uses.distinct uses.used.items
 
 -- uses of a layer with these keys and values
-abbrev pub HasUses : LayerUses → List (List ℕ) → List Value → Type 0
+abbrev pub HasUses : LayerEntries → List (List ℕ) → List Value → Type 0
 HasUses uses keys values = AreUsesOf uses.keys keys × AreUsesOf uses.values values
 
 -- what attributes more do to the uses of a layer
-pub record IsUsedBy (attributes : List Attribute) (old new : LayerUses) : Type 0 where
+pub record IsUsedBy (attributes : List Attribute) (old new : LayerEntries) : Type 0 where
   pub keys : used_of new.keys ≡ key_pool (used_of old.keys) attributes
   pub values : used_of new.values ≡ value_pool (used_of old.values) attributes
   pub names : Names (used_of new.keys) (used_of new.values) (tags_in (used_of new.keys) (used_of new.values) attributes) attributes

@@ -5,7 +5,7 @@ ghost use Rattle.mvt_attrs.specs.declared.value.Value.{Value};
 ghost use Rattle.mvt_attrs.specs.TagRules.{tag_fault, fault_of};
 ghost use Rattle.mvt_attrs.specs.Inner.Marking.{IsGrouped, AreBelow, IsIndexError};
 
-use crate::layer_keys::{LayerKeys, make_ready, mark, next_turn};
+use crate::layer_keys::{LayerKeys, make_ready, mark, next_feature};
 use crate::resolving::{TagCause, TagError};
 use mvt_base::Text;
 use std::alloc::Global;
@@ -40,14 +40,21 @@ pub fn judge_tags(
         alloc,
         texts,
         keys.is_grouped,
-        &mut keys.places,
-        &mut keys.marks,
-        keys.turn,
+        &mut keys.first_indices,
+        &mut keys.named_by,
+        keys.feature,
     )?;
     keys.is_grouped = true;
-    let turn = next_turn(&mut keys.marks, keys.turn);
-    keys.turn = turn;
-    judge_marked(texts, &keys.places, &mut keys.marks, turn, values, tags)
+    let feature = next_feature(&mut keys.named_by, keys.feature);
+    keys.feature = feature;
+    judge_marked(
+        texts,
+        &keys.first_indices,
+        &mut keys.named_by,
+        feature,
+        values,
+        tags,
+    )
 }
 
 /// The same where there is one pair at most, which repeats no key.
@@ -66,23 +73,23 @@ fn judge_pair(texts: &[Text], values: usize, tags: &[u32]) -> Result<(), TagErro
     }
 }
 
-/// The same, over keys in their groups and marks below this turn.
+/// The same, over keys in their groups that this feature has not named yet.
 fn judge_marked(
     texts: &[Text],
-    places: &[usize],
-    marks: &mut [u32],
-    turn: u32,
+    first_indices: &[usize],
+    named_by: &mut [u32],
+    feature: u32,
     values: usize,
     tags: &[u32],
 ) -> Result<(), TagError>
-    requires grouped { IsGrouped texts.now places.now }
-    requires room { length marks.old ≡ length texts.now }
-    requires fresh { AreBelow marks.old turn }
+    requires grouped { IsGrouped texts.now first_indices.now }
+    requires room { length named_by.old ≡ length texts.now }
+    requires fresh { AreBelow named_by.old feature }
     ensures ok { OnOk result ((held : List Value) → length held ≡ values
         → tag_fault texts.now held tags.now ≡ None) }
     ensures err { IfErr result (λ error. (held : List Value) → length held ≡ values
         → Reports (fault_of error) (tag_fault texts.now held tags.now)) }
-    ensures below { AreBelow marks.new (turn + 1) }
+    ensures below { AreBelow named_by.new (feature + 1) }
 {
     if tags.len() % 2 == 1 {
         return Err(fault(tags.len(), TagCause::OddTags));
@@ -91,7 +98,7 @@ fn judge_marked(
     while let [key, value, others @ ..] = rest {
         let index = tags.len() - rest.len();
         judge_indices(texts, values, index, *key, *value)?;
-        if !mark(places, marks, turn, *key as usize) {
+        if !mark(first_indices, named_by, feature, *key as usize) {
             return Err(fault(index, TagCause::RepeatedKey));
         }
         rest = others;

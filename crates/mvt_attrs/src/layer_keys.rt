@@ -29,10 +29,11 @@ pub struct LayerKeys<'k> {
     pub(crate) texts: &'k [Text],
     pub(crate) is_grouped: bool,
     /// For each key the first index of its text, where they are grouped.
-    pub(crate) places: Vec<usize>,
-    /// For each place the last turn that named it.
-    pub(crate) marks: Vec<u32>,
-    pub(crate) turn: u32,
+    pub(crate) first_indices: Vec<usize>,
+    /// For each first index the last feature that named its text.
+    pub(crate) named_by: Vec<u32>,
+    /// The number of the last feature, from 1; where numbers are over, they begin again.
+    pub(crate) feature: u32,
 }
 
 impl<'k> Model for LayerKeys<'k> {
@@ -45,7 +46,7 @@ impl<'k> Model for LayerKeys<'k> {
     ghost view = { λ k. k.texts.now };
 
     ghost invariant = { λ k. OnTrue k.is_grouped
-        (IsReady k.texts.now k.places.items k.marks.items k.turn) };
+        (IsReady k.texts.now k.first_indices.items k.named_by.items k.feature) };
 }
 
 impl<'k> LayerKeys<'k> {
@@ -56,9 +57,9 @@ impl<'k> LayerKeys<'k> {
         LayerKeys {
             texts,
             is_grouped: false,
-            places: Vec::new(alloc),
-            marks: Vec::new(alloc),
-            turn: 0,
+            first_indices: Vec::new(alloc),
+            named_by: Vec::new(alloc),
+            feature: 0,
         }
     }
 }
@@ -68,19 +69,19 @@ pub(crate) fn make_ready(
     alloc: Global,
     texts: &[Text],
     is_grouped: bool,
-    places: &mut Vec<usize>,
-    marks: &mut Vec<u32>,
-    turn: u32,
+    first_indices: &mut Vec<usize>,
+    named_by: &mut Vec<u32>,
+    feature: u32,
 ) -> Result<(), AllocError>
-    requires { OnTrue is_grouped (IsReady texts.now places.old.items marks.old.items turn) }
-    ensures ready { OnOk result (IsReady texts.now places.new.items marks.new.items turn) }
+    requires { OnTrue is_grouped (IsReady texts.now first_indices.old.items named_by.old.items feature) }
+    ensures ready { OnOk result (IsReady texts.now first_indices.new.items named_by.new.items feature) }
     ensures err { OnErr result (is_grouped ≡ false) }
 {
     if is_grouped {
         return Ok(());
     }
-    *places = group(alloc, texts)?;
-    *marks = vec![in alloc; 0; texts.len()]?;
+    *first_indices = group(alloc, texts)?;
+    *named_by = vec![in alloc; 0; texts.len()]?;
     Ok(())
 }
 
@@ -89,7 +90,7 @@ const MOST_COMPARED: usize = 8;
 
 /// For each text the first index at which it stands.
 fn group(alloc: Global, texts: &[Text]) -> Result<Vec<usize>, AllocError>
-    ensures { IfOk result (λ places. IsGrouped texts.now places.items) }
+    ensures { IfOk result (λ first_indices. IsGrouped texts.now first_indices.items) }
 {
     if texts.len() <= MOST_COMPARED {
         return group_few(alloc, texts);
@@ -102,23 +103,23 @@ fn group(alloc: Global, texts: &[Text]) -> Result<Vec<usize>, AllocError>
 
 /// The same by plain comparisons, whose number is the square of that of the texts.
 fn group_few(alloc: Global, texts: &[Text]) -> Result<Vec<usize>, AllocError>
-    ensures { IfOk result (λ places. IsGrouped texts.now places.items) }
+    ensures { IfOk result (λ first_indices. IsGrouped texts.now first_indices.items) }
 {
-    let mut places = Vec::with_capacity(alloc, texts.len())?;
+    let mut first_indices = Vec::with_capacity(alloc, texts.len())?;
     for _ in texts {
-        let place = place_after(texts, &places);
-        places.push(place)?;
+        let place = place_after(texts, &first_indices);
+        first_indices.push(place)?;
     }
-    Ok(places)
+    Ok(first_indices)
 }
 
 /// The place of the first text that has none yet: that of an earlier equal one, or its index.
-fn place_after(texts: &[Text], places: &[usize]) -> usize
-    requires { length places.now < length texts.now }
-    ensures { IsPlaceAfter texts.now places.now result }
+fn place_after(texts: &[Text], first_indices: &[usize]) -> usize
+    requires { length first_indices.now < length texts.now }
+    ensures { IsPlaceAfter texts.now first_indices.now result }
 {
-    let index = places.len();
-    for (before, place) in places.iter().enumerate() {
+    let index = first_indices.len();
+    for (before, place) in first_indices.iter().enumerate() {
         if texts[before] == texts[index] {
             return *place;
         }
@@ -129,26 +130,26 @@ fn place_after(texts: &[Text], places: &[usize]) -> usize
 /// The same of texts that stand once each.
 fn group_apart(alloc: Global, texts: &[Text]) -> Result<Vec<usize>, AllocError>
     requires { AreDistinct texts.now }
-    ensures { IfOk result (λ places. IsGrouped texts.now places.items) }
+    ensures { IfOk result (λ first_indices. IsGrouped texts.now first_indices.items) }
 {
-    let mut places = Vec::with_capacity(alloc, texts.len())?;
+    let mut first_indices = Vec::with_capacity(alloc, texts.len())?;
     for index in 0..texts.len() {
-        places.push(index)?;
+        first_indices.push(index)?;
     }
-    Ok(places)
+    Ok(first_indices)
 }
 
 /// The same by a map of the texts so far.
 fn group_many(alloc: Global, texts: &[Text]) -> Result<Vec<usize>, AllocError>
-    ensures { IfOk result (λ places. IsGrouped texts.now places.items) }
+    ensures { IfOk result (λ first_indices. IsGrouped texts.now first_indices.items) }
 {
     let mut known = BTreeMap::new(alloc);
-    let mut places = Vec::with_capacity(alloc, texts.len())?;
+    let mut first_indices = Vec::with_capacity(alloc, texts.len())?;
     for (index, text) in texts.iter().enumerate() {
         let place = place_of(&mut known, text.as_str(), index)?;
-        places.push(place)?;
+        first_indices.push(place)?;
     }
-    Ok(places)
+    Ok(first_indices)
 }
 
 /// The place of a text, which is this index where it is new.
@@ -169,29 +170,36 @@ fn place_of<'k>(
     Ok(index)
 }
 
-/// The turn after this one: no place is marked with it.
-pub(crate) fn next_turn(marks: &mut [u32], turn: u32) -> u32
-    requires { AreBelow marks.old (turn + 1) }
-    ensures { AreBelow marks.new result }
+/// The number of the next feature: nothing has been named by it.
+pub(crate) fn next_feature(named_by: &mut [u32], feature: u32) -> u32
+    requires { AreBelow named_by.old (feature + 1) }
+    ensures { AreBelow named_by.new result }
 {
-    if turn < u32::MAX {
-        return turn + 1;
+    if feature < u32::MAX {
+        return feature + 1;
     }
-    for mark in marks.iter_mut() {
+    for mark in named_by.iter_mut() {
         *mark = 0;
     }
     1
 }
 
-/// Marks the place of the key at an index. Answers whether it had no mark of this turn.
-pub(crate) fn mark(places: &[usize], marks: &mut [u32], turn: u32, index: usize) -> bool
-    requires there { index < length places.now }
-    requires within { slice_index places.now index < length marks.old }
-    ensures new { result ≡ not (slice_index marks.old (slice_index places.now index) == turn) }
-    ensures marked { marks.new ≡ slice_set marks.old (slice_index places.now index) turn }
+/// Notes that this feature names the key at an index. Answers whether it had not named its text.
+pub(crate) fn mark(
+    first_indices: &[usize],
+    named_by: &mut [u32],
+    feature: u32,
+    index: usize,
+) -> bool
+    requires there { index < length first_indices.now }
+    requires within { slice_index first_indices.now index < length named_by.old }
+    ensures new { result
+        ≡ not (slice_index named_by.old (slice_index first_indices.now index) == feature) }
+    ensures marked { named_by.new
+        ≡ slice_set named_by.old (slice_index first_indices.now index) feature }
 {
-    let place = places[index];
-    let is_new = marks[place] != turn;
-    marks[place] = turn;
+    let place = first_indices[index];
+    let is_new = named_by[place] != feature;
+    named_by[place] = feature;
     is_new
 }

@@ -17,7 +17,7 @@ mod pool_error;
 mod resolving;
 mod two_choices;
 mod use_order;
-mod uses;
+mod used_entries;
 mod value;
 mod value_pool;
 
@@ -31,6 +31,6 @@ pub use pool::Pool;
 pub use pool_error::PoolError;
 pub use resolving::{TagCause, TagError, resolve, resolve_in};
 pub use use_order::first_uses;
-pub use uses::{LayerUses, Uses};
+pub use used_entries::{LayerEntries, UsedEntries};
 pub use value::{Attribute, Value};
 pub use value_pool::ValuePool;

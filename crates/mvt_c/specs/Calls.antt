@@ -4,12 +4,12 @@ use Rattle.mvt_base.specs.declared.TheConstants.{LIMIT}
 use Rattle.mvt_tile.specs.declared.fault.DecodeError.{DecodeError}
 use Rattle.mvt_tile.specs.declared.fault.DecodeError.TheVariants as decoding
 use Rattle.mvt_tile.specs.declared.fault.Fault.{Fault as TileFault}
-use Rattle.mvt_model.specs.declared.tile.Tile.{Tile}
-use Rattle.mvt_model.specs.CanonicalTiles.{canonical}
+use Rattle.mvt_tile_value.specs.declared.tile.Tile.{Tile}
+use Rattle.mvt_tile_value.specs.CanonicalTiles.{canonical}
 use Rattle.mvt_tile.specs.Extraction.{pick, first_missing}
 use Rattle.mvt_tile.specs.Finding.{first_in, named_fault}
 use Rattle.mvt_tile.specs.TileRules.{fault_within}
-use Rattle.mvt_model.specs.Tiles.{IsTile}
+use Rattle.mvt_tile_value.specs.Tiles.{IsTile}
 use Rattle.serde_json.specs.Written.{compact_text}
 use Rattle.mvt_view.specs.JsonForms.{json}
 use Rattle.mvt_c.specs.declared.fault.Fault.{Fault}

@@ -1,7 +1,7 @@
 -- The texts of a tile.
 use Rattle.std.specs.Prelude.{◌≡◌, ◌≢◌, ℕ, ◌≤◌, List, bytes_eq}
-use Rattle.mvt_model.specs.declared.tile.Tile.{Tile}
-use Rattle.mvt_model.specs.CanonicalTiles.{canonical}
+use Rattle.mvt_tile_value.specs.declared.tile.Tile.{Tile}
+use Rattle.mvt_tile_value.specs.CanonicalTiles.{canonical}
 use Rattle.mvt_view.specs.Reports.{report_lines}
 use Rattle.mvt_c.specs.declared.fault.Fault.{Fault}
 use Rattle.mvt_c.specs.declared.lent.Bytes.{Bytes}

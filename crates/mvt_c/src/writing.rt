@@ -1,6 +1,6 @@
 //! Rows written as a tile's bytes.
 ghost use Rattle.std.specs.Prelude.{◌≡◌, ◌≢◌, ◌⊎◌};
-ghost use Rattle.mvt_model.specs.declared.tile.Tile.{Tile};
+ghost use Rattle.mvt_tile_value.specs.declared.tile.Tile.{Tile};
 ghost use Rattle.mvt_rows.specs.Lent.{table_of};
 ghost use Rattle.mvt_rows.specs.TileRows.{IsTileOf};
 ghost use Rattle.mvt_rows.specs.RowsFaults.{AreValid};

@@ -17,7 +17,7 @@ use Rattle.mvt_geometry.specs.Shape.{kind_of}
 use Rattle.mvt_wire.specs.Field.{Content, varint, fixed64, bytes, fixed32}
 use Rattle.mvt_wire.specs.Spelling.{Plain, short_field, short_numbers, spelled}
 use Rattle.mvt_wire.specs.Zigzag.{unzig}
-use Rattle.mvt_feature.specs.declared.canonical.Parts.{Parts}
+use Rattle.mvt_feature.specs.declared.canonical_feature.Parts.{Parts}
 use Rattle.mvt_feature.specs.declared.feature.Feature.{Feature}
 use Rattle.mvt_feature.specs.declared.numbers.feature.TheConstants.{TAGS, GEOMETRY}
 use Rattle.mvt_feature.specs.declared.numbers.value.TheConstants.{FLOAT, DOUBLE, INT, UINT, SINT, BOOL}
@@ -71,7 +71,8 @@ tags_packed (tag ∷ tags) [] is = absurd (omega (arith, ap length is, short_len
 tags_packed (tag ∷ tags) (x ∷ xs) is = ap (λ d. plain TAGS (bytes d) ∷ []) is
 
 -- a feature from its parts
-pub feature_found : (Holds : Geometry → Type 0) (p : Parts) (keys : List (List ℕ)) (held : List Value) (tags ints : List ℕ) (geometry : Geometry)
+pub feature_found : (Holds : Geometry → Type 0) (p : Parts) (keys : List (List ℕ)) (held : List Value) (tags ints : List ℕ)
+    (geometry : Geometry)
     (used after : ℕ × ℕ) → AreReady keys held used → IfSome p.id (λ n. n < 2 ^ 64) → p.tags.now ≡ short_numbers tags
     → p.integers.now ≡ short_numbers ints → tag_fault keys held tags ≡ None → Draws p.kind ints geometry → Holds geometry
     → ((attributes : List Attribute) → Names keys held tags attributes → AreFirstUses keys held attributes used.0 used.1 after)
@@ -84,7 +85,8 @@ feature_found Holds p keys held tags ints geometry used after ready id tags_are 
     tags_stay keys [] held [] tags attributes ready.keys_apart ready.values_apart resolved.named
     ∙ ap₂ (λ ks vs. tags_in ks vs attributes) (append-nil keys) (append-nil held) in
     let fields : parts_fields p ≡ feature_fields (tags_in keys held attributes) f =
-    ap₂ (λ ts d. id_fields p.id ++ (ts ++ (type_fields p.kind ++ plain GEOMETRY (bytes d) ∷ []))) (tags_packed tags p.tags.now tags_are) ints_are
+    ap₂ (λ ts d. id_fields p.id ++ (ts ++ (type_fields p.kind ++ plain GEOMETRY (bytes d) ∷ []))) (tags_packed tags p.tags.now tags_are)
+    ints_are
     ∙ ap₂ (λ ts k. id_fields p.id ++ (tags_fields ts ++ drawing_fields k ints)) places draws.same_kind
     ∙ ap (λ is. id_fields p.id ++ (tags_fields (tags_in keys held attributes) ++ drawing_fields (kind_of geometry) is)) draws.spelled in (
       f,

@@ -53,7 +53,8 @@ abbrev pub tags_fault : List ℕ → List (List ℕ) → List Value → Option M
 tags_fault payload keys values = option_map tag_reported (tag_fault keys values (joined TAGS (split payload).fields))
 
 abbrev pub drawing_fault : List ℕ → Option MessageFault
-drawing_fault payload = option_map geometry_reported (geometry_fault (kind_in (split payload).fields) (joined GEOMETRY (split payload).fields))
+drawing_fault payload = option_map geometry_reported
+    (geometry_fault (kind_in (split payload).fields) (joined GEOMETRY (split payload).fields))
 
 mapped_or : {F G : Type 0} → (f : F → G) (a b : Option F) (o : Option G)
     → option_or (option_map f a) (option_or (option_map f b) o) ≡ option_or (option_map f (option_or a b)) o
@@ -66,7 +67,8 @@ unfolding geometry_fault
 geometry_first kind integers = refl
 
 tags_chain : (keys : List (List ℕ)) (values : List Value) (tags : List ℕ) (o : Option MessageFault)
-    → option_or (first (map_faults tag_reported (count_rules tags))) (option_or (first (map_faults tag_reported (pair_rules keys values tags))) o)
+    → option_or (first (map_faults tag_reported (count_rules tags)))
+    (option_or (first (map_faults tag_reported (pair_rules keys values tags))) o)
     ≡ option_or (option_map tag_reported (tag_fault keys values tags)) o
 tags_chain keys values tags o =
     ap₂ (λ a b. option_or a (option_or b o)) (first-map_faults tag_reported (count_rules tags))
@@ -192,8 +194,11 @@ numbers_list (varint n) ns h = (
   h.0,
 )
 numbers_list (bytes d) ns h =
-    let are = packed_function_only d ns h in
-    (first-under 1 (map_faults of_packed (packed_rules d)) ∙ first-map_faults of_packed (packed_rules d) ∙ ap (option_map of_packed) are.0, sym are.1)
+    let are = packed_function_only d ns h in (
+      first-under 1 (map_faults of_packed (packed_rules d)) ∙ first-map_faults of_packed (packed_rules d)
+          ∙ ap (option_map of_packed) are.0,
+      sym are.1,
+    )
 numbers_list (fixed64 n) ns h = absurd h
 numbers_list (fixed32 n) ns h = absurd h
 

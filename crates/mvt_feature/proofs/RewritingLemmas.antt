@@ -2,7 +2,7 @@
 use Rattle.std.proofs.Common.{◌≡◌, ℕ, ◌<◌, ◌^◌, List, ◌++◌, Option, None, refl, sym, ap, subst, ◌∙◌}
 use Rattle.std.specs.List.{AllByRecursion}
 use Rattle.mvt_attrs.specs.declared.value.Value.{Value}
-use Rattle.mvt_attrs.specs.declared.uses.LayerUses.{LayerUses}
+use Rattle.mvt_attrs.specs.declared.used_entries.LayerEntries.{LayerEntries}
 use Rattle.mvt_attrs.specs.TagRules.{tag_fault}
 use Rattle.mvt_attrs.specs.TagPlaces.{tags_in}
 use Rattle.mvt_attrs.specs.Using.{IsUsedBy, used_of}
@@ -44,7 +44,8 @@ judged_from {payload} {payload_at} {known} {scratch} says keys values tags_clean
     )
 
 -- the fields of a feature are those of its parts
-pub parts_written : (keys : List (List ℕ)) (values : List Value) (known : FeatureFields) (scratch : Scratch) (f : Feature) (old new : LayerUses)
+pub parts_written : (keys : List (List ℕ)) (values : List Value) (known : FeatureFields) (scratch : Scratch) (f : Feature)
+    (old new : LayerEntries)
     (before after tags : List ℕ) → AreOf keys values known scratch f → IsUsedBy f.attributes old new
     → tags ≡ tags_in (used_of new.keys) (used_of new.values) f.attributes
     → after ≡ before ++ spelled (id_fields known.id ++ (tags_fields tags ++ drawing_fields known.kind scratch.integers.items))
@@ -61,7 +62,7 @@ parts_written keys values known scratch f old new before after tags are used tag
 )
 
 -- the same of a feature's parts
-pub fields_written : (f : Feature) (old new : LayerUses) (before after : List ℕ) (id : Option ℕ) (tags : List ℕ) (geometry : Geometry)
+pub fields_written : (f : Feature) (old new : LayerEntries) (before after : List ℕ) (id : Option ℕ) (tags : List ℕ) (geometry : Geometry)
     → IsUsedBy f.attributes old new → f.id ≡ id → f.geometry ≡ geometry
     → tags ≡ tags_in (used_of new.keys) (used_of new.values) f.attributes
     → after ≡ before ++ spelled (id_fields id ++ (tags_fields tags ++ drawing_fields (kind_of geometry) (drawn geometry)))

@@ -9,8 +9,8 @@ use Rattle.mvt_geometry.specs.declared.shape.Geometry.{Geometry}
 use Rattle.mvt_geometry.specs.Shape.{kind_of}
 use Rattle.mvt_wire.specs.Field.{bytes}
 use Rattle.mvt_wire.specs.Spelling.{Plain, spelled}
-use Rattle.mvt_feature.specs.declared.canonical.CanonicalFeature.{CanonicalFeature}
-use Rattle.mvt_feature.specs.declared.canonical.Parts.{Parts}
+use Rattle.mvt_feature.specs.declared.canonical_feature.CanonicalFeature.{CanonicalFeature}
+use Rattle.mvt_feature.specs.declared.canonical_feature.Parts.{Parts}
 use Rattle.mvt_feature.specs.declared.feature.Feature.{Feature}
 use Rattle.mvt_feature.specs.declared.numbers.feature.TheConstants.{TAGS, GEOMETRY}
 use Rattle.mvt_feature.specs.Canonical.{plain, value_fields, id_fields, type_fields, feature_fields}
@@ -30,10 +30,11 @@ pub record AreReady (keys : List (List ℕ)) (values : List Value) (used : ℕ �
   pub values_within : used.1 ≤ length values
 
 -- the canonical payload of a feature that uses them in order
-pub record IsCanonicalFeature (payload : List ℕ) (keys : List (List ℕ)) (values : List Value) (used after : ℕ × ℕ) (f : Feature) : Type 0 where
-  pub valid : ValidFeature f
-  pub uses : AreFirstUses keys values f.attributes used.0 used.1 after
-  pub spelled_as : payload ≡ spelled (feature_fields (tags_in keys values f.attributes) f)
+pub record IsCanonicalFeature (payload : List ℕ) (keys : List (List ℕ)) (values : List Value) (used after : ℕ × ℕ) (f : Feature) : Type 0
+  where
+    pub valid : ValidFeature f
+    pub uses : AreFirstUses keys values f.attributes used.0 used.1 after
+    pub spelled_as : payload ≡ spelled (feature_fields (tags_in keys values f.attributes) f)
 
 -- this is known of it, and something holds of its geometry
 abbrev pub IsCanonicalAfter : List ℕ → List (List ℕ) → List Value → ℕ × ℕ → (Geometry → Type 0) → CanonicalFeature → Type 0

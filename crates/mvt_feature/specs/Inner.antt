@@ -13,10 +13,10 @@ use Rattle.mvt_feature.specs.declared.message_error.MessageError.{MessageError}
 use Rattle.mvt_feature.specs.declared.feature.Feature.{Feature}
 use Rattle.mvt_feature.specs.declared.feature_fields.FeatureFields.{FeatureFields}
 use Rattle.mvt_feature.specs.declared.scratch.Scratch.{Scratch}
-use Rattle.mvt_feature.specs.declared.value.Meaning.{Meaning}
+use Rattle.mvt_feature.specs.declared.value.ValueRef.{ValueRef}
 use Rattle.mvt_feature.specs.declared.value.Kinds.{Kinds}
 use Rattle.mvt_feature.specs.declared.value.Kinds.TheVariants.{Nothing, One, Several}
-use Rattle.mvt_feature.specs.Meanings.{meant}
+use Rattle.mvt_feature.specs.ValueRefs.{referred_value}
 use Rattle.mvt_feature.specs.Features.{number_of, number_in, kind_of_type, IsFeatureOf}
 use Rattle.mvt_feature.specs.FeatureRules.{numbers_of, joined, kind_in, feature_field_rules}
 use Rattle.mvt_feature.specs.Selection.{last_only}
@@ -29,7 +29,7 @@ abbrev pub AreKindsOf : List Entry → Kinds → Type 0
 AreKindsOf fields Nothing = fields ≡ []
 AreKindsOf fields (One number meaning) =
     (are_one_kind fields ≡ true)
-    × ((x : Entry) × ((last_or None fields ≡ Some x) × ((x.number ≡ number) × Means number x.content (meant meaning))))
+    × ((x : Entry) × ((last_or None fields ≡ Some x) × ((x.number ≡ number) × Means number x.content (referred_value meaning))))
 AreKindsOf fields Several = (fields ≢ []) × (are_one_kind fields ≡ false)
 
 -- the fields of a value's payload that have one of its kinds
@@ -37,7 +37,7 @@ abbrev pub AreKinds : List Entry → Kinds → Type 0
 AreKinds fields k = AreKindsOf (kinds fields) k
 
 -- the kinds with one more field
-abbrev pub kinds_with : Kinds → ℕ → Meaning → Kinds
+abbrev pub kinds_with : Kinds → ℕ → ValueRef → Kinds
 kinds_with Nothing number meaning = One number meaning
 kinds_with (One first_number old) number meaning = if first_number == number then One number meaning else Several
 kinds_with Several number meaning = Several

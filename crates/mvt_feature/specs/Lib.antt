@@ -4,7 +4,7 @@ pub mod Selection
 pub mod Forms
 pub mod Texts
 pub mod Values
-pub mod Meanings
+pub mod ValueRefs
 pub mod ValueRules
 pub mod ValueIn
 pub mod Features

@@ -11,7 +11,7 @@ ghost use Rattle.mvt_geometry.specs.Drawing.{Draws};
 
 use crate::scratch::Scratch;
 use crate::writing::append_fields;
-use mvt_attrs::LayerUses;
+use mvt_attrs::LayerEntries;
 use mvt_geometry::Kind;
 use mvt_wire::PackedNumbers;
 use std::alloc::AllocError;
@@ -28,7 +28,7 @@ pub fn append_drawn_feature(
     tags: &[u32],
     kind: Kind,
     integers: &PackedNumbers,
-    uses: &mut LayerUses,
+    uses: &mut LayerEntries,
     scratch: &mut Scratch,
     out: &mut Vec<u8>,
 ) -> Result<(), AllocError>
@@ -41,7 +41,7 @@ pub fn append_drawn_feature(
         → OnOk result (HasUses uses.new keys held) }
     ensures left { OnErr result (Extends out.old.items out.new.items) }
 {
-    scratch.last.clear();
-    uses.append_used(tags, &mut scratch.last)?;
-    append_fields(out, id, &scratch.last, kind, integers)
+    scratch.written_tags.clear();
+    uses.append_used(tags, &mut scratch.written_tags)?;
+    append_fields(out, id, &scratch.written_tags, kind, integers)
 }

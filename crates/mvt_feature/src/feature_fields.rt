@@ -18,9 +18,9 @@ ghost use Rattle.mvt_feature.specs.Walks.{Walk};
 use crate::cause::Cause;
 use crate::message_error::MessageError;
 use crate::numbers::feature;
+use crate::rest_faults::{fault_at, rest_fault, rest_fault_before};
 use crate::scratch::Scratch;
 use crate::value::varint_of;
-use crate::whole::{fault_at, rest_fault, rest_fault_or};
 use mvt_geometry::Kind;
 use mvt_wire::{Field, Fields, PackedError, Payload, append_packed};
 
@@ -63,7 +63,7 @@ pub(crate) fn read_fields(
         match field {
             Ok(field) => match known.with(&field, payload_at + field.at as u64, scratch) {
                 Ok(more) => known = more,
-                Err(error) => return Err(rest_fault_or(payload, payload_at, error)),
+                Err(error) => return Err(rest_fault_before(payload, payload_at, error)),
             },
             Err(fault) => return Err(rest_fault(payload_at, fault)),
         }
@@ -129,7 +129,7 @@ impl FeatureFields {
             None => Ok(self),
             Some(Ok(field)) => match self.with(&field, payload_at + field.at as u64, scratch) {
                 Ok(more) => Ok(more),
-                Err(error) => Err(rest_fault_or(payload, payload_at, error)),
+                Err(error) => Err(rest_fault_before(payload, payload_at, error)),
             },
             Some(Err(fault)) => Err(rest_fault(payload_at, fault)),
         }

@@ -2,9 +2,9 @@
 //! why bytes aren't one.
 #![tactic(auto)]
 
-mod canonical;
+mod canonical_feature;
 mod cause;
-mod copying;
+mod copied_integers;
 mod drawn_feature;
 mod feature;
 mod feature_fields;
@@ -12,25 +12,25 @@ pub mod laws;
 mod message_error;
 pub mod numbers;
 mod reading;
+mod rest_faults;
 mod rewriting;
 mod scratch;
 mod usual;
 mod validity;
 mod value;
-mod whole;
 mod writing;
 
-pub use canonical::{CanonicalFeature, NotCanonical, is_canonical_value, judge_canonical};
+pub use canonical_feature::{CanonicalFeature, NotCanonical, is_canonical_value, judge_canonical};
 pub use cause::Cause;
 pub use drawn_feature::append_drawn_feature;
 pub use feature::Feature;
 pub use feature_fields::FeatureFields;
 pub use message_error::MessageError;
 pub use reading::{draw_feature, judge_feature, read_feature, read_feature_in};
+pub use rest_faults::{fault_at, rest_fault};
 pub use rewriting::rewrite_feature;
 pub use scratch::Scratch;
 pub use usual::{check_feature, draw_usual_feature};
 pub use validity::{is_valid_feature, validate_feature};
-pub use value::{Meaning, judge_value, read_meaning, read_value, text_of, varint_of};
-pub use whole::{fault_at, rest_fault};
+pub use value::{ValueRef, judge_value, read_value, read_value_ref, text_of, varint_of};
 pub use writing::{append_feature, append_value, value_len};

@@ -134,12 +134,12 @@ pub fn judge_feature(
         → Reports (fault_of error) (feature_fault payload.now payload_at keys.old held)) }
     ensures same { keys.new ≡ keys.old }
 {
-    judge_known(alloc, payload, payload_at, keys, values, scratch)?;
+    judge_into_scratch(alloc, payload, payload_at, keys, values, scratch)?;
     Ok(())
 }
 
 /// The same, and what its fields say besides the tags and the integers.
-pub(crate) fn judge_known(
+pub(crate) fn judge_into_scratch(
     alloc: Global,
     payload: &[u8],
     payload_at: u64,

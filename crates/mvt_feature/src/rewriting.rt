@@ -14,12 +14,12 @@ ghost use Rattle.mvt_feature.specs.FeatureRules.{feature_fault};
 ghost use Rattle.mvt_feature.specs.Inner.{AreOf};
 ghost use Rattle.mvt_feature.specs.Rewriting.{IsRewritten};
 
-use crate::copying::append_copied;
+use crate::copied_integers::append_copied;
 use crate::feature_fields::FeatureFields;
 use crate::message_error::MessageError;
-use crate::reading::judge_known;
+use crate::reading::judge_into_scratch;
 use crate::scratch::Scratch;
-use mvt_attrs::{LayerKeys, LayerUses};
+use mvt_attrs::{LayerEntries, LayerKeys};
 use std::alloc::{AllocError, Global};
 
 /// Judges the payload of a feature, and appends the canonical one, in a layer with these keys and
@@ -34,7 +34,7 @@ pub fn rewrite_feature(
     payload: &[u8],
     payload_at: u64,
     keys: &mut LayerKeys<'_>,
-    uses: &mut LayerUses,
+    uses: &mut LayerEntries,
     scratch: &mut Scratch,
     out: &mut Vec<u8>,
 ) -> Result<FeatureFields, MessageError>
@@ -54,7 +54,7 @@ pub fn rewrite_feature(
     ensures same { keys.new ≡ keys.old }
 {
     let values = uses.values.len();
-    let known = judge_known(alloc, payload, payload_at, keys, values, scratch)?;
+    let known = judge_into_scratch(alloc, payload, payload_at, keys, values, scratch)?;
     append_judged(payload, &known, uses, scratch, out)?;
     Ok(known)
 }
@@ -63,7 +63,7 @@ pub fn rewrite_feature(
 fn append_judged(
     payload: &[u8],
     known: &FeatureFields,
-    uses: &mut LayerUses,
+    uses: &mut LayerEntries,
     scratch: &mut Scratch,
     out: &mut Vec<u8>,
 ) -> Result<(), AllocError>
@@ -77,14 +77,14 @@ fn append_judged(
     ensures integers { scratch.new.integers.items ≡ scratch.old.integers.items }
     ensures left { OnErr result (Extends out.old.items out.new.items) }
 {
-    scratch.last.clear();
-    scratch.last.reserve(scratch.tags.len())?;
-    uses.append_used(&scratch.tags, &mut scratch.last)?;
+    scratch.written_tags.clear();
+    scratch.written_tags.reserve(scratch.tags.len())?;
+    uses.append_used(&scratch.tags, &mut scratch.written_tags)?;
     append_copied(
         out,
         payload,
         known.id,
-        &scratch.last,
+        &scratch.written_tags,
         known.kind,
         &scratch.integers,
     )

@@ -21,10 +21,10 @@ use std::alloc::{AllocError, Global};
 pub struct Scratch {
     pub(crate) tags: Vec<u32>,
     /// The tags of the feature that was written last.
-    pub(crate) last: Vec<u32>,
+    pub(crate) written_tags: Vec<u32>,
     pub(crate) integers: Vec<u32>,
     /// The integers of the feature that is written.
-    pub(crate) drawing: PackedNumbers,
+    pub(crate) written_integers: PackedNumbers,
 }
 
 /// How many tags a scratch has room for at first, and one for writing how many integers.
@@ -38,9 +38,9 @@ impl Scratch {
     pub fn new(alloc: Global) -> Self {
         Scratch {
             tags: Vec::new(alloc),
-            last: Vec::new(alloc),
+            written_tags: Vec::new(alloc),
             integers: Vec::new(alloc),
-            drawing: PackedNumbers::new(alloc),
+            written_integers: PackedNumbers::new(alloc),
         }
     }
 
@@ -81,8 +81,8 @@ impl Scratch {
     pub fn with_room(alloc: Global) -> Result<Self, AllocError> {
         let mut scratch = Scratch::new(alloc);
         scratch.tags.reserve(FIRST_ROOM)?;
-        scratch.last.reserve(FIRST_ROOM)?;
-        scratch.drawing.reserve(FIRST_ROOM)?;
+        scratch.written_tags.reserve(FIRST_ROOM)?;
+        scratch.written_integers.reserve(FIRST_ROOM)?;
         Ok(scratch)
     }
 }

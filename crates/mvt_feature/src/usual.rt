@@ -23,7 +23,7 @@ use crate::numbers::feature;
 use crate::reading::judge_feature;
 use crate::scratch::Scratch;
 use mvt_attrs::{LayerKeys, TagError, judge_tags};
-use mvt_geometry::{GeometryVisitor, Kind, Point, Ring, draw_packed};
+use mvt_geometry::{GeometryVisitor, Ignore, Kind, draw_packed};
 use mvt_wire::{Field, Fields, Payload, WireFault};
 use std::alloc::{AllocError, Global};
 
@@ -96,7 +96,7 @@ pub fn check_feature(
 {
     let found = draw_usual_feature(
         alloc,
-        &mut Unheard,
+        &mut Ignore,
         payload,
         payload_at,
         keys,
@@ -246,32 +246,5 @@ fn is_much(field: &Field<'_>, tags: usize) -> bool {
     match field.payload {
         Payload::Len(bytes) => bytes.len().saturating_add(tags) > MOST_BEHIND,
         _ => tags >= MOST_BEHIND,
-    }
-}
-
-/// Is told a geometry, and keeps nothing of it.
-#[derive(Drop)]
-struct Unheard;
-
-impl GeometryVisitor for Unheard {
-    ghost has_parts = { λ _ _ _ _. Unit {0} };
-
-    ghost has_integers = { λ _ _ _. Unit {0} };
-
-    ghost begins = { λ _. tt };
-
-    #[inline(always)]
-    fn visit_point(&mut self, _: Point) -> Result<(), AllocError> {
-        Ok(())
-    }
-
-    #[inline(always)]
-    fn end_part(&mut self, _: usize, _: Option<Ring>) -> Result<(), AllocError> {
-        Ok(())
-    }
-
-    #[inline(always)]
-    fn visit_integers(&mut self, _: &[u32]) -> Result<(), AllocError> {
-        Ok(())
     }
 }

@@ -10,13 +10,13 @@ ghost use Rattle.mvt_feature.specs.Faults.{fault_of, rest_rules};
 ghost use Rattle.mvt_feature.specs.Forms.{any_varint, float, double, string, form_rules, number_rules};
 ghost use Rattle.mvt_feature.specs.Values.{value_forms, Means, IsValueOf};
 ghost use Rattle.mvt_feature.specs.ValueRules.{is_kind, value_field_rules, value_fault};
-ghost use Rattle.mvt_feature.specs.Meanings.{meant};
+ghost use Rattle.mvt_feature.specs.ValueRefs.{referred_value};
 ghost use Rattle.mvt_feature.specs.Inner.{kinds_with, AreKinds};
 
 use crate::cause::Cause;
 use crate::message_error::MessageError;
 use crate::numbers::value;
-use crate::whole::{fault_at, rest_fault, rest_fault_or};
+use crate::rest_faults::{fault_at, rest_fault, rest_fault_before};
 use mvt_attrs::Value;
 use mvt_base::Text;
 use mvt_wire::{Field, Fields, Payload, unzigzag64};
@@ -25,7 +25,7 @@ use std::str;
 
 /// A value whose text is lent (Mapbox Vector Tile Specification 2.1, 4.1, message Value).
 #[derive(Clone, Copy, Debug)]
-pub enum Meaning<'a> {
+pub enum ValueRef<'a> {
     Text(&'a str),
     Float(u32),
     Double(u64),
@@ -58,7 +58,7 @@ pub fn read_value(
     ensures memory { IsErrOf result MessageError.Memory
         → (text : List ℕ) × IsValueOf payload.now (values.Text text) × (14 < length text) }
 {
-    Ok(read_meaning(payload, payload_at, tag_at)?.into_value(alloc)?)
+    Ok(read_value_ref(payload, payload_at, tag_at)?.into_value(alloc)?)
 }
 
 /// Whether a payload is a value, without memory.
@@ -73,7 +73,7 @@ pub fn judge_value(payload: &[u8], payload_at: u64, tag_at: u64) -> Result<(), M
         (value_fault payload.now payload_at tag_at)) }
     ensures never { IsErrOf result MessageError.Memory → ⊥ }
 {
-    read_meaning(payload, payload_at, tag_at)?;
+    read_value_ref(payload, payload_at, tag_at)?;
     Ok(())
 }
 
@@ -83,13 +83,13 @@ pub fn judge_value(payload: &[u8], payload_at: u64, tag_at: u64) -> Result<(), M
 ///
 /// As `read_value`, but memory never runs out.
 #[inline(always)]
-pub fn read_meaning(
+pub fn read_value_ref(
     payload: &[u8],
     payload_at: u64,
     tag_at: u64,
-) -> Result<Meaning<'_>, MessageError>
+) -> Result<ValueRef<'_>, MessageError>
     requires { payload_at + length payload.now < 2 ^ 64 }
-    ensures value { IfOk result (λ meaning. IsValueOf payload.now (meant meaning)) }
+    ensures value { IfOk result (λ meaning. IsValueOf payload.now (referred_value meaning)) }
     ensures ok { OnOk result (value_fault payload.now payload_at tag_at ≡ None) }
     ensures err { IfErr result (λ error. Reports (fault_of error)
         (value_fault payload.now payload_at tag_at)) }
@@ -107,7 +107,7 @@ pub fn read_meaning(
 enum Kinds<'a> {
     Nothing,
     /// Only this one, and what its last field says.
-    One { number: u32, meaning: Meaning<'a> },
+    One { number: u32, meaning: ValueRef<'a> },
     Several,
 }
 
@@ -132,7 +132,7 @@ fn read_kinds(payload: &[u8], payload_at: u64) -> Result<Kinds<'_>, MessageError
                 Ok(Some(meaning)) => kinds = kinds.with(field.number, meaning),
                 Err(cause) => {
                     let error = fault_at(payload_at + field.at as u64, cause);
-                    return Err(rest_fault_or(payload, payload_at, error));
+                    return Err(rest_fault_before(payload, payload_at, error));
                 }
             },
             Err(fault) => return Err(rest_fault(payload_at, fault)),
@@ -142,7 +142,7 @@ fn read_kinds(payload: &[u8], payload_at: u64) -> Result<Kinds<'_>, MessageError
 }
 
 impl<'a> Kinds<'a> {
-    fn with(self, number: u32, meaning: Meaning<'a>) -> Kinds<'a>
+    fn with(self, number: u32, meaning: ValueRef<'a>) -> Kinds<'a>
         ensures { result ≡ kinds_with self.entry number meaning.entry }
     {
         match self {
@@ -153,45 +153,45 @@ impl<'a> Kinds<'a> {
     }
 }
 
-impl Meaning<'_> {
+impl ValueRef<'_> {
     fn into_value(self, alloc: Global) -> Result<Value, AllocError>
-        ensures same { IfOk result (λ value. value ≡ meant self.entry) }
-        ensures memory { OnErr result ((text : List ℕ) × (meant self.entry ≡ values.Text text)
+        ensures same { IfOk result (λ value. value ≡ referred_value self.entry) }
+        ensures memory { OnErr result ((text : List ℕ) × (referred_value self.entry ≡ values.Text text)
             × (14 < length text)) }
     {
         match self {
-            Meaning::Text(text) => Ok(Value::Text(Text::from_str(alloc, text)?)),
-            Meaning::Float(bits) => Ok(Value::Float(bits)),
-            Meaning::Double(bits) => Ok(Value::Double(bits)),
-            Meaning::Int(number) => Ok(Value::Int(number)),
-            Meaning::Uint(number) => Ok(Value::Uint(number)),
-            Meaning::Sint(number) => Ok(Value::Sint(number)),
-            Meaning::Bool(truth) => Ok(Value::Bool(truth)),
+            ValueRef::Text(text) => Ok(Value::Text(Text::from_str(alloc, text)?)),
+            ValueRef::Float(bits) => Ok(Value::Float(bits)),
+            ValueRef::Double(bits) => Ok(Value::Double(bits)),
+            ValueRef::Int(number) => Ok(Value::Int(number)),
+            ValueRef::Uint(number) => Ok(Value::Uint(number)),
+            ValueRef::Sint(number) => Ok(Value::Sint(number)),
+            ValueRef::Bool(truth) => Ok(Value::Bool(truth)),
         }
     }
 }
 
 /// What a field says, if it is of one of the seven kinds.
 #[inline(always)]
-fn meaning_of<'a>(field: &Field<'a>) -> Result<Option<Meaning<'a>>, Cause>
+fn meaning_of<'a>(field: &Field<'a>) -> Result<Option<ValueRef<'a>>, Cause>
     ensures ok { OnOk result (first
         (number_rules value_forms field.now.number (content_of field.now.payload)) ≡ None) }
     ensures means { IfOk result (λ meaning. MatchOption meaning
         (is_kind (entry_of field.now) ≡ false)
         (λ m. (is_kind (entry_of field.now) ≡ true)
-        × Means field.now.number (content_of field.now.payload) (meant m))) }
+        × Means field.now.number (content_of field.now.payload) (referred_value m))) }
     ensures err { IfErr result (λ cause. first
         (number_rules value_forms field.now.number (content_of field.now.payload)) ≡ Some cause) }
 {
     let payload = &field.payload;
     let meaning = match field.number {
-        value::STRING => Meaning::Text(text_of(payload)?),
-        value::FLOAT => Meaning::Float(fixed32_of(payload)?),
-        value::DOUBLE => Meaning::Double(fixed64_of(payload)?),
-        value::INT => Meaning::Int(varint_of(payload)?.cast_signed()),
-        value::UINT => Meaning::Uint(varint_of(payload)?),
-        value::SINT => Meaning::Sint(unzigzag64(varint_of(payload)?)),
-        value::BOOL => Meaning::Bool(varint_of(payload)? != 0),
+        value::STRING => ValueRef::Text(text_of(payload)?),
+        value::FLOAT => ValueRef::Float(fixed32_of(payload)?),
+        value::DOUBLE => ValueRef::Double(fixed64_of(payload)?),
+        value::INT => ValueRef::Int(varint_of(payload)?.cast_signed()),
+        value::UINT => ValueRef::Uint(varint_of(payload)?),
+        value::SINT => ValueRef::Sint(unzigzag64(varint_of(payload)?)),
+        value::BOOL => ValueRef::Bool(varint_of(payload)? != 0),
         _ => return Ok(None),
     };
     Ok(Some(meaning))

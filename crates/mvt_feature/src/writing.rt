@@ -11,7 +11,7 @@ ghost use Rattle.mvt_feature.specs.Rewriting.{IsRewritten};
 use crate::feature::Feature;
 use crate::numbers::{feature, value};
 use crate::scratch::Scratch;
-use mvt_attrs::{LayerUses, PoolError, Value};
+use mvt_attrs::{LayerEntries, PoolError, Value};
 use mvt_base::LIMIT;
 use mvt_geometry::{Kind, append_geometry, kind_of};
 use mvt_wire::{PackedNumbers, Payload, field_len, put_field, put_packed, varint_len, zigzag64};
@@ -62,7 +62,7 @@ pub fn value_len(value: &Value) -> u64
 /// it was or a longer one.
 pub fn append_feature(
     feature: &Feature,
-    uses: &mut LayerUses,
+    uses: &mut LayerEntries,
     scratch: &mut Scratch,
     out: &mut Vec<u8>,
 ) -> Result<(), PoolError>
@@ -75,21 +75,21 @@ pub fn append_feature(
         ⊎ (LIMIT < length (value_pool (used_of uses.old.values) feature.now.attributes)) }
     ensures left { OnErr result (Extends out.old.items out.new.items) }
 {
-    swap(&mut scratch.tags, &mut scratch.last);
+    swap(&mut scratch.tags, &mut scratch.written_tags);
     scratch.tags.clear();
-    scratch.drawing.clear();
+    scratch.written_integers.clear();
     uses.append_attributes(
         feature.attributes.as_slice(),
-        &scratch.last,
+        &scratch.written_tags,
         &mut scratch.tags,
     )?;
-    append_geometry(&feature.geometry, &mut scratch.drawing)?;
+    append_geometry(&feature.geometry, &mut scratch.written_integers)?;
     append_fields(
         out,
         feature.id,
         &scratch.tags,
         kind_of(&feature.geometry),
-        &scratch.drawing,
+        &scratch.written_integers,
     )?;
     Ok(())
 }

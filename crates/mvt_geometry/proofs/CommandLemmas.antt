@@ -203,9 +203,9 @@ module _ {kind : Kind} {g : List ℕ} {k s : ℕ} {c : Point} (r : Reached kind 
       (header_right (may_not_end kind k) kind command g s h)
 
   module _ (h : IsHeader kind command g s) (n : ℕ) (count : n ≡ pair_count (Some command) (get_or g s 0 / 8))
-      (parameters : List ℕ) (behind : parameters ≡ take (2 * n) (drop (s + 1) g)) where
+      (parameters : List ℕ) (after : parameters ≡ take (2 * n) (drop (s + 1) g)) where
     pub pairs_after : pairs_of parameters ≡ pairs_at (Some command) g s
-    pairs_after = ap pairs_of behind ∙ pairs-take n (2 * n) (drop (s + 1) g) refl ∙ ap (λ m. take m (pairs_of (drop (s + 1) g))) count
+    pairs_after = ap pairs_of after ∙ pairs-take n (2 * n) (drop (s + 1) g) refl ∙ ap (λ m. take m (pairs_of (drop (s + 1) g))) count
 
     rules_after : first (wrong_pairs (Some command) c g s)
         ≡ first (each (pair_rules (is_line_to (Some command)) (s + 1) c) [] (pairs_of parameters))

@@ -89,7 +89,7 @@ module _ {g : List ℕ} {k s t n : ℕ} {c d last : Point} {parameters : List �
       (spelled ∙ sym (stroke_closed c p ps more)) in
       let same = one_place (reached_close ring) f.1 in
       let pairs_are : pairs_of parameters ≡ pairs_between p ps =
-      pairs_after ring.next LineTo is_due.1 ring.line n ring.count parameters ring.behind
+      pairs_after ring.next LineTo is_due.1 ring.line n ring.count parameters ring.after
       ∙ sym (moves-are kinds.Polygon g (suc k) t ring.next.stands.begins ∙ ap (λ o. pairs_at o g t) is_due.1) ∙ f.4 in
       let head_is : d ≡ p =
       sym ring.next.stands.cursor_is ∙ cursor-next kinds.Polygon g k ∙ ap₂ moved ring.reached.stands.cursor_is f.3

@@ -46,8 +46,8 @@ module _ {kind : Kind} {g : List ℕ} {k s : ℕ} {c : Point} (r : Reached kind 
   pair_count_is : length ps ≡ pair_count (Some command) (get_or g s 0 / 8)
   pair_count_is = may.pairs ∙ ap (pair_count (Some command)) (sym count_is)
 
-  behind : path_from c ps ≡ take (2 * length ps) (drop (s + 1) g)
-  behind = sym (ap (take (2 * length ps)) there.2 ∙ take_at (path_from c ps) more (2 * length ps) (length-path c ps))
+  after : path_from c ps ≡ take (2 * length ps) (drop (s + 1) g)
+  after = sym (ap (take (2 * length ps)) there.2 ∙ take_at (path_from c ps) more (2 * length ps) (length-path c ps))
 
   header : IsHeader kind command g s
   header =
@@ -65,7 +65,7 @@ module _ {kind : Kind} {g : List ℕ} {k s : ℕ} {c : Point} (r : Reached kind 
   pub command_drawn : first (wrong_ring kind g k s) ≡ None → Reached kind g (suc k) (s + 1 + 2 * length ps) (last_of c ps)
   command_drawn ring =
       let calm = path_calm (is_line_to (Some command)) (s + 1) c [] c ps refl may.places may.small_steps may.apart in
-      goes_on r command is_due header (length ps) pair_count_is (path_from c ps) behind (last_of c ps)
+      goes_on r command is_due header (length ps) pair_count_is (path_from c ps) after (last_of c ps)
       (sym (ap (moved c) (pairs-path c ps) ∙ moved-between c ps))
       (ap (λ ds. first (each (pair_rules (is_line_to (Some command)) (s + 1) c) [] ds)) (pairs-path c ps) ∙ calm) ring
 
@@ -77,7 +77,7 @@ module _ {kind : Kind} {g : List ℕ} {k s : ℕ} {c : Point} (r : Reached kind 
   pub moves_drawn : moves kind g k ≡ pairs_between c ps
   moves_drawn =
       moves-are kind g k s r.stands.begins ∙ ap (λ (o : Option Command). pairs_at o g s) is_due
-      ∙ sym (pairs_after r command is_due header (length ps) pair_count_is (path_from c ps) behind) ∙ pairs-path c ps
+      ∙ sym (pairs_after r command is_due header (length ps) pair_count_is (path_from c ps) after) ∙ pairs-path c ps
 
 -- lists of integers of 32 bits
 pub small-drop : (n : ℕ) (xs : List ℕ) → AreSmall xs → AreSmall (drop n xs)

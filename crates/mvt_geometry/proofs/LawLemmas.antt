@@ -109,11 +109,11 @@ small_strokes least end c ((p ∷ ps) ∷ ls) small are steps =
     let here = steps-front c (p ∷ ps) (joined ls) steps in
     let first = small_path c (p ∷ []) (here.0, tt) in
     let more = small_strokes least end (last_of p ps) ls small are.1 (steps-back c (p ∷ ps) (joined ls) steps) in
-    let behind =
+    let after =
     all_joined (λ n. n < 2 ^ 32) (path_from p ps) (end ++ strokes end (last_of p ps) ls) (small_path p ps here.1)
     (all_joined (λ n. n < 2 ^ 32) end (strokes end (last_of p ps) ls) small more) in
     subst AreSmall (sym (stroke-more end c p ps (strokes end (last_of p ps) ls)))
-    (omega arith, (first.0, (first.1.0, (omega (arith, are.0.few), behind))))
+    (omega arith, (first.0, (first.1.0, (omega (arith, are.0.few), after))))
 
 pub drawn_small_lem : (g : Geometry) → IsValid g → AreSmall (drawn g)
 drawn_small_lem (Unknown u) v = v

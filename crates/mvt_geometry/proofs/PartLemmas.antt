@@ -18,7 +18,8 @@ inner_parts : (inner rings : List (List Point)) → AreInner inner
 inner_parts [] rings h = refl
 inner_parts (ring ∷ inner) rings h =
     let no : lt_z (pos 0) (area2 ring) ≡ false = let small = h.0 in grind (arith, ints) in
-    ap (λ b. ring_part b ring ∷ parts_of_rings false (inner ++ rings)) no ∙ ap (λ ps. ring_part false ring ∷ ps) (inner_parts inner rings h.1)
+    ap (λ b. ring_part b ring ∷ parts_of_rings false (inner ++ rings)) no
+    ∙ ap (λ ps. ring_part false ring ∷ ps) (inner_parts inner rings h.1)
 
 opened_parts : (polygons : List Polygon) → AreOpened polygons → parts_of_rings false (rings_of polygons) ≡ flat_map ring_parts polygons
 opened_parts [] h = refl

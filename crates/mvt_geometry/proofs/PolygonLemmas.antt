@@ -152,15 +152,15 @@ rings_drawn g [] k s c r e some fine are small spelled =
 rings_drawn g ([] ∷ rings) k s c r e some fine are small spelled = absurd (omega (arith, are.0.enough))
 rings_drawn g ((p ∷ ps) ∷ rings) k s c r e some fine are small spelled =
     let is_due = ring_due k e in
-    let behind = strokes (15 ∷ []) (last_of p ps) rings in
+    let after = strokes (15 ∷ []) (last_of p ps) rings in
     let f =
-    stroke_drawn rings_have r is_due.0 is_due.1 p ps (15 ∷ behind) are.0 (steps-front c (p ∷ ps) (joined rings) small)
-    (spelled ∙ sym (stroke_closed c p ps behind)) in
+    stroke_drawn rings_have r is_due.0 is_due.1 p ps (15 ∷ after) are.0 (steps-front c (p ∷ ps) (joined rings) small)
+    (spelled ∙ sym (stroke_closed c p ps after)) in
     let may : MayDraw kinds.Polygon ClosePath 1 (last_of p ps) [] =
     record { allowed = refl; pairs = refl; places = tt; small_steps = tt; apart = λ e. cc } in
     let fine_here : suc (suc k) ≡ 2 → pos 0 ≤ℤ area2 (first_ring g) =
     λ two. let z : k ≡ 0 = omega arith in
     subst (λ ring. pos 0 ≤ℤ area2 ring) (sym (first_ring_is g k c p ps z (fine z).0 f.3 f.4)) (fine z).1 in
-    let next = command_drawn f.1 ClosePath is_due.2 1 [] may behind f.2 (ring_fine g (suc (suc k)) f.0 fine_here) in
+    let next = command_drawn f.1 ClosePath is_due.2 1 [] may after f.2 (ring_fine g (suc (suc k)) f.0 fine_here) in
     rings_drawn g rings (suc (suc (suc k))) _ (last_of p ps) next (omega (arith, e)) (omega arith) (λ z. absurd (omega arith))
-    are.1 (steps-back c (p ∷ ps) (joined rings) small) (rest_drawn f.1 ClosePath is_due.2 1 [] may behind f.2)
+    are.1 (steps-back c (p ∷ ps) (joined rings) small) (rest_drawn f.1 ClosePath is_due.2 1 [] may after f.2)

@@ -117,7 +117,7 @@ pub record ReadsRing (g : List ℕ) (k s t n : ℕ) (c d last : Point) (paramete
   pub next : Reached kinds.Polygon g (suc k) t d
   pub line : IsHeader kinds.Polygon LineTo g t
   pub count : n ≡ get_or g t 0 / 8
-  pub behind : parameters ≡ take (2 * n) (drop (t + 1) g)
+  pub after : parameters ≡ take (2 * n) (drop (t + 1) g)
   pub none : first (each (pair_rules true (t + 1) d) [] (pairs_of parameters)) ≡ None
   pub last_is : last ≡ moved d (pairs_of parameters)
 
@@ -135,7 +135,7 @@ reads_ring g k t n third reached next line count none last_is =
       next = next;
       line = line;
       count = count;
-      behind = ap (λ m. take m (drop (t + 1) g)) length_is;
+      after = ap (λ m. take m (drop (t + 1) g)) length_is;
       none = none;
       last_is = last_is;
     }
@@ -145,14 +145,14 @@ module _ {g : List ℕ} {k s t n : ℕ} {c d last : Point} {parameters : List �
   pub reached_close : Reached kinds.Polygon g (suc (suc k)) (t + 1 + 2 * n) last
   reached_close =
       let is_due = ring_due k ring.third in
-      goes_on ring.next LineTo is_due.1 ring.line n ring.count parameters ring.behind last ring.last_is ring.none
+      goes_on ring.next LineTo is_due.1 ring.line n ring.count parameters ring.after last ring.last_is ring.none
       (no_ring kinds.Polygon g (suc k) t (λ same. let two : Some LineTo ≡ Some ClosePath = sym is_due.1 ∙ same in cc))
 
   ring_is : k ≡ 0 → area2 (first_ring g) ≡ edges d (positions d (pairs_of parameters)) +ℤ cross last d
   ring_is z =
       let start_is : moves kinds.Polygon g 1 ≡ pairs_of parameters =
       moves-are kinds.Polygon g 1 t (subst (λ m. start kinds.Polygon g (suc m) ≡ Some t) z ring.next.stands.begins)
-      ∙ sym (pairs_after ring.next LineTo (ring_due k ring.third).1 ring.line n ring.count parameters ring.behind) in
+      ∙ sym (pairs_after ring.next LineTo (ring_due k ring.third).1 ring.line n ring.count parameters ring.after) in
       first_area (subst (λ m. Reached kinds.Polygon g m s c) z ring.reached) (subst (λ m. Reached kinds.Polygon g (suc m) t d) z ring.next)
       (pairs_of parameters) start_is
       ∙ ap (λ p. edges d (positions d (pairs_of parameters)) +ℤ cross p d) (sym ring.last_is)

@@ -113,11 +113,11 @@ module _ {kind : Kind} {least : ℕ} (has : HasStrokes kind least) {g : List ℕ
         apart = λ e. cc;
       } in
       let spelled_first = spelled ∙ stroke-more [] c p ps more in
-      let behind = (2 + 8 * length ps) ∷ (path_from p ps ++ more) in
+      let after = (2 + 8 * length ps) ∷ (path_from p ps ++ more) in
       let next =
-      command_drawn r MoveTo move 1 (p ∷ []) may behind spelled_first
+      command_drawn r MoveTo move 1 (p ∷ []) may after spelled_first
       (no_ring kind g k s (λ same. let two : Some MoveTo ≡ Some ClosePath = sym move ∙ same in cc)) in
-      let rest = rest_drawn r MoveTo move 1 (p ∷ []) may behind spelled_first in
+      let rest = rest_drawn r MoveTo move 1 (p ∷ []) may after spelled_first in
       let may_line : MayDraw kind LineTo (length ps) p ps = record {
         allowed = has.may_draw (length ps) is.enough;
         pairs = refl;
@@ -131,7 +131,7 @@ module _ {kind : Kind} {least : ℕ} (has : HasStrokes kind least) {g : List ℕ
         _,
         line_next,
         rest_drawn next LineTo line (length ps) ps may_line more rest,
-        moves_drawn r MoveTo move 1 (p ∷ []) may behind spelled_first,
+        moves_drawn r MoveTo move 1 (p ∷ []) may after spelled_first,
         moves_drawn next LineTo line (length ps) ps may_line more rest,
         omega arith,
       )

@@ -32,8 +32,9 @@ if_none (Some x) e h = cc
 pub spells_none : (bytes : List ℕ) → SpellsFront bytes [] bytes
 spells_none bytes = record { joins = λ more are. are }
 
-pub spells_both : {bytes mid behind xs ys : List ℕ} → SpellsFront bytes xs mid → SpellsFront mid ys behind → SpellsFront bytes (xs ++ ys) behind
-spells_both {bytes} {mid} {behind} {xs} {ys} f g =
+pub spells_both : {bytes mid after xs ys : List ℕ} → SpellsFront bytes xs mid → SpellsFront mid ys after
+    → SpellsFront bytes (xs ++ ys) after
+spells_both {bytes} {mid} {after} {xs} {ys} f g =
     record { joins = λ more are. subst (ArePacked bytes) (sym (append_assoc xs ys more)) (f.joins (ys ++ more) (g.joins more are)) }
 
 leads : (line : Bool) (p q : Point) → IsPlace q → IsStep p q → (line ≡ true → p ≢ q) → IsStepTo line p q
@@ -41,11 +42,11 @@ leads true p q place step away = (away refl, place, step)
 leads false p q place step away = (place, step)
 
 -- a pair that breaks no rule
-pub pair_there : (line : Bool) (at : ℕ) (from to : Point) (d : Pair) {bytes mid behind : List ℕ} → SmallPair d
+pub pair_there : (line : Bool) (at : ℕ) (from to : Point) (d : Pair) {bytes mid after : List ℕ} → SmallPair d
     → first (step_rules line at d (stepped from d)) ≡ None → to ≡ stepped from d
     → ((ns : List ℕ) → ArePacked mid ns → ArePacked bytes (d.dx ∷ ns))
-    → ((ns : List ℕ) → ArePacked behind ns → ArePacked mid (d.dy ∷ ns)) → IsPair line from to bytes behind
-pair_there line at from to d {bytes} {mid} {behind} small none is x y =
+    → ((ns : List ℕ) → ArePacked after ns → ArePacked mid (d.dy ∷ ns)) → IsPair line from to bytes after
+pair_there line at from to d {bytes} {mid} {after} small none is x y =
     let calm = calm_step line at from d small none in
     rw is (record {
       step = leads line from (stepped from d) calm.0 calm.1 calm.2;
@@ -64,7 +65,8 @@ module _ {V : Type 0} {HasParts : V → List Part → List Point → V → Type 
       → WasTold HasParts old (ps ++ qs) new
   told_both {old} {mid} {new} {ps} {qs} f g = record {
     told = λ start parts begun has.
-        subst (λ rs. HasParts start parts rs new) (append_assoc begun ps qs) (g.told start parts (begun ++ ps) (f.told start parts begun has));
+        subst (λ rs. HasParts start parts rs new) (append_assoc begun ps qs)
+        (g.told start parts (begun ++ ps) (f.told start parts begun has));
   }
 
 path-push : (c : Point) (ps : List Point) (p : Point) → path_from c (ps ++ p ∷ []) ≡ path_from c ps ++ path_from (last_of c ps) (p ∷ [])
@@ -80,13 +82,13 @@ pub no_pairs : (line : Bool) (from : Point) (bytes : List ℕ) → ArePairs line
 no_pairs line from bytes =
     record { is = tt; spelled = spells_none bytes; long = refl; end_is = refl; area_is = refl; small = omega (arith, ints) }
 
-pub one_pair_more : {line : Bool} {from c p : Point} {bytes rest behind : List ℕ} {n : ℕ} {area : ℤ} {ps : List Point}
-    → ArePairs line from bytes rest n c area ps → IsPair line c p rest behind → (sum : ℤ) → sum ≡ area +ℤ cross c p
-    → unsigned_abs sum ≤ (n + 1) * 2 ^ 63 → ArePairs line from bytes behind (n + 1) p sum (ps ++ p ∷ [])
-one_pair_more {line} {from} {c} {p} {bytes} {rest} {behind} {n} {area} {ps} done pair sum is small = record {
+pub one_pair_more : {line : Bool} {from c p : Point} {bytes rest after : List ℕ} {n : ℕ} {area : ℤ} {ps : List Point}
+    → ArePairs line from bytes rest n c area ps → IsPair line c p rest after → (sum : ℤ) → sum ≡ area +ℤ cross c p
+    → unsigned_abs sum ≤ (n + 1) * 2 ^ 63 → ArePairs line from bytes after (n + 1) p sum (ps ++ p ∷ [])
+one_pair_more {line} {from} {c} {p} {bytes} {rest} {after} {n} {area} {ps} done pair sum is small = record {
   is = path_goes_on line from ps p done.is (subst (λ q. IsStepTo line q p) done.end_is pair.step);
   spelled =
-      subst (λ ns. SpellsFront bytes ns behind)
+      subst (λ ns. SpellsFront bytes ns after)
       (ap (λ q. path_from from ps ++ path_from q (p ∷ [])) done.end_is ∙ sym (path-push from ps p))
       (spells_both done.spelled pair.spelled);
   long = length_push ps p ∙ ap (λ m. m + 1) done.long;
@@ -103,15 +105,15 @@ closed_there head end ps end_is =
     ∙ ap (are_same (Some head)) (sym (ap (slice_get (head ∷ ps)) size ∙ last_read head ps))
 
 -- the line that a head and its pairs are
-pub line_there : {least : ℕ} {from head end : Point} {count : ℕ} {bytes pairs behind : List ℕ} {area : ℤ} {ps : List Point}
-    → IsHead least from head count bytes pairs → ArePairs true head pairs behind count end area ps → (edge sum : ℤ)
+pub line_there : {least : ℕ} {from head end : Point} {count : ℕ} {bytes pairs after : List ℕ} {area : ℤ} {ps : List Point}
+    → IsHead least from head count bytes pairs → ArePairs true head pairs after count end area ps → (edge sum : ℤ)
     → edge ≡ cross end head → sum ≡ area +ℤ edge → (same : Bool) → same ≡ are_same (Some head) (Some end)
-    → IsLine least [] from bytes behind (count + 1) end sum same (head ∷ ps)
-line_there {least} {from} {head} {end} {count} {bytes} {pairs} {behind} {area} {ps} h p edge sum edge_is sum_is same same_is = record {
+    → IsLine least [] from bytes after (count + 1) end sum same (head ∷ ps)
+line_there {least} {from} {head} {end} {count} {bytes} {pairs} {after} {area} {ps} h p edge sum edge_is sum_is same same_is = record {
   is = stroke_of least from (head ∷ ps)
       (omega (arith, h.enough, p.long), omega (arith, h.few, p.long), h.step, p.is);
   spelled =
-      subst (λ ns. SpellsFront bytes ns behind)
+      subst (λ ns. SpellsFront bytes ns after)
       (ap₂ (λ n ns. 9 ∷ (path_from from (head ∷ []) ++ ((2 + 8 * n) ∷ ns))) (sym p.long) (sym (append-nil (path_from head ps))))
       (spells_both h.spelled p.spelled);
   long = omega (arith, p.long);
@@ -126,12 +128,12 @@ closed c [] = refl
 closed c (p ∷ ps) = stroke_closed c p ps [] ∙ append-nil (stroke (15 ∷ []) c (p ∷ ps))
 
 -- a line that is closed
-pub ring_there : {least count : ℕ} {from end : Point} {bytes mid behind : List ℕ} {area : ℤ} {same : Bool} {line : List Point}
-    → IsLine least [] from bytes mid count end area same line → SpellsFront mid (15 ∷ []) behind
-    → IsLine least (15 ∷ []) from bytes behind count end area same line
-ring_there {least} {count} {from} {end} {bytes} {mid} {behind} {area} {same} {line} h close = record {
+pub ring_there : {least count : ℕ} {from end : Point} {bytes mid after : List ℕ} {area : ℤ} {same : Bool} {line : List Point}
+    → IsLine least [] from bytes mid count end area same line → SpellsFront mid (15 ∷ []) after
+    → IsLine least (15 ∷ []) from bytes after count end area same line
+ring_there {least} {count} {from} {end} {bytes} {mid} {after} {area} {same} {line} h close = record {
   is = h.is;
-  spelled = subst (λ ns. SpellsFront bytes ns behind) (closed from line) (spells_both h.spelled close);
+  spelled = subst (λ ns. SpellsFront bytes ns after) (closed from line) (spells_both h.spelled close);
   long = h.long;
   end_is = h.end_is;
   area_is = h.area_is;

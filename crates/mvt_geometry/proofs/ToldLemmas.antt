@@ -22,14 +22,14 @@ use Rattle.mvt_geometry.proofs.ValidLemmas.{drawn_valid}
 use Rattle.mvt_geometry.proofs.WholeLemmas.{rings_valid}
 
 -- nothing is left behind
-spells_all : {bytes ints behind : List ℕ} → SpellsFront bytes ints behind → length behind ≡ 0 → ArePacked bytes ints
-spells_all {bytes} {ints} {behind} f none = subst (ArePacked bytes) (append-nil ints) (f.joins [] (nil_from_length behind none))
+spells_all : {bytes ints after : List ℕ} → SpellsFront bytes ints after → length after ≡ 0 → ArePacked bytes ints
+spells_all {bytes} {ints} {after} f none = subst (ArePacked bytes) (append-nil ints) (f.joins [] (nil_from_length after none))
 
 -- the points of a feature
-pub points_told : {bytes pairs behind : List ℕ} {count : ℕ} {end : Point} {area : ℤ} {ps : List Point} → 0 < count → count < 2 ^ 29
-    → SpellsFront bytes ((1 + 8 * count) ∷ []) pairs → ArePairs false origin pairs behind count end area ps → length behind ≡ 0
+pub points_told : {bytes pairs after : List ℕ} {count : ℕ} {end : Point} {area : ℤ} {ps : List Point} → 0 < count → count < 2 ^ 29
+    → SpellsFront bytes ((1 + 8 * count) ∷ []) pairs → ArePairs false origin pairs after count end area ps → length after ≡ 0
     → ArePacked bytes (drawn (Points ps)) × IsValid (Points ps)
-points_told {bytes} {pairs} {behind} {count} {end} {area} {ps} some few command p none = (
+points_told {bytes} {pairs} {after} {count} {end} {area} {ps} some few command p none = (
   subst (λ n. ArePacked bytes ((1 + 8 * n) ∷ path_from origin ps)) (sym p.long) (spells_all (spells_both command p.spelled) none),
   drawn_valid (Points ps) (omega (arith, p.long, some), omega (arith, p.long, few), p.is),
 )
@@ -43,14 +43,14 @@ none_in_front least close bytes some = record {
   some = omega (arith, some);
 }
 
-pub one_more_in_front : {least n : ℕ} {close bytes rest behind : List ℕ} {c end : Point} {area : ℤ} {same : Bool}
+pub one_more_in_front : {least n : ℕ} {close bytes rest after : List ℕ} {c end : Point} {area : ℤ} {same : Bool}
     {lines : List (List Point)} {line : List Point} → AreInFront least close bytes rest c lines
-    → IsLine least close c rest behind n end area same line
-    → AreInFront least close bytes behind end (lines ++ line ∷ [])
-one_more_in_front {least} {n} {close} {bytes} {rest} {behind} {c} {end} {area} {same} {lines} {line} f l = record {
+    → IsLine least close c rest after n end area same line
+    → AreInFront least close bytes after end (lines ++ line ∷ [])
+one_more_in_front {least} {n} {close} {bytes} {rest} {after} {c} {end} {area} {same} {lines} {line} f l = record {
   are = (stroke_follows least lines line).1 (f.are, subst (λ q. IsStrokeFrom least q line) f.cursor_is l.is);
   spelled =
-      subst (λ ns. SpellsFront bytes ns behind)
+      subst (λ ns. SpellsFront bytes ns after)
       (ap (λ q. strokes close origin lines ++ stroke close q line) f.cursor_is ∙ sym (strokes_follow close lines line))
       (spells_both f.spelled l.spelled);
   cursor_is = l.end_is ∙ ap (λ q. last_of q line) f.cursor_is ∙ sym (end_follows lines line);

@@ -133,7 +133,8 @@ polygons_there : (g : List ℕ) → AreSmall g → geometry_fault kinds.Polygon 
 polygons_there g small none =
     let found = rings_found g none small (length g) 0 0 origin (omega arith) (first_command kinds.Polygon g) refl in
     let made =
-    rings_valid found.rings found.are found.small_steps (found.some (not_empty kinds.Polygon g (λ same. cc) none)) (found.fine refl refl) in (
+    rings_valid found.rings found.are found.small_steps (found.some (not_empty kinds.Polygon g (λ same. cc) none))
+    (found.fine refl refl) in (
       Polygons made.0,
       record { same_kind = refl; valid = made.2; spelled = found.spelled ∙ ap (strokes (15 ∷ []) origin) made.1 },
     )

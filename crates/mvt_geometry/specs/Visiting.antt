@@ -51,6 +51,7 @@ HasDrawn HasParts HasIntegers start now (Lines lines) = HasParts start (parts_of
 HasDrawn HasParts HasIntegers start now (Polygons polygons) = HasParts start (parts_of (Polygons polygons)) [] now
 
 -- and the integers that draw it are those of these packed bytes
-abbrev pub HasDrawnPacked : {V : Type 0} → (V → List Part → List Point → V → Type 0) → (V → List ℕ → V → Type 0) → V → V → Kind → List ℕ → Type 0
+abbrev pub HasDrawnPacked : {V : Type 0} → (V → List Part → List Point → V → Type 0) → (V → List ℕ → V → Type 0) → V → V → Kind → List ℕ
+    → Type 0
 HasDrawnPacked HasParts HasIntegers start now kind bytes =
     (ints : List ℕ) × ArePacked bytes ints × (g : Geometry) × Draws kind ints g × HasDrawn HasParts HasIntegers start now g

@@ -28,5 +28,5 @@ pub use position::Position;
 pub use reading::read_geometry;
 pub use shape::{Geometry, Kind, Point, Polygon, kind_of};
 pub use validity::is_valid_geometry;
-pub use visiting::{GeometryVisitor, Ring, draw_geometry};
+pub use visiting::{GeometryVisitor, Ignore, Ring, draw_geometry};
 pub use writing::{append_geometry, put_geometry};

@@ -64,7 +64,7 @@ fn tell_points<V: GeometryVisitor>(visitor: &mut V, bytes: &[u8]) -> Result<bool
     let Some(path) = tell_path(visitor, ORIGIN, count, false, pairs)? else {
         return Ok(false);
     };
-    if !path.behind.is_empty() {
+    if !path.after.is_empty() {
         return Ok(false);
     }
     visitor.end_part(count, None)?;
@@ -88,7 +88,7 @@ fn tell_lines<V: GeometryVisitor>(visitor: &mut V, bytes: &[u8]) -> Result<bool,
         };
         visitor.end_part(line.points, None)?;
         cursor = line.end;
-        rest = line.behind;
+        rest = line.after;
     }
     Ok(true)
 }
@@ -120,7 +120,7 @@ fn tell_polygons<V: GeometryVisitor>(visitor: &mut V, bytes: &[u8]) -> Result<bo
         visitor.end_part(ring.points, Some(known))?;
         is_first = false;
         cursor = ring.end;
-        rest = ring.behind;
+        rest = ring.after;
     }
     Ok(true)
 }
@@ -141,7 +141,7 @@ struct Line<'a> {
     end: Point,
     area: i128,
     is_closed: bool,
-    behind: &'a [u8],
+    after: &'a [u8],
 }
 
 /// Tells the ring in front, whose end is a ClosePath.
@@ -152,9 +152,9 @@ fn tell_ring<'a, V: GeometryVisitor>(
     bytes: &'a [u8],
 ) -> Result<Option<Line<'a>>, AllocError>
     ensures further { IfOk result (λ told. IfSome told (λ ring.
-        length ring.behind.now < length bytes.now)) }
+        length ring.after.now < length bytes.now)) }
     ensures line { IfOk result (λ told. IfSome told (λ r. (points : List Point)
-        × IsLine 3 (15 ∷ []) from bytes.now r.behind.now r.points r.end r.area r.is_closed points
+        × IsLine 3 (15 ∷ []) from bytes.now r.after.now r.points r.end r.area r.is_closed points
         × WasTold V.has_parts visitor.old points visitor.new)) }
     ensures told { OnOk result ((points : List Point)
         × WasTold V.has_parts visitor.old points visitor.new) }
@@ -162,13 +162,13 @@ fn tell_ring<'a, V: GeometryVisitor>(
     let Some(ring) = tell_line(visitor, from, 3, bytes)? else {
         return Ok(None);
     };
-    let Some((count, behind)) = command_front(Command::ClosePath, ring.behind) else {
+    let Some((count, after)) = command_front(Command::ClosePath, ring.after) else {
         return Ok(None);
     };
     if count != 1 {
         return Ok(None);
     }
-    Ok(Some(Line { behind, ..ring }))
+    Ok(Some(Line { after, ..ring }))
 }
 
 /// Tells the line in front that has at least so many points: one pair after a MoveTo, and those
@@ -181,9 +181,9 @@ fn tell_line<'a, V: GeometryVisitor>(
     bytes: &'a [u8],
 ) -> Result<Option<Line<'a>>, AllocError>
     ensures further { IfOk result (λ told. IfSome told (λ line.
-        length line.behind.now < length bytes.now)) }
+        length line.after.now < length bytes.now)) }
     ensures line { IfOk result (λ told. IfSome told (λ r. (points : List Point)
-        × IsLine least [] from bytes.now r.behind.now r.points r.end r.area r.is_closed points
+        × IsLine least [] from bytes.now r.after.now r.points r.end r.area r.is_closed points
         × WasTold V.has_parts visitor.old points visitor.new)) }
     ensures told { OnOk result ((points : List Point)
         × WasTold V.has_parts visitor.old points visitor.new) }
@@ -193,7 +193,7 @@ fn tell_line<'a, V: GeometryVisitor>(
     };
     let first = head.point;
     visitor.visit_point(first)?;
-    let Some(path) = tell_path(visitor, first, head.count, true, head.behind)? else {
+    let Some(path) = tell_path(visitor, first, head.count, true, head.after)? else {
         return Ok(None);
     };
     Ok(Some(Line {
@@ -201,7 +201,7 @@ fn tell_line<'a, V: GeometryVisitor>(
         end: path.end,
         area: path.area + cross(path.end, first),
         is_closed: is_same(first, path.end),
-        behind: path.behind,
+        after: path.after,
     }))
 }
 
@@ -210,26 +210,26 @@ fn tell_line<'a, V: GeometryVisitor>(
 struct Head<'a> {
     point: Point,
     count: usize,
-    behind: &'a [u8],
+    after: &'a [u8],
 }
 
 /// The commands in front of a line that has at least so many points.
 #[inline(always)]
 fn line_front<'a>(from: Point, least: usize, bytes: &'a [u8]) -> Option<Head<'a>>
     ensures head { IfSome result (λ head.
-        IsHead least from head.point head.count bytes.now head.behind.now) }
-    ensures further { IfSome result (λ head. length head.behind.now < length bytes.now) }
+        IsHead least from head.point head.count bytes.now head.after.now) }
+    ensures further { IfSome result (λ head. length head.after.now < length bytes.now) }
 {
     let (points, pair) = command_front(Command::MoveTo, bytes)?;
-    let (point, behind) = point_front(from, false, pair)?;
-    let (count, behind) = command_front(Command::LineTo, behind)?;
+    let (point, after) = point_front(from, false, pair)?;
+    let (count, after) = command_front(Command::LineTo, after)?;
     if points != 1 || count + 1 < least {
         return None;
     }
     Some(Head {
         point,
         count,
-        behind,
+        after,
     })
 }
 
@@ -241,11 +241,11 @@ fn command_front(command: Command, bytes: &[u8]) -> Option<(usize, &[u8])>
     ensures few { IfSome result (λ found. found.0 < 2 ^ 29) }
     ensures further { IfSome result (λ found. length found.1.now < length bytes.now) }
 {
-    let (integer, behind) = packed_front(bytes)?;
+    let (integer, after) = packed_front(bytes)?;
     if integer % 8 != command.id() {
         return None;
     }
-    Some((Command::count_in(integer) as usize, behind))
+    Some((Command::count_in(integer) as usize, after))
 }
 
 /// The end of a path that was told, what its edges add to twice an area, and the bytes behind it.
@@ -253,7 +253,7 @@ fn command_front(command: Command, bytes: &[u8]) -> Option<(usize, &[u8])>
 struct Path<'a> {
     end: Point,
     area: i128,
-    behind: &'a [u8],
+    after: &'a [u8],
 }
 
 /// Tells the points that so many pairs in front lead to.
@@ -267,9 +267,9 @@ fn tell_path<'a, V: GeometryVisitor>(
 ) -> Result<Option<Path<'a>>, AllocError>
     requires { count < 2 ^ 29 }
     ensures further { IfOk result (λ told. IfSome told (λ path.
-        length path.behind.now ≤ length bytes.now)) }
+        length path.after.now ≤ length bytes.now)) }
     ensures path { IfOk result (λ told. IfSome told (λ r. (points : List Point)
-        × ArePairs is_line from bytes.now r.behind.now count r.end r.area points
+        × ArePairs is_line from bytes.now r.after.now count r.end r.area points
         × WasTold V.has_parts visitor.old points visitor.new)) }
     ensures told { OnOk result ((points : List Point)
         × WasTold V.has_parts visitor.old points visitor.new) }
@@ -279,19 +279,19 @@ fn tell_path<'a, V: GeometryVisitor>(
     let mut rest = bytes;
     let mut left = count;
     while left > 0 {
-        let Some((point, behind)) = point_front(cursor, is_line, rest) else {
+        let Some((point, after)) = point_front(cursor, is_line, rest) else {
             return Ok(None);
         };
         visitor.visit_point(point)?;
         area += cross(cursor, point);
         cursor = point;
-        rest = behind;
+        rest = after;
         left -= 1;
     }
     Ok(Some(Path {
         end: cursor,
         area,
-        behind: rest,
+        after: rest,
     }))
 }
 
@@ -301,12 +301,12 @@ fn point_front(from: Point, is_line: bool, bytes: &[u8]) -> Option<(Point, &[u8]
     ensures pair { IfSome result (λ found. IsPair is_line from found.0 bytes.now found.1.now) }
     ensures further { IfSome result (λ found. length found.1.now < length bytes.now) }
 {
-    let (dx, behind) = packed_front(bytes)?;
-    let (dy, behind) = packed_front(behind)?;
+    let (dx, after) = packed_front(bytes)?;
+    let (dy, after) = packed_front(after)?;
     if step_fault(is_line, 0, from, dx, dy).is_some() {
         return None;
     }
     let x = from.x + unzigzag32(dx);
     let y = from.y + unzigzag32(dy);
-    Some((Point { x, y }, behind))
+    Some((Point { x, y }, after))
 }

@@ -83,7 +83,7 @@ fn build_lines(
         let line = build_line(alloc, cursor, rest)?;
         lines.push(line.points)?;
         cursor = line.end;
-        rest = line.behind;
+        rest = line.after;
     }
     Ok(lines)
 }
@@ -101,12 +101,12 @@ fn build_polygons(alloc: Global, integers: &[u32], count: usize) -> Result<Vec<P
         inner: Vec::new(alloc),
     };
     let mut cursor = first.end;
-    let mut rest = first.behind;
+    let mut rest = first.after;
     while !rest.is_empty() {
         let ring = build_ring(alloc, cursor, rest)?;
         add_ring(alloc, &mut polygons, &mut current, ring.points)?;
         cursor = ring.end;
-        rest = ring.behind;
+        rest = ring.after;
     }
     polygons.push(current.closed())?;
     Ok(polygons)
@@ -159,43 +159,39 @@ fn add_ring(
 struct Line<'a> {
     points: Items<Point>,
     end: Point,
-    behind: &'a [u32],
+    after: &'a [u32],
 }
 
 /// The line in front of the integers: one pair after a MoveTo, and those after a LineTo.
 fn build_line<'a>(alloc: Global, from: Point, integers: &'a [u32]) -> Result<Line<'a>, AllocError>
     requires { (l : List Point) × (more : List ℕ) × IsFront from integers.now l more }
-    ensures further { IfOk result (λ r. length r.behind.now < length integers.now) }
+    ensures further { IfOk result (λ r. length r.after.now < length integers.now) }
     ensures line { (l : List Point) → (more : List ℕ) → IsFront from integers.now l more
-        → IfOk result (λ r. (r.points ≡ l) × (r.end ≡ last_of from l) × (r.behind.now ≡ more)) }
+        → IfOk result (λ r. (r.points ≡ l) × (r.end ≡ last_of from l) × (r.after.now ≡ more)) }
 {
     let (head, tail) = integers.split_at(4);
     let count = Command::count_in(head[3]) as usize;
-    let (pairs, behind) = tail.split_at(2 * count);
+    let (pairs, after) = tail.split_at(2 * count);
     let mut points = Vec::with_capacity(alloc, count + 1)?;
     let first = push_path(&mut points, from, &head[1..3])?;
     let end = push_path(&mut points, first, pairs)?;
     let points = Items::new(points);
-    Ok(Line {
-        points,
-        end,
-        behind,
-    })
+    Ok(Line { points, end, after })
 }
 
 /// The ring in front of the integers: a line, and its ClosePath.
 fn build_ring<'a>(alloc: Global, from: Point, integers: &'a [u32]) -> Result<Line<'a>, AllocError>
     requires { (l : List Point) × (more : List ℕ) × IsFront from integers.now l (15 ∷ more) }
-    ensures further { IfOk result (λ r. length r.behind.now < length integers.now) }
+    ensures further { IfOk result (λ r. length r.after.now < length integers.now) }
     ensures line { (l : List Point) → (more : List ℕ) → IsFront from integers.now l (15 ∷ more)
-        → IfOk result (λ r. (r.points ≡ l) × (r.end ≡ last_of from l) × (r.behind.now ≡ more)) }
+        → IfOk result (λ r. (r.points ≡ l) × (r.end ≡ last_of from l) × (r.after.now ≡ more)) }
 {
     let line = build_line(alloc, from, integers)?;
-    let (_, behind) = line.behind.split_at(1);
+    let (_, after) = line.after.split_at(1);
     Ok(Line {
         points: line.points,
         end: line.end,
-        behind,
+        after,
     })
 }
 

@@ -57,6 +57,33 @@ pub trait GeometryVisitor: Drop {
     ghost begins: { (start : Self) → has_parts start [] [] start };
 }
 
+/// A visitor that keeps nothing of what it is told.
+#[derive(Drop)]
+pub struct Ignore;
+
+impl GeometryVisitor for Ignore {
+    ghost has_parts = { λ _ _ _ _. Unit {0} };
+
+    ghost has_integers = { λ _ _ _. Unit {0} };
+
+    ghost begins = { λ _. tt };
+
+    #[inline(always)]
+    fn visit_point(&mut self, _: Point) -> Result<(), AllocError> {
+        Ok(())
+    }
+
+    #[inline(always)]
+    fn end_part(&mut self, _: usize, _: Option<Ring>) -> Result<(), AllocError> {
+        Ok(())
+    }
+
+    #[inline(always)]
+    fn visit_integers(&mut self, _: &[u32]) -> Result<(), AllocError> {
+        Ok(())
+    }
+}
+
 /// What is known of a ring at its end.
 #[derive(Clone, Copy, Debug)]
 pub struct Ring {
@@ -127,7 +154,7 @@ fn draw_lines<V: GeometryVisitor>(visitor: &mut V, integers: &[u32]) -> Result<(
         let line = draw_line(visitor, cursor, rest)?;
         visitor.end_part(line.points, None)?;
         cursor = line.end;
-        rest = line.behind;
+        rest = line.after;
     }
     Ok(())
 }
@@ -150,7 +177,7 @@ fn draw_polygons<V: GeometryVisitor>(visitor: &mut V, integers: &[u32]) -> Resul
         visitor.end_part(ring.points, Some(known))?;
         is_first = false;
         cursor = ring.end;
-        rest = &ring.behind[1..];
+        rest = &ring.after[1..];
     }
     Ok(())
 }
@@ -171,7 +198,7 @@ struct Line<'a> {
     end: Point,
     area: i128,
     is_closed: bool,
-    behind: &'a [u32],
+    after: &'a [u32],
 }
 
 /// Tells the points of the line in front of the integers: one pair after a MoveTo, and those after
@@ -183,18 +210,18 @@ fn draw_line<'a, V: GeometryVisitor>(
     integers: &'a [u32],
 ) -> Result<Line<'a>, AllocError>
     requires { (l : List Point) × (more : List ℕ) × IsFront from integers.now l more }
-    ensures further { IfOk result (λ r. length r.behind.now < length integers.now) }
+    ensures further { IfOk result (λ r. length r.after.now < length integers.now) }
     ensures drawn { (l : List Point) (more : List ℕ) (start : V) (parts : List Part)
         → IsFront from integers.now l more
         → V.has_parts start parts [] visitor.old
         → OnOk result (V.has_parts start parts l visitor.new) }
     ensures line { (l : List Point) (more : List ℕ) → IsFront from integers.now l more
         → IfOk result (λ r. (r.points ≡ length l) × (r.end ≡ last_of from l)
-        × (r.area ≡ area2 l) × (r.is_closed ≡ is_closed l) × (r.behind.now ≡ more)) }
+        × (r.area ≡ area2 l) × (r.is_closed ≡ is_closed l) × (r.after.now ≡ more)) }
 {
     let (head, tail) = integers.split_at(4);
     let count = Command::count_in(head[3]) as usize;
-    let (pairs, behind) = tail.split_at(2 * count);
+    let (pairs, after) = tail.split_at(2 * count);
     let (first, _) = draw_path(visitor, from, &head[1..3])?;
     let (end, path) = draw_path(visitor, first, pairs)?;
     Ok(Line {
@@ -202,7 +229,7 @@ fn draw_line<'a, V: GeometryVisitor>(
         end,
         area: path + cross(end, first),
         is_closed: is_same(first, end),
-        behind,
+        after,
     })
 }
 

@@ -40,29 +40,12 @@ pub(crate) const FEW_VALUES: [u8; 41] = [
     0x22, 0x02, 0x38, 0x01, 0x28, 0x80, 0x04, 0x78, 0x02,
 ];
 
-#[derive(Drop)]
-struct Untold;
-
-impl RewriteVisitor for Untold {
-    ghost has_features = { λ _ _ _ _. Unit {0} };
-
-    fn visit_rewritten(
-        &mut self,
-        _: Global,
-        _: &FeatureFields,
-        _: &[u32],
-        _: &[u8],
-    ) -> Result<(), AllocError> {
-        Ok(())
-    }
-}
-
 // The canonical bytes of a short payload, made field by field.
 fn make_anew(alloc: Global, payload: &[u8], out: &mut Vec<u8>) -> Result<(), MessageError> {
     if payload.len() > 1000 {
         return Err(MessageError::Memory);
     }
-    match rewrite_parts(alloc, Untold, payload, 2, 0) {
+    match rewrite_parts(alloc, Ignore, payload, 2, 0) {
         Ok(Rewritten::Layer(layer)) => {
             layer.append_head(out)?;
             out.extend_from_slice(layer.features())?;

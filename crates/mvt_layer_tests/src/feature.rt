@@ -3,7 +3,7 @@ ghost use Rattle.mvt_geometry.specs.Valid.{IsValid};
 
 use crate::expect::{expect, expect_eq};
 use crate::support::{KEYS, feature_with, made_with, point, repeated_keys};
-use mvt_attrs::{Attribute, LayerKeys, LayerUses, PoolError, Value};
+use mvt_attrs::{Attribute, LayerEntries, LayerKeys, PoolError, Value};
 use mvt_base::{Items, Text};
 use mvt_feature::*;
 use mvt_geometry::Geometry;
@@ -202,7 +202,7 @@ fn writes_values(rt: HostRuntime) {
 fn appended(alloc: Global, out: &mut Vec<u8>, feature: &Feature) -> Result<(), PoolError>
     requires { IsValid feature.now.geometry }
 {
-    let mut uses = LayerUses::new(alloc);
+    let mut uses = LayerEntries::new(alloc);
     let mut scratch = Scratch::new(alloc);
     let done = append_feature(feature, &mut uses, &mut scratch, out);
     drop(scratch);

@@ -102,7 +102,8 @@ rest_by g ys keys values name extent = plain NAME (bytes name) ∷ tail_by g ys 
 abbrev pub fields_by : {Y : Type 0} → (Y → List ℕ) → List Y → List (List ℕ) → List Value → List ℕ → ℕ → List Plain
 fields_by g ys keys values name extent = plain VERSION (varint 2) ∷ rest_by g ys keys values name extent
 
-tail_contents : {Y : Type 0} → (k : ℕ) (g : Y → List ℕ) (ys : List Y) (keys : List (List ℕ)) (values : List Value) (extent : ℕ) (a b c : List Content)
+tail_contents : {Y : Type 0} → (k : ℕ) (g : Y → List ℕ) (ys : List Y) (keys : List (List ℕ)) (values : List Value) (extent : ℕ)
+    (a b c : List Content)
     → contents_at k (all_of FEATURES g ys) ≡ a → contents_at k (all_of KEYS same_bytes keys) ≡ b
     → contents_at k (all_of VALUES value_bytes values) ≡ c
     → contents_at k (tail_by g ys keys values extent) ≡ a ++ (b ++ (c ++ contents_at k (extent_fields extent)))
@@ -153,7 +154,8 @@ bytes_all : {Y : Type 0} → (P : Content → Type 0) (g : Y → List ℕ) (ys :
 bytes_all P g ys h = all_mapped (λ y. bytes (g y)) P ys h
 
 -- what stands in the fields of each number
-record AreContents {Y : Type 0} (g : Y → List ℕ) (ys : List Y) (keys : List (List ℕ)) (values : List Value) (own_name : List ℕ) (own_extent : ℕ)
+record AreContents {Y : Type 0} (g : Y → List ℕ) (ys : List Y) (keys : List (List ℕ)) (values : List Value) (own_name : List ℕ)
+    (own_extent : ℕ)
     (xs : List Entry) : Type 0 where
   version : contents_of VERSION xs ≡ varint 2 ∷ []
   name : contents_of NAME xs ≡ bytes own_name ∷ []
@@ -166,7 +168,8 @@ record AreContents {Y : Type 0} (g : Y → List ℕ) (ys : List Y) (keys : List 
 abbrev pub HasContents : {Y : Type 0} → (Y → List ℕ) → List Y → List (List ℕ) → List Value → List ℕ → ℕ → List Entry → Type 0
 HasContents g ys keys values name extent xs = (k : ℕ) → contents_of k xs ≡ contents_at k (fields_by g ys keys values name extent)
 
-in_place : {Y : Type 0} → (g : Y → List ℕ) (ys : List Y) (keys : List (List ℕ)) (values : List Value) (name : List ℕ) (extent : ℕ) (xs : List Entry)
+in_place : {Y : Type 0} → (g : Y → List ℕ) (ys : List Y) (keys : List (List ℕ)) (values : List Value) (name : List ℕ) (extent : ℕ)
+    (xs : List Entry)
     → map plain_of xs ≡ fields_by g ys keys values name extent → HasContents g ys keys values name extent xs
 in_place g ys keys values name extent xs is k = only_contents k xs ∙ ap (contents_at k) is
 
@@ -189,7 +192,8 @@ version_behind k rest false e none =
     ap (λ (t : Bool). rest ++ (if t then varint 2 ∷ [] else [])) e ∙ append-nil rest
     ∙ sym (ap (λ (t : Bool). if t then varint 2 ∷ rest else rest) e)
 
-moved : {Y : Type 0} → (g : Y → List ℕ) (ys : List Y) (keys : List (List ℕ)) (values : List Value) (name : List ℕ) (extent : ℕ) (xs : List Entry)
+moved : {Y : Type 0} → (g : Y → List ℕ) (ys : List Y) (keys : List (List ℕ)) (values : List Value) (name : List ℕ) (extent : ℕ)
+    (xs : List Entry)
     → map plain_of xs ≡ rest_by g ys keys values name extent ++ version_alone → HasContents g ys keys values name extent xs
 moved g ys keys values name extent xs is k =
     let rest = rest_by g ys keys values name extent in
@@ -197,7 +201,8 @@ moved g ys keys values name extent xs is k =
     ∙ version_behind k (contents_at k rest) (VERSION == k) refl
     (λ number. subst (λ j. contents_at j rest ≡ []) number (no_version g ys keys values name extent))
 
-are_contents : {Y : Type 0} → (g : Y → List ℕ) (ys : List Y) (keys : List (List ℕ)) (values : List Value) (name : List ℕ) (extent : ℕ) (xs : List Entry)
+are_contents : {Y : Type 0} → (g : Y → List ℕ) (ys : List Y) (keys : List (List ℕ)) (values : List Value) (name : List ℕ) (extent : ℕ)
+    (xs : List Entry)
     → HasContents g ys keys values name extent xs → AreContents g ys keys values name extent xs
 are_contents g ys keys values own_name own_extent xs at =
     let none = λ (k : ℕ). tail_none k g ys keys values own_extent in
@@ -222,7 +227,8 @@ are_contents g ys keys values own_name own_extent xs at =
 pub layer_is : {Y : Type 0} → (g : Y → List ℕ) (ys : List Y) (xs : List Entry) (keys : List (List ℕ)) (values : List Value) (layer : ALayer)
     → HasContents g ys keys values layer.name layer.extent xs → IsUtf8 layer.name → layer.extent < 2 ^ 32 → AllByRecursion IsUtf8 keys
     → AllByRecursion (λ v. IsValueOf (value_bytes v) v) values
-    → ((zs : List Entry) → map (λ (z : Entry). z.content) zs ≡ map (λ y. bytes (g y)) ys → AreRelated (HoldsFeature keys values) zs layer.features)
+    → ((zs : List Entry) → map (λ (z : Entry). z.content) zs ≡ map (λ y. bytes (g y)) ys
+    → AreRelated (HoldsFeature keys values) zs layer.features)
     → HaveForm VERSION (HasForm uint32) xs × (version_in xs ≡ Some 2) × IsLayer xs layer
 layer_is g ys xs keys values layer is name extent texts hold features =
     let at = are_contents g ys keys values layer.name layer.extent xs is in
@@ -438,39 +444,46 @@ more_enough features more_keys more_values valid texts valid_values =
           all_weaker (λ (f : Feature). AllByRecursion (IsIn keys values) f.attributes)
           (λ (f : Feature). AllByRecursion (IsIn all_keys all_values) f.attributes)
           (λ f held. all_weaker (IsIn keys values) (IsIn all_keys all_values)
-          (λ a is. (Contains-append_left keys more_keys a.key is.0, Contains-append_left values more_values a.value is.1)) f.attributes held)
+          (λ a is. (Contains-append_left keys more_keys a.key is.0, Contains-append_left values more_values a.value is.1)) f.attributes
+          held)
           features (features_held features);
     }
 
 -- fields with the contents of a layer are this layer
-pub item_from : {Y : Type 0} → (g : Y → List ℕ) (ys : List Y) (keys : List (List ℕ)) (values : List Value) (layer : ALayer) (b : List ℕ) (xs : List Entry)
+pub item_from : {Y : Type 0} → (g : Y → List ℕ) (ys : List Y) (keys : List (List ℕ)) (values : List Value) (layer : ALayer) (b : List ℕ)
+    (xs : List Entry)
     → Whole b xs → HasContents g ys keys values layer.name layer.extent xs → IsUtf8 layer.name → layer.extent < 2 ^ 32
     → AllByRecursion IsUtf8 keys → AllByRecursion ValidValue values
-    → ((zs : List Entry) → map (λ (z : Entry). z.content) zs ≡ map (λ y. bytes (g y)) ys → AreRelated (HoldsFeature keys values) zs layer.features)
+    → ((zs : List Entry) → map (λ (z : Entry). z.content) zs ≡ map (λ y. bytes (g y)) ys
+    → AreRelated (HoldsFeature keys values) zs layer.features)
     → length (spelled (fields_by g ys keys values layer.name layer.extent)) < 2 ^ 32 → IsItem b (Layer layer)
 unfolding IsItem
 item_from g ys keys values layer b xs whole at name extent texts valid features within =
     let fits = layer_fits g ys keys values layer.name layer.extent extent within in
     let pool_fits = all_right IsFit (all_of KEYS same_bytes keys) _ (all_right IsFit (all_of FEATURES g ys) _ fits.1.1) in
-    let value_sizes = sizes VALUES value_bytes values (all_left IsFit (all_of VALUES value_bytes values) (extent_fields layer.extent) pool_fits) in
+    let value_sizes = sizes VALUES value_bytes values
+    (all_left IsFit (all_of VALUES value_bytes values) (extent_fields layer.extent) pool_fits) in
     let is = layer_is g ys xs keys values layer at name extent texts (values_read values valid value_sizes) features in
     (xs, whole, is.0, (is.1, is.2))
 
 -- the version stands before the other fields of such a layer, or behind them
 pub item_in_place : {Y : Type 0} → (g : Y → List ℕ) (ys : List Y) (keys : List (List ℕ)) (values : List Value) (layer : ALayer)
     → IsUtf8 layer.name → layer.extent < 2 ^ 32 → AllByRecursion IsUtf8 keys → AllByRecursion ValidValue values
-    → ((zs : List Entry) → map (λ (z : Entry). z.content) zs ≡ map (λ y. bytes (g y)) ys → AreRelated (HoldsFeature keys values) zs layer.features)
+    → ((zs : List Entry) → map (λ (z : Entry). z.content) zs ≡ map (λ y. bytes (g y)) ys
+    → AreRelated (HoldsFeature keys values) zs layer.features)
     → length (spelled (fields_by g ys keys values layer.name layer.extent)) < 2 ^ 32
     → IsItem (spelled (fields_by g ys keys values layer.name layer.extent)) (Layer layer)
 item_in_place g ys keys values layer name extent texts valid features within =
     let fields = fields_by g ys keys values layer.name layer.extent in
     let whole = spelled_whole_whole fields (layer_fits g ys keys values layer.name layer.extent extent within) in
-    item_from g ys keys values layer (spelled fields) whole.0 whole.1 (in_place g ys keys values layer.name layer.extent whole.0 whole.2) name extent
+    item_from g ys keys values layer (spelled fields) whole.0 whole.1 (in_place g ys keys values layer.name layer.extent whole.0 whole.2)
+    name extent
     texts valid features within
 
 pub item_moved : {Y : Type 0} → (g : Y → List ℕ) (ys : List Y) (keys : List (List ℕ)) (values : List Value) (layer : ALayer)
     → IsUtf8 layer.name → layer.extent < 2 ^ 32 → AllByRecursion IsUtf8 keys → AllByRecursion ValidValue values
-    → ((zs : List Entry) → map (λ (z : Entry). z.content) zs ≡ map (λ y. bytes (g y)) ys → AreRelated (HoldsFeature keys values) zs layer.features)
+    → ((zs : List Entry) → map (λ (z : Entry). z.content) zs ≡ map (λ y. bytes (g y)) ys
+    → AreRelated (HoldsFeature keys values) zs layer.features)
     → length (spelled (fields_by g ys keys values layer.name layer.extent)) < 2 ^ 32
     → IsItem (spelled (rest_by g ys keys values layer.name layer.extent) ++ short_field VERSION (varint 2)) (Layer layer)
 item_moved g ys keys values layer name extent texts valid features within =
@@ -500,7 +513,8 @@ unfolding ValidLayer
 own_features keys values layer valid enough within =
     let features = layer.features in
     let fits = layer_fits (feature_bytes keys values) features keys values layer.name layer.extent valid.1 within in
-    let feature_sizes = sizes FEATURES (feature_bytes keys values) features (all_left IsFit (all_of FEATURES (feature_bytes keys values) features) _ fits.1.1) in
+    let feature_sizes = sizes FEATURES (feature_bytes keys values) features
+    (all_left IsFit (all_of FEATURES (feature_bytes keys values) features) _ fits.1.1) in
     let pools = pools_within keys values layer in
     features_are keys values features (omega (arith, pools.0)) (omega (arith, pools.1)) valid.2 enough.held feature_sizes
 

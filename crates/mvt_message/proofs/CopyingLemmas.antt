@@ -138,7 +138,8 @@ features_from_more WereTold AreTold body start at after keys values used more pa
       told = told;
     }
 
-pub told_weaker : (WereTold AreTold : List Feature → Type 0) (body : List ℕ) (start at : ℕ) (keys : List (List ℕ)) (values : List Value) (used : ℕ × ℕ)
+pub told_weaker : (WereTold AreTold : List Feature → Type 0) (body : List ℕ) (start at : ℕ) (keys : List (List ℕ)) (values : List Value)
+    (used : ℕ × ℕ)
     → AreFeaturesFrom WereTold body start keys values at used → ((features : List Feature) → WereTold features → AreTold features)
     → AreFeaturesFrom AreTold body start keys values at used
 told_weaker WereTold AreTold body start at keys values used from weaker = record {
@@ -151,7 +152,8 @@ told_weaker WereTold AreTold body start at keys values used from weaker = record
   told = weaker from.features from.told;
 }
 
-pub reached_from : (WereTold AreTold : List Feature → Type 0) (body : List ℕ) (start at other : ℕ) (keys : List (List ℕ)) (values : List Value)
+pub reached_from : (WereTold AreTold : List Feature → Type 0) (body : List ℕ) (start at other : ℕ) (keys : List (List ℕ))
+    (values : List Value)
     (used same : ℕ × ℕ) → AreFeaturesFrom WereTold body start keys values at used → other ≡ at → same ≡ used
     → ((features : List Feature) → WereTold features → AreTold features) → AreFeaturesFrom AreTold body start keys values other same
 reached_from WereTold AreTold body start at other keys values used same from here is weaker =
@@ -169,7 +171,8 @@ length-mapped : {X Y : Type 0} → (f : X → Y) (xs : List X) → length (map f
 length-mapped f [] = refl
 length-mapped f (x ∷ xs) = ap suc (length-mapped f xs)
 
-pub values_apart : (payloads : List (Bor (List ℕ))) (values : List Value) → lent payloads ≡ map value_bytes values → AreDistinct (lent payloads)
+pub values_apart : (payloads : List (Bor (List ℕ))) (values : List Value) → lent payloads ≡ map value_bytes values
+    → AreDistinct (lent payloads)
     → AreDistinct values
 values_apart payloads values are apart i j d before inside same =
     subst AreDistinct are apart i j (value_bytes d) before (omega (arith, length-mapped value_bytes values))
@@ -247,7 +250,8 @@ len_step g ys i {y} start old new at was more =
     omega (arith, size, same)
 
 -- one more field of those that no feature uses
-pub unused_step : (number used : ℕ) (payloads : List (Bor (List ℕ))) (i at end size : ℕ) (rest : List (Bor (List ℕ))) (default : Bor (List ℕ))
+pub unused_step : (number used : ℕ) (payloads : List (Bor (List ℕ))) (i at end size : ℕ) (rest : List (Bor (List ℕ)))
+    (default : Bor (List ℕ))
     → rest ≡ drop used payloads → i < length rest
     → ((d : List ℕ) → length d ≡ length (get_or rest i default).now → size ≡ length (short_field number (bytes d)))
     → length (spelled (map (lent_field number) payloads)) ≤ end → at + length (spelled (map (lent_field number) (take i rest))) ≡ end
@@ -271,7 +275,8 @@ unused_step number used payloads i at end size rest default rest_is within field
         ∙ length-append (spelled (map (lent_field number) (take n bs))) (spelled (map (lent_field number) (drop n bs)))
 
 -- a front and a part of a body
-cut : (body n f k more_k v more_v : List ℕ) (features_at keys_at values_at extent_at keys_end values_end : ℕ) → body ≡ n ++ drop features_at body
+cut : (body n f k more_k v more_v : List ℕ) (features_at keys_at values_at extent_at keys_end values_end : ℕ)
+    → body ≡ n ++ drop features_at body
     → drop features_at body ≡ f ++ drop keys_at body → drop keys_at body ≡ (k ++ more_k) ++ drop values_at body
     → drop values_at body ≡ (v ++ more_v) ++ drop extent_at body → values_at ≤ length body → extent_at ≤ length body
     → keys_end + length more_k ≡ values_at → values_end + length more_v ≡ extent_at
@@ -320,7 +325,8 @@ values_past values_at extent_at values_end n payloads all unused =
     omega (arith, all, unused, parts)
 
 -- the keys, the values and the features of a body
-pub record IsRead (WereTold : List Feature → Type 0) (body : List ℕ) (features_at keys_at values_at extent_at : ℕ) (keys : List (List ℕ)) (payloads : List (Bor (List ℕ)))
+pub record IsRead (WereTold : List Feature → Type 0) (body : List ℕ) (features_at keys_at values_at extent_at : ℕ) (keys : List (List ℕ))
+    (payloads : List (Bor (List ℕ)))
     (used : ℕ × ℕ) : Type 0 where
   pub values : List Value
   pub fields : drop values_at body ≡ spelled (map value_field values) ++ drop extent_at body
@@ -328,12 +334,15 @@ pub record IsRead (WereTold : List Feature → Type 0) (body : List ℕ) (featur
   pub count : length values ≡ length payloads
   pub from : AreFeaturesFrom WereTold body features_at keys values keys_at used
 
-pub is_read : (WereTold : List Feature → Type 0) (body : List ℕ) (features_at keys_at values_at extent_at count : ℕ) (keys : List (List ℕ)) (payloads : List (Bor (List ℕ)))
+pub is_read : (WereTold : List Feature → Type 0) (body : List ℕ) (features_at keys_at values_at extent_at count : ℕ)
+    (keys : List (List ℕ)) (payloads : List (Bor (List ℕ)))
     (used : ℕ × ℕ) → AreKeysFrom body keys_at keys values_at → AreValuesFrom body values_at payloads extent_at → AreDistinct keys
     → AreDistinct (lent payloads) → count ≡ length payloads
-    → ((held : List Value) → length held ≡ count → AreReady keys held (0, 0) → AreFeaturesFrom WereTold body features_at keys held keys_at used)
+    → ((held : List Value) → length held ≡ count → AreReady keys held (0, 0)
+    → AreFeaturesFrom WereTold body features_at keys held keys_at used)
     → IsRead WereTold body features_at keys_at values_at extent_at keys payloads used
-is_read WereTold body features_at keys_at values_at extent_at count keys payloads used (_, _, texts) (_, (values, is, valid, are)) keys_apart payloads_apart
+is_read WereTold body features_at keys_at values_at extent_at count keys payloads used (_, _, texts) (_, (values, is, valid, are))
+    keys_apart payloads_apart
     counted from =
     let ready = ready_values keys payloads values are keys_apart payloads_apart texts valid in
     record { values = values; fields = is; are = are; count = ready.0; from = from values (ready.0 ∙ sym counted) ready.1 }
@@ -347,7 +356,8 @@ field_stays keys more_keys values more_values f keys_apart values_apart held =
     (sym (tags_stay keys more_keys values more_values (tags_in keys values f.attributes) f.attributes keys_apart values_apart
     (places_name_names keys values f.attributes held)))
 
-fields_stay : (keys more_keys : List (List ℕ)) (values more_values : List Value) (features : List Feature) → AreDistinct keys → AreDistinct values
+fields_stay : (keys more_keys : List (List ℕ)) (values more_values : List Value) (features : List Feature) → AreDistinct keys
+    → AreDistinct values
     → AllByRecursion (λ (f : Feature). AllByRecursion (IsIn keys values) f.attributes) features
     → map (feature_field (keys ++ more_keys) (values ++ more_values)) features ≡ map (feature_field keys values) features
 fields_stay keys more_keys values more_values [] keys_apart values_apart held = refl
@@ -379,7 +389,8 @@ parts_spelled name features keys values extent =
 pub all_dropped : {Y : Type 0} → (P : Y → Type 0) (n : ℕ) (ys : List Y) → AllByRecursion P ys → AllByRecursion P (drop n ys)
 all_dropped P n ys all = all_right P (take n ys) (drop n ys) (subst (AllByRecursion P) (sym (take-append-drop n ys)) all)
 
-body_is : (WereTold : List Feature → Type 0) (body name : List ℕ) (features_at keys_at values_at extent_at keys_end values_end extent : ℕ) (keys : List (List ℕ))
+body_is : (WereTold : List Feature → Type 0) (body name : List ℕ) (features_at keys_at values_at extent_at keys_end values_end extent : ℕ)
+    (keys : List (List ℕ))
     (values : List Value) (used : ℕ × ℕ)
     → body ≡ short_field NAME (bytes name) ++ drop features_at body → IsUtf8 name
     → AreFeaturesFrom WereTold body features_at keys values keys_at used
@@ -390,7 +401,8 @@ body_is : (WereTold : List Feature → Type 0) (body name : List ℕ) (features_
     → values_end + length (spelled (map value_field (drop used.1 values))) ≡ extent_at
     → IsBodyOf WereTold body name (take keys_end body ++ (take (values_end - values_at) (drop values_at body) ++ drop extent_at body))
 unfolding ValidLayer
-body_is WereTold body name features_at keys_at values_at extent_at keys_end values_end extent keys values used named text from keys_are keys_within values_are
+body_is WereTold body name features_at keys_at values_at extent_at keys_end values_end extent keys values used named text from keys_are
+    keys_within values_are
     within ends small keys_end_is values_end_is =
     let features = from.features in
     let layer : ALayer = record { name = name; extent = extent; features = features } in
@@ -399,7 +411,8 @@ body_is WereTold body name features_at keys_at values_at extent_at keys_end valu
     let own_values = take used.1 values in
     let more_values = drop used.1 values in
     let all_keys : keys_of features ++ more_keys ≡ keys = ap (λ ks. ks ++ more_keys) from.keys_are ∙ take-append-drop used.0 keys in
-    let all_values : values_of features ++ more_values ≡ values = ap (λ vs. vs ++ more_values) from.values_are ∙ take-append-drop used.1 values in
+    let all_values : values_of features ++ more_values ≡ values = ap (λ vs. vs ++ more_values) from.values_are
+    ∙ take-append-drop used.1 values in
     let own = spelled (map (feature_field keys values) features) in
     let last : drop extent_at body ≡ spelled (extent_fields extent) = ends ∙ sym (append-nil (short_field EXTENT (varint extent))) in
     let head = short_field NAME (bytes name) in
@@ -407,7 +420,8 @@ body_is WereTold body name features_at keys_at values_at extent_at keys_end valu
     cut body head own (spelled (map key_field own_keys)) (spelled (map key_field more_keys)) (spelled (map value_field own_values))
     (spelled (map value_field more_values)) features_at keys_at values_at extent_at keys_end values_end named from.fields
     (keys_are ∙ ap (λ k. k ++ drop values_at body) (split_spelled key_field used.0 keys))
-    (values_are ∙ ap (λ v. v ++ drop extent_at body) (split_spelled value_field used.1 values)) keys_within within keys_end_is values_end_is in
+    (values_are ∙ ap (λ v. v ++ drop extent_at body) (split_spelled value_field used.1 values)) keys_within within keys_end_is
+    values_end_is in
     let stays : map (feature_field keys values) features ≡ map (feature_field (keys_of features) (values_of features)) features =
     ap₂ (λ ks vs. map (feature_field ks vs) features) (sym all_keys) (sym all_values) ∙ features_stay features more_keys more_values in
     let whole : body ≡ spelled (body_with keys values layer) =
@@ -430,7 +444,8 @@ body_is WereTold body name features_at keys_at values_at extent_at keys_end valu
           (sym from.keys_are) (sym from.values_are)
           ∙ ap (λ fs. head ++ (spelled fs ++ (spelled (map key_field (keys_of features))
           ++ (spelled (map value_field (values_of features)) ++ spelled (extent_fields extent))))) stays
-          ∙ sym (parts_spelled name (map (feature_field (keys_of features) (values_of features)) features) (map key_field (keys_of features))
+          ∙ sym (parts_spelled name (map (feature_field (keys_of features) (values_of features)) features)
+          (map key_field (keys_of features))
           (map value_field (values_of features)) extent);
       told = from.told;
     }
@@ -438,9 +453,11 @@ body_is WereTold body name features_at keys_at values_at extent_at keys_end valu
     regroup : (n f k r : List ℕ) → (n ++ (f ++ k)) ++ r ≡ n ++ (f ++ (k ++ r))
     regroup n f k r = simp append_assoc
 
-pub read_is : (WereTold : List Feature → Type 0) (body name : List ℕ) (features_at keys_at values_at extent_at keys_end values_end extent : ℕ) (keys : List (List ℕ))
+pub read_is : (WereTold : List Feature → Type 0) (body name : List ℕ)
+    (features_at keys_at values_at extent_at keys_end values_end extent : ℕ) (keys : List (List ℕ))
     (texts payloads : List (Bor (List ℕ))) (used : ℕ × ℕ) → IsRead WereTold body features_at keys_at values_at extent_at keys payloads used
-    → body ≡ short_field NAME (bytes name) ++ drop features_at body → IsUtf8 name → AreKeysFrom body keys_at keys values_at → lent texts ≡ keys
+    → body ≡ short_field NAME (bytes name) ++ drop features_at body → IsUtf8 name → AreKeysFrom body keys_at keys values_at
+    → lent texts ≡ keys
     → extent_at ≤ length body → drop extent_at body ≡ short_field EXTENT (varint extent) → extent < 2 ^ 32
     → keys_end + length (spelled (map (lent_field KEYS) (drop used.0 texts))) ≡ values_at
     → values_end + length (spelled (map (lent_field VALUES) (drop used.1 payloads))) ≡ extent_at
@@ -448,11 +465,13 @@ pub read_is : (WereTold : List Feature → Type 0) (body name : List ℕ) (featu
 read_is WereTold body name features_at keys_at values_at extent_at keys_end values_end extent keys texts payloads used read named text
     (keys_within, keys_are, _) texts_are within ends small keys_end_is values_end_is =
     let unused_keys : map (lent_field KEYS) (drop used.0 texts) ≡ map key_field (drop used.0 keys) =
-    keys_as_lent (drop used.0 texts) (drop used.0 keys) (sym (drop-map (λ (b : Bor (List ℕ)). b.now) used.0 texts) ∙ ap (drop used.0) texts_are) in
+    keys_as_lent (drop used.0 texts) (drop used.0 keys) (sym (drop-map (λ (b : Bor (List ℕ)). b.now) used.0 texts)
+    ∙ ap (drop used.0) texts_are) in
     let unused_values : map (lent_field VALUES) (drop used.1 payloads) ≡ map value_field (drop used.1 read.values) =
     values_as_lent (drop used.1 payloads) (drop used.1 read.values)
     (sym (drop-map (λ (b : Bor (List ℕ)). b.now) used.1 payloads) ∙ ap (drop used.1) read.are ∙ drop-map value_bytes used.1 read.values) in
-    body_is WereTold body name features_at keys_at values_at extent_at keys_end values_end extent keys read.values used named text read.from keys_are
+    body_is WereTold body name features_at keys_at values_at extent_at keys_end values_end extent keys read.values used named text
+    read.from keys_are
     keys_within read.fields within ends small
     (ap (λ fs. keys_end + length (spelled fs)) (sym unused_keys) ∙ keys_end_is)
     (ap (λ fs. values_end + length (spelled fs)) (sym unused_values) ∙ values_end_is)
@@ -497,14 +516,17 @@ whole_body WereTold body name canonical is same =
     ∙ spelled_parts (map value_field (values_of layer.features)) (map value_field is.more_values) in
     let whole : body ≡ head ++ (own ++ ((k ++ more_k) ++ ((v ++ more_v) ++ e))) =
     is.body_is
-    ∙ parts_spelled layer.name (map (feature_field (keys_of layer.features ++ is.more_keys) (values_of layer.features ++ is.more_values)) layer.features)
+    ∙ parts_spelled layer.name (map (feature_field (keys_of layer.features ++ is.more_keys) (values_of layer.features ++ is.more_values))
+    layer.features)
     (map key_field (keys_of layer.features ++ is.more_keys)) (map value_field (values_of layer.features ++ is.more_values)) layer.extent
     ∙ ap (λ fs. head ++ (spelled fs ++ (spelled (map key_field (keys_of layer.features ++ is.more_keys))
-    ++ (spelled (map value_field (values_of layer.features ++ is.more_values)) ++ e)))) (features_stay layer.features is.more_keys is.more_values)
+    ++ (spelled (map value_field (values_of layer.features ++ is.more_values)) ++ e))))
+    (features_stay layer.features is.more_keys is.more_values)
     ∙ ap₂ (λ ks vs. head ++ (own ++ (ks ++ (vs ++ e)))) keys_are values_are in
     let front : canonical ≡ head ++ (own ++ (k ++ (v ++ e))) =
     is.canonical_is
-    ∙ parts_spelled layer.name (own_fields layer) (map key_field (keys_of layer.features)) (map value_field (values_of layer.features)) layer.extent in
+    ∙ parts_spelled layer.name (own_fields layer) (map key_field (keys_of layer.features)) (map value_field (values_of layer.features))
+    layer.extent in
     let sizes = lengths head own k more_k v more_v e in
     let none_k : more_k ≡ [] = nothing more_k (omega (arith, same, ap length whole, ap length front, sizes.0, sizes.1)) in
     let none_v : more_v ≡ [] = nothing more_v (omega (arith, same, ap length whole, ap length front, sizes.0, sizes.1)) in

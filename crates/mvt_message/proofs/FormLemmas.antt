@@ -47,7 +47,8 @@ none_each_reported report rules front [] h = tt
 none_each_reported report rules front (x ∷ xs) h =
     let parts = option_or-nones _ _ (sym (first-append _ (each (λ f y. map_faults (report f) (rules y)) (front ++ x ∷ []) xs)) ∙ h) in (
       none_mapped (report front) (first (rules x))
-          (sym (first-map_faults (report front) (rules x)) ∙ sym (first-under (length front) (map_faults (report front) (rules x))) ∙ parts.0),
+          (sym (first-map_faults (report front) (rules x)) ∙ sym (first-under (length front) (map_faults (report front) (rules x)))
+          ∙ parts.0),
       none_each_reported report rules (front ++ x ∷ []) xs parts.1,
     )
 

@@ -108,8 +108,10 @@ module _ {Has : List Feature → Type 0} {payload_at : ℕ} {keys : List (List �
       }
 
 -- when all are counted, the fields to come hold none
-pub features_end : {Has : List Feature → Type 0} {payload_at : ℕ} {keys : List (List ℕ)} {values : List Value} {payload : List ℕ} {to_come : Parts}
-    {done : List Entry} {count features : ℕ} → Walk payload to_come done → AreFeaturesHeld Has payload_at keys values done count → count ≡ features
+pub features_end : {Has : List Feature → Type 0} {payload_at : ℕ} {keys : List (List ℕ)} {values : List Value} {payload : List ℕ}
+    {to_come : Parts}
+    {done : List Entry} {count features : ℕ} → Walk payload to_come done → AreFeaturesHeld Has payload_at keys values done count
+    → count ≡ features
     → features ≡ length (only FEATURES (split payload).fields) → AreFeaturesHeld Has payload_at keys values (split payload).fields count
 features_end {Has} {payload_at} {keys} {values} {payload} {to_come} {done} walk so_far all counted =
     let related = length-related (HoldsFeature keys values) (only FEATURES done) so_far.features so_far.so_far.1 in
@@ -120,7 +122,8 @@ features_end {Has} {payload_at} {keys} {values} {payload} {to_come} {done} walk 
     record {
       features = so_far.features;
       so_far =
-          subst (λ xs. (first (each (feature_rules_of payload_at keys values) [] xs) ≡ None) × AreRelated (HoldsFeature keys values) xs so_far.features)
+          subst (λ xs. (first (each (feature_rules_of payload_at keys values) [] xs) ≡ None)
+          × AreRelated (HoldsFeature keys values) xs so_far.features)
           (sym same) so_far.so_far;
       counted = so_far.counted;
       has = so_far.has;

@@ -25,7 +25,8 @@ name_from before (x ∷ xs) = name_from (if x.number == NAME then Some (bytes_of
 abbrev name_of : Option Entry → Option (List ℕ)
 name_of o = option_map (λ (x : Entry). bytes_of x.content) o
 
-version_last : (o : Option Entry) (xs : List Entry) → version_from (is_two (number_in o)) xs ≡ is_two (number_in (last_or o (only VERSION xs)))
+version_last : (o : Option Entry) (xs : List Entry)
+    → version_from (is_two (number_in o)) xs ≡ is_two (number_in (last_or o (only VERSION xs)))
 version_last o [] = refl
 version_last o (x ∷ xs) = by_test (x.number == VERSION) (version_last (Some x) xs) (version_last o xs)
   where

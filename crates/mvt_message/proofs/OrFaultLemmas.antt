@@ -117,7 +117,8 @@ features_there payload_at keys values xs clean =
 pub features_clean : (payload_at : ℕ) (keys : List (List ℕ)) (values : List Value) (xs : List Entry) (features : List Feature)
     → AreRelated (HoldsFeature keys values) (only FEATURES xs) features → features_fault payload_at keys values xs ≡ None
 features_clean payload_at keys values xs features are =
-    each_reported_none (λ (earlier : List Entry). in_feature (length earlier)) (feature_rules_at payload_at keys values) [] (only FEATURES xs)
+    each_reported_none (λ (earlier : List Entry). in_feature (length earlier)) (feature_rules_at payload_at keys values) []
+    (only FEATURES xs)
     (related_left (HoldsFeature keys values) (λ (x : Entry). first (feature_rules_at payload_at keys values x) ≡ None)
     (λ x f is. sym (feature_first _ _ _ _) ∙ feature_or_fault_clean (bytes_of x.content) (payload_at + x.body) keys values f is)
     (only FEATURES xs) features are)

@@ -24,7 +24,7 @@ use Rattle.mvt_feature.specs.Valid.{ValidFeature}
 use Rattle.mvt_attrs.proofs.AttrsLaws.{tags_stay}
 use Rattle.mvt_wire.proofs.WireLaws.{spelled_parts}
 use Rattle.mvt_message.specs.declared.item.Layer.{Layer as ALayer}
-use Rattle.mvt_message.specs.declared.writing.PutError.TheVariants.{TooLarge}
+use Rattle.mvt_message.specs.declared.item_writing.PutError.TheVariants.{TooLarge}
 use Rattle.mvt_message.specs.CanonicalItems.{keys_of, values_of, head_fields, feature_field, key_field, value_field, extent_fields, layer_fields}
 use Rattle.mvt_message.specs.PutErrors.{of_pool}
 use Rattle.mvt_message.specs.ValidItems.{ValidLayer}
@@ -140,7 +140,8 @@ layer_parts layer =
 
 -- pools that a feature takes past a bound are fronts of the pools of all features
 pub features_full : (features : List Feature) (i : ℕ) (f : Feature) (bound : ℕ) → i < length features → f ≡ get_or features i f
-    → (bound < length (key_pool (keys_of (take i features)) f.attributes)) ⊎ (bound < length (value_pool (values_of (take i features)) f.attributes))
+    → (bound < length (key_pool (keys_of (take i features)) f.attributes)) ⊎ (bound < length
+    (value_pool (values_of (take i features)) f.attributes))
     → (bound ≤ length (keys_of features)) ⊎ (bound ≤ length (values_of features))
 features_full features i f bound within here (inl more) = inl (let all = keys_past features i bound f within here more in omega arith)
 features_full features i f bound within here (inr more) = inr (let all = values_past features i bound f within here more in omega arith)

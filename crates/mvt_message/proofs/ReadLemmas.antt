@@ -67,7 +67,8 @@ each_reported : (rules : Entry → Rules MessageFault) (e : MessageError) (done 
     → first (each (λ _. rules) [] done) ≡ None → Reports (fault_of e) (first (rules x))
     → Reports (fault_of e) (first (each (λ _. rules) [] ((done ++ x ∷ []) ++ more)))
 each_reported rules e done x more clean reported_here =
-    reports_as (fault_of e) (first (rules x)) _ (λ f broken. rw append_assoc (each_stops (λ _. rules) done x more f clean broken)) reported_here
+    reports_as (fault_of e) (first (rules x)) _ (λ f broken. rw append_assoc (each_stops (λ _. rules) done x more f clean broken))
+    reported_here
 
 -- the elements of a number so far break no rule, and are these
 abbrev pub AreSoFar : {Y : Type 0} → ℕ → (List Entry → Entry → Rules MessageFault) → (Entry → Y → Type 0) → List Entry → List Y → Type 0
@@ -194,11 +195,14 @@ head_stops : (payload_at : ℕ) (done : List Entry) (x : Entry) (e : MessageErro
     → Reports (fault_of e) (option_map (fault_at (payload_at + x.at)) (first (number_rules layer_forms x.number x.content)))
     → (more : List Entry) → Reports (fault_of e) (forms_fault payload_at ((done ++ x ∷ []) ++ more))
 head_stops payload_at done x e clean reported_here more =
-    each_reported (layer_field_rules payload_at) e done x more clean (subst (Reports (fault_of e)) (sym (form_first payload_at x)) reported_here)
+    each_reported (layer_field_rules payload_at) e done x more clean
+    (subst (Reports (fault_of e)) (sym (form_first payload_at x)) reported_here)
 
-features_more : (done : List Entry) (x : Entry) → length (only FEATURES (done ++ x ∷ [])) ≡ features_after (length (only FEATURES done)) x.number
+features_more : (done : List Entry) (x : Entry)
+    → length (only FEATURES (done ++ x ∷ [])) ≡ features_after (length (only FEATURES done)) x.number
 features_more done x =
-    ap length (filter-append (λ (y : Entry). y.number == FEATURES) done (x ∷ [])) ∙ length-append (only FEATURES done) (only FEATURES (x ∷ []))
+    ap length (filter-append (λ (y : Entry). y.number == FEATURES) done (x ∷ []))
+    ∙ length-append (only FEATURES done) (only FEATURES (x ∷ []))
     ∙ by_test (x.number == FEATURES)
   where
     by_test : (b : Bool) → length (only FEATURES done) + length (if b then x ∷ [] else [])
@@ -212,7 +216,8 @@ header_forms_clean : (x : Entry) (b : Bool) → (x.number == VERSION) ≡ b → 
 header_forms_clean x true test clean =
     let is = eqb-true x.number VERSION test in (
       ap (λ (t : Bool). first (if t then form_rules uint32 x.content else [])) test
-          ∙ sym (ap (λ (t : Bool). first (if t then form_rules uint32 x.content else number_rules layer_forms x.number x.content)) test) ∙ clean,
+          ∙ sym (ap (λ (t : Bool). first (if t then form_rules uint32 x.content else number_rules layer_forms x.number x.content)) test)
+          ∙ clean,
       ap (λ n. first (number_rules layer_forms n x.content)) is,
     )
 header_forms_clean x false test clean = (
@@ -257,7 +262,8 @@ told_of_none : (reported fault there : Option MessageFault) → fault ≡ None �
 told_of_none reported fault there none h =
     reports_as reported fault there (λ f is. let clash : None ≡ Some f = sym none ∙ is in absurd (cc)) h
 
-pub header_stops : {payload_at : ℕ} {done : List Entry} {old : LayerHeader} (x : Entry) (e : MessageError) → IsLayerHeader payload_at done old
+pub header_stops : {payload_at : ℕ} {done : List Entry} {old : LayerHeader} (x : Entry) (e : MessageError)
+    → IsLayerHeader payload_at done old
     → Reports (fault_of e) (option_map (fault_at (payload_at + x.at)) (first (number_rules header_forms x.number x.content)))
     → (more : List Entry) → versions_fault payload_at ((done ++ x ∷ []) ++ more) ≡ None
     → Reports (fault_of e) (forms_fault payload_at ((done ++ x ∷ []) ++ more))
@@ -276,7 +282,8 @@ header_stops {payload_at} {done} {old} x e so_far reported_here more none = by_t
     by_test false test = head_stops payload_at done x e so_far.clean (told false test) more
 
 -- where all that are selected are done, the rest has none
-pub none_left : (k : ℕ) (done more : List Entry) → length (only k done) ≡ length (only k (done ++ more)) → only k (done ++ more) ≡ only k done
+pub none_left : (k : ℕ) (done more : List Entry) → length (only k done) ≡ length (only k (done ++ more))
+    → only k (done ++ more) ≡ only k done
 none_left k done more all =
     let parts = filter-append (λ (y : Entry). y.number == k) done more in
     let count = all ∙ ap length parts ∙ length-append (only k done) (only k more) in
@@ -325,7 +332,8 @@ pub version_ends : {payload : List ℕ} {old new : Parts} {done : List Entry} (p
 version_ends {payload} {old} {new} {done} payload_at v walk step so_far =
     subst (λ xs. IsVersionSoFar payload_at xs v) (sym (walks_end payload old new done walk step).0) so_far
 
-pub header_few : {payload : List ℕ} {to_come : Parts} {done : List Entry} {payload_at : ℕ} {header : LayerHeader} → Walk payload to_come done
+pub header_few : {payload : List ℕ} {to_come : Parts} {done : List Entry} {payload_at : ℕ} {header : LayerHeader}
+    → Walk payload to_come done
     → IsLayerHeader payload_at done header → length payload < 2 ^ 32 → header.features < 2 ^ 32
 header_few {payload} {to_come} {done} walk so_far small =
     let few = selected_few payload to_come done FEATURES walk small in
@@ -403,7 +411,8 @@ pub values_reported : (payload_at tag_at : ℕ) (xs : List Entry) {name : List �
 values_reported payload_at tag_at xs {name} e forms is h =
     let values = or_reports (fault_of e) (no_name_fault tag_at xs) _ (name_some tag_at xs name is)
     (reports_or (fault_of e) (values_fault payload_at xs) _ h) in
-    subst (Reports (fault_of e)) (sym (layer_chain payload_at tag_at xs)) (or_reports (fault_of e) (forms_fault payload_at xs) _ forms values)
+    subst (Reports (fault_of e)) (sym (layer_chain payload_at tag_at xs))
+    (or_reports (fault_of e) (forms_fault payload_at xs) _ forms values)
 
 -- fields that break no rule before those of the features: the name, the keys and the values
 pub record IsClean (payload_at : ℕ) (xs : List Entry) (name : List ℕ) (keys : List (List ℕ)) (values : List Value) : Type 0 where
@@ -459,7 +468,8 @@ layer_read {payload_at} {xs} {values} layer front extent features =
 pub as_two : (xs : List Entry) {n : ℕ} → version_in xs ≡ Some n → n ≡ 2 → version_in xs ≡ Some 2
 as_two xs is two = is ∙ ap Some two
 
-pub head_reported : (payload : List ℕ) (payload_at tag_at : ℕ) (e : MessageError) → Reports (fault_of e) (header_fault payload payload_at tag_at)
+pub head_reported : (payload : List ℕ) (payload_at tag_at : ℕ) (e : MessageError)
+    → Reports (fault_of e) (header_fault payload payload_at tag_at)
     → Reports (fault_of e) (item_fault payload payload_at tag_at)
 head_reported payload payload_at tag_at e h =
     subst (Reports (fault_of e)) (sym (item_chain payload payload_at tag_at))

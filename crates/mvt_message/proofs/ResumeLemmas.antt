@@ -23,8 +23,8 @@ use Rattle.mvt_feature.specs.Valid.{ValidFeature, ValidValue}
 use Rattle.mvt_feature.specs.Values.{IsValueOf}
 use Rattle.mvt_wire.proofs.WireLaws.{short_lengths_bytes}
 use Rattle.mvt_feature.proofs.FeatureLaws.{canonical_reads_value, value_or_fault_once}
-use Rattle.mvt_message.specs.declared.copying.Front.{Front}
-use Rattle.mvt_message.specs.declared.copying.Part.{Part}
+use Rattle.mvt_message.specs.declared.layer_copying.Front.{Front}
+use Rattle.mvt_message.specs.declared.layer_copying.Part.{Part}
 use Rattle.mvt_message.specs.declared.item.Layer.{Layer as ALayer}
 use Rattle.mvt_message.specs.declared.item.Item.TheVariants.{Layer}
 use Rattle.mvt_message.specs.declared.layer_writer.LayerWriter.{LayerWriter}
@@ -97,7 +97,8 @@ few_keys body front keys small is are texts =
     omega (arith, within, small, count)
 
 -- related payloads and features
-related_mapped : {X Y : Type 0} → (g : Y → X) (R : X → Y → Type 0) (ys : List Y) → AllByRecursion (λ y. R (g y) y) ys → AreRelated R (map g ys) ys
+related_mapped : {X Y : Type 0} → (g : Y → X) (R : X → Y → Type 0) (ys : List Y) → AllByRecursion (λ y. R (g y) y) ys
+    → AreRelated R (map g ys) ys
 related_mapped g R [] all = tt
 related_mapped g R (y ∷ ys) all = (all.0, related_mapped g R ys all.1)
 
@@ -120,7 +121,8 @@ held_features R (z ∷ zs) (p ∷ ps) (f ∷ fs) is are =
     (subst (λ c. R (bytes_of c) f) (sym here) are.0, held_features R zs ps fs later are.1)
 
 -- canonical features have the fields that they have whatever features follow
-module _ (keys : List (List ℕ)) (values : List Value) (features : List Feature) (used : ℕ × ℕ) (keys_are : keys_of features ≡ take used.0 keys)
+module _ (keys : List (List ℕ)) (values : List Value) (features : List Feature) (used : ℕ × ℕ)
+    (keys_are : keys_of features ≡ take used.0 keys)
     (values_are : values_of features ≡ take used.1 values) where
   all_keys : keys_of features ++ drop used.0 keys ≡ keys
   all_keys = ap (λ ks. ks ++ drop used.0 keys) keys_are ∙ take-append-drop used.0 keys
@@ -144,12 +146,14 @@ module _ (keys : List (List ℕ)) (values : List Value) (features : List Feature
       → AllByRecursion (λ (f : Feature). AllByRecursion (IsIn keys values) f.attributes) features
   stay_in valid texts valid_values =
       subst (λ ks. AllByRecursion (λ (f : Feature). AllByRecursion (IsIn ks values) f.attributes) features) all_keys
-      (subst (λ vs. AllByRecursion (λ (f : Feature). AllByRecursion (IsIn (keys_of features ++ drop used.0 keys) vs) f.attributes) features) all_values
+      (subst (λ vs. AllByRecursion (λ (f : Feature). AllByRecursion (IsIn (keys_of features ++ drop used.0 keys) vs) f.attributes)
+      features) all_values
       (more_enough features (drop used.0 keys) (drop used.1 values) valid (all_dropped IsUtf8 used.0 keys texts)
       (all_dropped ValidValue used.1 values valid_values)).held)
 
 -- the canonical features are written as they stand
-pub written_start : (body : List ℕ) (part : Part) (w : LayerWriter) → length body ≤ LIMIT → (is : IsPartOf body part) → IsTrue part.front.is_apart
+pub written_start : (body : List ℕ) (part : Part) (w : LayerWriter) → length body ≤ LIMIT → (is : IsPartOf body part)
+    → IsTrue part.front.is_apart
     → HasUses w.uses part.keys.items is.held → used_of w.uses.keys ≡ take part.reached.used.0 part.keys.items
     → used_of w.uses.values ≡ take part.reached.used.1 is.held
     → w.features.items ≡ take (part.reached.at - part.features_at) (drop part.features_at body)
@@ -185,7 +189,8 @@ written_start body part w small is apart uses used_keys used_values copied =
           uses = uses;
           keys_are = used_keys ∙ sym from.keys_are;
           values_are = used_values ∙ sym from.values_are;
-          written = subst (AreWritten features) (sym whole) (stay_written keys held features part.reached.used from.keys_are from.values_are);
+          written = subst (AreWritten features) (sym whole)
+              (stay_written keys held features part.reached.used from.keys_are from.values_are);
         };
       };
     }
@@ -235,7 +240,8 @@ module _ (payload body : List ℕ) (part : Part) (w : LayerWriter) (few : length
       let key_fields = keys_are_from body front.keys_at front.values_at front.keys.items keys is.is_front.keys is.keys_are is.texts in
       let last : drop front.extent_at body ≡ spelled (extent_fields front.extent) =
       is.is_front.ends ∙ sym (append-nil (short_field EXTENT (varint front.extent))) in
-      is.named ∙ ap (λ r. short_field NAME (bytes name) ++ r) (written.read.fields ∙ ap (λ r. spelled (map payload_field written.read.payloads) ++ r)
+      is.named ∙ ap (λ r. short_field NAME (bytes name) ++ r)
+      (written.read.fields ∙ ap (λ r. spelled (map payload_field written.read.payloads) ++ r)
       (key_fields.1 ∙ ap (λ r. spelled (map key_field keys) ++ r)
       (written.held_are.fields ∙ ap (λ r. spelled (map value_field written.held) ++ r) last)))
       ∙ sym (parts_spelled name (map payload_field written.read.payloads) (map key_field keys) (map value_field written.held) front.extent)
@@ -243,14 +249,16 @@ module _ (payload body : List ℕ) (part : Part) (w : LayerWriter) (few : length
   features_held : (zs : List Entry) → map (λ (z : Entry). z.content) zs ≡ map (λ p. bytes p) written.read.payloads
       → AreRelated (λ (z : Entry) f. IsFeatureOf (bytes_of z.content) part.keys.items written.held f) zs written.read.features
   features_held zs same =
-      held_features (λ p f. IsFeatureOf p part.keys.items written.held f) zs written.read.payloads written.read.features same written.read.are
+      held_features (λ p f. IsFeatureOf p part.keys.items written.held f) zs written.read.payloads written.read.features same
+      written.read.are
 
   item : HasBody payload body → IsItem payload (Layer made)
   item (inl front) =
       let same : payload ≡ spelled (fields_by (λ p. p) written.read.payloads part.keys.items written.held part.name.now part.front.extent) =
       front ∙ ap₂ (λ v b. v ++ b) (sym version_field) whole in
       subst (λ b. IsItem b (Layer made)) (sym same)
-      (item_in_place (λ p. p) written.read.payloads part.keys.items written.held made is.text is.is_front.small is.texts written.held_are.valid
+      (item_in_place (λ p. p) written.read.payloads part.keys.items written.held made is.text is.is_front.small is.texts
+      written.held_are.valid
       features_held (omega (arith, ap length same)))
   item (inr behind) =
       let same : payload ≡ spelled rest ++ short_field VERSION (varint 2) = behind ∙ ap₂ (λ b v. b ++ v) whole (sym version_field) in
@@ -274,7 +282,8 @@ module _ (payload body : List ℕ) (part : Part) (w : LayerWriter) (few : length
   )
 
 -- a layer of which features were reached
-pub part_is : (WereTold : List Feature → Type 0) (body : List ℕ) (part : Part) → body ≡ short_field NAME (bytes part.name.now) ++ drop part.features_at body
+pub part_is : (WereTold : List Feature → Type 0) (body : List ℕ) (part : Part)
+    → body ≡ short_field NAME (bytes part.name.now) ++ drop part.features_at body
     → IsUtf8 part.name.now → IsFrontOf body part.front → part.features_at ≤ length body → part.reached.at ≤ length body
     → part.keys.items ≡ lent part.front.keys.items → AllByRecursion IsUtf8 part.keys.items
     → ((held : List Value) → length held ≡ length part.front.values.items → AreReady part.keys.items held (0, 0)
@@ -284,7 +293,8 @@ pub part_is : (WereTold : List Feature → Type 0) (body : List ℕ) (part : Par
 part_is WereTold body part named text is_front start_within at_within keys_are texts from none =
     let (within, (held, fields, valid, are)) = is_front.values in
     let ready = λ (apart : IsTrue part.front.is_apart).
-    ready_values part.keys.items part.front.values.items held are (subst AreDistinct (sym keys_are) (is_front.keys_apart apart)) (is_front.values_apart apart) texts valid in
+    ready_values part.keys.items part.front.values.items held are (subst AreDistinct (sym keys_are) (is_front.keys_apart apart))
+    (is_front.values_apart apart) texts valid in
     record {
       named = named;
       text = text;
@@ -301,7 +311,8 @@ part_is WereTold body part named text is_front start_within at_within keys_are t
     }
 
 -- one value more that is read
-pub held_more : (payloads : List (Bor (List ℕ))) (n : ℕ) (read longer : List Value) (value : Value) (default : Bor (List ℕ)) → n < length payloads
+pub held_more : (payloads : List (Bor (List ℕ))) (n : ℕ) (read longer : List Value) (value : Value) (default : Bor (List ℕ))
+    → n < length payloads
     → AreRelated IsValueOf (lent (take n payloads)) read → IsValueOf (get_or payloads n default).now value → longer ≡ read ++ value ∷ []
     → AreRelated IsValueOf (lent (take (n + 1) payloads)) longer
 held_more payloads n read longer value default inside are is grown =

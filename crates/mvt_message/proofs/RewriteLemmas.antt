@@ -3,7 +3,7 @@ use Rattle.std.proofs.Common.{◌≡◌, ◌≢◌, ℕ, ◌<◌, ◌≤◌, ◌
 use Rattle.std.proofs.lemmas.List.{map-append}
 use Rattle.mvt_base.specs.declared.TheConstants.{LIMIT}
 use Rattle.mvt_attrs.specs.declared.value.Value.{Value}
-use Rattle.mvt_attrs.specs.declared.uses.LayerUses.{LayerUses}
+use Rattle.mvt_attrs.specs.declared.used_entries.LayerEntries.{LayerEntries}
 use Rattle.mvt_attrs.specs.Pools.{key_pool, value_pool}
 use Rattle.mvt_attrs.specs.TagPlaces.{tags_in}
 use Rattle.mvt_attrs.specs.Using.{used_of}
@@ -32,16 +32,16 @@ values_none = refl
 pub written_none : (out : List ℕ) → out ≡ [] → AreWritten [] out
 written_none out none more = none
 
-pub used_keys : (features : List Feature) (f : Feature) (old new : LayerUses) → (used_of old.keys) ≡ keys_of features
+pub used_keys : (features : List Feature) (f : Feature) (old new : LayerEntries) → (used_of old.keys) ≡ keys_of features
     → (used_of new.keys) ≡ key_pool (used_of old.keys) f.attributes → (used_of new.keys) ≡ keys_of (features ++ f ∷ [])
 used_keys features f old new was grown = grown ∙ ap (λ k. key_pool k f.attributes) was ∙ keys_more features f
 
-pub used_values : (features : List Feature) (f : Feature) (old new : LayerUses) → (used_of old.values) ≡ values_of features
+pub used_values : (features : List Feature) (f : Feature) (old new : LayerEntries) → (used_of old.values) ≡ values_of features
     → (used_of new.values) ≡ value_pool (used_of old.values) f.attributes → (used_of new.values) ≡ values_of (features ++ f ∷ [])
 used_values features f old new was grown = grown ∙ ap (λ v. value_pool v f.attributes) was ∙ values_more features f
 
 -- one feature more, with the tags that it has whatever features follow
-pub written_more : (features : List Feature) (f : Feature) (old new : LayerUses) (before after payload out longer : List ℕ)
+pub written_more : (features : List Feature) (f : Feature) (old new : LayerEntries) (before after payload out longer : List ℕ)
     → AreWritten features out → (used_of old.keys) ≡ keys_of features → (used_of old.values) ≡ values_of features
     → before ≡ [] → IsRewritten f old new before after → payload ≡ after
     → longer ≡ out ++ short_field 2 (bytes payload) → AreWritten (features ++ f ∷ []) longer
@@ -68,7 +68,7 @@ unfolding canonical_item
 canonical_foreign version content = refl
 
 -- the parts of a layer, after one another
-pub layer_rewritten : (layer : ALayer) (name : List ℕ) (extent : ℕ) (uses : LayerUses) (done : List ℕ) → name ≡ layer.name
+pub layer_rewritten : (layer : ALayer) (name : List ℕ) (extent : ℕ) (uses : LayerEntries) (done : List ℕ) → name ≡ layer.name
     → extent ≡ layer.extent → (used_of uses.keys) ≡ keys_of layer.features → (used_of uses.values) ≡ values_of layer.features
     → AreWritten layer.features done
     → canonical_item (Layer layer) ≡ spelled (head_fields name) ++ (done ++ tail_of uses extent)
@@ -93,7 +93,8 @@ appended start head done tail whole a b c ha hb hc is =
 -- features that follow too many bytes are left out
 
 pub left_out_more : (keys : List (List ℕ)) (values : List Value) (w : LayerWriter) (features : List Feature) (f : Feature)
-    → HasWrittenUpTo LIMIT keys values w features → LIMIT < length w.features.items → HasWrittenUpTo LIMIT keys values w (features ++ f ∷ [])
+    → HasWrittenUpTo LIMIT keys values w features → LIMIT < length w.features.items
+    → HasWrittenUpTo LIMIT keys values w (features ++ f ∷ [])
 left_out_more keys values w features f has past = record {
   kept = has.kept;
   left_out = has.left_out ++ f ∷ [];
@@ -137,7 +138,7 @@ nothing_written w has = record {
 }
 
 -- a feature that has too many keys or values for the pools so far
-pub too_many_more : (features : List Feature) (f : Feature) (old : LayerUses) → used_of old.keys ≡ keys_of features
+pub too_many_more : (features : List Feature) (f : Feature) (old : LayerEntries) → used_of old.keys ≡ keys_of features
     → used_of old.values ≡ values_of features
     → (LIMIT < length (key_pool (used_of old.keys) f.attributes)) ⊎ (LIMIT < length (value_pool (used_of old.values) f.attributes))
     → (LIMIT < length (key_pool (keys_of features) f.attributes)) ⊎ (LIMIT < length (value_pool (values_of features) f.attributes))

@@ -40,4 +40,5 @@ foreign_bytes payload number content (fields, whole, forms, are) = are.2
 
 pub foreign_made : (P : AnItem → Type 0) {number : ℕ} {content payload : List ℕ} (bytes : List ℕ) (reported : ℕ) → content ≡ payload
     → reported ≡ number → bytes ≡ payload → P (Foreign number content) → P (Foreign reported bytes)
-foreign_made P bytes reported content_is reported_is bytes_are h = subst P (λ j. Foreign (sym reported_is j) ((content_is ∙ sym bytes_are) j)) h
+foreign_made P bytes reported content_is reported_is bytes_are h = subst P
+    (λ j. Foreign (sym reported_is j) ((content_is ∙ sym bytes_are) j)) h

@@ -11,8 +11,8 @@ use Rattle.mvt_feature.specs.declared.feature.Feature.{Feature}
 use Rattle.mvt_feature.specs.Canonical.{plain, value_fields}
 use Rattle.mvt_feature.specs.Copying.{AreReady}
 use Rattle.mvt_feature.specs.Valid.{ValidFeature, ValidValue}
-use Rattle.mvt_message.specs.declared.copying.CopiedLayer.{CopiedLayer}
-use Rattle.mvt_message.specs.declared.copying.Front.{Front}
+use Rattle.mvt_message.specs.declared.layer_copying.CopiedLayer.{CopiedLayer}
+use Rattle.mvt_message.specs.declared.layer_copying.Front.{Front}
 use Rattle.mvt_message.specs.declared.item.Layer.{Layer as ALayer}
 use Rattle.mvt_message.specs.declared.item.Item.TheVariants as items
 use Rattle.mvt_message.specs.declared.numbers.layer.TheConstants.{NAME, KEYS, EXTENT}
@@ -100,7 +100,8 @@ pub record IsFrontOf (body : List ℕ) (front : Front) : Type 0 where
   pub ends : drop front.extent_at body ≡ short_field EXTENT (varint front.extent)
 
 -- features in their fields, which use the first of the keys and of the values, in their order, and were told
-pub record AreFeaturesFrom (WereTold : List Feature → Type 0) (body : List ℕ) (start : ℕ) (keys : List (List ℕ)) (values : List Value) (at : ℕ) (used : ℕ × ℕ) : Type 0 where
+pub record AreFeaturesFrom (WereTold : List Feature → Type 0) (body : List ℕ) (start : ℕ) (keys : List (List ℕ)) (values : List Value)
+    (at : ℕ) (used : ℕ × ℕ) : Type 0 where
   pub features : List Feature
   pub fields : drop start body ≡ spelled (map (feature_field keys values) features) ++ drop at body
   pub valid : AllByRecursion ValidFeature features

@@ -113,7 +113,8 @@ IsLayerFields Has payload_at fields front = IsLayerHeader payload_at fields fron
 
 -- the first fault of the forms, or of the values, of fields whose versions have none
 abbrev pub IsBroken : ℕ → List Entry → LayerFault → Type 0
-IsBroken payload_at fields (Field error) = versions_fault payload_at fields ≡ None → Reports (fault_of error) (forms_fault payload_at fields)
+IsBroken payload_at fields (Field error) = versions_fault payload_at fields ≡ None
+    → Reports (fault_of error) (forms_fault payload_at fields)
 IsBroken payload_at fields (AValue error) = Reports (fault_of error) (values_fault payload_at fields)
 
 -- features that are counted, and that a visitor has

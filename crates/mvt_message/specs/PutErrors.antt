@@ -2,8 +2,8 @@
 use Rattle.std.specs.Prelude.{ℕ, List, codes}
 use Rattle.mvt_attrs.specs.declared.pool_error.PoolError.{PoolError}
 use Rattle.mvt_attrs.specs.declared.pool_error.PoolError.TheVariants as pools
-use Rattle.mvt_message.specs.declared.writing.PutError.{PutError}
-use Rattle.mvt_message.specs.declared.writing.PutError.TheVariants.{Memory, TooLarge}
+use Rattle.mvt_message.specs.declared.item_writing.PutError.{PutError}
+use Rattle.mvt_message.specs.declared.item_writing.PutError.TheVariants.{Memory, TooLarge}
 
 abbrev pub of_pool : PoolError → PutError
 of_pool pools.Memory = Memory

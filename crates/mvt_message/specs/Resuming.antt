@@ -10,12 +10,12 @@ use Rattle.mvt_feature.specs.declared.feature.Feature.{Feature}
 use Rattle.mvt_feature.specs.Canonical.{plain, value_fields}
 use Rattle.mvt_feature.specs.Features.{IsFeatureOf}
 use Rattle.mvt_feature.specs.Valid.{ValidValue}
-use Rattle.mvt_message.specs.declared.copying.Front.{Front}
-use Rattle.mvt_message.specs.declared.copying.Part.{Part}
-use Rattle.mvt_message.specs.declared.copying.Seen.{Seen}
-use Rattle.mvt_message.specs.declared.copying.Seen.TheVariants.{All, First}
-use Rattle.mvt_message.specs.declared.copying.Known.{Known}
-use Rattle.mvt_message.specs.declared.copying.Known.TheVariants.{Copied, Written}
+use Rattle.mvt_message.specs.declared.layer_copying.Front.{Front}
+use Rattle.mvt_message.specs.declared.layer_copying.Part.{Part}
+use Rattle.mvt_message.specs.declared.layer_copying.Seen.{Seen}
+use Rattle.mvt_message.specs.declared.layer_copying.Seen.TheVariants.{All, First}
+use Rattle.mvt_message.specs.declared.layer_copying.Known.{Known}
+use Rattle.mvt_message.specs.declared.layer_copying.Known.TheVariants.{Copied, Written}
 use Rattle.mvt_message.specs.declared.layer_rewriting.Rewritten.TheVariants.{Layer}
 use Rattle.mvt_message.specs.declared.layer_writer.LayerWriter.{LayerWriter}
 use Rattle.mvt_message.specs.declared.numbers.layer.TheConstants.{FEATURES, NAME}

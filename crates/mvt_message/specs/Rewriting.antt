@@ -2,7 +2,7 @@
 use Rattle.std.specs.Prelude.{◌≡◌, ◌≢◌, ℕ, ◌<◌, List, [], ◌++◌, length, map, Option, MatchOption, Vec}
 use Rattle.std.specs.Global.{Global}
 use Rattle.mvt_attrs.specs.declared.value.Value.{Value}
-use Rattle.mvt_attrs.specs.declared.uses.LayerUses.{LayerUses}
+use Rattle.mvt_attrs.specs.declared.used_entries.LayerEntries.{LayerEntries}
 use Rattle.mvt_attrs.specs.Using.{HasUses, used_of}
 use Rattle.mvt_wire.specs.Spelling.{spelled}
 use Rattle.mvt_feature.specs.declared.feature.Feature.{Feature}
@@ -36,12 +36,13 @@ pub record HasWritten (keys : List (List ℕ)) (values : List Value) (w : LayerW
   pub written : AreWritten features w.features.items
 
 -- the same, where features are left out that follow more bytes than a limit
-pub record HasWrittenUpTo (limit : ℕ) (keys : List (List ℕ)) (values : List Value) (w : LayerWriter) (features : List Feature) : Type 0 where
-  pub kept : List Feature
-  pub left_out : List Feature
-  pub features_are : features ≡ kept ++ left_out
-  pub written : HasWritten keys values w kept
-  pub past : left_out ≢ [] → limit < length w.features.items
+pub record HasWrittenUpTo (limit : ℕ) (keys : List (List ℕ)) (values : List Value) (w : LayerWriter) (features : List Feature) : Type 0
+  where
+    pub kept : List Feature
+    pub left_out : List Feature
+    pub features_are : features ≡ kept ++ left_out
+    pub written : HasWritten keys values w kept
+    pub past : left_out ≢ [] → limit < length w.features.items
 
 -- the canonical payload of a layer; none where it is longer than a limit
 abbrev pub IsPayloadOf : ℕ → ALayer → Option (Vec ℕ Global) → Type 0
@@ -49,7 +50,7 @@ IsPayloadOf limit layer made =
     MatchOption made (limit < length (canonical_item (items.Layer layer))) (λ payload. payload.items ≡ canonical_item (items.Layer layer))
 
 -- the fields of a layer behind its features
-abbrev pub tail_of : LayerUses → ℕ → List ℕ
+abbrev pub tail_of : LayerEntries → ℕ → List ℕ
 tail_of uses extent =
     spelled (map key_field (used_of uses.keys)) ++ (spelled (map value_field (used_of uses.values)) ++ spelled (extent_fields extent))
 

@@ -16,7 +16,8 @@ HasLayer HasFeatures visitor (Layer name extent) layer =
 HasLayer HasFeatures visitor (Foreign version) layer = ⊥
 
 -- what was visited is this item; of a foreign one the visitor has nothing
-abbrev pub IsVisited : {V : Type 0} → (V → Type 0) → (List (List ℕ) → List Value → V → List Feature → Type 0) → V → Visited → AnItem → Type 0
+abbrev pub IsVisited : {V : Type 0} → (V → Type 0) → (List (List ℕ) → List Value → V → List Feature → Type 0) → V → Visited → AnItem
+    → Type 0
 IsVisited HasItems HasFeatures visitor visited (items.Layer layer) = HasLayer HasFeatures visitor visited layer
 IsVisited HasItems HasFeatures visitor (Layer name extent) (items.Foreign number content) = ⊥
 IsVisited HasItems HasFeatures visitor (Foreign version) (items.Foreign number content) = (version ≡ number) × HasItems visitor

@@ -107,7 +107,7 @@ impl<'a> LayerFields<'a> {
 /// The error of a layer of version 2, one of whose values has this one: that a field hasn't its
 /// form or that there is no name is told first.
 #[inline(never)]
-pub(crate) fn header_fault_or(
+pub(crate) fn header_fault_before(
     alloc: Global,
     payload: &[u8],
     payload_at: u64,

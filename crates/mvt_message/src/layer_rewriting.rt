@@ -14,13 +14,13 @@ ghost use Rattle.mvt_message.specs.CanonicalItems.{head_fields};
 ghost use Rattle.mvt_message.specs.ItemRules.{item_fault};
 ghost use Rattle.mvt_message.specs.Rewriting.{IsRewrittenAs, tail_of};
 
-use crate::layer_writer::LayerWriter;
-use crate::layer_writing::put_head;
+use crate::layer_writer::{LayerWriter, put_head};
 use crate::numbers::layer;
 use crate::visiting::{LayerVisitor, Visited, visit_version_2};
 use mvt_attrs::LayerKeys;
 use mvt_base::{LIMIT, Text};
 use mvt_feature::{FeatureFields, MessageError, Scratch, read_value, rewrite_feature};
+use mvt_geometry::Ignore;
 use mvt_wire::{Payload, put_field};
 use std::alloc::{AllocError, Global};
 
@@ -50,11 +50,7 @@ pub trait RewriteVisitor: Drop {
             (done ++ short_field FEATURES (in_bytes payload.now))) };
 }
 
-/// Keeps nothing of the features.
-#[derive(Drop)]
-pub(crate) struct Untold;
-
-impl RewriteVisitor for Untold {
+impl RewriteVisitor for Ignore {
     ghost has_features = { λ _ _ _ _. Unit {0} };
 
     fn visit_rewritten(

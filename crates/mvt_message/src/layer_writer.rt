@@ -1,22 +1,26 @@
-//! A layer written feature by feature, with tags by index (Mapbox Vector Tile Specification 2.1,
-//! 4.1).
-ghost use Rattle.std.specs.Prelude.{◌≡◌, ◌⊎◌, ℕ, ◌<◌, [], ◌∷◌, ◌++◌, List, length, IfOk, IsErrOf, OnErr, OnOk};
+//! A layer written feature by feature, of a value or with tags by index, and its parts in their
+//! canonical spelling (Mapbox Vector Tile Specification 2.1, 4.1).
+ghost use Rattle.std.specs.Prelude.{◌≡◌, ◌⊎◌, ℕ, ◌<◌, [], ◌∷◌, ◌++◌, List, length, map, IfOk, IsErrOf, OnErr, OnOk};
 ghost use Rattle.mvt_base.specs.Related.{Extends};
 ghost use Rattle.mvt_attrs.specs.declared.value.Value.{Value as AValue};
 ghost use Rattle.mvt_attrs.specs.Pools.{key_pool, value_pool};
+ghost use Rattle.mvt_attrs.specs.Tags.{Names};
+ghost use Rattle.mvt_geometry.specs.Drawing.{Draws};
 ghost use Rattle.mvt_geometry.specs.Valid.{IsValid};
 ghost use Rattle.mvt_wire.specs.Spelling.{spelled};
 ghost use Rattle.mvt_feature.specs.declared.feature.Feature.{Feature as AFeature};
 ghost use Rattle.mvt_message.specs.declared.item.Layer.{Layer};
-ghost use Rattle.mvt_message.specs.CanonicalItems.{keys_of, values_of, head_fields};
+ghost use Rattle.mvt_message.specs.CanonicalItems.{keys_of, values_of, head_fields, key_field, value_field, extent_fields};
 ghost use Rattle.mvt_message.specs.Rewriting.{HasGathered, HasWritten, HasWrittenUpTo, IsPayloadOf, tail_of};
 
-use crate::layer_writing::{put_extent, put_head, put_keys, put_values};
-use crate::numbers::layer;
-use mvt_attrs::{LayerUses, PoolError, Value};
+use crate::numbers::{VERSION_2, layer};
+use mvt_attrs::{LayerEntries, PoolError, Value};
 use mvt_base::{LIMIT, Text};
-use mvt_feature::{Feature, Scratch, append_feature};
-use mvt_wire::{Payload, put_field};
+use mvt_feature::{
+    Feature, Scratch, append_drawn_feature, append_feature, append_value, value_len,
+};
+use mvt_geometry::Kind;
+use mvt_wire::{PackedNumbers, Payload, put_field, put_field_head};
 use std::alloc::{AllocError, Global};
 
 /// How many bytes a feature's payload has room for at first: a small one never grows.
@@ -44,7 +48,7 @@ pub(crate) const LAYER_ROOM: usize = 1024;
 /// error it says nothing.
 #[derive(Drop)]
 pub struct LayerWriter {
-    pub(crate) uses: LayerUses,
+    pub(crate) uses: LayerEntries,
     /// The payload of a feature.
     pub(crate) payload: Vec<u8>,
     /// The fields of the features.
@@ -57,7 +61,7 @@ impl LayerWriter {
         ensures { HasGathered result [] }
     {
         LayerWriter {
-            uses: LayerUses::new(alloc),
+            uses: LayerEntries::new(alloc),
             payload: Vec::new(alloc),
             features: Vec::new(alloc),
         }
@@ -146,6 +150,46 @@ impl LayerWriter {
         Ok(())
     }
 
+    /// Adds the feature that has this id, these tags and the geometry that these integers draw. From
+    /// where the features alone are more bytes than the limit, it is left out.
+    ///
+    /// # Errors
+    ///
+    /// When memory runs out.
+    pub fn add_drawn_feature(
+        &mut self,
+        id: Option<u64>,
+        tags: &[u32],
+        kind: Kind,
+        integers: &PackedNumbers,
+        scratch: &mut Scratch,
+    ) -> Result<(), AllocError>
+        ensures { (keys : List (List ℕ)) (held : List AValue) (features : List AFeature)
+            (f : AFeature)
+            → HasWrittenUpTo LIMIT keys held self.old features → f.id ≡ id
+            → Draws kind integers.now f.geometry → Names keys held tags.now f.attributes
+            → OnOk result (HasWrittenUpTo LIMIT keys held self.new (features ++ f ∷ [])) }
+    {
+        if self.features.len() as u64 > LIMIT {
+            return Ok(());
+        }
+        self.payload.clear();
+        append_drawn_feature(
+            id,
+            tags,
+            kind,
+            integers,
+            &mut self.uses,
+            scratch,
+            &mut self.payload,
+        )?;
+        put_field(
+            &mut self.features,
+            layer::FEATURES,
+            &Payload::Len(&self.payload),
+        )
+    }
+
     /// The canonical payload of the layer; `None` where its features alone are more bytes than the
     /// limit.
     ///
@@ -195,4 +239,45 @@ impl LayerWriter {
         put_values(out, self.uses.values.used())?;
         put_extent(out, extent)
     }
+}
+
+/// Appends the version and the name.
+pub(crate) fn put_head(out: &mut Vec<u8>, name: &str) -> Result<(), AllocError>
+    ensures ok { OnOk result (out.new.items ≡ out.old.items ++ spelled (head_fields name.now)) }
+    ensures left { OnErr result (Extends out.old.items out.new.items) }
+{
+    put_field(out, layer::VERSION, &Payload::Varint(u64::from(VERSION_2)))?;
+    put_field(out, layer::NAME, &Payload::Len(name.as_bytes()))
+}
+
+/// Appends the keys.
+fn put_keys(out: &mut Vec<u8>, keys: &[Text]) -> Result<(), AllocError>
+    ensures ok { OnOk result (out.new.items ≡ out.old.items ++ spelled (map key_field keys.now)) }
+    ensures left { OnErr result (Extends out.old.items out.new.items) }
+{
+    for key in keys {
+        put_field(out, layer::KEYS, &Payload::Len(key.as_str().as_bytes()))?;
+    }
+    Ok(())
+}
+
+/// Appends the values.
+fn put_values(out: &mut Vec<u8>, values: &[Value]) -> Result<(), AllocError>
+    ensures ok { OnOk result (out.new.items
+        ≡ out.old.items ++ spelled (map value_field values.now)) }
+    ensures left { OnErr result (Extends out.old.items out.new.items) }
+{
+    for value in values {
+        put_field_head(out, layer::VALUES, value_len(value))?;
+        append_value(out, value)?;
+    }
+    Ok(())
+}
+
+/// Appends the extent.
+fn put_extent(out: &mut Vec<u8>, extent: u32) -> Result<(), AllocError>
+    ensures ok { OnOk result (out.new.items ≡ out.old.items ++ spelled (extent_fields extent)) }
+    ensures left { OnErr result (Extends out.old.items out.new.items) }
+{
+    put_field(out, layer::EXTENT, &Payload::Varint(u64::from(extent)))
 }

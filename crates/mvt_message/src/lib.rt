@@ -2,17 +2,16 @@
 //! another as its bytes, read from a payload and written as one.
 #![tactic(auto)]
 
-mod canonical;
-mod copying;
-mod drawn_feature;
+mod canonical_layer;
 mod features;
 mod item;
+mod item_writing;
 pub mod laws;
+mod layer_copying;
 mod layer_fields;
 mod layer_header;
 mod layer_rewriting;
 mod layer_writer;
-mod layer_writing;
 mod looking;
 mod naming;
 pub mod numbers;
@@ -24,10 +23,10 @@ mod validity;
 mod values;
 mod version;
 mod visiting;
-mod writing;
 
-pub use canonical::{CanonicalVisitor, visit_canonical};
+pub use canonical_layer::{CanonicalVisitor, visit_canonical};
 pub use item::{Item, Layer};
+pub use item_writing::{PutError, item_len, put_item};
 pub use layer_rewriting::{RewriteVisitor, Rewritten, RewrittenLayer, rewrite_parts};
 pub use layer_writer::LayerWriter;
 pub use mvt_base::LIMIT;
@@ -39,4 +38,3 @@ pub use reading::{judge_item, read_item};
 pub use rewriting::rewrite_item;
 pub use validity::{are_of_version, is_valid_item, is_valid_layer, validate_item};
 pub use visiting::{LayerVisitor, Visited, visit_layer, visit_version_2};
-pub use writing::{PutError, item_len, put_item};

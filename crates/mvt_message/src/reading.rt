@@ -38,7 +38,7 @@ pub fn read_item(
     ensures fault { IfErr result (λ error. Reports (fault_of error)
         (item_fault payload.now payload_at tag_at)) }
 {
-    let mut kept = Kept::new(alloc);
+    let mut kept = LayerKeeper::new(alloc);
     match visit_version_2(alloc, &mut kept, payload, payload_at, tag_at) {
         Ok(Visited::Layer { name, extent }) => Ok(Item::Layer(Layer {
             name: Text::from_str(alloc, name)?,
@@ -73,7 +73,7 @@ pub fn judge_item<'a>(
     ensures fault { IfErr result (λ error. Reports (fault_of error)
         (item_fault payload.now payload_at tag_at)) }
 {
-    match visit_version_2(alloc, &mut Judged, payload, payload_at, tag_at) {
+    match visit_version_2(alloc, &mut LayerJudge, payload, payload_at, tag_at) {
         Ok(Visited::Layer { name, .. }) => Ok(Some(name)),
         Ok(Visited::Foreign { .. }) => Ok(None),
         Err(error) => Err(error),
@@ -82,24 +82,24 @@ pub fn judge_item<'a>(
 
 /// Keeps the values of a layer and its features.
 #[derive(Drop)]
-struct Kept {
+struct LayerKeeper {
     values: Vec<Value>,
     features: Vec<Feature>,
 }
 
-impl Kept {
+impl LayerKeeper {
     fn new(alloc: Global) -> Self
         ensures values { result.values.items ≡ [] }
         ensures features { result.features.items ≡ [] }
     {
-        Kept {
+        LayerKeeper {
             values: Vec::new(alloc),
             features: Vec::new(alloc),
         }
     }
 }
 
-impl LayerVisitor for Kept {
+impl LayerVisitor for LayerKeeper {
     ghost use Rattle.std.specs.Prelude.{◌≡◌, []};
 
     ghost has_items = { λ _ kept. Unit {0} };
@@ -143,9 +143,9 @@ impl LayerVisitor for Kept {
 
 /// Keeps nothing: whether each value and each feature is one is all that is found out.
 #[derive(Drop)]
-struct Judged;
+struct LayerJudge;
 
-impl LayerVisitor for Judged {
+impl LayerVisitor for LayerJudge {
     ghost has_items = { λ _ _. Unit {0} };
 
     ghost has_values = { λ _ _ _. Unit {0} };

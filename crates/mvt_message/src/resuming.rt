@@ -7,10 +7,10 @@ ghost use Rattle.mvt_attrs.specs.FirstUses.{lent};
 ghost use Rattle.mvt_feature.specs.Values.{IsValueOf};
 ghost use Rattle.mvt_message.specs.Resuming.{AreFeaturesRead, IsPartOf, IsWrittenUpTo};
 
-use crate::copying::Part;
+use crate::layer_copying::Part;
 use crate::layer_writer::{FEATURE_ROOM, LayerWriter};
 use crate::numbers::layer;
-use mvt_attrs::{LayerKeys, LayerUses, Uses, Value};
+use mvt_attrs::{LayerEntries, LayerKeys, UsedEntries, Value};
 use mvt_base::{LIMIT, Text};
 use mvt_feature::{MessageError, NotCanonical, Scratch, read_value, rewrite_feature};
 use mvt_wire::{Payload, put_field, short_bytes_at};
@@ -80,14 +80,14 @@ fn copied_writer(alloc: Global, body: &[u8], part: &Part<'_>) -> Result<LayerWri
     let reached = &part.reached;
     let texts = copies_of(alloc, &part.keys)?;
     let held = values_of(alloc, &part.front.values)?;
-    let keys = Uses::of_apart(alloc, texts, reached.used.0)?;
-    let values = Uses::of_apart(alloc, held, reached.used.1)?;
+    let keys = UsedEntries::of_apart(alloc, texts, reached.used.0)?;
+    let values = UsedEntries::of_apart(alloc, held, reached.used.1)?;
     let mut payload = Vec::new(alloc);
     payload.reserve(body.len().min(FEATURE_ROOM))?;
     let mut features = Vec::with_capacity(alloc, body.len())?;
     features.extend_from_slice(&body[part.features_at..reached.at])?;
     Ok(LayerWriter {
-        uses: LayerUses { keys, values },
+        uses: LayerEntries { keys, values },
         payload,
         features,
     })

@@ -14,11 +14,12 @@ ghost use Rattle.mvt_message.specs.Items.{IsItem, names_in};
 ghost use Rattle.mvt_message.specs.Rewriting.{tail_of};
 ghost use Rattle.mvt_message.specs.ValidItems.{ValidItem};
 
-use crate::copying::{CopiedLayer, Known, VERSION_FIELD, known_layer};
-use crate::layer_rewriting::{Rewritten, RewrittenLayer, Untold, rewrite_parts};
+use crate::layer_copying::{CopiedLayer, Known, VERSION_FIELD, known_layer};
+use crate::layer_rewriting::{Rewritten, RewrittenLayer, rewrite_parts};
 use crate::reading::judge_item;
 use mvt_base::LIMIT;
 use mvt_feature::{MessageError, NotCanonical};
+use mvt_geometry::Ignore;
 use std::alloc::{AllocError, Global};
 
 /// Appends the canonical payload of the item that a payload is, and answers the name of the layer.
@@ -52,7 +53,7 @@ pub fn rewrite_item<'a>(
 {
     match known_layer(alloc, payload) {
         Ok(Known::Copied(layer)) => {
-            append_copied(out, &layer)?;
+            append_copied_layer(out, &layer)?;
             Ok(Some(layer.name))
         }
         Ok(Known::Written(layer)) => {
@@ -70,7 +71,7 @@ pub fn rewrite_item<'a>(
 }
 
 /// Appends the version, and the other fields of a layer as they stand.
-fn append_copied(out: &mut Vec<u8>, layer: &CopiedLayer<'_>) -> Result<(), AllocError>
+fn append_copied_layer(out: &mut Vec<u8>, layer: &CopiedLayer<'_>) -> Result<(), AllocError>
     requires { length (copied_body layer.now) ≤ LIMIT }
     ensures ok { OnOk result (out.new.items ≡ out.old.items ++ 120 ∷ (2 ∷ copied_body layer.now)) }
     ensures left { OnErr result (Extends out.old.items out.new.items) }
@@ -86,7 +87,7 @@ fn append_copied(out: &mut Vec<u8>, layer: &CopiedLayer<'_>) -> Result<(), Alloc
 /// Appends the canonical parts of a layer, which rarely are more bytes than its payload has.
 fn append_written(
     out: &mut Vec<u8>,
-    layer: &RewrittenLayer<'_, Untold>,
+    layer: &RewrittenLayer<'_, Ignore>,
     bytes: usize,
 ) -> Result<(), AllocError>
     ensures ok { OnOk result (out.new.items ≡ out.old.items
@@ -116,7 +117,7 @@ fn rewrite_anew<'a>(
         (item_fault payload.now payload_at tag_at)) }
     ensures left { OnErr result (Extends out.old.items out.new.items) }
 {
-    match rewrite_parts(alloc, Untold, payload, payload_at, tag_at) {
+    match rewrite_parts(alloc, Ignore, payload, payload_at, tag_at) {
         Ok(Rewritten::Layer(layer)) => {
             append_written(out, &layer, payload.len())?;
             Ok(Some(layer.name))

@@ -20,7 +20,7 @@ ghost use Rattle.mvt_message.specs.Inner.{layer_fault, IsLayerFields, IsBroken};
 ghost use Rattle.mvt_message.specs.Visiting.{HasLayer, IsVisited};
 
 use crate::features::visit_features;
-use crate::layer_fields::{LayerFault, LayerFields, header_fault_or, read_layer_fields};
+use crate::layer_fields::{LayerFault, LayerFields, header_fault_before, read_layer_fields};
 use crate::numbers::VERSION_2;
 use crate::version::{early_version, read_version};
 use mvt_attrs::LayerKeys;
@@ -217,7 +217,9 @@ fn foreign_version(
     }
     match fault {
         LayerFault::Field(error) => Err(error),
-        LayerFault::Value(error) => Err(header_fault_or(alloc, payload, payload_at, tag_at, error)),
+        LayerFault::Value(error) => Err(header_fault_before(
+            alloc, payload, payload_at, tag_at, error,
+        )),
     }
 }
 

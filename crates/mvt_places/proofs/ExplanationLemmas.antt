@@ -34,11 +34,14 @@ bytes_more s p bytes i b start old new h is so_far e =
     let len : p + length front ≡ p + i = omega (arith, length-take i bytes) in
     let more : bytes_text s p (take (i + 1) bytes) ≡ bytes_text s p front ++ byte_text s (p + i) b =
     ap (bytes_text s p) (front_more bytes i b h is) ∙ bytes_text-append s p front (b ∷ [])
-    ∙ ap (λ k. bytes_text s p front ++ (byte_text s k b ++ [])) len ∙ ap (λ t. bytes_text s p front ++ t) (append-nil (byte_text s (p + i) b)) in
-    e ∙ ap (λ t. t ++ byte_text s (p + i) b) so_far ∙ append_assoc start (bytes_text s p front) (byte_text s (p + i) b) ∙ ap (λ t. start ++ t) (sym more)
+    ∙ ap (λ k. bytes_text s p front ++ (byte_text s k b ++ [])) len
+    ∙ ap (λ t. bytes_text s p front ++ t) (append-nil (byte_text s (p + i) b)) in
+    e ∙ ap (λ t. t ++ byte_text s (p + i) b) so_far ∙ append_assoc start (bytes_text s p front) (byte_text s (p + i) b)
+        ∙ ap (λ t. start ++ t) (sym more)
 
 -- the same place
-pub explained : (input : List ℕ) (fault : Fault) (n m : Option (List ℕ)) (i j : Option ℕ) (a e : ℕ) (s : Span) → n ≡ m → i ≡ j → a ≡ s.start → e ≡ s.end
+pub explained : (input : List ℕ) (fault : Fault) (n m : Option (List ℕ)) (i j : Option ℕ) (a e : ℕ) (s : Span) → n ≡ m → i ≡ j
+    → a ≡ s.start → e ≡ s.end
     → explanation_by input fault n i (span a e) ≡ explanation_by input fault m j s
 explained input fault n m i j a e s names ids starts ends =
     ap (λ x. explanation_by input fault x i (span a e)) names ∙ ap (λ x. explanation_by input fault m x (span a e)) ids

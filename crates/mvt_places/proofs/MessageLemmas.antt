@@ -75,7 +75,8 @@ pub record Holding (form : Form) (k : ℕ) (all : List ℕ) (test : Entry → Bo
 pub seek_start : (form : Form) (k : ℕ) (all : List ℕ) (index : ℕ) (to_come : Parts) → to_come ≡ split all
     → to_come.rest_at + length to_come.rest ≡ length all → Seeking form k all index index to_come
 seek_start form k all index to_come is place = record {
-  same = ap (λ xs. slice_get xs index) (formed_is form k (split all).fields) ∙ ap (λ (p : Parts). slice_get (filter (is_of form k) p.fields) index) (sym is);
+  same = ap (λ xs. slice_get xs index) (formed_is form k (split all).fields)
+      ∙ ap (λ (p : Parts). slice_get (filter (is_of form k) p.fields) index) (sym is);
   within = omega arith;
 }
 
@@ -86,13 +87,15 @@ module _ (form : Form) (k : ℕ) (all : List ℕ) (index left : ℕ) (old new : 
       seeking.same ∙ ap (λ xs. slice_get (filter (is_of form k) xs) left) step
       ∙ ap (λ t. slice_get (if t then x ∷ filter (is_of form k) new.fields else filter (is_of form k) new.fields) left) is
 
-  pub seek_over : (field : Field) → GivesEntry old (Some (Ok field)) new → is_of form k (entry_of field) ≡ false → Seeking form k all index left new
+  pub seek_over : (field : Field) → GivesEntry old (Some (Ok field)) new → is_of form k (entry_of field) ≡ false
+      → Seeking form k all index left new
   seek_over field step is = record {
     same = stepped (entry_of field) false is (ap (λ (p : Parts). p.fields) step.0);
     within = subst (λ n. n ≤ length all) (ap (λ (p : Parts). p.rest_at) step.0) seeking.within;
   }
 
-  pub seek_past : (field : Field) (less : ℕ) → GivesEntry old (Some (Ok field)) new → is_of form k (entry_of field) ≡ true → left ≡ suc less → Seeking form k all index less new
+  pub seek_past : (field : Field) (less : ℕ) → GivesEntry old (Some (Ok field)) new → is_of form k (entry_of field) ≡ true
+      → left ≡ suc less → Seeking form k all index less new
   seek_past field less step is due = record {
     same = stepped (entry_of field) true is (ap (λ (p : Parts). p.fields) step.0)
         ∙ ap (slice_get (entry_of field ∷ filter (is_of form k) new.fields)) due;
@@ -114,7 +117,8 @@ module _ (form : Form) (k : ℕ) (all : List ℕ) (index left : ℕ) (old new : 
 pub last_start : (form : Form) (k : ℕ) (all : List ℕ) (to_come : Parts) → to_come ≡ split all
     → to_come.rest_at + length to_come.rest ≡ length all → Lasting form k all None to_come
 last_start form k all to_come is place = record {
-  same = ap (last_or None) (formed_is form k (split all).fields) ∙ ap (λ (p : Parts). last_or None (filter (is_of form k) p.fields)) (sym is);
+  same = ap (last_or None) (formed_is form k (split all).fields)
+      ∙ ap (λ (p : Parts). last_or None (filter (is_of form k) p.fields)) (sym is);
   within = omega arith;
   held = tt;
 }

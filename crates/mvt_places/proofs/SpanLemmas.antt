@@ -41,7 +41,8 @@ pub record Reading (before : Seen) (most at : ℕ) (b : List ℕ) (seen : Seen) 
   pub fits : place + length rest ≡ at + length b
   pub below : (end : ℕ) → at + length b ≤ end → SeesBelow end before → SeesBelow end seen
 
-module _ (before : Seen) (most at : ℕ) (b : List ℕ) (seen : Seen) (left place : ℕ) (rest : List ℕ) (reading : Reading before most at b seen left place rest) where
+module _ (before : Seen) (most at : ℕ) (b : List ℕ) (seen : Seen) (left place : ℕ) (rest : List ℕ)
+    (reading : Reading before most at b seen left place rest) where
   more : (less n k : ℕ) → left ≡ suc less → k ≤ length rest → Spells (take k rest) n
       → Reading before most at b (with_span seen (span place (place + k))) less (place + k) (drop k rest)
   more less n k due within spells =
@@ -59,7 +60,8 @@ module _ (before : Seen) (most at : ℕ) (b : List ℕ) (seen : Seen) (left plac
       → Spells (take k rest) n → Reading before most at b now less (place + k) (take (length rest - k) (drop k rest))
   reading_more now less n k is due within spells =
       subst (λ (s : Seen). Reading before most at b s less (place + k) (take (length rest - k) (drop k rest))) (sym is)
-      (subst (λ (bs : List ℕ). Reading before most at b (with_span seen (span place (place + k))) less (place + k) bs) (sym (take_rest rest k))
+      (subst (λ (bs : List ℕ). Reading before most at b (with_span seen (span place (place + k))) less (place + k) bs)
+          (sym (take_rest rest k))
       (more less n k due within spells))
 
   pub reading_none : SpellsNone rest → seen ≡ fold with_span before (spellings most at b)
@@ -82,7 +84,8 @@ pub record Joining (m : Message) (k index : ℕ) (seen : Seen) (to_come : Parts)
 pub join_start : (m : Message) (k index : ℕ) (seen : Seen) (to_come : Parts) → seen ≡ start_of index → to_come ≡ split m.payload
     → to_come.rest_at + length to_come.rest ≡ length m.payload → Joining m k index seen to_come
 join_start m k index seen to_come starts is place = record {
-  same = ap (λ s. fold with_span s (joined k m)) (sym starts) ∙ ap (λ (p : Parts). fold with_span seen (spans_of m (only k p.fields))) (sym is);
+  same = ap (λ s. fold with_span s (joined k m)) (sym starts)
+      ∙ ap (λ (p : Parts). fold with_span seen (spans_of m (only k p.fields))) (sym is);
   within = omega arith;
   below = subst (SeesBelow (m.body + length m.payload)) (sym starts) (tt, tt);
 }
@@ -103,7 +106,8 @@ wanted_seen [] n last = refl
 wanted_seen (s ∷ ss) zero last = wanted_stays ss (Some s) (Some s)
 wanted_seen (s ∷ ss) (suc n) last = wanted_seen ss n (Some s)
 
-module _ (m : Message) (k index : ℕ) (seen : Seen) (to_come : Parts) (joining : Joining m k index seen to_come) (none : to_come.fields ≡ []) where
+module _ (m : Message) (k index : ℕ) (seen : Seen) (to_come : Parts) (joining : Joining m k index seen to_come)
+    (none : to_come.fields ≡ []) where
   all_seen : fold with_span (start_of index) (joined k m) ≡ seen
   all_seen = joining.same ∙ ap (λ xs. fold with_span seen (spans_of m (only k xs))) none
 

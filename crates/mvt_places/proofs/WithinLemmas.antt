@@ -16,7 +16,7 @@ use Rattle.mvt_feature.specs.Selection.{only}
 use Rattle.mvt_feature.specs.declared.numbers.feature.TheConstants.{TAGS, GEOMETRY}
 use Rattle.mvt_message.specs.LayerFields.{bytes_of}
 use Rattle.mvt_message.specs.declared.numbers.layer.TheConstants.{NAME, FEATURES, VALUES}
-use Rattle.mvt_model.specs.declared.numbers.tile.TheConstants.{LAYERS}
+use Rattle.mvt_tile_value.specs.declared.numbers.tile.TheConstants.{LAYERS}
 use Rattle.mvt_tile.specs.declared.fault.Fault.{Fault}
 use Rattle.mvt_places.specs.declared.message.Form.{Form}
 use Rattle.mvt_places.specs.declared.message.Form.TheVariants.{Any, Bytes}
@@ -47,7 +47,8 @@ field_ends at b e is some =
     let within : e.body + bytes_size e.content ≤ at + length b = omega arith in
     (starts, within)
 
-fields_end_from : (at : ℕ) (b : List ℕ) (es : List Entry) (rest : List ℕ) → SplitFrom at b es rest → AllByRecursion (EndsBy (at + length b)) es
+fields_end_from : (at : ℕ) (b : List ℕ) (es : List Entry) (rest : List ℕ) → SplitFrom at b es rest
+    → AllByRecursion (EndsBy (at + length b)) es
 fields_end_from at b [] rest s = tt
 fields_end_from at b (e ∷ es) rest s =
     let front : List ℕ = s.0 in
@@ -89,7 +90,8 @@ end_after payload at within = by_found (entry_at at (drop at payload)) refl
         (after, ends)
     by_found (Err cause) is = (within, omega arith)
 
-span_ends : (place : ℕ) (m : Message) (at : ℕ) → at ≤ length m.payload → m.body + length m.payload ≤ place → EndsBelow place (field_span m at)
+span_ends : (place : ℕ) (m : Message) (at : ℕ) → at ≤ length m.payload → m.body + length m.payload ≤ place
+    → EndsBelow place (field_span m at)
 span_ends place m at within fits =
     let after : at ≤ end_in m.payload at = (end_after m.payload at within).0 in
     let ends : end_in m.payload at ≤ length m.payload = (end_after m.payload at within).1 in
@@ -165,7 +167,8 @@ innermost_holds below place (Some m) outer fits holds = by_test (has_byte_at pla
     by_test true has = (fits, has_reaches place m has)
     by_test false has = holds
 
-holder_holds : (below place : ℕ) (input : Message) (layer feature : Option Message) → IfSome layer (Ends below) → IfSome feature (Ends below)
+holder_holds : (below place : ℕ) (input : Message) (layer feature : Option Message) → IfSome layer (Ends below)
+    → IfSome feature (Ends below)
     → Holds below place input → Holds below place (holder place input layer feature)
 holder_holds below place input layer feature layer_fits feature_fits holds =
     innermost_holds below place feature _ feature_fits
@@ -203,7 +206,8 @@ entry_within place m e fits ends =
 last_ends : (form : Form) (k : ℕ) (m : Message) → IfSome (last_formed form k m) (EndsBy (length m.payload))
 last_ends form k m = last_or_all (EndsBy (length m.payload)) None (formed form k (fields_of m)) tt (formed_end form k m)
 
-named_within : (h : Holders) (place : ℕ) (layer : Option Message) → Fit h → IfSome layer (Ends h.end) → EndsBelow h.end (named_span h place layer)
+named_within : (h : Holders) (place : ℕ) (layer : Option Message) → Fit h → IfSome layer (Ends h.end)
+    → EndsBelow h.end (named_span h place layer)
 named_within h place None fit fits = offset_within h place fit
 named_within h place (Some layer) fit fits = by_name (last_formed Bytes NAME layer) (last_ends Bytes NAME layer)
   where
@@ -252,13 +256,15 @@ joined_below place k m fits =
 empty_within : (place : ℕ) (s : Span) → EndsBelow place s → EndsBelow place (empty_at s.end)
 empty_within place s ends = (omega arith, ends.1)
 
-behind_within : (place : ℕ) (m : Message) (field : Option Entry) (last : Option Span) → Ends place m → IfSome field (EndsBy (length m.payload))
+behind_within : (place : ℕ) (m : Message) (field : Option Entry) (last : Option Span) → Ends place m
+    → IfSome field (EndsBy (length m.payload))
     → IfSome last (EndsBelow place) → EndsBelow place (behind m field last)
 behind_within place m field (Some last) fits ends below = empty_within place last below
 behind_within place m (Some e) None fits ends below = empty_within place (field_span m e.at) (entry_within place m e fits ends)
 behind_within place m None None fits ends below = (fits.1, fits.2)
 
-picked_within : (place : ℕ) (pick : Pick) (spans : List Span) → AllByRecursion (EndsBelow place) spans → IfSome (picked pick spans) (EndsBelow place)
+picked_within : (place : ℕ) (pick : Pick) (spans : List Span) → AllByRecursion (EndsBelow place) spans
+    → IfSome (picked pick spans) (EndsBelow place)
 picked_within place (Nth index) spans all = get_all (EndsBelow place) spans index all
 picked_within place Last spans all = last_or_all (EndsBelow place) None spans tt all
 picked_within place Behind spans all = tt

@@ -10,7 +10,7 @@ use Rattle.mvt_tile.specs.declared.fault.Fault.{Fault}
 use Rattle.mvt_places.specs.declared.message.Form.TheVariants.{Any, Bytes, Varint}
 use Rattle.mvt_feature.specs.declared.numbers.feature.TheConstants.{ID, TAGS, GEOMETRY}
 use Rattle.mvt_message.specs.declared.numbers.layer.TheConstants.{NAME, FEATURES, VALUES}
-use Rattle.mvt_model.specs.declared.numbers.tile.TheConstants.{LAYERS}
+use Rattle.mvt_tile_value.specs.declared.numbers.tile.TheConstants.{LAYERS}
 use Rattle.mvt_message.specs.LayerFields.{bytes_of}
 use Rattle.mvt_places.specs.declared.span.Span.{Span}
 use Rattle.mvt_places.specs.declared.target.Pick.{Pick}

@@ -17,7 +17,8 @@ cause_sentence NumberRange = codes "A number is above 4,294,967,295 and doesn't 
 cause_sentence NotUtf8 = codes "A text isn't UTF-8."
 cause_sentence NoVersion = codes "The layer has no version. Each layer must say its version, in field 15."
 cause_sentence NoName = codes "The layer has no name. Each layer must have one, in field 1; it may be empty."
-cause_sentence ValueKind = codes "The value has none or several of the seven kinds (string, float, double, int, uint, sint, bool). It must have one."
+cause_sentence ValueKind = codes
+    "The value has none or several of the seven kinds (string, float, double, int, uint, sint, bool). It must have one."
 cause_sentence GeomType = codes "The geometry type is above 3. There are 0 unknown, 1 point, 2 line and 3 polygon."
 cause_sentence OddTags = codes "The feature has an odd number of tags. Tags come in pairs: the index of a key, then that of a value."
 cause_sentence KeyIndex = codes "A tag says a key that the layer doesn't have. Keys are counted from 0."
@@ -27,8 +28,10 @@ cause_sentence Command = codes "The integer isn't the command that is due here. 
 cause_sentence Count = codes "The command has a count that isn't allowed here."
 cause_sentence Parameters = codes "The command wants more integers than the geometry has left."
 cause_sentence ZeroSegment = codes "A line goes nowhere: this LineTo moves by (0, 0)."
-cause_sentence CoordinateRange = codes "The position leaves the range: coordinates are from -2,147,483,647 to 2,147,483,647, and so are steps."
-cause_sentence FirstRing = codes "The first ring goes the wrong way round. An exterior ring has positive area, which is clockwise on the screen."
+cause_sentence CoordinateRange = codes
+    "The position leaves the range: coordinates are from -2,147,483,647 to 2,147,483,647, and so are steps."
+cause_sentence FirstRing = codes
+    "The first ring goes the wrong way round. An exterior ring has positive area, which is clockwise on the screen."
 cause_sentence EndsEarly = codes "The geometry is empty or ends where a command is still due."
 cause_sentence RepeatedName = codes "The layer has the name of an earlier layer. Names are given once in a tile."
 cause_sentence TooLarge = codes "The input is longer than 67,108,864 bytes (64 MiB)."

@@ -13,8 +13,8 @@ use crate::place::Place;
 use crate::span::Span;
 use crate::target::{Pick, Target, target_of};
 use mvt_base::LIMIT;
-use mvt_model::numbers::{feature, layer, tile};
 use mvt_tile::Fault;
+use mvt_tile_value::numbers::{feature, layer, tile};
 use mvt_wire::Payload;
 
 /// What holds a fault: the input that is judged, and the layer and the feature that it names, where

@@ -59,11 +59,15 @@ not_from least lines l cursor at h = subst (λ c. IsStrokeFrom least c l) (sym a
 
 -- ---- lines
 
-pub line_drawn : (lines : List (List Point)) (l : List Point) (cursor last : Point) (integers now : List ℕ) → DrawnLines lines (Some cursor) integers
-    → IsStrokeFrom 2 cursor l → now ≡ integers ++ stroke [] cursor l → last ≡ last_of cursor l → DrawnLines (lines ++ l ∷ []) (Some last) now
-line_drawn lines l cursor last integers now h from put last_is = strokes_more 2 [] lines l cursor last integers now h.0 h.1 h.2 from put last_is
+pub line_drawn : (lines : List (List Point)) (l : List Point) (cursor last : Point) (integers now : List ℕ)
+    → DrawnLines lines (Some cursor) integers
+    → IsStrokeFrom 2 cursor l → now ≡ integers ++ stroke [] cursor l → last ≡ last_of cursor l
+    → DrawnLines (lines ++ l ∷ []) (Some last) now
+line_drawn lines l cursor last integers now h from put last_is = strokes_more 2 [] lines l cursor last integers now h.0 h.1 h.2 from put
+    last_is
 
-pub line_not_drawn : (lines : List (List Point)) (l : List Point) (cursor : Point) (integers now : List ℕ) → DrawnLines lines (Some cursor) integers
+pub line_not_drawn : (lines : List (List Point)) (l : List Point) (cursor : Point) (integers now : List ℕ)
+    → DrawnLines lines (Some cursor) integers
     → (IsStrokeFrom 2 cursor l → ⊥) → DrawnLines (lines ++ l ∷ []) None now
 line_not_drawn lines l cursor integers now h not are = not (not_from 2 lines l cursor h.1 are)
 
@@ -81,14 +85,16 @@ pub each_length : {X Y : Type 0} → (f : X → Option Y) (xs : List X) (ys : Li
 each_length f [] ys h = let same : [] ≡ ys = cc in ap length same
 each_length f (x ∷ xs) ys h = push_length (f x) (each f xs) ys (length xs) (λ zs made. each_length f xs zs made) h
 
-pub lines_drawn : (made : Option (List (List Point))) (lines : List (List Point)) (cursor : Option Point) (integers : List ℕ) → made ≡ Some lines
+pub lines_drawn : (made : Option (List (List Point))) (lines : List (List Point)) (cursor : Option Point) (integers : List ℕ)
+    → made ≡ Some lines
     → 0 < length lines → is_some cursor ≡ true → DrawnLines lines cursor integers
     → AreDrawn (option_map Lines made) kinds.LineString integers
 lines_drawn made lines None integers is some there h = cc
 lines_drawn made lines (Some cursor) integers is some there h =
     drawn_as (option_map Lines made) (Lines lines) integers (ap (option_map Lines) is) (some, h.0.are, h.0.steps) h.2
 
-pub lines_not_drawn : (made : Option (List (List Point))) (lines : List (List Point)) (cursor : Option Point) (integers : List ℕ) → made ≡ Some lines
+pub lines_not_drawn : (made : Option (List (List Point))) (lines : List (List Point)) (cursor : Option Point) (integers : List ℕ)
+    → made ≡ Some lines
     → is_some cursor ≡ false → DrawnLines lines cursor integers → IsUndrawable (option_map Lines made)
 lines_not_drawn made lines (Some cursor) integers is none h = cc
 lines_not_drawn made lines None integers is none h =
@@ -228,7 +234,8 @@ row_stops points ps row begun ring h line is = by_truth (truth_of row.exterior) 
     by_truth (Some exterior) t r =
         ap₂ (λ l e. option_and_then (λ r. option_and_then (λ x. with_ring ps x r) e) l) line t ∙ no_role ps exterior begun h r
 
-pub row_without : (points : List PointRow) (ps : List Polygon) (row : PartRow) → line_of points row ≡ None → with_ring_row points ps row ≡ None
+pub row_without : (points : List PointRow) (ps : List Polygon) (row : PartRow) → line_of points row ≡ None
+    → with_ring_row points ps row ≡ None
 row_without points ps row none =
     ap (option_and_then (λ r. option_and_then (λ x. with_ring ps x r) (truth_of row.exterior))) none
 
@@ -262,7 +269,8 @@ areas_of : (ps : List Polygon) → Grouped (rings_of ps) ps → HaveAreas ps
 areas_of [] h = tt
 areas_of (p ∷ ps) h = (h.1, h.2, h.3)
 
-pub polygons_drawn : (made : Option (List Polygon)) (ps : List Polygon) (cursor : Option Point) (integers : List ℕ) → made ≡ Some ps → 0 < length ps
+pub polygons_drawn : (made : Option (List Polygon)) (ps : List Polygon) (cursor : Option Point) (integers : List ℕ) → made ≡ Some ps
+    → 0 < length ps
     → is_some cursor ≡ true → DrawnPolygons ps cursor integers → AreDrawn (option_map Polygons made) kinds.Polygon integers
 polygons_drawn made ps None integers is some there h = cc
 polygons_drawn made ps (Some cursor) integers is some there h =

@@ -21,7 +21,7 @@ use Rattle.mvt_message.specs.declared.item.Item.TheVariants.{Layer, Foreign}
 use Rattle.mvt_message.specs.declared.item.Layer.{Layer as ALayer}
 use Rattle.mvt_message.specs.Items.{names_in}
 use Rattle.mvt_message.specs.ValidItems.{AreOfVersion, ValidItem, ValidLayer}
-use Rattle.mvt_model.specs.Tiles.{HasDistinctNames}
+use Rattle.mvt_tile_value.specs.Tiles.{HasDistinctNames}
 use Rattle.mvt_tile.specs.TileRules.{repeats}
 use Rattle.mvt_rows.specs.declared.rows.FeatureRow.{FeatureRow}
 use Rattle.mvt_rows.specs.declared.rows.LayerRow.{LayerRow}
@@ -68,12 +68,14 @@ any_there P (Err parts.NoPart) r o x h is ok some = cc
 pub text_found : (texts : List ℕ) (span : Span) (bytes name : List ℕ) → part_of texts span ≡ Some bytes → IsUtf8 bytes → name ≡ bytes
     → text_of texts span ≡ Some name
 text_found texts span bytes name part utf8 same =
-    ap (option_and_then utf8_of) part ∙ ap (λ (b : Bool). if b then Some bytes else None) (is_utf8-from_IsUtf8 bytes utf8) ∙ ap Some (sym same)
+    ap (option_and_then utf8_of) part ∙ ap (λ (b : Bool). if b then Some bytes else None) (is_utf8-from_IsUtf8 bytes utf8)
+    ∙ ap Some (sym same)
 
 or_there : {X Y : Type 0} → (o : Option X) (wrong : Y) (next : X → Option Y) (x : X) → o ≡ Some x → or_wrong o wrong next ≡ next x
 or_there o wrong next x is = ap (λ o. or_wrong o wrong next) is
 
-chained : {X Y Z : Type 0} → (o : Option X) (f : X → Option Y) (y : Y) (first second : Z) (next : Y → Option Z) → option_and_then f o ≡ Some y
+chained : {X Y Z : Type 0} → (o : Option X) (f : X → Option Y) (y : Y) (first second : Z) (next : Y → Option Z)
+    → option_and_then f o ≡ Some y
     → or_wrong o first (λ x. or_wrong (f x) second next) ≡ next y
 chained None f y first second next h = cc
 chained (Some x) f y first second next h = ap (λ o. or_wrong o second next) h
@@ -121,7 +123,8 @@ pub part_wrong : (t : Table) (row : LayerRow) (f : Option ℕ) (c : RowsCause) �
 part_wrong t row None c h = h.1
 part_wrong t row (Some j) c h = cc
 
-pub features_wrong : (t : Table) (row : LayerRow) (parts : LayerParts) (keys : List (List ℕ)) (values : List Value) → AreLayerParts t row parts
+pub features_wrong : (t : Table) (row : LayerRow) (parts : LayerParts) (keys : List (List ℕ)) (values : List Value)
+    → AreLayerParts t row parts
     → parts_cause t row ≡ None → keys ≡ parts.keys.items → values ≡ parts.values.items → (f : Option ℕ) (c : RowsCause)
     → IsFeatureWrongIn t keys values parts.rows.now f c → IsInsideWrong t row f c
 features_wrong t row parts keys values are clean keys_are values_are None c h = absurd h
@@ -192,7 +195,8 @@ not_kind kind n large small is = omega (arith, large, small, is)
 
 drawn_none : (points : List PointRow) (kind : ℕ) (parts : List PartRow) → 3 < kind → drawn_of points kind parts ≡ None
 drawn_none points kind parts large =
-    cond-false _ _ _ (ne_eqb kind 1 (not_kind kind 1 large (omega arith))) ∙ cond-false _ _ _ (ne_eqb kind 2 (not_kind kind 2 large (omega arith)))
+    cond-false _ _ _ (ne_eqb kind 1 (not_kind kind 1 large (omega arith)))
+    ∙ cond-false _ _ _ (ne_eqb kind 2 (not_kind kind 2 large (omega arith)))
     ∙ cond-false _ _ _ (ne_eqb kind 3 (not_kind kind 3 large (omega arith)))
 
 geometry_none : (t : Table) (row : FeatureRow) → 3 < row.kind → geometry_of t row ≡ None
@@ -256,7 +260,8 @@ named_right t names row layer false f c is valid repeated wrong = absurd (inside
 foreign_right : (version : ℕ) (o : Option (List ℕ)) (content : List ℕ) (c : RowsCause) → o ≡ Some content → AreOfVersion version content
     → IsForeignWrong version o c → ⊥
 foreign_right version None content c is valid wrong = none-some content is
-foreign_right version (Some bytes) content c is valid wrong = wrong.1 (subst (AreOfVersion version) (sym (same_Some bytes content is)) valid)
+foreign_right version (Some bytes) content c is valid wrong = wrong.1
+    (subst (AreOfVersion version) (sym (same_Some bytes content is)) valid)
 
 -- a row that is wrong is no item that can be written, but for its name
 pub wrong_refuses : (t : Table) (row : LayerRow) (items : List Item) (f : Option ℕ) (c : RowsCause)
@@ -274,7 +279,8 @@ wrong_refuses t row items f c wrong (Foreign version content) h =
 -- ---- tiles
 
 -- the first row that is wrong, behind those that are written
-pub layer_fault : (t : Table) (i : ℕ) (d : LayerRow) (items : List Item) (e : RowError) → AreRelated (IsValidItemOf t) (take i t.layers) items
+pub layer_fault : (t : Table) (i : ℕ) (d : LayerRow) (items : List Item) (e : RowError)
+    → AreRelated (IsValidItemOf t) (take i t.layers) items
     → HasDistinctNames items → i < length t.layers → IfWrong (IsRowWrong t (flat_map names_in items) (get_or t.layers i d)) e
     → NotWritten t (at_layer i e)
 layer_fault t i d items Memory are distinct within h = tt

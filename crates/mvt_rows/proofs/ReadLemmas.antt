@@ -1,7 +1,7 @@
 -- Rows that were read are the tile that was read, and no other.
 use Rattle.std.proofs.Common.{ℕ, ◌<◌, List, length, ap, ◌∙◌, subst}
 use Rattle.mvt_base.specs.declared.TheConstants.{LIMIT}
-use Rattle.mvt_model.specs.CanonicalTiles.{canonical}
+use Rattle.mvt_tile_value.specs.CanonicalTiles.{canonical}
 use Rattle.mvt_rows.specs.Reading.{IsRead, IsRewritten, IsTooLarge}
 use Rattle.mvt_rows.specs.Tables.{Table}
 use Rattle.mvt_rows.specs.Written.{IsNoTile, IsTooLargeOfRows, IsWritten}

@@ -258,7 +258,8 @@ dropped start parts begun t is =
     ap (λ ps. take (length start.points) (ps ++ map point_row begun)) grown.points.is
     ∙ ap (take (length start.points)) (append_assoc start.points grown.points.more (map point_row begun))
     ∙ take_at start.points (grown.points.more ++ map point_row begun) (length start.points) refl in
-    ap (λ (u : Table). let v : Table = record u { parts = take (length start.parts) u.parts; points = take (length start.points) u.points } in v) is
+    ap (λ (u : Table). let v : Table = record u
+    { parts = take (length start.parts) u.parts; points = take (length start.points) u.points } in v) is
     ∙ ap₂ (λ p q. let v : Table = record base { parts = p; points = q } in v) rows points
     ∙ outside start parts start.parts start.points
 
@@ -294,6 +295,7 @@ part_told start parts part n t is count =
     ∙ ap (λ (u : Table). let v : Table = record u { points = u.points ++ [] } in v) (sym (fold_push start parts part))
 
 -- an id as its row has it
-pub id_is : (id : Option ℕ) → option_map (λ has. if has then Some (unwrap_or id 0) else None) (truth_of (if is_some id then 1 else 0)) ≡ Some id
+pub id_is : (id : Option ℕ) → option_map (λ has. if has then Some (unwrap_or id 0) else None)
+    (truth_of (if is_some id then 1 else 0)) ≡ Some id
 id_is None = refl
 id_is (Some n) = refl

@@ -12,27 +12,28 @@ use Rattle.mvt_feature.specs.declared.feature.Feature.{Feature}
 use Rattle.mvt_message.specs.declared.item.Item.{Item}
 use Rattle.mvt_message.specs.declared.item.Item.TheVariants.{Layer, Foreign}
 use Rattle.mvt_message.specs.declared.item.Layer.{Layer as ALayer}
-use Rattle.mvt_model.specs.declared.tile.Tile.{Tile}
+use Rattle.mvt_tile_value.specs.declared.tile.Tile.{Tile}
 use Rattle.mvt_rows.specs.declared.rows_error.RowPartError.{RowPartError}
 use Rattle.mvt_rows.specs.declared.rows_error.RowPartError.TheVariants.{Memory, NoPart}
 use Rattle.mvt_rows.specs.declared.rows.FeatureRow.{FeatureRow}
 use Rattle.mvt_rows.specs.declared.rows.LayerRow.{LayerRow}
 use Rattle.mvt_rows.specs.Tables.{Table}
 use Rattle.mvt_rows.specs.TileRows.{IsFeature, IsLayer, IsItem, IsTileOf, with_inner}
-use Rattle.mvt_rows.specs.Written.{FailsAs}
+use Rattle.mvt_rows.specs.Written.{IfNoPart}
 use Rattle.std.specs.Option.{option_map}
 use Rattle.std.specs.Result.{IfErr, IsErrAnd}
 use Rattle.std.proofs.lemmas.Option.{same_Some}
 
-pub fails_too : (P Q : Type 0) → (P → Q) → (r : RowPartError) → FailsAs P r → FailsAs Q r
+pub fails_too : (P Q : Type 0) → (P → Q) → (r : RowPartError) → IfNoPart P r → IfNoPart Q r
 fails_too P Q f Memory h = tt
 fails_too P Q f NoPart h = f h
 
 -- what was refused with this refusal was refused for the same reason, and one that follows from it
-pub fails_in : {A : Type 0} → (r : Result A RowPartError) (e : RowPartError) (P Q : Type 0) → IsErrAnd r (λ f. f ≡ e) → FailsAs P e → (P → Q)
-    → IfErr r (FailsAs Q)
+pub fails_in : {A : Type 0} → (r : Result A RowPartError) (e : RowPartError) (P Q : Type 0) → IsErrAnd r (λ f. f ≡ e) → IfNoPart P e
+    → (P → Q)
+    → IfErr r (IfNoPart Q)
 fails_in (Ok x) e P Q h k next = tt
-fails_in (Err f) e P Q h k next = subst (FailsAs Q) (sym h) (fails_too P Q next e k)
+fails_in (Err f) e P Q h k next = subst (IfNoPart Q) (sym h) (fails_too P Q next e k)
 
 pub related_more : {X Y : Type 0} → (R : X → Y → Type 0) (xs : List X) (i : ℕ) (d : X) (ys : List Y) (y : Y) (now : List Y)
     → AreRelated R (take i xs) ys → i < length xs → R (get_or xs i d) y → now ≡ ys ++ y ∷ [] → AreRelated R (take (i + 1) xs) now

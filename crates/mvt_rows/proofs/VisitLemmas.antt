@@ -40,7 +40,8 @@ rows_end Is held start are = by_rows are.rows are.held_are are.things_are
     by_rows [] e h = are.start_is ∙ sym (ap length (e ∙ append-nil are.before))
     by_rows (r ∷ rows) e h = absurd h
 
-rows_stay : {R X : Type 0} (Is Now : R → X → Type 0) → ((r : R) (x : X) → Is r x → Now r x) → (held now : List R) (start : ℕ) (things : List X)
+rows_stay : {R X : Type 0} (Is Now : R → X → Type 0) → ((r : R) (x : X) → Is r x → Now r x)
+    → (held now : List R) (start : ℕ) (things : List X)
     → now ≡ held → AreRows Is held start things → AreRows Now now start things
 rows_stay Is Now stays held now start things e are = record {
   before = are.before;

@@ -28,10 +28,10 @@ use Rattle.mvt_message.specs.declared.layer_writer.LayerWriter.{LayerWriter}
 use Rattle.mvt_message.specs.Rewriting.{HasWritten, HasWrittenUpTo}
 use Rattle.mvt_message.specs.CanonicalItems.{canonical_item}
 use Rattle.mvt_message.specs.ValidItems.{AreOfVersion, ValidItem, ValidLayer}
-use Rattle.mvt_model.specs.CanonicalTiles.{canonical}
-use Rattle.mvt_model.specs.Encoding.{AreEncoded}
-use Rattle.mvt_model.specs.Tiles.{HasDistinctNames}
-use Rattle.mvt_model.specs.ValidTiles.{Valid}
+use Rattle.mvt_tile_value.specs.CanonicalTiles.{canonical}
+use Rattle.mvt_tile_value.specs.Encoding.{AreEncoded}
+use Rattle.mvt_tile_value.specs.Tiles.{HasDistinctNames}
+use Rattle.mvt_tile_value.specs.ValidTiles.{Valid}
 use Rattle.mvt_tile.specs.TileRules.{repeats}
 use Rattle.mvt_tile.proofs.TileLaws.{names_apart_before, names_apart_more}
 use Rattle.mvt_rows.specs.declared.rows.FeatureRow.{FeatureRow}
@@ -52,7 +52,8 @@ use Rattle.mvt_rows.proofs.TileLemmas.{some_same, item_once, related_more}
 
 -- ---- lists
 
-pub related_with : {X Y : Type 0} → (R : X → Y → Type 0) (P : Y → Type 0) (xs : List X) (ys : List Y) → AreRelated R xs ys → AllByRecursion P ys
+pub related_with : {X Y : Type 0} → (R : X → Y → Type 0) (P : Y → Type 0) (xs : List X) (ys : List Y) → AreRelated R xs ys
+    → AllByRecursion P ys
     → AreRelated (λ x y. R x y × P y) xs ys
 related_with R P [] [] h k = tt
 related_with R P [] (y ∷ ys) h k = h
@@ -67,7 +68,8 @@ related_alone R P (x ∷ xs) [] h = absurd h
 related_alone R P (x ∷ xs) (y ∷ ys) h = let rest = related_alone R P xs ys h.1 in ((h.0.0, rest.0), (h.0.1, rest.1))
 
 -- what is related to a list is made of what is related to its parts
-pub related_at : {X Y : Type 0} → (R : X → Y → Type 0) (front : List X) (x : X) (back : List X) (ys : List Y) → AreRelated R (front ++ x ∷ back) ys
+pub related_at : {X Y : Type 0} → (R : X → Y → Type 0) (front : List X) (x : X) (back : List X) (ys : List Y)
+    → AreRelated R (front ++ x ∷ back) ys
     → (before : List Y) × (y : Y) × (after : List Y) × (ys ≡ before ++ y ∷ after) × AreRelated R front before × R x y
 related_at R [] x back [] h = absurd h
 related_at R [] x back (y ∷ ys) h = ([], y, ys, refl, tt, h.0)
@@ -78,7 +80,8 @@ related_at R (z ∷ front) x back (y ∷ ys) h =
 
 -- ---- features
 
-pub feature_of_parts : (t : Table) (keys : List (List ℕ)) (values : List Value) (row : FeatureRow) (integers : List ℕ) (parts : FeatureParts)
+pub feature_of_parts : (t : Table) (keys : List (List ℕ)) (values : List Value) (row : FeatureRow) (integers : List ℕ)
+    (parts : FeatureParts)
     (kind : Kind) → AreInRange keys values → AreFeatureParts t keys values row integers parts → parts.kind ≡ Some kind
     → (f : Feature) × (f.id ≡ parts.id) × Draws kind integers f.geometry × Names keys values parts.tags.now f.attributes
     × IsValidFeatureOf t keys values row f
@@ -108,8 +111,12 @@ pub features_written : (t : Table) (keys others : List (List ℕ)) (values : Lis
     → (all : List Feature) × AreRelated (IsValidFeatureOf t keys values) (take (i + 1) rows) all × HasWrittenUpTo LIMIT keys values w all
 features_written t keys others values rows i d features w same so_far within next =
     let (f, is, written) =
-    subst (λ k. (f : Feature) × IsValidFeatureOf t k values (get_or rows i d) f × HasWrittenUpTo LIMIT k values w (features ++ f ∷ [])) same next in
-    (features ++ f ∷ [], related_more (IsValidFeatureOf t keys values) rows i d features f (features ++ f ∷ []) so_far within is refl, written)
+    subst (λ k. (f : Feature) × IsValidFeatureOf t k values (get_or rows i d) f × HasWrittenUpTo LIMIT k values w (features ++ f ∷ []))
+    same next in (
+      features ++ f ∷ [],
+      related_more (IsValidFeatureOf t keys values) rows i d features f (features ++ f ∷ []) so_far within is refl,
+      written,
+    )
 
 -- ---- layers
 
@@ -140,7 +147,8 @@ pub parts_range : (t : Table) (row : LayerRow) (parts : LayerParts) (keys : List
 parts_range t row parts keys values are keys_are values_are =
     subst (λ k. AreInRange k values) (sym keys_are) (subst (λ v. AreInRange parts.keys.items v) (sym values_are) are.in_range)
 
-pub layer_made : (t : Table) (row : LayerRow) (parts : LayerParts) (name : List ℕ) (features : List Feature) (keys : List (List ℕ)) (values : List Value)
+pub layer_made : (t : Table) (row : LayerRow) (parts : LayerParts) (name : List ℕ) (features : List Feature) (keys : List (List ℕ))
+    (values : List Value)
     → text_of t.texts row.name ≡ Some name → IsUtf8 name → row.extent < 2 ^ 32 → AreLayerParts t row parts
     → keys ≡ parts.keys.items → values ≡ parts.values.items → AreRelated (IsValidFeatureOf t keys values) parts.rows.now features
     → IsValidLayerOf t row (record { name = name; extent = row.extent; features = features })
@@ -219,24 +227,24 @@ layer_named names after items layer text new named distinct same added is_new mo
 
 pub layer_added : (t : Table) (row : LayerRow) (layer : ALayer) (items : List Item) (old w : RowsWriter) (name text : List ℕ) (new : Bool)
     → row.version ≡ 2 → text_of t.texts row.name ≡ Some name → text ≡ name → HasAdded old items → IsValidLayerOf t row layer
-    → new ≡ not (repeats old.names.keys (text ∷ [])) → new ≡ true
-    → ((n : List ℕ) → list_any (bytes_eq n) w.names.keys ≡ (list_any (bytes_eq n) old.names.keys || list_any (bytes_eq n) (text ∷ [])))
+    → new ≡ not (repeats old.names (text ∷ [])) → new ≡ true
+    → ((n : List ℕ) → list_any (bytes_eq n) w.names ≡ (list_any (bytes_eq n) old.names || list_any (bytes_eq n) (text ∷ [])))
     → AreEncoded LIMIT (items ++ Layer layer ∷ []) w.out → HasAddedRow t row w items
 unfolding ValidItem
 layer_added t row layer items old w name text new is named same has valid added is_new more encoded =
     let names =
-    layer_named old.names.keys w.names.keys items layer text new has.named has.distinct (same ∙ some_same _ _ _ named valid.0.name)
+    layer_named old.names w.names items layer text new has.named has.distinct (same ∙ some_same _ _ _ named valid.0.name)
     added is_new more in
     (Layer layer, ((is, valid.0), valid.1), record { named = names.0; distinct = names.1; encoded = encoded })
 
 pub foreign_added : (t : Table) (row : LayerRow) (content : List ℕ) (items : List Item) (old w : RowsWriter)
     → row.version ≢ 2 → part_of t.texts row.bytes ≡ Some content → AreOfVersion row.version content → HasAdded old items
-    → w.names.keys ≡ old.names.keys → AreEncoded LIMIT (items ++ Foreign row.version content ∷ []) w.out → HasAddedRow t row w items
+    → w.names ≡ old.names → AreEncoded LIMIT (items ++ Foreign row.version content ∷ []) w.out → HasAddedRow t row w items
 unfolding ValidItem
 foreign_added t row content items old w not2 named valid has same encoded =
     let names =
-    named_more old.names.keys w.names.keys items (Foreign row.version content) has.named has.distinct refl
-    (λ n. ap (list_any (bytes_eq n)) same ∙ or_nothing (list_any (bytes_eq n) old.names.keys)) in (
+    named_more old.names w.names items (Foreign row.version content) has.named has.distinct refl
+    (λ n. ap (list_any (bytes_eq n)) same ∙ or_nothing (list_any (bytes_eq n) old.names)) in (
       Foreign row.version content,
       ((not2, refl, named), valid),
       record { named = names.0; distinct = names.1; encoded = encoded },

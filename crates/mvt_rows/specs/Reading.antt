@@ -2,10 +2,10 @@
 use Rattle.std.specs.Prelude.{◌≡◌, ℕ, ◌<◌, List, [], ◌∷◌, length}
 use Rattle.mvt_base.specs.declared.TheConstants.{LIMIT}
 use Rattle.mvt_message.specs.declared.item.Item.{Item}
-use Rattle.mvt_model.specs.declared.tile.Tile.{Tile}
-use Rattle.mvt_model.specs.CanonicalTiles.{canonical}
-use Rattle.mvt_model.specs.Tiles.{IsTile}
-use Rattle.mvt_model.specs.ValidTiles.{Valid}
+use Rattle.mvt_tile_value.specs.declared.tile.Tile.{Tile}
+use Rattle.mvt_tile_value.specs.CanonicalTiles.{canonical}
+use Rattle.mvt_tile_value.specs.Tiles.{IsTile}
+use Rattle.mvt_tile_value.specs.ValidTiles.{Valid}
 use Rattle.mvt_tile.specs.Finding.{IsFirst}
 use Rattle.mvt_rows.specs.Tables.{Table, table_size}
 use Rattle.mvt_rows.specs.TileRows.{IsTileOf}

@@ -16,9 +16,9 @@ use Rattle.mvt_message.specs.declared.item.Item.{Item}
 use Rattle.mvt_message.specs.declared.item.Layer.{Layer as ALayer}
 use Rattle.mvt_message.specs.Items.{names_in}
 use Rattle.mvt_message.specs.ValidItems.{AreOfVersion, ValidItem, ValidLayer}
-use Rattle.mvt_model.specs.declared.tile.Tile.{Tile}
-use Rattle.mvt_model.specs.Tiles.{HasDistinctNames}
-use Rattle.mvt_model.specs.ValidTiles.{Valid}
+use Rattle.mvt_tile_value.specs.declared.tile.Tile.{Tile}
+use Rattle.mvt_tile_value.specs.Tiles.{HasDistinctNames}
+use Rattle.mvt_tile_value.specs.ValidTiles.{Valid}
 use Rattle.mvt_tile.specs.TileRules.{repeats}
 use Rattle.mvt_rows.specs.declared.rows.LayerRow.{LayerRow}
 use Rattle.mvt_rows.specs.declared.rows.FeatureRow.{FeatureRow}

@@ -16,7 +16,7 @@ use Rattle.mvt_feature.specs.declared.feature.Feature.{Feature}
 use Rattle.mvt_message.specs.declared.item.Item.{Item}
 use Rattle.mvt_message.specs.declared.item.Item.TheVariants.{Layer, Foreign}
 use Rattle.mvt_message.specs.declared.item.Layer.{Layer as ALayer}
-use Rattle.mvt_model.specs.declared.tile.Tile.{Tile}
+use Rattle.mvt_tile_value.specs.declared.tile.Tile.{Tile}
 use Rattle.mvt_rows.specs.declared.rows.Span.{Span}
 use Rattle.mvt_rows.specs.declared.rows.LayerRow.{LayerRow}
 use Rattle.mvt_rows.specs.declared.rows.FeatureRow.{FeatureRow}

@@ -8,8 +8,8 @@ use Rattle.mvt_attrs.specs.TagRules.{tag_fault}
 use Rattle.mvt_feature.specs.Valid.{ValidValue}
 use Rattle.mvt_message.specs.declared.item.Item.{Item}
 use Rattle.mvt_message.specs.Items.{names_in}
-use Rattle.mvt_model.specs.Encoding.{AreEncoded}
-use Rattle.mvt_model.specs.Tiles.{HasDistinctNames}
+use Rattle.mvt_tile_value.specs.Encoding.{AreEncoded}
+use Rattle.mvt_tile_value.specs.Tiles.{HasDistinctNames}
 use Rattle.mvt_tile.specs.TileRules.{repeats}
 use Rattle.mvt_rows.specs.declared.rows.FeatureRow.{FeatureRow}
 use Rattle.mvt_rows.specs.declared.rows.LayerRow.{LayerRow}
@@ -28,7 +28,8 @@ entry_count t =
     + (length t.parts + (length t.points + (length t.integers + length t.texts)))))))
 
 -- what a feature's row says, where its tags have no fault, and the integers that draw its geometry, where there are any
-pub record AreFeatureParts (t : Table) (keys : List (List ℕ)) (values : List Value) (row : FeatureRow) (integers : List ℕ) (parts : FeatureParts) : Type 0 where
+pub record AreFeatureParts (t : Table) (keys : List (List ℕ)) (values : List Value) (row : FeatureRow) (integers : List ℕ)
+    (parts : FeatureParts) : Type 0 where
   pub id : id_of row ≡ Some parts.id
   pub id_fits : IfSome parts.id (λ n. n < 2 ^ 64)
   pub tagged : part_of t.tags row.tags ≡ Some parts.tags.now
@@ -57,7 +58,7 @@ AreNames names items = (n : List ℕ) → list_any (bytes_eq n) names ≡ list_a
 
 -- the names of items, which are distinct, and their canonical bytes
 pub record HasAdded (w : RowsWriter) (items : List Item) : Type 0 where
-  pub named : AreNames w.names.keys items
+  pub named : AreNames w.names items
   pub distinct : HasDistinctNames items
   pub encoded : AreEncoded LIMIT items w.out
 

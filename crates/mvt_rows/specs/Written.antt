@@ -3,9 +3,9 @@ use Rattle.std.specs.Prelude.{◌≡◌, ℕ, ◌<◌, List, length, Option, Som
 use Rattle.mvt_base.specs.declared.TheConstants.{LIMIT}
 use Rattle.mvt_attrs.specs.declared.resolving.TagError.{TagError}
 use Rattle.mvt_attrs.specs.declared.resolving.TagError.TheVariants as tags
-use Rattle.mvt_model.specs.declared.tile.Tile.{Tile}
-use Rattle.mvt_model.specs.CanonicalTiles.{canonical}
-use Rattle.mvt_model.specs.ValidTiles.{Valid}
+use Rattle.mvt_tile_value.specs.declared.tile.Tile.{Tile}
+use Rattle.mvt_tile_value.specs.CanonicalTiles.{canonical}
+use Rattle.mvt_tile_value.specs.ValidTiles.{Valid}
 use Rattle.mvt_rows.specs.declared.rows_cause.RowsCause.{RowsCause}
 use Rattle.mvt_rows.specs.declared.rows_error.RowPartError.{RowPartError}
 use Rattle.mvt_rows.specs.declared.rows_error.RowPartError.TheVariants as part
@@ -23,9 +23,9 @@ of_tags tags.Memory = row.Memory
 of_tags (tags.Fault index cause) = row.Wrong None (of_tag_cause cause)
 
 -- why nothing is made of a part: there is none, as the fact says, or want of memory
-abbrev pub FailsAs : Type 0 → RowPartError → Type 0
-FailsAs fact part.Memory = ⊤
-FailsAs fact part.NoPart = fact
+abbrev pub IfNoPart : Type 0 → RowPartError → Type 0
+IfNoPart fact part.Memory = ⊤
+IfNoPart fact part.NoPart = fact
 
 -- what was made, or nothing where there is no such part
 abbrev pub if_any : {X : Type 0} → Result X RowPartError → Result (Option X) RowError

@@ -1,6 +1,6 @@
 //! Laws about the definitions alone: functions without effect, whose contract is the law.
 ghost use Rattle.std.specs.Prelude.{◌≡◌, ℕ, List};
-ghost use Rattle.mvt_model.specs.declared.tile.Tile.{Tile};
+ghost use Rattle.mvt_tile_value.specs.declared.tile.Tile.{Tile};
 ghost use Rattle.mvt_rows.specs.Reading.{IsRead, IsRewritten, IsTooLarge};
 ghost use Rattle.mvt_rows.specs.Tables.{Table};
 ghost use Rattle.mvt_rows.specs.TileRows.{IsTileOf};

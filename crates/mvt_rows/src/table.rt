@@ -2,7 +2,7 @@
 ghost use Rattle.std.specs.Prelude.{◌≡◌, ℕ, IsUtf8, OnOk, OnErr, length, nat_le};
 ghost use Rattle.std.specs.List.{AllByRecursion, fold};
 ghost use Rattle.mvt_attrs.specs.declared.value.Value.TheVariants as values;
-ghost use Rattle.mvt_feature.specs.Meanings.{meant};
+ghost use Rattle.mvt_feature.specs.ValueRefs.{referred_value};
 ghost use Rattle.mvt_geometry.specs.Visiting.{Part, EndsAs};
 ghost use Rattle.mvt_rows.specs.Lent.{table_of};
 ghost use Rattle.mvt_rows.specs.Tables.{no_rows, with_key, with_value, with_number, table_size};
@@ -14,7 +14,7 @@ mod visiting;
 use crate::places::Places;
 use crate::rows::{FeatureRow, LayerRow, PartRow, PointRow, Rows, Span, ValueRow};
 use mvt_base::Text;
-use mvt_feature::Meaning;
+use mvt_feature::ValueRef;
 use mvt_geometry::{GeometryVisitor, Point, Ring};
 use std::alloc::{AllocError, Global};
 use std::marker::Model;
@@ -202,18 +202,18 @@ impl Table {
     }
 
     /// Adds a value, or nothing where memory runs out.
-    fn add_value(&mut self, meaning: Meaning<'_>) -> Result<(), AllocError>
-        ensures ok { OnOk result (self.new ≡ with_value self.old (meant meaning.entry)) }
+    fn add_value(&mut self, meaning: ValueRef<'_>) -> Result<(), AllocError>
+        ensures ok { OnOk result (self.new ≡ with_value self.old (referred_value meaning.entry)) }
         ensures err { OnErr result (self.new ≡ self.old) }
     {
         match meaning {
-            Meaning::Text(text) => self.add_text(text),
-            Meaning::Float(bits) => self.add_number(2, u64::from(bits)),
-            Meaning::Double(bits) => self.add_number(3, bits),
-            Meaning::Int(number) => self.add_number(4, number.cast_unsigned()),
-            Meaning::Uint(number) => self.add_number(5, number),
-            Meaning::Sint(number) => self.add_number(6, number.cast_unsigned()),
-            Meaning::Bool(truth) => self.add_number(7, u64::from(truth)),
+            ValueRef::Text(text) => self.add_text(text),
+            ValueRef::Float(bits) => self.add_number(2, u64::from(bits)),
+            ValueRef::Double(bits) => self.add_number(3, bits),
+            ValueRef::Int(number) => self.add_number(4, number.cast_unsigned()),
+            ValueRef::Uint(number) => self.add_number(5, number),
+            ValueRef::Sint(number) => self.add_number(6, number.cast_unsigned()),
+            ValueRef::Bool(truth) => self.add_number(7, u64::from(truth)),
         }
     }
 

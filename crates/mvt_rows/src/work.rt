@@ -42,7 +42,7 @@ impl Work {
     /// # Errors
     ///
     /// More than are left.
-    pub(crate) fn count(&mut self, entries: u64) -> Result<(), AllocError>
+    pub(crate) fn spend(&mut self, entries: u64) -> Result<(), AllocError>
         ensures counted { OnOk result (self.new.left + entries ≡ self.old.left) }
         ensures past { OnErr result (self.old.left < entries) }
     {

@@ -8,7 +8,7 @@ ghost use Rattle.mvt_message.specs.declared.item.Item.TheVariants.{Layer as IsAL
 ghost use Rattle.mvt_message.specs.declared.item.Layer.{Layer};
 ghost use Rattle.mvt_message.specs.Items.{names_in};
 ghost use Rattle.mvt_message.specs.Rewriting.{IsPayloadOf};
-ghost use Rattle.mvt_model.specs.Encoding.{AreEncoded};
+ghost use Rattle.mvt_tile_value.specs.Encoding.{AreEncoded};
 ghost use Rattle.mvt_rows.specs.declared.rows_error.RowsError.TheVariants.{Memory};
 ghost use Rattle.mvt_rows.specs.Lent.{table_of};
 ghost use Rattle.mvt_rows.specs.RowsFaults.{AreValid, IsFaultOf, IsRowWrong};
@@ -28,11 +28,10 @@ use crate::work::Work;
 use layers::layer_payload;
 use mvt_base::Text;
 use mvt_message::are_of_version;
-use mvt_model::encode_payload;
-use mvt_tile::add_name;
+use mvt_tile::NameSet;
+use mvt_tile_value::encode_payload;
 use parts::part;
 use std::alloc::{AllocError, Global};
-use std::collections::BTreeSet;
 use std::str;
 
 /// The canonical bytes of the tile that rows are. What it holds are these bytes, and of one layer
@@ -80,7 +79,7 @@ pub fn rows_fault(alloc: Global, rows: &Rows) -> Result<Option<RowsFault>, RowsE
 #[derive(Drop)]
 struct RowsWriter {
     work: Work,
-    names: BTreeSet<Text>,
+    names: NameSet,
     out: Option<Vec<u8>>,
 }
 
@@ -90,7 +89,7 @@ impl RowsWriter {
     {
         RowsWriter {
             work: Work::of(rows),
-            names: BTreeSet::new(alloc),
+            names: NameSet::new(alloc),
             out: Some(Vec::new(alloc)),
         }
     }
@@ -122,7 +121,7 @@ impl RowsWriter {
         let Ok(name) = str::from_utf8(bytes) else {
             return Err(RowError::Wrong(None, RowsCause::NameText));
         };
-        if !add_name(&mut self.names, Some(Text::from_str(alloc, name)?))? {
+        if !self.names.add(Some(Text::from_str(alloc, name)?))? {
             return Err(RowError::Wrong(None, RowsCause::RepeatedName));
         }
         let payload = layer_payload(alloc, rows, row, name, &mut self.work)?;

@@ -141,7 +141,8 @@ counted_more files file old new verdict counted judged adds =
     ap₂ (λ (x : ℕ) (p : ℕ × ℕ). record { accepted = x; refused = p.0; unread = p.1 }) a (ap₂ (λ (y z : ℕ). (y, z)) r u)
 
 -- one file more
-pub said_more : (Says : List ℕ → Reply → Type 0) (holds : List ℕ → Option (List ℕ)) (names : List (List ℕ)) (name : List ℕ) (a b c : RunState)
+pub said_more : (Says : List ℕ → Reply → Type 0) (holds : List ℕ → Option (List ℕ)) (names : List (List ℕ)) (name : List ℕ)
+    (a b c : RunState)
     (old new : Tally) (verdict : Verdict)
     → ReportsFiles Says holds names a b [] old → ReportsFile Says holds name b c verdict → IsAdded old new verdict
     → ReportsFiles Says holds (names ++ name ∷ []) a c [] new
@@ -156,7 +157,8 @@ said_more Says holds names name a b c old new verdict said one adds =
     record {
       files = files ++ file ∷ [];
       checked =
-          related-append (λ n (f : Checked). (f.name ≡ n) × IsFileReply Says (holds n) f.reply) names files (name ∷ []) (file ∷ []) said.checked
+          related-append (λ n (f : Checked). (f.name ≡ n) × IsFileReply Says (holds n) f.reply) names files (name ∷ []) (file ∷ [])
+              said.checked
           ((refl, one.checked), tt);
       visited =
           subst (AddsAll a.visits c.visits) (sym (map-append (λ (f : Checked). visit_of f.name f.reply) files (file ∷ [])))
@@ -164,7 +166,8 @@ said_more Says holds names name a b c old new verdict said one adds =
       written =
           subst (Appends a.output.taken c.output.taken)
           (sym (flat_map-append written_of files (file ∷ []) ∙ ap (λ t. flat_map written_of files ++ t) (append-nil (written_of file))))
-          (Appends-trans a.output.taken b.output.taken c.output.taken (flat_map written_of files) (written_of file) said.written one.written);
+          (Appends-trans a.output.taken b.output.taken c.output.taken (flat_map written_of files) (written_of file) said.written
+              one.written);
       printed =
           subst (Prints a.errors c.errors) lines
           (prints-trans a.errors b.errors c.errors (flat_map printed_of files ++ [])
@@ -173,13 +176,15 @@ said_more Says holds names name a b c old new verdict said one adds =
     }
 
 -- so many files were counted as there are names
-pub said_size : (Says : List ℕ → Reply → Type 0) (holds : List ℕ → Option (List ℕ)) (names : List (List ℕ)) (a b : RunState) (line : List ℕ) (tally : Tally)
+pub said_size : (Says : List ℕ → Reply → Type 0) (holds : List ℕ → Option (List ℕ)) (names : List (List ℕ)) (a b : RunState)
+    (line : List ℕ) (tally : Tally)
     → ReportsFiles Says holds names a b line tally → tally.accepted + tally.refused + tally.unread ≡ length names
 said_size Says holds names a b line tally said =
     ap (λ (t : Tally). t.accepted + t.refused + t.unread) said.counted ∙ tally_size said.files
     ∙ sym (length-related (λ n (f : Checked). (f.name ≡ n) × IsFileReply Says (holds n) f.reply) names said.files said.checked)
 
-pub said_step : (Says : List ℕ → Reply → Type 0) (holds held : List ℕ → Option (List ℕ)) (all names : List (List ℕ)) (name shown : List ℕ) (a b c : RunState)
+pub said_step : (Says : List ℕ → Reply → Type 0) (holds held : List ℕ → Option (List ℕ)) (all names : List (List ℕ)) (name shown : List ℕ)
+    (a b c : RunState)
     (old new : Tally) (verdict : Verdict)
     → ReportsFiles Says holds names a b [] old → ReportsFile Says held shown b c verdict → held ≡ holds → shown ≡ name
     → all ≡ names ++ name ∷ [] → IsAdded old new verdict → ReportsFiles Says holds all a c [] new
@@ -213,7 +218,8 @@ weaker_err (Ok x) f h = tt
 weaker_err (Err e) f h = f e h
 
 -- an end before the first file was checked
-pub cut_first : (Says : List ℕ → Reply → Type 0) (holds : List ℕ → Option (List ℕ)) (names : List (List ℕ)) (old : RunState) (visits : Option (List Visit))
+pub cut_first : (Says : List ℕ → Reply → Type 0) (holds : List ℕ → Option (List ℕ)) (names : List (List ℕ)) (old : RunState)
+    (visits : Option (List Visit))
     (next : List Visit)
     → IsNext names next → AddsAll old.visits visits next → EndsEarly Says holds names old (record old { visits = visits }) [] Memory
 cut_first Says holds names old visits next is_next visited = record {
@@ -230,7 +236,8 @@ cut_first Says holds names old visits next is_next visited = record {
 }
 
 -- an end within a file, of which there is something to say
-cut_within : (Says : List ℕ → Reply → Type 0) (holds : List ℕ → Option (List ℕ)) (name : List ℕ) (reply : Option Reply) (old new : RunState) (failure : Failure)
+cut_within : (Says : List ℕ → Reply → Type 0) (holds : List ℕ → Option (List ℕ)) (name : List ℕ) (reply : Option Reply)
+    (old new : RunState) (failure : Failure)
     → IsFileReply Says (holds name) reply → AddsAll old.visits new.visits (visit_of name reply ∷ [])
     → TakesUntil old.output.taken new.output.taken (written_of (record { name = name; reply = reply })) failure
     → Prints old.errors new.errors (printed_of (record { name = name; reply = reply }))
@@ -286,7 +293,8 @@ cut_later : (Says : List ℕ → Reply → Type 0) (holds held : List ℕ → Op
 cut_later Says holds held all names name shown behind a b c tally failure said cut same shows all_is =
     let one : shown ∷ [] ≡ cut.front ++ cut.rest = cut.of_names in
     let visits = λ (fs : List Checked). map (λ f. visit_of f.name f.reply) fs in
-    let lines : (flat_map printed_of said.files ++ []) ++ (flat_map printed_of cut.files ++ []) ≡ flat_map printed_of (said.files ++ cut.files) ++ [] =
+    let lines : (flat_map printed_of said.files ++ []) ++ (flat_map printed_of cut.files ++ []) ≡ flat_map printed_of
+        (said.files ++ cut.files) ++ [] =
     ap (λ t. t ++ (flat_map printed_of cut.files ++ [])) (append-nil (flat_map printed_of said.files))
     ∙ sym (append_assoc (flat_map printed_of said.files) (flat_map printed_of cut.files) [])
     ∙ ap (λ t. t ++ []) (sym (flat_map-append printed_of said.files cut.files)) in
@@ -310,7 +318,8 @@ cut_later Says holds held all names name shown behind a b c tally failure said c
           (adds-trans a.visits b.visits c.visits (visits said.files) (visits cut.files ++ cut.next) said.visited cut.visited);
       taken =
           subst (λ text. TakesUntil a.output.taken c.output.taken text failure) (sym (flat_map-append written_of said.files cut.files))
-          (takes_on a.output.taken b.output.taken c.output.taken (flat_map written_of said.files) (flat_map written_of cut.files) failure said.written cut.taken);
+          (takes_on a.output.taken b.output.taken c.output.taken (flat_map written_of said.files) (flat_map written_of cut.files) failure
+              said.written cut.taken);
       printed =
           subst (Prints a.errors c.errors) lines
           (prints-trans a.errors b.errors c.errors (flat_map printed_of said.files ++ [])
@@ -318,7 +327,8 @@ cut_later Says holds held all names name shown behind a b c tally failure said c
     }
 
 -- the line that tells why
-pub cut_printed : (Says : List ℕ → Reply → Type 0) (holds : List ℕ → Option (List ℕ)) (names : List (List ℕ)) (a b : RunState) (errors : Outflow)
+pub cut_printed : (Says : List ℕ → Reply → Type 0) (holds : List ℕ → Option (List ℕ)) (names : List (List ℕ)) (a b : RunState)
+    (errors : Outflow)
     (line : List ℕ) (failure : Failure)
     → EndsEarly Says holds names a b [] failure → Prints b.errors errors line
     → EndsEarly Says holds names a (record b { errors = errors }) line failure
@@ -337,7 +347,8 @@ cut_printed Says holds names a b errors line failure cut printed = record {
       (prints-trans a.errors b.errors errors (flat_map printed_of cut.files ++ []) line cut.printed printed);
 }
 
-pub cut_at_start : (Says : List ℕ → Reply → Type 0) (holds : List ℕ → Option (List ℕ)) (names : List (List ℕ)) (old : RunState) (errors : Outflow) (line : List ℕ)
+pub cut_at_start : (Says : List ℕ → Reply → Type 0) (holds : List ℕ → Option (List ℕ)) (names : List (List ℕ)) (old : RunState)
+    (errors : Outflow) (line : List ℕ)
     → Prints old.errors errors line → EndsEarly Says holds names old (record old { errors = errors }) line Memory
 cut_at_start Says holds names old errors line printed =
     cut_printed Says holds names old old errors line Memory

@@ -46,7 +46,7 @@ pub listed : (limit : ℕ) (left : Option (List ℕ)) (bytes slice : List ℕ) (
 listed limit None bytes slice reply read same is = tt
 listed limit (Some input) bytes slice reply read same is =
     is ∙ ap (fields_reply limit) (same ∙ read)
-    ∙ ap₂ (λ text printed. record { written = Some text; printed = option_map (λ f. fault_line f ++ codes "\n") printed })
+    ∙ ap₂ (λ text printed. record { output = Some text; error_line = option_map (λ f. fault_line f ++ codes "\n") printed })
     (front_reports_lines limit input) (front_reports_fault limit input)
 
 printed-front : (limit : ℕ) (input : List ℕ) (reply : Reply) → IsReply limit Check (take (limit + 1) input) reply

@@ -3,9 +3,9 @@ use Rattle.std.proofs.Common.{◌≡◌, ℕ, ◌+◌, List, take, Option, Some,
 use Rattle.mvt_base.specs.declared.TheConstants.{LIMIT}
 use Rattle.mvt_tile.proofs.TileLaws.{tile_or_fault_clean, tile_or_fault_once, tile_or_fault_there}
 use Rattle.mvt_tile.specs.declared.fault.Fault.{Fault}
-use Rattle.mvt_model.specs.declared.tile.Tile.{Tile}
+use Rattle.mvt_tile_value.specs.declared.tile.Tile.{Tile}
 use Rattle.mvt_tile.specs.TileRules.{fault_within}
-use Rattle.mvt_model.specs.Tiles.{IsTile}
+use Rattle.mvt_tile_value.specs.Tiles.{IsTile}
 use Rattle.mvt_tasks.specs.declared.reply.Reply.{Reply}
 use Rattle.mvt_tasks.specs.declared.task.Task.{Task}
 use Rattle.mvt_tasks.specs.declared.task.Task.TheVariants.{Fields, Show, Draw, Check, Explain, Rewrite, Extract}
@@ -16,7 +16,8 @@ there_is : (of_tile : Tile → Reply) (of_fault : Fault → Reply) (input : List
 there_is of_tile of_fault input None is there = let (tile, is_tile) = there refl in (of_tile tile, inl (tile, is_tile, refl))
 there_is of_tile of_fault input (Some fault) is there = (of_fault fault, inr (fault, is, refl))
 
-judged : (of_tile : Tile → Reply) (of_fault : Fault → Reply) (input : List ℕ) → (reply : Reply) × IsJudged LIMIT of_tile of_fault input reply
+judged : (of_tile : Tile → Reply) (of_fault : Fault → Reply) (input : List ℕ)
+    → (reply : Reply) × IsJudged LIMIT of_tile of_fault input reply
 judged of_tile of_fault input = there_is of_tile of_fault input (fault_within LIMIT input) refl (tile_or_fault_there input)
 
 printed : (of_tile : Tile → Reply) (input : List ℕ) → (reply : Reply) × IsPrinted LIMIT of_tile input reply
@@ -44,7 +45,8 @@ judged_once of_tile of_fault input a b (inr (f, is_f, a_is)) (inr (g, is_g, b_is
     let same : f ≡ g = cc in
     a_is ∙ ap of_fault same ∙ sym b_is
 
-printed_once : (of_tile : Tile → Reply) (input : List ℕ) (a b : Reply) → IsPrinted LIMIT of_tile input a → IsPrinted LIMIT of_tile input b → a ≡ b
+printed_once : (of_tile : Tile → Reply) (input : List ℕ) (a b : Reply) → IsPrinted LIMIT of_tile input a → IsPrinted LIMIT of_tile input b
+    → a ≡ b
 printed_once of_tile input a b a_is b_is = judged_once of_tile fault_reply input a b a_is b_is
 
 pub has_one_reply : (task : Task) (input : List ℕ) (a b : Reply) → IsReply LIMIT task input a → IsReply LIMIT task input b → a ≡ b

@@ -1,7 +1,7 @@
 -- The first name that no layer of a tile has.
 use Rattle.std.proofs.Common.{◌≡◌, ℕ, ◌+◌, ◌<◌, suc, Bool, true, false, cond, List, [], ◌∷◌, length, find, slice_get, Option, Some, None, refl, sym, ap, ◌∙◌, arith}
 use Rattle.std.specs.List.{position_from}
-use Rattle.mvt_model.specs.declared.tile.Tile.{Tile}
+use Rattle.mvt_tile_value.specs.declared.tile.Tile.{Tile}
 use Rattle.mvt_tile.specs.Extraction.{first_missing}
 use Rattle.mvt_tasks.specs.Output.{is_missing}
 

@@ -8,12 +8,12 @@ use Rattle.std.proofs.lemmas.Option.{IfSome_then}
 use Rattle.mvt_base.specs.Reports.{Reports}
 use Rattle.mvt_io.specs.Counts.{counted}
 use Rattle.mvt_io.specs.States.{Faults, NoneFailed, after_call, failed}
-use Rattle.mvt_model.specs.declared.tile.Tile.{Tile}
+use Rattle.mvt_tile_value.specs.declared.tile.Tile.{Tile}
 use Rattle.mvt_tile.specs.declared.fault.DecodeError.{DecodeError}
 use Rattle.mvt_tile.specs.declared.fault.DecodeError.TheVariants.{Memory, Fault, Read}
-use Rattle.mvt_model.specs.CanonicalTiles.{canonical}
-use Rattle.mvt_model.specs.Tiles.{IsTile}
-use Rattle.mvt_model.specs.ValidTiles.{Valid}
+use Rattle.mvt_tile_value.specs.CanonicalTiles.{canonical}
+use Rattle.mvt_tile_value.specs.Tiles.{IsTile}
+use Rattle.mvt_tile_value.specs.ValidTiles.{Valid}
 use Rattle.mvt_tile.specs.Extraction.{pick, first_missing}
 use Rattle.mvt_tile.specs.Reading.{fault_of}
 use Rattle.mvt_tile.specs.TileRules.{fault_within}
@@ -97,7 +97,8 @@ module _ (limit : ℕ) (left : Option (List ℕ)) (tile : Tile) (there : IfSome 
 ends_failed : (a b c : Faults) (kind : ErrorKind) → NoneFailed a b → c ≡ failed kind b → EndsFailed a c
 ends_failed a b c kind none is = (
   kind,
-  record { once = ap (λ (f : Faults). f.count) is ∙ ap counted none; reported = ap (λ (f : Faults). f.last) is; ended = ap (λ (f : Faults). f.ended) is },
+  record { once = ap (λ (f : Faults). f.count) is
+      ∙ ap counted none; reported = ap (λ (f : Faults). f.last) is; ended = ap (λ (f : Faults). f.ended) is },
 )
 
 module _ {T U : Type 0} (s : Result T Failure) (r : Result U ErrorKind) (a b c : Faults) where

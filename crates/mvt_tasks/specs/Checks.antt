@@ -59,11 +59,11 @@ marked_text name (Some text) = marked (name ++ codes ": ") true text
 
 abbrev pub text_of : Option Reply → Option (List ℕ)
 text_of None = None
-text_of (Some reply) = reply.written
+text_of (Some reply) = reply.output
 
 abbrev pub line_printed : Option Reply → Option (List ℕ)
 line_printed None = Some (codes "read failed\n")
-line_printed (Some reply) = reply.printed
+line_printed (Some reply) = reply.error_line
 
 -- what goes to the output, and what goes to the error stream, each line after the file's name
 unfoldable pub written_of : Checked → List ℕ
@@ -79,7 +79,7 @@ verdict_printed (Some line) = Refused
 -- a tile for which a line is told is refused
 abbrev pub verdict_of : Option Reply → Verdict
 verdict_of None = Unread
-verdict_of (Some reply) = verdict_printed reply.printed
+verdict_of (Some reply) = verdict_printed reply.error_line
 
 abbrev pub is_accepted : Verdict → Bool
 is_accepted Accepted = true
@@ -146,7 +146,8 @@ pub record ReportsFiles (Says : List ℕ → Reply → Type 0) (holds : List ℕ
   pub counted : tally ≡ tally_of files
 
 -- the same of one file
-pub record ReportsFile (Says : List ℕ → Reply → Type 0) (holds : List ℕ → Option (List ℕ)) (name : List ℕ) (old new : RunState) (verdict : Verdict) : Type 0 where
+pub record ReportsFile (Says : List ℕ → Reply → Type 0) (holds : List ℕ → Option (List ℕ)) (name : List ℕ) (old new : RunState)
+    (verdict : Verdict) : Type 0 where
   pub reply : Option Reply
   pub checked : IsFileReply Says (holds name) reply
   pub visited : Adds old.visits new.visits (visit_of name reply)

@@ -8,12 +8,12 @@ use Rattle.mvt_io.specs.States.{Inflow, Outflow}
 use Rattle.mvt_io.specs.Transfers.{TakesAtMost}
 use Rattle.serde_json.specs.Written.{compact_text}
 use Rattle.mvt_tile.specs.declared.fault.Fault.{Fault}
-use Rattle.mvt_model.specs.declared.tile.Tile.{Tile}
-use Rattle.mvt_model.specs.CanonicalTiles.{canonical}
+use Rattle.mvt_tile_value.specs.declared.tile.Tile.{Tile}
+use Rattle.mvt_tile_value.specs.CanonicalTiles.{canonical}
 use Rattle.mvt_tile.specs.Extraction.{is_named, pick}
 use Rattle.mvt_tile.specs.Reading.{StopsEarly}
 use Rattle.mvt_tile.specs.TileRules.{fault_within}
-use Rattle.mvt_model.specs.Tiles.{IsTile}
+use Rattle.mvt_tile_value.specs.Tiles.{IsTile}
 use Rattle.mvt_places.specs.Explanations.{explanation}
 use Rattle.mvt_view.specs.FaultLines.{fault_line}
 use Rattle.mvt_view.specs.FieldLines.{fields_lines, fields_fault}
@@ -28,17 +28,17 @@ use Rattle.mvt_tasks.specs.declared.task.Task.TheVariants.{Fields, Show, Draw, C
 
 -- a text is written, and no line is told
 abbrev pub done : List ℕ → Reply
-done text = record { written = Some text; printed = None }
+done text = record { output = Some text; error_line = None }
 
 -- nothing is written, and a line is told, which ends in a line feed
 abbrev pub refused : List ℕ → Reply
-refused line = record { written = None; printed = Some line }
+refused line = record { output = None; error_line = Some line }
 
 -- the lines of the fields, and the line of the fault after them
 abbrev pub fields_reply : ℕ → List ℕ → Reply
 fields_reply limit input = record {
-  written = Some (fields_lines limit input);
-  printed = option_map (λ fault. fault_line fault ++ codes "\n") (fields_fault limit input);
+  output = Some (fields_lines limit input);
+  error_line = option_map (λ fault. fault_line fault ++ codes "\n") (fields_fault limit input);
 }
 
 -- the JSON, and a line feed
@@ -96,8 +96,8 @@ IsPrinted limit of_tile input reply = IsJudged limit of_tile fault_reply input r
 -- what is said of a fault of these bytes, and its line
 abbrev pub told_why : ℕ → List ℕ → Fault → Reply
 told_why limit bytes fault = record {
-  written = Some (explanation limit bytes fault);
-  printed = Some (fault_line fault ++ codes "\n");
+  output = Some (explanation limit bytes fault);
+  error_line = Some (fault_line fault ++ codes "\n");
 }
 
 -- the report on an input that is a tile, or what is said of its fault, as these bytes of it tell
@@ -131,7 +131,7 @@ status_with (Some line) = 1
 
 -- a reply without a line has a text
 abbrev pub HasOutput : Reply → Type 0
-HasOutput reply = MatchOption reply.printed (IsSome reply.written) (λ line. ⊤)
+HasOutput reply = MatchOption reply.error_line (IsSome reply.output) (λ line. ⊤)
 
 -- a writer took a text whole, and was flushed once
 abbrev pub PutOut : Outflow → Outflow → List ℕ → Type 0
@@ -139,12 +139,12 @@ PutOut old new text = Appends old.taken new.taken text × (new.flushes ≡ count
 
 -- the text of a reply was put out; of a reply without a text the output stayed as it was
 abbrev pub PutsText : Type 0 → (List ℕ → Type 0) → Reply → Type 0
-PutsText Untouched Writes reply = MatchOption reply.written Untouched Writes
+PutsText Untouched Writes reply = MatchOption reply.output Untouched Writes
 
 -- a reply was given: its text was put out, its line was told, and the status says whether there is one
 abbrev pub GivesReply : ℕ → Type 0 → (List ℕ → Type 0) → Type 0 → (List ℕ → Type 0) → Reply → Type 0
 GivesReply status Untouched Writes Silent Prints reply =
-    (status ≡ status_with reply.printed) × PutsText Untouched Writes reply × MatchOption reply.printed Silent Prints
+    (status ≡ status_with reply.error_line) × PutsText Untouched Writes reply × MatchOption reply.error_line Silent Prints
 
 -- what a task answers for what a reader had left, where that is known
 abbrev pub IsReplyTo : ℕ → Task → Option (List ℕ) → Reply → Type 0

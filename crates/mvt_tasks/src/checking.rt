@@ -40,8 +40,8 @@ fn checked(alloc: Global, input: &[u8]) -> Result<Reply, Failure>
     match survey_tile(alloc, input) {
         Ok(survey) => reported(alloc, &survey),
         Err(error) => Ok(Reply {
-            written: None,
-            printed: Some(refusal(alloc, error)?),
+            output: None,
+            error_line: Some(refusal(alloc, error)?),
         }),
     }
 }
@@ -53,7 +53,7 @@ pub(crate) fn reported(alloc: Global, survey: &Survey) -> Result<Reply, Failure>
 {
     let text = survey_text(alloc, survey)?;
     Ok(Reply {
-        written: Some(Items::new(text.into_bytes())),
-        printed: None,
+        output: Some(Items::new(text.into_bytes())),
+        error_line: None,
     })
 }

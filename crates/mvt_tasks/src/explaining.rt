@@ -51,7 +51,7 @@ fn why(alloc: Global, input: &[u8], fault: &Fault) -> Result<Reply, Failure>
 {
     let text = explanation_text(alloc, input, fault)?;
     Ok(Reply {
-        written: Some(Items::new(text.into_bytes())),
-        printed: Some(fault_printed(alloc, fault)?),
+        output: Some(Items::new(text.into_bytes())),
+        error_line: Some(fault_printed(alloc, fault)?),
     })
 }

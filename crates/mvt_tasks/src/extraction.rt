@@ -2,7 +2,7 @@
 ghost use Rattle.std.specs.Prelude.{◌≡◌, ◌+◌, ◌<◌, length, map, option_map, slice_get, string_bytes, Some, IfOk, IfErr, IfSome, OnOk};
 ghost use Rattle.mvt_io.specs.States.{NoneFailed};
 ghost use Rattle.mvt_io.specs.Transfers.{Reads};
-ghost use Rattle.mvt_model.specs.declared.tile.Tile.{Tile};
+ghost use Rattle.mvt_tile_value.specs.declared.tile.Tile.{Tile};
 ghost use Rattle.mvt_tile.specs.Extraction.{AreExtracted};
 ghost use Rattle.mvt_tile.specs.Reading.{StopsEarly};
 ghost use Rattle.mvt_tasks.specs.Failures.{FailsReading};
@@ -40,8 +40,8 @@ pub fn extract_layers<R: Source>(
     match extract_tile(alloc, wanted, reader) {
         Ok(layers) => extracted(alloc, wanted, layers),
         Err(error) => Ok(Reply {
-            written: None,
-            printed: Some(refusal(alloc, error)?),
+            output: None,
+            error_line: Some(refusal(alloc, error)?),
         }),
     }
 }
@@ -56,16 +56,16 @@ fn extracted(alloc: Global, names: &[String], layers: NamedLayers) -> Result<Rep
 {
     match layers {
         NamedLayers::Bytes(bytes) => Ok(Reply {
-            written: Some(Items::new(bytes)),
-            printed: None,
+            output: Some(Items::new(bytes)),
+            error_line: None,
         }),
         NamedLayers::Missing(index) => Ok(Reply {
-            written: None,
-            printed: Some(missing(alloc, names, index)?),
+            output: None,
+            error_line: Some(missing(alloc, names, index)?),
         }),
         NamedLayers::TooLarge => Ok(Reply {
-            written: None,
-            printed: Some(too_large(alloc)?),
+            output: None,
+            error_line: Some(too_large(alloc)?),
         }),
     }
 }

@@ -218,11 +218,11 @@ fn written(alloc: Global, name: &str, reply: &Option<Reply>) -> Result<Vec<u8>, 
     match reply {
         Some(
             Reply {
-                written: Some(text),
+                output: Some(text),
                 ..
             },
         ) => Ok(named(alloc, name, text.as_slice())?),
-        Some(Reply { written: None, .. }) | None => Ok(Vec::new(alloc)),
+        Some(Reply { output: None, .. }) | None => Ok(Vec::new(alloc)),
     }
 }
 
@@ -236,11 +236,16 @@ fn printed(alloc: Global, name: &str, reply: &Option<Reply>) -> Result<Vec<u8>, 
         None => Ok(named(alloc, name, b"read failed\n")?),
         Some(
             Reply {
-                printed: Some(line),
+                error_line: Some(line),
                 ..
             },
         ) => Ok(named(alloc, name, line.as_str().as_bytes())?),
-        Some(Reply { printed: None, .. }) => Ok(Vec::new(alloc)),
+        Some(
+            Reply {
+                error_line: None,
+                ..
+            },
+        ) => Ok(Vec::new(alloc)),
     }
 }
 

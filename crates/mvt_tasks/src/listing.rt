@@ -36,12 +36,12 @@ fn listed(alloc: Global, input: &[u8]) -> Result<Reply, Failure>
     ensures failed { IfErr result (λ failure. failure ≡ Failure.Memory) }
 {
     let FieldsText { lines, fault } = fields_text(alloc, input)?;
-    let printed = match fault {
+    let error_line = match fault {
         None => None,
         Some(fault) => Some(fault_printed(alloc, &fault)?),
     };
     Ok(Reply {
-        written: Some(Items::new(lines.into_bytes())),
-        printed,
+        output: Some(Items::new(lines.into_bytes())),
+        error_line,
     })
 }

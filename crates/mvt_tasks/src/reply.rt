@@ -14,8 +14,8 @@ use mvt_io::{Sink, write_all};
 /// error stream, if there is one. The status is 1 exactly where there is a line.
 #[derive(Debug, Drop)]
 pub struct Reply {
-    pub written: Option<Items<u8>>,
-    pub printed: Option<Text>,
+    pub output: Option<Items<u8>>,
+    pub error_line: Option<Text>,
 }
 
 /// Puts the bytes of a reply out, if there are any due, and answers its line.
@@ -24,7 +24,7 @@ pub struct Reply {
 ///
 /// Write, where a write or the flush fails; the writer has then taken a front of the bytes.
 fn deliver<W: Sink>(reply: Reply, writer: &mut W) -> Result<Option<Text>, Failure>
-    ensures printed { IfOk result (λ printed. printed ≡ reply.printed) }
+    ensures printed { IfOk result (λ line. line ≡ reply.error_line) }
     ensures put { OnOk result (PutsText (writer.new ≡ writer.old)
         (PutOut (W.state writer.old) (W.state writer.new)) reply) }
     ensures prefix { OnErr result (PutsText ⊥
@@ -34,11 +34,11 @@ fn deliver<W: Sink>(reply: Reply, writer: &mut W) -> Result<Option<Text>, Failur
     ensures honest { OnOk result
         (NoneFailed (W.state writer.old).faults (W.state writer.new).faults) }
 {
-    let Reply { written, printed } = reply;
-    if let Some(bytes) = written {
+    let Reply { output, error_line } = reply;
+    if let Some(bytes) = output {
         put_out(bytes.as_slice(), writer)?;
     }
-    Ok(printed)
+    Ok(error_line)
 }
 
 /// Puts bytes out whole and flushes once.

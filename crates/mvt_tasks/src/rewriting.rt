@@ -30,16 +30,16 @@ pub fn rewrite<R: Source>(alloc: Global, reader: &mut R) -> Result<Reply, Failur
 {
     match rewrite_tile(alloc, reader) {
         Ok(Some(bytes)) => Ok(Reply {
-            written: Some(Items::new(bytes)),
-            printed: None,
+            output: Some(Items::new(bytes)),
+            error_line: None,
         }),
         Ok(None) => Ok(Reply {
-            written: None,
-            printed: Some(too_large(alloc)?),
+            output: None,
+            error_line: Some(too_large(alloc)?),
         }),
         Err(error) => Ok(Reply {
-            written: None,
-            printed: Some(refusal(alloc, error)?),
+            output: None,
+            error_line: Some(refusal(alloc, error)?),
         }),
     }
 }

@@ -21,7 +21,7 @@ impl Verdict {
     {
         match reply {
             None => Verdict::Unread,
-            Some(reply) => match &reply.printed {
+            Some(reply) => match &reply.error_line {
                 None => Verdict::Accepted,
                 Some(_) => Verdict::Refused,
             },

@@ -39,8 +39,8 @@ pub fn view_tile<R: Source>(alloc: Global, view: View, reader: &mut R) -> Result
     match read_tile(alloc, reader) {
         Ok(tile) => viewed(alloc, view, &tile),
         Err(error) => Ok(Reply {
-            written: None,
-            printed: Some(refusal(alloc, error)?),
+            output: None,
+            error_line: Some(refusal(alloc, error)?),
         }),
     }
 }
@@ -55,7 +55,7 @@ fn viewed(alloc: Global, view: View, tile: &Tile) -> Result<Reply, Failure>
     };
     text.push_str("\n")?;
     Ok(Reply {
-        written: Some(Items::new(text.into_bytes())),
-        printed: None,
+        output: Some(Items::new(text.into_bytes())),
+        error_line: None,
     })
 }

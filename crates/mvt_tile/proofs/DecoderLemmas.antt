@@ -17,7 +17,7 @@ use Rattle.mvt_tile.specs.Faults.{outer_fault, is_open}
 use Rattle.mvt_tile.specs.Inner.Judging.{fault_after, IsJudged, ReportsAfter}
 use Rattle.mvt_tile.specs.Streams.{IsCalm, IsLive, ReportsEarly}
 use Rattle.mvt_tile.specs.TileRules.{field_rules, rest_rules_at, rest_rules, tile_rules, beyond, fault_within}
-use Rattle.mvt_model.specs.Tiles.{AreItems, IsTile}
+use Rattle.mvt_tile_value.specs.Tiles.{AreItems, IsTile}
 use Rattle.mvt_tile.proofs.ItemLemmas.{are_none, are_clean}
 use Rattle.mvt_tile.proofs.TileLemmas.{first-tile, fault_of_short, fault_of_long}
 use Rattle.mvt_tile.proofs.StreamLemmas.{rest_with, first-more, fault_stays}

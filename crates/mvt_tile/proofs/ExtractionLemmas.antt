@@ -10,7 +10,7 @@ use Rattle.mvt_message.specs.Items.{names_in}
 use Rattle.mvt_base.proofs.ListLemmas.{around, front_more}
 use Rattle.mvt_tile.specs.Extraction.{is_named}
 use Rattle.mvt_tile.specs.TileRules.{repeats}
-use Rattle.mvt_model.specs.Tiles.{HasDistinctNames}
+use Rattle.mvt_tile_value.specs.Tiles.{HasDistinctNames}
 use Rattle.mvt_tile.proofs.NameLemmas.{distinct_more, distinct_before, or_right_false}
 
 pub any_named : (name : List ℕ) (items : List AnItem) → list_any (is_named name) items ≡ list_any (bytes_eq name) (flat_map names_in items)

@@ -14,8 +14,8 @@ use Rattle.mvt_tile.specs.Inner.Feeding.{HasFed, HasStopped, ReportsFed}
 use Rattle.mvt_tile.specs.Reading.{ReadsTile, StopsEarly, fault_of, kind_of, kind_reported}
 use Rattle.std.specs.declared.io.ErrorKind.{ErrorKind}
 use Rattle.mvt_base.specs.Reports.{Reports}
-use Rattle.mvt_model.specs.declared.tile.Tile.{Tile}
-use Rattle.mvt_model.specs.Tiles.{HasDistinctNames, IsTile}
+use Rattle.mvt_tile_value.specs.declared.tile.Tile.{Tile}
+use Rattle.mvt_tile_value.specs.Tiles.{HasDistinctNames, IsTile}
 use Rattle.mvt_tile.specs.Streams.{IsCalm, IsLive, ReportsEarly, ReportsAtEnd}
 use Rattle.mvt_tile.specs.TileRules.{fault_within}
 use Rattle.mvt_tile.proofs.DecoderLemmas.{live_start}
@@ -62,7 +62,8 @@ module _ (limit : ℕ) (Has : List Item → Type 0) (offset : ℕ) (raw : List �
 
   pub fed_fails : (buffer piece : List ℕ) (n size : ℕ) (e : DecodeError) → Consumes b c (take n buffer)
       → piece ≡ take n buffer → size ≡ n → size ≤ 65536
-      → ((s : List ℕ) → IsLive limit offset has.items raw s → ReportsEarly e (fault_within limit (s ++ piece))) → HasStopped limit size a c e
+      → ((s : List ℕ) → IsLive limit offset has.items raw s → ReportsEarly e (fault_within limit (s ++ piece)))
+      → HasStopped limit size a c e
   fed_fails buffer piece n size e consumed is of_size small reports =
       let short : length piece ≤ size =
       let count : length piece ≡ length (take n buffer) = ap length is in omega (arith, length-take n buffer) in
@@ -113,7 +114,8 @@ early_faults Memory o a b reports none = none
 early_faults (Fault f) o a b reports none = none
 early_faults (Read k) o a b reports none = absurd reports
 
-pub end_faults : {A : Type 0} (r : Result A DecodeError) (o : Option AFault) (a b : Faults) → IfErr r (λ e. ReportsAtEnd e o) → NoneFailed a b
+pub end_faults : {A : Type 0} (r : Result A DecodeError) (o : Option AFault) (a b : Faults) → IfErr r (λ e. ReportsAtEnd e o)
+    → NoneFailed a b
     → EndedBy (kind_of r) a b
 end_faults (Ok x) o a b reports none = none
 end_faults (Err Memory) o a b reports none = none

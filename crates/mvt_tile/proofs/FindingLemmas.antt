@@ -18,7 +18,7 @@ use Rattle.mvt_feature.specs.declared.message_error.MessageError.TheVariants as 
 use Rattle.mvt_feature.specs.Causes.{of_wire}
 use Rattle.mvt_feature.specs.Faults.{MessageFault, fault_of}
 use Rattle.mvt_message.specs.ItemRules.{payload_names}
-use Rattle.mvt_model.specs.declared.numbers.tile.TheConstants.{LAYERS}
+use Rattle.mvt_tile_value.specs.declared.numbers.tile.TheConstants.{LAYERS}
 use Rattle.mvt_tile.specs.Faults.{in_layer, outer_fault}
 use Rattle.mvt_tile.specs.Finding.{first_in, first_of, is_layer_of}
 use Rattle.mvt_tile.specs.Inner.Judging.{reported_in}
@@ -88,7 +88,8 @@ pub seek_ends : (name bytes : List ℕ) (index : ℕ) (old new : Parts) → Seek
 seek_ends name bytes index old new seeking step =
     (seeking.same ∙ ap (first_of name index) step.0, sym seeking.rest ∙ step.1)
 
-rest_reported : (at : ℕ) (rest : List ℕ) → (rest ≡ [] → ⊥) → first (rest_rules_at at rest) ≡ Some (outer_fault at (of_wire (rest_cause rest)))
+rest_reported : (at : ℕ) (rest : List ℕ) → (rest ≡ [] → ⊥)
+    → first (rest_rules_at at rest) ≡ Some (outer_fault at (of_wire (rest_cause rest)))
 rest_reported at [] some = absurd (some refl)
 rest_reported at (b ∷ bs) some = refl
 

@@ -12,11 +12,11 @@ use Rattle.mvt_message.specs.declared.item.Item.{Item}
 use Rattle.mvt_message.specs.ItemRules.{item_fault, payload_names}
 use Rattle.mvt_message.specs.Items.{IsItem, names_in}
 use Rattle.mvt_message.proofs.MessageLaws.{item_names, item_or_fault_clean, item_or_fault_there}
-use Rattle.mvt_model.specs.declared.numbers.tile.TheConstants.{LAYERS}
+use Rattle.mvt_tile_value.specs.declared.numbers.tile.TheConstants.{LAYERS}
 use Rattle.mvt_tile.specs.Faults.{in_layer}
 use Rattle.mvt_tile.specs.Inner.Judging.{name_fault, payload_fault, repeated_at}
 use Rattle.mvt_tile.specs.TileRules.{bytes_in, payload_of, names_before, repeats, is_bytes, field_rules}
-use Rattle.mvt_model.specs.Tiles.{layers_of, HoldsItem, HasDistinctNames, AreItems}
+use Rattle.mvt_tile_value.specs.Tiles.{layers_of, HoldsItem, HasDistinctNames, AreItems}
 use Rattle.mvt_tile.proofs.NameLemmas.{distinct_more, distinct_before, distinct_none}
 use Rattle.mvt_tile.proofs.LayerLemmas.{layers_of-append, layers_of-layer, layers_of-other, field_other, first-wrong, first-layer}
 

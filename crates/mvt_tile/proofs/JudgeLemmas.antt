@@ -25,12 +25,12 @@ use Rattle.mvt_wire.proofs.WireLaws.{one_cause_end, split_function_count, split_
 use Rattle.mvt_tile.specs.declared.fault.DecodeError.{DecodeError}
 use Rattle.mvt_tile.specs.declared.fault.DecodeError.TheVariants.{Memory, Fault, Read}
 use Rattle.mvt_tile.specs.declared.fault.Fault.{Fault as AFault}
-use Rattle.mvt_model.specs.declared.numbers.tile.TheConstants.{LAYERS}
+use Rattle.mvt_tile_value.specs.declared.numbers.tile.TheConstants.{LAYERS}
 use Rattle.mvt_tile.specs.Faults.{outer_fault, in_layer, is_open}
-use Rattle.mvt_tile.specs.Inner.Judging.{name_fault, payload_fault, fault_after, IsJudged, IsPlaceOf, TakesItem, ReportsAfter}
+use Rattle.mvt_tile.specs.Inner.Judging.{name_fault, payload_fault, fault_after, IsJudged, IsPlaceOf, IsOneItemMore, ReportsAfter}
 use Rattle.mvt_tile.specs.Streams.{ReportsEarly}
 use Rattle.mvt_tile.specs.TileRules.{is_bytes, field_rules, rest_rules, rest_rules_at}
-use Rattle.mvt_model.specs.Tiles.{layers_of, HoldsItem, AreItems}
+use Rattle.mvt_tile_value.specs.Tiles.{layers_of, HoldsItem, AreItems}
 use Rattle.mvt_tile.proofs.LayerLemmas.{first-wrong}
 use Rattle.mvt_tile.proofs.ItemLemmas.{are_over, are_more, first-after, are_clean}
 use Rattle.mvt_tile.proofs.ShiftLemmas.{split_at_place, rest_dropped, place_within}
@@ -76,11 +76,11 @@ module _ (items : List Item) (offset : ℕ) (x : Entry) (d : List ℕ) (payload_
   is_layer = eq-eqb x.number LAYERS place.is_layer
 
   pub field_gives : (Knows : List Item → Type 0) (r : Result (Unit {0}) DecodeError)
-      → OnOk r ((new : List Item) × Knows new × TakesItem items new d)
+      → OnOk r ((new : List Item) × Knows new × IsOneItemMore items new d)
       → OnOk r ((new : List Item) × Knows new × (length new ≤ length items + 1) × IsNext items (shifted offset x) new)
   field_gives Knows (Err e) h = tt
   field_gives Knows (Ok u) h =
-      let taken : TakesItem items h.0 d = h.2 in
+      let taken : IsOneItemMore items h.0 d = h.2 in
       let next : IsNext items (shifted offset x) h.0 = λ front are.
       subst (AreItems (front ++ shifted offset x ∷ [])) (sym taken.1)
       (are_more front items (shifted offset x) d taken.0 are is_layer place.holds taken.2 taken.3) in
@@ -257,7 +257,8 @@ module _ (offset : ℕ) (b : List ℕ) (old now : List Item) (before : Parts) (s
         ap₂ (λ a r. first (rest_rules_at a r)) at rest ∙ rest_reported (offset + fault.at) before.rest step.1
         ∙ ap (λ c. Some (outer_fault (offset + fault.at) (of_wire c))) (sym step.3) in
         subst (λ x. ReportsEarly x (fault_after front parts)) (sym h.1)
-        (reports_back (Fault (outer_fault (offset + fault.at) cause)) (first (each field_rules front parts.fields)) (first (rest_rules parts))
+        (reports_back (Fault (outer_fault (offset + fault.at) cause)) (first (each field_rules front parts.fields))
+        (first (rest_rules parts))
         (ap (λ xs. first (each field_rules front xs)) (all_done step.0) ∙ fields_clean front done now (so_far.items_are front are))
         (reported, shut_cause (offset + fault.at) fault.cause h.0))
 

@@ -8,8 +8,8 @@ use Rattle.mvt_wire.specs.Field.{Content, bytes, Entry}
 use Rattle.mvt_feature.specs.declared.cause.Cause.TheVariants.{WrongType}
 use Rattle.mvt_message.specs.ItemRules.{item_rules, payload_names}
 use Rattle.mvt_message.proofs.MessageLaws.{item_in_order_fault}
-use Rattle.mvt_model.specs.declared.numbers.tile.TheConstants.{LAYERS}
-use Rattle.mvt_model.specs.Tiles.{layers_of}
+use Rattle.mvt_tile_value.specs.declared.numbers.tile.TheConstants.{LAYERS}
+use Rattle.mvt_tile_value.specs.Tiles.{layers_of}
 use Rattle.mvt_tile.specs.Faults.{outer_fault, in_layer}
 use Rattle.mvt_tile.specs.Inner.Judging.{name_fault, payload_fault, repeated_at}
 use Rattle.mvt_tile.specs.TileRules.{bytes_in, payload_of, names_before, repeats, layer_rules, is_bytes, field_rules}

@@ -17,7 +17,7 @@ use Rattle.mvt_message.specs.declared.item.Item.{Item as AnItem}
 use Rattle.mvt_message.specs.declared.item.Item.TheVariants.{Layer, Foreign}
 use Rattle.mvt_message.specs.Items.{names_in}
 use Rattle.mvt_tile.specs.TileRules.{repeats}
-use Rattle.mvt_model.specs.Tiles.{HasDistinctNames}
+use Rattle.mvt_tile_value.specs.Tiles.{HasDistinctNames}
 
 pub bytes_eq_comm : (a b : List ℕ) → bytes_eq a b ≡ bytes_eq b a
 bytes_eq_comm a b =

@@ -7,9 +7,9 @@ use Rattle.mvt_message.specs.declared.item.Item.{Item as AnItem}
 use Rattle.mvt_message.specs.declared.item.Item.TheVariants.{Layer, Foreign}
 use Rattle.mvt_message.specs.Items.{names_in}
 use Rattle.mvt_message.specs.ValidItems.{ValidItem}
-use Rattle.mvt_model.specs.declared.tile.Tile.{Tile}
+use Rattle.mvt_tile_value.specs.declared.tile.Tile.{Tile}
 use Rattle.mvt_tile.specs.Extraction.{is_among, pick}
-use Rattle.mvt_model.specs.ValidTiles.{Valid}
+use Rattle.mvt_tile_value.specs.ValidTiles.{Valid}
 
 all_kept : (b : Bool) (P : AnItem → Type 0) (x : AnItem) (xs : List AnItem) → P x → AllByRecursion P xs
     → AllByRecursion P (cond b (x ∷ xs) xs)

@@ -5,10 +5,10 @@ use Rattle.mvt_base.specs.Reports.{Reports}
 use Rattle.mvt_base.specs.declared.TheConstants.{LIMIT}
 use Rattle.mvt_tile.specs.declared.fault.DecodeError.{DecodeError}
 use Rattle.mvt_tile.specs.declared.fault.DecodeError.TheVariants.{Memory, Fault, Read}
-use Rattle.mvt_model.specs.declared.tile.Tile.{Tile}
+use Rattle.mvt_tile_value.specs.declared.tile.Tile.{Tile}
 use Rattle.mvt_tile.specs.Reading.{ReadsBack, fault_of}
 use Rattle.mvt_tile.specs.TileRules.{fault_within}
-use Rattle.mvt_model.specs.Tiles.{IsTile}
+use Rattle.mvt_tile_value.specs.Tiles.{IsTile}
 use Rattle.mvt_tile.proofs.TileLemmas.{tile_clean, tile_once}
 
 abbrev Reads : Result Tile DecodeError → Option (List ℕ) → Type 0

@@ -1,5 +1,5 @@
 -- What the public laws state, for the proofs of the crates above: a lemma for each clause.
-pub use Rattle.mvt_model.proofs.ModelLaws.{canonical_reads as one_tile_reads}
+pub use Rattle.mvt_tile_value.proofs.ModelLaws.{canonical_reads as one_tile_reads}
 pub use Rattle.mvt_tile.proofs.NameLemmas.{distinct_none as names_apart_nothing, distinct_more as names_apart_more, distinct_before as names_apart_before}
 pub use Rattle.mvt_tile.proofs.TileLemmas.{tile_ordered as fault_is_least_ordered}
 use Rattle.std.proofs.Common.{subst, sym}
@@ -10,12 +10,12 @@ use Rattle.mvt_base.specs.Rules.{IsLeast}
 use Rattle.mvt_message.proofs.MessageLaws.{old_items_stay}
 use Rattle.mvt_message.specs.ValidItems.{ValidItem, WasValidItem}
 use Rattle.mvt_tile.specs.declared.fault.Fault.{Fault}
-use Rattle.mvt_model.specs.declared.tile.Tile.{Tile}
+use Rattle.mvt_tile_value.specs.declared.tile.Tile.{Tile}
 use Rattle.mvt_tile.specs.Faults.{is_open}
 use Rattle.mvt_tile.specs.TileRules.{tile_rules, fault_within}
-use Rattle.mvt_model.specs.CanonicalTiles.{canonical}
-use Rattle.mvt_model.specs.Tiles.{IsTile}
-use Rattle.mvt_model.specs.ValidTiles.{Valid, WasValid}
+use Rattle.mvt_tile_value.specs.CanonicalTiles.{canonical}
+use Rattle.mvt_tile_value.specs.Tiles.{IsTile}
+use Rattle.mvt_tile_value.specs.ValidTiles.{Valid, WasValid}
 use Rattle.mvt_tile.proofs.StreamLemmas.{fault_stays as it_stays, fault_past_limit as past_limit}
 use Rattle.mvt_tile.proofs.TileLemmas.{tile_there, tile_clean, tile_once, tile_least}
 

@@ -17,13 +17,13 @@ use Rattle.mvt_message.specs.ItemRules.{item_rules, payload_names}
 use Rattle.mvt_message.specs.Items.{IsItem}
 use Rattle.mvt_wire.proofs.WireLaws.{split_function_only, split_function_whole}
 use Rattle.mvt_message.proofs.MessageLaws.{item_in_order_ordered, one_item}
-use Rattle.mvt_model.specs.declared.numbers.tile.TheConstants.{LAYERS}
+use Rattle.mvt_tile_value.specs.declared.numbers.tile.TheConstants.{LAYERS}
 use Rattle.mvt_tile.specs.declared.fault.Fault.{Fault}
-use Rattle.mvt_model.specs.declared.tile.Tile.{Tile}
+use Rattle.mvt_tile_value.specs.declared.tile.Tile.{Tile}
 use Rattle.mvt_tile.specs.Faults.{outer_fault, in_layer}
 use Rattle.mvt_tile.specs.Inner.Judging.{repeated_at}
 use Rattle.mvt_tile.specs.TileRules.{payload_of, names_before, repeats, layer_rules, is_bytes, field_rules, rest_rules_at, rest_rules, tile_rules, beyond, fault_within}
-use Rattle.mvt_model.specs.Tiles.{layers_of, HoldsItem, AreItems, IsTile}
+use Rattle.mvt_tile_value.specs.Tiles.{layers_of, HoldsItem, AreItems, IsTile}
 use Rattle.mvt_tile.proofs.ItemLemmas.{are_none, items_there, are_clean}
 
 -- the first fault of a tile's table is that of a field, or of the rest

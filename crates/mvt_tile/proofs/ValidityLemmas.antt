@@ -6,9 +6,9 @@ use Rattle.std.proofs.lemmas.Option.{slice_get_within, get_or_from_slice_get}
 use Rattle.mvt_base.proofs.ListLemmas.{all_right}
 use Rattle.mvt_message.specs.declared.item.Item.{Item}
 use Rattle.mvt_message.specs.ValidItems.{ValidItem}
-use Rattle.mvt_model.specs.declared.tile.Tile.{Tile}
-use Rattle.mvt_model.specs.Tiles.{HasDistinctNames}
-use Rattle.mvt_model.specs.ValidTiles.{Valid}
+use Rattle.mvt_tile_value.specs.declared.tile.Tile.{Tile}
+use Rattle.mvt_tile_value.specs.Tiles.{HasDistinctNames}
+use Rattle.mvt_tile_value.specs.ValidTiles.{Valid}
 use Rattle.mvt_tile.specs.Validity.{IsFirstInvalid}
 use Rattle.mvt_tile.proofs.ExtractionLemmas.{at_index, distinct_not}
 

@@ -10,9 +10,9 @@ use Rattle.mvt_message.specs.declared.item.Item.{Item as AnItem}
 use Rattle.mvt_message.specs.declared.item.Item.TheVariants.{Layer, Foreign}
 use Rattle.mvt_message.specs.Items.{names_in}
 use Rattle.mvt_message.specs.ValidItems.{ValidItem, ValidLayer}
-use Rattle.mvt_model.specs.declared.tile.Tile.{Tile}
-use Rattle.mvt_model.specs.CanonicalTiles.{canonical}
-use Rattle.mvt_model.specs.Encoding.{AreEncoded, IsEncoded}
+use Rattle.mvt_tile_value.specs.declared.tile.Tile.{Tile}
+use Rattle.mvt_tile_value.specs.CanonicalTiles.{canonical}
+use Rattle.mvt_tile_value.specs.Encoding.{AreEncoded, IsEncoded}
 use Rattle.mvt_tile.specs.declared.rewriting.Rewriter.{Rewriter}
 use Rattle.mvt_tile.specs.Extraction.{first_missing, is_among, is_named, pick}
 use Rattle.mvt_tile.specs.Inner.Judging.{AreNamed}
@@ -62,7 +62,8 @@ set_wants : (keys names : List (List ℕ)) → IsSetOf keys names → (item : An
 set_wants keys names set (Layer l) = or_right_false (list_any (bytes_eq l.name) keys) ∙ set l.name ∙ any_turned l.name names
 set_wants keys names set (Foreign version bytes) = none_among names
 
-pub wants_layers : (limit : ℕ) (names keys : List (List ℕ)) (r : Rewriter) → IsSetOf keys names → HasRewritten limit (is_in (Some keys)) r []
+pub wants_layers : (limit : ℕ) (names keys : List (List ℕ)) (r : Rewriter) → IsSetOf keys names
+    → HasRewritten limit (is_in (Some keys)) r []
     → HasRewritten limit (is_among names) r []
 wants_layers limit names keys r set has = record {
   encoded = has.encoded;

@@ -10,7 +10,7 @@ use Rattle.mvt_tile.specs.Faults.{outer_fault}
 use Rattle.mvt_tile.specs.Inner.Judging.{IsJudged, ReportsAfter}
 use Rattle.mvt_tile.specs.Streams.{IsLive, ReportsEarly, ReportsAtEnd}
 use Rattle.mvt_tile.specs.TileRules.{fault_within}
-use Rattle.mvt_model.specs.Tiles.{IsTile}
+use Rattle.mvt_tile_value.specs.Tiles.{IsTile}
 use Rattle.mvt_tile.proofs.DecoderLemmas.{live_start, live_fails, live_truncated, live_tile, piece_fits, piece_too_large}
 
 at_end : (e : DecodeError) (o : Option AFault) → ReportsEarly e o → ReportsAtEnd e o

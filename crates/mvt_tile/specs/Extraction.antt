@@ -3,8 +3,8 @@ use Rattle.std.specs.Prelude.{◌≡◌, ℕ, ◌<◌, ◌≤◌, Bool, false, n
 use Rattle.std.specs.List.{list_any, position_from}
 use Rattle.mvt_message.specs.declared.item.Item.{Item}
 use Rattle.mvt_message.specs.declared.item.Item.TheVariants.{Layer, Foreign}
-use Rattle.mvt_model.specs.declared.tile.Tile.{Tile}
-use Rattle.mvt_model.specs.CanonicalTiles.{canonical}
+use Rattle.mvt_tile_value.specs.declared.tile.Tile.{Tile}
+use Rattle.mvt_tile_value.specs.CanonicalTiles.{canonical}
 use Rattle.mvt_tile.specs.declared.extract_error.ExtractError.{ExtractError}
 use Rattle.mvt_tile.specs.declared.extract_error.ExtractError.TheVariants.{Memory, MissingLayer}
 use Rattle.mvt_tile.specs.declared.extracting.NamedLayers.{NamedLayers}

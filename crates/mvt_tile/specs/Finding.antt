@@ -9,7 +9,7 @@ use Rattle.mvt_feature.specs.declared.cause.Cause.TheVariants.{TooLarge}
 use Rattle.mvt_message.specs.declared.item.Item.{Item}
 use Rattle.mvt_message.specs.ItemRules.{item_fault, payload_names}
 use Rattle.mvt_message.specs.Items.{IsItem}
-use Rattle.mvt_model.specs.declared.numbers.tile.TheConstants.{LAYERS}
+use Rattle.mvt_tile_value.specs.declared.numbers.tile.TheConstants.{LAYERS}
 use Rattle.mvt_tile.specs.declared.fault.Fault.{Fault}
 use Rattle.mvt_tile.specs.Faults.{outer_fault, in_layer}
 use Rattle.mvt_tile.specs.TileRules.{payload_of, rest_rules}

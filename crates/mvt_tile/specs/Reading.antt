@@ -6,7 +6,7 @@ use Rattle.mvt_io.specs.Transfers.{Reads}
 use Rattle.mvt_tile.specs.declared.fault.Fault.{Fault as AFault}
 use Rattle.mvt_tile.specs.declared.fault.DecodeError.{DecodeError}
 use Rattle.mvt_tile.specs.declared.fault.DecodeError.TheVariants.{Memory, Fault, Read}
-use Rattle.mvt_model.specs.declared.tile.Tile.{Tile}
+use Rattle.mvt_tile_value.specs.declared.tile.Tile.{Tile}
 use Rattle.mvt_tile.specs.Streams.{IsCalm}
 use Rattle.mvt_tile.specs.TileRules.{fault_within}
 

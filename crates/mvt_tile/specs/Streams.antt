@@ -7,7 +7,7 @@ use Rattle.mvt_tile.specs.declared.fault.DecodeError.{DecodeError}
 use Rattle.mvt_tile.specs.declared.fault.DecodeError.TheVariants.{Memory, Fault, Read}
 use Rattle.mvt_tile.specs.Faults.{is_open}
 use Rattle.mvt_tile.specs.TileRules.{fault_within}
-use Rattle.mvt_model.specs.Tiles.{AreItems}
+use Rattle.mvt_tile_value.specs.Tiles.{AreItems}
 
 -- no fault, or that of a field that isn't finished
 abbrev pub IsCalm : Option AFault → Type 0

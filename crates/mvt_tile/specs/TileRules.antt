@@ -9,8 +9,8 @@ use Rattle.mvt_feature.specs.declared.cause.Cause.TheVariants.{WrongType, Repeat
 use Rattle.mvt_feature.specs.Causes.{of_wire}
 use Rattle.mvt_message.specs.ItemRules.{item_rules, payload_names}
 use Rattle.mvt_tile.specs.declared.fault.Fault.{Fault}
-use Rattle.mvt_model.specs.declared.numbers.tile.TheConstants.{LAYERS}
-use Rattle.mvt_model.specs.Tiles.{layers_of}
+use Rattle.mvt_tile_value.specs.declared.numbers.tile.TheConstants.{LAYERS}
+use Rattle.mvt_tile_value.specs.Tiles.{layers_of}
 use Rattle.mvt_tile.specs.Faults.{outer_fault, in_layer, is_open}
 
 -- the bytes of a field, or none

@@ -4,7 +4,7 @@ use Rattle.std.specs.List.{AllByRecursion, flat_map}
 use Rattle.mvt_message.specs.declared.item.Item.{Item}
 use Rattle.mvt_message.specs.Items.{names_in}
 use Rattle.mvt_message.specs.ValidItems.{ValidItem}
-use Rattle.mvt_model.specs.Tiles.{HasDistinctNames}
+use Rattle.mvt_tile_value.specs.Tiles.{HasDistinctNames}
 use Rattle.mvt_tile.specs.TileRules.{repeats}
 
 -- the first item of a tile that can't be written with those before it: it isn't valid, or has the name of one of them

@@ -3,14 +3,14 @@ ghost use Rattle.std.specs.Prelude.{◌≡◌, ℕ, List, [], ◌++◌, length, 
 ghost use Rattle.mvt_tile.specs.Decoding.{StandsFor};
 ghost use Rattle.mvt_tile.specs.Streams.{Answers, ReportsAtEnd};
 ghost use Rattle.mvt_tile.specs.TileRules.{fault_within};
-ghost use Rattle.mvt_model.specs.Tiles.{IsTile};
-ghost use Rattle.mvt_model.specs.ValidTiles.{Valid};
+ghost use Rattle.mvt_tile_value.specs.Tiles.{IsTile};
+ghost use Rattle.mvt_tile_value.specs.ValidTiles.{Valid};
 
 use crate::fault::DecodeError;
 use crate::keeping::ItemKeeper;
 use crate::visiting_decoder::VisitingDecoder;
 use mvt_base::LIMIT;
-use mvt_model::Tile;
+use mvt_tile_value::Tile;
 use std::alloc::Global;
 use std::marker::Model;
 

@@ -2,12 +2,12 @@
 ghost use Rattle.std.specs.Prelude.{◌≡◌, ℕ, List, [], ◌∷◌, ◌++◌, map, not, if◌then◌else◌, None, IfOk, IfErr, OnOk, string_bytes};
 ghost use Rattle.std.specs.List.{list_any, position_from};
 ghost use Rattle.mvt_tile.specs.Extraction.{is_named, pick, first_missing, ReportsMissing};
-ghost use Rattle.mvt_model.specs.ValidTiles.{Valid};
+ghost use Rattle.mvt_tile_value.specs.ValidTiles.{Valid};
 
 use crate::extract_error::ExtractError;
 use mvt_base::Items;
 use mvt_message::Item;
-use mvt_model::Tile;
+use mvt_tile_value::Tile;
 use std::alloc::{AllocError, Global};
 
 /// The layers of version 2 that are named, in the order of the tile. Foreign items are left out,

@@ -18,7 +18,7 @@ use crate::visiting::TileVisitor;
 use crate::walking::in_layer;
 use mvt_base::LIMIT;
 use mvt_message::{Cause, has_name};
-use mvt_model::numbers::tile;
+use mvt_tile_value::numbers::tile;
 use mvt_wire::{Field, Fields, Payload};
 use std::alloc::Global;
 

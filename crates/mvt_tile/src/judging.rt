@@ -1,9 +1,9 @@
 //! Judging a tile without building one.
 ghost use Rattle.std.specs.Prelude.{◌≡◌, None, IfErr, OnOk};
-ghost use Rattle.mvt_model.specs.declared.tile.Tile.{Tile};
+ghost use Rattle.mvt_tile_value.specs.declared.tile.Tile.{Tile};
 ghost use Rattle.mvt_tile.specs.Streams.{ReportsAtEnd};
 ghost use Rattle.mvt_tile.specs.TileRules.{fault_within};
-ghost use Rattle.mvt_model.specs.Tiles.{IsTile};
+ghost use Rattle.mvt_tile_value.specs.Tiles.{IsTile};
 
 use crate::fault::DecodeError;
 use crate::names::text_of;

@@ -5,7 +5,7 @@ use crate::names::name_of;
 use crate::visiting::TileVisitor;
 use mvt_base::{Items, Text};
 use mvt_message::{Item, MessageError, read_item};
-use mvt_model::Tile;
+use mvt_tile_value::Tile;
 use std::alloc::Global;
 
 /// The items of a tile so far.

@@ -5,12 +5,12 @@ ghost use Rattle.mvt_base.specs.Rules.{AreOrdered, IsLeast, first};
 ghost use Rattle.mvt_message.specs.declared.item.Item.{Item};
 ghost use Rattle.mvt_message.specs.Items.{names_in};
 ghost use Rattle.mvt_tile.specs.declared.fault.Fault.{Fault};
-ghost use Rattle.mvt_model.specs.declared.tile.Tile.{Tile};
-ghost use Rattle.mvt_model.specs.CanonicalTiles.{canonical};
+ghost use Rattle.mvt_tile_value.specs.declared.tile.Tile.{Tile};
+ghost use Rattle.mvt_tile_value.specs.CanonicalTiles.{canonical};
 ghost use Rattle.mvt_tile.specs.Faults.{is_open};
 ghost use Rattle.mvt_tile.specs.TileRules.{tile_rules, fault_within, repeats};
-ghost use Rattle.mvt_model.specs.Tiles.{HasDistinctNames, IsTile};
-ghost use Rattle.mvt_model.specs.ValidTiles.{Valid, WasValid};
+ghost use Rattle.mvt_tile_value.specs.Tiles.{HasDistinctNames, IsTile};
+ghost use Rattle.mvt_tile_value.specs.ValidTiles.{Valid, WasValid};
 
 use mvt_base::LIMIT;
 

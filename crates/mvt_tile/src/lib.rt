@@ -37,10 +37,10 @@ pub use mvt_feature::{Cause, Feature};
 pub use mvt_geometry::{Geometry, Kind, Point, Polygon};
 pub use mvt_io::{Host, Sink, Source};
 pub use mvt_message::{Item, Layer, PutError};
-pub use mvt_model::{
+pub use mvt_tile_value::{
     Note, Survey, Tile, WriteError, encode, feature_count, notes, numbers, write_tile,
 };
-pub use names::add_name;
+pub use name_set::NameSet;
 pub use reading::read_tile;
 pub use rewriting::{rewrite, rewrite_tile};
 pub use round_trip::write_and_read;

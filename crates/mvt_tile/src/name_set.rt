@@ -1,4 +1,5 @@
-//! The names of the layers of a tile, of which most tiles have one.
+//! The names of the layers of a tile, of which most tiles have one (Mapbox Vector Tile Specification
+//! 2.1, 4.1).
 ghost use Rattle.std.specs.Prelude.{◌≡◌, ◌∷◌, ◌||◌, ℕ, List, [], not, bytes_eq, IfOk, OnErr, IsTrue};
 ghost use Rattle.std.specs.Bool.{OnFalse};
 ghost use Rattle.std.specs.List.{list_any};
@@ -14,7 +15,7 @@ use std::marker::Model;
 /// Names, each of them once. The first lies in the value itself; with the second an ordered set of
 /// the others begins, which takes memory.
 #[derive(Drop)]
-pub(crate) struct NameSet {
+pub struct NameSet {
     first: Option<Text>,
     others: BTreeSet<Text>,
 }
@@ -32,7 +33,7 @@ impl Model for NameSet {
 
 impl NameSet {
     /// No names, without memory.
-    pub(crate) fn new(alloc: Global) -> Self
+    pub fn new(alloc: Global) -> Self
         ensures { result ≡ [] }
     {
         NameSet {
@@ -42,7 +43,7 @@ impl NameSet {
     }
 
     /// Whether a name is there.
-    pub(crate) fn contains(&self, name: &Text) -> bool
+    pub fn contains(&self, name: &Text) -> bool
         ensures { result ≡ list_any (bytes_eq name.now) self.now }
     {
         match &self.first {
@@ -52,7 +53,11 @@ impl NameSet {
     }
 
     /// Adds the name of an item, where it has one, and answers whether it is new.
-    pub(crate) fn add(&mut self, name: Option<Text>) -> Result<bool, AllocError>
+    ///
+    /// # Errors
+    ///
+    /// When memory runs out; the names are then as they were.
+    pub fn add(&mut self, name: Option<Text>) -> Result<bool, AllocError>
         ensures new { IfOk result (λ new. new ≡ not (repeats self.old (option_to_list name))) }
         ensures named { IfOk result (λ new. IsTrue new → (n : List ℕ)
             → list_any (bytes_eq n) self.new

@@ -80,11 +80,7 @@ pub(crate) fn text_of(alloc: Global, name: Option<&str>) -> Result<Option<Text>,
 
 /// Adds the name of an item to the names of those before it, where it has one, and answers whether
 /// it is new.
-///
-/// # Errors
-///
-/// When memory runs out; the names are then as they were.
-pub fn add_name(names: &mut BTreeSet<Text>, name: Option<Text>) -> Result<bool, AllocError>
+pub(crate) fn add_name(names: &mut BTreeSet<Text>, name: Option<Text>) -> Result<bool, AllocError>
     ensures new { IfOk result (λ new. new ≡ not (repeats names.old.keys (option_to_list name))) }
     ensures named { IfOk result (λ new. IsTrue new → (n : List ℕ)
         → list_any (bytes_eq n) names.new.keys

@@ -1,8 +1,8 @@
 //! An input that comes in pieces, and a visitor that takes the items in it.
 ghost use Rattle.std.specs.Prelude.{◌≡◌, ℕ, ◌+◌, ◌≤◌, List, [], ◌++◌, length, drop, IfOk, IfErr, OnOk};
 ghost use Rattle.mvt_message.specs.declared.item.Item.{Item};
-ghost use Rattle.mvt_model.specs.declared.tile.Tile.{Tile};
-ghost use Rattle.mvt_model.specs.Tiles.{IsTile};
+ghost use Rattle.mvt_tile_value.specs.declared.tile.Tile.{Tile};
+ghost use Rattle.mvt_tile_value.specs.Tiles.{IsTile};
 ghost use Rattle.mvt_tile.specs.Inner.Taking.{HasTaken};
 ghost use Rattle.mvt_tile.specs.Inner.Judging.{IsJudged, ReportsAfter};
 ghost use Rattle.mvt_tile.specs.Streams.{IsLive, ReportsEarly, ReportsAtEnd};
@@ -57,10 +57,10 @@ impl<V: TileVisitor> PartialTile<V> {
             → ReportsEarly error (fault_within LIMIT (s ++ piece.now))) }
     {
         let room = LIMIT as usize - (self.offset as usize + self.raw.len());
-        let (fitting, beyond) = piece.split_at(room.min(piece.len()));
+        let (fitting, rest) = piece.split_at(room.min(piece.len()));
         let used = feed_after(alloc, &mut self.taken, &mut self.raw, self.offset, fitting)?;
         self.offset += used as u64;
-        if !beyond.is_empty() {
+        if !rest.is_empty() {
             return Err(DecodeError::Fault(Fault::outer(self.offset, Cause::TooLarge)));
         }
         Ok(())

@@ -8,9 +8,9 @@ ghost use Rattle.mvt_tile.specs.Inner.Feeding.{HasFed, HasStopped};
 ghost use Rattle.mvt_tile.specs.Inner.Taking.{HasTaken};
 ghost use Rattle.mvt_tile.specs.Reading.{ReadsTile, fault_of, kind_of};
 ghost use Rattle.mvt_tile.specs.TileRules.{fault_within};
-ghost use Rattle.mvt_model.specs.declared.tile.Tile.{Tile};
-ghost use Rattle.mvt_model.specs.Tiles.{HasDistinctNames, IsTile};
-ghost use Rattle.mvt_model.specs.ValidTiles.{Valid};
+ghost use Rattle.mvt_tile_value.specs.declared.tile.Tile.{Tile};
+ghost use Rattle.mvt_tile_value.specs.Tiles.{HasDistinctNames, IsTile};
+ghost use Rattle.mvt_tile_value.specs.ValidTiles.{Valid};
 
 use crate::fault::DecodeError;
 use crate::keeping::ItemKeeper;
@@ -19,7 +19,7 @@ use crate::visiting::TileVisitor;
 use crate::walking::Taken;
 use mvt_base::LIMIT;
 use mvt_io::Source;
-use mvt_model::Tile;
+use mvt_tile_value::Tile;
 use std::alloc::Global;
 
 /// The most bytes that one read asks for.

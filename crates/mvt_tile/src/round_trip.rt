@@ -3,18 +3,18 @@ ghost use Rattle.std.specs.Prelude.{◌≡◌, ◌<◌, ◌≤◌, length, Some,
 ghost use Rattle.std.specs.Io.KnownBytes.{IsAtEnd};
 ghost use Rattle.mvt_base.specs.Reports.{Reports};
 ghost use Rattle.mvt_io.specs.Transfers.{Wrote, WroteFront};
-ghost use Rattle.mvt_model.specs.CanonicalTiles.{canonical};
+ghost use Rattle.mvt_tile_value.specs.CanonicalTiles.{canonical};
 ghost use Rattle.mvt_tile.specs.Reading.{ReadsBack, ReadsTile, fault_of, kind_of};
 ghost use Rattle.mvt_tile.specs.TileRules.{fault_within};
-ghost use Rattle.mvt_model.specs.Tiles.{IsTile};
-ghost use Rattle.mvt_model.specs.ValidTiles.{Valid};
-ghost use Rattle.mvt_model.specs.Writing.{kind_written};
+ghost use Rattle.mvt_tile_value.specs.Tiles.{IsTile};
+ghost use Rattle.mvt_tile_value.specs.ValidTiles.{Valid};
+ghost use Rattle.mvt_tile_value.specs.Writing.{kind_written};
 
 use crate::fault::DecodeError;
 use crate::reading::read_tile;
 use mvt_base::LIMIT;
 use mvt_io::{Sink, Source};
-use mvt_model::{Tile, WriteError, write_tile};
+use mvt_tile_value::{Tile, WriteError, write_tile};
 use std::alloc::Global;
 
 /// Writes a tile, and then reads what a reader has left, which may be what the writer took: the

@@ -1,21 +1,21 @@
 //! Surveying a tile: its items are judged or made canonical one after the other, and none is kept.
 ghost use Rattle.std.specs.Prelude.{◌≡◌, bytes_eq, IfOk, IfErr};
 ghost use Rattle.mvt_message.specs.ValidItems.{ValidItem};
-ghost use Rattle.mvt_model.specs.declared.tile.Tile.{Tile};
-ghost use Rattle.mvt_model.specs.CanonicalTiles.{canonical};
-ghost use Rattle.mvt_model.specs.Findings.{AreFound};
+ghost use Rattle.mvt_tile_value.specs.declared.tile.Tile.{Tile};
+ghost use Rattle.mvt_tile_value.specs.CanonicalTiles.{canonical};
+ghost use Rattle.mvt_tile_value.specs.Findings.{AreFound};
 ghost use Rattle.mvt_tile.specs.Streams.{ReportsAtEnd};
-ghost use Rattle.mvt_model.specs.Survey.{survey_of};
+ghost use Rattle.mvt_tile_value.specs.Survey.{survey_of};
 ghost use Rattle.mvt_tile.specs.TileRules.{fault_within};
-ghost use Rattle.mvt_model.specs.Tiles.{IsTile};
-ghost use Rattle.mvt_model.specs.ValidTiles.{Valid};
+ghost use Rattle.mvt_tile_value.specs.Tiles.{IsTile};
+ghost use Rattle.mvt_tile_value.specs.ValidTiles.{Valid};
 
 use crate::fault::DecodeError;
 use crate::names::text_of;
 use crate::visiting::{TileVisitor, visit_tile};
 use mvt_base::{LIMIT, Text};
 use mvt_message::MessageError;
-use mvt_model::{Findings, Survey};
+use mvt_tile_value::{Survey, SurveyBuilder};
 use std::alloc::Global;
 
 /// Surveys a tile. One item is taken at a time, feature by feature. Where it may be canonical and
@@ -34,7 +34,7 @@ pub fn survey_tile(alloc: Global, bytes: &[u8]) -> Result<Survey, DecodeError>
     let fitting = &bytes[..bytes.len().min(LIMIT as usize)];
     let surveyor = Surveyor {
         count: 0,
-        found: Findings::new(alloc, fitting),
+        found: SurveyBuilder::new(alloc, fitting),
     };
     let Surveyor { count, found } = visit_tile(alloc, surveyor, bytes)?;
     Ok(found.into_survey(count)?)
@@ -44,13 +44,13 @@ pub fn survey_tile(alloc: Global, bytes: &[u8]) -> Result<Survey, DecodeError>
 #[derive(Drop)]
 struct Surveyor<'a> {
     count: u32,
-    found: Findings<'a>,
+    found: SurveyBuilder<'a>,
 }
 
 impl<'a> TileVisitor for Surveyor<'a> {
     ghost use Rattle.std.specs.Prelude.{◌≡◌, List, length, ℕ};
     ghost use Rattle.mvt_base.specs.declared.TheConstants.{LIMIT};
-    ghost use Rattle.mvt_model.specs.Findings.{AreFound};
+    ghost use Rattle.mvt_tile_value.specs.Findings.{AreFound};
 
     // The input.
     ghost Given = { List ℕ };

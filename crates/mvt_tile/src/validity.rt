@@ -5,15 +5,15 @@ ghost use Rattle.mvt_message.specs.Items.{names_in};
 ghost use Rattle.mvt_message.specs.ValidItems.{ValidItem};
 ghost use Rattle.mvt_tile.specs.TileRules.{repeats};
 ghost use Rattle.mvt_tile.specs.Validity.{IsFirstInvalid};
-ghost use Rattle.mvt_model.specs.Tiles.{HasDistinctNames};
-ghost use Rattle.mvt_model.specs.ValidTiles.{Valid};
+ghost use Rattle.mvt_tile_value.specs.Tiles.{HasDistinctNames};
+ghost use Rattle.mvt_tile_value.specs.ValidTiles.{Valid};
 
 use crate::extraction::has_layer;
-use crate::names::{add_name, name_of};
+use crate::name_set::NameSet;
+use crate::names::name_of;
 use mvt_message::{Item, is_valid_item, validate_item};
-use mvt_model::Tile;
+use mvt_tile_value::Tile;
 use std::alloc::{AllocError, Global};
-use std::collections::BTreeSet;
 
 /// Whether a tile can be written. It takes no memory, and time that grows with the square of the
 /// number of layers and of a feature's attributes: `validate` is for tiles of strangers.
@@ -21,7 +21,7 @@ pub fn is_valid(tile: &Tile) -> bool
     ensures { IsTrue result ↔ Valid tile.now }
 {
     let items = tile.items.as_slice();
-    are_valid(items) && are_distinct(items)
+    are_valid(items) && have_distinct_names(items)
 }
 
 /// The same, in time that grows as that of sorting the names of the layers and the keys of each
@@ -38,13 +38,13 @@ pub fn first_invalid(alloc: Global, tile: &Tile) -> Result<Option<usize>, AllocE
     ensures { IfOk result (λ found. MatchOption found (Valid tile.now)
         (IsFirstInvalid tile.now.items)) }
 {
-    let mut names = BTreeSet::new(alloc);
+    let mut names = NameSet::new(alloc);
     let items = tile.items.as_slice();
     for (index, item) in items.iter().enumerate() {
         if !validate_item(alloc, item)? {
             return Ok(Some(index));
         }
-        if !add_name(&mut names, name_of(alloc, item)?)? {
+        if !names.add(name_of(alloc, item)?)? {
             return Ok(Some(index));
         }
     }
@@ -63,7 +63,7 @@ fn are_valid(items: &[Item]) -> bool
 }
 
 /// Whether no two layers have one name.
-fn are_distinct(items: &[Item]) -> bool
+fn have_distinct_names(items: &[Item]) -> bool
     ensures { IsTrue result ↔ HasDistinctNames items.now }
 {
     for (index, item) in items.iter().enumerate() {

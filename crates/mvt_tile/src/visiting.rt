@@ -7,9 +7,9 @@ ghost use Rattle.mvt_message.specs.declared.item.Item.{Item};
 ghost use Rattle.mvt_message.specs.ItemRules.{item_fault};
 ghost use Rattle.mvt_message.specs.Items.{IsItem, names_in};
 ghost use Rattle.mvt_message.specs.ValidItems.{ValidItem};
-ghost use Rattle.mvt_model.specs.declared.tile.Tile.{Tile};
-ghost use Rattle.mvt_model.specs.Tiles.{IsTile};
-ghost use Rattle.mvt_model.specs.ValidTiles.{Valid};
+ghost use Rattle.mvt_tile_value.specs.declared.tile.Tile.{Tile};
+ghost use Rattle.mvt_tile_value.specs.Tiles.{IsTile};
+ghost use Rattle.mvt_tile_value.specs.ValidTiles.{Valid};
 ghost use Rattle.mvt_tile.specs.Streams.{ReportsAtEnd};
 ghost use Rattle.mvt_tile.specs.TileRules.{fault_within};
 

@@ -1,8 +1,8 @@
 //! Going over a tile that comes in pieces.
 ghost use Rattle.std.specs.Prelude.{◌≡◌, ℕ, List, [], ◌++◌, length, None, IsSome, IfOk, IfErr, IfSome};
-ghost use Rattle.mvt_model.specs.declared.tile.Tile.{Tile};
-ghost use Rattle.mvt_model.specs.Tiles.{IsTile};
-ghost use Rattle.mvt_model.specs.ValidTiles.{Valid};
+ghost use Rattle.mvt_tile_value.specs.declared.tile.Tile.{Tile};
+ghost use Rattle.mvt_tile_value.specs.Tiles.{IsTile};
+ghost use Rattle.mvt_tile_value.specs.ValidTiles.{Valid};
 ghost use Rattle.mvt_tile.specs.Streams.{Answers, ReportsAtEnd};
 ghost use Rattle.mvt_tile.specs.TileRules.{fault_within};
 ghost use Rattle.mvt_tile.specs.Visiting.{StandsFor};

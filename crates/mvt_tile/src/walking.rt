@@ -8,21 +8,21 @@ ghost use Rattle.mvt_wire.specs.Split.{shifted};
 ghost use Rattle.mvt_feature.specs.Causes.{of_wire};
 ghost use Rattle.mvt_message.specs.declared.item.Item.{Item};
 ghost use Rattle.mvt_message.specs.Items.{names_in};
-ghost use Rattle.mvt_model.specs.declared.numbers.tile.TheConstants.{LAYERS};
-ghost use Rattle.mvt_model.specs.declared.tile.Tile.{Tile};
+ghost use Rattle.mvt_tile_value.specs.declared.numbers.tile.TheConstants.{LAYERS};
+ghost use Rattle.mvt_tile_value.specs.declared.tile.Tile.{Tile};
 ghost use Rattle.mvt_tile.specs.Faults.{outer_fault};
 ghost use Rattle.mvt_tile.specs.Inner.Taking.{HasTaken};
-ghost use Rattle.mvt_tile.specs.Inner.Judging.{IsJudged, IsPlaceOf, TakesItem, ReportsAfter, payload_fault, repeated_at, reported_in};
+ghost use Rattle.mvt_tile.specs.Inner.Judging.{IsJudged, IsPlaceOf, IsOneItemMore, ReportsAfter, payload_fault, repeated_at, reported_in};
 ghost use Rattle.mvt_tile.specs.Streams.{ReportsEarly, ReportsAtEnd};
 ghost use Rattle.mvt_tile.specs.TileRules.{field_rules, fault_within};
-ghost use Rattle.mvt_model.specs.Tiles.{AreItems, IsTile};
+ghost use Rattle.mvt_tile_value.specs.Tiles.{AreItems, IsTile};
 
 use crate::fault::{DecodeError, Fault};
 use crate::names::Names;
 use crate::visiting::TileVisitor;
 use mvt_base::LIMIT;
 use mvt_message::{Cause, MessageError};
-use mvt_model::numbers::tile;
+use mvt_tile_value::numbers::tile;
 use mvt_wire::{Field, Fields, Payload, WireCause, WireFault};
 use std::alloc::Global;
 
@@ -59,7 +59,7 @@ impl<V: TileVisitor> Taken<V> {
         requires fits { payload_at + length payload.now ≤ LIMIT }
         ensures item { (given : V.Given) (items : List Item)
             → HasTaken (V.has_items given) self.old items → OnOk result ((new : List Item)
-            × HasTaken (V.has_items given) self.new new × TakesItem items new payload.now) }
+            × HasTaken (V.has_items given) self.new new × IsOneItemMore items new payload.now) }
         ensures fault { (given : V.Given) (items : List Item)
             → HasTaken (V.has_items given) self.old items → IfErr result
             (λ error. ReportsEarly error (payload_fault (length items)
@@ -84,10 +84,10 @@ pub(crate) fn walk_whole<V: TileVisitor>(
         × HasTaken (V.has_items given) taken tile.items) }
     ensures fault { IfErr result (λ error. ReportsAtEnd error (fault_within LIMIT bytes.now)) }
 {
-    let (fitting, beyond) = bytes.split_at(bytes.len().min(LIMIT as usize));
+    let (fitting, rest) = bytes.split_at(bytes.len().min(LIMIT as usize));
     let mut taken = Taken::new(alloc, visitor);
     let used = walk_fields(alloc, &mut taken, fitting, 0)?;
-    if !beyond.is_empty() {
+    if !rest.is_empty() {
         return Err(DecodeError::Fault(Fault::outer(used as u64, Cause::TooLarge)));
     }
     if used < fitting.len() {

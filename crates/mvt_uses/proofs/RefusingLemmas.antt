@@ -1,8 +1,8 @@
 -- A tile has no fault.
 use Rattle.std.proofs.Common.{◌≡◌, ℕ, List, Option, Some, None, IfSome, sym}
 use Rattle.mvt_base.specs.declared.TheConstants.{LIMIT}
-use Rattle.mvt_model.specs.declared.tile.Tile.{Tile}
-use Rattle.mvt_model.specs.Tiles.{IsTile}
+use Rattle.mvt_tile_value.specs.declared.tile.Tile.{Tile}
+use Rattle.mvt_tile_value.specs.Tiles.{IsTile}
 use Rattle.mvt_tile.specs.TileRules.{fault_within}
 use Rattle.mvt_tile.proofs.TileLaws.{tile_or_fault_clean}
 

@@ -1,7 +1,7 @@
 //! Make a tile, and write it.
 ghost use Rattle.std.specs.Prelude.{◌≡◌, ◌<◌, length, IfOk, IfSome, IsErrOf};
-ghost use Rattle.mvt_model.specs.CanonicalTiles.{canonical};
-ghost use Rattle.mvt_model.specs.Tiles.{IsTile};
+ghost use Rattle.mvt_tile_value.specs.CanonicalTiles.{canonical};
+ghost use Rattle.mvt_tile_value.specs.Tiles.{IsTile};
 ghost use Rattle.mvt_uses.specs.Uses.{AreBytesOf, place_of};
 
 use mvt_tile::{

@@ -37,29 +37,34 @@ pub point_text : (p : Point) → compact_text (point_json p) ≡ 91 ∷ (signed_
 point_text p = ap₂ (λ x y. 91 ∷ (x ++ (44 ∷ (y ++ codes "]")))) (integer_text p.x) (integer_text p.y)
 
 pub polygon_text : (p : Polygon) → compact_text (polygon_json p)
-    ≡ codes "{\"outer\":" ++ (compact_text (line_json p.outer) ++ (codes ",\"rest\":" ++ (compact_text (each line_json p.rest) ++ codes "}")))
+    ≡ codes "{\"outer\":" ++ (compact_text
+        (line_json p.outer) ++ (codes ",\"rest\":" ++ (compact_text (each line_json p.rest) ++ codes "}")))
 unfolding escape_byte
 polygon_text p = refl
 
 pub feature_text : (f : Feature) → compact_text (feature_json f)
-    ≡ codes "{\"attributes\":" ++ (compact_text (each attribute_json f.attributes) ++ (codes ",\"geometry\":" ++ (compact_text (geometry_json f.geometry)
+    ≡ codes "{\"attributes\":" ++ (compact_text
+        (each attribute_json f.attributes) ++ (codes ",\"geometry\":" ++ (compact_text (geometry_json f.geometry)
     ++ (codes ",\"id\":" ++ (compact_text (id_json f.id) ++ codes "}")))))
 unfolding escape_byte
 feature_text f = refl
 
 pub title_text : (f : Feature) → compact_text (title_json f)
-    ≡ codes "{\"attributes\":" ++ (compact_text (each attribute_json f.attributes) ++ (codes ",\"id\":" ++ (compact_text (id_json f.id) ++ codes "}")))
+    ≡ codes "{\"attributes\":" ++ (compact_text
+        (each attribute_json f.attributes) ++ (codes ",\"id\":" ++ (compact_text (id_json f.id) ++ codes "}")))
 unfolding escape_byte
 title_text f = refl
 
 pub layer_text : (l : ALayer) → compact_text (layer_json l)
-    ≡ codes "{\"extent\":" ++ (compact_text (number_json l.extent) ++ (codes ",\"features\":" ++ (compact_text (each feature_json l.features)
+    ≡ codes "{\"extent\":" ++ (compact_text
+        (number_json l.extent) ++ (codes ",\"features\":" ++ (compact_text (each feature_json l.features)
     ++ (codes ",\"name\":" ++ (compact_text (string l.name) ++ codes "}")))))
 unfolding escape_byte
 layer_text l = refl
 
 pub foreign_text : (version size : ℕ) → compact_text (foreign_json version size)
-    ≡ codes "{\"length\":" ++ (compact_text (number_json size) ++ (codes ",\"version\":" ++ (compact_text (number_json version) ++ codes "}")))
+    ≡ codes "{\"length\":" ++ (compact_text
+        (number_json size) ++ (codes ",\"version\":" ++ (compact_text (number_json version) ++ codes "}")))
 unfolding escape_byte
 foreign_text version size = refl
 
@@ -120,7 +125,8 @@ unfolding escape_byte
 layers_begins d = refl
 
 -- what was appended, by another name
-pub named : {A E : Type 0} (r : Result A E) (old new piece whole : List ℕ) → OnOk r (new ≡ old ++ piece) → whole ≡ piece → OnOk r (new ≡ old ++ whole)
+pub named : {A E : Type 0} (r : Result A E) (old new piece whole : List ℕ) → OnOk r (new ≡ old ++ piece) → whole ≡ piece
+    → OnOk r (new ≡ old ++ whole)
 named r old new piece whole told same = subst (λ t. OnOk r (new ≡ old ++ t)) (sym same) told
 
 -- pieces that were appended one after another
@@ -135,14 +141,16 @@ joined_two old a b c d e whole t1 t2 t3 t4 t5 e1 e2 e3 e4 e5 same =
     joined old (a ++ (b ++ c)) d e whole t3 t4 t5 (joined old a b c (a ++ (b ++ c)) t1 t2 t3 e1 e2 e3 refl) e4 e5
     (same ∙ ap (λ t. a ++ t) (sym (append_assoc b c (d ++ e))) ∙ sym (append_assoc a (b ++ c) (d ++ e)))
 
-pub joined_three : (old a b c d e f g whole t1 t2 t3 t4 t5 t6 t7 : List ℕ) → t1 ≡ old ++ a → t2 ≡ t1 ++ b → t3 ≡ t2 ++ c → t4 ≡ t3 ++ d → t5 ≡ t4 ++ e
+pub joined_three : (old a b c d e f g whole t1 t2 t3 t4 t5 t6 t7 : List ℕ) → t1 ≡ old ++ a → t2 ≡ t1 ++ b → t3 ≡ t2 ++ c → t4 ≡ t3 ++ d
+    → t5 ≡ t4 ++ e
     → t6 ≡ t5 ++ f → t7 ≡ t6 ++ g → whole ≡ a ++ (b ++ (c ++ (d ++ (e ++ (f ++ g))))) → t7 ≡ old ++ whole
 joined_three old a b c d e f g whole t1 t2 t3 t4 t5 t6 t7 e1 e2 e3 e4 e5 e6 e7 same =
     joined_two old (a ++ (b ++ c)) d e f g whole t3 t4 t5 t6 t7 (joined old a b c (a ++ (b ++ c)) t1 t2 t3 e1 e2 e3 refl) e4 e5 e6 e7
     (same ∙ ap (λ t. a ++ t) (sym (append_assoc b c (d ++ (e ++ (f ++ g))))) ∙ sym (append_assoc a (b ++ c) (d ++ (e ++ (f ++ g)))))
 
 -- the first entry, those after it, and the brackets
-pub list_text : {A : Type 0} (f : A → Data) (xs ys : List A) (x : A) (old t1 t2 t3 t4 : List ℕ) → ys ≡ xs → 1 ≤ length ys → x ≡ get_or ys 0 x
+pub list_text : {A : Type 0} (f : A → Data) (xs ys : List A) (x : A) (old t1 t2 t3 t4 : List ℕ) → ys ≡ xs → 1 ≤ length ys
+    → x ≡ get_or ys 0 x
     → t1 ≡ old ++ codes "[" → t2 ≡ t1 ++ compact_text (f x)
     → t3 ≡ t2 ++ flat_map (λ y. 44 ∷ compact_text (f y)) (take (length ys - 1) (drop 1 ys)) → t4 ≡ t3 ++ codes "]"
     → t4 ≡ old ++ compact_text (each f xs)

@@ -9,18 +9,22 @@ use Rattle.std.specs.List.{flat_map, list_all}
 use Rattle.std.specs.Prelude.{IsUtf8, chars, encode_utf8_all}
 use Rattle.mvt_view.specs.Xml.{escaped, escaped_char, is_plain, is_xml}
 
-unmarked : (c : ℕ) → (c == 38) ≡ false → (c == 60) ≡ false → (c == 62) ≡ false → (c == 13) ≡ false → is_xml c ≡ true → escaped_char c ≡ encode_utf8 c
+unmarked : (c : ℕ) → (c == 38) ≡ false → (c == 60) ≡ false → (c == 62) ≡ false → (c == 13) ≡ false → is_xml c ≡ true
+    → escaped_char c ≡ encode_utf8 c
 unfolding escaped_char
 unmarked c a b d e x = grind (arith, common_steps, a, b, d, e, x)
 
 low_stays : (c : ℕ) → is_plain c ≡ true → c < 128 → escaped_char c ≡ encode_utf8 c
-low_stays c plain low = unmarked c (grind (arith, common_steps, plain)) (grind (arith, common_steps, plain)) (grind (arith, common_steps, plain)) (grind (arith, common_steps, plain)) (grind (arith, common_steps, plain, low))
+low_stays c plain low = unmarked c (grind (arith, common_steps, plain)) (grind (arith, common_steps, plain))
+    (grind (arith, common_steps, plain)) (grind (arith, common_steps, plain)) (grind (arith, common_steps, plain, low))
 
 middle_stays : (c : ℕ) → 127 < c → c < 61440 → escaped_char c ≡ encode_utf8 c
-middle_stays c over low = unmarked c (grind (arith, common_steps, over)) (grind (arith, common_steps, over)) (grind (arith, common_steps, over)) (grind (arith, common_steps, over)) (grind (arith, common_steps, over, low))
+middle_stays c over low = unmarked c (grind (arith, common_steps, over)) (grind (arith, common_steps, over))
+    (grind (arith, common_steps, over)) (grind (arith, common_steps, over)) (grind (arith, common_steps, over, low))
 
 high_stays : (c : ℕ) → 65535 < c → escaped_char c ≡ encode_utf8 c
-high_stays c over = unmarked c (grind (arith, common_steps, over)) (grind (arith, common_steps, over)) (grind (arith, common_steps, over)) (grind (arith, common_steps, over)) (grind (arith, common_steps, over))
+high_stays c over = unmarked c (grind (arith, common_steps, over)) (grind (arith, common_steps, over)) (grind (arith, common_steps, over))
+    (grind (arith, common_steps, over)) (grind (arith, common_steps, over))
 
 three : (c : ℕ) → is_plain (224 + c / 4096) ≡ true → c < 65536 → c < 61440
 three c plain low = grind (arith, common_steps)

@@ -2,11 +2,11 @@
 use Rattle.std.specs.Prelude.{ℕ, Bool, true, false, List, ◌++◌, codes}
 use Rattle.std.specs.List.{flat_map}
 use Rattle.std.specs.Fmt.{decimal}
-use Rattle.mvt_model.specs.Survey.{survey_of}
-use Rattle.mvt_model.specs.declared.note.Note.{Note}
-use Rattle.mvt_model.specs.declared.note.Note.TheVariants.{NoLayers, Foreign, NoFeatures, RepeatedId, FlatRing, ClosedTwice}
-use Rattle.mvt_model.specs.declared.survey.Survey.{Survey}
-use Rattle.mvt_model.specs.declared.tile.Tile.{Tile}
+use Rattle.mvt_tile_value.specs.Survey.{survey_of}
+use Rattle.mvt_tile_value.specs.declared.note.Note.{Note}
+use Rattle.mvt_tile_value.specs.declared.note.Note.TheVariants.{NoLayers, Foreign, NoFeatures, RepeatedId, FlatRing, ClosedTwice}
+use Rattle.mvt_tile_value.specs.declared.survey.Survey.{Survey}
+use Rattle.mvt_tile_value.specs.declared.tile.Tile.{Tile}
 
 abbrev pub answer_text : Bool → List ℕ
 answer_text true = codes "yes"

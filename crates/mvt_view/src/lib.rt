@@ -3,13 +3,13 @@
 
 mod fault;
 mod fields;
+mod json_part;
 pub mod laws;
 mod numbers;
 mod parts;
 mod paths;
 mod quoted;
 mod report;
-mod shown;
 mod svg;
 mod tile_json;
 mod view_error;

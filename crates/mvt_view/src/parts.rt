@@ -1,8 +1,8 @@
 //! The JSON of a tile's parts.
 ghost use Rattle.mvt_view.specs.JsonForms.{attribute_json, feature_json, foreign_json, geometry_json, item_json, json, layer_json, point_json, polygon_json, value_json};
 
+use crate::json_part::{JsonPart, alone, push_alone};
 use crate::numbers::push_pair;
-use crate::shown::{Shown, alone, push_alone};
 use crate::view_error::ViewError;
 use mvt_attrs::{Attribute, Value};
 use mvt_geometry::{Geometry, Point, Polygon};
@@ -11,8 +11,8 @@ use mvt_tile::Tile;
 use serde_json::{Value as Json, json};
 use std::alloc::{AllocError, Global};
 
-impl Shown for Value {
-    ghost shown = { value_json };
+impl JsonPart for Value {
+    ghost form = { value_json };
 
     fn to_json(&self, alloc: Global) -> Result<Json, AllocError> {
         match self {
@@ -39,8 +39,8 @@ impl Shown for Value {
     }
 }
 
-impl Shown for Attribute {
-    ghost shown = { attribute_json };
+impl JsonPart for Attribute {
+    ghost form = { attribute_json };
 
     fn to_json(&self, alloc: Global) -> Result<Json, AllocError> {
         let key = self.key.to_json(alloc)?;
@@ -57,8 +57,8 @@ impl Shown for Attribute {
     }
 }
 
-impl Shown for Point {
-    ghost shown = { point_json };
+impl JsonPart for Point {
+    ghost form = { point_json };
 
     fn to_json(&self, alloc: Global) -> Result<Json, AllocError> {
         json!(in alloc; [self.x, self.y])
@@ -71,8 +71,8 @@ impl Shown for Point {
     }
 }
 
-impl Shown for Polygon {
-    ghost shown = { polygon_json };
+impl JsonPart for Polygon {
+    ghost form = { polygon_json };
 
     fn to_json(&self, alloc: Global) -> Result<Json, AllocError> {
         let outer = self.outer.to_json(alloc)?;
@@ -89,8 +89,8 @@ impl Shown for Polygon {
     }
 }
 
-impl Shown for Geometry {
-    ghost shown = { geometry_json };
+impl JsonPart for Geometry {
+    ghost form = { geometry_json };
 
     fn to_json(&self, alloc: Global) -> Result<Json, AllocError> {
         match self {
@@ -111,8 +111,8 @@ impl Shown for Geometry {
     }
 }
 
-impl Shown for Feature {
-    ghost shown = { feature_json };
+impl JsonPart for Feature {
+    ghost form = { feature_json };
 
     fn to_json(&self, alloc: Global) -> Result<Json, AllocError> {
         let attributes = self.attributes.to_json(alloc)?;
@@ -132,8 +132,8 @@ impl Shown for Feature {
     }
 }
 
-impl Shown for Layer {
-    ghost shown = { layer_json };
+impl JsonPart for Layer {
+    ghost form = { layer_json };
 
     fn to_json(&self, alloc: Global) -> Result<Json, AllocError> {
         let extent = self.extent.to_json(alloc)?;
@@ -160,8 +160,8 @@ struct Foreign {
     length: u64,
 }
 
-impl Shown for Foreign {
-    ghost shown = { λ f. foreign_json f.version f.length };
+impl JsonPart for Foreign {
+    ghost form = { λ f. foreign_json f.version f.length };
 
     fn to_json(&self, alloc: Global) -> Result<Json, AllocError> {
         json!(in alloc; {"length": self.length, "version": self.version})
@@ -176,8 +176,8 @@ impl Shown for Foreign {
     }
 }
 
-impl Shown for Item {
-    ghost shown = { item_json };
+impl JsonPart for Item {
+    ghost form = { item_json };
 
     fn to_json(&self, alloc: Global) -> Result<Json, AllocError> {
         match self {
@@ -206,8 +206,8 @@ impl Shown for Item {
     }
 }
 
-impl Shown for Tile {
-    ghost shown = { json };
+impl JsonPart for Tile {
+    ghost form = { json };
 
     fn to_json(&self, alloc: Global) -> Result<Json, AllocError> {
         alone(alloc, "layers", self.items.to_json(alloc)?)

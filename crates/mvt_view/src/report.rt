@@ -1,7 +1,7 @@
 //! The report on a tile that was accepted.
 ghost use Rattle.std.specs.Prelude.{◌≡◌, ◌++◌, OnOk, IfOk, string_bytes};
 ghost use Rattle.std.specs.List.{flat_map, sum_by};
-ghost use Rattle.mvt_model.specs.Survey.{feature_count as the_feature_count};
+ghost use Rattle.mvt_tile_value.specs.Survey.{feature_count as the_feature_count};
 ghost use Rattle.mvt_view.specs.Reports.{head_line, note_line, report_lines, survey_lines};
 
 use crate::view_error::ViewError;

@@ -8,8 +8,8 @@ ghost use Rattle.std.specs.List.{flat_map};
 ghost use Rattle.serde_json.specs.Written.{compact_text};
 ghost use Rattle.mvt_view.specs.Svg.{class_of, colour_of, feature_svg, item_svg, items_svg, layer_svg, square_svg, svg, title_json, title_svg};
 
+use crate::json_part::JsonPart;
 use crate::paths::push_geometry;
-use crate::shown::Shown;
 use crate::view_error::ViewError;
 use crate::xml::push_escaped;
 use mvt_geometry::Geometry;

@@ -10,7 +10,7 @@ ghost use Rattle.serde_json.specs.View.{view};
 ghost use Rattle.serde_json.specs.Written.{compact_text};
 ghost use Rattle.mvt_view.specs.JsonForms.{json};
 
-use crate::shown::Shown;
+use crate::json_part::JsonPart;
 use crate::view_error::ViewError;
 use mvt_tile::Tile;
 use serde_json::Value;

@@ -24,7 +24,8 @@ IsOfOr mark i Rest = (mark ≡ i + 1) ⊎ ((mark ≢ 0) × Rest)
 
 -- each entry is in its first slot; or that is another's, and it is in its second; or that is another's
 -- too, and it is in order; nothing else is in order
-pub record IsTwoChoices {T : Type 0} (cmp : T → T → Ordering) (input : T → List (List ℕ)) (two_choices : TwoChoices T) (entries : List T) : Type 0 where
+pub record IsTwoChoices {T : Type 0} (cmp : T → T → Ordering) (input : T → List (List ℕ)) (two_choices : TwoChoices T)
+    (entries : List T) : Type 0 where
   pub room : 0 < length two_choices.slots.items
   pub known : (i : ℕ) (x : T) → slice_get entries i ≡ Some x →
       let mark : ℕ → ℕ = slice_index two_choices.slots.items in

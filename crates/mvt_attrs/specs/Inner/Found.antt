@@ -16,4 +16,5 @@ IsLookupOf pool x CanTake (New slot) = ¬ (Contains pool x) × CanTake slot
 abbrev pub IsReportedBy : {A : Type 0} → List ℕ → ℕ → List A → A → Option Lookup → Type 0
 IsReportedBy slots slot pool x (Some (Found i)) = slice_get pool i ≡ Some x
 IsReportedBy slots slot pool x (Some (New free)) = (free ≡ Some slot) × (slice_index slots slot ≡ 0)
-IsReportedBy slots slot pool x None = (slice_index slots slot ≢ 0) × ((i : ℕ) → slice_index slots slot ≡ i + 1 → slice_get pool i ≡ Some x → ⊥)
+IsReportedBy slots slot pool x None = (slice_index slots slot ≢ 0)
+    × ((i : ℕ) → slice_index slots slot ≡ i + 1 → slice_get pool i ≡ Some x → ⊥)

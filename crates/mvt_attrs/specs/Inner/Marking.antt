@@ -12,28 +12,31 @@ use Rattle.mvt_attrs.specs.declared.resolving.TagError.TheVariants.{Fault}
 use Rattle.mvt_attrs.specs.Tags.{has_key}
 
 -- two keys have one place exactly where they are one text
-pub record IsGrouped (texts : List (List ℕ)) (places : List ℕ) : Type 0 where
-  pub len : length places ≡ length texts
-  pub within : (i : ℕ) → i < length texts → slice_index places i < length texts
+pub record IsGrouped (texts : List (List ℕ)) (first_indices : List ℕ) : Type 0 where
+  pub len : length first_indices ≡ length texts
+  pub within : (i : ℕ) → i < length texts → slice_index first_indices i < length texts
   pub together : (i j : ℕ) (a : List ℕ) → slice_get texts i ≡ Some a → slice_get texts j ≡ Some a
-      → slice_index places i ≡ slice_index places j
+      → slice_index first_indices i ≡ slice_index first_indices j
   pub apart : (i j : ℕ) (a b : List ℕ) → slice_get texts i ≡ Some a → slice_get texts j ≡ Some b
-      → slice_index places i ≡ slice_index places j → a ≡ b
+      → slice_index first_indices i ≡ slice_index first_indices j → a ≡ b
 
 -- the place of the first text after these places: that of an earlier one that is equal, or its index
 abbrev pub IsPlaceAfter : List (List ℕ) → List ℕ → ℕ → Type 0
-IsPlaceAfter texts places place =
-    ((j : ℕ) × (j < length places) × (slice_get texts j ≡ slice_get texts (length places)) × (place ≡ slice_index places j))
-    ⊎ (((j : ℕ) → j < length places → slice_get texts j ≡ slice_get texts (length places) → ⊥) × (place ≡ length places))
+IsPlaceAfter texts first_indices place =
+    ((j : ℕ) × (j < length first_indices) × (slice_get texts j ≡ slice_get texts (length first_indices))
+        × (place ≡ slice_index first_indices j))
+    ⊎ (((j : ℕ) → j < length first_indices → slice_get texts j ≡ slice_get texts (length first_indices) → ⊥)
+        × (place ≡ length first_indices))
 
--- the places marked with this turn are those of the attributes' keys
+-- the first indices that this feature has named are those of the attributes' keys
 abbrev pub IsMarked : List (List ℕ) → List ℕ → List ℕ → ℕ → List Attribute → Type 0
-IsMarked texts places marks turn attributes =
-    (i : ℕ) (text : List ℕ) → slice_get texts i ≡ Some text → (slice_index marks (slice_index places i) == turn) ≡ has_key text attributes
+IsMarked texts first_indices named_by feature attributes =
+    (i : ℕ) (text : List ℕ) → slice_get texts i ≡ Some text
+        → (slice_index named_by (slice_index first_indices i) == feature) ≡ has_key text attributes
 
 -- no place has a mark as high as n
 abbrev pub AreBelow : List ℕ → ℕ → Type 0
-AreBelow marks n = (i : ℕ) → slice_index marks i < n
+AreBelow named_by n = (i : ℕ) → slice_index named_by i < n
 
 -- what is told of a pair that names no key, or no value; its key stands at this index
 abbrev pub IsIndexError : List (List ℕ) → ℕ → ℕ → ℕ → ℕ → TagError → Type 0
@@ -41,12 +44,12 @@ IsIndexError texts values index key value error =
     ((length texts ≤ key) × (error ≡ Fault index KeyIndex))
     ⊎ ((key < length texts) × (values ≤ value) × (error ≡ Fault (index + 1) ValueIndex))
 
--- keys in their groups, and marks of turns up to the last
-pub record IsReady (texts : List (List ℕ)) (places marks : List ℕ) (turn : ℕ) : Type 0 where
-  pub grouped : IsGrouped texts places
-  pub room : length marks ≡ length texts
-  pub below : AreBelow marks (turn + 1)
+-- keys in their groups, and what named them, up to the last feature
+pub record IsReady (texts : List (List ℕ)) (first_indices named_by : List ℕ) (feature : ℕ) : Type 0 where
+  pub grouped : IsGrouped texts first_indices
+  pub room : length named_by ≡ length texts
+  pub below : AreBelow named_by (feature + 1)
 
 -- the place of a text among the places so far
 abbrev pub place_in_map : BTreeMap (Bor (List ℕ)) ℕ → List ℕ → Option ℕ
-place_in_map places text = get_by (λ k. slice_cmp nat_cmp text k.now) places
+place_in_map first_indices text = get_by (λ k. slice_cmp nat_cmp text k.now) first_indices

@@ -13,39 +13,42 @@ use Rattle.mvt_geometry.specs.Inner.Judging.{edges}
 use Rattle.mvt_geometry.specs.Inner.Validity.{IsStepTo, IsPath}
 
 -- these integers are spelled in front, and then the bytes behind
-pub record SpellsFront (bytes ints behind : List ℕ) : Type 0 where
-  pub joins : (more : List ℕ) → ArePacked behind more → ArePacked bytes (ints ++ more)
+pub record SpellsFront (bytes ints after : List ℕ) : Type 0 where
+  pub joins : (more : List ℕ) → ArePacked after more → ArePacked bytes (ints ++ more)
 
 -- a visitor was told these points more of the part that was begun
-pub record WasTold {V : Type 0} (HasParts : V → List Part → List Point → V → Type 0) (old : V) (points : List Point) (new : V) : Type 0 where
-  pub told : (start : V) (parts : List Part) (begun : List Point) → HasParts start parts begun old → HasParts start parts (begun ++ points) new
+pub record WasTold {V : Type 0} (HasParts : V → List Part → List Point → V → Type 0) (old : V) (points : List Point) (new : V) : Type 0
+  where
+    pub told : (start : V) (parts : List Part) (begun : List Point) → HasParts start parts begun old
+        → HasParts start parts (begun ++ points) new
 
 -- a pair in front leads to a point
-pub record IsPair (is_line : Bool) (from to : Point) (bytes behind : List ℕ) : Type 0 where
+pub record IsPair (is_line : Bool) (from to : Point) (bytes after : List ℕ) : Type 0 where
   pub step : IsStepTo is_line from to
-  pub spelled : SpellsFront bytes (path_from from (to ∷ [])) behind
+  pub spelled : SpellsFront bytes (path_from from (to ∷ [])) after
 
 -- the pairs in front lead over these points
-pub record ArePairs (is_line : Bool) (from : Point) (bytes behind : List ℕ) (count : ℕ) (end : Point) (area : ℤ) (points : List Point) : Type 0 where
+pub record ArePairs (is_line : Bool) (from : Point) (bytes after : List ℕ) (count : ℕ) (end : Point) (area : ℤ)
+    (points : List Point) : Type 0 where
   pub is : IsPath is_line from points
-  pub spelled : SpellsFront bytes (path_from from points) behind
+  pub spelled : SpellsFront bytes (path_from from points) after
   pub long : length points ≡ count
   pub end_is : end ≡ last_of from points
   pub area_is : area ≡ edges from points
   pub small : unsigned_abs area ≤ count * 2 ^ 63
 
 -- a MoveTo in front leads to a point, and a LineTo has so many pairs
-pub record IsHead (least : ℕ) (from head : Point) (count : ℕ) (bytes behind : List ℕ) : Type 0 where
+pub record IsHead (least : ℕ) (from head : Point) (count : ℕ) (bytes after : List ℕ) : Type 0 where
   pub step : IsStepTo false from head
   pub enough : least ≤ count + 1
   pub few : count < 2 ^ 29
-  pub spelled : SpellsFront bytes (9 ∷ (path_from from (head ∷ []) ++ (2 + 8 * count) ∷ [])) behind
+  pub spelled : SpellsFront bytes (9 ∷ (path_from from (head ∷ []) ++ (2 + 8 * count) ∷ [])) after
 
 -- a line or ring in front
-pub record IsLine (least : ℕ) (close : List ℕ) (from : Point) (bytes behind : List ℕ) (count : ℕ) (end : Point) (area : ℤ) (closed : Bool)
+pub record IsLine (least : ℕ) (close : List ℕ) (from : Point) (bytes after : List ℕ) (count : ℕ) (end : Point) (area : ℤ) (closed : Bool)
     (line : List Point) : Type 0 where
   pub is : IsStrokeFrom least from line
-  pub spelled : SpellsFront bytes (stroke close from line) behind
+  pub spelled : SpellsFront bytes (stroke close from line) after
   pub long : count ≡ length line
   pub end_is : end ≡ last_of from line
   pub area_is : area ≡ area2 line

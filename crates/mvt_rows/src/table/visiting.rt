@@ -12,7 +12,7 @@ use super::Table;
 use crate::places::Places;
 use mvt_attrs::LayerKeys;
 use mvt_base::Text;
-use mvt_feature::{Scratch, read_meaning};
+use mvt_feature::{Scratch, read_value_ref};
 use mvt_message::{LayerVisitor, MessageError, Visited, visit_layer};
 use mvt_tile::{DecodeError, TileVisitor, VisitingDecoder, visit_named, visit_tile};
 use std::alloc::{AllocError, Global};
@@ -177,7 +177,7 @@ impl LayerVisitor for RowsVisitor {
         payload_at: u64,
         tag_at: u64,
     ) -> Result<(), MessageError> {
-        let meaning = read_meaning(payload, payload_at, tag_at)?;
+        let meaning = read_value_ref(payload, payload_at, tag_at)?;
         self.table.add_value(meaning)?;
         Ok(self.keep_within()?)
     }

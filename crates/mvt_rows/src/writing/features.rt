@@ -7,7 +7,7 @@ ghost use Rattle.mvt_rows.specs.TileRows.{id_of};
 ghost use Rattle.mvt_rows.specs.Writing.{AreFeatureParts};
 ghost use Rattle.mvt_rows.specs.Written.{IsWrongAs};
 
-use super::geometries::draw_geometry;
+use super::geometries::append_row_geometry;
 use super::parts::part;
 use super::values::truth;
 use crate::rows::{FeatureRow, Rows};
@@ -57,7 +57,7 @@ pub(crate) fn feature_parts(
     if row.kind > 3 {
         return Err(RowError::Wrong(None, RowsCause::Kind));
     }
-    let Some(kind) = if_any(draw_geometry(rows, row, work, integers))? else {
+    let Some(kind) = if_any(append_row_geometry(rows, row, work, integers))? else {
         return Err(RowError::Wrong(None, RowsCause::Geometry));
     };
     Ok(FeatureParts { id, tags, kind })

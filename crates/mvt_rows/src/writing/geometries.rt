@@ -6,7 +6,7 @@ ghost use Rattle.mvt_geometry.specs.declared.shape.Polygon.{Polygon};
 ghost use Rattle.mvt_rows.specs.Drawing.{AreDrawnIf, DrawnLines, DrawnPolygons, IsFollowedBy, role_of as the_role_of};
 ghost use Rattle.mvt_rows.specs.Lent.{table_of};
 ghost use Rattle.mvt_rows.specs.TileRows.{each, geometry_of, line_of, point_of, points_of, steps, with_ring_row};
-ghost use Rattle.mvt_rows.specs.Written.{FailsAs};
+ghost use Rattle.mvt_rows.specs.Written.{IfNoPart};
 
 use super::parts::part;
 use super::values::truth;
@@ -41,7 +41,7 @@ impl Position for PointRow {
 /// integers draw. The list then has its integers alone.
 ///
 /// Parts that can't be drawn are told only after all parts have counted.
-pub(crate) fn draw_geometry(
+pub(crate) fn append_row_geometry(
     rows: &Rows,
     row: &FeatureRow,
     work: &mut Work,
@@ -49,7 +49,7 @@ pub(crate) fn draw_geometry(
 ) -> Result<Option<Kind>, RowPartError>
     ensures drawn { IfOk result
         (λ drawn. AreDrawnIf (geometry_of (table_of rows.now) row.now) drawn integers.new) }
-    ensures none { IfErr result (FailsAs (geometry_of (table_of rows.now) row.now ≡ None)) }
+    ensures none { IfErr result (IfNoPart (geometry_of (table_of rows.now) row.now ≡ None)) }
 {
     integers.clear();
     if row.kind == 0 {
@@ -75,7 +75,7 @@ fn draw_points(
     requires { integers.now ≡ [] }
     ensures drawn { IfOk result
         (λ drawn. AreDrawnIf (points_of points.now rows.now) drawn integers.new) }
-    ensures none { IfErr result (FailsAs (points_of points.now rows.now ≡ None)) }
+    ensures none { IfErr result (IfNoPart (points_of points.now rows.now ≡ None)) }
 {
     let [row] = rows else {
         return Err(RowPartError::NoPart);
@@ -96,7 +96,7 @@ fn draw_lines(
     requires { integers.now ≡ [] }
     ensures drawn { IfOk result (λ drawn. AreDrawnIf
         (option_map Lines (each (line_of points.now) rows.now)) drawn integers.new) }
-    ensures none { IfErr result (FailsAs (each (line_of points.now) rows.now ≡ None)) }
+    ensures none { IfErr result (IfNoPart (each (line_of points.now) rows.now ≡ None)) }
 {
     let mut cursor = Some(ORIGIN);
     for row in rows {
@@ -138,7 +138,7 @@ fn draw_polygons(
     requires { integers.now ≡ [] }
     ensures drawn { IfOk result (λ drawn. AreDrawnIf
         (option_map Polygons (steps (with_ring_row points.now) [] rows.now)) drawn integers.new) }
-    ensures none { IfErr result (FailsAs (steps (with_ring_row points.now) [] rows.now ≡ None)) }
+    ensures none { IfErr result (IfNoPart (steps (with_ring_row points.now) [] rows.now ≡ None)) }
 {
     let mut cursor = Some(ORIGIN);
     let mut begun = false;

@@ -1,7 +1,7 @@
 //! What spans name: parts of lists, and texts.
 ghost use Rattle.std.specs.Prelude.{◌≡◌, ◌+◌, Some, None, IfOk, IfErr, IsUtf8, MatchOption, OnOk};
 ghost use Rattle.std.specs.List.{AllByRecursion};
-ghost use Rattle.mvt_rows.specs.Written.{FailsAs};
+ghost use Rattle.mvt_rows.specs.Written.{IfNoPart};
 ghost use Rattle.mvt_rows.specs.TileRows.{each, part_of, text_of};
 
 use crate::rows::Span;
@@ -18,12 +18,12 @@ pub(crate) fn part<'a, T>(
     work: &mut Work,
 ) -> Result<&'a [T], RowPartError>
     ensures part { IfOk result (λ part. part_of list.now span ≡ Some part.now) }
-    ensures none { IfErr result (FailsAs (part_of list.now span ≡ None)) }
+    ensures none { IfErr result (IfNoPart (part_of list.now span ≡ None)) }
     ensures counted { OnOk result (work.new.left + span.len ≡ work.old.left) }
 {
     match find_part(list, span) {
         Some(part) => {
-            work.count(span.len)?;
+            work.spend(span.len)?;
             Ok(part)
         }
         None => Err(RowPartError::NoPart),
@@ -47,7 +47,7 @@ pub(crate) fn text(
 ) -> Result<Text, RowPartError>
     ensures text { IfOk result (λ text. text_of texts.now span ≡ Some text) }
     ensures utf8 { IfOk result IsUtf8 }
-    ensures none { IfErr result (FailsAs (text_of texts.now span ≡ None)) }
+    ensures none { IfErr result (IfNoPart (text_of texts.now span ≡ None)) }
 {
     match str::from_utf8(part(texts, span, work)?) {
         Ok(text) => Ok(Text::from_str(alloc, text)?),
@@ -64,7 +64,7 @@ pub(crate) fn keys(
 ) -> Result<Vec<Text>, RowPartError>
     ensures keys { IfOk result (λ keys. each (text_of texts.now) spans.now ≡ Some keys.items) }
     ensures utf8 { IfOk result (λ keys. AllByRecursion IsUtf8 keys.items) }
-    ensures none { IfErr result (FailsAs (each (text_of texts.now) spans.now ≡ None)) }
+    ensures none { IfErr result (IfNoPart (each (text_of texts.now) spans.now ≡ None)) }
 {
     let mut keys = Vec::with_capacity(alloc, spans.len())?;
     for span in spans {

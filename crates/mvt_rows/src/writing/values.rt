@@ -2,7 +2,7 @@
 ghost use Rattle.std.specs.Prelude.{◌≡◌, Some, None, IfOk, IfErr, IfSome};
 ghost use Rattle.std.specs.List.{AllByRecursion};
 ghost use Rattle.mvt_feature.specs.Valid.{ValidValue};
-ghost use Rattle.mvt_rows.specs.Written.{FailsAs};
+ghost use Rattle.mvt_rows.specs.Written.{IfNoPart};
 ghost use Rattle.mvt_rows.specs.TileRows.{each, float_of, number_of, truth_of, value_of};
 
 use super::parts::text;
@@ -54,7 +54,7 @@ fn value(
 ) -> Result<Value, RowPartError>
     ensures value { IfOk result (λ value. value_of texts.now row.now ≡ Some value) }
     ensures valid { IfOk result ValidValue }
-    ensures none { IfErr result (FailsAs (value_of texts.now row.now ≡ None)) }
+    ensures none { IfErr result (IfNoPart (value_of texts.now row.now ≡ None)) }
 {
     if row.kind == 1 {
         return Ok(Value::Text(text(alloc, texts, row.text, work)?));
@@ -75,7 +75,7 @@ pub(crate) fn values(
     ensures values { IfOk result (λ values. each (value_of texts.now) rows.now
         ≡ Some values.items) }
     ensures valid { IfOk result (λ values. AllByRecursion ValidValue values.items) }
-    ensures none { IfErr result (FailsAs (each (value_of texts.now) rows.now ≡ None)) }
+    ensures none { IfErr result (IfNoPart (each (value_of texts.now) rows.now ≡ None)) }
 {
     let mut values = Vec::with_capacity(alloc, rows.len())?;
     for row in rows {

@@ -9,7 +9,8 @@ use Rattle.mvt_tile.specs.Streams.{IsCalm, IsLive, ReportsEarly}
 use Rattle.mvt_tile.specs.TileRules.{fault_within}
 
 -- so many reads gave bytes whose items were taken, and of which these are left after the last whole field
-pub record HasFed (limit : ℕ) (HasTaken : List Item → Type 0) (offset : ℕ) (raw : List ℕ) (before now : Option (List ℕ)) (reads : ℕ) : Type 0 where
+pub record HasFed (limit : ℕ) (HasTaken : List Item → Type 0) (offset : ℕ) (raw : List ℕ) (before now : Option (List ℕ))
+    (reads : ℕ) : Type 0 where
   pub items : List Item
   pub has : HasTaken items
   pub few : length items ≤ offset

@@ -17,10 +17,10 @@ use Rattle.mvt_message.specs.ValidItems.{ValidItem}
 use Rattle.mvt_tile.specs.declared.fault.Fault.{Fault as AFault}
 use Rattle.mvt_tile.specs.declared.fault.DecodeError.{DecodeError}
 use Rattle.mvt_tile.specs.declared.fault.DecodeError.TheVariants.{Memory, Fault}
-use Rattle.mvt_model.specs.declared.numbers.tile.TheConstants.{LAYERS}
+use Rattle.mvt_tile_value.specs.declared.numbers.tile.TheConstants.{LAYERS}
 use Rattle.mvt_tile.specs.Faults.{in_layer}
 use Rattle.mvt_tile.specs.TileRules.{repeats, field_rules, rest_rules}
-use Rattle.mvt_model.specs.Tiles.{AreItems, HasDistinctNames}
+use Rattle.mvt_tile_value.specs.Tiles.{AreItems, HasDistinctNames}
 use Rattle.mvt_tile.specs.Streams.{ReportsEarly}
 
 -- items, each valid, with the set of their names, which are distinct
@@ -53,8 +53,9 @@ pub record IsPlaceOf (offset : ℕ) (x : Entry) (payload : List ℕ) (payload_at
   pub tag_at_is : tag_at ≡ offset + x.at
 
 -- one item more, which this payload is, with a name that is new
-abbrev pub TakesItem : List Item → List Item → List ℕ → Type 0
-TakesItem old new d = (item : Item) × (new ≡ old ++ item ∷ []) × IsItem d item × (repeats (flat_map names_in old) (names_in item) ≡ false)
+abbrev pub IsOneItemMore : List Item → List Item → List ℕ → Type 0
+IsOneItemMore old new d = (item : Item) × (new ≡ old ++ item ∷ []) × IsItem d item
+    × (repeats (flat_map names_in old) (names_in item) ≡ false)
 
 -- a number of layers and the set of their names are those of these items
 pub record AreNamed (count : ℕ) (names : List (List ℕ)) (items : List Item) : Type 0 where

@@ -5,7 +5,7 @@ use Rattle.std.specs.BTreeSet.{BTreeSet, keys}
 use Rattle.std.specs.Option.{option_map}
 use Rattle.mvt_message.specs.declared.item.Item.{Item}
 use Rattle.mvt_message.specs.Items.{names_in}
-use Rattle.mvt_model.specs.Encoding.{AreEncoded}
+use Rattle.mvt_tile_value.specs.Encoding.{AreEncoded}
 use Rattle.mvt_tile.specs.declared.rewriting.Rewriter.{Rewriter}
 use Rattle.mvt_tile.specs.TileRules.{repeats}
 

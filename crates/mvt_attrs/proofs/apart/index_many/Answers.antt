@@ -15,5 +15,6 @@ loop-index-preserved g c =
     let new : Contains (take i entries) x → ⊥ = c.in_ok-add_apart.ensures.new c.if-not-branch.false in
     record {
       apart = subst AreDistinct more (distinct_more (take i entries) x c.loop-index.invariant.apart new);
-      known = subst (IsTwoChoices g.T.Ord.cmp g.T.Hash.hash_input c.add_apart.new.two_choices) more (c.in_ok-add_apart.ensures.added c.if-not-branch.false);
+      known = subst (IsTwoChoices g.T.Ord.cmp g.T.Hash.hash_input c.add_apart.new.two_choices) more
+          (c.in_ok-add_apart.ensures.added c.if-not-branch.false);
     }

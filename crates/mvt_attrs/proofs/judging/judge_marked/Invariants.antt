@@ -5,8 +5,8 @@ use Rattle.mvt_attrs.proofs.judging.judge_marked.Given as goal
 
 abbrev pub invariant-loop-rest : goal.invariant-loop-rest
 invariant-loop-rest l = record {
-  marked : MarkedSoFar l.texts l.places l.marks l.turn l.values l.tags l.rest;
-  below : AreBelow l.marks (l.turn + 1);
+  marked : MarkedSoFar l.texts l.first_indices l.named_by l.feature l.values l.tags l.rest;
+  below : AreBelow l.named_by (l.feature + 1);
   within : length l.rest ≤ length l.tags;
 }
 

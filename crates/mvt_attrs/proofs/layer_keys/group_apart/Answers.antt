@@ -4,4 +4,5 @@ use Rattle.mvt_attrs.proofs.IndicesLemmas.{grouped_apart}
 use Rattle.mvt_attrs.proofs.layer_keys.group_apart.Goals as goal
 
 pub returns : goal.returns
-returns c = grouped_apart c.args.texts.now c.loop-index.places.items c.requires (subst (AreIndices c.loop-index.places.items) (omega arith) c.loop-index.invariant)
+returns c = grouped_apart c.args.texts.now c.loop-index.first_indices.items c.requires
+    (subst (AreIndices c.loop-index.first_indices.items) (omega arith) c.loop-index.invariant)

@@ -5,21 +5,23 @@ use Rattle.mvt_attrs.proofs.MarkingLemmas.{few_none, few_more, grouped}
 use Rattle.mvt_attrs.proofs.layer_keys.group_few.Goals as goal
 
 pub loop-init : goal.loop-init
-loop-init c = (few_none c.args.texts.now c.in_ok-places.places.items c.in_ok-places.ensures.items, ap length c.in_ok-places.ensures.items)
+loop-init c = (few_none c.args.texts.now c.in_ok-first_indices.first_indices.items c.in_ok-first_indices.ensures.items, ap length
+    c.in_ok-first_indices.ensures.items)
 
 pub loop-preserved : goal.loop-preserved
 loop-preserved c =
     let texts = c.args.texts.now in
-    let places = c.loop.places.items in
+    let first_indices = c.loop.first_indices.items in
     let found = c.loop.invariant.0 in
     let behind = rw c.deref.ensures.value at c.place_after-place.ensures in (
-      few_more texts places found.0 found.1 found.2 (get_or texts (length places) [])
-          (slice_get-get_or texts (length places) [] (omega (arith, c.loop.invariant.1, c.loop-test.true)))
+      few_more texts first_indices found.0 found.1 found.2 (get_or texts (length first_indices) [])
+          (slice_get-get_or texts (length first_indices) [] (omega (arith, c.loop.invariant.1, c.loop-test.true)))
           c.place_after-place.result c.push.new.self.items behind c.in_ok-push.ensures.items,
-      omega (arith, ap length c.in_ok-push.ensures.items, length_push places c.place_after-place.result, c.loop.invariant.1),
+      omega (arith, ap length c.in_ok-push.ensures.items, length_push first_indices c.place_after-place.result, c.loop.invariant.1),
     )
 
 pub returns : goal.returns
 returns c =
     let found = c.loop.invariant.0 in
-    grouped c.args.texts.now (length c.loop.places.items) c.loop.places.items found.0 (omega (arith, c.loop.invariant.1)) found.1
+    grouped c.args.texts.now (length c.loop.first_indices.items) c.loop.first_indices.items found.0 (omega (arith, c.loop.invariant.1))
+        found.1

@@ -3,4 +3,4 @@ use Rattle.mvt_attrs.proofs.MarkingLemmas.{FoundFew}
 use Rattle.mvt_attrs.proofs.layer_keys.group_few.Given as goal
 
 abbrev pub invariant-loop : goal.invariant-loop
-invariant-loop l = FoundFew l.texts l.places.items × (length l.places.items ≡ l.index)
+invariant-loop l = FoundFew l.texts l.first_indices.items × (length l.first_indices.items ≡ l.index)

@@ -10,8 +10,8 @@ returns-then-eq c =
     let here : slice_get texts c.loop-before.before ≡ Some c.index-texts-before.result =
     slice_get_read texts (length texts) c.loop-before.before c.index-texts-before.result refl
     (omega (arith, c.loop-before-test.true, c.requires)) c.index-texts-before.is in
-    let there : slice_get texts (length c.args.places.now) ≡ Some c.index-texts-index.result =
-    slice_get_read texts (length texts) (length c.args.places.now) c.index-texts-index.result refl c.requires
+    let there : slice_get texts (length c.args.first_indices.now) ≡ Some c.index-texts-index.result =
+    slice_get_read texts (length texts) (length c.args.first_indices.now) c.index-texts-index.result refl c.requires
     c.index-texts-index.is in
     inl (c.loop-before.before, c.loop-before-test.true, here ∙ ap Some ((bytes_eq-Decides _ _).0 (sym c.if-eq.ensures)) ∙ sym there, refl)
 
@@ -21,8 +21,8 @@ loop-before-preserved c = λ j lt same.
     let here : slice_get texts c.loop-before.before ≡ Some c.index-texts-before.result =
     slice_get_read texts (length texts) c.loop-before.before c.index-texts-before.result refl
     (omega (arith, c.loop-before-test.true, c.requires)) c.index-texts-before.is in
-    let there : slice_get texts (length c.args.places.now) ≡ Some c.index-texts-index.result =
-    slice_get_read texts (length texts) (length c.args.places.now) c.index-texts-index.result refl c.requires
+    let there : slice_get texts (length c.args.first_indices.now) ≡ Some c.index-texts-index.result =
+    slice_get_read texts (length texts) (length c.args.first_indices.now) c.index-texts-index.result refl c.requires
     c.index-texts-index.is in
     ⊎_elim
     (λ (is : j ≡ c.loop-before.before).

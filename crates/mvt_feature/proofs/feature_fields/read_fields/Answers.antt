@@ -28,7 +28,7 @@ returns-in-Err-with-clause-err c =
     let stays =
     known_with c.args.payload_at done (entry_of c.in-Ok.field) c.loop-field.known _ _ [] [] (Err c.in-Err-with.error)
     c.loop-field.invariant.2 tt tt tt tt tt c.in-Err-with.ensures.err in
-    c.rest_fault_or.ensures.reported _ (rw all (stays c.next.new.self.to_come.fields))
+    c.rest_fault_before.ensures.reported _ (rw all (stays c.next.new.self.to_come.fields))
 
 pub returns-in-Err-clause-err : goal.returns-in-Err-clause-err
 returns-in-Err-clause-err c =

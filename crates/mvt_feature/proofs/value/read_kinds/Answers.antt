@@ -40,7 +40,7 @@ returns-in-Err-meaning_of-clause-err c =
     let done = c.loop-field.invariant.0 in
     let step = (rw c.in-Ok.is at c.in-Some.ensures.steps).0 in
     let all = (walk_step c.args.payload.now _ c.next.new.self.to_come done c.in-Ok.field c.loop-field.invariant.1 step).fields in
-    c.rest_fault_or.ensures.reported _
+    c.rest_fault_before.ensures.reported _
     (rw (c.fault_at-error.ensures, all)
     (so_far_stops c.args.payload_at done c.loop-field.kinds (entry_of c.in-Ok.field) c.in-Err-meaning_of.cause
     c.loop-field.invariant.2 c.in-Err-meaning_of.ensures.err c.next.new.self.to_come.fields))

@@ -5,7 +5,8 @@ use Rattle.mvt_geometry.proofs.drawing.append_line.Goals as goal
 
 pub returns-clause-valid : goal.returns-clause-valid
 returns-clause-valid g c =
-    on_ok_weaker c.append_stroke.result (λ h. stroke_of 2 c.args.from (map g.P.Position.point_of c.args.line.now) h) c.append_stroke.ensures.valid
+    on_ok_weaker c.append_stroke.result (λ h. stroke_of 2 c.args.from (map g.P.Position.point_of c.args.line.now) h)
+    c.append_stroke.ensures.valid
 
 pub returns-clause-invalid : goal.returns-clause-invalid
 returns-clause-invalid g c = λ is h.

@@ -9,7 +9,8 @@ invariant-loop-position g l =
     let left = map g.P.Position.point_of (drop l.position-index l.points) in
     let all = map g.P.Position.point_of l.points in
     record {
-      drawn : g.N.NumberList.numbers l.list ++ path_from l.cursor left ≡ g.N.NumberList.numbers l.initial.list ++ path_from l.initial.cursor all;
+      drawn : g.N.NumberList.numbers l.list ++ path_from l.cursor left ≡ g.N.NumberList.numbers l.initial.list ++ path_from
+          l.initial.cursor all;
       last : last_of l.cursor left ≡ last_of l.initial.cursor all;
       forth : IsPath l.is_line l.initial.cursor all → IsPath l.is_line l.cursor left;
       back : IsPath l.is_line l.cursor left → IsPath l.is_line l.initial.cursor all;

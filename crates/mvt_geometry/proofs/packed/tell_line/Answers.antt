@@ -26,7 +26,8 @@ returns-clause-line g c =
     let q : to_z w128 (of_z w128 c.cross.result) ≡ c.cross.result = search rules in
     let fits = sum_fits c.in-Some-2.path.area c.cross.result c.in-Some.head.count path.1.small c.cross.ensures.small few in (
       c.in-Some.head.point ∷ path.0,
-      rw (p, q) (line_there c.in-Some.ensures.head path.1 _ _ c.cross.ensures.value (to_z-of_z w128 (c.in-Some-2.path.area +ℤ c.cross.result) fits)
+      rw (p, q) (line_there c.in-Some.ensures.head path.1 _ _ c.cross.ensures.value
+          (to_z-of_z w128 (c.in-Some-2.path.area +ℤ c.cross.result) fits)
           _ c.is_same.ensures),
       told_both (record { told = c.in_ok-visit_point.ensures }) path.2,
     )

@@ -42,7 +42,8 @@ returns-clause-path g c =
     let inv = c.loop-left.invariant in
     let all : inv.1 ≡ c.args.count = omega (arith, inv.2, c.loop-left-test.false) in (
       inv.0,
-      subst (λ n. ArePairs c.args.is_line c.args.from c.args.bytes.now c.loop-left.rest.now n c.loop-left.cursor (to_z w128 c.loop-left.area-bits) inv.0) all inv.4,
+      subst (λ n. ArePairs c.args.is_line c.args.from c.args.bytes.now c.loop-left.rest.now n c.loop-left.cursor
+          (to_z w128 c.loop-left.area-bits) inv.0) all inv.4,
       inv.5,
     )
 

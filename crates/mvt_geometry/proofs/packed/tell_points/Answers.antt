@@ -29,7 +29,7 @@ returns-clause-drawn g c = λ yes.
     let path = rw c.in-Some-2.is at c.in_ok-path.ensures.path in
     let points = path.0 in
     let some : 0 < c.in-Some.count = omega (arith, c.if-count-eq0.false) in
-    let none : length c.in-Some-2.path.behind.now ≡ 0 = search rules in
+    let none : length c.in-Some-2.path.after.now ≡ 0 = search rules in
     let told = points_told some c.in-Some.ensures.few c.in-Some.ensures.spelled path.1 none in
     let begun = path.2.told start [] [] (g.met.V.GeometryVisitor.begins start) in (
       drawn (Points points),

@@ -19,7 +19,7 @@ loop-rest-preserved c = λ ls are.
       ap (λ xs. xs ++ f.others) (c.in_ok-push.ensures.items ∙ ap (λ l. c.loop-rest.lines.items ++ l ∷ []) line.0)
           ∙ append_assoc c.loop-rest.lines.items (f.line ∷ []) f.others ∙ ap (λ xs. c.loop-rest.lines.items ++ xs) (sym f.lines_are)
           ∙ inv.1,
-      f.others_are c.in_ok-line.line.end c.in_ok-line.line.behind.now line.1 line.2,
+      f.others_are c.in_ok-line.line.end c.in_ok-line.line.after.now line.1 line.2,
     )
 
 pub returns : goal.returns

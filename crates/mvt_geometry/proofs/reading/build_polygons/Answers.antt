@@ -15,7 +15,7 @@ loop-rest-init c = λ rings are.
       ap₂ (λ ps (p : List Polygon). ps ++ p) c.in_ok-polygons.ensures.items
           (ap₂ (λ p n. opened p n f.others) ring.0 c.new.ensures.items)
           ∙ sym (ap polygons_of f.lines_are),
-      f.others_are c.in_ok-first.first.end c.in_ok-first.first.behind.now ring.1 ring.2,
+      f.others_are c.in_ok-first.first.end c.in_ok-first.first.after.now ring.1 ring.2,
     )
 
 pub build_ring-requires-in-loop-rest : goal.build_ring-requires-in-loop-rest
@@ -35,7 +35,7 @@ loop-rest-preserved c = λ rings are.
       c.in_ok-add_ring.ensures f.others
           ∙ ap (λ r. l.polygons.items ++ opened l.current.outer l.current.inner.items (r ∷ f.others)) ring.0
           ∙ ap (λ rs. l.polygons.items ++ opened l.current.outer l.current.inner.items rs) (sym f.lines_are) ∙ inv.1,
-      f.others_are c.in_ok-ring.ring.end c.in_ok-ring.ring.behind.now ring.1 ring.2,
+      f.others_are c.in_ok-ring.ring.end c.in_ok-ring.ring.after.now ring.1 ring.2,
     )
 
 pub returns : goal.returns

@@ -9,6 +9,10 @@ returns-then-is_in_range c =
     let by : to_z w64 (of_z w64 (to_z w64 (of_z w64 c.from-to.result) -ℤ to_z w64 (of_z w64 c.from-from.result)))
     ≡ c.args.to -ℤ c.args.from =
     omega (arith, ints) in (
-      λ t. (subst InRange to (c.is_in_range.ensures.0 c.if-is_in_range.true), subst InRange by (c.is_in_range-then-is_in_range.ensures.0 t)),
+      λ t. (
+        subst InRange to (c.is_in_range.ensures.0 c.if-is_in_range.true),
+        subst InRange by
+            (c.is_in_range-then-is_in_range.ensures.0 t),
+      ),
       λ h. c.is_in_range-then-is_in_range.ensures.1 (subst InRange (sym by) h.1),
     )

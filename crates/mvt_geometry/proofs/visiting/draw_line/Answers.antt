@@ -70,7 +70,8 @@ returns-clause-drawn g c = λ l more start parts is has.
     ap₂ (λ p xs. positions p (pairs_of xs)) first (rw c.count_in-count.ensures at c.split_at-2.ensures.front)
     ∙ other_points f c.split_at.result.0.now c.split_at.result.1.now c.split_at.ensures.front c.split_at.ensures.back in
     let one =
-    subst (λ ps. g.V.GeometryVisitor.has_parts start parts ps c.draw_path.new.visitor) head (c.in_ok-first.ensures.drawn start parts [] has) in
+    subst (λ ps. g.V.GeometryVisitor.has_parts start parts ps c.draw_path.new.visitor) head
+    (c.in_ok-first.ensures.drawn start parts [] has) in
     subst (λ ps. g.V.GeometryVisitor.has_parts start parts ps c.draw_path-2.new.visitor)
     (ap (λ ps. f.head ∷ ps) points ∙ sym f.line_is) (c.in_ok-end.ensures.drawn start parts (f.head ∷ []) one)
 

@@ -26,7 +26,7 @@ loop-rest-preserved g c = λ lines are.
       done ++ f.line ∷ [],
       f.others,
       append_assoc done (f.line ∷ []) f.others ∙ ap (λ xs. done ++ xs) (sym f.lines_are) ∙ inv.2,
-      f.others_are c.in_ok-line.line.end c.in_ok-line.line.behind.now line.1 line.4,
+      f.others_are c.in_ok-line.line.end c.in_ok-line.line.after.now line.1 line.4,
       subst (λ parts. g.V.GeometryVisitor.has_parts c.args.visitor.now parts [] c.end_part.new.self)
           (sym (map-append plain done (f.line ∷ []))) ended,
     )

@@ -52,7 +52,7 @@ loop-rest-preserved g c = λ rings are.
       append_assoc done (ring_part c.begins_polygon.result f.line ∷ []) (parts_of_rings false f.others)
           ∙ ap (λ e. done ++ (ring_part e f.line ∷ parts_of_rings false f.others)) exterior
           ∙ ap (λ rs. done ++ parts_of_rings is_first rs) (sym f.lines_are) ∙ inv.2,
-      f.others_are c.in_ok-ring.ring.end _ ring.1 (take_rest c.in_ok-ring.ring.behind.now 1 ∙ ap (drop 1) ring.4),
+      f.others_are c.in_ok-ring.ring.end _ ring.1 (take_rest c.in_ok-ring.ring.after.now 1 ∙ ap (drop 1) ring.4),
       ended,
     )
 

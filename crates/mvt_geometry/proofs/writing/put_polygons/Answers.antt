@@ -21,12 +21,12 @@ put_lines-requires-clause-steps g c =
     let e =
     rings_at _ _ c.polygon-item.result
     (item_at c.args.polygons.now l.polygon-index c.polygon-item.result c.loop-polygon-test.true c.polygon-item.is) in
-    let behind =
+    let after =
     steps_after l.cursor c.in_ok-cursor.cursor c.as_slice.result.now c.polygon-item.result.outer _ _ e c.as_slice.ensures
     c.in_ok-cursor.ensures.last l.invariant.1 in
     subst (λ ls. AreSteps c.in_ok-cursor.cursor (joined ls)) (sym c.as_slice-in-loop-polygon.ensures)
     (strokes_front c.in_ok-cursor.cursor c.polygon-item.result.rest (rings_of (drop (l.polygon-index + 1) c.args.polygons.now))
-    behind)
+    after)
 
 pub put_lines-requires-clause-short : goal.put_lines-requires-clause-short
 put_lines-requires-clause-short g c =
@@ -44,7 +44,7 @@ loop-polygon-preserved g c =
     let p = c.polygon-item.result in
     let more = rings_of (drop (l.polygon-index + 1) c.args.polygons.now) in
     let e = rings_at _ _ p (item_at c.args.polygons.now l.polygon-index p c.loop-polygon-test.true c.polygon-item.is) in
-    let behind =
+    let after =
     steps_after l.cursor c.in_ok-cursor.cursor c.as_slice.result.now p.outer _ _ e c.as_slice.ensures
     c.in_ok-cursor.ensures.last l.invariant.1 in
     let outer =
@@ -56,7 +56,7 @@ loop-polygon-preserved g c =
     c.in_ok-cursor-2.ensures.integers
     ∙ ap (λ ls. (g.N.NumberList.numbers c.put_line.new.integers) ++ strokes (15 ∷ []) c.in_ok-cursor.cursor ls) rest_is in (
       strokes_step _ _ _ (15 ∷ []) c.in_ok-cursor.cursor c.in_ok-cursor-2.cursor p.rest more last put outer,
-      strokes_back c.in_ok-cursor.cursor c.in_ok-cursor-2.cursor p.rest more last behind,
+      strokes_back c.in_ok-cursor.cursor c.in_ok-cursor-2.cursor p.rest more last after,
       all_right IsShort p.rest more (subst AreShort e l.invariant.2).1,
       begins_more (g.N.NumberList.numbers c.args.integers.now) _ _ _
           (begins_more (g.N.NumberList.numbers c.args.integers.now) _ _ _ l.invariant.3 c.in_ok-cursor.ensures.integers)

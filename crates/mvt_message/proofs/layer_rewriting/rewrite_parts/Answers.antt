@@ -39,5 +39,6 @@ returns-in-Ok-Foreign-clause-item g c = λ items start.
     × g.V.RewriteVisitor.has_features items r.visitor features r.writer.features.items)
     c.visit_version_2.new.visitor (Foreign c.in-Ok-Foreign.version)
     (λ i. IsItem payload i × ValidItem i) (λ layer none. none) item reported (is, valid) in
-    foreign_made (λ i. IsItem payload i × ValidItem i) {number = number} {content = content} payload c.in-Ok-Foreign.version (foreign_bytes payload number content p.0) told.0
+    foreign_made (λ i. IsItem payload i × ValidItem i) {number = number} {content = content} payload c.in-Ok-Foreign.version
+    (foreign_bytes payload number content p.0) told.0
     refl p

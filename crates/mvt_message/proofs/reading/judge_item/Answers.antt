@@ -1,7 +1,7 @@
 use Rattle.std.proofs.Common.{◌≡◌, ℕ, List, [], ◌∷◌, ap, ◌∙◌}
 use Rattle.mvt_attrs.specs.declared.value.Value.{Value}
 use Rattle.mvt_feature.specs.declared.feature.Feature.{Feature}
-use Rattle.mvt_message.specs.declared.reading.Judged.{Judged}
+use Rattle.mvt_message.specs.declared.reading.LayerJudge.{LayerJudge}
 use Rattle.mvt_message.specs.declared.visiting.Visited.TheVariants.{Layer, Foreign}
 use Rattle.mvt_message.specs.Items.{names_in}
 use Rattle.mvt_message.specs.ItemRules.{payload_names}
@@ -10,10 +10,10 @@ use Rattle.mvt_message.proofs.VisitLemmas.{layer_visited, foreign_visited}
 use Rattle.mvt_message.proofs.reading.judge_item.Goals as goal
 
 -- nothing is kept
-abbrev HasItems : Judged → Type 0
+abbrev HasItems : LayerJudge → Type 0
 HasItems judged = Unit {0}
 
-abbrev HasFeatures : List (List ℕ) → List Value → Judged → List Feature → Type 0
+abbrev HasFeatures : List (List ℕ) → List Value → LayerJudge → List Feature → Type 0
 HasFeatures keys values judged features = Unit {0}
 
 pub returns-in-Ok-Layer-clause-names : goal.returns-in-Ok-Layer-clause-names

@@ -1,7 +1,7 @@
 use Rattle.std.proofs.Common.{◌≡◌, ℕ, List, [], ◌∙◌}
 use Rattle.mvt_attrs.specs.declared.value.Value.{Value}
 use Rattle.mvt_feature.specs.declared.feature.Feature.{Feature}
-use Rattle.mvt_message.specs.declared.reading.Kept.{Kept}
+use Rattle.mvt_message.specs.declared.reading.LayerKeeper.{LayerKeeper}
 use Rattle.mvt_message.specs.declared.visiting.Visited.TheVariants.{Layer, Foreign}
 use Rattle.mvt_message.specs.Items.{IsItem}
 use Rattle.mvt_message.specs.ValidItems.{ValidItem}
@@ -9,10 +9,10 @@ use Rattle.mvt_message.proofs.VisitLemmas.{layer_visited, foreign_visited, put_t
 use Rattle.mvt_message.proofs.reading.read_item.Goals as goal
 
 -- what is kept of items, and of features
-abbrev HasItems : Kept → Type 0
+abbrev HasItems : LayerKeeper → Type 0
 HasItems kept = Unit {0}
 
-abbrev HasFeatures : List (List ℕ) → List Value → Kept → List Feature → Type 0
+abbrev HasFeatures : List (List ℕ) → List Value → LayerKeeper → List Feature → Type 0
 HasFeatures keys values kept features = (kept.values.items ≡ values) × (kept.features.items ≡ features)
 
 pub returns-in_ok-from_str-in-Ok-Layer-clause-item : goal.returns-in_ok-from_str-in-Ok-Layer-clause-item
@@ -20,7 +20,8 @@ returns-in_ok-from_str-in-Ok-Layer-clause-item c =
     let (item, is, valid, visited) = c.in-Ok-Layer.ensures.item [] (c.new-kept.ensures.values, c.new-kept.ensures.features) tt in
     let reported = rw c.in-Ok-Layer.field-0-is at visited in
     let (layer, has, p) =
-    layer_visited HasItems HasFeatures c.visit_version_2.new.visitor (Layer c.in-Ok-Layer.name c.in-Ok-Layer.extent) (IsItem c.args.payload.now)
+    layer_visited HasItems HasFeatures c.visit_version_2.new.visitor (Layer c.in-Ok-Layer.name c.in-Ok-Layer.extent)
+    (IsItem c.args.payload.now)
     (λ number content none. none) item reported is in
     put_together (IsItem c.args.payload.now) layer _ _ _ (c.in_ok-from_str-in-Ok-Layer.ensures.same ∙ has.0) has.1
     (c.new.ensures ∙ has.2.2.1) p
@@ -49,7 +50,8 @@ returns-in_ok-from_slice-in-Ok-Foreign-clause-valid c =
     let (item, is, valid, visited) = c.in-Ok-Foreign.ensures.item [] (c.new-kept.ensures.values, c.new-kept.ensures.features) tt in
     let reported = rw c.in-Ok-Foreign.field-0-is at visited in
     let (other, bytes, same, q) =
-    foreign_visited HasItems HasFeatures c.visit_version_2.new.visitor (Foreign c.in-Ok-Foreign.version) (λ i. IsItem c.args.payload.now i × ValidItem i)
+    foreign_visited HasItems HasFeatures c.visit_version_2.new.visitor (Foreign c.in-Ok-Foreign.version)
+    (λ i. IsItem c.args.payload.now i × ValidItem i)
     (λ layer none. none) item reported (is, valid) in
     foreign_made ValidItem _ _ (foreign_bytes c.args.payload.now other bytes q.0) same.0
     (c.new-in-Ok-Foreign.ensures ∙ c.in_ok-from_slice-in-Ok-Foreign.ensures.items) q.1

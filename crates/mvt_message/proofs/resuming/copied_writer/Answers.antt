@@ -30,7 +30,8 @@ of_apart-requires-2-clause-apart c =
     let read = c.in_ok-held.held.items in
     let same = values_are_held c.args.body.now front is.held c.requires.small is.held_are read
     (subst (λ ps. AreRelated IsValueOf (lent ps) read) c.deref-2.ensures.value c.in_ok-held.ensures) in
-    subst AreDistinct (sym same) (held_apart c.args.body.now front is.held c.requires.small is.held_are (is.is_front.values_apart c.requires.apart))
+    subst AreDistinct (sym same) (held_apart c.args.body.now front is.held c.requires.small is.held_are
+    (is.is_front.values_apart c.requires.apart))
 
 pub of_apart-requires-2-clause-within : goal.of_apart-requires-2-clause-within
 of_apart-requires-2-clause-within c =
@@ -50,8 +51,11 @@ returns c =
     let texts_are : c.in_ok-texts.texts.items ≡ part.keys.items = c.in_ok-texts.ensures ∙ c.deref.ensures.value in
     let same = values_are_held c.args.body.now part.front is.held c.requires.small is.held_are read
     (subst (λ ps. AreRelated IsValueOf (lent ps) read) c.deref-2.ensures.value c.in_ok-held.ensures) in
-    written_start c.args.body.now part _ c.requires.small is c.requires.apart
-    (subst (AreUsesOf c.in_ok-keys.keys) texts_are c.in_ok-keys.ensures.uses, subst (AreUsesOf c.in_ok-values.values) same c.in_ok-values.ensures.uses)
+    written_start c.args.body.now part _ c.requires.small is c.requires.apart (
+      subst (AreUsesOf c.in_ok-keys.keys) texts_are c.in_ok-keys.ensures.uses,
+      subst (AreUsesOf c.in_ok-values.values) same
+          c.in_ok-values.ensures.uses,
+    )
     (c.in_ok-keys.ensures.used ∙ ap (take used.0) texts_are) (c.in_ok-values.ensures.used ∙ ap (take used.1) same)
     (c.in_ok-extend_from_slice.ensures.items
     ∙ ap (λ fs. fs ++ take (part.reached.at - part.features_at) (drop part.features_at c.args.body.now)) c.in_ok-features.ensures.items)

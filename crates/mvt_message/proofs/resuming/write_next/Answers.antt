@@ -15,6 +15,7 @@ returns-clause-feature c = λ held start read.
       keys_are = used_keys read.features f old new written.keys_are rewritten.0.keys;
       values_are = used_values read.features f old new written.values_are rewritten.0.values;
       written = written_more read.features f old new c.clear.new.self.items c.rewrite_feature.new.out.items c.deref.result.now
-          c.args.writer.now.features.items c.put_field.new.out.items written.written written.keys_are written.values_are c.clear.ensures.items
+          c.args.writer.now.features.items c.put_field.new.out.items written.written written.keys_are written.values_are
+          c.clear.ensures.items
           rewritten c.deref.ensures.value c.in_ok-put_field.ensures.ok;
     })

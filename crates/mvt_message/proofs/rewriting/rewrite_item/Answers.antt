@@ -2,8 +2,8 @@ use Rattle.mvt_message.specs.declared.item.Item.TheVariants.{Layer}
 use Rattle.mvt_message.proofs.MessageLaws.{item_or_fault_clean}
 use Rattle.mvt_message.proofs.rewriting.rewrite_item.Goals as goal
 
-pub returns-in_ok-append_copied-in-Ok-Copied-clause-ok : goal.returns-in_ok-append_copied-in-Ok-Copied-clause-ok
-returns-in_ok-append_copied-in-Ok-Copied-clause-ok c =
+pub returns-in_ok-append_copied_layer-in-Ok-Copied-clause-ok : goal.returns-in_ok-append_copied_layer-in-Ok-Copied-clause-ok
+returns-in_ok-append_copied_layer-in-Ok-Copied-clause-ok c =
     let (layer, is, valid, name, canonical) = rw c.in-Ok-Copied.field-0-is at c.in-Ok-Copied.ensures.made in
     item_or_fault_clean c.args.payload.now c.args.payload_at c.args.tag_at (Layer layer) is
 

@@ -20,12 +20,12 @@ returns-then-version-ne-VERSION_2-clause-foreign c =
     other_item c.args.payload.now c.args.payload_at c.args.tag_at c.in_ok-version.version _ c.in_ok-version.ensures.ok
     c.in_ok-version.ensures.version c.if-version-ne-VERSION_2.true refl
 
-pub header_fault_or-requires-clause-whole : goal.header_fault_or-requires-clause-whole
-header_fault_or-requires-clause-whole c =
+pub header_fault_before-requires-clause-whole : goal.header_fault_before-requires-clause-whole
+header_fault_before-requires-clause-whole c =
     head_whole c.args.payload.now c.args.payload_at c.args.tag_at c.in_ok-version.ensures.ok
 
-pub header_fault_or-requires-clause-versions : goal.header_fault_or-requires-clause-versions
-header_fault_or-requires-clause-versions c =
+pub header_fault_before-requires-clause-versions : goal.header_fault_before-requires-clause-versions
+header_fault_before-requires-clause-versions c =
     versions_clean c.args.payload.now c.args.payload_at c.args.tag_at c.in_ok-version.ensures.ok
 
 pub returns-in-Field-clause-fault : goal.returns-in-Field-clause-fault
@@ -42,4 +42,4 @@ returns-in-Value-clause-fault c =
     let ok = c.in_ok-version.ensures.ok in
     let two = as_two (split c.args.payload.now).fields c.in_ok-version.ensures.version c.if-version-ne-VERSION_2.false in
     let broken = rw c.in-Value.is at (c.requires.broken (head_whole c.args.payload.now c.args.payload_at c.args.tag_at ok)) in
-    layer_reported c.args.payload.now c.args.payload_at c.args.tag_at _ ok two (c.header_fault_or.ensures broken)
+    layer_reported c.args.payload.now c.args.payload_at c.args.tag_at _ ok two (c.header_fault_before.ensures broken)

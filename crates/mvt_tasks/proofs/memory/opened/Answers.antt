@@ -29,7 +29,8 @@ returns-then-eq-clause-missing c =
     c.reader_of.ensures.missing
 
 pub returns-clause-missing : goal.returns-clause-missing
-returns-clause-missing c = λ other. ap bytes_of (subst (λ files. file_named files c.args.name.now ≡ None) (take_all _ c.args.files.now (omega arith)) c.loop-file.invariant)
+returns-clause-missing c = λ other. ap bytes_of
+    (subst (λ files. file_named files c.args.name.now ≡ None) (take_all _ c.args.files.now (omega arith)) c.loop-file.invariant)
 
 pub loop-file-preserved : goal.loop-file-preserved
 loop-file-preserved c =

@@ -11,5 +11,6 @@ returns-clause-failed g c =
     let same : is_err c.map_err-2.result ≡ is_err c.flush.result = search rules in
     let none : NoneFailed (g.W.Sink.state c.args.writer.now).faults (g.W.Sink.state c.write_all.new.writer).faults = search rules in
     is_writing c.map_err-2.result _ _ printed
-    (fails_flushing c.map_err-2.result c.flush.result (g.W.Sink.state c.args.writer.now).faults (g.W.Sink.state c.write_all.new.writer).faults
+    (fails_flushing c.map_err-2.result c.flush.result (g.W.Sink.state c.args.writer.now).faults
+        (g.W.Sink.state c.write_all.new.writer).faults
     (g.W.Sink.state c.flush.new.self).faults printed same none c.flush.ensures.faults)

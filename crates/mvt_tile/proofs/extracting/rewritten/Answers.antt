@@ -1,5 +1,5 @@
 use Rattle.std.proofs.Common.{map, string_bytes, sym, subst, ◌∙◌}
-use Rattle.mvt_model.specs.Encoding.{IsEncoded}
+use Rattle.mvt_tile_value.specs.Encoding.{IsEncoded}
 use Rattle.mvt_tile.specs.Extraction.{pick}
 use Rattle.mvt_tile.proofs.WantedLemmas.{layers_encoded, missing_by}
 use Rattle.mvt_tile.proofs.extracting.rewritten.Goals as goal

@@ -12,6 +12,7 @@ loop-name-preserved c =
     let is : name ≡ string_bytes c.name-item.result = c.in_ok-from_str.ensures.same ∙ c.as_str.ensures.value in
     let added = c.in_ok-add_name in
     subst (IsSetOf c.add_name.new.names.keys)
-    (ap (λ n. front ++ n ∷ []) is ∙ sym (mapped_more string_bytes c.args.names.now i c.name-item.result c.loop-name-test.true c.name-item.is))
+    (ap (λ n. front ++ n ∷ []) is ∙ sym
+    (mapped_more string_bytes c.args.names.now i c.name-item.result c.loop-name-test.true c.name-item.is))
     (set_more c.loop-name.set.keys c.add_name.new.names.keys front name added.field-0 added.ensures.new added.ensures.named
     added.ensures.same c.loop-name.invariant)

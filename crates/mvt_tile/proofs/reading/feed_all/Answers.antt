@@ -29,7 +29,8 @@ returns-in-Err-clause-stopped g c =
 pub returns-in-Err-clause-reads : goal.returns-in-Err-clause-reads
 returns-in-Err-clause-reads g c =
     let (input, start) = c.requires.start in
-    fed_reads 67108864 _ _ _ _ (g.R.Source.state c.loop-turn.reader) _ _ _ [] (c.loop-turn.invariant.fed input start) (kept_is_none _ _ c.in-Err.ensures.bytes) (omega arith)
+    fed_reads 67108864 _ _ _ _ (g.R.Source.state c.loop-turn.reader) _ _ _ [] (c.loop-turn.invariant.fed input start)
+    (kept_is_none _ _ c.in-Err.ensures.bytes) (omega arith)
     c.loop-turn.invariant.reads (grind (arith, common_steps)) (grind (arith, common_steps))
 
 pub returns-in_err-take-clause-stopped : goal.returns-in_err-take-clause-stopped
@@ -44,7 +45,8 @@ returns-in_err-take-clause-stopped g c =
 pub returns-in_err-take-clause-reads : goal.returns-in_err-take-clause-reads
 returns-in_err-take-clause-reads g c =
     let (input, start) = c.requires.start in
-    fed_reads 67108864 _ _ _ _ (g.R.Source.state c.loop-turn.reader) _ _ _ _ (c.loop-turn.invariant.fed input start) c.in-Ok.ensures.bytes.0 (omega arith)
+    fed_reads 67108864 _ _ _ _ (g.R.Source.state c.loop-turn.reader) _ _ _ _ (c.loop-turn.invariant.fed input start)
+    c.in-Ok.ensures.bytes.0 (omega arith)
     c.loop-turn.invariant.reads (grind (arith, common_steps)) (grind (arith, common_steps))
 
 pub returns-in_err-take-clause-faults : goal.returns-in_err-take-clause-faults
@@ -52,7 +54,8 @@ returns-in_err-take-clause-faults g c =
     let p = err_from_is_err_and c.from_residual.result c.from_residual.ensures.1 in
     let (input, start) = c.requires.start in
     let fed = c.loop-turn.invariant.fed input start in
-    rw (p.1, p.2) (early_faults c.in_err-take.field-0.0 _ (g.R.Source.state c.args.reader.now).faults (g.R.Source.state c.read.new.self).faults
+    rw (p.1, p.2) (early_faults c.in_err-take.field-0.0 _ (g.R.Source.state c.args.reader.now).faults
+    (g.R.Source.state c.read.new.self).faults
     (c.in_err-take.ensures.fault input fed.items fed.has fed.given fed.live) (search rules))
 
 pub loop-turn-preserved : goal.loop-turn-preserved

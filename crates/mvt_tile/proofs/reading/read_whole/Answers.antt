@@ -1,7 +1,7 @@
 use Rattle.std.proofs.Common.{IfSome, arith}
 use Rattle.std.proofs.lemmas.Result.{err_from_is_err_and, IfOk-weaker, IfErr-weaker}
-use Rattle.mvt_model.specs.declared.tile.Tile.{Tile}
-use Rattle.mvt_model.specs.Tiles.{HasDistinctNames, IsTile}
+use Rattle.mvt_tile_value.specs.declared.tile.Tile.{Tile}
+use Rattle.mvt_tile_value.specs.Tiles.{HasDistinctNames, IsTile}
 use Rattle.mvt_tile.specs.Inner.Taking.{HasTaken}
 use Rattle.mvt_tile.specs.TileRules.{fault_within}
 use Rattle.mvt_tile.proofs.FeedingLemmas.{end_faults, stopped_reported, stopped_early, fed_early, fed_tile, fed_reported}
@@ -34,7 +34,8 @@ returns-clause-read g c =
       reads = c.in_ok-feed_all.ensures.reads;
       faults =
           end_faults c.finish.result (fault_within 67108864 fed.given) (g.R.Source.state c.args.reader.now).faults
-          (g.R.Source.state c.feed_all.new.reader).faults (c.finish.ensures.fault fed.items fed.given fed.live) c.in_ok-feed_all.ensures.faults;
+          (g.R.Source.state c.feed_all.new.reader).faults (c.finish.ensures.fault fed.items fed.given fed.live)
+          c.in_ok-feed_all.ensures.faults;
     }
 
 pub returns-clause-tile : goal.returns-clause-tile

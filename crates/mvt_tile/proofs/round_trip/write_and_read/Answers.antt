@@ -1,4 +1,4 @@
-use Rattle.mvt_model.specs.CanonicalTiles.{canonical}
+use Rattle.mvt_tile_value.specs.CanonicalTiles.{canonical}
 use Rattle.mvt_tile.proofs.RoundTripLemmas.{reads_back, read_exactly}
 use Rattle.mvt_tile.proofs.TileLaws.{one_tile_reads}
 use Rattle.mvt_tile.proofs.round_trip.write_and_read.Goals as goal

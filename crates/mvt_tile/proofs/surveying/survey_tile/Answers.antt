@@ -1,7 +1,7 @@
 use Rattle.std.proofs.Common.{arith, sym, ap, ◌∙◌, bytes_eq, refl}
 use Rattle.std.proofs.lemmas.List.{take_all}
-use Rattle.mvt_model.specs.CanonicalTiles.{canonical}
-use Rattle.mvt_model.specs.Survey.{survey_of}
+use Rattle.mvt_tile_value.specs.CanonicalTiles.{canonical}
+use Rattle.mvt_tile_value.specs.Survey.{survey_of}
 use Rattle.mvt_tile.proofs.surveying.survey_tile.Goals as goal
 
 pub returns-clause-survey : goal.returns-clause-survey

@@ -3,4 +3,4 @@ use Rattle.mvt_tile.specs.Inner.Judging.{AreKept}
 use Rattle.mvt_tile.proofs.validity.first_invalid.Given as goal
 
 abbrev pub invariant-loop-index : goal.invariant-loop-index
-invariant-loop-index l = AreKept l.names.keys (take l.index l.items)
+invariant-loop-index l = AreKept l.names (take l.index l.items)

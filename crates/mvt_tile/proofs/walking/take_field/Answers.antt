@@ -22,7 +22,8 @@ returns-in-None-clause-items g c = λ input items has. (
 pub returns-in-Some-clause-items : goal.returns-in-Some-clause-items
 returns-in-Some-clause-items g c = λ input items has.
     let place = rw c.in-Some.is at c.in_ok-layer_in.ensures.place in
-    field_gives items c.args.offset (entry_of c.args.field.now) _ _ _ place (HasTaken (g.V.TileVisitor.has_items input) c.take_item.new.self) _
+    field_gives items c.args.offset (entry_of c.args.field.now) _ _ _ place
+    (HasTaken (g.V.TileVisitor.has_items input) c.take_item.new.self) _
     (c.take_item.ensures.item input items has)
 
 pub returns-in-Some-clause-fault : goal.returns-in-Some-clause-fault

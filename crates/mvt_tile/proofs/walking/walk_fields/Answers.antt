@@ -70,7 +70,8 @@ pub returns-in-Err-clause-judged : goal.returns-in-Err-clause-judged
 returns-in-Err-clause-judged g c = λ input items has.
     let (now, known, so_far) = c.loop-field.invariant input items has in
     let step = (rw c.in-Err.is at c.in-Some.ensures.steps).0 in
-    judged_there (HasTaken (g.V.TileVisitor.has_items input) c.loop-field.taken) c.args.offset c.args.bytes.now items now c.judge_rest.result known
+    judged_there (HasTaken (g.V.TileVisitor.has_items input) c.loop-field.taken) c.args.offset c.args.bytes.now items now
+    c.judge_rest.result known
     (so_far_rest c.args.offset c.args.bytes.now items now c.loop-field.field-iterator.to_come so_far c.next.new.self.to_come c.in-Err.fault
     step _ c.judge_rest.ensures.unfinished)
 

@@ -10,7 +10,8 @@ returns-in_err-used-clause-fault g c =
     let (input, has) = c.requires.start in
     let (front, back) = c.split_at.result in
     let all = cut _ _ _ _ c.split_at.ensures.front c.split_at.ensures.back in
-    rw (p.1, p.2) (whole_fails 67108864 c.args.bytes.now front.now back.now all _ (c.in_err-used.ensures.fault input [] (c.new-taken.ensures input has)) (search rules))
+    rw (p.1, p.2) (whole_fails 67108864 c.args.bytes.now front.now back.now all _
+    (c.in_err-used.ensures.fault input [] (c.new-taken.ensures input has)) (search rules))
 
 pub returns-then-not-is_empty-clause-fault : goal.returns-then-not-is_empty-clause-fault
 returns-then-not-is_empty-clause-fault g c =

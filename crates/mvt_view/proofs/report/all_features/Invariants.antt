@@ -1,6 +1,6 @@
 use Rattle.std.proofs.Common.{◌≡◌, ◌*◌, ◌≤◌, take}
 use Rattle.std.specs.List.{sum_by}
-use Rattle.mvt_model.specs.Survey.{feature_count}
+use Rattle.mvt_tile_value.specs.Survey.{feature_count}
 use Rattle.mvt_view.proofs.report.all_features.Given as goal
 
 abbrev pub invariant-loop-item : goal.invariant-loop-item

@@ -23,7 +23,7 @@ returns-in-Err-clause-err c =
     let stays =
     known_with c.args.payload_at done (entry_of c.in-Some-Ok.field) c.args.self _ _ [] [] (Err c.in-Err.error)
     c.requires.walk.2 tt tt tt tt tt c.in-Err.ensures.err in
-    c.rest_fault_or.ensures.reported _ (rw all (stays c.next_tagged.new.self.to_come.fields))
+    c.rest_fault_before.ensures.reported _ (rw all (stays c.next_tagged.new.self.to_come.fields))
 
 pub returns-in-Some-Err-clause-err : goal.returns-in-Some-Err-clause-err
 returns-in-Some-Err-clause-err c =

@@ -13,6 +13,7 @@ returns c = λ keys held layer has name extent.
     let all = kept_all keys held c.args.self.now layer.features has (omega arith) in
     let w = c.args.self.now in
     c.in_ok-append_layer.ensures.ok
-    ∙ ap (λ l. l ++ (spelled (head_fields c.args.name.now) ++ (w.features.items ++ tail_of w.uses c.args.extent))) c.in_ok-payload.ensures.items
+    ∙ ap (λ l. l ++ (spelled (head_fields c.args.name.now) ++ (w.features.items ++ tail_of w.uses c.args.extent)))
+    c.in_ok-payload.ensures.items
     ∙ sym (layer_rewritten layer c.args.name.now c.args.extent w.uses w.features.items (sym name) (sym extent)
     all.keys_are all.values_are all.written)

@@ -29,11 +29,12 @@ returns-then-not-branch-clause-wrong c = λ items has.
     let names = flat_map names_in items in
     let part = any_there _ c.part.result c.if_any.result c.in_ok-bytes.field-0 c.in-Some.bytes c.part.ensures.part c.if_any.ensures
     c.in_ok-bytes.was c.in-Some.is in
-    let text = text_found t.texts c.args.row.now.name c.in-Some.bytes.now c.in-Ok.name.now part c.in-Ok.ensures.cases.1 c.in-Ok.ensures.cases.0 in
+    let text = text_found t.texts c.args.row.now.name c.in-Some.bytes.now c.in-Ok.name.now part c.in-Ok.ensures.cases.1
+    c.in-Ok.ensures.cases.0 in
     name_blamed t names c.args.row.now RepeatedName c.requires
     (name_found t names c.args.row.now c.in-Ok.name.now true text
-    (name_repeated c.args.self.now.names.keys items c.in-Ok.name.now c.in_ok-from_str.field-0 c.in_ok-add_name.field-0 has.named
-    c.in_ok-from_str.ensures.same c.in_ok-add_name.ensures.new c.if-not-branch.true))
+    (name_repeated c.args.self.now.names items c.in-Ok.name.now c.in_ok-from_str.field-0 c.in_ok-add.field-0 has.named
+    c.in_ok-from_str.ensures.same c.in_ok-add.ensures.new c.if-not-branch.true))
 
 pub returns-in_err-payload-clause-wrong : goal.returns-in_err-payload-clause-wrong
 returns-in_err-payload-clause-wrong c = λ items has.
@@ -41,10 +42,11 @@ returns-in_err-payload-clause-wrong c = λ items has.
     let names = flat_map names_in items in
     let part = any_there _ c.part.result c.if_any.result c.in_ok-bytes.field-0 c.in-Some.bytes c.part.ensures.part c.if_any.ensures
     c.in_ok-bytes.was c.in-Some.is in
-    let text = text_found t.texts c.args.row.now.name c.in-Some.bytes.now c.in-Ok.name.now part c.in-Ok.ensures.cases.1 c.in-Ok.ensures.cases.0 in
+    let text = text_found t.texts c.args.row.now.name c.in-Some.bytes.now c.in-Ok.name.now part c.in-Ok.ensures.cases.1
+    c.in-Ok.ensures.cases.0 in
     let fresh = name_found t names c.args.row.now c.in-Ok.name.now false text
-    (name_fresh c.args.self.now.names.keys items c.in-Ok.name.now c.in_ok-from_str.field-0 c.in_ok-add_name.field-0 has.named
-    c.in_ok-from_str.ensures.same c.in_ok-add_name.ensures.new c.if-not-branch.false) in
+    (name_fresh c.args.self.now.names items c.in-Ok.name.now c.in_ok-from_str.field-0 c.in_ok-add.field-0 has.named
+    c.in_ok-from_str.ensures.same c.in_ok-add.ensures.new c.if-not-branch.false) in
     wrong_in c.from_residual-in_err-payload.result _ _ _ c.from_residual-in_err-payload.ensures.1 c.in_err-payload.ensures.wrong
     (inside_blamed t names c.args.row.now c.requires fresh)
 
@@ -56,6 +58,6 @@ returns-clause-added c = λ items has.
     let text = text_found c.args.rows.now.texts.now c.args.row.now.name c.in-Some.bytes.now c.in-Ok.name.now part c.in-Ok.ensures.cases.1
     c.in-Ok.ensures.cases.0 in
     layer_added (table_of c.args.rows.now) c.args.row.now layer items c.args.self.now _ _ _ _ c.requires text
-    c.in_ok-from_str.ensures.same has valid c.in_ok-add_name.ensures.new c.if-not-branch.false
-    (c.in_ok-add_name.ensures.named c.if-not-branch.false)
+    c.in_ok-from_str.ensures.same has valid c.in_ok-add.ensures.new c.if-not-branch.false
+    (c.in_ok-add.ensures.named c.if-not-branch.false)
     (c.in_ok-self.ensures items layer (rw c.take.ensures.value has.encoded) payload)

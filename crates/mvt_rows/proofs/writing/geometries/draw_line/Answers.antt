@@ -18,4 +18,5 @@ returns-in-Ok c = λ lines h.
 pub returns-in-Err-Invalid : goal.returns-in-Err-Invalid
 returns-in-Err-Invalid c = λ lines h.
     line_not_drawn lines (map point_of c.args.line.now) c.in-Some.from c.args.integers.now c.args.integers.now
-    (subst (λ cursor. DrawnLines lines cursor c.args.integers.now) c.in-Some.is h) (c.in-Err-Invalid.ensures.invalid (ap Err c.in-Err-Invalid.field-0-is))
+    (subst (λ cursor. DrawnLines lines cursor c.args.integers.now) c.in-Some.is h)
+    (c.in-Err-Invalid.ensures.invalid (ap Err c.in-Err-Invalid.field-0-is))

@@ -28,7 +28,8 @@ returns-in_default-clause-none c =
     let l = c.loop-row in
     let row = get_or c.args.rows.now l.row-index no_row in
     let line = line_is c.args.points.now row c.in_ok-ring.ring.now c.in_ok-ring.ensures.part in
-    steps_stop (with_ring_row c.args.points.now) [] c.args.rows.now l.row-index no_row l.invariant.polygons l.invariant.made c.loop-row-test.true
+    steps_stop (with_ring_row c.args.points.now) [] c.args.rows.now l.row-index no_row l.invariant.polygons l.invariant.made
+    c.loop-row-test.true
     (row_stops c.args.points.now l.invariant.polygons row l.begun (map point_of c.in_ok-ring.ring.now) l.invariant.begun line
     (sym c.role_of.ensures ∙ c.in_default.is))
 
@@ -38,7 +39,8 @@ loop-row-preserved c =
     let row = get_or c.args.rows.now l.row-index no_row in
     let line = line_is c.args.points.now row c.in_ok-ring.ring.now c.in_ok-ring.ensures.part in
     let (next, made, follows, some) =
-    row_follows c.args.points.now l.invariant.polygons row l.begun c.in-Some.role (map point_of c.in_ok-ring.ring.now) l.invariant.begun line
+    row_follows c.args.points.now l.invariant.polygons row l.begun c.in-Some.role (map point_of c.in_ok-ring.ring.now) l.invariant.begun
+    line
     (sym c.role_of.ensures ∙ c.in-Some.is) in
     record {
       polygons = next;
@@ -53,7 +55,8 @@ returns-then-not-begun-clause-drawn c =
     let l = c.loop-row in
     let f = with_ring_row c.args.points.now in
     let made : steps f [] c.args.rows.now ≡ Some l.invariant.polygons =
-    subst (λ rows. steps f [] rows ≡ Some l.invariant.polygons) (take_all l.row-index c.args.rows.now c.loop-row-test.false) l.invariant.made in
+    subst (λ rows. steps f [] rows ≡ Some l.invariant.polygons) (take_all l.row-index c.args.rows.now c.loop-row-test.false)
+    l.invariant.made in
     elim c.then-not-begun.branch [
       | then-not-begun-via-then-not-begun w ↦
           no_polygons (steps f [] c.args.rows.now) l.invariant.polygons made
@@ -68,7 +71,8 @@ returns-clause-drawn c =
     let l = c.loop-row in
     let f = with_ring_row c.args.points.now in
     let made : steps f [] c.args.rows.now ≡ Some l.invariant.polygons =
-    subst (λ rows. steps f [] rows ≡ Some l.invariant.polygons) (take_all l.row-index c.args.rows.now c.loop-row-test.false) l.invariant.made in
+    subst (λ rows. steps f [] rows ≡ Some l.invariant.polygons) (take_all l.row-index c.args.rows.now c.loop-row-test.false)
+    l.invariant.made in
     let there : is_some l.cursor ≡ true = grind (arith, common_steps) in
     polygons_drawn (steps f [] c.args.rows.now) l.invariant.polygons l.cursor l.integers made
     (subst (λ b. HasBegun b l.invariant.polygons) c.if-not-begun.false l.invariant.begun) there l.invariant.drawn

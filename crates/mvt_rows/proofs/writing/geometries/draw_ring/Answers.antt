@@ -18,4 +18,5 @@ returns-in-Ok c = λ polygons next follows h.
 pub returns-in-Err-Invalid : goal.returns-in-Err-Invalid
 returns-in-Err-Invalid c = λ polygons next follows h.
     ring_not_drawn c.args.role polygons next (map point_of c.args.ring.now) c.in-Some.from c.args.integers.now c.args.integers.now follows
-    (subst (λ cursor. DrawnPolygons polygons cursor c.args.integers.now) c.in-Some.is h) (c.in-Err-Invalid.ensures.invalid (ap Err c.in-Err-Invalid.field-0-is))
+    (subst (λ cursor. DrawnPolygons polygons cursor c.args.integers.now) c.in-Some.is h)
+    (c.in-Err-Invalid.ensures.invalid (ap Err c.in-Err-Invalid.field-0-is))

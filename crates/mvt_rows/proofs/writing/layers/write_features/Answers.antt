@@ -30,7 +30,8 @@ loop-index-preserved c = record {
       let same = c.loop-index.invariant.same in
       let next = c.in-Ok.ensures.written values features (subst (λ keys. AreInRange keys values) (sym same) range)
       (subst (λ keys. HasWrittenUpTo LIMIT keys values c.loop-index.writer features) (sym same) written) in
-      features_written (table_of c.args.rows.now) c.args.keys.now c.loop-index.layer_keys values c.args.of_layer.now c.loop-index.index _ features
+      features_written (table_of c.args.rows.now) c.args.keys.now c.loop-index.layer_keys values c.args.of_layer.now c.loop-index.index _
+      features
       c.write_feature.new.writer same so_far c.loop-index-test.true next;
 }
 

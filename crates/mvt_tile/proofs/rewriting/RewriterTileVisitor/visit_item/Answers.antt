@@ -2,7 +2,7 @@ use Rattle.std.proofs.Common.{◌++◌, true, filter, sym, subst, ap, ◌∙◌}
 use Rattle.std.specs.Option.{option_to_list}
 use Rattle.std.proofs.lemmas.Result.{IfOk-weaker}
 use Rattle.mvt_message.specs.CanonicalItems.{canonical_item}
-use Rattle.mvt_model.specs.Encoding.{AreEncoded}
+use Rattle.mvt_tile_value.specs.Encoding.{AreEncoded}
 use Rattle.mvt_tile.proofs.WantedLemmas.{unwanted_more, wanted_more}
 use Rattle.mvt_tile.proofs.rewriting.RewriterTileVisitor.visit_item.Goals as goal
 

@@ -21,5 +21,6 @@ returns-in-Ok-clause-fault g c = λ input items has.
     let d = c.args.payload.now in
     let (item, is, valid, named, new) = c.in-Ok.ensures.item input items has.2 in
     IfErr-weaker c.add.result _ _
-    (λ e reported. reports_name e _ _ _ d _ _ (item_or_fault_clean d c.args.payload_at c.args.tag_at item is) (sym named ∙ item_names d item is)
+    (λ e reported. reports_name e _ _ _ d _ _ (item_or_fault_clean d c.args.payload_at c.args.tag_at item is)
+    (sym named ∙ item_names d item is)
     (reported items has.0)) c.add.ensures.fault

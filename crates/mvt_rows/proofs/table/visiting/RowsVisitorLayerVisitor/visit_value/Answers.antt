@@ -1,6 +1,6 @@
 use Rattle.std.proofs.Common.{[], ◌∷◌, ◌++◌, sym, subst}
 use Rattle.std.proofs.Math.Facts.{Fits-lt-pow}
-use Rattle.mvt_feature.specs.Meanings.{meant}
+use Rattle.mvt_feature.specs.ValueRefs.{referred_value}
 use Rattle.mvt_feature.proofs.FeatureLaws.{read_is_valid_value}
 use Rattle.mvt_rows.specs.Visiting.{AreItemRows, AreLayerRows}
 use Rattle.mvt_rows.proofs.VisitLemmas.{value_visited}
@@ -15,7 +15,7 @@ returns-in_err-add_value-clause-kept c = λ items values has.
 
 pub returns-clause-value : goal.returns-clause-value
 returns-clause-value c = λ items values has.
-    let v = meant c.in_ok-meaning.meaning in
+    let v = referred_value c.in_ok-meaning.meaning in
     let valid = read_is_valid_value c.args.payload.now v (λ k. Fits-lt-pow (c.type_inv.payload k)) c.in_ok-meaning.ensures.value in
     let open_at = c.args.self.now.opened in (
       v,
@@ -26,14 +26,14 @@ returns-clause-value c = λ items values has.
 
 pub returns-in_err-keep_within-clause-kept : goal.returns-in_err-keep_within-clause-kept
 returns-in_err-keep_within-clause-kept c = λ items values has.
-    let v = meant c.in_ok-meaning.meaning in
+    let v = referred_value c.in_ok-meaning.meaning in
     let valid = read_is_valid_value c.args.payload.now v (λ k. Fits-lt-pow (c.type_inv.payload k)) c.in_ok-meaning.ensures.value in
     subst (λ t. AreItemRows t items) (sym c.in_ok-add_value.ensures.ok)
     (value_visited c.args.self.now.table c.args.self.now.opened items values v valid has).items_are
 
 pub returns-clause-kept : goal.returns-clause-kept
 returns-clause-kept c = λ items values has.
-    let v = meant c.in_ok-meaning.meaning in
+    let v = referred_value c.in_ok-meaning.meaning in
     let valid = read_is_valid_value c.args.payload.now v (λ k. Fits-lt-pow (c.type_inv.payload k)) c.in_ok-meaning.ensures.value in
     subst (λ t. AreItemRows t items) (sym c.in_ok-add_value.ensures.ok)
     (value_visited c.args.self.now.table c.args.self.now.opened items values v valid has).items_are

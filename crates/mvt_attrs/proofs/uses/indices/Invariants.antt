@@ -1,5 +1,0 @@
-use Rattle.mvt_attrs.specs.Inner.Places.{AreIndices}
-use Rattle.mvt_attrs.proofs.uses.indices.Given as goal
-
-abbrev pub invariant-loop-index : goal.invariant-loop-index
-invariant-loop-index l = AreIndices l.indices.items l.index

@@ -1,0 +1,419 @@
+//! The entries of a layer that its features use, each once, in order of first use.
+ghost use Rattle.std.specs.Prelude.{◌≡◌, ◌<◌, ◌≤◌, ◌⊎◌, ◌++◌, ◌∷◌, [], List, ℕ, Some, Contains, length, take, slice_get, IfOk, IsErrOf, IsTrue, OnErr, OnOk, vec_len, vec_capacity};
+ghost use Rattle.mvt_attrs.specs.declared.value.Attribute.{Attribute as AnAttribute};
+ghost use Rattle.mvt_attrs.specs.declared.value.Value.{Value as AValue};
+ghost use Rattle.mvt_attrs.specs.Tags.{Names};
+ghost use Rattle.mvt_attrs.specs.TagPlaces.{tags_in};
+ghost use Rattle.mvt_attrs.specs.FirstUse.{AreDistinct};
+ghost use Rattle.mvt_attrs.specs.Inner.Finding.{Knows};
+ghost use Rattle.mvt_attrs.specs.Inner.Places.{AreFirstMarks, AreIndices};
+ghost use Rattle.mvt_base.specs.Related.{Extends};
+ghost use Rattle.mvt_attrs.specs.Pools.{key_pool, value_pool};
+ghost use Rattle.mvt_attrs.specs.Using.{AreUsesOf, HasUses, IsUsedBy, used_of};
+
+use crate::apart::index_apart;
+use crate::entry::Entry;
+use crate::entry_index::EntryIndex;
+use crate::placing::{append_tags, push_pair};
+use crate::pool::Pool;
+use crate::pool_error::PoolError;
+use crate::value::{Attribute, Value};
+use mvt_base::{LIMIT, Text};
+use std::alloc::{AllocError, Global};
+
+/// How many entries there is room for once there is one: the lists of a small layer never grow.
+const FIRST_ROOM: usize = 16;
+
+/// The entries of a layer, and which of them its features use.
+///
+/// Entries are compared when they are added, each once. From then on an entry is known by its
+/// place: a use costs two look-ups, however long the texts are. Where none is added, all are used
+/// that attributes bring.
+#[derive(Drop)]
+pub struct UsedEntries<T: Entry> {
+    /// The entries, each once.
+    distinct: Pool<T>,
+    /// For each entry its place among these.
+    places: Vec<u32>,
+    /// For each place one more than its index among the entries that are used, or 0.
+    marks: Vec<u32>,
+    used: Vec<T>,
+}
+
+impl<T: Entry> UsedEntries<T> {
+    /// No entries, without memory.
+    pub fn new(alloc: Global) -> Self
+        ensures uses { AreUsesOf result [] }
+        ensures used { used_of result ≡ [] }
+    {
+        UsedEntries {
+            distinct: Pool::new(alloc),
+            places: Vec::new(alloc),
+            marks: Vec::new(alloc),
+            used: Vec::new(alloc),
+        }
+    }
+
+    /// The uses of entries that stand once each, of which the first so many are used. An entry that
+    /// is added to them is compared with all.
+    ///
+    /// # Errors
+    ///
+    /// When memory runs out.
+    pub fn of_apart(alloc: Global, entries: Vec<T>, used: usize) -> Result<Self, AllocError>
+        requires few { length entries.items < LIMIT }
+        requires apart { AreDistinct entries.items }
+        requires within { used ≤ length entries.items }
+        ensures uses { IfOk result (λ uses. AreUsesOf uses entries.items) }
+        ensures used { IfOk result (λ uses. used_of uses ≡ take used entries.items) }
+    {
+        let count = entries.len();
+        let first = copied_all(alloc, &entries[..used])?;
+        let places = indices(alloc, count)?;
+        let marks = first_marks(alloc, count, used)?;
+        Ok(UsedEntries {
+            distinct: Pool::of_apart(alloc, entries, EntryIndex::Plain),
+            places,
+            marks,
+            used: first,
+        })
+    }
+
+    /// How many entries there are.
+    pub fn len(&self) -> usize
+        ensures { (entries : List T) → AreUsesOf self.now entries → result ≡ length entries }
+    {
+        self.places.len()
+    }
+
+    /// The entries that are used.
+    pub fn used(&self) -> &[T]
+        ensures { result.now ≡ used_of self.now }
+    {
+        if self.places.is_empty() {
+            self.distinct.entries()
+        } else {
+            &self.used
+        }
+    }
+
+    /// Whether an entry can be added: none is used without it.
+    fn can_grow(&self) -> bool
+        ensures { IsTrue result → self.now.places.items ≡ [] → self.now.distinct ≡ [] }
+    {
+        !self.places.is_empty() || self.distinct.is_empty()
+    }
+
+    /// Adds an entry after the others.
+    ///
+    /// # Errors
+    ///
+    /// When memory runs out, or attributes were appended before. More entries than the limit don't
+    /// fit any tile.
+    pub fn add(&mut self, entry: &T) -> Result<(), AllocError>
+        ensures uses { (entries : List T) → AreUsesOf self.old entries
+            → OnOk result (AreUsesOf self.new (entries ++ entry.now ∷ [])) }
+        ensures used { (entries : List T) → AreUsesOf self.old entries
+            → used_of self.new ≡ used_of self.old }
+    {
+        if !self.can_grow() {
+            return Err(AllocError);
+        }
+        make_room(&mut self.marks)?;
+        make_room(&mut self.places)?;
+        let place = match self.distinct.place(entry) {
+            Ok(place) => place,
+            Err(_) => return Err(AllocError),
+        };
+        add_mark(&mut self.marks, self.distinct.len());
+        self.places.push_reserved(place);
+        Ok(())
+    }
+
+    /// Adds entries after the others.
+    ///
+    /// # Errors
+    ///
+    /// As `add`.
+    pub fn add_all(&mut self, more: &[T]) -> Result<(), AllocError>
+        ensures uses { (entries : List T) → AreUsesOf self.old entries
+            → OnOk result (AreUsesOf self.new (entries ++ more.now)) }
+        ensures used { (entries : List T) → AreUsesOf self.old entries
+            → used_of self.new ≡ used_of self.old }
+    {
+        if !self.distinct.is_empty() {
+            return self.add_each(more);
+        }
+        let alloc = *self.used.allocator();
+        match index_apart(alloc, more)? {
+            Some(entry_index) => { self.begin_apart(alloc, copied_all(alloc, more)?, entry_index) }
+            None => self.begin_each(alloc, more),
+        }
+    }
+
+    /// The same of entries that need no copies.
+    ///
+    /// # Errors
+    ///
+    /// As `add`.
+    pub fn take_all(&mut self, more: Vec<T>) -> Result<(), AllocError>
+        ensures uses { (entries : List T) → AreUsesOf self.old entries
+            → OnOk result (AreUsesOf self.new (entries ++ more.items)) }
+        ensures used { (entries : List T) → AreUsesOf self.old entries
+            → used_of self.new ≡ used_of self.old }
+    {
+        if !self.distinct.is_empty() {
+            return self.add_each(&more);
+        }
+        let alloc = *self.used.allocator();
+        match index_apart(alloc, &more)? {
+            Some(entry_index) => self.begin_apart(alloc, more, entry_index),
+            None => self.begin_each(alloc, &more),
+        }
+    }
+
+    fn add_each(&mut self, more: &[T]) -> Result<(), AllocError>
+        ensures uses { (entries : List T) → AreUsesOf self.old entries
+            → OnOk result (AreUsesOf self.new (entries ++ more.now)) }
+        ensures used { (entries : List T) → AreUsesOf self.old entries
+            → used_of self.new ≡ used_of self.old }
+    {
+        for entry in more {
+            self.add(entry)?;
+        }
+        Ok(())
+    }
+
+    /// Adds the first entries, which stand once each: the place of each is its index.
+    fn begin_apart(
+        &mut self,
+        alloc: Global,
+        entries: Vec<T>,
+        entry_index: EntryIndex<T>,
+    ) -> Result<(), AllocError>
+        requires none { self.old.distinct ≡ [] }
+        requires few { length entries.items < LIMIT }
+        requires apart { AreDistinct entries.items }
+        requires known { Knows T.cmp T.hash_input entry_index entries.items }
+        ensures uses { (before : List T) → AreUsesOf self.old before
+            → OnOk result (AreUsesOf self.new (before ++ entries.items)) }
+        ensures used { (before : List T) → AreUsesOf self.old before
+            → used_of self.new ≡ used_of self.old }
+    {
+        let places = indices(alloc, entries.len())?;
+        self.marks = vec![in alloc; 0u32; entries.len()]?;
+        self.places = places;
+        self.distinct = Pool::of_apart(alloc, entries, entry_index);
+        Ok(())
+    }
+
+    /// Adds the first entries, of which some may stand twice.
+    fn begin_each(&mut self, alloc: Global, entries: &[T]) -> Result<(), AllocError>
+        requires { self.old.distinct ≡ [] }
+        ensures uses { (before : List T) → AreUsesOf self.old before
+            → OnOk result (AreUsesOf self.new (before ++ entries.now)) }
+        ensures used { (before : List T) → AreUsesOf self.old before
+            → used_of self.new ≡ used_of self.old }
+    {
+        self.distinct = Pool::with_slots(alloc, entries.len())?;
+        self.add_each(entries)
+    }
+
+    /// The index of an entry among those that are used, where it goes last if it is new.
+    ///
+    /// # Errors
+    ///
+    /// As `add`, and where there is no such entry.
+    pub(crate) fn mark_used(&mut self, entry: u32) -> Result<u32, AllocError>
+        ensures uses { (entries : List T) → AreUsesOf self.old entries
+            → OnOk result (AreUsesOf self.new entries) }
+        ensures index { (entries : List T) (x : T) → AreUsesOf self.old entries
+            → slice_get entries entry ≡ Some x
+            → IfOk result (λ index. slice_get (used_of self.new) index ≡ Some x) }
+        ensures kept { (entries : List T) (x : T) → AreUsesOf self.old entries
+            → slice_get entries entry ≡ Some x → Contains (used_of self.old) x
+            → OnOk result (used_of self.new ≡ used_of self.old) }
+        ensures added { (entries : List T) (x : T) → AreUsesOf self.old entries
+            → slice_get entries entry ≡ Some x → ¬ (Contains (used_of self.old) x)
+            → OnOk result (used_of self.new ≡ used_of self.old ++ x ∷ []) }
+    {
+        let place = match self.places.get(entry as usize) {
+            Some(place) => *place,
+            None => return Err(AllocError),
+        };
+        let mark = match self.marks.get(place as usize) {
+            Some(mark) => *mark,
+            None => return Err(AllocError),
+        };
+        if mark != 0 {
+            return Ok(mark - 1);
+        }
+        let index = self.used.len();
+        if index as u64 >= LIMIT {
+            return Err(AllocError);
+        }
+        let alloc = *self.used.allocator();
+        match self.distinct.entry(place) {
+            Some(entry) => push_in_room(&mut self.used, entry.copied(alloc)?)?,
+            None => return Err(AllocError),
+        }
+        self.marks[place as usize] = index as u32 + 1;
+        Ok(index as u32)
+    }
+}
+
+fn copied_all<T: Entry>(alloc: Global, entries: &[T]) -> Result<Vec<T>, AllocError>
+    ensures { IfOk result (λ copies. copies.items ≡ entries.now) }
+{
+    let mut copies = Vec::with_capacity(alloc, entries.len())?;
+    for entry in entries {
+        copies.push(entry.copied(alloc)?)?;
+    }
+    Ok(copies)
+}
+
+/// The indices of so many entries, in order.
+fn indices(alloc: Global, count: usize) -> Result<Vec<u32>, AllocError>
+    requires { count < LIMIT }
+    ensures { IfOk result (λ indices. AreIndices indices.items count) }
+{
+    let mut indices = Vec::with_capacity(alloc, count)?;
+    for index in 0..count as u32 {
+        indices.push(index)?;
+    }
+    Ok(indices)
+}
+
+/// The marks of so many places, where the first entries are used, in order.
+fn first_marks(alloc: Global, count: usize, used: usize) -> Result<Vec<u32>, AllocError>
+    requires { count < LIMIT }
+    ensures { IfOk result (λ marks. AreFirstMarks marks.items count used) }
+{
+    let mut marks = Vec::with_capacity(alloc, count)?;
+    for index in 0..count as u32 {
+        marks.push(if (index as usize) < used {
+            index + 1
+        } else {
+            0
+        })?;
+    }
+    Ok(marks)
+}
+
+/// Room for an item after the others; the first takes room for those of a small layer.
+#[inline(always)]
+fn make_room<T: Drop>(items: &mut Vec<T>) -> Result<(), AllocError>
+    ensures items { items.new.items ≡ items.old.items }
+    ensures room { OnOk result (vec_len items.new < vec_capacity items.new) }
+{
+    items.reserve(if items.is_empty() { FIRST_ROOM } else { 1 })
+}
+
+/// Adds an item after the others.
+#[inline(always)]
+fn push_in_room<T: Drop>(items: &mut Vec<T>, item: T) -> Result<(), AllocError>
+    ensures { OnOk result (items.new.items ≡ items.old.items ++ item ∷ []) }
+{
+    make_room(items)?;
+    items.push_reserved(item);
+    Ok(())
+}
+
+/// Adds a mark of no use, where fewer than `count` places have one. There is room for it.
+fn add_mark(marks: &mut Vec<u32>, count: usize)
+    requires { vec_len marks.old < vec_capacity marks.old }
+    ensures new { length marks.old.items < count → marks.new.items ≡ marks.old.items ++ 0 ∷ [] }
+    ensures same { count ≤ length marks.old.items → marks.new.items ≡ marks.old.items }
+{
+    if marks.len() < count {
+        marks.push_reserved(0);
+    }
+}
+
+/// The keys and the values of a layer, and which of them its features use.
+#[derive(Drop)]
+pub struct LayerEntries {
+    pub keys: UsedEntries<Text>,
+    pub values: UsedEntries<Value>,
+}
+
+impl LayerEntries {
+    /// No keys and no values, without memory.
+    pub fn new(alloc: Global) -> Self
+        ensures uses { HasUses result [] [] }
+        ensures keys { used_of result.keys ≡ [] }
+        ensures values { used_of result.values ≡ [] }
+    {
+        LayerEntries {
+            keys: UsedEntries::new(alloc),
+            values: UsedEntries::new(alloc),
+        }
+    }
+
+    /// Appends the tags that a feature's attributes have among the keys and the values that are
+    /// used; those of the layer are `tags` (4.4).
+    ///
+    /// # Errors
+    ///
+    /// When memory runs out, or a tag names nothing; the list is then as it was or a longer one.
+    pub fn append_used(&mut self, tags: &[u32], out: &mut Vec<u32>) -> Result<(), AllocError>
+        ensures uses { (keys : List (List ℕ)) (values : List AValue)
+            (attributes : List AnAttribute) → HasUses self.old keys values
+            → Names keys values tags.now attributes
+            → OnOk result (HasUses self.new keys values) }
+        ensures used { (keys : List (List ℕ)) (values : List AValue)
+            (attributes : List AnAttribute) → HasUses self.old keys values
+            → Names keys values tags.now attributes
+            → OnOk result (IsUsedBy attributes self.old self.new) }
+        ensures tags { (keys : List (List ℕ)) (values : List AValue)
+            (attributes : List AnAttribute) → HasUses self.old keys values
+            → Names keys values tags.now attributes
+            → OnOk result (out.new.items ≡ out.old.items
+            ++ tags_in (used_of self.new.keys) (used_of self.new.values) attributes) }
+        ensures left { OnErr result (Extends out.old.items out.new.items) }
+    {
+        let mut rest = tags;
+        while let [key, value, others @ ..] = rest {
+            let key = self.keys.mark_used(*key)?;
+            let value = self.values.mark_used(*value)?;
+            push_pair(out, key, value)?;
+            rest = others;
+        }
+        Ok(())
+    }
+
+    /// Appends the tags that these attributes have among the keys and the values that are used,
+    /// where new ones go last (4.4). Neither keys nor values were added before.
+    ///
+    /// An entry is looked for first where `last` has it, such as the tags of the feature before.
+    /// Any numbers will do: the entry there is compared.
+    ///
+    /// # Errors
+    ///
+    /// As [`tags_of`](crate::tags_of), and the list is then as it was or a longer one.
+    pub fn append_attributes(
+        &mut self,
+        attributes: &[Attribute],
+        last: &[u32],
+        out: &mut Vec<u32>,
+    ) -> Result<(), PoolError>
+        ensures uses { HasUses self.old [] [] → OnOk result (HasUses self.new [] []) }
+        ensures used { HasUses self.old [] []
+            → OnOk result (IsUsedBy attributes.now self.old self.new) }
+        ensures tags { HasUses self.old [] [] → OnOk result (out.new.items ≡ out.old.items
+            ++ tags_in (used_of self.new.keys) (used_of self.new.values) attributes.now) }
+        ensures left { OnErr result (Extends out.old.items out.new.items) }
+        ensures too_many { HasUses self.old [] [] → IsErrOf result PoolError.Full
+            → (LIMIT < length (key_pool (used_of self.old.keys) attributes.now))
+            ⊎ (LIMIT < length (value_pool (used_of self.old.values) attributes.now)) }
+    {
+        let LayerEntries { keys, values } = self;
+        append_tags(
+            attributes,
+            &mut keys.distinct,
+            &mut values.distinct,
+            last,
+            out,
+        )
+    }
+}

@@ -1,0 +1,282 @@
+//! Pools of few, of more and of many entries.
+use crate::attrs::{key_refusals, value_refusals};
+use crate::expect::{expect, expect_eq};
+use mvt_attrs::*;
+use mvt_base::Text;
+use std::alloc::{AllocError, Global};
+use std::hash::{DefaultHasher, FoldHasher, Hash, Hasher};
+use std::process::Abort;
+
+// More entries than are hashed.
+const LETTERS: [&str; 40] = [
+    "a", "b", "c", "d", "e", "f", "g", "h", "i", "j", "k", "l", "m", "n", "o", "p", "q", "r", "s",
+    "t", "u", "v", "w", "x", "y", "z", "A", "B", "C", "D", "E", "F", "G", "H", "I", "J", "K", "L",
+    "M", "N",
+];
+
+// A front after which the kit's FoldHasher forgets 8 bytes, in a text of 48 bytes: see
+// bench/hostile.cc.
+const FRONT: &str = "aaaaaaaa10000297\x13-.\x0ebG\x02b";
+
+fn hashes_alike(rt: &(impl Abort + AllocGlobal), number: u32) -> Text {
+    let number = u64::from(number) + 10_000_000;
+    let text = format!(in rt.alloc(); "{FRONT}{number}0123456789abcdef").expect(rt, "a text");
+    Text::from_string(text).expect(rt, "a text")
+}
+
+// Where the key of this number is placed.
+fn place_key(rt: &(impl Abort + AllocGlobal), keys: &mut KeyPool, number: u32) -> u32 {
+    let key = hashes_alike(rt, number);
+    let place = keys.place(&key);
+    drop(key);
+    place.expect(rt, "a place")
+}
+
+// The key of this number stands at this place.
+fn expect_key(rt: &(impl Abort + AllocGlobal), keys: &KeyPool, place: u32, number: u32) {
+    let key = hashes_alike(rt, number);
+    expect_eq!(rt; keys.get(place), Some(key.as_str()));
+    drop(key);
+}
+
+#[test]
+fn places_keys_of_one_hash(rt: HostRuntime) {
+    let mut keys = KeyPool::new(rt.alloc());
+    for _turn in 0..2 {
+        for number in 0..300u32 {
+            expect_eq!(rt; place_key(&rt, &mut keys, number), number);
+        }
+    }
+    expect_eq!(rt; keys.len(), 300);
+    expect_key(&rt, &keys, 299, 299);
+    drop(keys);
+}
+
+// The last 20 bits of a text's hash, which name its first slot.
+fn first_end(text: &Text) -> u64 {
+    let mut state = FoldHasher::default();
+    text.hash(&mut state);
+    state.finish() % (1 << 20)
+}
+
+// The same of the hash that names its second slot.
+fn second_end(text: &Text) -> u64 {
+    let mut state = DefaultHasher::new();
+    text.hash(&mut state);
+    state.finish() % (1 << 20)
+}
+
+// Three texts that meet in their first slot, of which the last two meet in their second one too,
+// and the places that they get after the letters.
+const MEETING: [(u32, u32); 3] = [(0, 40), (988, 41), (2_066, 42)];
+
+fn expect_meeting(rt: &(impl Abort + AllocGlobal), number: u32, last: &Text) {
+    let text = hashes_alike(rt, number);
+    expect_eq!(rt; first_end(&text), first_end(last));
+    expect_eq!(rt; second_end(&text) == second_end(last), number > 0);
+    drop(text);
+}
+
+#[test]
+fn slots_meet(rt: HostRuntime) {
+    let last = hashes_alike(&rt, 2_066);
+    for (number, _) in MEETING {
+        expect_meeting(&rt, number, &last);
+    }
+    drop(last);
+}
+
+fn place_letter(rt: &(impl Abort + AllocGlobal), keys: &mut KeyPool, letter: &str) {
+    let key = Text::from_str(rt.alloc(), letter).expect(rt, "a key");
+    let place = keys.place(&key);
+    drop(key);
+    expect!(rt; place.is_ok());
+}
+
+#[test]
+fn places_keys_that_meet_twice(rt: HostRuntime) {
+    let mut keys = KeyPool::new(rt.alloc());
+    for letter in LETTERS {
+        place_letter(&rt, &mut keys, letter);
+    }
+    for _turn in 0..2 {
+        for (number, place) in MEETING {
+            expect_eq!(rt; place_key(&rt, &mut keys, number), place);
+            expect_key(&rt, &keys, place, number);
+        }
+    }
+    drop(keys);
+}
+
+fn place_value(rt: &impl Abort, values: &mut ValuePool, value: Value) -> u32 {
+    let place = values.place(&value);
+    drop(value);
+    place.expect(rt, "a place")
+}
+
+#[test]
+fn places_many_values(rt: HostRuntime) {
+    let mut values = ValuePool::new(rt.alloc());
+    for _turn in 0..2 {
+        for number in 0..1_000u32 {
+            let uint = Value::Uint(u64::from(number));
+            expect_eq!(rt; place_value(&rt, &mut values, uint), 2 * number);
+            let text = Value::Text(hashes_alike(&rt, number));
+            expect_eq!(rt; place_value(&rt, &mut values, text), 2 * number + 1);
+        }
+    }
+    expect_eq!(rt; values.len(), 2_000);
+    expect!(rt; values.get(1_998) == Some(&Value::Uint(999)));
+    drop(values);
+}
+
+fn letters(alloc: Global) -> Result<Vec<Attribute>, AllocError> {
+    let mut attributes = Vec::new(alloc);
+    for (letter, number) in [("a", 1), ("b", 2)] {
+        let key = Text::from_str(alloc, letter)?;
+        let value = Value::Uint(number);
+        attributes.push(Attribute { key, value })?;
+    }
+    Ok(attributes)
+}
+
+// The tags of these attributes, whatever is guessed.
+fn expect_tags(
+    rt: &(impl Abort + AllocGlobal),
+    attributes: &[Attribute],
+    uses: &mut LayerEntries,
+    last: &[u32],
+) {
+    let mut tags = Vec::new(rt.alloc());
+    let done = uses.append_attributes(attributes, last, &mut tags);
+    expect!(rt; done.is_ok());
+    expect_eq!(rt; tags.as_slice(), [0, 0, 1, 1].as_slice());
+    drop(tags);
+}
+
+// A guess is compared, whatever it is.
+#[test]
+fn guesses_are_compared(rt: HostRuntime) {
+    let attributes = letters(rt.alloc()).expect(&rt, "attributes");
+    let mut uses = LayerEntries::new(rt.alloc());
+    let guesses: [&[u32]; 5] = [&[], &[0, 0, 1, 1], &[1, 1, 0, 0], &[7], &[0, 1, 2, 3, 4]];
+    for last in guesses {
+        expect_tags(&rt, &attributes, &mut uses, last);
+    }
+    expect_eq!(rt; uses.keys.used().len() + uses.values.used().len(), 4);
+    let first = attributes.first().expect(&rt, "an attribute");
+    expect!(rt; uses.keys.add(&first.key).is_err());
+    drop(uses);
+    drop(attributes);
+}
+
+// Places each letter as a key. Answers how many growths were refused.
+fn refused_letters(rt: &(impl Abort + AllocGlobal), keys: &mut KeyPool) -> u8 {
+    let mut refused = 0u8;
+    for (index, letter) in LETTERS.iter().enumerate() {
+        let Ok(key) = Text::from_str(rt.alloc(), letter) else {
+            return 9;
+        };
+        refused = refused.saturating_add(key_refusals(rt, keys, &key, index as u32));
+        drop(key);
+    }
+    refused
+}
+
+#[test]
+fn refused_forms_of_keys(rt: HostRuntime) {
+    let mut keys = KeyPool::new(rt.alloc());
+    let refused = refused_letters(&rt, &mut keys);
+    expect_eq!(rt; keys.len(), 40);
+    for (index, letter) in LETTERS.iter().enumerate() {
+        expect_eq!(rt; keys.get(index as u32), Some(*letter));
+    }
+    // Keys that are there take no memory.
+    expect_eq!(rt; refused_letters(&rt, &mut keys), 0);
+    expect!(rt; refused < 2);
+    drop(keys);
+}
+
+#[test]
+fn refused_forms_of_values(rt: HostRuntime) {
+    let mut refused = 0u8;
+    let mut values = ValuePool::new(rt.alloc());
+    for number in 0..40u32 {
+        let value = Value::Sint(i64::from(number));
+        refused = refused.saturating_add(value_refusals(&rt, &mut values, &value, number));
+        drop(value);
+    }
+    for number in 0..40u32 {
+        expect_eq!(rt; place_value(&rt, &mut values, Value::Sint(i64::from(number))), number);
+    }
+    expect!(rt; refused < 2);
+    drop(values);
+}
+
+// So many values, of which the last is this number and the others rise from 1.
+fn values_of(alloc: Global, count: u32, last: u64) -> Result<Vec<Value>, AllocError> {
+    let mut values = Vec::new(alloc);
+    for number in 1..count {
+        values.push(Value::Uint(u64::from(number)))?;
+    }
+    values.push(Value::Uint(last))?;
+    Ok(values)
+}
+
+// The uses of such values, which are added as they stand or taken.
+fn uses_of(
+    alloc: Global,
+    count: u32,
+    last: u64,
+    is_taken: bool,
+) -> Result<LayerEntries, AllocError> {
+    let values = values_of(alloc, count, last)?;
+    let mut uses = LayerEntries::new(alloc);
+    uses.keys.add(&Text::from_str(alloc, "key")?)?;
+    if is_taken {
+        uses.values.take_all(values)?;
+    } else {
+        uses.values.add_all(&values)?;
+    }
+    Ok(uses)
+}
+
+// Of so many values, of which the last is the first again, the last, the first and the second are
+// used: two values.
+fn expect_two_used(rt: &(impl Abort + AllocGlobal), count: u32, is_taken: bool) {
+    let mut uses = uses_of(rt.alloc(), count, 1, is_taken).expect(rt, "uses");
+    let mut tags = Vec::new(rt.alloc());
+    let done = uses.append_used(&[0, count.saturating_sub(1), 0, 0, 0, 1], &mut tags);
+    expect!(rt; done.is_ok());
+    expect_eq!(rt; tags.as_slice(), [0, 0, 0, 0, 0, 1].as_slice());
+    expect_eq!(rt; uses.values.len(), count as usize);
+    expect!(rt; uses.values.used() == [Value::Uint(1), Value::Uint(2)].as_slice());
+    drop(tags);
+    drop(uses);
+}
+
+// Of as many that differ: three values.
+fn expect_three_used(rt: &(impl Abort + AllocGlobal), count: u32, is_taken: bool) {
+    let last = u64::from(count);
+    let mut uses = uses_of(rt.alloc(), count, last, is_taken).expect(rt, "uses");
+    let mut tags = Vec::new(rt.alloc());
+    let done = uses.append_used(&[0, count.saturating_sub(1), 0, 0, 0, 1], &mut tags);
+    expect!(rt; done.is_ok());
+    expect_eq!(rt; tags.as_slice(), [0, 0, 0, 1, 0, 2].as_slice());
+    expect_eq!(rt; uses.values.len(), count as usize);
+    let used = [Value::Uint(last), Value::Uint(1), Value::Uint(2)];
+    expect!(rt; uses.values.used() == used.as_slice());
+    drop(tags);
+    drop(uses);
+}
+
+// Around the numbers up to which values are compared one by one, hashed, and found apart at once.
+#[test]
+fn uses_any_number_of_values(rt: HostRuntime) {
+    for count in [8, 9, 32, 33, 65_536, 65_537] {
+        expect_two_used(&rt, count, false);
+        expect_two_used(&rt, count, true);
+        expect_three_used(&rt, count, false);
+        expect_three_used(&rt, count, true);
+    }
+}

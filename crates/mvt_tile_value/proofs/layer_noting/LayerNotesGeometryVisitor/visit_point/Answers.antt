@@ -1,0 +1,16 @@
+use Rattle.std.proofs.lemmas.Result.{on_ok_weaker}
+use Rattle.mvt_tile_value.proofs.layer_noting.LayerNotesGeometryVisitor.visit_point.Goals as goal
+
+pub returns : goal.returns
+returns c = λ start parts begun has.
+    on_ok_weaker c.visit_point.result
+    (λ noted. (
+      record {
+        layer_is = has.0.layer_is;
+        count_is = has.0.count_is;
+        ids_are = has.0.ids_are;
+        notes_are = has.0.notes_are;
+      },
+      noted,
+    ))
+    (c.visit_point.ensures start.rings parts begun has.1)

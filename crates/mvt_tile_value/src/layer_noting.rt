@@ -1,0 +1,172 @@
+//! What is found of a layer while it is judged, one feature after the other.
+ghost use Rattle.std.specs.Prelude.{◌≡◌, ◌∷◌, ◌++◌, ℕ, List, [], length, OnOk};
+ghost use Rattle.mvt_feature.specs.declared.feature.Feature.{Feature as AFeature};
+ghost use Rattle.mvt_tile_value.specs.Findings.{AreNoted, AreNotedSoFar};
+ghost use Rattle.mvt_tile_value.specs.Rings.{HasNotedAll};
+
+use crate::first_ids::FirstIds;
+use crate::note::Note;
+use crate::noting::note_id;
+use crate::ring_noting::RingNotes;
+use mvt_attrs::LayerKeys;
+use mvt_base::Text;
+use mvt_feature::{Scratch, judge_value};
+use mvt_geometry::{GeometryVisitor, Point, Ring};
+use mvt_message::{CanonicalVisitor, FeatureFields, LayerVisitor, MessageError, RewriteVisitor};
+use std::alloc::{AllocError, Global};
+
+/// The notes of the features of a layer.
+#[derive(Drop)]
+pub(crate) struct LayerNotes {
+    /// The index of the layer.
+    layer: usize,
+    /// How many features there are.
+    pub(crate) count: usize,
+    /// The first feature of each id.
+    ids: FirstIds,
+    /// The notes of the rings of the next feature.
+    rings: RingNotes,
+    pub(crate) notes: Vec<Note>,
+}
+
+impl LayerNotes {
+    /// Of no features, without memory.
+    pub(crate) fn new(alloc: Global, layer: usize) -> Self
+        ensures { AreNotedSoFar layer result [] }
+    {
+        LayerNotes {
+            layer,
+            count: 0,
+            ids: FirstIds::new(alloc),
+            rings: RingNotes::new(alloc, layer),
+            notes: Vec::new(alloc),
+        }
+    }
+
+    /// Adds the next feature, which may have an id and whose rings were noted.
+    fn add(&mut self, id: Option<u64>) -> Result<(), AllocError>
+        ensures { (layer : ℕ) (features : List AFeature) (f : AFeature)
+            → AreNoted layer self.old features
+            → HasNotedAll layer (length features) f.geometry self.old.rings → f.id ≡ id
+            → OnOk result (AreNotedSoFar layer self.new (features ++ f ∷ [])) }
+    {
+        note_id(&mut self.notes, &mut self.ids, self.layer, self.count, id)?;
+        self.notes.extend_from_slice(&self.rings.notes)?;
+        self.count = self.count.checked_add(1).ok_or(AllocError)?;
+        self.rings.begin(self.count);
+        Ok(())
+    }
+}
+
+/// Of a layer that is judged alone.
+impl LayerVisitor for LayerNotes {
+    ghost use Rattle.std.specs.Prelude.{[], length};
+    ghost use Rattle.mvt_tile_value.specs.Findings.{AreNotedSoFar};
+
+    ghost has_items = { λ items noted. AreNotedSoFar (length items) noted [] };
+
+    ghost has_values = { λ items noted _. AreNotedSoFar (length items) noted [] };
+
+    ghost has_features = { λ items _ _ noted features.
+        AreNotedSoFar (length items) noted features };
+
+    fn visit_value(
+        &mut self,
+        _: Global,
+        payload: &[u8],
+        payload_at: u64,
+        tag_at: u64,
+    ) -> Result<(), MessageError> {
+        judge_value(payload, payload_at, tag_at)
+    }
+
+    fn visit_keys(&mut self, _: Global, _: &[Text], _: usize) -> Result<(), AllocError> {
+        Ok(())
+    }
+
+    fn visit_feature(
+        &mut self,
+        alloc: Global,
+        payload: &[u8],
+        payload_at: u64,
+        keys: &mut LayerKeys<'_>,
+        values: usize,
+        scratch: &mut Scratch,
+    ) -> Result<(), MessageError> {
+        let rings = &mut self.rings;
+        let known = rings.add_feature(alloc, payload, payload_at, keys, values, scratch)?;
+        Ok(self.add(known.id)?)
+    }
+}
+
+/// Of a layer that is made canonical too.
+impl RewriteVisitor for LayerNotes {
+    ghost use Rattle.std.specs.Prelude.{length};
+    ghost use Rattle.mvt_tile_value.specs.Findings.{AreNotedSoFar};
+
+    ghost has_features = { λ items noted features _.
+        AreNotedSoFar (length items) noted features };
+
+    fn visit_rewritten(
+        &mut self,
+        _: Global,
+        fields: &FeatureFields,
+        integers: &[u32],
+        _: &[u8],
+    ) -> Result<(), AllocError> {
+        self.rings.add_rings(fields.kind, integers)?;
+        self.add(fields.id)
+    }
+}
+
+/// The rings of the next feature are noted as they are told.
+impl GeometryVisitor for LayerNotes {
+    ghost use Rattle.std.specs.Prelude.{◌≡◌};
+    ghost use Rattle.std.proofs.Common.{refl, sym, add-zero, append-nil};
+    ghost use Rattle.mvt_tile_value.specs.Findings.{HaveNotedLayerParts};
+
+    ghost has_parts = { HaveNotedLayerParts };
+
+    ghost has_integers = { λ start integers now. now ≡ start };
+
+    ghost begins = { λ start. (
+      record {
+        layer_is = refl;
+        count_is = refl;
+        ids_are = refl;
+        notes_are = refl;
+      },
+      record {
+        layer_is = refl;
+        feature_is = refl;
+        count_is = sym (add-zero start.rings.count);
+        notes_are = sym (append-nil start.rings.notes.items);
+      },
+    ) };
+
+    #[inline(always)]
+    fn visit_point(&mut self, point: Point) -> Result<(), AllocError> {
+        self.rings.visit_point(point)
+    }
+
+    #[inline(always)]
+    fn end_part(&mut self, points: usize, ring: Option<Ring>) -> Result<(), AllocError> {
+        self.rings.end_part(points, ring)
+    }
+
+    fn visit_integers(&mut self, _: &[u32]) -> Result<(), AllocError> {
+        Ok(())
+    }
+}
+
+/// Of a layer that is canonical as it stands.
+impl CanonicalVisitor for LayerNotes {
+    ghost use Rattle.std.specs.Prelude.{length};
+    ghost use Rattle.mvt_tile_value.specs.Findings.{AreNotedSoFar};
+
+    ghost has_read = { λ items noted features. AreNotedSoFar (length items) noted features };
+
+    fn end_feature(&mut self, _: Global, known: &FeatureFields) -> Result<(), AllocError> {
+        self.add(known.id)
+    }
+}

@@ -1,0 +1,28 @@
+//! A tile as a value: its canonical bytes and the writing of them, what is noted of it, and what a
+//! survey says of it. Tiles are read in mvt_tile, which hands up what is here.
+#![tactic(auto)]
+
+mod beginning;
+mod comparing;
+mod encoding;
+mod first_ids;
+pub mod laws;
+mod layer_noting;
+mod note;
+mod noting;
+pub mod numbers;
+mod ring_noting;
+mod survey;
+mod survey_builder;
+mod tile;
+mod write_error;
+mod writing;
+
+pub use encoding::{encode, encode_payload};
+pub use note::Note;
+pub use noting::notes;
+pub use survey::Survey;
+pub use survey_builder::{SurveyBuilder, feature_count};
+pub use tile::Tile;
+pub use write_error::WriteError;
+pub use writing::write_tile;

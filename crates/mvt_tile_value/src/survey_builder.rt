@@ -1,0 +1,322 @@
+//! What is found of items, one after the other.
+ghost use Rattle.std.specs.Prelude.{◌≡◌, ℕ, ◌+◌, ◌*◌, ◌^◌, ◌<◌, ◌≤◌, List, [], ◌∷◌, ◌++◌, length, bytes_eq, None, IfOk, IfErr, OnOk};
+ghost use Rattle.std.specs.Option.{option_copied, option_to_list};
+ghost use Rattle.mvt_base.specs.Reports.{Reports};
+ghost use Rattle.mvt_wire.specs.Spelling.{spelled};
+ghost use Rattle.mvt_feature.specs.declared.feature.Feature.{Feature};
+ghost use Rattle.mvt_feature.specs.Faults.{fault_of};
+ghost use Rattle.mvt_message.specs.declared.item.Layer.{Layer as ALayer};
+ghost use Rattle.mvt_message.specs.declared.item.Item.TheVariants as an_item;
+ghost use Rattle.mvt_message.specs.CanonicalItems.{canonical_item, head_fields};
+ghost use Rattle.mvt_message.specs.ItemRules.{item_fault};
+ghost use Rattle.mvt_message.specs.Items.{IsItem, names_in};
+ghost use Rattle.mvt_message.specs.Rewriting.{tail_of};
+ghost use Rattle.mvt_message.specs.ValidItems.{ValidItem};
+ghost use Rattle.mvt_tile_value.specs.declared.tile.Tile.{Tile};
+ghost use Rattle.mvt_tile_value.specs.CanonicalTiles.{canonical};
+ghost use Rattle.mvt_tile_value.specs.Beginning.{IsNoLayer};
+ghost use Rattle.mvt_tile_value.specs.Comparing.{IsAfter};
+ghost use Rattle.mvt_tile_value.specs.Findings.{AreFound, AreNotedSoFar, IsNotedLayer};
+ghost use Rattle.mvt_tile_value.specs.Notes.{layer_notes};
+ghost use Rattle.mvt_tile_value.specs.Survey.{feature_count as the_feature_count, survey_of};
+
+use crate::beginning::may_be_layer;
+use crate::comparing::after_item;
+use crate::layer_noting::LayerNotes;
+use crate::note::Note;
+use crate::noting::note_if;
+use crate::survey::Survey;
+use mvt_base::{Items, LIMIT};
+use mvt_message::{
+    Item, MessageError, NotCanonical, Rewritten, RewrittenLayer, Visited, judge_item,
+    rewrite_parts, visit_canonical, visit_version_2,
+};
+use std::alloc::{AllocError, Global};
+
+/// What was found of the items of an input so far. Each is compared with the input where it stands,
+/// so that none has to be kept.
+#[derive(Drop)]
+pub struct SurveyBuilder<'a> {
+    features: u128,
+    /// What stands after their canonical bytes; `None` where the input doesn't begin with these.
+    left: Option<&'a [u8]>,
+    notes: Vec<Note>,
+}
+
+impl<'a> SurveyBuilder<'a> {
+    /// Of no items, without memory.
+    pub fn new(alloc: Global, input: &'a [u8]) -> Self
+        requires { length input.now ≤ LIMIT }
+        ensures { AreFound LIMIT input.now result [] }
+    {
+        SurveyBuilder {
+            features: 0,
+            left: Some(input),
+            notes: Vec::new(alloc),
+        }
+    }
+
+    /// Adds what is found of the item of a payload, after so many others, and answers the name of
+    /// the layer. No value of it is made, and nothing is written for a layer that is canonical as
+    /// it stands, or that can't be where it stands. For another it holds the layer's keys and
+    /// values and the canonical fields of its features.
+    ///
+    /// # Errors
+    ///
+    /// As [`read_item`](mvt_message::read_item).
+    pub fn add<'b>(
+        &mut self,
+        alloc: Global,
+        index: usize,
+        payload: &'b [u8],
+        payload_at: u64,
+        tag_at: u64,
+    ) -> Result<Option<&'b str>, MessageError>
+        requires small { length payload.now ≤ LIMIT }
+        requires fits { payload_at + length payload.now < 2 ^ 64 }
+        requires few { index ≤ LIMIT }
+        requires found { (input : List ℕ) × (items : List Item)
+            × AreFound LIMIT input self.old items × (length items ≡ index) }
+        ensures ok { OnOk result (item_fault payload.now payload_at tag_at ≡ None) }
+        ensures found { (input : List ℕ) (items : List Item) → AreFound LIMIT input self.old items
+            → length items ≡ index
+            → IfOk result (λ name. (item : Item) × IsItem payload.now item × ValidItem item
+            × (option_to_list (option_copied name) ≡ names_in item)
+            × AreFound LIMIT input self.new (items ++ item ∷ [])) }
+        ensures fault { IfErr result (λ error. Reports (fault_of error)
+            (item_fault payload.now payload_at tag_at)) }
+    {
+        if !may_be_layer(self.left) {
+            return self.add_other(alloc, index, payload, payload_at, tag_at);
+        }
+        match canonical_notes(alloc, index, payload) {
+            Ok((name, noted)) => {
+                self.add_canonical(alloc, index, payload, &noted)?;
+                Ok(Some(name))
+            }
+            Err(NotCanonical::Memory) => Err(MessageError::Memory),
+            Err(NotCanonical::Broken) => {
+                // Judging tells the fault in less time than rewriting up to it.
+                judge_item(alloc, payload, payload_at, tag_at)?;
+                self.add_rewritten(alloc, index, payload, payload_at, tag_at)
+            }
+            Err(NotCanonical::Other) => {
+                self.add_rewritten(alloc, index, payload, payload_at, tag_at)
+            }
+        }
+    }
+
+    /// The same of any item, by its canonical bytes.
+    fn add_rewritten<'b>(
+        &mut self,
+        alloc: Global,
+        index: usize,
+        payload: &'b [u8],
+        payload_at: u64,
+        tag_at: u64,
+    ) -> Result<Option<&'b str>, MessageError>
+        requires small { length payload.now ≤ LIMIT }
+        requires fits { payload_at + length payload.now < 2 ^ 64 }
+        requires few { index ≤ LIMIT }
+        requires found { (input : List ℕ) × (items : List Item)
+            × AreFound LIMIT input self.old items × (length items ≡ index) }
+        ensures ok { OnOk result (item_fault payload.now payload_at tag_at ≡ None) }
+        ensures found { (input : List ℕ) (items : List Item) → AreFound LIMIT input self.old items
+            → length items ≡ index
+            → IfOk result (λ name. (item : Item) × IsItem payload.now item × ValidItem item
+            × (option_to_list (option_copied name) ≡ names_in item)
+            × AreFound LIMIT input self.new (items ++ item ∷ [])) }
+        ensures fault { IfErr result (λ error. Reports (fault_of error)
+            (item_fault payload.now payload_at tag_at)) }
+    {
+        let noted = LayerNotes::new(alloc, index);
+        match rewrite_parts(alloc, noted, payload, payload_at, tag_at) {
+            Ok(Rewritten::Layer(layer)) => {
+                self.add_layer(alloc, index, &layer)?;
+                Ok(Some(layer.name))
+            }
+            Ok(Rewritten::Foreign(version)) => {
+                self.add_foreign(alloc, index, version, payload)?;
+                Ok(None)
+            }
+            Err(error) => Err(error),
+        }
+    }
+
+    /// The same of an item that is no canonical layer where it stands: nothing is written for it.
+    fn add_other<'b>(
+        &mut self,
+        alloc: Global,
+        index: usize,
+        payload: &'b [u8],
+        payload_at: u64,
+        tag_at: u64,
+    ) -> Result<Option<&'b str>, MessageError>
+        requires small { length payload.now ≤ LIMIT }
+        requires fits { payload_at + length payload.now < 2 ^ 64 }
+        requires few { index ≤ LIMIT }
+        requires found { (input : List ℕ) × (items : List Item)
+            × AreFound LIMIT input self.old items × (length items ≡ index) }
+        requires other { IsNoLayer self.old.left }
+        ensures ok { OnOk result (item_fault payload.now payload_at tag_at ≡ None) }
+        ensures found { (input : List ℕ) (items : List Item) → AreFound LIMIT input self.old items
+            → length items ≡ index
+            → IfOk result (λ name. (item : Item) × IsItem payload.now item × ValidItem item
+            × (option_to_list (option_copied name) ≡ names_in item)
+            × AreFound LIMIT input self.new (items ++ item ∷ [])) }
+        ensures fault { IfErr result (λ error. Reports (fault_of error)
+            (item_fault payload.now payload_at tag_at)) }
+    {
+        let mut noted = LayerNotes::new(alloc, index);
+        match visit_version_2(alloc, &mut noted, payload, payload_at, tag_at) {
+            Ok(Visited::Layer { name, .. }) => {
+                self.left = None;
+                self.add_notes(index, &noted)?;
+                Ok(Some(name))
+            }
+            Ok(Visited::Foreign { version }) => {
+                self.add_foreign(alloc, index, version, payload)?;
+                Ok(None)
+            }
+            Err(error) => Err(error),
+        }
+    }
+
+    /// Adds what was found of a layer whose payload is canonical as it stands.
+    fn add_canonical(
+        &mut self,
+        alloc: Global,
+        index: usize,
+        payload: &[u8],
+        noted: &LayerNotes,
+    ) -> Result<(), AllocError>
+        requires few { index ≤ LIMIT }
+        requires found { (input : List ℕ) × (items : List Item)
+            × AreFound LIMIT input self.old items × (length items ≡ index) }
+        ensures { (input : List ℕ) (items : List Item) (l : ALayer)
+            → AreFound LIMIT input self.old items → length items ≡ index
+            → AreNotedSoFar index noted.now l.features
+            → canonical_item (an_item.Layer l) ≡ payload.now
+            → OnOk result (AreFound LIMIT input self.new (items ++ an_item.Layer l ∷ [])) }
+    {
+        self.left = after_item(alloc, &[], payload, &[], self.left)?;
+        self.add_notes(index, noted)
+    }
+
+    /// Adds what was found of a layer that was made canonical.
+    fn add_layer(
+        &mut self,
+        alloc: Global,
+        index: usize,
+        layer: &RewrittenLayer<'_, LayerNotes>,
+    ) -> Result<(), AllocError>
+        requires few { index ≤ LIMIT }
+        requires found { (input : List ℕ) × (items : List Item)
+            × AreFound LIMIT input self.old items × (length items ≡ index) }
+        ensures { (input : List ℕ) (items : List Item) (l : ALayer)
+            → AreFound LIMIT input self.old items → length items ≡ index
+            → AreNotedSoFar index layer.now.visitor l.features
+            → canonical_item (an_item.Layer l) ≡ spelled (head_fields layer.now.name.now)
+            ++ (layer.now.writer.features.items
+            ++ tail_of layer.now.writer.uses layer.now.extent)
+            → OnOk result (AreFound LIMIT input self.new (items ++ an_item.Layer l ∷ [])) }
+    {
+        let mut head = Vec::new(alloc);
+        layer.append_head(&mut head)?;
+        let mut tail = Vec::new(alloc);
+        layer.append_tail(&mut tail)?;
+        self.left = after_item(alloc, &head, layer.features(), &tail, self.left)?;
+        self.add_notes(index, &layer.visitor)
+    }
+
+    /// Adds the notes of a layer's features and their number.
+    fn add_notes(&mut self, index: usize, noted: &LayerNotes) -> Result<(), AllocError>
+        requires few { index ≤ LIMIT }
+        requires found { self.old.features ≤ index * 18446744073709551615 }
+        ensures notes { (features : List Feature) → AreNotedSoFar index noted.now features
+            → OnOk result (self.new.notes.items
+            ≡ self.old.notes.items ++ layer_notes index features) }
+        ensures count { OnOk result (self.new.features ≡ self.old.features + noted.now.count) }
+        ensures few { noted.now.count < 2 ^ 64 }
+        ensures left { self.new.left ≡ self.old.left }
+    {
+        note_if(&mut self.notes, noted.count == 0, Note::NoFeatures(index))?;
+        self.notes.extend_from_slice(&noted.notes)?;
+        self.features += noted.count as u128;
+        Ok(())
+    }
+
+    /// Adds what is found of a layer of another version.
+    fn add_foreign(
+        &mut self,
+        alloc: Global,
+        index: usize,
+        version: u32,
+        payload: &[u8],
+    ) -> Result<(), AllocError>
+        ensures { (input : List ℕ) (items : List Item) → AreFound LIMIT input self.old items
+            → length items ≡ index
+            → OnOk result (AreFound LIMIT input self.new
+            (items ++ an_item.Foreign version payload.now ∷ [])) }
+    {
+        self.left = after_item(alloc, &[], payload, &[], self.left)?;
+        note_if(&mut self.notes, true, Note::Foreign(index, version))
+    }
+
+    /// The survey of so many layers.
+    pub fn into_survey(self, layers: u32) -> Result<Survey, AllocError>
+        ensures { (input : List ℕ) (tile : Tile) → AreFound LIMIT input self.entry tile.items
+            → length tile.items ≡ layers
+            → IfOk result (λ survey. survey ≡ survey_of tile (bytes_eq input (canonical tile))) }
+    {
+        let SurveyBuilder {
+            features,
+            left,
+            mut notes,
+        } = self;
+        note_if(&mut notes, layers == 0, Note::NoLayers)?;
+        Ok(Survey {
+            layers: layers as usize,
+            features,
+            is_canonical: is_end(left),
+            notes: Items::new(notes),
+        })
+    }
+}
+
+/// The name of a layer whose payload is canonical as it stands, and the notes of its features.
+fn canonical_notes<'b>(
+    alloc: Global,
+    index: usize,
+    payload: &'b [u8],
+) -> Result<(&'b str, LayerNotes), NotCanonical>
+    requires { length payload.now ≤ LIMIT }
+    ensures { (items : List Item) → length items ≡ index
+        → IfOk result (λ found. IsNotedLayer index payload.now found.0.now found.1) }
+{
+    let mut notes = LayerNotes::new(alloc, index);
+    let name = visit_canonical(alloc, &mut notes, payload)?;
+    Ok((name, notes))
+}
+
+/// How many features an item has: those of a layer of version 2, and of other layers none are
+/// known.
+pub fn feature_count(item: &Item) -> usize
+    ensures { result ≡ the_feature_count item.now }
+{
+    match item {
+        Item::Layer(layer) => layer.features.as_slice().len(),
+        Item::Foreign { .. } => 0,
+    }
+}
+
+/// Whether nothing stands after the bytes that an input begins with.
+fn is_end(left: Option<&[u8]>) -> bool
+    ensures { (input front : List ℕ) → IsAfter input front left.entry
+        → result ≡ bytes_eq input front }
+{
+    match left {
+        Some(rest) => rest.is_empty(),
+        None => false,
+    }
+}

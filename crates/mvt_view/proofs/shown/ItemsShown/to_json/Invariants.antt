@@ -1,6 +1,0 @@
-use Rattle.std.proofs.Common.{◌≡◌, map, take}
-use Rattle.serde_json.specs.View.{view}
-use Rattle.mvt_view.proofs.shown.ItemsShown.to_json.Given as goal
-
-abbrev pub invariant-loop-entry : goal.invariant-loop-entry
-invariant-loop-entry g l = map view l.list.items ≡ map g.T.Shown.shown (take l.entry-index l.entries)
