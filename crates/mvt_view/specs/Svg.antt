@@ -12,7 +12,7 @@ use Rattle.mvt_feature.specs.declared.feature.Feature.{Feature}
 use Rattle.mvt_message.specs.declared.item.Layer.{Layer as ALayer}
 use Rattle.mvt_message.specs.declared.item.Item.{Item}
 use Rattle.mvt_message.specs.declared.item.Item.TheVariants.{Layer, Foreign}
-use Rattle.mvt_model.specs.declared.tile.Tile.{Tile}
+use Rattle.mvt_tile_value.specs.declared.tile.Tile.{Tile}
 use Rattle.mvt_view.specs.JsonForms.{each, attribute_json, id_json}
 use Rattle.mvt_view.specs.Xml.{escaped}
 
