@@ -79,7 +79,7 @@ module _ (entries : List (Bor (List ℕ))) (slots : List ℕ) (room n slot : ℕ
         | inr more ↦
             ⊎_elim (λ (e : slot ≡ p). let zero_is = sym free.free ∙ ap (slice_index slots) e ∙ mark in absurd (omega (arith, zero_is)))
             (λ (ne : slot ≡ p → ⊥). taken slot (let low = free.behind in omega (arith, first)) (omega (arith, more)) free.free)
-                (cases_eq slot p)
+            (cases_eq slot p)
       ]
 
   after : List ℕ

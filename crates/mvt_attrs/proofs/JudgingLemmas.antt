@@ -59,7 +59,7 @@ module _ (keys : List (List ℕ)) (first_indices named_by : List ℕ) (feature c
             let value = there values (get_or rest 1 0) (omega arith) in
             let attributes = (so_far values e).0 in
             let unused = new_before keys first_indices named_by feature attributes (get_or rest 0 0) key.0 new (so_far values e).2 key.1
-                is is_new in
+            is is_new in
             let one : Attribute = record { key = key.0; value = value.0 } in (
               attributes ++ one ∷ [],
               progress_more keys values tags rest attributes (so_far values e).1 even more key.0 (sym key.1) value.0

@@ -90,7 +90,7 @@ module _ (texts : List (List ℕ)) (n : ℕ) (first_indices : List ℕ) (find af
 abbrev pub FoundFew : List (List ℕ) → List ℕ → Type 0
 FoundFew texts first_indices =
     (find : List ℕ → Option ℕ) × Found texts (length first_indices) first_indices find
-        × ((q : List ℕ) (v : ℕ) → find q ≡ Some v → v < length first_indices)
+    × ((q : List ℕ) (v : ℕ) → find q ≡ Some v → v < length first_indices)
 
 module _ (texts : List (List ℕ)) (first_indices : List ℕ) (find : List ℕ → Option ℕ)
     (so_far : Found texts (length first_indices) first_indices find)
@@ -154,7 +154,7 @@ grouped texts n first_indices find all done = record {
       let text = get_or texts i [] in
       let at : slice_get texts i ≡ Some text = slice_get-get_or texts i [] lt in
       slice_get_within texts (get_or first_indices i 0) text
-          (done.first text (get_or first_indices i 0) (done.found i text (omega arith) at));
+      (done.first text (get_or first_indices i 0) (done.found i text (omega arith) at));
   together = λ i j a at_i at_j.
       let lt_i : i < length texts = slice_get_within texts i a at_i in
       let lt_j : j < length texts = slice_get_within texts j a at_j in
@@ -165,9 +165,9 @@ grouped texts n first_indices find all done = record {
       let lt_i : i < length texts = slice_get_within texts i a at_i in
       let lt_j : j < length texts = slice_get_within texts j b at_j in
       let here : slice_get texts (get_or first_indices i 0) ≡ Some a = done.first a (get_or first_indices i 0)
-          (done.found i a (omega arith) at_i) in
+      (done.found i a (omega arith) at_i) in
       let there : slice_get texts (get_or first_indices j 0) ≡ Some b = done.first b (get_or first_indices j 0)
-          (done.found j b (omega arith) at_j) in
+      (done.found j b (omega arith) at_j) in
       let both : Some a ≡ Some b = sym here ∙ ap (slice_get texts) e ∙ there in
       cc;
 }
@@ -177,7 +177,7 @@ pub below_set : (named_by : List ℕ) (p feature : ℕ) → p < length named_by 
 below_set named_by p feature lt below = λ i.
     ⊎_elim
     (λ (e : i ≡ p). subst (λ k. get_or (set named_by p feature) k 0 < feature + 1) (sym e)
-        (omega (arith, get_or-set_same named_by p feature 0 lt)))
+    (omega (arith, get_or-set_same named_by p feature 0 lt)))
     (λ (ne : i ≡ p → ⊥). omega (arith, get_or-set_other named_by p i feature 0 ne, below i))
     (cases_eq i p)
 
@@ -220,13 +220,13 @@ marked_more texts first_indices named_by feature attributes k a groups room at m
     (λ (e : get_or first_indices i 0 ≡ get_or first_indices k 0).
     let one : a.key ≡ text = groups.apart k i a.key text at at_i (sym e) in
     eq-eqb _ _ (ap (λ p. get_or (set named_by (get_or first_indices k 0) feature) p 0) e
-        ∙ get_or-set_same named_by (get_or first_indices k 0) feature 0 lt)
+    ∙ get_or-set_same named_by (get_or first_indices k 0) feature 0 lt)
     ∙ sym (whole ∙ ap (λ b. has_key text attributes || (b || false)) ((bytes_eq-Decides a.key text).1 one)
     ∙ or-true (has_key text attributes)))
     (λ (ne : get_or first_indices i 0 ≡ get_or first_indices k 0 → ⊥).
     let two : bytes_eq a.key text ≡ false = differs text i at_i ne in
     ap (λ m. m == feature) (get_or-set_other named_by (get_or first_indices k 0) (get_or first_indices i 0) feature 0 ne)
-        ∙ marked i text at_i
+    ∙ marked i text at_i
     ∙ sym (whole ∙ ap (λ b. has_key text attributes || (b || false)) two ∙ or-false (has_key text attributes)))
     (cases_eq (get_or first_indices i 0) (get_or first_indices k 0))
   where

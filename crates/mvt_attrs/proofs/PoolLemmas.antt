@@ -118,8 +118,11 @@ is_left pool after x (Err e) new room same is = rw (is.1, same) (record {
   kept = λ _. refl;
   added = λ _. tt;
   unchanged = refl;
-  full = (λ told. absurd (let left : Result ℕ PoolError = Err Memory in let clash : left ≡ Err Full = told in cc), λ told. absurd
-      (room told.0));
+  full = (
+    λ told. absurd (let left : Result ℕ PoolError = Err Memory in let clash : left ≡ Err Full = told in cc),
+    λ told. absurd
+        (room told.0),
+  );
 })
 
 pub is_last : {A : Type 0} → (pool after : List A) (x : A) (i : ℕ) → (Contains pool x → ⊥) → i ≡ length pool → length pool ≢ LIMIT

@@ -92,7 +92,7 @@ pub uses_first : {A : Type 0} → (after entries : List A) (indices marks : List
     → copies ≡ take used entries → AreUses after indices marks copies entries
 uses_first after entries indices marks copies used is apart are_indices are_marks first =
     subst (λ ds. AreUses ds indices marks copies entries) (sym is)
-        (subst (λ cs. AreUses entries indices marks cs entries) (sym first) (record {
+    (subst (λ cs. AreUses entries indices marks cs entries) (sym first) (record {
       apart = apart;
       count = are_indices.count;
       placed = λ i x at. ap (slice_get entries) (are_indices.here i (slice_get_within entries i x at)) ∙ at;
@@ -543,10 +543,10 @@ module _ {A : Type 0} (same : A → A → Bool) (decides : (x y : A) → Decides
 
 -- tags so far, of attributes whose entries are used: those that were used before, and theirs
 pub record TagsSoFar (done : List Attribute) (held_keys keys : List (List ℕ)) (held_values values : List Value) (tags : List ℕ) : Type 0
-    where
-  pub keys_are : keys ≡ key_pool held_keys done
-  pub values_are : values ≡ value_pool held_values done
-  pub names : Names keys values tags done
+  where
+    pub keys_are : keys ≡ key_pool held_keys done
+    pub values_are : values ≡ value_pool held_values done
+    pub names : Names keys values tags done
 
 pub tags_start : (keys : List (List ℕ)) (values : List Value) → AreDistinct keys → AreDistinct values
     → TagsSoFar [] keys keys values values []
@@ -582,7 +582,7 @@ pub tags_are_places : (attributes : List Attribute) (held_keys keys : List (List
 tags_are_places attributes held_keys keys held_values values tags all =
     let distinct_keys : AreDistinct keys = subst AreDistinct (sym all.keys_are) (first_use-distinct bytes_eq bytes_eq-Decides _) in
     let distinct_values : AreDistinct values = subst AreDistinct (sym all.values_are)
-        (first_use-distinct equal_values equal_values-Decides _) in
+    (first_use-distinct equal_values equal_values-Decides _) in
     names_places keys [] values [] tags attributes distinct_keys distinct_values all.names
     ∙ ap₂ (λ ks vs. tags_in ks vs attributes) (append-nil keys) (append-nil values)
 
@@ -696,9 +696,9 @@ module _ (attributes : List Attribute) (old new : LayerEntries) (uses : HasUses 
     values = all_used new.values values_stay ∙ values ∙ ap (λ v. value_pool v attributes) (sym (all_used old.values uses.1.no_places));
     names =
         subst (λ ks. Names ks (used_of new.values) (tags_in ks (used_of new.values) attributes) attributes)
-            (sym (all_used new.keys keys_stay))
+        (sym (all_used new.keys keys_stay))
         (subst (λ vs. Names new.keys.distinct vs (tags_in new.keys.distinct vs attributes) attributes)
-            (sym (all_used new.values values_stay)) names);
+        (sym (all_used new.values values_stay)) names);
   }
 
   pub placed_tags : (before : List ℕ) {after : List ℕ} → after ≡ before ++ tags_in new.keys.distinct new.values.distinct attributes

@@ -25,10 +25,10 @@ pub record ArePlaced (n : ℕ) (attributes : List Attribute) (keys keys_after : 
 
 -- the same where the tags of the first n attributes were told: the value of the next may be placed too
 pub record AreReported (n : ℕ) (attributes : List Attribute) (keys keys_after : List (List ℕ)) (values values_after : List Value) : Type 0
-    where
-  pub within : n ≤ length attributes
-  pub keys_are : (keys_after ≡ key_pool keys (take n attributes)) ⊎ (keys_after ≡ key_pool keys (take (n + 1) attributes))
-  pub values_are : (values_after ≡ value_pool values (take n attributes)) ⊎ (values_after ≡ value_pool values (take (n + 1) attributes))
+  where
+    pub within : n ≤ length attributes
+    pub keys_are : (keys_after ≡ key_pool keys (take n attributes)) ⊎ (keys_after ≡ key_pool keys (take (n + 1) attributes))
+    pub values_are : (values_after ≡ value_pool values (take n attributes)) ⊎ (values_after ≡ value_pool values (take (n + 1) attributes))
 
 -- the entry of attribute n that is to be placed next is new, and its pool is full
 abbrev pub IsFullAt : ℕ → List Attribute → List (List ℕ) → List Value → Type 0

@@ -37,7 +37,7 @@ bytes_more s p bytes i b start old new h is so_far e =
     ∙ ap (λ k. bytes_text s p front ++ (byte_text s k b ++ [])) len
     ∙ ap (λ t. bytes_text s p front ++ t) (append-nil (byte_text s (p + i) b)) in
     e ∙ ap (λ t. t ++ byte_text s (p + i) b) so_far ∙ append_assoc start (bytes_text s p front) (byte_text s (p + i) b)
-        ∙ ap (λ t. start ++ t) (sym more)
+    ∙ ap (λ t. start ++ t) (sym more)
 
 -- the same place
 pub explained : (input : List ℕ) (fault : Fault) (n m : Option (List ℕ)) (i j : Option ℕ) (a e : ℕ) (s : Span) → n ≡ m → i ≡ j

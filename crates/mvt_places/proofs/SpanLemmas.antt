@@ -61,7 +61,7 @@ module _ (before : Seen) (most at : ℕ) (b : List ℕ) (seen : Seen) (left plac
   reading_more now less n k is due within spells =
       subst (λ (s : Seen). Reading before most at b s less (place + k) (take (length rest - k) (drop k rest))) (sym is)
       (subst (λ (bs : List ℕ). Reading before most at b (with_span seen (span place (place + k))) less (place + k) bs)
-          (sym (take_rest rest k))
+      (sym (take_rest rest k))
       (more less n k due within spells))
 
   pub reading_none : SpellsNone rest → seen ≡ fold with_span before (spellings most at b)

@@ -158,7 +158,7 @@ said_more Says holds names name a b c old new verdict said one adds =
       files = files ++ file ∷ [];
       checked =
           related-append (λ n (f : Checked). (f.name ≡ n) × IsFileReply Says (holds n) f.reply) names files (name ∷ []) (file ∷ [])
-              said.checked
+          said.checked
           ((refl, one.checked), tt);
       visited =
           subst (AddsAll a.visits c.visits) (sym (map-append (λ (f : Checked). visit_of f.name f.reply) files (file ∷ [])))
@@ -167,7 +167,7 @@ said_more Says holds names name a b c old new verdict said one adds =
           subst (Appends a.output.taken c.output.taken)
           (sym (flat_map-append written_of files (file ∷ []) ∙ ap (λ t. flat_map written_of files ++ t) (append-nil (written_of file))))
           (Appends-trans a.output.taken b.output.taken c.output.taken (flat_map written_of files) (written_of file) said.written
-              one.written);
+          one.written);
       printed =
           subst (Prints a.errors c.errors) lines
           (prints-trans a.errors b.errors c.errors (flat_map printed_of files ++ [])
@@ -294,7 +294,7 @@ cut_later Says holds held all names name shown behind a b c tally failure said c
     let one : shown ∷ [] ≡ cut.front ++ cut.rest = cut.of_names in
     let visits = λ (fs : List Checked). map (λ f. visit_of f.name f.reply) fs in
     let lines : (flat_map printed_of said.files ++ []) ++ (flat_map printed_of cut.files ++ []) ≡ flat_map printed_of
-        (said.files ++ cut.files) ++ [] =
+    (said.files ++ cut.files) ++ [] =
     ap (λ t. t ++ (flat_map printed_of cut.files ++ [])) (append-nil (flat_map printed_of said.files))
     ∙ sym (append_assoc (flat_map printed_of said.files) (flat_map printed_of cut.files) [])
     ∙ ap (λ t. t ++ []) (sym (flat_map-append printed_of said.files cut.files)) in
@@ -319,7 +319,7 @@ cut_later Says holds held all names name shown behind a b c tally failure said c
       taken =
           subst (λ text. TakesUntil a.output.taken c.output.taken text failure) (sym (flat_map-append written_of said.files cut.files))
           (takes_on a.output.taken b.output.taken c.output.taken (flat_map written_of said.files) (flat_map written_of cut.files) failure
-              said.written cut.taken);
+          said.written cut.taken);
       printed =
           subst (Prints a.errors c.errors) lines
           (prints-trans a.errors b.errors c.errors (flat_map printed_of said.files ++ [])

@@ -97,8 +97,12 @@ module _ (limit : ℕ) (left : Option (List ℕ)) (tile : Tile) (there : IfSome 
 ends_failed : (a b c : Faults) (kind : ErrorKind) → NoneFailed a b → c ≡ failed kind b → EndsFailed a c
 ends_failed a b c kind none is = (
   kind,
-  record { once = ap (λ (f : Faults). f.count) is
-      ∙ ap counted none; reported = ap (λ (f : Faults). f.last) is; ended = ap (λ (f : Faults). f.ended) is },
+  record {
+    once = ap (λ (f : Faults). f.count) is
+        ∙ ap counted none;
+    reported = ap (λ (f : Faults). f.last) is;
+    ended = ap (λ (f : Faults). f.ended) is;
+  },
 )
 
 module _ {T U : Type 0} (s : Result T Failure) (r : Result U ErrorKind) (a b c : Faults) where

@@ -82,7 +82,7 @@ layer_payload layer = canonical_item (Layer layer)
 abbrev IsBody : ALayer → List ℕ → Type 0
 IsBody layer body =
     ((d : List ℕ) × (more : List ℕ)
-        × (body ≡ short_field FEATURES (bytes d) ++ more)) ⊎ (body ≡ short_field EXTENT (varint layer.extent) ++ [])
+    × (body ≡ short_field FEATURES (bytes d) ++ more)) ⊎ (body ≡ short_field EXTENT (varint layer.extent) ++ [])
 
 pub record HasFronts (layer : ALayer) : Type 0 where
   pub body : List ℕ

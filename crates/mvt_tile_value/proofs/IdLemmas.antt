@@ -50,8 +50,10 @@ module _ (l : Entries) (rising : AreRising l) (id : ℕ) where
       → record { at : IfOk r (λ i. found_in l id ≡ Some (get_or l i (0, 0)).1); none : IfErr r (λ i. found_in l id ≡ None) }
   searched (Ok i) within equal =
       let here : id_at l i ≡ id = ranked _ id _ (sym (equal (0, 0))) in
-      record { at = found_present l id i within here (λ j lt same. (let less = rising j i lt within in omega (arith, less, same, here)));
-          none = tt }
+      record {
+        at = found_present l id i within here (λ j lt same. (let less = rising j i lt within in omega (arith, less, same, here)));
+        none = tt;
+      }
   searched (Err i) within parted = record {
     at = tt;
     none = found_absent l id (λ j lt same.

@@ -101,7 +101,7 @@ all_noted_of layer feature start now (Lines lines) begun drawn =
     record { layer_is = noted.0; notes_are = noted.1 }
 all_noted_of layer feature start now (Polygons polygons) begun drawn =
     let noted = these_noted layer feature start now (flat_map ring_parts polygons) (rings_of polygons) (polygon_rings polygons) begun
-        drawn in
+    drawn in
     record { layer_is = noted.0; notes_are = noted.1 }
 
 -- whatever parts were told, the layer stays

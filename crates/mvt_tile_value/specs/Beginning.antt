@@ -18,7 +18,7 @@ IsNoPayload d = (layer : ALayer) → ValidItem (items.Layer layer) → d ≢ can
 abbrev pub BeginsNoLayer : List ℕ → Type 0
 BeginsNoLayer b =
     (layer : ALayer) (more : List ℕ) → ValidItem (items.Layer layer)
-        → b ≢ short_field LAYERS (bytes (canonical_item (items.Layer layer))) ++ more
+    → b ≢ short_field LAYERS (bytes (canonical_item (items.Layer layer))) ++ more
 
 -- and none follows
 abbrev pub IsNoLayer : Option (Bor (List ℕ)) → Type 0

@@ -38,33 +38,33 @@ point_text p = ap₂ (λ x y. 91 ∷ (x ++ (44 ∷ (y ++ codes "]")))) (integer_
 
 pub polygon_text : (p : Polygon) → compact_text (polygon_json p)
     ≡ codes "{\"outer\":" ++ (compact_text
-        (line_json p.outer) ++ (codes ",\"rest\":" ++ (compact_text (each line_json p.rest) ++ codes "}")))
+    (line_json p.outer) ++ (codes ",\"rest\":" ++ (compact_text (each line_json p.rest) ++ codes "}")))
 unfolding escape_byte
 polygon_text p = refl
 
 pub feature_text : (f : Feature) → compact_text (feature_json f)
     ≡ codes "{\"attributes\":" ++ (compact_text
-        (each attribute_json f.attributes) ++ (codes ",\"geometry\":" ++ (compact_text (geometry_json f.geometry)
+    (each attribute_json f.attributes) ++ (codes ",\"geometry\":" ++ (compact_text (geometry_json f.geometry)
     ++ (codes ",\"id\":" ++ (compact_text (id_json f.id) ++ codes "}")))))
 unfolding escape_byte
 feature_text f = refl
 
 pub title_text : (f : Feature) → compact_text (title_json f)
     ≡ codes "{\"attributes\":" ++ (compact_text
-        (each attribute_json f.attributes) ++ (codes ",\"id\":" ++ (compact_text (id_json f.id) ++ codes "}")))
+    (each attribute_json f.attributes) ++ (codes ",\"id\":" ++ (compact_text (id_json f.id) ++ codes "}")))
 unfolding escape_byte
 title_text f = refl
 
 pub layer_text : (l : ALayer) → compact_text (layer_json l)
     ≡ codes "{\"extent\":" ++ (compact_text
-        (number_json l.extent) ++ (codes ",\"features\":" ++ (compact_text (each feature_json l.features)
+    (number_json l.extent) ++ (codes ",\"features\":" ++ (compact_text (each feature_json l.features)
     ++ (codes ",\"name\":" ++ (compact_text (string l.name) ++ codes "}")))))
 unfolding escape_byte
 layer_text l = refl
 
 pub foreign_text : (version size : ℕ) → compact_text (foreign_json version size)
     ≡ codes "{\"length\":" ++ (compact_text
-        (number_json size) ++ (codes ",\"version\":" ++ (compact_text (number_json version) ++ codes "}")))
+    (number_json size) ++ (codes ",\"version\":" ++ (compact_text (number_json version) ++ codes "}")))
 unfolding escape_byte
 foreign_text version size = refl
 

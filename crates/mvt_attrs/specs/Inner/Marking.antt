@@ -24,15 +24,15 @@ pub record IsGrouped (texts : List (List ℕ)) (first_indices : List ℕ) : Type
 abbrev pub IsPlaceAfter : List (List ℕ) → List ℕ → ℕ → Type 0
 IsPlaceAfter texts first_indices place =
     ((j : ℕ) × (j < length first_indices) × (slice_get texts j ≡ slice_get texts (length first_indices))
-        × (place ≡ slice_index first_indices j))
+    × (place ≡ slice_index first_indices j))
     ⊎ (((j : ℕ) → j < length first_indices → slice_get texts j ≡ slice_get texts (length first_indices) → ⊥)
-        × (place ≡ length first_indices))
+    × (place ≡ length first_indices))
 
 -- the first indices that this feature has named are those of the attributes' keys
 abbrev pub IsMarked : List (List ℕ) → List ℕ → List ℕ → ℕ → List Attribute → Type 0
 IsMarked texts first_indices named_by feature attributes =
     (i : ℕ) (text : List ℕ) → slice_get texts i ≡ Some text
-        → (slice_index named_by (slice_index first_indices i) == feature) ≡ has_key text attributes
+    → (slice_index named_by (slice_index first_indices i) == feature) ≡ has_key text attributes
 
 -- no place has a mark as high as n
 abbrev pub AreBelow : List ℕ → ℕ → Type 0

@@ -5,8 +5,11 @@ use Rattle.mvt_attrs.proofs.MarkingLemmas.{few_none, few_more, grouped}
 use Rattle.mvt_attrs.proofs.layer_keys.group_few.Goals as goal
 
 pub loop-init : goal.loop-init
-loop-init c = (few_none c.args.texts.now c.in_ok-first_indices.first_indices.items c.in_ok-first_indices.ensures.items, ap length
-    c.in_ok-first_indices.ensures.items)
+loop-init c = (
+  few_none c.args.texts.now c.in_ok-first_indices.first_indices.items c.in_ok-first_indices.ensures.items,
+  ap length
+      c.in_ok-first_indices.ensures.items,
+)
 
 pub loop-preserved : goal.loop-preserved
 loop-preserved c =
@@ -24,4 +27,4 @@ pub returns : goal.returns
 returns c =
     let found = c.loop.invariant.0 in
     grouped c.args.texts.now (length c.loop.first_indices.items) c.loop.first_indices.items found.0 (omega (arith, c.loop.invariant.1))
-        found.1
+    found.1

@@ -11,7 +11,7 @@ returns-in_err-feed-clause-refused c =
     let p = err_from_is_err_and c.from_residual.result c.from_residual.ensures.1 in
     rw (p.1, p.2)
     (λ s stands. fed_shown _ _ _ (s ++ c.args.piece.now) _ (c.feed.ensures.stands tt s stands)
-        (rw c.in_err-feed.was at c.feed.ensures.answer))
+    (rw c.in_err-feed.was at c.feed.ensures.answer))
 
 pub returns-clause-stands : goal.returns-clause-stands
 returns-clause-stands c = λ s stands. c.feed.ensures.stands tt s stands

@@ -11,9 +11,17 @@ returns-in-Err-clause-files g c = λ some accepted.
     elim (c.refuse.ensures.statuses) [
       | inl two ↦ absurd (c.in-Err.ensures.usage (c.refuse.ensures.usage.0 two) accepted)
       | inr four ↦
-          let above : 2 < c.refuse.result = omega arith in
-          (inr (Memory, refl, four, cut_at_first LIMIT (task_in (map string_bytes c.args.words.now)) _ _ _ _ _
-              (c.refuse.ensures.line above), inl refl), (omega arith, grind (arith, common_steps)))
+          let above : 2 < c.refuse.result = omega arith in (
+            inr (
+              Memory,
+              refl,
+              four,
+              cut_at_first LIMIT (task_in (map string_bytes c.args.words.now)) _ _ _ _ _
+                  (c.refuse.ensures.line above),
+              inl refl,
+            ),
+            (omega arith, grind (arith, common_steps)),
+          )
     ]
 
 pub returns-in-Err-clause-failed : goal.returns-in-Err-clause-failed

@@ -15,8 +15,13 @@ add-requires g c =
     omega arith
 
 pub loop-name-init : goal.loop-name-init
-loop-name-init g c = record { said = said_none _ _ _ _ c.none-tally.ensures; unflushed = refl; sound = refl;
-    one = grind (arith, common_steps); same = refl }
+loop-name-init g c = record {
+  said = said_none _ _ _ _ c.none-tally.ensures;
+  unflushed = refl;
+  sound = refl;
+  one = grind (arith, common_steps);
+  same = refl;
+}
 
 pub loop-name-preserved : goal.loop-name-preserved
 loop-name-preserved g c = record {

@@ -27,13 +27,13 @@ returns-in_err-reply-clause-cut g c =
 pub returns-in_err-written-clause-cut : goal.returns-in_err-written-clause-cut
 returns-in_err-written-clause-cut g c =
     cut_first_of c.from_residual-in_err-written.result _ _ _ _ _ (visit_of c.args.name.now c.in_ok-reply.reply ∷ [])
-        refl c.in_ok-reply.ensures.visited
+    refl c.in_ok-reply.ensures.visited
     (let h : IfErr c.from_residual-in_err-written.result (λ failure. failure ≡ Memory) = search rules in h)
 
 pub returns-in_err-printed-clause-cut : goal.returns-in_err-printed-clause-cut
 returns-in_err-printed-clause-cut g c =
     cut_first_of c.from_residual-in_err-printed.result _ _ _ _ _ (visit_of c.args.name.now c.in_ok-reply.reply ∷ [])
-        refl c.in_ok-reply.ensures.visited
+    refl c.in_ok-reply.ensures.visited
     (let h : IfErr c.from_residual-in_err-printed.result (λ failure. failure ≡ Memory) = search rules in h)
 
 pub returns-in_err-put-clause-cut : goal.returns-in_err-put-clause-cut

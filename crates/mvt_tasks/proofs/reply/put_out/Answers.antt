@@ -12,5 +12,5 @@ returns-clause-failed g c =
     let none : NoneFailed (g.W.Sink.state c.args.writer.now).faults (g.W.Sink.state c.write_all.new.writer).faults = search rules in
     is_writing c.map_err-2.result _ _ printed
     (fails_flushing c.map_err-2.result c.flush.result (g.W.Sink.state c.args.writer.now).faults
-        (g.W.Sink.state c.write_all.new.writer).faults
+    (g.W.Sink.state c.write_all.new.writer).faults
     (g.W.Sink.state c.flush.new.self).faults printed same none c.flush.ensures.faults)

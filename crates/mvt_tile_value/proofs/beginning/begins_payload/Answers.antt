@@ -11,7 +11,7 @@ returns-in-Some-behind_name c = λ no layer valid is.
     let few : length c.in-Some.named.now < 2 ^ 64 = search rules in
     let few_more : length c.in-Some-behind_name.body.now < 2 ^ 64 = search rules in
     let named = rw c.in-Some.is at c.behind_version.ensures _
-        (c.first_field.ensures (plain VERSION (varint 2)) _ version_fits (is ∙ all.is)) in
+    (c.first_field.ensures (plain VERSION (varint 2)) _ version_fits (is ∙ all.is)) in
     let fits = fits_bytes NAME c.in-Some.named.now layer.name all.body (omega arith) (omega arith) few named in
     let body = rw c.in-Some-behind_name.is at
     c.behind_name.ensures layer.name all.body (c.first_field-in-Some.ensures (plain NAME (bytes layer.name)) all.body fits.0 named) in
@@ -29,7 +29,7 @@ returns-in-None-behind_name c = λ no layer valid is.
     let all = fronts layer in
     let few : length c.in-Some.named.now < 2 ^ 64 = search rules in
     let named = rw c.in-Some.is at c.behind_version.ensures _
-        (c.first_field.ensures (plain VERSION (varint 2)) _ version_fits (is ∙ all.is)) in
+    (c.first_field.ensures (plain VERSION (varint 2)) _ version_fits (is ∙ all.is)) in
     let fits = fits_bytes NAME c.in-Some.named.now layer.name all.body (omega arith) (omega arith) few named in
     rw c.in-None-behind_name.is at
     c.behind_name.ensures layer.name all.body (c.first_field-in-Some.ensures (plain NAME (bytes layer.name)) all.body fits.0 named)

@@ -8,4 +8,4 @@ returns c = λ input front is.
     after_field input front c.as_slice.result.now c.args.head.now c.args.features.now c.args.tail.now _ c.after.result
     (c.in_ok-field.ensures body (sym c.in_ok-len_of.ensures) ∙ ap (λ f. f ++ body) (sym c.as_slice.ensures.value))
     (c.after.ensures input _ (c.after-from_tail.ensures input _
-        (c.after-from_features.ensures input _ (c.after-from_head.ensures input front is))))
+    (c.after-from_features.ensures input _ (c.after-from_head.ensures input front is))))

@@ -14,9 +14,12 @@ loop-text-preserved c =
     let run = rw c.as_bytes-bytes.ensures.value at c.clean_end-stop.ensures.run in
     let within : stop < length text = omega (arith, run.1, c.if-stop-bytes.false) in
     let ran = run_comes start (string_bytes c.loop-text.text) (string_bytes c.push_str.new.self) text c.loop-text.at stop
-        c.loop-text.invariant.2 run
+    c.loop-text.invariant.2 run
     (rw c.range.ensures.value at c.in_ok-push_str.ensures.bytes) in
     let marked = mark_comes start (string_bytes c.push_str.new.self) (string_bytes c.push_mark.new.text) text stop ran within
-    (rw c.as_bytes-bytes.ensures.value at c.in_ok-push_mark.ensures) in
-    (omega (arith, within), IsCharBoundary-after_ascii text stop c.utf8.plain within
-        (mark_ascii _ (rw c.as_bytes-bytes.ensures.value at c.clean_end-stop.ensures.stop within)), marked)
+    (rw c.as_bytes-bytes.ensures.value at c.in_ok-push_mark.ensures) in (
+      omega (arith, within),
+      IsCharBoundary-after_ascii text stop c.utf8.plain within
+          (mark_ascii _ (rw c.as_bytes-bytes.ensures.value at c.clean_end-stop.ensures.stop within)),
+      marked,
+    )

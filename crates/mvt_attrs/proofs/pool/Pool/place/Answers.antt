@@ -7,7 +7,7 @@ returns-in-Found g c =
     let pool = c.args.self.now in
     let same = c.deref.ensures.value ∙ c.self.view_is in
     is_there pool c.args.entry.now c.in-Found.place
-        (subst (λ es. slice_get es c.in-Found.place ≡ Some c.args.entry.now) same c.in-Found.ensures)
+    (subst (λ es. slice_get es c.in-Found.place ≡ Some c.args.entry.now) same c.in-Found.ensures)
 
 pub returns-then-index-eq-LIMIT : goal.returns-then-index-eq-LIMIT
 returns-then-index-eq-LIMIT g c =

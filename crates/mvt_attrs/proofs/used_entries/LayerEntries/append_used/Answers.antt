@@ -25,8 +25,11 @@ loop-rest-preserved c = record {
         c.in_ok-key.ensures.index keys x so_far.uses.0 at,
       ))
       (λ x at. (
-        record { kept = c.in_ok-value.ensures.kept values x so_far.uses.1 at; added = c.in_ok-value.ensures.added values x so_far.uses.1
-            at },
+        record {
+          kept = c.in_ok-value.ensures.kept values x so_far.uses.1 at;
+          added = c.in_ok-value.ensures.added values x so_far.uses.1
+              at;
+        },
         c.in_ok-value.ensures.index values x so_far.uses.1 at,
       ))
       c.in_ok-push_pair.ensures.items;

@@ -12,7 +12,7 @@ returns-then-is_above_all-clause-earlier c = λ first are.
     let held = c.args.self.now.rising.items in
     let above : IsAboveAll c.args.id held =
     subst (IsAboveAll c.args.id) c.deref.ensures.value
-        ((c.is_above_all.ensures (subst AreRising (sym c.deref.ensures.value) are.rising)).0 c.if-is_above_all.true) in
+    ((c.is_above_all.ensures (subst AreRising (sym c.deref.ensures.value) are.rising)).0 c.if-is_above_all.true) in
     sym (ap₂ option_or (found_above held c.args.id above) (are.above c.args.id above)) ∙ are.first_is c.args.id
 
 pub returns-then-is_above_all-clause-first : goal.returns-then-is_above_all-clause-first
@@ -20,7 +20,7 @@ returns-then-is_above_all-clause-first c = λ first are.
     let held = c.args.self.now.rising.items in
     let above : IsAboveAll c.args.id held =
     subst (IsAboveAll c.args.id) c.deref.ensures.value
-        ((c.is_above_all.ensures (subst AreRising (sym c.deref.ensures.value) are.rising)).0 c.if-is_above_all.true) in
+    ((c.is_above_all.ensures (subst AreRising (sym c.deref.ensures.value) are.rising)).0 c.if-is_above_all.true) in
     let pushed = c.in_ok-push.ensures.items in
     record {
       rising = subst AreRising (sym pushed) (rising_pushed held c.args.id c.args.feature above are.rising);

@@ -17,7 +17,7 @@ returns c = λ input items l found count noted canonical.
     (c.in_ok-self.ensures input (written items) found.left) in
     on_ok_joined c.add_notes.result
     (λ more told same. found_more 67108864 input c.args.self.now c.add_notes.new.self items (Layer l) c.args.noted.now.count c.args.index
-        found count
+    found count
     noted.0.count_is (omega (arith, c.add_notes.ensures.few)) more
-        (subst (IsAfter input (written items ++ field_of (Layer l))) (sym same) left) told)
+    (subst (IsAfter input (written items ++ field_of (Layer l))) (sym same) left) told)
     c.add_notes.ensures.count (c.add_notes.ensures.notes l.features noted) c.add_notes.ensures.left

@@ -18,7 +18,7 @@ returns c = λ input items l found count noted canonical.
     c.deref.ensures.value ∙ c.in_ok-append_head.ensures.ok ∙ ap (λ b. b ++ spelled (head_fields layer.name.now)) c.new-head.ensures.items in
     let tail : c.deref-2.result.now ≡ tail_of layer.writer.uses layer.extent =
     c.deref-2.ensures.value ∙ c.in_ok-append_tail.ensures.ok
-        ∙ ap (λ b. b ++ tail_of layer.writer.uses layer.extent) c.new-tail.ensures.items in
+    ∙ ap (λ b. b ++ tail_of layer.writer.uses layer.extent) c.new-tail.ensures.items in
     let payload : c.deref.result.now ++ (c.features.result.now ++ c.deref-2.result.now) ≡ canonical_item (Layer l) =
     ap₂ (λ h b. h ++ b) head (ap₂ (λ d t. d ++ t) (c.features.ensures) tail) ∙ sym canonical in
     let left = subst (λ d. IsAfter input (written items ++ short_field LAYERS (bytes d)) c.in_ok-self.field-0) payload
@@ -26,5 +26,5 @@ returns c = λ input items l found count noted canonical.
     on_ok_joined c.add_notes.result
     (λ more told same. found_more 67108864 input c.args.self.now c.add_notes.new.self items (Layer l) own.count c.args.index found count
     noted.0.count_is (omega (arith, c.add_notes.ensures.few)) more
-        (subst (IsAfter input (written items ++ field_of (Layer l))) (sym same) left) told)
+    (subst (IsAfter input (written items ++ field_of (Layer l))) (sym same) left) told)
     c.add_notes.ensures.count (c.add_notes.ensures.notes l.features noted) c.add_notes.ensures.left

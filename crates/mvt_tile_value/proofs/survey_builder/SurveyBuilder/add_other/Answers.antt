@@ -37,7 +37,7 @@ returns-in-Ok-Layer-clause-found c = λ input items found count.
       layer_other 67108864 input c.args.self.now c.add_notes.new.self items layer c.visit_version_2.new.visitor.count c.args.index found
           count
           c.requires.other both.1 noted.0.count_is (omega (arith, c.in_ok-add_notes-in-Ok-Layer.ensures.few))
-              c.in_ok-add_notes-in-Ok-Layer.ensures.count
+          c.in_ok-add_notes-in-Ok-Layer.ensures.count
           c.in_ok-add_notes-in-Ok-Layer.ensures.left (c.in_ok-add_notes-in-Ok-Layer.ensures.notes layer.features noted),
     )
 
@@ -48,7 +48,7 @@ returns-in-Ok-Foreign-clause-found c = λ input items found count.
     let reported = rw c.in-Ok-Foreign.field-0-is at visited in
     let same =
     foreign_told (HasItems items) (HasFeatures items) c.visit_version_2.new.visitor c.in-Ok-Foreign.version c.args.payload.now item
-        reported is in (
+    reported is in (
       Foreign c.in-Ok-Foreign.version c.args.payload.now,
       subst (IsItem c.args.payload.now) same is,
       subst ValidItem same valid,
