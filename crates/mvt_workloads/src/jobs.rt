@@ -127,11 +127,11 @@ fn passed_by_rows(alloc: Global, tile: &[u8], digest: &mut Digest) {
 fn replied(alloc: Global, task: Task, tile: &[u8], digest: &mut Digest) {
     let mut reader = Host::new(tile);
     match answer(alloc, task, &mut reader) {
-        Ok(Reply { written, printed }) => {
-            if let Some(bytes) = written {
+        Ok(Reply { output, error_line }) => {
+            if let Some(bytes) = output {
                 digest.add_bytes(bytes.as_slice());
             }
-            if let Some(line) = printed {
+            if let Some(line) = error_line {
                 digest.add_bytes(line.as_str().as_bytes());
             }
         }
