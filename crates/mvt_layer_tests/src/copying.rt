@@ -1,6 +1,6 @@
 //! Layers that are copied, beside the same made anew field by field.
 use crate::expect::expect;
-use mvt_feature::FeatureFields;
+use mvt_geometry::Ignore;
 use mvt_message::*;
 use std::alloc::{AllocError, Global};
 use std::process::Abort;
