@@ -218,7 +218,7 @@ feature_clean t keys values row f h =
     ∙ ap (λ (b : Bool). if b then Some Kind else or_wrong (geometry_of t row) Geometry (λ _. None)) kind
     ∙ or_there (geometry_of t row) Geometry (λ _. None) f.geometry h.geometry
 
-feature_right : (t : Table) (keys : List (List ℕ)) (values : List Value) (row : FeatureRow) (f : Feature) (c : RowsCause)
+pub feature_right : (t : Table) (keys : List (List ℕ)) (values : List Value) (row : FeatureRow) (f : Feature) (c : RowsCause)
     → IsFeature t keys values row f → ValidFeature f → IsWrongBy (feature_cause t keys values row) (geometry_of t row) c → ⊥
 feature_right t keys values row f c is valid wrong =
     (subst (λ o. IsUndrawn o c) is.geometry

@@ -4,6 +4,7 @@ mod DrawingLemmas
 mod TileLemmas
 mod WritingLemmas
 mod FaultLemmas
+mod OneFaultLemmas
 mod RowLemmas
 mod GrowthLemmas
 mod TableLemmas

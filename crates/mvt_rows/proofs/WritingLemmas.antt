@@ -256,7 +256,7 @@ canonical_foreign version content = refl
 
 -- ---- tiles
 
-valid_item_once : (t : Table) (row : LayerRow) (a b : Item) → IsValidItemOf t row a → IsValidItemOf t row b → a ≡ b
+pub valid_item_once : (t : Table) (row : LayerRow) (a b : Item) → IsValidItemOf t row a → IsValidItemOf t row b → a ≡ b
 valid_item_once t row a b h k = item_once t row a b h.0 k.0
 
 -- rows of which one is refused are no tile

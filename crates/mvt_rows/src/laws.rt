@@ -1,7 +1,9 @@
 //! Laws about the definitions alone: functions without effect, whose contract is the law.
 ghost use Rattle.std.specs.Prelude.{◌≡◌, ℕ, List};
 ghost use Rattle.mvt_tile_value.specs.declared.tile.Tile.{Tile};
+ghost use Rattle.mvt_rows.specs.declared.rows_cause.RowsFault.{RowsFault};
 ghost use Rattle.mvt_rows.specs.Reading.{IsRead, IsRewritten, IsTooLarge};
+ghost use Rattle.mvt_rows.specs.RowsFaults.{IsFaultOf};
 ghost use Rattle.mvt_rows.specs.Tables.{Table};
 ghost use Rattle.mvt_rows.specs.TileRows.{IsTileOf};
 ghost use Rattle.mvt_rows.specs.Written.{IsNoTile, IsTooLargeOfRows, IsWritten};
@@ -22,4 +24,10 @@ pub fn read_rows_are_written()
         → IsTooLargeOfRows table
         → IsTooLarge input }
     ensures taken { (input : List ℕ) (table : Table) → IsRead input table → IsNoTile table → ⊥ }
+{}
+
+/// What is wrong with rows is one thing.
+pub fn rows_have_one_fault()
+    ensures { (table : Table) (fault other : RowsFault) → IsFaultOf table fault
+        → IsFaultOf table other → fault ≡ other }
 {}
