@@ -17,3 +17,4 @@ mod ExtractionLemmas
 mod ValidityLemmas
 mod PickLemmas
 mod FindingLemmas
+mod OneNameLemmas

@@ -1,5 +1,6 @@
 -- What the public laws state, for the proofs of the crates above: a lemma for each clause.
 pub use Rattle.mvt_tile_value.proofs.ModelLaws.{canonical_reads as one_tile_reads}
+pub use Rattle.mvt_tile.proofs.OneNameLemmas.{first_named as one_of_a_name_one, none_named as one_of_a_name_nothing}
 pub use Rattle.mvt_tile.proofs.NameLemmas.{distinct_none as names_apart_nothing, distinct_more as names_apart_more, distinct_before as names_apart_before}
 pub use Rattle.mvt_tile.proofs.TileLemmas.{tile_ordered as fault_is_least_ordered}
 use Rattle.std.proofs.Common.{subst, sym}

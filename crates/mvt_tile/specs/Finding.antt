@@ -1,5 +1,5 @@
 -- The first layer of a name, whatever the other layers are.
-use Rattle.std.specs.Prelude.{◌≡◌, ℕ, ◌+◌, ◌≤◌, ◌==◌, ◌&&◌, Bool, List, [], ◌∷◌, length, nat_lt, bytes_eq, Option, Some, None, if◌then◌else◌}
+use Rattle.std.specs.Prelude.{◌≡◌, ℕ, ◌+◌, ◌≤◌, ◌==◌, ◌&&◌, Bool, List, [], ◌∷◌, length, filter, nat_lt, bytes_eq, Option, Some, None, if◌then◌else◌}
 use Rattle.std.specs.List.{list_any}
 use Rattle.std.specs.Option.{option_map}
 use Rattle.mvt_base.specs.Rules.{first}
@@ -8,7 +8,7 @@ use Rattle.mvt_wire.specs.Split.{split}
 use Rattle.mvt_feature.specs.declared.cause.Cause.TheVariants.{TooLarge}
 use Rattle.mvt_message.specs.declared.item.Item.{Item}
 use Rattle.mvt_message.specs.ItemRules.{item_fault, payload_names}
-use Rattle.mvt_message.specs.Items.{IsItem}
+use Rattle.mvt_message.specs.Items.{IsItem, names_in}
 use Rattle.mvt_tile_value.specs.declared.numbers.tile.TheConstants.{LAYERS}
 use Rattle.mvt_tile.specs.declared.fault.Fault.{Fault}
 use Rattle.mvt_tile.specs.Faults.{outer_fault, in_layer}
@@ -39,6 +39,10 @@ named_fault limit name input =
 -- the first layer of this name is this item
 abbrev pub IsFirst : List ℕ → List ℕ → Item → Type 0
 IsFirst name input item = (found : ℕ × Entry) × (first_in name input ≡ Some found) × IsItem (payload_of found.1) item
+
+-- the items that are layers of this name
+abbrev pub named_in : List ℕ → List Item → List Item
+named_in name items = filter (λ (item : Item). list_any (bytes_eq name) (names_in item)) items
 
 -- the payload of the first layer of this name, with its index and its places
 abbrev pub IsFoundAt : List ℕ → List ℕ → ℕ → List ℕ → ℕ → ℕ → Type 0

@@ -8,6 +8,7 @@ ghost use Rattle.mvt_tile.specs.declared.fault.Fault.{Fault};
 ghost use Rattle.mvt_tile_value.specs.declared.tile.Tile.{Tile};
 ghost use Rattle.mvt_tile_value.specs.CanonicalTiles.{canonical};
 ghost use Rattle.mvt_tile.specs.Faults.{is_open};
+ghost use Rattle.mvt_tile.specs.Finding.{IsFirst, first_in, named_in};
 ghost use Rattle.mvt_tile.specs.TileRules.{tile_rules, fault_within, repeats};
 ghost use Rattle.mvt_tile_value.specs.Tiles.{HasDistinctNames, IsTile};
 ghost use Rattle.mvt_tile_value.specs.ValidTiles.{Valid, WasValid};
@@ -65,4 +66,13 @@ pub fn names_apart()
     ensures before { (items : List Item) (item : Item) (more : List Item)
         → HasDistinctNames (items ++ item ∷ more)
         → repeats (flat_map names_in items) (names_in item) ≡ false }
+{}
+
+/// In a tile the first layer of a name is its one layer of that name; where there is no first, none
+/// has the name.
+pub fn one_of_a_name()
+    ensures one { (b name : List ℕ) (tile : Tile) (item : Item) → IsTile LIMIT b tile
+        → IsFirst name b item → named_in name tile.items ≡ item ∷ [] }
+    ensures nothing { (b name : List ℕ) (tile : Tile) → IsTile LIMIT b tile
+        → first_in name b ≡ None → named_in name tile.items ≡ [] }
 {}
