@@ -35,6 +35,11 @@ pub unnamed_next : (front : List MemoryFile) (file : MemoryFile) (name : List �
     → bytes_eq file.name name ≡ false → file_named (front ++ file ∷ []) name ≡ None
 unnamed_next front file name none fails = none_next (λ (f : MemoryFile). bytes_eq f.name name) front file none fails
 
+pub named_here : (all front : List MemoryFile) (file : MemoryFile) (behind : List MemoryFile) (name : List ℕ)
+    → all ≡ front ++ file ∷ behind → file_named front name ≡ None → bytes_eq file.name name ≡ true → file_named all name ≡ Some file
+named_here all front file behind name is none passes =
+    ap (λ files. file_named files name) is ∙ find_after (λ (f : MemoryFile). bytes_eq f.name name) front file behind none passes
+
 pub held_here : (all front : List MemoryFile) (file : MemoryFile) (behind : List MemoryFile) (name : List ℕ)
     → all ≡ front ++ file ∷ behind → file_named front name ≡ None → bytes_eq file.name name ≡ true → held_in all name ≡ bytes_of (Some file)
 held_here all front file behind name is none passes =

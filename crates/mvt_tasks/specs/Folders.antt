@@ -19,6 +19,10 @@ abbrev pub bytes_of : Option MemoryFile → Option (List ℕ)
 bytes_of None = None
 bytes_of (Some file) = option_map (λ bytes. bytes.items) file.bytes
 
+-- the first read of the file of a name that fails
+abbrev pub fails_in : List MemoryFile → List ℕ → Option ℕ
+fails_in files name = option_map (λ (file : MemoryFile). file.fails_from) (file_named files name)
+
 -- what the file of a name holds; nothing where there is none, or where it can't be opened
 abbrev pub held_in : List MemoryFile → List ℕ → Option (List ℕ)
 held_in files name = bytes_of (file_named files name)

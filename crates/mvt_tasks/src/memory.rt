@@ -1,6 +1,6 @@
 //! Files in memory, for tests.
 ghost use Rattle.std.specs.Prelude.{◌≡◌, ◌≢◌, ◌++◌, ◌∷◌, ◌==◌, [], false, None, Some, IfOk, IfSome, IfErr, OnOk, OnErr};
-ghost use Rattle.mvt_tasks.specs.Folders.{bytes_of, held_in};
+ghost use Rattle.mvt_tasks.specs.Folders.{bytes_of, fails_in, held_in};
 ghost use Rattle.mvt_tasks.specs.Visits.{Adds, IsUnopened, one_less, one_more, visit};
 
 use crate::folder::{Folder, OpenFiles, Visit};
@@ -84,6 +84,7 @@ fn opened(alloc: Global, files: &[MemoryFile], name: &str) -> Result<MemorySourc
     ensures missing { IfErr result (λ kind. kind ≢ ErrorKind.OutOfMemory
         → held_in files.now name.now ≡ None) }
     ensures fresh { IfOk result (λ reader. reader.faults.count ≡ 0) }
+    ensures fails { IfOk result (λ reader. fails_in files.now name.now ≡ Some reader.fails_from) }
 {
     for file in files {
         if file.name.as_str() == name {
@@ -98,6 +99,7 @@ fn reader_of(alloc: Global, file: &MemoryFile) -> Result<MemorySource, ErrorKind
     ensures missing { IfErr result (λ kind. kind ≢ ErrorKind.OutOfMemory
         → bytes_of (Some file.now) ≡ None) }
     ensures fresh { IfOk result (λ reader. reader.faults.count ≡ 0) }
+    ensures fails { IfOk result (λ reader. file.now.fails_from ≡ reader.fails_from) }
 {
     let Some(bytes) = &file.bytes else {
         return Err(ErrorKind::PermissionDenied);
@@ -120,6 +122,8 @@ impl Folder for MemoryFolder {
         ensures held { IfOk result (λ reader. held_in self.old.files name.now ≡ Some reader.left) }
         ensures missing { IfErr result (λ kind. kind ≢ ErrorKind.OutOfMemory
             → held_in self.old.files name.now ≡ None) }
+        ensures fails { IfOk result (λ reader. fails_in self.old.files name.now
+            ≡ Some reader.fails_from) }
 
         // What every folder promises.
         ensures bytes { IfOk result (λ reader. IfSome (held_in self.old.files name.now)

@@ -1,9 +1,12 @@
-use Rattle.std.proofs.Common.{rules, arith, ◌≡◌, ◌++◌, ◌∷◌, None, true, false, bytes_eq, take, drop, suc, sym, ap, subst, ◌∙◌}
+use Rattle.std.proofs.Common.{rules, arith, ◌≡◌, ◌++◌, ◌∷◌, Some, None, true, false, bytes_eq, take, drop, suc, sym, ap, subst, ◌∙◌}
+use Rattle.std.specs.Option.{option_map}
 use Rattle.std.proofs.lemmas.List.{take_all}
+use Rattle.std.proofs.lemmas.Result.{IfOk-weaker}
 use Rattle.std.proofs.Math.Seq.{split_at}
 use Rattle.mvt_base.proofs.ListLemmas.{front_more}
+use Rattle.mvt_tasks.specs.declared.memory.MemoryFile.{MemoryFile}
 use Rattle.mvt_tasks.specs.Folders.{bytes_of, file_named}
-use Rattle.mvt_tasks.proofs.FolderLemmas.{held_here, held_read, missing_read, unnamed_next}
+use Rattle.mvt_tasks.proofs.FolderLemmas.{held_here, held_read, missing_read, named_here, unnamed_next}
 use Rattle.mvt_tasks.proofs.memory.opened.Goals as goal
 
 pub returns-then-eq-clause-held : goal.returns-then-eq-clause-held
@@ -38,3 +41,14 @@ loop-file-preserved c =
     (sym (front_more c.args.files.now c.loop-file.file-index c.file-item.result c.loop-file-test.true c.file-item.is))
     (unnamed_next (take c.loop-file.file-index c.args.files.now) c.file-item.result c.args.name.now c.loop-file.invariant
     (let e : bytes_eq c.file-item.result.name c.args.name.now ≡ false = search rules in e))
+
+pub returns-then-eq-clause-fails : goal.returns-then-eq-clause-fails
+returns-then-eq-clause-fails c =
+    let here = named_here c.args.files.now (take c.loop-file.file-index c.args.files.now) c.file-item.result
+    (drop (suc c.loop-file.file-index) c.args.files.now) c.args.name.now
+    (split_at c.args.files.now c.loop-file.file-index c.file-item.result c.loop-file-test.true
+    ∙ ap (λ y. take c.loop-file.file-index c.args.files.now ++ y ∷ drop (suc c.loop-file.file-index) c.args.files.now) (sym c.file-item.is))
+    c.loop-file.invariant
+    (let e : bytes_eq c.file-item.result.name c.args.name.now ≡ true = search rules in e) in
+    IfOk-weaker c.reader_of.result _ _
+    (λ reader same. ap (option_map (λ (file : MemoryFile). file.fails_from)) here ∙ ap Some same) c.reader_of.ensures.fails
