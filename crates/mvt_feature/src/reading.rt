@@ -114,7 +114,7 @@ pub fn draw_feature<V: GeometryVisitor>(
 
 /// Whether a payload is a feature, in a layer with these keys and this number of values.
 ///
-/// Nothing is built; the tags and the integers stand in the scratch.
+/// Nothing is built, and the scratch says nothing of the feature afterwards.
 ///
 /// # Errors
 ///

@@ -73,8 +73,7 @@ pub fn draw_usual_feature<V: GeometryVisitor>(
 
 /// Whether a payload is a feature, in a layer with these keys and this number of values.
 ///
-/// It answers what `judge_feature` does, but the scratch says nothing of the feature afterwards:
-/// the integers of most features are judged where they lie.
+/// It answers what `judge_feature` does; the integers of most features are judged where they lie.
 ///
 /// # Errors
 ///
